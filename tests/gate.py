@@ -15,6 +15,8 @@ CLOSING = re.compile(r"^(\d+) passed, (\d+) failed$")
 PARTS = [
     ("the repository", [sys.executable, "tests/repository.py"]),
     ("the crates", ["rt", "ci"]),
+    # `rt ci` leaves the program that it built
+    ("whole connections", [sys.executable, "tests/connections.py", "crates/blobd/out/blobd"]),
 ]
 
 
