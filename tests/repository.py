@@ -22,8 +22,8 @@ HOLE = re.compile(r"(=\s*\?|[( ]\?[ ),]|\?\s*$)")
 PUBLIC_FUNCTION = re.compile(r"^\s*pub (?:const )?fn (\w+)")
 IMPL = re.compile(r"^impl(?:<.*?>)?\s+(?:[\w:<>', ]+\s+for\s+)?(\w+)")
 TEST_MODULE = re.compile(r"#\[cfg\(test\)\]\s*mod \w+ \{")
-CLAUSE = re.compile(r"(requires|ensures)\*?(\s+\w+)?\s*$")
-EMPTY_BODY = re.compile(r"\{\s*\}$")
+# A law takes nothing and gives nothing: its contract is all that it has.
+LAW = re.compile(r"^\s*pub fn \w+\(\)\s*(\{\s*\})?$")
 
 
 def tracked():
@@ -71,22 +71,6 @@ def handles(_):
     return [] if text_of("HANDLES") == HANDLES else ["HANDLES is not its one line"]
 
 
-def body_after(text, start):
-    """The function's body with its braces: the first braces behind its signature that belong to no clause."""
-    depth, opened = 0, start
-    for index in range(start, len(text)):
-        if text[index] == "{":
-            if depth == 0:
-                opened = index
-            depth += 1
-        elif text[index] == "}":
-            depth -= 1
-            if depth == 0 and not CLAUSE.search(text[start:opened]):
-                return text[opened : index + 1]
-            start = index + 1 if depth == 0 else start
-    return ""
-
-
 def sources(crate):
     folder = os.path.join(TOP, "crates", crate, "src")
     for at, _, files in sorted(os.walk(folder)):
@@ -103,22 +87,21 @@ def exported(crate):
 
 
 def public_functions(crate):
-    """`Type::name` or `name` of each function that the crate hands out and that does work: all but laws, whose bodies are empty."""
+    """`Type::name` or `name` of each function that the crate hands out and that does work: all but laws."""
     names = exported(crate)
     for path in sources(crate):
         with open(path, encoding="utf-8") as file:
             text = TEST_MODULE.split(file.read())[0]
-        kind, offset = "", 0
-        for line in text.splitlines(keepends=True):
+        kind = ""
+        for line in text.splitlines():
             if line.startswith("impl"):
                 found = IMPL.match(line)
                 kind = found.group(1) if found else ""
             elif line.startswith("}"):
                 kind = ""
             match = PUBLIC_FUNCTION.match(line)
-            if match and (names is None or (kind or match.group(1)) in names) and not EMPTY_BODY.match(body_after(text, offset)):
+            if match and (names is None or (kind or match.group(1)) in names) and not LAW.match(line):
                 yield f"{kind}::{match.group(1)}" if kind else match.group(1)
-            offset += len(line)
 
 
 def broken_by_edits(crate):
