@@ -5,7 +5,7 @@
 
 pub use answer::{Answer, Form, Refusal};
 pub use ask::{Ask, Extent};
-pub use laws::{headline_holds, others_leave_a_session};
+pub use laws::{headline_holds, openings_meet_the_table, others_leave_a_session};
 pub use limits::Limits;
 pub use service::Service;
 
@@ -20,4 +20,6 @@ mod received;
 mod segments;
 mod service;
 mod sessions;
+#[cfg(test)]
+mod tests;
 mod turn;
