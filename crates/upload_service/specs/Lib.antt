@@ -5,5 +5,6 @@ pub mod Alone
 pub mod Stored
 pub mod Headline
 pub mod FullTable
+pub mod RuledOut
 pub mod Codes
 pub mod Kept

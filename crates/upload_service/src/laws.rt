@@ -1,6 +1,7 @@
 //! What holds of every run of the service, as laws: functions that do nothing and whose contracts are the laws.
 ghost use Rattle.upload_service.specs.FullTable.{OpeningsMeetTheTable};
 ghost use Rattle.upload_service.specs.Headline.{HeadlineHolds, OthersLeaveIt};
+ghost use Rattle.upload_service.specs.RuledOut.{HeadlineRulesOut};
 
 /// Over every list of requests, of any clients in any order, from every lawful state, where the moments don't
 /// fall: a blob that a session commits is that session's accepted chunks joined in the order taken, each once, and
@@ -21,4 +22,11 @@ pub fn others_leave_a_session()
 /// nowhere else but for memory. Of a full table the idle sessions leave, and no others.
 pub fn openings_meet_the_table()
     ensures { OpeningsMeetTheTable }
+{}
+
+/// What the headline rules out, from its claims alone: that a chunk which overlaps the received bytes is taken,
+/// that a reference of another secret reaches a session, that a reference is begun again, and that a request which
+/// was answered NoMemory leaves a trace.
+pub fn headline_rules_out()
+    ensures { HeadlineRulesOut }
 {}

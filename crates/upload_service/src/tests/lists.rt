@@ -63,8 +63,9 @@ fn repository(dice: &mut Dice) -> &'static [u8] {
 
 /// A request to one of the sessions that may be open.
 fn word(dice: &mut Dice, issued: u64) -> Word {
-    let last = (issued.min(1_000_000) as u32).saturating_sub(dice.roll(3) as u32);
-    let at = At(last, 0);
+    let last = u32::try_from(issued).unwrap_or(0);
+    let back = u32::try_from(dice.roll(3)).unwrap_or(0);
+    let at = At(last.saturating_sub(back), 0);
     match dice.roll(16) {
         0 => Word::Base,
         1 => Word::Get(digest(dice)),

@@ -155,7 +155,7 @@ impl Model {
         if self.issued == u32::MAX {
             return Ok(Answer::Refused(Refusal::TooMany));
         }
-        if self.open.len() >= limits.max_open as usize {
+        if self.open.len() >= self.limits.max_open as usize {
             if !self.open.iter().any(|open| is_idle(open, limits, now)) {
                 return Ok(Answer::Refused(Refusal::TooMany));
             }
