@@ -2,7 +2,6 @@
 use Rattle.std.specs.Prelude.{◌≡◌, ℕ, ◌+◌, ◌<◌, ◌≤◌, List, ◌∷◌, ◌++◌, length, codes, flat_map, All, replicate, ◌⊎◌, IsTrue}
 use Rattle.std.specs.List.{list_all}
 pub use Rattle.upload_names.specs.NameBytes.{is_word_byte, hyphen, slash, longest_name}
-
 -- the tests that decide what is defined here
 pub use Rattle.upload_names.specs.NamePass.{is_in_grammar, is_name}
 
