@@ -8,7 +8,7 @@ use Rattle.std.specs.Ordering.{nat_cmp}
 use Rattle.std.specs.Cmp.Lexicographic.{slice_cmp, nat_list_cmp_total}
 use Rattle.upload_names.specs.Reference.{reference}
 use Rattle.upload_service.specs.declared.answer.Refusal.TheVariants as refusals
-use Rattle.upload_service.specs.Machine.{Session, Table, State, Begins, refused, is_idle, unless_idle, awake_of, all_awake, swept, last_number, opening}
+use Rattle.upload_service.specs.Machine.{Session, Table, State, Begins, refused, is_idle, unless_idle, awake_of, all_awake, last_number, opening}
 use Rattle.upload_service.specs.FullTable.{OpeningsMeetTheTable}
 use Rattle.upload_service.proofs.Tables.{same_itself, one_or_two, get-remove_same, get-remove_other}
 use Rattle.upload_service.proofs.Steps.{None≢Some}

@@ -14,7 +14,7 @@ use Rattle.upload_service.specs.declared.ask.Ask.TheVariants as asks
 use Rattle.upload_service.specs.declared.answer.Refusal.TheVariants as refusals
 use Rattle.upload_service.specs.declared.answer.Answer.{Answer}
 use Rattle.upload_service.specs.declared.answer.Answer.TheVariants as answers
-use Rattle.upload_service.specs.Machine.{Session, State, Outcome, Takes, Commits, Replies, answer_of, refused, same, same_digest, size_fault, body_fault, unless_fault, checked, in_session, at_session, unless_idle}
+use Rattle.upload_service.specs.Machine.{Session, State, Outcome, Takes, Commits, answer_of, refused, same, same_digest, size_fault, body_fault, unless_fault, checked, in_session, at_session, unless_idle}
 use Rattle.upload_service.specs.Run.{Exchange}
 use Rattle.upload_service.specs.Session.{carries, begins, is_part, part, is_taken, received}
 use Rattle.upload_service.specs.Alone.{Life, Unborn, Open, Gone, life_of, life_in, life_after, name_of, alone_outcome, alone_answer, alone_after, alone, lacks_memory, told, IsToldAsAlone}

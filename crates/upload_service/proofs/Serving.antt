@@ -1,10 +1,9 @@
 -- How a path through the code meets the machine.
-use Rattle.std.proofs.Common.{◌≡◌, ◌≢◌, ℕ, ◌+◌, ◌<◌, ◌≤◌, List, ◌++◌, length, true, Option, Some, None, refl, sym, ◌∙◌, ap, subst, inl, inr, arith}
+use Rattle.std.proofs.Common.{◌≡◌, ◌≢◌, ℕ, ◌+◌, ◌≤◌, List, ◌++◌, length, true, Option, Some, None, refl, sym, ◌∙◌, ap, subst, inl, inr, arith}
 use Rattle.std.specs.Prelude.{if◌then◌else◌}
 use Rattle.std.proofs.lemmas.Bool.{true≢false, le-ltb}
 use Rattle.std.specs.FinMap as map
 use Rattle.upload_names.specs.Digest.{Digest, digest_cmp, content_digest}
-use Rattle.upload_names.specs.Reference.{reference, number_of}
 use Rattle.upload_service.specs.declared.limits.Limits.{Limits}
 use Rattle.upload_service.specs.declared.ask.Extent.{Extent}
 use Rattle.upload_service.specs.declared.answer.Refusal.TheVariants as refusals
@@ -12,14 +11,13 @@ use Rattle.upload_service.specs.declared.ask.Ask.{Ask}
 use Rattle.upload_service.specs.declared.ask.Ask.TheVariants as asks
 use Rattle.upload_service.specs.declared.answer.Answer.{Answer}
 use Rattle.upload_service.specs.declared.answer.Answer.TheVariants as answers
-use Rattle.upload_service.specs.Machine.{Session, State, Outcome, Replies, Takes, Commits, Stores, answer_of, state_after, refused, size_fault, body_fault, unless_fault, checked, in_session, at_session, last_number}
+use Rattle.upload_service.specs.Machine.{Session, State, Outcome, Replies, Takes, Commits, Stores, answer_of, state_after, refused, size_fault, body_fault, unless_fault, checked, in_session, at_session}
 use Rattle.std.specs.Prelude.{IsSome, is_some}
 use Rattle.std.specs.FinSet as set
 use Rattle.std.specs.Ordering.{nat_cmp}
 use Rattle.std.specs.Cmp.Lexicographic.{slice_cmp}
 use Rattle.upload_service.specs.Machine.{Comes, IsLawful, may_lack_memory, empty_state, pair_cmp}
 use Rattle.upload_service.proofs.Tables.{same_from_eq, same_from_ne, same_digest_from_eq, same_digest_from_ne}
-use Rattle.upload_service.proofs.Turns.{number_of-reference}
 
 pub does : (s : State) (now : ℕ) (o p : Outcome) (answer : Answer) (t : State) → o ≡ p → answer ≡ answer_of p → t ≡ state_after s now p → Comes s now o answer t
 does s now o p answer t e a n = inl (a ∙ ap answer_of (sym e), n ∙ ap (state_after s now) (sym e))

@@ -1,5 +1,5 @@
 -- What holds of every run.
-use Rattle.std.specs.Prelude.{◌≡◌, ◌≢◌, ℕ, ◌+◌, Bool, false, List, [], ◌∷◌, ◌++◌, length, Option, Some, None, IsTrue, ◌⊎◌}
+use Rattle.std.specs.Prelude.{◌≡◌, ◌≢◌, ℕ, Bool, false, List, [], ◌∷◌, ◌++◌, length, Option, Some, None, IsTrue, ◌⊎◌}
 use Rattle.std.specs.FinMap as map
 use Rattle.upload_names.specs.Digest.{Digest, HasDigest}
 use Rattle.upload_service.specs.declared.ask.Extent.{Extent}
@@ -12,7 +12,7 @@ use Rattle.upload_service.specs.declared.answer.Answer.TheVariants as answers
 use Rattle.upload_service.specs.Machine.{is_idle, awake, Session, State, Turn, IsLawful, holds}
 use Rattle.upload_service.specs.Run.{Exchange, Run, NeverFall}
 use Rattle.upload_service.specs.Session.{carries, received, is_closed}
-use Rattle.upload_service.specs.Alone.{alone, IsToldAsAlone}
+use Rattle.upload_service.specs.Alone.{IsToldAsAlone}
 use Rattle.upload_service.specs.Stored.{stored, last_under, IsStoreAfter, IsHandedOut}
 
 -- Where a Given range is aimed: a session, and the first position.

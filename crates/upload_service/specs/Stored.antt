@@ -1,6 +1,6 @@
 -- What a run stored, and the store after it.
 use Rattle.std.specs.List.{list_any}
-use Rattle.std.specs.Prelude.{◌≡◌, ℕ, ◌+◌, ◌||◌, Bool, false, List, [], ◌∷◌, ◌++◌, length, Option, Some, None, if◌then◌else◌}
+use Rattle.std.specs.Prelude.{◌≡◌, ℕ, ◌||◌, Bool, false, List, [], ◌∷◌, ◌++◌, length, Option, Some, None, if◌then◌else◌}
 use Rattle.std.specs.FinMap as map
 use Rattle.upload_names.specs.Digest.{Digest}
 use Rattle.upload_service.specs.declared.ask.Ask.{Ask}

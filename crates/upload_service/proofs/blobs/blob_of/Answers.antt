@@ -1,5 +1,4 @@
-use Rattle.std.proofs.Common.{◌≡◌, ◌+◌, ◌<◌, ◌^◌, ◌++◌, ℕ, List, length, Option, Some, None, refl, sym, ◌∙◌, ap, subst}
-use Rattle.upload_service.specs.Machine.{Session}
+use Rattle.std.proofs.Common.{◌≡◌, ◌+◌, ◌<◌, ◌^◌, ◌++◌, length, Some, sym, ◌∙◌, ap, subst}
 use Rattle.upload_service.specs.Kept.Entries.{session_of}
 use Rattle.upload_service.proofs.blobs.blob_of.Goals as goal
 

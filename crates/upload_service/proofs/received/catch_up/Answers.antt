@@ -1,4 +1,4 @@
-use Rattle.std.proofs.Common.{◌≡◌, ◌++◌, ◌+◌, List, ℕ, ap, sym, ◌∙◌, arith, take, get_or, subst}
+use Rattle.std.proofs.Common.{◌≡◌, ◌++◌, ◌+◌, List, ℕ, ap, sym, ◌∙◌, arith, take, subst}
 use Rattle.sha2.specs.Hashers.{Holds512}
 use Rattle.upload_service.specs.Kept.Parts.{joined}
 use Rattle.upload_service.proofs.Parts.{joined-take_next}

@@ -1,4 +1,4 @@
-use Rattle.std.proofs.Common.{◌≡◌, ◌≤◌, ◌-◌, length, take}
+use Rattle.std.proofs.Common.{◌≤◌, ◌-◌, length, take}
 use Rattle.sha2.specs.Hashers.{Holds512}
 use Rattle.upload_service.specs.Kept.Parts.{joined}
 use Rattle.upload_service.proofs.received.catch_up.Given as goal

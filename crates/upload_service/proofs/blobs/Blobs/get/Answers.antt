@@ -1,10 +1,9 @@
 use Rattle.std.specs.FinMap.{FinMap}
-use Rattle.upload_names.specs.Digest.{Digest, digest_cmp}
+use Rattle.upload_names.specs.Digest.{digest_cmp}
 use Rattle.upload_service.proofs.Tables.{digests_total, digests_exact}
-use Rattle.std.proofs.Common.{◌≡◌, ℕ, List, sym, ◌∙◌, ap}
+use Rattle.std.proofs.Common.{ℕ, List, sym, ◌∙◌, ap}
 use Rattle.std.specs.FinMap as map
 use Rattle.std.specs.Option.{option_map}
-use Rattle.upload_service.specs.Machine.{same_digest}
 use Rattle.upload_service.proofs.Kept.{get-kept}
 use Rattle.upload_service.proofs.Lookups.{found_as, none_as}
 use Rattle.upload_service.proofs.blobs.Blobs.get.Goals as goal

@@ -1,19 +1,15 @@
 use Rattle.std.specs.FinMap.{FinMap}
-use Rattle.upload_names.specs.Digest.{Digest, digest_cmp}
+use Rattle.upload_names.specs.Digest.{digest_cmp}
 use Rattle.upload_service.proofs.Tables.{digests_total, digests_exact}
-use Rattle.std.proofs.Common.{◌≡◌, ◌+◌, ◌<◌, ◌^◌, ◌++◌, [], ℕ, List, length, Bool, true, false, Option, Some, None, refl, sym, ◌∙◌, ap, subst, cond, arith, rules}
+use Rattle.std.proofs.Common.{◌≡◌, ℕ, List, Some, ◌∙◌, ap, subst, cond, rules}
 use Rattle.std.specs.FinMap as map
-use Rattle.std.specs.Option.{option_map}
 use Rattle.std.specs.Map.{lookup}
-use Rattle.std.specs.Ordering.{nat_cmp}
-use Rattle.std.specs.Cmp.Lexicographic.{slice_cmp}
-use Rattle.std.specs.BTreeMap.{Updates, get}
-use Rattle.std.specs.BTreeMap.Entry.{map_with_value, entry_map_ref}
-use Rattle.std.specs.declared.collections.btree_map.Entry.TheVariants.{Occupied, Vacant}
-use Rattle.upload_service.specs.Machine.{same_digest, Session}
+use Rattle.std.specs.BTreeMap.{Updates}
+use Rattle.std.specs.BTreeMap.Entry.{map_with_value}
+use Rattle.std.specs.declared.collections.btree_map.Entry.TheVariants.{Vacant}
+use Rattle.upload_service.specs.Machine.{same_digest}
 use Rattle.upload_service.specs.Kept.Entries.{kept_as}
-use Rattle.upload_service.specs.Kept.Entries.{session_of}
-use Rattle.upload_service.proofs.Kept.{kept-same, kept-insert}
+use Rattle.upload_service.proofs.Kept.{kept-insert}
 use Rattle.upload_service.proofs.blobs.Blobs.store.Goals as goal
 
 pub returns-in-Occupied-clause-blobs : goal.returns-in-Occupied-clause-blobs

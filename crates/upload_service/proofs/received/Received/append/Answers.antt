@@ -1,8 +1,5 @@
-use Rattle.std.proofs.Common.{◌≡◌, ◌≤◌, ◌++◌, List, ℕ, length, take, ap, sym, ◌∙◌, arith, subst}
-use Rattle.std.proofs.lemmas.List.{take-take}
-use Rattle.sha2.specs.Hashers.{Holds256, Holds512}
-use Rattle.upload_service.specs.Kept.Parts.{Parts, joined, whole}
-use Rattle.upload_service.specs.Kept.Running.{IsRunning}
+use Rattle.std.proofs.Common.{◌++◌, ap, sym, ◌∙◌, arith}
+use Rattle.upload_service.specs.Kept.Parts.{Parts, whole}
 use Rattle.upload_service.proofs.Parts.{take-front}
 use Rattle.upload_service.proofs.received.Received.append.Goals as goal
 

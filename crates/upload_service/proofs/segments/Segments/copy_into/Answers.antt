@@ -1,4 +1,4 @@
-use Rattle.std.proofs.Common.{◌≡◌, ◌++◌, ◌+◌, List, ℕ, ap, sym, ◌∙◌, arith, take, get_or}
+use Rattle.std.proofs.Common.{◌++◌, ap, sym, ◌∙◌, arith, take, get_or}
 use Rattle.std.proofs.lemmas.List.{append_assoc}
 use Rattle.upload_service.specs.Kept.Parts.{joined}
 use Rattle.upload_service.proofs.Parts.{joined-take_next}
