@@ -2,8 +2,12 @@
 #![tactic(auto)]
 
 mod bytes;
+mod reply;
+mod writing;
 
 pub use bytes::{ByteSink, ByteSource, Failed, FromRead, ToWrite};
+pub use reply::write_bad;
+pub use writing::WriteFault;
 
 #[cfg(test)]
 mod memory;
