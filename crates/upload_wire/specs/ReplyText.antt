@@ -1,11 +1,16 @@
 -- The replies (RFC 9112, sections 4 and 5; RFC 9110, section 15, for the reasons; OCI Distribution Specification 1.1,
 -- sections "Push" and "Error Codes").
-use Rattle.std.specs.Prelude.{◌≡◌, ℕ, ◌-◌, Bool, false, ◌==◌, List, [], ◌∷◌, ◌++◌, length, codes, decimal, flat_map, if◌then◌else◌}
+use Rattle.std.specs.Prelude.{ℕ, ◌-◌, Bool, false, ◌==◌, List, [], ◌∷◌, ◌++◌, length, codes, decimal, flat_map, unwrap_or, if◌then◌else◌}
 use Rattle.httparse.specs.Ascii.{crlf_bytes}
+use Rattle.upload_names.specs.Digest.{Digest, digest_text}
+use Rattle.upload_names.specs.Reference.{reference_text}
+use Rattle.upload_service.specs.declared.answer.Answer.{Answer}
+use Rattle.upload_service.specs.declared.answer.Answer.TheVariants as answers
 use Rattle.upload_service.specs.declared.answer.Form.{Form}
 use Rattle.upload_service.specs.declared.answer.Form.TheVariants as forms
 use Rattle.upload_service.specs.declared.answer.Refusal.{Refusal}
 use Rattle.upload_service.specs.declared.answer.Refusal.TheVariants as refusals
+use Rattle.upload_wire.specs.declared.request.Style.{Style}
 use Rattle.upload_wire.specs.declared.reply.status.Status.{Status}
 use Rattle.upload_wire.specs.declared.reply.status.Status.TheVariants as statuses
 use Rattle.upload_wire.specs.declared.reply.error.ErrorCode.{ErrorCode}
@@ -130,3 +135,66 @@ methods forms.Upload = codes "GET, HEAD, PATCH, PUT"
 abbrev pub allow_fields : Refusal → List ReplyField
 allow_fields (refusals.Method form) = (codes "Allow", methods form) ∷ []
 allow_fields other = []
+
+-- the path of an upload
+abbrev pub upload_location : List ℕ → List ℕ → List ℕ
+upload_location name at = codes "/v2/" ++ (name ++ (codes "/blobs/uploads/" ++ reference_text at))
+
+-- the path of a blob
+abbrev pub blob_location : List ℕ → Digest → List ℕ
+blob_location name digest = codes "/v2/" ++ (name ++ (codes "/blobs/" ++ digest_text digest))
+
+-- Range: 0-<last>, where there are bytes
+abbrev pub range_fields : ℕ → List ReplyField
+range_fields next = if next == 0 then [] else (codes "Range", codes "0-" ++ decimal (next - 1)) ∷ []
+
+-- where an upload is, and how far it has come
+abbrev pub upload_fields : List ℕ → List ℕ → ℕ → List ReplyField
+upload_fields name at next = (codes "Location", upload_location name at) ∷ range_fields next
+
+-- the kind and the length of a body
+abbrev pub body_fields : List ℕ → ℕ → List ReplyField
+body_fields kind size = (codes "Content-Type", kind) ∷ length_field size ∷ []
+
+abbrev pub error_fields : ErrorCode → List ReplyField
+error_fields code = body_fields (codes "application/json") (length (error_body code))
+
+-- a reply, but for the field that closes the connection
+pub record Reply : Type 0 where
+  pub status : Status
+  pub fields : List ReplyField
+  pub body : List ℕ
+
+abbrev pub without_body : Status → List ReplyField → Reply
+without_body status fields = record { status = status; fields = fields; body = [] }
+
+abbrev pub with_error : Status → List ReplyField → ErrorCode → Reply
+with_error status fields code = record { status = status; fields = fields ++ error_fields code; body = error_body code }
+
+-- the reply to each answer
+abbrev pub reply_of : Answer → Reply
+reply_of answers.Base = without_body statuses.Ok (length_field 0 ∷ [])
+reply_of (answers.Blob digest size bytes) = record {
+  status = statuses.Ok;
+  fields = (codes "Docker-Content-Digest", digest_text digest) ∷ body_fields (codes "application/octet-stream") size;
+  body = unwrap_or bytes [];
+}
+reply_of (answers.Begun name at) = without_body statuses.Accepted ((codes "Location", upload_location name at) ∷ length_field 0 ∷ [])
+reply_of (answers.Stored name digest) = without_body statuses.Created ((codes "Location", blob_location name digest) ∷ length_field 0 ∷ [])
+reply_of (answers.Taken name at next) = without_body statuses.Accepted (upload_fields name at next ++ length_field 0 ∷ [])
+reply_of (answers.Standing name at next) = without_body statuses.NoContent (upload_fields name at next)
+reply_of (answers.Misplaced name at next) = with_error statuses.RangeNotSatisfiable (upload_fields name at next) errors.BlobUploadInvalid
+reply_of (answers.Refused refusal) = with_error (refusal_status refusal) (allow_fields refusal) (refusal_code refusal)
+reply_of answers.NoMemory = without_body statuses.ServiceUnavailable (length_field 0 ∷ [])
+
+-- the bytes of the reply up to its body
+abbrev pub reply_head : Answer → Bool → List ℕ
+reply_head answer keep = print_head (reply_of answer).status (reply_of answer).fields keep
+
+-- the bytes of the body: a HEAD gets none
+abbrev pub reply_body : Answer → Bool → List ℕ
+reply_body answer head = if head then [] else (reply_of answer).body
+
+-- the bytes of the reply
+abbrev pub reply : Answer → Style → List ℕ
+reply answer style = reply_head answer style.keep ++ reply_body answer style.head

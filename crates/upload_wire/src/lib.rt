@@ -3,10 +3,12 @@
 
 mod bytes;
 mod reply;
+mod request;
 mod writing;
 
 pub use bytes::{ByteSink, ByteSource, Failed, FromRead, ToWrite};
 pub use reply::write_bad;
+pub use request::Style;
 pub use writing::WriteFault;
 
 #[cfg(test)]

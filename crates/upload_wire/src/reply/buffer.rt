@@ -1,5 +1,5 @@
 //! The bytes of a reply's head, gathered so that they leave in one write.
-ghost use Rattle.std.specs.Prelude.{◌≡◌, ◌+◌, ◌-◌, ◌≤◌, [], length, codes, decimal};
+ghost use Rattle.std.specs.Prelude.{◌≡◌, ◌+◌, [], length, decimal};
 ghost use Rattle.upload_wire.specs.ReplyBuffer.{Puts, capacity};
 
 use arrayvec::ArrayVec;
@@ -47,7 +47,7 @@ impl ReplyBuffer {
 
     /// Adds the bytes.
     pub(crate) fn put(&mut self, text: &[u8])
-        ensures { Puts self.old self.new text.now }
+        ensures { Puts self.old self.new text.now (length text.now) }
     {
         let count = self.bytes.remaining_capacity().min(text.len());
         let _fits = self.bytes.try_extend_from_slice(&text[..count]);
@@ -55,7 +55,7 @@ impl ReplyBuffer {
 
     /// Adds the number in decimal digits.
     pub(crate) fn put_number(&mut self, number: u64)
-        ensures { Puts self.old self.new (decimal number) }
+        ensures { Puts self.old self.new (decimal number) 20 }
     {
         let mut digits = Buffer::new();
         let text = digits.format(number);

@@ -1,5 +1,5 @@
 //! The statuses of replies.
-ghost use Rattle.std.specs.Prelude.{◌≡◌, ◌++◌, codes, decimal};
+ghost use Rattle.std.specs.Prelude.{◌≡◌, ◌≤◌, length};
 
 /// A status of a reply (RFC 9110, section 15).
 #[derive(Clone, Copy, Debug, PartialEq, Eq)]
@@ -24,7 +24,8 @@ impl Status {
 
     /// The first line of a reply.
     pub(crate) fn line(self) -> &'static str
-        ensures { result.now ≡ status_line self }
+        ensures line { result.now ≡ status_line self }
+        ensures short { length result.now ≤ 46 }
     {
         match self {
             Status::Ok => "HTTP/1.1 200 OK\r\n",

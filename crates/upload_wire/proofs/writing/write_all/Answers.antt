@@ -10,12 +10,11 @@ loop-at-preserved g c =
     let bytes = c.args.bytes.now in
     let at = c.loop-at.at in
     let bound = c.in-Ok.ensures.bound in
-    let lt = c.loop-at-test.true in
-    (
+    let lt = c.loop-at-test.true in (
       omega (arith, bound, lt, length-drop at bytes, length-take (length bytes - at) (drop at bytes)),
       record {
         grown = subst (Appends (g.W.ByteSink.contents c.args.writer.now) (g.W.ByteSink.contents c.write.new.self)) (sym (taken_more bytes at c.in-Ok.count))
-          (appends_both _ _ _ _ _ c.loop-at.invariant.1.grown c.in-Ok.ensures.bytes);
+            (appends_both _ _ _ _ _ c.loop-at.invariant.1.grown c.in-Ok.ensures.bytes);
         unfailed = c.in-Ok.ensures.ok ∙ c.loop-at.invariant.1.unfailed;
       },
     )

@@ -6,7 +6,7 @@ abbrev pub invariant-loop-at : goal.invariant-loop-at
 invariant-loop-at g l =
     (l.at ≤ length l.bytes)
     × TookAll (sink (g.W.ByteSink.contents l.initial.writer) (g.W.ByteSink.failed_writes l.initial.writer))
-      (sink (g.W.ByteSink.contents l.writer) (g.W.ByteSink.failed_writes l.writer)) (take l.at l.bytes)
+    (sink (g.W.ByteSink.contents l.writer) (g.W.ByteSink.failed_writes l.writer)) (take l.at l.bytes)
 
 abbrev pub decreases-loop-at : goal.decreases-loop-at
 decreases-loop-at g l = length l.bytes - l.at
