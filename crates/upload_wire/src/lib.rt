@@ -1,9 +1,19 @@
 //! HTTP/1.1 requests and replies of the blob-upload service, from bytes and to bytes.
+//!
+//! A request goes through `request`, which reads its head (`head`, `fields`), what it asks (`target`,
+//! `query`, `draft`) and its body (`framing`, `body`, `chunked`) out of one buffer (`buffer`).
 #![tactic(auto)]
 
+mod buffer;
 mod bytes;
+mod fault;
+mod framing;
+mod request;
+mod target;
 
 pub use bytes::{ByteSink, ByteSource, Failed, FromRead, ToWrite};
+pub use fault::WireFault;
+pub use request::{Next, Style};
 
 #[cfg(test)]
 mod memory;
