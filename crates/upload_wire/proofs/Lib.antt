@@ -1,2 +1,5 @@
 pub mod BufferLemmas
 pub mod GaveLemmas
+pub mod HeadLemmas
+pub mod ElementLemmas
+pub mod FieldLemmas

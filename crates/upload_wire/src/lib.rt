@@ -6,8 +6,12 @@
 
 mod buffer;
 mod bytes;
+mod elements;
 mod fault;
+mod fields;
 mod framing;
+mod head;
+mod parsed;
 mod request;
 mod target;
 
