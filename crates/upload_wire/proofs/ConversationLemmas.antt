@@ -152,12 +152,12 @@ goes_on step max count first mid left old at new held rest before between after 
       served = record {
         few = omega (arith, counted, n.few, length-append s.exchanges (n.exchange ∷ []));
         read = ap (λ t. t ++ n.given) s.served.read ∙ append_assoc (messages s.exchanges) held n.given
-          ∙ ap (λ t. messages s.exchanges ++ t) n.read ∙ sym (append_assoc (messages s.exchanges) n.exchange.message rest)
-          ∙ ap (λ t. t ++ rest) (sym (messages_more s.exchanges n.exchange));
+            ∙ ap (λ t. messages s.exchanges ++ t) n.read ∙ sym (append_assoc (messages s.exchanges) n.exchange.message rest)
+            ∙ ap (λ t. t ++ rest) (sym (messages_more s.exchanges n.exchange));
         kept = kept_more max s.exchanges n.exchange s.served.kept n.kept;
         answered = answers_more step old at new s.exchanges n.exchange s.served.answered n.answered;
         written = subst (TookAll before after) (sym (replies_more s.exchanges n.exchange))
-          (took_both before between after (replies s.exchanges) (reply n.exchange.answer n.exchange.style) s.served.written n.written);
+            (took_both before between after (replies s.exchanges) (reply n.exchange.answer n.exchange.style) s.served.written n.written);
       };
     }
 

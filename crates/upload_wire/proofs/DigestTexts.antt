@@ -21,5 +21,12 @@ pub short_text : (text : List ℕ) (digest : Digest) → digest_of text ≡ Some
 unfolding digest_text
 short_text text digest read =
     let spelled = digest_of-spells text digest read in
-    omega (arith, ap length spelled.1, length-append (prefix_of digest.algorithm) (encode_lower digest.bytes),
-      short_prefix digest.algorithm, short_hash digest.algorithm, spelled.0.sized, length-encode_with lower_digits digest.bytes)
+    omega (
+      arith,
+      ap length spelled.1,
+      length-append (prefix_of digest.algorithm) (encode_lower digest.bytes),
+      short_prefix digest.algorithm,
+      short_hash digest.algorithm,
+      spelled.0.sized,
+      length-encode_with lower_digits digest.bytes,
+    )

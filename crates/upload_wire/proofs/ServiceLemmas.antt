@@ -80,8 +80,8 @@ module _ (max_body count : ℕ) (old at new : ServiceDesk) (rest : List ℕ) (le
   ended (Fault (Conn.Wire fault)) e = none_more (Fault (Conn.Wire fault)) (λ same. cc) e.1.unasked
   ended (Fault Conn.Write) e =
       elim e [
-        inl h ↦ one_more (Fault Conn.Write) h.0 (λ same. cc) h.1.answered
-      | inr h ↦ none_more (Fault Conn.Write) (λ same. cc) h.1.unasked
+        | inl h ↦ one_more (Fault Conn.Write) h.0 (λ same. cc) h.1.answered
+        | inr h ↦ none_more (Fault Conn.Write) (λ same. cc) h.1.unasked
       ]
 
 pub run_of_conversation : (max_body : ℕ) (first left : Source) (old new : ServiceDesk) (before after : Sink) (end : ConnEnd)

@@ -65,7 +65,15 @@ pub fn serve_connection<S: ByteSource, W: ByteSink, D: Desk>(
         return ConnEnd::Fault(ConnFault::Wire(WireFault::NoMemory));
     };
     for count in 0..MAX_REQUESTS {
-        if let Some(end) = serve_next(alloc, reader, &mut buffer, limits.max_body, writer, desk, count) {
+        if let Some(end) = serve_next(
+            alloc,
+            reader,
+            &mut buffer,
+            limits.max_body,
+            writer,
+            desk,
+            count,
+        ) {
             return end;
         }
     }

@@ -5,5 +5,4 @@ ghost use Rattle.upload_wire.specs.ConnectionRuns.{ConversationsRunTheService};
 /// for each, with the desk's one secret and at its one moment, and the desk is never gone.
 pub fn connections_run_the_service()
     ensures { ConversationsRunTheService }
-{
-}
+{}
