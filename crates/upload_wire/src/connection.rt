@@ -15,6 +15,11 @@ use crate::request::{Next, Style};
 use std::alloc::Global;
 use upload_service::{Ask, Limits};
 
+#[cfg(test)]
+mod rows;
+#[cfg(test)]
+mod tests;
+
 /// The most requests that are answered on one connection.
 const MAX_REQUESTS: usize = 10_000;
 
