@@ -3,3 +3,12 @@ pub mod GaveLemmas
 pub mod HeadLemmas
 pub mod ElementLemmas
 pub mod FieldLemmas
+pub mod TargetLemmas
+pub mod AskLemmas
+pub mod MovedLemmas
+pub mod LineLemmas
+pub mod ChunkLemmas
+pub mod FrontLemmas
+pub mod LineReadLemmas
+pub mod ChunkReadLemmas
+pub mod RequestLemmas

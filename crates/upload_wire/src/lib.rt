@@ -4,19 +4,25 @@
 //! `query`, `draft`) and its body (`framing`, `body`, `chunked`) out of one buffer (`buffer`).
 #![tactic(auto)]
 
+mod asks;
+mod body;
 mod buffer;
 mod bytes;
+mod chunked;
 mod elements;
 mod fault;
 mod fields;
 mod framing;
 mod head;
 mod parsed;
+mod query;
+mod reader;
 mod request;
 mod target;
 
 pub use bytes::{ByteSink, ByteSource, Failed, FromRead, ToWrite};
 pub use fault::WireFault;
+pub use reader::RequestReader;
 pub use request::{Next, Style};
 
 #[cfg(test)]
