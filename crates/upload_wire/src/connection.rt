@@ -9,9 +9,8 @@ use crate::buffer::ReadBuffer;
 use crate::bytes::{ByteSink, ByteSource};
 use crate::desk::Desk;
 use crate::fault::WireFault;
-use crate::read_next::read_next;
 use crate::reply::{write_bad, write_reply};
-use crate::request::{Next, Style};
+use crate::request::{Next, Style, read_next};
 use std::alloc::Global;
 use upload_service::{Ask, Limits};
 
