@@ -1,0 +1,10 @@
+pub mod Machine
+pub mod Run
+pub mod Session
+pub mod Alone
+pub mod Stored
+pub mod Headline
+pub mod FullTable
+pub mod RuledOut
+pub mod Codes
+pub mod Kept
