@@ -26,6 +26,12 @@ TEST_MODULE = re.compile(r"#\[cfg\(test\)\]\s*mod \w+ \{")
 LAW = re.compile(r"^\s*pub fn \w+\(\)\s*(\{\s*\})?$")
 
 
+# Functions that no edit can turn: their types leave no other body that compiles.
+NO_OTHER_BODY = {
+    "upload_wire": {"ToWrite::into_inner", "ServiceDesk::into_service"},
+}
+
+
 def tracked():
     listed = subprocess.run(["git", "ls-files", "-z"], cwd=TOP, capture_output=True, check=True)
     return [path for path in listed.stdout.decode().split("\0") if path]
@@ -119,7 +125,7 @@ def unbroken(_):
     """Public functions of libraries that no must-fail edit breaks, and edits that name no function."""
     found = []
     for crate in sorted(os.listdir(os.path.join(TOP, "crates"))):
-        functions = list(public_functions(crate))
+        functions = [name for name in public_functions(crate) if name not in NO_OTHER_BODY.get(crate, ())]
         broken = broken_by_edits(crate)
         found += [f"{crate}: no must-fail edit breaks {name}" for name in functions if name not in broken]
         found += [f"{crate}: an edit breaks {name}, which isn't there" for name in sorted(broken - set(functions))]

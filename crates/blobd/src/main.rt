@@ -5,7 +5,7 @@
 
 mod limits;
 mod once;
-mod output;
+mod status;
 mod words;
 
 use crate::once::run_once;
@@ -40,7 +40,11 @@ fn main(rt: HostRuntime) -> ExitCode {
     let Ok(args) = args.skip(1).collect::<Vec<String>>(rt.alloc()) else {
         return ExitCode::from(print_usage(&rt));
     };
-    let Ok(words) = args.iter().map(|word| word.as_str()).collect::<Vec<&str>>(rt.alloc()) else {
+    let Ok(words) = args
+        .iter()
+        .map(|word| word.as_str())
+        .collect::<Vec<&str>>(rt.alloc())
+    else {
         return ExitCode::from(print_usage(&rt));
     };
     ExitCode::from(run(&rt, &words))

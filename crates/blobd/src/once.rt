@@ -5,7 +5,7 @@ ghost use Rattle.upload_wire.specs.Conversation.{source};
 ghost use Rattle.blobd.specs.Once.{IsOnce, status_of};
 
 use crate::limits::limits;
-use crate::output::{DONE, FAULT, REFUSED};
+use crate::status::{DONE, FAULT, REFUSED};
 use std::alloc::Global;
 use upload_service::Service;
 use upload_wire::{ByteSink, ByteSource, ConnEnd, ServiceDesk, serve_connection};
@@ -23,11 +23,7 @@ fn status_of(end: ConnEnd) -> u8
 
 /// Serves one connection over a new service, whose secrets are zero and whose clock stands at 0, and gives the exit
 /// status.
-pub fn run_once<R: ByteSource, W: ByteSink>(
-    alloc: Global,
-    reader: &mut R,
-    writer: &mut W,
-) -> u8
+pub fn run_once<R: ByteSource, W: ByteSink>(alloc: Global, reader: &mut R, writer: &mut W) -> u8
     ensures { IsOnce (source (R.remaining reader.old) (R.failed_reads reader.old)) (source (R.remaining reader.new) (R.failed_reads reader.new))
         (sink (W.contents writer.old) (W.failed_writes writer.old)) (sink (W.contents writer.new) (W.failed_writes writer.new)) result }
 {

@@ -1,6 +1,8 @@
 //! The words of the command line.
-ghost use Rattle.std.specs.Prelude.{◌≡◌, IfSome};
-ghost use Rattle.blobd.specs.Words.{number_of, IsInRange};
+ghost use Rattle.std.specs.Prelude.{◌≡◌, ◌≤◌, IfSome};
+ghost use Rattle.std.specs.List.{list_all};
+ghost use Rattle.std.specs.Char.{is_ascii_digit};
+ghost use Rattle.blobd.specs.Words.{IsInRange};
 
 use std::net::SocketAddr;
 
@@ -32,11 +34,18 @@ pub enum Command<'w> {
     },
 }
 
+/// Whether a word has nothing but decimal digits.
+fn are_digits(word: &str) -> bool
+    ensures { result ≡ list_all is_ascii_digit word.now }
+{
+    word.as_bytes().iter().all(|byte| byte.is_ascii_digit())
+}
+
 /// The number from 1 to `most` that one or more decimal digits spell; leading zeros are allowed.
 fn read_number(word: &str, most: u64) -> Option<u64>
-    ensures { result ≡ number_of most word.now }
+    ensures { IfSome result (λ number. (1 ≤ number) × (number ≤ most)) }
 {
-    if !word.as_bytes().iter().all(|byte| byte.is_ascii_digit()) {
+    if !are_digits(word) {
         return None;
     }
     match word.parse::<u64>() {
