@@ -1,7 +1,7 @@
 //! HTTP/1.1 requests and replies of the blob-upload service, from bytes and to bytes.
 //!
 //! A request goes through `request`, which reads its head (`head`, `fields`), what it asks (`target`,
-//! `query`, `draft`) and its body (`framing`, `body`, `chunked`) out of one buffer (`buffer`).
+//! `query`, `asks`) and its body (`framing`, `body`, `chunked`) out of one buffer (`buffer`).
 #![tactic(auto)]
 
 mod asks;
