@@ -1,0 +1,19 @@
+//! Two workers round one upload service. The service is owned by one thread, the keeper, and asked from two seats over
+//! lines: bounded channels under a rule, by which what the keeper took is exactly what each seat sent, in its order, each
+//! once, and what a seat hears is in order what the service answered to its own requests.
+#![tactic(auto)]
+
+mod ends;
+mod gone;
+mod keeper;
+mod line;
+mod message;
+mod moments;
+mod seat;
+mod settlement;
+
+pub use gone::Gone;
+pub use keeper::{Keeper, Served};
+pub use moments::Moments;
+pub use seat::{Seat, SeatEnd};
+pub use settlement::{Settled, lines, settle};
