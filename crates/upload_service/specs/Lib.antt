@@ -1,0 +1,12 @@
+pub mod Machine
+pub mod Run
+pub mod Session
+pub mod Alone
+pub mod Stored
+pub mod Headline
+pub mod Entries
+pub mod Codes
+pub mod Views
+pub mod Stock
+pub mod Shelves
+pub mod Tables
