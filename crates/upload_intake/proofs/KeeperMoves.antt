@@ -1,12 +1,12 @@
 -- What a keeper keeps, from one message to the next.
-use Rattle.std.proofs.Common.{◌≡◌, ℕ, ◌+◌, ◌≤◌, min, Bool, true, false, true≢false, cond, List, [], ◌∷◌, ◌++◌, length, map, filter, length-append, sym, refl, ap, ◌∙◌, subst, arith, append-nil, append_assoc}
+use Rattle.std.proofs.Common.{◌≡◌, ℕ, ◌+◌, ◌≤◌, min, Bool, true, false, true≢false, cond, List, [], ◌∷◌, ◌++◌, map, filter, length-append, sym, refl, ap, ◌∙◌, subst, arith, append-nil, append_assoc}
 use Rattle.std.proofs.lemmas.List.{map-append}
 use Rattle.std.proofs.lemmas.List.Elements.{filter-append}
-use Rattle.upload_service.specs.declared.Ask.{Ask}
-use Rattle.upload_service.specs.declared.Answer.{Answer}
+use Rattle.upload_service.specs.declared.ask.Ask.{Ask}
+use Rattle.upload_service.specs.declared.answer.Answer.{Answer}
 use Rattle.upload_service.specs.Machine.{State, Turn, IsLawful}
-use Rattle.upload_service.specs.Runs.{Exchange, Run, NeverBefore}
-use Rattle.upload_service.specs.Runs.{Headline, HeadlineHolds}
+use Rattle.upload_service.specs.Run.{Exchange, Run, NeverBefore}
+use Rattle.upload_service.specs.Headline.{HeadlineHolds}
 use Rattle.upload_intake.specs.declared.line.Side.{Side}
 use Rattle.upload_intake.specs.declared.line.Side.TheVariants.{Left, Right}
 use Rattle.upload_intake.specs.declared.line.Item.{Item}

@@ -1,8 +1,8 @@
 -- What a seat's passes know after a request, an answer, and the end.
 use Rattle.std.proofs.Common.{◌≡◌, ℕ, Bool, true, false, true≢false, List, [], ◌∷◌, ◌++◌, length, length-append, sym, refl, ap, ◌∙◌, arith, append-nil, Result, Ok, Err, MatchResult}
 use Rattle.std.proofs.lemmas.List.{map-append}
-use Rattle.upload_service.specs.declared.Ask.{Ask}
-use Rattle.upload_service.specs.declared.Answer.{Answer}
+use Rattle.upload_service.specs.declared.ask.Ask.{Ask}
+use Rattle.upload_service.specs.declared.answer.Answer.{Answer}
 use Rattle.upload_intake.specs.declared.line.Side.{Side}
 use Rattle.upload_intake.specs.declared.line.Side.TheVariants.{Left, Right}
 use Rattle.upload_intake.specs.declared.line.Item.{Item}

@@ -1,9 +1,8 @@
 -- What the three ends of a settlement say together.
 use Rattle.std.proofs.Common.{◌≡◌, ℕ, suc, Bool, true, false, true≢false, cond, List, [], ◌∷◌, ◌++◌, length, map, filter, length-append, sym, refl, ap, ◌∙◌, subst, arith, append-nil, append_assoc}
 use Rattle.std.proofs.lemmas.List.{map-append}
-use Rattle.upload_service.specs.declared.Answer.{Answer}
+use Rattle.upload_service.specs.declared.answer.Answer.{Answer}
 use Rattle.upload_service.specs.Machine.{State}
-use Rattle.upload_service.specs.Runs.{HeadlineHolds}
 use Rattle.upload_intake.specs.declared.line.Side.{Side}
 use Rattle.upload_intake.specs.declared.line.Side.TheVariants.{Left, Right}
 use Rattle.upload_intake.specs.declared.line.Item.{Item}
@@ -11,7 +10,7 @@ use Rattle.upload_intake.specs.declared.line.LineView.{LineView}
 use Rattle.upload_intake.specs.declared.message.Message.{Message}
 use Rattle.upload_intake.specs.declared.message.Message.TheVariants as message
 use Rattle.upload_intake.specs.Line.{same_side, items_of, sent, joined, Waits}
-use Rattle.upload_intake.specs.Log.{TakenJob, Step, exchanges_of, taken_by, jobs_of, answers_to}
+use Rattle.upload_intake.specs.Log.{TakenJob, Step, taken_by, jobs_of, answers_to}
 use Rattle.upload_intake.specs.Passes.{sender_view, only_sender_view, taker_view, whats}
 use Rattle.upload_intake.specs.Kept.{jobs_in, taken_in, add_job, has_finish, is_empty, is_closed, Outlet, Replied, SatToTheEnd, IsKeeping, TookFinish}
 use Rattle.upload_intake.proofs.LineMoves.{items_of-append}

@@ -1,8 +1,8 @@
 -- What the passes of the three lines know, and what a keeper keeps from one item to the next.
-use Rattle.std.specs.Prelude.{◌≡◌, ◌⊎◌, ℕ, ◌≤◌, min, Bool, true, false, List, [], ◌∷◌, ◌++◌, length}
-use Rattle.upload_service.specs.declared.Answer.{Answer}
+use Rattle.std.specs.Prelude.{◌≡◌, ℕ, min, Bool, true, false, List, [], ◌∷◌, ◌++◌, length}
+use Rattle.upload_service.specs.declared.answer.Answer.{Answer}
 use Rattle.upload_service.specs.Machine.{State, IsLawful}
-use Rattle.upload_service.specs.Runs.{Exchange, Run, NeverFall}
+use Rattle.upload_service.specs.Run.{Exchange, Run, NeverFall}
 use Rattle.upload_intake.specs.declared.line.Side.{Side}
 use Rattle.upload_intake.specs.declared.line.Side.TheVariants.{Left, Right}
 use Rattle.upload_intake.specs.declared.line.Item.{Item}

@@ -1,8 +1,8 @@
 -- What the keeper took from its two seats and answered, as one list.
 use Rattle.std.specs.Prelude.{ℕ, List, map, filter}
-use Rattle.upload_service.specs.declared.Ask.{Ask}
-use Rattle.upload_service.specs.declared.Answer.{Answer}
-use Rattle.upload_service.specs.Runs.{Exchange}
+use Rattle.upload_service.specs.declared.ask.Ask.{Ask}
+use Rattle.upload_service.specs.declared.answer.Answer.{Answer}
+use Rattle.upload_service.specs.Run.{Exchange}
 use Rattle.upload_intake.specs.declared.line.Side.{Side}
 use Rattle.upload_intake.specs.Line.{same_side}
 

@@ -1,7 +1,7 @@
 -- A seat: what it sent and heard, and whether the keeper is gone for it.
 use Rattle.std.specs.Prelude.{◌≡◌, ℕ, Bool, true, false, List, [], ◌∷◌, ◌++◌, Result, Ok, Err}
-use Rattle.upload_service.specs.declared.Ask.{Ask}
-use Rattle.upload_service.specs.declared.Answer.{Answer}
+use Rattle.upload_service.specs.declared.ask.Ask.{Ask}
+use Rattle.upload_service.specs.declared.answer.Answer.{Answer}
 use Rattle.upload_intake.specs.declared.line.Side.{Side}
 use Rattle.upload_intake.specs.declared.message.Message.{Message}
 use Rattle.upload_intake.specs.declared.gone.Gone.{Gone}

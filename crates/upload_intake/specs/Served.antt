@@ -1,9 +1,9 @@
 -- A keeper: its lines, the service that it was given and the one that it has now, and the jobs that it took.
 use Rattle.std.specs.Prelude.{◌≡◌, List}
-use Rattle.upload_service.specs.declared.Answer.{Answer}
-use Rattle.upload_service.specs.Machine.{State, IsLawful}
-use Rattle.upload_service.specs.Runs.{Exchange, Run, NeverFall}
-use Rattle.upload_service.specs.Runs.{Headline}
+use Rattle.upload_service.specs.declared.answer.Answer.{Answer}
+use Rattle.upload_service.specs.Machine.{State}
+use Rattle.upload_service.specs.Run.{Exchange, Run, NeverFall}
+use Rattle.upload_service.specs.Headline.{Headline}
 use Rattle.upload_intake.specs.declared.line.Side.TheVariants.{Left, Right}
 use Rattle.upload_intake.specs.declared.message.Message.{Message}
 use Rattle.upload_intake.specs.Log.{TakenJob, Step, exchanges_of, taken_by}

@@ -1,7 +1,7 @@
 -- WHAT THE THREE ENDS OF A SETTLEMENT SAY TOGETHER: what was taken is what was sent, the service and the answers are one
 -- run over it, and what was heard is what was answered.
 use Rattle.std.specs.Prelude.{◌≡◌, ℕ, min, false, List, [], ◌++◌, length}
-use Rattle.upload_service.specs.declared.Answer.{Answer}
+use Rattle.upload_service.specs.declared.answer.Answer.{Answer}
 use Rattle.upload_service.specs.Machine.{State}
 use Rattle.upload_intake.specs.declared.line.Side.{Side}
 use Rattle.upload_intake.specs.declared.line.Side.TheVariants.{Left, Right}
