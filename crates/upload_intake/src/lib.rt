@@ -3,17 +3,27 @@
 //! once, and what a seat hears is in order what the service answered to its own requests.
 #![tactic(auto)]
 
+mod conns;
+mod desk;
 mod ends;
+mod gate;
 mod gone;
 mod keeper;
 mod line;
 mod message;
 mod moments;
+mod pair;
 mod seat;
+mod secrets;
 mod settlement;
 
+pub use conns::Conns;
+pub use desk::SeatDesk;
+pub use gate::{Gate, NoGate};
 pub use gone::Gone;
 pub use keeper::{Keeper, Served};
 pub use moments::Moments;
+pub use pair::{Pair, ServeFault, Worker, WorkerEnd, serve_pair};
 pub use seat::{Seat, SeatEnd};
+pub use secrets::{DrawnSecrets, Secrets, ZeroSecrets};
 pub use settlement::{Settled, lines, settle};
