@@ -28,7 +28,7 @@ use Rattle.upload_service.proofs.Turns.{IsNumbered, IsGone}
 use Rattle.upload_service.proofs.Alone.{numbered_if_lawful}
 use Rattle.upload_service.specs.Session.{is_lapsed, seen_of}
 use Rattle.upload_service.proofs.Idle.{over_not_awake, lapsed_is_over, tracks_at_start}
-use Rattle.upload_service.proofs.Received.{append_none, gave, gave_own, received-push, reply_not_accepted, gone_run, numbered_run, numbered_turn, open_is_received}
+use Rattle.upload_service.proofs.Chunks.{append_none, gave, gave_own, received-push, reply_not_accepted, gone_run, numbered_run, numbered_turn, open_is_received}
 
 -- committed by a session
 committed : (start : State) (front : List Exchange) (before : State) (x : Exchange) (o : Outcome) → IsLawful start → Run start front before

@@ -17,7 +17,7 @@ use Rattle.upload_service.proofs.Steps.{IsReply, IsOutcome, outcome_sound, None�
 use Rattle.upload_service.proofs.Sweeps.{kept_or_left, was_there, idle_later}
 use Rattle.upload_service.proofs.Turns.{IsNumbered, new_number, not_new}
 use Rattle.upload_service.proofs.Alone.{same_limits, numbered_if_lawful}
-use Rattle.upload_service.proofs.Received.{numbered_turn, reply_not_accepted}
+use Rattle.upload_service.proofs.Chunks.{numbered_turn, reply_not_accepted}
 
 -- a session that no request reaches from this moment on
 abbrev pub IsOver : State → ℕ → List ℕ → Type 0

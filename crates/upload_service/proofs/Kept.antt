@@ -1,180 +1,97 @@
--- The sessions as they are kept, and the table that they stand for.
-use Rattle.std.proofs.Common.{◌≡◌, ◌≢◌, ℕ, zero, suc, ◌<◌, List, [], ◌∷◌, ◌++◌, length, get_or, set, true, false, Some, None, refl, sym, ◌∙◌, ap, subst, cond, arith}
-use Rattle.std.specs.Prelude.{slice_get}
-use Rattle.std.specs.List.{remove}
-use Rattle.std.specs.Ordering.{nat_cmp}
-use Rattle.std.specs.Cmp.Lexicographic.{slice_cmp, nat_list_cmp_total}
-use Rattle.std.specs.FinMap as map
-use Rattle.std.proofs.lemmas.List.{map-append, map-set, length-map}
-use Rattle.std.specs.Prelude.{filter, not, nat_le}
-use Rattle.upload_service.specs.declared.limits.Limits.{Limits}
-use Rattle.upload_service.specs.Machine.{same, Session, is_idle, unless_idle, awake_of, swept_of}
-use Rattle.upload_service.proofs.Sweeps.{get-awake_of}
-use Rattle.upload_service.specs.Entries.{IsDistinct, table_of}
-use Rattle.upload_service.specs.Views.{session_of, session_entry, session_entries, references_of, is_kept, beside, IsGrown}
-use Rattle.upload_service.specs.declared.sessions.OpenSession.{OpenSession}
+-- What changes of a map's entries do to the table that they stand for.
+use Rattle.std.proofs.Common.{◌≡◌, ◌≢◌, ℕ, suc, ◌+◌, List, [], ◌∷◌, length, Bool, true, false, Option, Some, None, refl, sym, ◌∙◌, ap, cond, arith, ◌⊎◌, inl, inr, filter}
+use Rattle.std.specs.Prelude.{is_some}
+use Rattle.std.specs.Option.{option_map}
+use Rattle.std.specs.Map.{lookup, keys_of}
+use Rattle.std.specs.List.{IsDistinct}
+use Rattle.std.specs.List.Sorted.{IsStrictlySortedBy}
 use Rattle.std.specs.declared.cmp.Ordering.{Ordering}
-use Rattle.std.specs.FinMap.{IsAntisymmetric, slice_cmp-IsAntisymmetric, nat_cmp-IsAntisymmetric}
-use Rattle.upload_service.proofs.Tables.{same_from_ne, eq_from_same}
-use Rattle.upload_service.proofs.Entries.{get_at, table-set, table-remove, table-push, distinct-set, distinct-remove, distinct-push, len_of_table, absent_from_get}
+use Rattle.std.specs.Ordering.{eq_by_cmp, is_eq}
+use Rattle.std.specs.Cmp.{IsTotalOrder, Equal-is, eq_by_cmp_equiv, tied_itself}
+use Rattle.std.specs.FinMap as map
+use Rattle.std.specs.FinMap.{FinMap, IsAntisymmetric}
+use Rattle.std.proofs.lemmas.Bool.{true≢false, false_from_ne_true}
+use Rattle.std.proofs.lemmas.Map.{lookup-none}
+use Rattle.std.proofs.lemmas.Map.Entries.{none_past_head}
+use Rattle.std.proofs.lemmas.Map.Keys.{IsDistinct-from_sorted, IsDistinct-tail}
+use Rattle.upload_service.specs.Kept.Entries.{kept_as}
 
-abbrev bytes_cmp : List ℕ → List ℕ → Ordering
-bytes_cmp = slice_cmp nat_cmp
+module _ {K : Type 0} {R : K → K → Ordering} (total : IsTotalOrder R) where
+  pub tied : (x : K) → eq_by_cmp R x x ≡ true
+  tied x = ap is_eq (tied_itself total x)
 
-pub keys_exact : IsAntisymmetric bytes_cmp
-keys_exact = slice_cmp-IsAntisymmetric nat_cmp-IsAntisymmetric
+  pub tied_flips : (x y : K) → eq_by_cmp R x y ≡ eq_by_cmp R y x
+  tied_flips x y = (eq_by_cmp_equiv total).symm x y
 
-pub no_session : (q : List ℕ) (xs : List OpenSession) → ((k : ℕ) (d : OpenSession) → k < length xs → (get_or xs k d).at ≢ q) → map.find (slice_cmp nat_cmp) q (session_entries xs) ≡ None
-no_session q [] h = refl
-no_session q (x ∷ xs) h =
-    ap (λ b. cond b (Some (session_of x)) (map.find (slice_cmp nat_cmp) q (session_entries xs))) (same_from_ne q x.at (λ is. h 0 x (omega arith) (sym is)))
-    ∙ no_session q xs (λ k d lt. h (suc k) d (omega arith))
+  pub tied_from_eq : (x y : K) → x ≡ y → eq_by_cmp R x y ≡ true
+  tied_from_eq x y e = ap (eq_by_cmp R x) (sym e) ∙ tied x
 
-pub get_no_session : (q : List ℕ) (xs : List OpenSession) → ((k : ℕ) (d : OpenSession) → k < length xs → (get_or xs k d).at ≢ q) → map.get (table_of bytes_cmp (session_entries xs)) q ≡ None
-get_no_session q xs h = map.get-from_entries nat_list_cmp_total (session_entries xs) q ∙ no_session q xs h
+  -- no later key is the first
+  pub first_only : {V : Type 0} (e : K × V) (es : List (K × V)) → IsDistinct (eq_by_cmp R) (keys_of (e ∷ es)) → lookup (eq_by_cmp R e.0) es ≡ None
+  first_only e es h = lookup-none (eq_by_cmp R e.0) es (none_past_head (eq_by_cmp_equiv total) e.0 e es h (tied e.0))
 
-pub entry_at : (xs : List OpenSession) (i : ℕ) (d : OpenSession) → get_or (session_entries xs) i (session_entry d) ≡ session_entry (get_or xs i d)
-entry_at [] i d = refl
-entry_at (x ∷ xs) zero d = refl
-entry_at (x ∷ xs) (suc i) d = entry_at xs i d
-
-pub place_within : (xs : List OpenSession) (i : ℕ) (q : List ℕ) → slice_get (references_of xs) i ≡ Some q → i < length xs
-place_within [] i q e = cc
-place_within (x ∷ xs) zero q e = omega arith
-place_within (x ∷ xs) (suc i) q e = omega (arith, place_within xs i q e)
-
-pub place_key : (xs : List OpenSession) (i : ℕ) (q : List ℕ) (d : OpenSession) → slice_get (references_of xs) i ≡ Some q → (get_or xs i d).at ≡ q
-place_key [] i q d e = cc
-place_key (x ∷ xs) zero q d e = cc
-place_key (x ∷ xs) (suc i) q d e = place_key xs i q d e
-
-within_entries : (xs : List OpenSession) (i : ℕ) → i < length xs → i < length (session_entries xs)
-within_entries xs i lt = rw length-map lt
-
-pub get_session : (xs : List OpenSession) (i : ℕ) (q : List ℕ) (d : OpenSession) → IsDistinct bytes_cmp (session_entries xs) → slice_get (references_of xs) i ≡ Some q
-    → map.get (table_of bytes_cmp (session_entries xs)) q ≡ Some (session_of (get_or xs i d))
-get_session xs i q d h e =
-    ap (map.get (table_of bytes_cmp (session_entries xs))) (sym (place_key xs i q d e) ∙ ap (λ (p : List ℕ × Session). p.0) (sym (entry_at xs i d)))
-    ∙ get_at nat_list_cmp_total keys_exact (session_entries xs) i (session_entry d) h (within_entries xs i (place_within xs i q e))
-    ∙ ap (λ (p : List ℕ × Session). Some p.1) (entry_at xs i d)
-
-set_entry : (xs : List OpenSession) (i : ℕ) (y d : OpenSession) → y.at ≡ (get_or xs i d).at
-    → session_entries (set xs i y) ≡ set (session_entries xs) i ((get_or (session_entries xs) i (session_entry d)).0, session_of y)
-set_entry xs i y d e = map-set session_entry xs i y ∙ ap (λ k. set (session_entries xs) i (k, session_of y)) (e ∙ ap (λ (p : List ℕ × Session). p.0) (sym (entry_at xs i d)))
-
-pub table-set_session : (xs : List OpenSession) (i : ℕ) (q : List ℕ) (y d : OpenSession) → IsDistinct bytes_cmp (session_entries xs) → slice_get (references_of xs) i ≡ Some q → y.at ≡ (get_or xs i d).at
-    → table_of bytes_cmp (session_entries (set xs i y)) ≡ map.insert (table_of bytes_cmp (session_entries xs)) q (session_of y)
-table-set_session xs i q y d h e k =
-    ap (table_of bytes_cmp) (set_entry xs i y d k)
-    ∙ table-set nat_list_cmp_total keys_exact (session_entries xs) i (session_entry d) (session_of y) h (within_entries xs i (place_within xs i q e))
-    ∙ ap (λ r. map.insert (table_of bytes_cmp (session_entries xs)) r (session_of y)) (ap (λ (p : List ℕ × Session). p.0) (entry_at xs i d) ∙ place_key xs i q d e)
-
-pub distinct-set_session : (xs : List OpenSession) (i : ℕ) (q : List ℕ) (y d : OpenSession) → IsDistinct bytes_cmp (session_entries xs) → slice_get (references_of xs) i ≡ Some q → y.at ≡ (get_or xs i d).at
-    → IsDistinct bytes_cmp (session_entries (set xs i y))
-distinct-set_session xs i q y d h e k =
-    subst (IsDistinct bytes_cmp) (sym (set_entry xs i y d k)) (distinct-set nat_list_cmp_total keys_exact (session_entries xs) i (session_entry d) (session_of y) h (within_entries xs i (place_within xs i q e)))
-
-remove_entry : (xs : List OpenSession) (i : ℕ) → session_entries (remove xs i) ≡ remove (session_entries xs) i
-remove_entry [] zero = refl
-remove_entry [] (suc i) = refl
-remove_entry (x ∷ xs) zero = refl
-remove_entry (x ∷ xs) (suc i) = ap (λ es. session_entry x ∷ es) (remove_entry xs i)
-
-pub table-remove_session : (xs : List OpenSession) (i : ℕ) (q : List ℕ) (d : OpenSession) → IsDistinct bytes_cmp (session_entries xs) → slice_get (references_of xs) i ≡ Some q
-    → table_of bytes_cmp (session_entries (remove xs i)) ≡ map.remove (table_of bytes_cmp (session_entries xs)) q
-table-remove_session xs i q d h e =
-    ap (table_of bytes_cmp) (remove_entry xs i)
-    ∙ table-remove nat_list_cmp_total keys_exact (session_entries xs) i (session_entry d) h (within_entries xs i (place_within xs i q e))
-    ∙ ap (map.remove (table_of bytes_cmp (session_entries xs))) (ap (λ (p : List ℕ × Session). p.0) (entry_at xs i d) ∙ place_key xs i q d e)
-
-pub distinct-remove_session : (xs : List OpenSession) (i : ℕ) (q : List ℕ) (d : OpenSession) → IsDistinct bytes_cmp (session_entries xs) → slice_get (references_of xs) i ≡ Some q
-    → IsDistinct bytes_cmp (session_entries (remove xs i))
-distinct-remove_session xs i q d h e =
-    subst (IsDistinct bytes_cmp) (sym (remove_entry xs i)) (distinct-remove nat_list_cmp_total keys_exact (session_entries xs) i (session_entry d) h (within_entries xs i (place_within xs i q e)))
-
-pub table-push_session : (xs : List OpenSession) (y : OpenSession) → map.get (table_of bytes_cmp (session_entries xs)) y.at ≡ None
-    → table_of bytes_cmp (session_entries (xs ++ y ∷ [])) ≡ map.insert (table_of bytes_cmp (session_entries xs)) y.at (session_of y)
-table-push_session xs y none = ap (table_of bytes_cmp) (map-append session_entry xs (y ∷ [])) ∙ table-push nat_list_cmp_total keys_exact (session_entries xs) y.at (session_of y) (absent_from_get nat_list_cmp_total keys_exact y.at (session_entries xs) none)
-
-pub distinct-push_session : (xs : List OpenSession) (y : OpenSession) → IsDistinct bytes_cmp (session_entries xs) → map.get (table_of bytes_cmp (session_entries xs)) y.at ≡ None → IsDistinct bytes_cmp (session_entries (xs ++ y ∷ []))
-distinct-push_session xs y h none =
-    subst (IsDistinct bytes_cmp) (sym (map-append session_entry xs (y ∷ []))) (distinct-push nat_list_cmp_total keys_exact (session_entries xs) y.at (session_of y) h (absent_from_get nat_list_cmp_total keys_exact y.at (session_entries xs) none))
-
-pub len_of_sessions : (xs : List OpenSession) → IsDistinct bytes_cmp (session_entries xs) → map.len (table_of bytes_cmp (session_entries xs)) ≡ length xs
-len_of_sessions xs h = len_of_table nat_list_cmp_total keys_exact (session_entries xs) h ∙ length-map xs session_entry
-
-pub distinct-grown : (xs : List OpenSession) (i : ℕ) (q body : List ℕ) (now : ℕ) (ys : List OpenSession) → IsDistinct bytes_cmp (session_entries xs) → slice_get (references_of xs) i ≡ Some q → IsGrown xs i body now ys → IsDistinct bytes_cmp (session_entries ys)
-distinct-grown xs i q body now ys h e g =
-    subst (λ zs. IsDistinct bytes_cmp (session_entries zs)) (sym g.is_set) (distinct-set_session xs i q g.session g.session h e (g.same_reference g.session))
-
-pub table-grown : (xs : List OpenSession) (i : ℕ) (q body : List ℕ) (now : ℕ) (ys : List OpenSession) (session : Session) → IsDistinct bytes_cmp (session_entries xs) → slice_get (references_of xs) i ≡ Some q
-    → map.get (table_of bytes_cmp (session_entries xs)) q ≡ Some session → IsGrown xs i body now ys
-    → table_of bytes_cmp (session_entries ys) ≡ map.insert (table_of bytes_cmp (session_entries xs)) q (record { name = session.name; received = session.received ++ body; seen = now })
-table-grown xs i q body now ys session h e has g =
-    let both : Some (session_of (get_or xs i g.session)) ≡ Some session = sym (get_session xs i q g.session h e) ∙ has in
-    let is : session_of (get_or xs i g.session) ≡ session = cc in
-    ap (λ zs. table_of bytes_cmp (session_entries zs)) g.is_set
-    ∙ table-set_session xs i q g.session g.session h e (g.same_reference g.session)
-    ∙ ap (map.insert (table_of bytes_cmp (session_entries xs)) q) (g.more g.session ∙ ap (λ (s : Session). record { name = s.name; received = s.received ++ body; seen = now }) is)
-
--- what a sweep leaves of the kept sessions
-find_kept : (max_idle now : ℕ) (q : List ℕ) (xs : List OpenSession) → IsDistinct bytes_cmp (session_entries xs)
-    → map.find bytes_cmp q (session_entries (filter (is_kept max_idle now) xs)) ≡ unless_idle max_idle now (map.find bytes_cmp q (session_entries xs))
-find_kept max_idle now q [] h = refl
-find_kept max_idle now q (x ∷ xs) h =
-    let later : map.find bytes_cmp q (session_entries (filter (is_kept max_idle now) xs)) ≡ unless_idle max_idle now (map.find bytes_cmp q (session_entries xs)) = find_kept max_idle now q xs h.1 in
-    elim (is_idle max_idle now (session_of x)) as (λ b. is_idle max_idle now (session_of x) ≡ b → map.find bytes_cmp q (session_entries (cond (not b) (x ∷ filter (is_kept max_idle now) xs) (filter (is_kept max_idle now) xs))) ≡ unless_idle max_idle now (cond (same q x.at) (Some (session_of x)) (map.find bytes_cmp q (session_entries xs)))) [
-      | true ↦ λ idle. later ∙ elim (same q x.at) as (λ c. same q x.at ≡ c → unless_idle max_idle now (map.find bytes_cmp q (session_entries xs)) ≡ unless_idle max_idle now (cond c (Some (session_of x)) (map.find bytes_cmp q (session_entries xs)))) [
-        | true ↦ λ is. ap (unless_idle max_idle now) (ap (λ k. map.find bytes_cmp k (session_entries xs)) (eq_from_same q x.at is) ∙ h.0) ∙ sym (ap (λ c. cond c None (Some (session_of x))) idle)
-        | false ↦ λ _. refl
+module _ {K : Type 0} {R : K → K → Ordering} (total : IsTotalOrder R) (exact : IsAntisymmetric R) where
+  -- two keys are one, or they are apart
+  pub one_or_apart : (x y : K) → (x ≡ y) ⊎ (eq_by_cmp R x y ≡ false)
+  one_or_apart x y =
+      elim (eq_by_cmp R x y) as (λ b. eq_by_cmp R x y ≡ b → (x ≡ y) ⊎ (b ≡ false)) [
+        | true ↦ λ e. inl (exact x y ((Equal-is (R x y)).0 e))
+        | false ↦ λ e. inr refl
       ] refl
-      | false ↦ λ awake. elim (same q x.at) as (λ c. cond c (Some (session_of x)) (map.find bytes_cmp q (session_entries (filter (is_kept max_idle now) xs))) ≡ unless_idle max_idle now (cond c (Some (session_of x)) (map.find bytes_cmp q (session_entries xs)))) [
-        | true ↦ sym (ap (λ c. cond c None (Some (session_of x))) awake)
-        | false ↦ later
-      ]
-    ] refl
 
-pub distinct_kept : (max_idle now : ℕ) (xs : List OpenSession) → IsDistinct bytes_cmp (session_entries xs) → IsDistinct bytes_cmp (session_entries (filter (is_kept max_idle now) xs))
-distinct_kept max_idle now [] h = tt
-distinct_kept max_idle now (x ∷ xs) h =
-    elim (is_idle max_idle now (session_of x)) as (λ b. IsDistinct bytes_cmp (session_entries (cond (not b) (x ∷ filter (is_kept max_idle now) xs) (filter (is_kept max_idle now) xs)))) [
-      | true ↦ distinct_kept max_idle now xs h.1
-      | false ↦ (find_kept max_idle now x.at xs h.1 ∙ ap (unless_idle max_idle now) h.0, distinct_kept max_idle now xs h.1)
-    ]
+module _ {K V X : Type 0} {R : K → K → Ordering} (total : IsTotalOrder R) (exact : IsAntisymmetric R) (f : V → X) where
+  through : (b : Bool) (v : V) (o : Option V) → option_map f (cond b (Some v) o) ≡ cond b (Some (f v)) (option_map f o)
+  through true v o = refl
+  through false v o = refl
 
-pub table_kept : (max_idle now : ℕ) (xs : List OpenSession) → IsDistinct bytes_cmp (session_entries xs)
-    → table_of bytes_cmp (session_entries (filter (is_kept max_idle now) xs)) ≡ awake_of max_idle now (table_of bytes_cmp (session_entries xs))
-table_kept max_idle now xs h =
-    map.same_map nat_list_cmp_total keys_exact _ _ (λ q.
-    map.get-from_entries nat_list_cmp_total _ q ∙ find_kept max_idle now q xs h
-    ∙ ap (unless_idle max_idle now) (sym (map.get-from_entries nat_list_cmp_total (session_entries xs) q))
-    ∙ sym (get-awake_of max_idle now (table_of bytes_cmp (session_entries xs)) q))
+  through_none : (b : Bool) (o : Option V) → option_map f (cond b None o) ≡ cond b None (option_map f o)
+  through_none true o = refl
+  through_none false o = refl
 
-pub len_kept : (max_idle now : ℕ) (xs : List OpenSession) → IsDistinct bytes_cmp (session_entries xs)
-    → map.len (awake_of max_idle now (table_of bytes_cmp (session_entries xs))) ≡ length (filter (is_kept max_idle now) xs)
-len_kept max_idle now xs h =
-    ap map.len (sym (table_kept max_idle now xs h)) ∙ len_of_sessions (filter (is_kept max_idle now) xs) (distinct_kept max_idle now xs h)
+  pub get-kept : (es : List (K × V)) (q : K) → map.get (kept_as R f es) q ≡ option_map f (lookup (eq_by_cmp R q) es)
+  get-kept [] q = map.get-empty R q
+  get-kept (e ∷ es) q =
+      map.get-insert total (kept_as R f es) e.0 (f e.1) q
+      ∙ ap (cond (eq_by_cmp R q e.0) (Some (f e.1))) (get-kept es q)
+      ∙ sym (through (eq_by_cmp R q e.0) e.1 (lookup (eq_by_cmp R q) es))
 
-pub distinct_beside : (limits : Limits) (now : ℕ) (xs : List OpenSession) → IsDistinct bytes_cmp (session_entries xs) → IsDistinct bytes_cmp (session_entries (beside limits now xs))
-distinct_beside limits now xs h =
-    elim (nat_le limits.max_open (length xs)) as (λ b. IsDistinct bytes_cmp (session_entries (cond b (filter (is_kept limits.max_idle now) xs) xs))) [
-      | true ↦ distinct_kept limits.max_idle now xs h
-      | false ↦ h
-    ]
+  pub kept-same : (es fs : List (K × V)) → ((q : K) → option_map f (lookup (eq_by_cmp R q) fs) ≡ option_map f (lookup (eq_by_cmp R q) es)) → kept_as R f fs ≡ kept_as R f es
+  kept-same es fs h =
+      map.same_map total exact (kept_as R f fs) (kept_as R f es)
+      (λ q. get-kept fs q ∙ h q ∙ sym (get-kept es q))
 
-pub table_beside : (limits : Limits) (now : ℕ) (xs : List OpenSession) → IsDistinct bytes_cmp (session_entries xs)
-    → table_of bytes_cmp (session_entries (beside limits now xs)) ≡ swept_of limits now (table_of bytes_cmp (session_entries xs))
-table_beside limits now xs h =
-    elim (nat_le limits.max_open (length xs)) as (λ b. table_of bytes_cmp (session_entries (cond b (filter (is_kept limits.max_idle now) xs) xs)) ≡ cond b (awake_of limits.max_idle now (table_of bytes_cmp (session_entries xs))) (table_of bytes_cmp (session_entries xs))) [
-      | true ↦ table_kept limits.max_idle now xs h
-      | false ↦ refl
-    ]
-    ∙ ap (λ n. cond (nat_le limits.max_open n) (awake_of limits.max_idle now (table_of bytes_cmp (session_entries xs))) (table_of bytes_cmp (session_entries xs))) (sym (len_of_sessions xs h))
+  pub kept-insert : (es fs : List (K × V)) (k : K) (v : V) → ((q : K) → lookup (eq_by_cmp R q) fs ≡ cond (eq_by_cmp R k q) (Some v) (lookup (eq_by_cmp R q) es))
+      → kept_as R f fs ≡ map.insert (kept_as R f es) k (f v)
+  kept-insert es fs k v h =
+      map.same_map total exact (kept_as R f fs) (map.insert (kept_as R f es) k (f v))
+      (λ q. get-kept fs q ∙ ap (option_map f) (h q) ∙ through (eq_by_cmp R k q) v (lookup (eq_by_cmp R q) es)
+      ∙ ap (λ b. cond b (Some (f v)) (option_map f (lookup (eq_by_cmp R q) es))) (tied_flips total k q)
+      ∙ sym (map.get-insert total (kept_as R f es) k (f v) q ∙ ap (cond (eq_by_cmp R q k) (Some (f v))) (get-kept es q)))
 
-pub none_beside : (limits : Limits) (now : ℕ) (xs : List OpenSession) (at : List ℕ) → IsDistinct bytes_cmp (session_entries xs) → map.get (table_of bytes_cmp (session_entries xs)) at ≡ None
-    → map.get (table_of bytes_cmp (session_entries (beside limits now xs))) at ≡ None
-none_beside limits now xs at h none =
-    elim (nat_le limits.max_open (length xs)) as (λ b. map.get (table_of bytes_cmp (session_entries (cond b (filter (is_kept limits.max_idle now) xs) xs))) at ≡ None) [
-      | true ↦ ap (λ m. map.get m at) (table_kept limits.max_idle now xs h) ∙ get-awake_of limits.max_idle now (table_of bytes_cmp (session_entries xs)) at ∙ ap (unless_idle limits.max_idle now) none
-      | false ↦ none
-    ]
+  pub kept-remove : (es fs : List (K × V)) (k : K) → ((q : K) → lookup (eq_by_cmp R q) fs ≡ cond (eq_by_cmp R k q) None (lookup (eq_by_cmp R q) es))
+      → kept_as R f fs ≡ map.remove (kept_as R f es) k
+  kept-remove es fs k h =
+      map.same_map total exact (kept_as R f fs) (map.remove (kept_as R f es) k)
+      (λ q. get-kept fs q ∙ ap (option_map f) (h q) ∙ through_none (eq_by_cmp R k q) (lookup (eq_by_cmp R q) es)
+      ∙ ap (λ b. cond b None (option_map f (lookup (eq_by_cmp R q) es))) (tied_flips total k q)
+      ∙ sym (map.get-remove total (kept_as R f es) k q ∙ ap (cond (eq_by_cmp R q k) None) (get-kept es q)))
+
+  -- a value that is put back as it was
+  pub kept-written : (es fs : List (K × V)) (k : K) (v w : V) → Some v ≡ lookup (eq_by_cmp R k) es → ((q : K) → lookup (eq_by_cmp R q) fs ≡ cond (eq_by_cmp R k q) (Some w) (lookup (eq_by_cmp R q) es))
+      → f w ≡ f v → kept_as R f fs ≡ kept_as R f es
+  kept-written es fs k v w has h is =
+      kept-same es fs (λ q. ap (option_map f) (h q) ∙ elim (one_or_apart total exact k q) [
+        | inl e ↦ ap (λ b. option_map f (cond b (Some w) (lookup (eq_by_cmp R q) es))) (tied_from_eq total k q e) ∙ ap Some is ∙ ap (option_map f) (has ∙ ap (λ r. lookup (eq_by_cmp R r) es) e)
+        | inr n ↦ ap (λ b. option_map f (cond b (Some w) (lookup (eq_by_cmp R q) es))) n
+      ])
+
+  pub len_distinct : (es : List (K × V)) → IsDistinct (eq_by_cmp R) (keys_of es) → map.len (kept_as R f es) ≡ length es
+  len_distinct [] h = map.len-empty R X
+  len_distinct (e ∷ es) h =
+      map.len-insert total (kept_as R f es) e.0 (f e.1)
+      ∙ ap (λ o. cond (is_some o) (map.len (kept_as R f es)) (map.len (kept_as R f es) + 1)) (get-kept es e.0 ∙ ap (option_map f) (first_only total e es h))
+      ∙ ap (λ n. n + 1) (len_distinct es (IsDistinct-tail (eq_by_cmp R) e.0 (keys_of es) h))
+      ∙ (let e : length es + 1 ≡ suc (length es) = omega arith in e)
+
+  pub len-kept : (es : List (K × V)) → IsStrictlySortedBy R (keys_of es) → map.len (kept_as R f es) ≡ length es
+  len-kept es h = len_distinct es (IsDistinct-from_sorted R (keys_of es) h)

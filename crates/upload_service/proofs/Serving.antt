@@ -30,24 +30,13 @@ lacks s now o p answer t e m a n = inr (ap may_lack_memory e ∙ m, a, n)
 pub comes_by : (s : State) (now : ℕ) (o p : Outcome) (answer : Answer) (t : State) → o ≡ p → Comes s now p answer t → Comes s now o answer t
 comes_by s now o p answer t e h = subst (λ q. Comes s now q answer t) (sym e) h
 
-pub not_named : (max_blob : ℕ) (o : Option Session) (session : Session) (name : List ℕ) (ask : Ask) → o ≡ Some session → session.name ≢ name → at_session max_blob o name ask ≡ refused refusals.NoUpload
-not_named max_blob o session name ask e n =
-    ap (λ q. at_session max_blob q name ask) e ∙ ap (λ b. if b then in_session max_blob session ask else refused refusals.NoUpload) (same_from_ne session.name name n)
+pub none_named : (max_blob : ℕ) (o : Option Session) (name : List ℕ) (ask : Ask) → ((session : Session) → o ≡ Some session → session.name ≢ name) → at_session max_blob o name ask ≡ refused refusals.NoUpload
+none_named max_blob None name ask h = refl
+none_named max_blob (Some session) name ask h = ap (λ b. if b then in_session max_blob session ask else refused refusals.NoUpload) (same_from_ne session.name name (h session refl))
 
 pub named : (max_blob : ℕ) (o : Option Session) (session : Session) (name : List ℕ) (ask : Ask) → o ≡ Some session → session.name ≡ name → at_session max_blob o name ask ≡ in_session max_blob session ask
 named max_blob o session name ask e n =
     ap (λ q. at_session max_blob q name ask) e ∙ ap (λ b. if b then in_session max_blob session ask else refused refusals.NoUpload) (same_from_eq session.name name n)
-
-pub number_is_free : (s : State) (secret : List ℕ) → IsLawful s → s.issued < last_number → map.get s.sessions (reference (s.issued + 1) secret) ≡ None
-number_is_free s secret h left =
-    free (map.get s.sessions (reference (s.issued + 1) secret)) refl
-  where
-    free : (o : Option Session) → map.get s.sessions (reference (s.issued + 1) secret) ≡ o → o ≡ None
-    free None e = refl
-    free (Some session) e =
-        let n : number_of (reference (s.issued + 1) secret) ≡ s.issued + 1 = number_of-reference (s.issued + 1) secret (omega arith) in
-        let le : number_of (reference (s.issued + 1) secret) ≤ s.issued = (h.numbered _ session e).1 in
-        absurd (omega arith)
 
 None≢Some : {A : Type 0} {x : A} → None ≡ Some x → ⊥
 None≢Some e = cc

@@ -17,7 +17,7 @@ use Rattle.upload_service.specs.Stored.{Stored, stored_by, stored_from, last_und
 use Rattle.upload_service.proofs.Tables.{same_itself, blob-insert, contains-insert}
 use Rattle.upload_service.proofs.Steps.{IsReply, IsBlob, IsCommit, IsOutcome, outcome_sound}
 use Rattle.upload_service.proofs.Alone.{numbered_if_lawful}
-use Rattle.upload_service.proofs.Received.{append_none, gave, gave_own, received-push, open_is_received}
+use Rattle.upload_service.proofs.Chunks.{append_none, gave, gave_own, received-push, open_is_received}
 
 pub run-push : (xs : List Exchange) (s m t : State) (x : Exchange) → Run s xs m → Turn m x.ask x.secret x.now x.answer t → Run s (xs ++ x ∷ []) t
 unfolding Turn

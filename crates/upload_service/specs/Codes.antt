@@ -12,16 +12,12 @@ use Rattle.upload_names.specs.declared.digest.Algorithm.{Algorithm}
 use Rattle.upload_names.specs.declared.digest.Algorithm.TheVariants as algorithms
 use Rattle.upload_service.specs.declared.limits.Limits.{Limits}
 use Rattle.upload_service.specs.Machine.{Session, Table, State, pair_cmp}
-use Rattle.upload_service.specs.Entries.{Roomy}
 
 abbrev pub bytes_code : Coded (List ℕ)
 bytes_code = coded_list coded_ℕ
 
 abbrev pub session_code : Coded Session
 session_code = code_by (List ℕ × (List ℕ × ℕ)) (coded× bytes_code (coded× bytes_code coded_ℕ)) (λ s. (s.name, (s.received, s.seen))) (λ p. record { name = p.0; received = p.1.0; seen = p.1.1 }) (λ _. refl)
-
-abbrev pub roomy_code : {A : Type 0} → Coded A → Coded (Roomy A)
-roomy_code {A} code = code_by (A × ℕ) (coded× code coded_ℕ) (λ r. (r.kept, r.room)) (λ p. record { kept = p.0; room = p.1 }) (λ _. refl)
 
 abbrev pub to_bool : Algorithm → Bool
 to_bool algorithms.Sha256 = false

@@ -4,9 +4,5 @@ pub mod Session
 pub mod Alone
 pub mod Stored
 pub mod Headline
-pub mod Entries
 pub mod Codes
-pub mod Views
-pub mod Stock
-pub mod Shelves
-pub mod Tables
+pub mod Kept

@@ -1,101 +1,139 @@
-//! The stored blobs, as a list in which no digest stands twice.
-ghost use Rattle.std.specs.Prelude.{◌≡◌, ◌<◌, ◌+◌, ◌++◌, ◌∷◌, [], ℕ, length, Some, None, IsSome, IfSome, IfNone, OnOk, OnErr, slice_get};
+//! The stored blobs by their digests. What stores a blob notes its pair too: the entry makes room for the blob
+//! before the pair is noted, so that both growths come before the first change that is seen.
+ghost use Rattle.std.specs.Prelude.{◌≡◌, ◌+◌, ◌<◌, ◌^◌, ◌++◌, length, ℕ, Some, None, IsSome, IfSome, IfNone, OnOk, OnErr};
 ghost use Rattle.std.specs.FinMap as map;
-ghost use Rattle.upload_names.specs.Digest.{digest_cmp};
-ghost use Rattle.upload_service.specs.Entries.{table_of};
-ghost use Rattle.upload_service.specs.Stock.{blob_entries, digests_of};
+ghost use Rattle.std.specs.FinSet as set;
+ghost use Rattle.upload_service.specs.Machine.{Session};
 
+use crate::blob::Blob;
+use crate::pairs::Pairs;
+use crate::sessions::Sessions;
 use std::alloc::{AllocError, Global};
+use std::collections::BTreeMap;
+use std::collections::btree_map::Entry;
 use std::marker::Model;
-use upload_names::BlobDigest;
+use upload_names::{BlobDigest, Bytes, RepoName, UploadRef};
 
-#[derive(Drop)]
-pub struct StoredBlob {
-    digest: BlobDigest,
-    bytes: Vec<u8>,
-}
-
+/// The stored blobs, seen as a map from their digests to their bytes.
 #[derive(Drop)]
 pub struct Blobs {
-    entries: Vec<StoredBlob>,
+    stored: BTreeMap<BlobDigest, Blob>,
 }
 
 impl Model for Blobs {
-    ghost use Rattle.std.specs.Prelude.{List, ℕ, vec_len, vec_capacity, ◌-◌};
+    ghost use Rattle.std.specs.Prelude.{List, ℕ};
     ghost use Rattle.std.specs.FinMap as map;
     ghost use Rattle.upload_names.specs.Digest.{digest_cmp};
-    ghost use Rattle.upload_service.specs.Entries.{Roomy, table_of, IsDistinct};
-    ghost use Rattle.upload_service.specs.Codes.{bytes_code, digest_code, roomy_code};
+    ghost use Rattle.upload_service.specs.Kept.Entries.{kept_as};
+    ghost use Rattle.upload_service.specs.Codes.{bytes_code, digest_code};
 
-    ghost Value = { Roomy (map.FinMap digest_cmp (List ℕ)) };
+    ghost Value = { map.FinMap digest_cmp (List ℕ) };
 
-    ghost coded = { roomy_code (map.code digest_code bytes_code) };
+    ghost coded = { map.code digest_code bytes_code };
 
-    ghost use Rattle.upload_service.specs.Stock.{blob_entries};
-
-    ghost view = { λ a. record { kept = table_of digest_cmp (blob_entries a.entries.items); room = vec_capacity a.entries - vec_len a.entries } };
-
-    ghost invariant = { λ a. IsDistinct digest_cmp (blob_entries a.entries.items) };
+    ghost view = { λ a. kept_as digest_cmp (λ b. b) a.stored.entries };
 }
 
 impl Blobs {
+    /// No blobs. It takes no memory.
     pub fn new(alloc: Global) -> Blobs
-        ensures { result.kept ≡ map.empty }
+        ensures { result ≡ map.empty }
     {
         Blobs {
-            entries: Vec::new(alloc),
+            stored: BTreeMap::new(alloc),
         }
     }
 
-    pub fn get(&self, digest: &BlobDigest) -> Option<&[u8]>
-        ensures found { IfSome result (λ bytes. map.get self.now.kept digest.now ≡ Some bytes.now) }
-        ensures none { IfNone result (map.get self.now.kept digest.now ≡ None) }
+    /// The blob under a digest.
+    pub fn get(&self, digest: &BlobDigest) -> Option<&Blob>
+        ensures found { IfSome result (λ blob. map.get self.now digest.now ≡ Some blob.now) }
+        ensures none { IfNone result (map.get self.now digest.now ≡ None) }
     {
-        let entries = self.entries.as_slice();
-        match place_of(entries, digest) {
-            Some(i) => Some(entries[i].bytes.as_slice()),
-            None => None,
-        }
+        self.stored.get(digest)
     }
 
-    /// Makes room for one blob more.
-    pub fn reserve(&mut self) -> Result<(), AllocError>
-        ensures kept { self.new.kept ≡ self.old.kept }
-        ensures room { OnOk result (0 < self.new.room) }
+    /// Stores a blob, in the place of one under its digest, and notes the pair.
+    pub fn store(
+        &mut self,
+        pairs: &mut Pairs,
+        name: &RepoName,
+        digest: BlobDigest,
+        blob: Blob,
+    ) -> Result<(), AllocError>
+        ensures blobs { OnOk result (self.new ≡ map.insert self.old digest blob) }
+        ensures pairs { OnOk result (pairs.new ≡ set.insert pairs.old (name.now, digest)) }
+        ensures err { OnErr result ((self.new ≡ self.old) × (pairs.new ≡ pairs.old)) }
     {
-        self.entries.reserve(1)?;
-        Ok(())
-    }
-
-    /// Stores a blob. It takes the place of one under its digest.
-    pub fn put(&mut self, digest: BlobDigest, bytes: Vec<u8>)
-        requires { 0 < self.old.room }
-        ensures { self.new.kept ≡ map.insert self.old.kept digest bytes.items }
-    {
-        match place_of(self.entries.as_slice(), &digest) {
-            Some(i) => {
-                self.entries[i] = StoredBlob { digest, bytes };
+        let Ok(entry) = self.stored.entry(digest) else {
+            return Err(AllocError);
+        };
+        match entry {
+            Entry::Occupied(mut place) => {
+                let Ok(()) = pairs.put(name, digest) else {
+                    return Err(AllocError);
+                };
+                place.insert(blob);
+                return Ok(());
             }
-            None => {
-                let pushed = self.entries.push(StoredBlob { digest, bytes });
-                match pushed {
-                    Ok(()) => {}
-                    Err(_) => unreachable!(),
-                }
+            Entry::Vacant(place) => {
+                let Ok(()) = pairs.put(name, digest) else {
+                    return Err(AllocError);
+                };
+                place.insert(blob);
+                Ok(())
+            }
+        }
+    }
+
+    /// Closes an open session, stores what it received and a last body, and notes the pair.
+    pub fn commit(
+        &mut self,
+        pairs: &mut Pairs,
+        sessions: &mut Sessions,
+        name: &RepoName,
+        at: &UploadRef,
+        digest: BlobDigest,
+        body: Bytes,
+    ) -> Result<(), AllocError>
+        requires open { IsSome (map.get sessions.old at.now) }
+        requires fits { (session : Session) → map.get sessions.old at.now ≡ Some session → length session.received + length body < 2 ^ 64 }
+        ensures blobs { OnOk result ((session : Session) → map.get sessions.old at.now ≡ Some session → self.new ≡ map.insert self.old digest (session.received ++ body)) }
+        ensures sessions { OnOk result (sessions.new ≡ map.remove sessions.old at.now) }
+        ensures pairs { OnOk result (pairs.new ≡ set.insert pairs.old (name.now, digest)) }
+        ensures err { OnErr result ((self.new ≡ self.old) × (pairs.new ≡ pairs.old) × (sessions.new ≡ sessions.old)) }
+    {
+        let Ok(entry) = self.stored.entry(digest) else {
+            return Err(AllocError);
+        };
+        match entry {
+            Entry::Occupied(mut place) => {
+                let Ok(()) = pairs.put(name, digest) else {
+                    return Err(AllocError);
+                };
+                place.insert(blob_of(sessions, at, body));
+                return Ok(());
+            }
+            Entry::Vacant(place) => {
+                let Ok(()) = pairs.put(name, digest) else {
+                    return Err(AllocError);
+                };
+                place.insert(blob_of(sessions, at, body));
+                Ok(())
             }
         }
     }
 }
 
-/// Where the blob of a digest stands.
-fn place_of(entries: &[StoredBlob], digest: &BlobDigest) -> Option<usize>
-    ensures found { IfSome result (λ i. slice_get (digests_of entries.now) i ≡ Some digest.now) }
-    ensures none { IfNone result (map.get (table_of digest_cmp (blob_entries entries.now)) digest.now ≡ None) }
+/// Closes an open session, and makes a blob of what it received and a last body. It takes no memory.
+fn blob_of(sessions: &mut Sessions, at: &UploadRef, body: Bytes) -> Blob
+    requires open { IsSome (map.get sessions.old at.now) }
+    requires fits { (session : Session) → map.get sessions.old at.now ≡ Some session → length session.received + length body < 2 ^ 64 }
+    ensures blob { (session : Session) → map.get sessions.old at.now ≡ Some session → result ≡ session.received ++ body }
+    ensures closed { sessions.new ≡ map.remove sessions.old at.now }
 {
-    for (i, entry) in entries.iter().enumerate() {
-        if entry.digest.same(digest) {
-            return Some(i);
-        }
-    }
-    None
+    let Some(session) = sessions.close(at) else {
+        unreachable!();
+    };
+    let segments = session.received.into_segments();
+    Blob::of_parts(segments, body)
 }

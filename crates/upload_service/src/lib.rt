@@ -11,10 +11,13 @@ pub use service::Service;
 
 mod answer;
 mod ask;
+mod blob;
 mod blobs;
 mod laws;
 mod limits;
 mod pairs;
+mod received;
+mod segments;
 mod service;
 mod sessions;
 mod turn;

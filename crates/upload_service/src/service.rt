@@ -34,7 +34,7 @@ impl Model for Service {
 
     ghost coded = { state_code };
 
-    ghost use Rattle.upload_service.specs.Tables.{state_of, IsService};
+    ghost use Rattle.upload_service.specs.Kept.Tables.{state_of, IsService};
 
     ghost view = { λ a. state_of a.limits a.tables };
 
@@ -92,7 +92,7 @@ impl Service {
         ensures { result ≡ option_map (λ session. length session.received) (map.get self.now.sessions at.now) }
     {
         match self.tables.sessions.find(at) {
-            Some(session) => Some(session.received.len() as u64),
+            Some(session) => Some(session.received.len()),
             None => None,
         }
     }

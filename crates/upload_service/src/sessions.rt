@@ -1,24 +1,23 @@
-//! The open sessions, as a list in which no reference stands twice.
-ghost use Rattle.std.specs.Prelude.{◌≡◌, ◌<◌, ◌++◌, ◌∷◌, [], ℕ, length, Some, None, IsSome, IfSome, IfNone, OnOk, OnErr, slice_get, ◌≤◌, vec_len, vec_capacity};
+//! The open sessions, by their references.
+ghost use Rattle.std.specs.Prelude.{◌≡◌, ◌≢◌, ◌↔◌, ◌+◌, ◌<◌, ◌≤◌, ◌^◌, ◌++◌, [], ℕ, length, filter, nat_le, Some, None, IsTrue, IsSome, IfSome, IfNone, OnOk, OnErr};
 ghost use Rattle.std.specs.FinMap as map;
-ghost use Rattle.std.specs.Prelude.{filter};
-ghost use Rattle.std.specs.Ordering.{nat_cmp};
-ghost use Rattle.std.specs.Cmp.Lexicographic.{slice_cmp};
+ghost use Rattle.upload_names.specs.Digest.{HasDigest};
 ghost use Rattle.upload_service.specs.Machine.{Session, is_idle, unless_idle, awake_of, swept_of};
-ghost use Rattle.upload_service.specs.Entries.{table_of};
-ghost use Rattle.upload_service.specs.Views.{session_of, session_entries, references_of, is_kept, beside, IsGrown};
+ghost use Rattle.upload_service.specs.Kept.Entries.{session_of, is_kept};
 
 use crate::limits::Limits;
+use crate::received::Received;
 use std::alloc::{AllocError, Global};
+use std::collections::BTreeMap;
 use std::marker::Model;
-use upload_names::{RepoName, UploadRef};
+use upload_names::{BlobDigest, Bytes, RepoName, UploadRef};
 
 /// A session that was opened and not yet closed.
 #[derive(Drop)]
 pub struct OpenSession {
-    pub at: UploadRef,
     pub name: RepoName,
-    pub received: Vec<u8>,
+    pub received: Received,
+    /// The moment, in seconds, of its opening or of the last chunk that it took.
     pub seen: u64,
 }
 
@@ -31,13 +30,16 @@ impl OpenSession {
     }
 }
 
+/// The open sessions, seen as a map from their references.
 #[derive(Drop)]
 pub struct Sessions {
-    entries: Vec<OpenSession>,
+    open: BTreeMap<UploadRef, OpenSession>,
 }
 
 impl Model for Sessions {
     ghost use Rattle.std.specs.FinMap as map;
+    ghost use Rattle.std.specs.Ordering.{nat_cmp};
+    ghost use Rattle.std.specs.Cmp.Lexicographic.{slice_cmp};
     ghost use Rattle.upload_service.specs.Machine.{Table, Session};
     ghost use Rattle.upload_service.specs.Codes.{bytes_code, session_code};
 
@@ -45,48 +47,41 @@ impl Model for Sessions {
 
     ghost coded = { map.code bytes_code session_code };
 
-    ghost use Rattle.upload_service.specs.Entries.{table_of, IsDistinct};
-    ghost use Rattle.upload_service.specs.Views.{session_entries};
-    ghost use Rattle.std.specs.Ordering.{nat_cmp};
-    ghost use Rattle.std.specs.Cmp.Lexicographic.{slice_cmp};
+    ghost use Rattle.upload_service.specs.Kept.Entries.{kept_as, session_of};
 
-    ghost view = { λ a. table_of (slice_cmp nat_cmp) (session_entries a.entries.items) };
-
-    ghost invariant = { λ a. IsDistinct (slice_cmp nat_cmp) (session_entries a.entries.items) };
+    ghost view = { λ a. kept_as (slice_cmp nat_cmp) session_of a.open.entries };
 }
 
 impl Sessions {
+    /// No sessions. It takes no memory.
     pub fn new(alloc: Global) -> Sessions
         ensures { result ≡ map.empty }
     {
         Sessions {
-            entries: Vec::new(alloc),
+            open: BTreeMap::new(alloc),
         }
     }
 
-    /// How many sessions are open.
-    pub fn len(&self) -> usize
-        ensures { result ≡ map.len self.now }
-    {
-        self.entries.len()
-    }
-
+    /// The session of a reference, idle or not.
     pub fn find(&self, at: &UploadRef) -> Option<&OpenSession>
         ensures found { IfSome result (λ session. map.get self.now at.now ≡ Some (session_of session.now)) }
         ensures none { IfNone result (map.get self.now at.now ≡ None) }
     {
-        let entries = self.entries.as_slice();
-        match place_of(entries, at) {
-            Some(i) => Some(&entries[i]),
-            None => None,
-        }
+        self.open.get(at)
     }
 
-    /// The session of a reference, where it is open and isn't idle.
-    pub fn find_awake(&self, at: &UploadRef, max_idle: u64, now: u64) -> Option<&OpenSession>
+    /// The session of a reference, where it is open under this name and isn't idle.
+    pub fn find_awake(
+        &self,
+        name: &RepoName,
+        at: &UploadRef,
+        max_idle: u64,
+        now: u64,
+    ) -> Option<&OpenSession>
         ensures found { IfSome result (λ session. map.get self.now at.now ≡ Some (session_of session.now)) }
         ensures awake { IfSome result (λ session. unless_idle max_idle now (map.get self.now at.now) ≡ Some (session_of session.now)) }
-        ensures none { IfNone result (unless_idle max_idle now (map.get self.now at.now) ≡ None) }
+        ensures named { IfSome result (λ session. session.now.name ≡ name.now) }
+        ensures none { IfNone result ((session : Session) → unless_idle max_idle now (map.get self.now at.now) ≡ Some session → session.name ≢ name.now) }
     {
         let Some(session) = self.find(at) else {
             return None;
@@ -94,17 +89,23 @@ impl Sessions {
         if session.is_idle(max_idle, now) {
             return None;
         }
+        if !session.name.same(name) {
+            return None;
+        }
         Some(session)
     }
 
-    /// How many sessions aren't idle.
-    pub fn count_awake(&self, max_idle: u64, now: u64) -> usize
-        ensures { result ≡ map.len (awake_of max_idle now self.now) }
+    /// Whether as many sessions as may be open are open and not idle. Where the table has room it looks at none.
+    pub fn is_full(&self, limits: Limits, now: u64) -> bool
+        ensures { result ≡ nat_le limits.max_open (map.len (awake_of limits.max_idle now self.now)) }
     {
-        count_kept(self.entries.as_slice(), max_idle, now)
+        if self.open.len() < limits.max_open as usize {
+            return false;
+        }
+        count_awake(&self.open, limits.max_idle, now) >= limits.max_open as usize
     }
 
-    /// Opens a session with no bytes. Where the table is full, the idle ones leave it.
+    /// Opens a session with no bytes. Where the table is full the idle ones leave it, once there is room.
     pub fn begin(
         &mut self,
         alloc: Global,
@@ -113,36 +114,54 @@ impl Sessions {
         name: RepoName,
         now: u64,
     ) -> Result<(), AllocError>
-        requires { map.get self.old at ≡ None }
         ensures ok { OnOk result (self.new ≡ map.insert (swept_of limits now self.old) at (record { name = name; received = []; seen = now })) }
         ensures err { OnErr result (self.new ≡ self.old) }
     {
-        self.entries.reserve(1)?;
-        sweep_if_full(&mut self.entries, limits, now);
+        let full = self.open.len() >= limits.max_open as usize;
+        let received = Received::new(alloc);
         let session = OpenSession {
-            at,
             name,
-            received: Vec::new(alloc),
+            received,
             seen: now,
         };
-        match self.entries.push(session) {
-            Ok(()) => {}
-            Err(_) => unreachable!(),
+        let Ok(_) = self.open.insert(at, session) else {
+            return Err(AllocError);
+        };
+        if full {
+            sweep(&mut self.open, limits.max_idle, now);
         }
         Ok(())
     }
 
-    /// Appends a body to an open session.
-    pub fn append(&mut self, at: &UploadRef, body: &[u8], now: u64) -> Result<(), AllocError>
+    /// Has an open session take a body in.
+    pub fn append(&mut self, at: &UploadRef, body: Bytes, now: u64) -> Result<(), AllocError>
+        requires open { IsSome (map.get self.old at.now) }
+        requires fits { (session : Session) → map.get self.old at.now ≡ Some session → length session.received + length body < 2 ^ 64 }
         ensures ok { OnOk result ((session : Session) → map.get self.old at.now ≡ Some session →
-            self.new ≡ map.insert self.old at.now (record { name = session.name; received = session.received ++ body.now; seen = now })) }
+            self.new ≡ map.insert self.old at.now (record { name = session.name; received = session.received ++ body; seen = now })) }
         ensures err { OnErr result (self.new ≡ self.old) }
     {
-        let Some(i) = place_of(self.entries.as_slice(), at) else {
-            return Ok(());
+        let Some(session) = self.open.get_mut(at) else {
+            unreachable!();
         };
-        append_at(&mut self.entries, i, body, now)?;
+        let Ok(()) = session.received.append(body) else {
+            return Err(AllocError);
+        };
+        session.seen = now;
         Ok(())
+    }
+
+    /// Whether what an open session received and a last body have a digest, by the algorithm of that digest.
+    /// Nothing that is seen changes.
+    pub fn has_digest(&mut self, at: &UploadRef, digest: &BlobDigest, body: &[u8]) -> bool
+        requires { IsSome (map.get self.old at.now) }
+        ensures is { (session : Session) → map.get self.old at.now ≡ Some session → (IsTrue result ↔ HasDigest (session.received ++ body.now) digest.now) }
+        ensures same { self.new ≡ self.old }
+    {
+        let Some(session) = self.open.get_mut(at) else {
+            unreachable!();
+        };
+        session.received.has_digest(digest, body)
     }
 
     /// Closes a session and hands it out.
@@ -151,70 +170,23 @@ impl Sessions {
         ensures none { IfNone result (map.get self.old at.now ≡ None) }
         ensures closed { IsSome result → self.new ≡ map.remove self.old at.now }
     {
-        let Some(i) = place_of(self.entries.as_slice(), at) else {
-            return None;
-        };
-        Some(self.entries.remove(i))
+        self.open.remove(at)
     }
 }
 
-/// Where the session of a reference stands.
-fn place_of(entries: &[OpenSession], at: &UploadRef) -> Option<usize>
-    ensures found { IfSome result (λ i. slice_get (references_of entries.now) i ≡ Some at.now) }
-    ensures none { IfNone result (map.get (table_of (slice_cmp nat_cmp) (session_entries entries.now)) at.now ≡ None) }
+/// How many sessions aren't idle.
+fn count_awake(entries: &BTreeMap<UploadRef, OpenSession>, max_idle: u64, now: u64) -> usize
+    ensures { result ≡ length (filter (is_kept max_idle now) entries.now.entries) }
 {
-    for (i, entry) in entries.iter().enumerate() {
-        if entry.at.same(at) {
-            return Some(i);
-        }
-    }
-    None
+    entries
+        .iter()
+        .filter(|entry| !entry.1.is_idle(max_idle, now))
+        .count()
 }
 
-/// How many sessions of a list aren't idle.
-fn count_kept(entries: &[OpenSession], max_idle: u64, now: u64) -> usize
-    ensures { result ≡ length (filter (is_kept max_idle now) entries.now) }
+/// Has the idle sessions leave the table.
+fn sweep(entries: &mut BTreeMap<UploadRef, OpenSession>, max_idle: u64, now: u64)
+    ensures { entries.new.entries ≡ filter (is_kept max_idle now) entries.old.entries }
 {
-    let mut count = 0;
-    for entry in entries {
-        if !entry.is_idle(max_idle, now) {
-            count += 1;
-        }
-    }
-    count
-}
-
-/// Where the table is full, the idle sessions leave it.
-fn sweep_if_full(entries: &mut Vec<OpenSession>, limits: Limits, now: u64)
-    ensures kept { entries.new.items ≡ beside limits now entries.old.items }
-    ensures bound { vec_len entries.new ≤ vec_len entries.old }
-    ensures capacity { vec_capacity entries.new ≡ vec_capacity entries.old }
-{
-    if entries.len() >= limits.max_open as usize {
-        sweep(entries, limits.max_idle, now);
-    }
-}
-
-fn sweep(entries: &mut Vec<OpenSession>, max_idle: u64, now: u64)
-    ensures kept { entries.new.items ≡ filter (is_kept max_idle now) entries.old.items }
-    ensures bound { vec_len entries.new ≤ vec_len entries.old }
-    ensures capacity { vec_capacity entries.new ≡ vec_capacity entries.old }
-{
-    entries.retain(|entry| !entry.is_idle(max_idle, now));
-}
-
-fn append_at(
-    entries: &mut Vec<OpenSession>,
-    i: usize,
-    body: &[u8],
-    now: u64,
-) -> Result<(), AllocError>
-    requires { i < length entries.old.items }
-    ensures ok { OnOk result (IsGrown entries.old.items i body.now now entries.new.items) }
-    ensures err { OnErr result (session_entries entries.new.items ≡ session_entries entries.old.items) }
-{
-    let entry = &mut entries[i];
-    entry.received.extend_from_slice(body)?;
-    entry.seen = now;
-    Ok(())
+    entries.retain(|_, session| !session.is_idle(max_idle, now));
 }

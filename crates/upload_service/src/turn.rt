@@ -1,24 +1,25 @@
-//! One turn of the service over its tables.
-ghost use Rattle.std.specs.Prelude.{◌≡◌, ◌≤◌, ◌<◌, ◌+◌, ◌^◌, length};
+//! One turn of the service over its tables: a function for each kind of request. In each the growths come before
+//! the first change, so that a refused growth leaves the tables as they were.
+ghost use Rattle.std.specs.Prelude.{◌≡◌, ◌+◌, ◌≤◌, ◌<◌, ◌^◌, ◌++◌, List, ℕ, length, Some, IsSome};
 ghost use Rattle.std.specs.FinMap as map;
-ghost use Rattle.std.specs.Prelude.{List, ℕ, Some, ◌++◌};
 ghost use Rattle.upload_service.specs.declared.limits.Limits.{Limits as LimitsOf};
 ghost use Rattle.upload_service.specs.Machine.{Session, Commits, Comes, Turn, IsLawful, opening as opening_of, at_session, awake};
-ghost use Rattle.upload_service.specs.Tables.{state_of, IsVerdict};
+ghost use Rattle.upload_service.specs.Kept.Tables.{state_of, IsVerdict};
 
 use crate::answer::{Answer, Refusal};
 use crate::ask::{Ask, Extent};
+use crate::blob::Blob;
 use crate::blobs::Blobs;
 use crate::limits::Limits;
 use crate::pairs::Pairs;
 use crate::sessions::Sessions;
-use sha2::{Digest, Sha256};
 use std::alloc::Global;
 use upload_names::{BlobDigest, Bytes, RepoName, UploadRef};
 
 /// All that a service keeps, but for its limits.
 #[derive(Drop)]
 pub struct Tables {
+    /// The last number that was given to a session.
     pub issued: u32,
     pub sessions: Sessions,
     pub blobs: Blobs,
@@ -33,11 +34,11 @@ enum Verdict {
     Refused(Refusal),
 }
 
-/// Judges a body of this size behind `next` bytes.
+/// Judges a body of this size behind `next` bytes. The offset goes before the range's length, and that before the
+/// blob's size.
 fn judge(max_blob: u64, next: u64, range: Extent, size: u64) -> Verdict
-    requires next { next < 2 ^ 63 }
-    requires size { size < 2 ^ 63 }
-    ensures { IsVerdict max_blob next range size result }
+    ensures verdict { IsVerdict max_blob next range size result }
+    ensures small { result ≡ Verdict.Fits → next + size ≤ max_blob }
 {
     if let Extent::Bad = range {
         return Verdict::Refused(Refusal::BadRange);
@@ -50,25 +51,25 @@ fn judge(max_blob: u64, next: u64, range: Extent, size: u64) -> Verdict
             return Verdict::Refused(Refusal::WrongLength);
         }
     }
-    if next + size > max_blob {
+    if next > max_blob || size > max_blob - next {
         return Verdict::Refused(Refusal::TooLarge);
     }
     Verdict::Fits
 }
 
+/// Tells a session's offset.
 fn status(limits: Limits, tables: &Tables, name: RepoName, at: UploadRef, now: u64) -> Answer
     ensures { Comes (state_of limits tables.now) now (at_session limits.max_blob (awake (state_of limits tables.now) now at) name (Ask.Status name at)) result (state_of limits tables.now) }
 {
-    let Some(session) = tables.sessions.find_awake(&at, limits.max_idle, now) else {
+    let sessions = &tables.sessions;
+    let Some(session) = sessions.find_awake(&name, &at, limits.max_idle, now) else {
         return Answer::Refused(Refusal::NoUpload);
     };
-    if !session.name.same(&name) {
-        return Answer::Refused(Refusal::NoUpload);
-    }
-    let next = session.received.len() as u64;
+    let next = session.received.len();
     Answer::Standing { name, at, next }
 }
 
+/// Has a session take a chunk.
 fn chunk(
     limits: Limits,
     tables: &mut Tables,
@@ -80,27 +81,82 @@ fn chunk(
 ) -> Answer
     ensures { Comes (state_of limits tables.old) now (at_session limits.max_blob (awake (state_of limits tables.old) now at) name (Ask.Chunk name at range body)) result (state_of limits tables.new) }
 {
-    let Some(session) = tables.sessions.find_awake(&at, limits.max_idle, now) else {
+    let sessions = &tables.sessions;
+    let Some(session) = sessions.find_awake(&name, &at, limits.max_idle, now) else {
         return Answer::Refused(Refusal::NoUpload);
     };
-    if !session.name.same(&name) {
-        return Answer::Refused(Refusal::NoUpload);
-    }
-    let next = session.received.len() as u64;
+    let next = session.received.len();
     let size = body.as_slice().len() as u64;
     match judge(limits.max_blob, next, range, size) {
         Verdict::Misplaced => return Answer::Misplaced { name, at, next },
         Verdict::Refused(refusal) => return Answer::Refused(refusal),
         Verdict::Fits => {}
     }
-    match tables.sessions.append(&at, body.as_slice(), now) {
-        Ok(()) => Answer::Taken {
-            name,
-            at,
-            next: next + size,
-        },
+    let next = next + size;
+    match tables.sessions.append(&at, body, now) {
+        Ok(()) => Answer::Taken { name, at, next },
         Err(_) => Answer::NoMemory,
     }
+}
+
+/// Closes a session: what it received and a last body are stored where they have the digest.
+fn close(
+    limits: Limits,
+    tables: &mut Tables,
+    name: RepoName,
+    at: UploadRef,
+    range: Extent,
+    digest: Option<BlobDigest>,
+    body: Bytes,
+    now: u64,
+) -> Answer
+    ensures { Comes (state_of limits tables.old) now (at_session limits.max_blob (awake (state_of limits tables.old) now at) name (Ask.Close name at range digest body)) result (state_of limits tables.new) }
+{
+    let sessions = &tables.sessions;
+    let Some(session) = sessions.find_awake(&name, &at, limits.max_idle, now) else {
+        return Answer::Refused(Refusal::NoUpload);
+    };
+    let next = session.received.len();
+    let size = body.as_slice().len() as u64;
+    match judge(limits.max_blob, next, range, size) {
+        Verdict::Misplaced => return Answer::Misplaced { name, at, next },
+        Verdict::Refused(refusal) => return Answer::Refused(refusal),
+        Verdict::Fits => {}
+    }
+    let Some(digest) = digest else {
+        return Answer::Refused(Refusal::NoDigest);
+    };
+    if !tables.sessions.has_digest(&at, &digest, body.as_slice()) {
+        return Answer::Refused(Refusal::Mismatch);
+    }
+    commit(tables, name, at, digest, body)
+}
+
+/// Closes an open session, stores what it received and a last body, and notes the pair.
+fn commit(
+    tables: &mut Tables,
+    name: RepoName,
+    at: UploadRef,
+    digest: BlobDigest,
+    body: Bytes,
+) -> Answer
+    requires open { IsSome (map.get tables.old.sessions at) }
+    requires fits { (session : Session) → map.get tables.old.sessions at ≡ Some session → length session.received + length body < 2 ^ 64 }
+    ensures { (limits : LimitsOf) (now : ℕ) (session : Session) → map.get tables.old.sessions at ≡ Some session →
+        Comes (state_of limits tables.old) now (Commits name at digest (session.received ++ body)) result (state_of limits tables.new) }
+{
+    let Ok(()) = tables.blobs.commit(
+        &mut tables.pairs,
+        &mut tables.sessions,
+        &name,
+        &at,
+        digest,
+        body,
+    )
+    else {
+        return Answer::NoMemory;
+    };
+    Answer::Stored { name, digest }
 }
 
 /// Opens a session.
@@ -112,11 +168,9 @@ fn opening(
     secret: [u8; 12],
     now: u64,
 ) -> Answer
-    requires { IsLawful (state_of limits tables.old) }
     ensures { Comes (state_of limits tables.old) now (opening_of (state_of limits tables.old) name secret now) result (state_of limits tables.new) }
 {
-    let awake = tables.sessions.count_awake(limits.max_idle, now);
-    if awake >= limits.max_open as usize || tables.issued == u32::MAX {
+    if tables.sessions.is_full(limits, now) || tables.issued == u32::MAX {
         return Answer::Refused(Refusal::TooMany);
     }
     let Ok(kept) = name.copy(alloc) else {
@@ -132,75 +186,7 @@ fn opening(
     }
 }
 
-fn close(
-    limits: Limits,
-    tables: &mut Tables,
-    name: RepoName,
-    at: UploadRef,
-    range: Extent,
-    digest: Option<BlobDigest>,
-    body: Bytes,
-    now: u64,
-) -> Answer
-    ensures { Comes (state_of limits tables.old) now (at_session limits.max_blob (awake (state_of limits tables.old) now at) name (Ask.Close name at range digest body)) result (state_of limits tables.new) }
-{
-    let Some(session) = tables.sessions.find_awake(&at, limits.max_idle, now) else {
-        return Answer::Refused(Refusal::NoUpload);
-    };
-    if !session.name.same(&name) {
-        return Answer::Refused(Refusal::NoUpload);
-    }
-    let next = session.received.len() as u64;
-    let size = body.as_slice().len() as u64;
-    match judge(limits.max_blob, next, range, size) {
-        Verdict::Misplaced => return Answer::Misplaced { name, at, next },
-        Verdict::Refused(refusal) => return Answer::Refused(refusal),
-        Verdict::Fits => {}
-    }
-    let Some(digest) = digest else {
-        return Answer::Refused(Refusal::NoDigest);
-    };
-    let content = BlobDigest::of_parts(
-        digest.algorithm(),
-        session.received.as_slice(),
-        body.as_slice(),
-    );
-    if !content.same(&digest) {
-        return Answer::Refused(Refusal::Mismatch);
-    }
-    commit(tables, name, at, digest, body, now)
-}
-
-/// Stores what an open session received and a last body, and closes the session. It needs room first, so
-/// that nothing has changed where memory is refused.
-fn commit(
-    tables: &mut Tables,
-    name: RepoName,
-    at: UploadRef,
-    digest: BlobDigest,
-    body: Bytes,
-    now: u64,
-) -> Answer
-    ensures { (limits : LimitsOf) (session : Session) → map.get tables.old.sessions at ≡ Some session → session.name ≡ name →
-        Comes (state_of limits tables.old) now (Commits name at digest (session.received ++ body)) result (state_of limits tables.new) }
-{
-    let Ok(()) = tables.blobs.reserve() else {
-        return Answer::NoMemory;
-    };
-    let Ok(()) = tables.pairs.reserve() else {
-        return Answer::NoMemory;
-    };
-    let Ok(()) = tables.sessions.append(&at, body.as_slice(), now) else {
-        return Answer::NoMemory;
-    };
-    let Some(session) = tables.sessions.close(&at) else {
-        return Answer::NoMemory;
-    };
-    tables.blobs.put(digest, session.received);
-    tables.pairs.put(session.name, digest);
-    Answer::Stored { name, digest }
-}
-
+/// Hands out a blob of a repository, or its size alone.
 #[tactic(auto, unfolding(crate::specs::Machine::Turn))]
 fn has(
     alloc: Global,
@@ -215,10 +201,10 @@ fn has(
     if !tables.pairs.contains(&name, &digest) {
         return Answer::Refused(Refusal::NoBlob);
     }
-    let Some(bytes) = tables.blobs.get(&digest) else {
+    let Some(blob) = tables.blobs.get(&digest) else {
         return Answer::Refused(Refusal::NoBlob);
     };
-    let size = bytes.len() as u64;
+    let size = blob.len();
     if head {
         return Answer::Blob {
             digest,
@@ -226,16 +212,17 @@ fn has(
             bytes: None,
         };
     }
-    match bytes.to_vec(alloc) {
-        Ok(copy) => Answer::Blob {
+    match blob.to_bytes(alloc) {
+        Ok(bytes) => Answer::Blob {
             digest,
             size,
-            bytes: Some(Bytes::of(copy)),
+            bytes: Some(bytes),
         },
         Err(_) => Answer::NoMemory,
     }
 }
 
+/// Stores a blob of one body.
 #[tactic(auto, unfolding(crate::specs::Machine::Turn))]
 fn single(
     alloc: Global,
@@ -257,20 +244,14 @@ fn single(
     if !content.same(&digest) {
         return Answer::Refused(Refusal::Mismatch);
     }
-    let Ok(()) = tables.blobs.reserve() else {
+    let blob = Blob::of(alloc, body);
+    let Ok(()) = tables.blobs.store(&mut tables.pairs, &name, digest, blob) else {
         return Answer::NoMemory;
     };
-    let Ok(()) = tables.pairs.reserve() else {
-        return Answer::NoMemory;
-    };
-    let Ok(kept) = name.copy(alloc) else {
-        return Answer::NoMemory;
-    };
-    tables.blobs.put(digest, body.into_vec());
-    tables.pairs.put(kept, digest);
     Answer::Stored { name, digest }
 }
 
+/// Notes that a repository has a blob of another one, or opens a session where that one doesn't have it.
 #[tactic(auto, unfolding(crate::specs::Machine::Turn))]
 fn mount(
     alloc: Global,
@@ -282,19 +263,14 @@ fn mount(
     secret: [u8; 12],
     now: u64,
 ) -> Answer
-    requires { IsLawful (state_of limits tables.old) }
     ensures { Turn (state_of limits tables.old) (Ask.Mount name digest source) secret now result (state_of limits tables.new) }
 {
     if !tables.pairs.contains(&source, &digest) {
         return opening(alloc, limits, tables, name, secret, now);
     }
-    let Ok(()) = tables.pairs.reserve() else {
+    let Ok(()) = tables.pairs.put(&name, digest) else {
         return Answer::NoMemory;
     };
-    let Ok(kept) = name.copy(alloc) else {
-        return Answer::NoMemory;
-    };
-    tables.pairs.put(kept, digest);
     Answer::Stored { name, digest }
 }
 
@@ -308,7 +284,6 @@ pub fn turn(
     secret: [u8; 12],
     now: u64,
 ) -> Answer
-    requires { IsLawful (state_of limits tables.old) }
     ensures { Turn (state_of limits tables.old) ask secret now result (state_of limits tables.new) }
 {
     match ask {

@@ -1,4 +1,4 @@
-use Rattle.upload_service.specs.Tables.{state_of}
+use Rattle.upload_service.specs.Kept.Tables.{state_of}
 use Rattle.upload_service.proofs.Lawful.{lawful_turn}
 use Rattle.upload_service.proofs.service.Service.step.Goals as goal
 
