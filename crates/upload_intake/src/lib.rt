@@ -16,6 +16,8 @@ mod pair;
 mod seat;
 mod secrets;
 mod settlement;
+#[cfg(test)]
+mod tests;
 
 pub use conns::Conns;
 pub use desk::SeatDesk;

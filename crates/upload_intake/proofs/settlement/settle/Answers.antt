@@ -10,8 +10,7 @@ returns-clause-settled c =
     let r = ap (λ s. s.side) c.right.view_is ∙ c.requires.right_side in
     let lh = left_heard _ _ _ _ _ _ _ k _ _ _ _ l c.left.invariant _ _ _ _ r c.right.invariant c.settle_job_line.ensures c.settle_line.ensures in
     let rh = right_heard _ _ _ _ _ _ _ k _ _ _ _ l c.left.invariant _ _ _ _ r c.right.invariant c.settle_job_line.ensures c.settle_line-2.ensures in
-    rw (← c.served.view_is, ← c.left.view_is, ← c.right.view_is)
-    (
+    rw (← c.served.view_is, ← c.left.view_is, ← c.right.view_is) (
       k.keeps.steps,
       record {
         left_sent = left_sent _ _ _ _ _ _ _ k _ _ _ _ l c.left.invariant _ _ _ _ r c.right.invariant c.settle_job_line.ensures;
