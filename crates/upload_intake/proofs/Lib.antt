@@ -1,3 +1,4 @@
+pub mod Conversations
 pub mod KeeperMoves
 pub mod LineMoves
 pub mod SeatMoves

@@ -76,10 +76,10 @@ struct GatedDesk<'a, R: Wait, S, G> {
 }
 
 impl<'a, R: Wait, S: Secrets, G: Gate> Desk for GatedDesk<'a, R, S, G> {
-    ghost use Rattle.upload_intake.specs.Desks.{seat_of};
-    ghost use Rattle.upload_intake.specs.Seats.{IsSameSeat};
+    ghost use Rattle.upload_intake.specs.Desks.{seat_of, secrets_of};
+    ghost use Rattle.upload_intake.specs.SeatMoves.{AsksWithDrawn};
 
-    ghost moves = { λ old ask answer new. IsSameSeat (seat_of old.desk) (seat_of new.desk) };
+    ghost moves = { λ old ask answer new. AsksWithDrawn S.draws (seat_of old.desk) (secrets_of old.desk) ask answer (seat_of new.desk) (secrets_of new.desk) };
 
     fn ask(&mut self, ask: Ask) -> Option<Answer> {
         self.turn = self.turn.saturating_add(1);
