@@ -9,11 +9,15 @@ use crate::buffer::ReadBuffer;
 use crate::bytes::{ByteSink, ByteSource};
 use crate::desk::Desk;
 use crate::fault::WireFault;
-use crate::read_next::read_next;
 use crate::reply::{write_bad, write_reply};
-use crate::request::{Next, Style};
+use crate::request::{Next, Style, read_next};
 use std::alloc::Global;
 use upload_service::{Ask, Limits};
+
+#[cfg(test)]
+mod rows;
+#[cfg(test)]
+mod tests;
 
 /// The most requests that are answered on one connection.
 const MAX_REQUESTS: usize = 10_000;
