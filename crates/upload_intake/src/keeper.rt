@@ -199,6 +199,7 @@ impl Keeper {
         ensures served { (steps : List Step) × Explains steps result }
         ensures lawful { IsLawful result.service }
     {
+        // The law over all runs, of which this one will be one. The call does nothing.
         headline_holds();
         let mut keeper = self;
         for _ in rt.forever() {

@@ -52,6 +52,7 @@ pub fn settle(served: Served, left: SeatEnd, right: SeatEnd) -> Settled
     ensures settled { (steps : List Step) × IsSettled served left right result.service result.log_length steps }
     ensures lawful { IsLawful result.service }
 {
+    // The law over all runs, of which this was one. The call does nothing.
     headline_holds();
     let Served {
         service,
@@ -87,6 +88,7 @@ pub fn settle(served: Served, left: SeatEnd, right: SeatEnd) -> Settled
     settle_job_line(left_jobs, right_jobs, jobs);
     settle_line(to_left, left_replies);
     settle_line(to_right, right_replies);
+    // Each service is lawful, and this call says so.
     let _ = service.limits();
     Settled {
         service,
