@@ -1,0 +1,5 @@
+pub mod Conversations
+pub mod KeeperMoves
+pub mod LineMoves
+pub mod SeatMoves
+pub mod Settling
