@@ -1,11 +1,16 @@
 # What a person does here. A bare `make` lists it.
 
-.PHONY: help test check format
+.PHONY: help once test check format figures
 
 help:
+	@echo 'make once    a whole upload over one connection, through `blobd once`'
 	@echo 'make test    everything that must hold: proofs from nothing, must-fail edits, tests, the repository'"'"'s own checks'
 	@echo 'make check   proves what changed since the last check (quick; make test is the judge)'
 	@echo 'make format  lays out the sources'
+	@echo 'make figures speed and memory of `blobd once`, as ratios in one run (after make once)'
+
+once:
+	@cd crates/blobd && rt run -- once < stdin
 
 test:
 	@python3 tests/gate.py
@@ -15,3 +20,6 @@ check:
 
 format:
 	for crate in crates/*/; do (cd "$$crate" && rt fmt); done
+
+figures:
+	@python3 bench/connection.py crates/blobd/out/blobd
