@@ -134,67 +134,77 @@ fn replies_have_their_fields_in_order(rt: HostRuntime) -> Result<(), Fail> {
 
 #[test]
 fn refusals_name_their_errors(rt: HostRuntime) -> Result<(), Fail> {
-    let unknown =
-        "404 Not Found\r\nContent-Type: application/json\r\nContent-Length: 87\r\n\r\n{\"errors\":[{\"code\":\"BLOB_UPLOAD_UNKNOWN\",\"message\":\"blob upload unknown to registry\"}]}";
-    let digest =
-        "400 Bad Request\r\nContent-Type: application/json\r\nContent-Length: 97\r\n\r\n{\"errors\":[{\"code\":\"DIGEST_INVALID\",\"message\":\"provided digest did not match uploaded content\"}]}";
-    let size =
-        "400 Bad Request\r\nContent-Type: application/json\r\nContent-Length: 93\r\n\r\n{\"errors\":[{\"code\":\"SIZE_INVALID\",\"message\":\"provided length did not match content length\"}]}";
+    let alloc = rt.alloc();
     let table = [
         (
             Refusal::NoForm,
-            "404 Not Found\r\nContent-Type: application/json\r\nContent-Length: 76\r\n\r\n{\"errors\":[{\"code\":\"UNSUPPORTED\",\"message\":\"the operation is unsupported\"}]}",
+            "HTTP/1.1 404 Not Found\r\nContent-Type: application/json\r\nContent-Length: 76\r\n\r\n{\"errors\":[{\"code\":\"UNSUPPORTED\",\"message\":\"the operation is unsupported\"}]}",
         ),
         (
             Refusal::BadName,
-            "404 Not Found\r\nContent-Type: application/json\r\nContent-Length: 72\r\n\r\n{\"errors\":[{\"code\":\"NAME_INVALID\",\"message\":\"invalid repository name\"}]}",
+            "HTTP/1.1 404 Not Found\r\nContent-Type: application/json\r\nContent-Length: 72\r\n\r\n{\"errors\":[{\"code\":\"NAME_INVALID\",\"message\":\"invalid repository name\"}]}",
         ),
         (
             Refusal::Method(Form::Base),
-            "405 Method Not Allowed\r\nAllow: GET, HEAD\r\nContent-Type: application/json\r\nContent-Length: 76\r\n\r\n{\"errors\":[{\"code\":\"UNSUPPORTED\",\"message\":\"the operation is unsupported\"}]}",
+            "HTTP/1.1 405 Method Not Allowed\r\nAllow: GET, HEAD\r\nContent-Type: application/json\r\nContent-Length: 76\r\n\r\n{\"errors\":[{\"code\":\"UNSUPPORTED\",\"message\":\"the operation is unsupported\"}]}",
         ),
         (
             Refusal::Method(Form::Blob),
-            "405 Method Not Allowed\r\nAllow: GET, HEAD\r\nContent-Type: application/json\r\nContent-Length: 76\r\n\r\n{\"errors\":[{\"code\":\"UNSUPPORTED\",\"message\":\"the operation is unsupported\"}]}",
+            "HTTP/1.1 405 Method Not Allowed\r\nAllow: GET, HEAD\r\nContent-Type: application/json\r\nContent-Length: 76\r\n\r\n{\"errors\":[{\"code\":\"UNSUPPORTED\",\"message\":\"the operation is unsupported\"}]}",
         ),
         (
             Refusal::Method(Form::Uploads),
-            "405 Method Not Allowed\r\nAllow: POST\r\nContent-Type: application/json\r\nContent-Length: 76\r\n\r\n{\"errors\":[{\"code\":\"UNSUPPORTED\",\"message\":\"the operation is unsupported\"}]}",
+            "HTTP/1.1 405 Method Not Allowed\r\nAllow: POST\r\nContent-Type: application/json\r\nContent-Length: 76\r\n\r\n{\"errors\":[{\"code\":\"UNSUPPORTED\",\"message\":\"the operation is unsupported\"}]}",
         ),
         (
             Refusal::Method(Form::Upload),
-            "405 Method Not Allowed\r\nAllow: GET, HEAD, PATCH, PUT\r\nContent-Type: application/json\r\nContent-Length: 76\r\n\r\n{\"errors\":[{\"code\":\"UNSUPPORTED\",\"message\":\"the operation is unsupported\"}]}",
+            "HTTP/1.1 405 Method Not Allowed\r\nAllow: GET, HEAD, PATCH, PUT\r\nContent-Type: application/json\r\nContent-Length: 76\r\n\r\n{\"errors\":[{\"code\":\"UNSUPPORTED\",\"message\":\"the operation is unsupported\"}]}",
         ),
-        (Refusal::NoUpload, unknown),
+        (
+            Refusal::NoUpload,
+            "HTTP/1.1 404 Not Found\r\nContent-Type: application/json\r\nContent-Length: 87\r\n\r\n{\"errors\":[{\"code\":\"BLOB_UPLOAD_UNKNOWN\",\"message\":\"blob upload unknown to registry\"}]}",
+        ),
         (
             Refusal::BadRange,
-            "400 Bad Request\r\nContent-Type: application/json\r\nContent-Length: 75\r\n\r\n{\"errors\":[{\"code\":\"BLOB_UPLOAD_INVALID\",\"message\":\"blob upload invalid\"}]}",
+            "HTTP/1.1 400 Bad Request\r\nContent-Type: application/json\r\nContent-Length: 75\r\n\r\n{\"errors\":[{\"code\":\"BLOB_UPLOAD_INVALID\",\"message\":\"blob upload invalid\"}]}",
         ),
-        (Refusal::WrongLength, size),
+        (
+            Refusal::WrongLength,
+            "HTTP/1.1 400 Bad Request\r\nContent-Type: application/json\r\nContent-Length: 93\r\n\r\n{\"errors\":[{\"code\":\"SIZE_INVALID\",\"message\":\"provided length did not match content length\"}]}",
+        ),
         (
             Refusal::TooLarge,
-            "413 Content Too Large\r\nContent-Type: application/json\r\nContent-Length: 93\r\n\r\n{\"errors\":[{\"code\":\"SIZE_INVALID\",\"message\":\"provided length did not match content length\"}]}",
+            "HTTP/1.1 413 Content Too Large\r\nContent-Type: application/json\r\nContent-Length: 93\r\n\r\n{\"errors\":[{\"code\":\"SIZE_INVALID\",\"message\":\"provided length did not match content length\"}]}",
         ),
-        (Refusal::NoDigest, digest),
-        (Refusal::Mismatch, digest),
-        (Refusal::HasBody, size),
+        (
+            Refusal::NoDigest,
+            "HTTP/1.1 400 Bad Request\r\nContent-Type: application/json\r\nContent-Length: 97\r\n\r\n{\"errors\":[{\"code\":\"DIGEST_INVALID\",\"message\":\"provided digest did not match uploaded content\"}]}",
+        ),
+        (
+            Refusal::Mismatch,
+            "HTTP/1.1 400 Bad Request\r\nContent-Type: application/json\r\nContent-Length: 97\r\n\r\n{\"errors\":[{\"code\":\"DIGEST_INVALID\",\"message\":\"provided digest did not match uploaded content\"}]}",
+        ),
+        (
+            Refusal::HasBody,
+            "HTTP/1.1 400 Bad Request\r\nContent-Type: application/json\r\nContent-Length: 93\r\n\r\n{\"errors\":[{\"code\":\"SIZE_INVALID\",\"message\":\"provided length did not match content length\"}]}",
+        ),
         (
             Refusal::TooMany,
-            "429 Too Many Requests\r\nContent-Type: application/json\r\nContent-Length: 69\r\n\r\n{\"errors\":[{\"code\":\"TOOMANYREQUESTS\",\"message\":\"too many requests\"}]}",
+            "HTTP/1.1 429 Too Many Requests\r\nContent-Type: application/json\r\nContent-Length: 69\r\n\r\n{\"errors\":[{\"code\":\"TOOMANYREQUESTS\",\"message\":\"too many requests\"}]}",
         ),
         (
             Refusal::NoBlob,
-            "404 Not Found\r\nContent-Type: application/json\r\nContent-Length: 73\r\n\r\n{\"errors\":[{\"code\":\"BLOB_UNKNOWN\",\"message\":\"blob unknown to registry\"}]}",
+            "HTTP/1.1 404 Not Found\r\nContent-Type: application/json\r\nContent-Length: 73\r\n\r\n{\"errors\":[{\"code\":\"BLOB_UNKNOWN\",\"message\":\"blob unknown to registry\"}]}",
         ),
-        (Refusal::BadDigest, digest),
+        (
+            Refusal::BadDigest,
+            "HTTP/1.1 400 Bad Request\r\nContent-Type: application/json\r\nContent-Length: 97\r\n\r\n{\"errors\":[{\"code\":\"DIGEST_INVALID\",\"message\":\"provided digest did not match uploaded content\"}]}",
+        ),
     ];
     for (refusal, text) in table {
-        let bytes = written(rt.alloc(), &Answer::Refused(refusal), KEPT)?;
-        assert_eq!(rt;
-            bytes.strip_prefix(b"HTTP/1.1 ".as_slice()),
-            Some(text.as_bytes()),
-            "{text}"
-        );
+        let answer = Answer::Refused(refusal);
+        let bytes = written(alloc, &answer, KEPT)?;
+        assert_eq!(rt; bytes.as_slice(), text.as_bytes(), "{text}");
     }
     Ok(())
 }
