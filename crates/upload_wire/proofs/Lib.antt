@@ -6,3 +6,7 @@ pub mod FieldLemmas
 pub mod DigestTexts
 pub mod ReplyLemmas
 pub mod WritingLemmas
+pub mod FrontLemmas
+pub mod PlaceLemmas
+pub mod GatherLemmas
+pub mod AskLemmas

@@ -6,6 +6,7 @@
 
 mod buffer;
 mod bytes;
+mod client;
 mod elements;
 mod fault;
 mod fields;
@@ -18,6 +19,9 @@ mod target;
 mod writing;
 
 pub use bytes::{ByteSink, ByteSource, Failed, FromRead, ToWrite};
+pub use client::{
+    Heard, HeardFault, Transport, heard_of, read_place, write_ask, written_places_are_read,
+};
 pub use fault::WireFault;
 pub use reply::{write_bad, write_reply};
 pub use request::{Next, Style};
