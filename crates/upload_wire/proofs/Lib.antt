@@ -10,3 +10,7 @@ pub mod FrontLemmas
 pub mod PlaceLemmas
 pub mod GatherLemmas
 pub mod AskLemmas
+pub mod AnswerHeadLemmas
+pub mod CodeLemmas
+pub mod AnswerBodyLemmas
+pub mod AnswerLemmas

@@ -1,9 +1,13 @@
 //! The client's half: asks written, replies read, and a transport over them.
 
+mod answer;
 mod ask;
+mod framing;
 mod gather;
+mod head;
 mod heard;
 mod laws;
+mod parsed;
 mod transport;
 
 pub use ask::write_ask;
