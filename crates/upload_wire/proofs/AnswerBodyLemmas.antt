@@ -4,14 +4,14 @@ use Rattle.std.specs.Prelude.{Option, Some, None, Result, Ok, Err, ⊤, ◌⊎�
 use Rattle.std.proofs.lemmas.List.{append-nil}
 use Rattle.std.specs.Io.KnownBytes.{Consumes, IsAtEnd}
 use Rattle.upload_wire.specs.Reading.{Gave}
-use Rattle.upload_wire.specs.BodyReading.{Moved, MovedNone, ReadsPart}
+use Rattle.upload_wire.specs.BodyReading.{Moved, MovedNone}
 use Rattle.upload_wire.specs.declared.fault.WireFault.{WireFault}
 use Rattle.upload_wire.specs.declared.fault.WireFault.TheVariants as Wire
 use Rattle.upload_wire.specs.declared.client.framing.AnswerFraming.{AnswerFraming}
 use Rattle.upload_wire.specs.declared.client.framing.AnswerFraming.TheVariants.{Sized, ToEnd}
 use Rattle.upload_wire.specs.declared.client.heard.HeardFault.{HeardFault}
 use Rattle.upload_wire.specs.declared.client.heard.HeardFault.TheVariants as Fault
-use Rattle.upload_wire.specs.AnswerReading.{MovesAll, MovesUpTo, FindsBody, FindsBodyIn, fault_of}
+use Rattle.upload_wire.specs.AnswerReading.{MovesAll, MovesPart, MovesUpTo, FindsBody, FindsBodyIn, fault_of}
 use Rattle.upload_wire.proofs.GaveLemmas.{gave_none, gave_after}
 
 pub moved_nothing : (old : Option (List ℕ)) (held before : List ℕ) (n : ℕ) → n ≡ 0 → Moved old held before old held before n
@@ -42,12 +42,25 @@ moved_none_after a b c held mid before part m h k = record {
 }
 
 -- a fault of a part, behind the parts before it
-pub part_fault : (a b c : Option (List ℕ)) (held mid rest before part after : List ℕ) (m left count : ℕ) (f : WireFault) → Moved a held before b mid part m
-    → ReadsPart b mid part c rest after left (Err f) → MovesUpTo a held before c rest after count (Err (fault_of f))
-part_fault a b c held mid rest before part after m left count Wire.Truncated h k = absurd k
-part_fault a b c held mid rest before part after m left count Wire.Read h k = moved_none_after a b c held mid before part m h k
-part_fault a b c held mid rest before part after m left count Wire.NoMemory h k = moved_none_after a b c held mid before part m h k
-part_fault a b c held mid rest before part after m left count Wire.Ended h k = absurd k
+pub part_fault : (a b c : Option (List ℕ)) (held mid rest before part after : List ℕ) (m left count : ℕ) (f : HeardFault) → Moved a held before b mid part m
+    → MovesPart b mid part c rest after left (Err f) → MovesUpTo a held before c rest after count (Err f)
+part_fault a b c held mid rest before part after m left count Fault.Truncated h k = absurd k
+part_fault a b c held mid rest before part after m left count Fault.Read h k = moved_none_after a b c held mid before part m h k
+part_fault a b c held mid rest before part after m left count Fault.NoMemory h k = moved_none_after a b c held mid before part m h k
+part_fault a b c held mid rest before part after m left count Fault.Unreadable h k = absurd k
+part_fault a b c held mid rest before part after m left count Fault.TooLarge h k = absurd k
+part_fault a b c held mid rest before part after m left count Fault.Ended h k = absurd k
+
+-- the end, behind the parts before it
+pub part_end : (a b c : Option (List ℕ)) (held mid rest before part after : List ℕ) (m n left count : ℕ) → Moved a held before b mid part m
+    → MovesPart b mid part c rest after left (Ok n) → n ≡ 0 → m < count → MovesAll a held before c rest after count
+part_end a b c held mid rest before part after m n left count h k zero few = record {
+  moved = m;
+  bytes = moved_both a b c held mid rest before part after m n m h k.0 (omega arith);
+  few = few;
+  none_left = (k.2 zero).0;
+  ended = (k.2 zero).1;
+}
 
 -- a fault of a read is that of a read alone
 pub read_fault : (f : WireFault) → fault_of f ≡ Fault.Read → f ≡ Wire.Read

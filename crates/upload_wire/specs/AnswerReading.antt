@@ -62,6 +62,17 @@ FindsHead text new (Err Wire.Ended) = ⊥
 
 -- ---- the body
 
+-- a part of what is left of a body, or nothing at the end of the input
+abbrev pub MovesPart : Option (List ℕ) → List ℕ → List ℕ → Option (List ℕ) → List ℕ → List ℕ → ℕ → Result ℕ HeardFault → Type 0
+MovesPart old held before new rest after left (Ok count) =
+    Moved old held before new rest after count × (count ≤ left) × (count ≡ 0 → (rest ≡ []) × IsAtEnd new)
+MovesPart old held before new rest after left (Err Fault.Read) = MovedNone old held new
+MovesPart old held before new rest after left (Err Fault.NoMemory) = MovedNone old held new
+MovesPart old held before new rest after left (Err Fault.Truncated) = ⊥
+MovesPart old held before new rest after left (Err Fault.Unreadable) = ⊥
+MovesPart old held before new rest after left (Err Fault.TooLarge) = ⊥
+MovesPart old held before new rest after left (Err Fault.Ended) = ⊥
+
 -- all up to the end of the input was moved, if it is fewer bytes than so many
 pub record MovesAll (old : Option (List ℕ)) (held before : List ℕ) (new : Option (List ℕ)) (rest after : List ℕ) (count : ℕ) : Type 0 where
   pub moved : ℕ

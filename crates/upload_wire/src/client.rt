@@ -2,6 +2,7 @@
 
 mod answer;
 mod ask;
+mod body;
 mod framing;
 mod gather;
 mod head;
@@ -10,6 +11,7 @@ mod laws;
 mod parsed;
 mod transport;
 
+pub use answer::AnswerReader;
 pub use ask::write_ask;
 pub use heard::{Heard, HeardFault, heard_of, read_place};
 pub use laws::written_places_are_read;

@@ -4,25 +4,35 @@
 //! `query`, `draft`) and its body (`framing`, `body`, `chunked`) out of one buffer (`buffer`).
 #![tactic(auto)]
 
+mod asks;
+mod body;
 mod buffer;
 mod bytes;
+mod chunked;
 mod client;
+mod connection;
+mod desk;
 mod elements;
 mod fault;
 mod fields;
 mod framing;
 mod head;
+mod laws;
 mod parsed;
+mod query;
+mod reader;
 mod reply;
 mod request;
 mod target;
 mod writing;
 
 pub use bytes::{ByteSink, ByteSource, Failed, FromRead, ToWrite};
-pub use client::{
-    Heard, HeardFault, Transport, heard_of, read_place, write_ask, written_places_are_read,
-};
+pub use client::{AnswerReader, Heard, HeardFault, Transport, heard_of, read_place, write_ask, written_places_are_read};
+pub use connection::{ConnEnd, ConnFault, serve_connection};
+pub use desk::{Desk, ServiceDesk};
 pub use fault::WireFault;
+pub use laws::connections_run_the_service;
+pub use reader::RequestReader;
 pub use reply::{write_bad, write_reply};
 pub use request::{Next, Style};
 pub use writing::WriteFault;

@@ -7,16 +7,15 @@ ghost use Rattle.serde_json.specs.View.{view};
 ghost use Rattle.upload_wire.specs.Counts.{CountsUp, CountsAtMost};
 ghost use Rattle.upload_wire.specs.Fields.{Fields, values_of};
 ghost use Rattle.upload_wire.specs.AnswerText.{ReadsAnswer, code_in, code_of, first_of, framing_of, framing_by_length, most_answer_reads, upto_of};
-ghost use Rattle.upload_wire.specs.AnswerReading.{IsHeadAtFront, IsHeadOf, IsSmall, IsFramingFault, FindsBody, MovesUpTo, PlaceUnlessNoMemory, Says, SaysBare, fault_of, fields_of};
+ghost use Rattle.upload_wire.specs.AnswerReading.{IsHeadAtFront, IsHeadOf, IsSmall, IsFramingFault, PlaceUnlessNoMemory, Says, SaysBare, fields_of};
 
-use crate::body::read_part;
 use crate::buffer::ReadBuffer;
 use crate::bytes::ByteSource;
+use crate::client::body::{MAX_ANSWER, fault_of, read_body};
 use crate::client::framing::AnswerFraming;
 use crate::client::head::{AnswerHead, read_head};
 use crate::client::heard::{Heard, HeardFault};
 use crate::client::parsed::ParsedAnswer;
-use crate::fault::WireFault;
 use crate::fields::{Occurrence, field_among, is_same_word};
 use crate::framing::length_of;
 use http_uri::{Uri, UriError};
@@ -25,9 +24,6 @@ use serde_json::Value;
 use std::alloc::{AllocError, Global};
 use std::marker::Model;
 use upload_names::{ByteRange, Bytes};
-
-/// The most bytes of a reply's body.
-const MAX_ANSWER: usize = 65_536;
 
 /// The first error code of a body.
 fn code_of(alloc: Global, body: &[u8]) -> Result<Option<Bytes>, AllocError>
@@ -223,88 +219,6 @@ fn with_code(
     match code_of(alloc, body) {
         Ok(code) => Ok(Heard { code, ..said }),
         Err(_) => Err(HeardFault::NoMemory),
-    }
-}
-
-/// The fault of a read.
-fn fault_of(fault: WireFault) -> HeardFault
-    ensures { result ≡ fault_of fault }
-{
-    match fault {
-        WireFault::Truncated => HeardFault::Truncated,
-        WireFault::Read => HeardFault::Read,
-        WireFault::NoMemory => HeardFault::NoMemory,
-        WireFault::Ended => HeardFault::Ended,
-    }
-}
-
-/// Moves so many bytes to the end of a body, or all up to the end of the input where that comes
-/// before them, which is `Truncated`.
-fn move_bytes<S: ByteSource>(
-    source: &mut S,
-    buffer: &mut ReadBuffer,
-    body: &mut Vec<u8>,
-    count: usize,
-) -> Result<(), HeardFault>
-    ensures found { MovesUpTo (S.remaining source.old) buffer.old body.old.items (S.remaining source.new)
-        buffer.new body.new.items count result }
-    ensures reads { CountsAtMost (S.reads source.old) (S.reads source.new) count }
-    ensures failed { result ≡ Err HeardFault.Read
-        → CountsUp (S.failed_reads source.old) (S.failed_reads source.new) }
-    ensures unfailed { result ≢ Err HeardFault.Read
-        → S.failed_reads source.new ≡ S.failed_reads source.old }
-{
-    let mut left = count;
-    while left > 0 {
-        match read_part(source, buffer, body, left) {
-            Ok(0) => return Err(HeardFault::Truncated),
-            Ok(part) => left -= part,
-            Err(fault) => return Err(fault_of(fault)),
-        }
-    }
-    Ok(())
-}
-
-/// Reads a body that goes to the end of the input. `TooLarge`: it goes on behind the limit.
-fn read_to_end<S: ByteSource>(
-    source: &mut S,
-    buffer: &mut ReadBuffer,
-    body: &mut Vec<u8>,
-) -> Result<(), HeardFault>
-    requires { body.old.items ≡ [] }
-    ensures found { FindsBody AnswerFraming.ToEnd buffer.old (S.remaining source.old) body.new.items buffer.new (S.remaining source.new) result }
-    ensures reads { CountsAtMost (S.reads source.old) (S.reads source.new) 65537 }
-    ensures failed { result ≡ Err HeardFault.Read
-        → CountsUp (S.failed_reads source.old) (S.failed_reads source.new) }
-    ensures unfailed { result ≢ Err HeardFault.Read
-        → S.failed_reads source.new ≡ S.failed_reads source.old }
-{
-    match move_bytes(source, buffer, body, MAX_ANSWER + 1) {
-        Ok(()) => Err(HeardFault::TooLarge),
-        Err(HeardFault::Truncated) => Ok(()),
-        Err(fault) => Err(fault),
-    }
-}
-
-/// Reads the body behind a head that was taken.
-fn read_body<S: ByteSource>(
-    source: &mut S,
-    buffer: &mut ReadBuffer,
-    body: &mut Vec<u8>,
-    framing: AnswerFraming,
-) -> Result<(), HeardFault>
-    requires small { IsSmall framing }
-    requires empty { body.old.items ≡ [] }
-    ensures found { FindsBody framing buffer.old (S.remaining source.old) body.new.items buffer.new (S.remaining source.new) result }
-    ensures reads { CountsAtMost (S.reads source.old) (S.reads source.new) 65537 }
-    ensures failed { result ≡ Err HeardFault.Read
-        → CountsUp (S.failed_reads source.old) (S.failed_reads source.new) }
-    ensures unfailed { result ≢ Err HeardFault.Read
-        → S.failed_reads source.new ≡ S.failed_reads source.old }
-{
-    match framing {
-        AnswerFraming::Sized(length) => move_bytes(source, buffer, body, length as usize),
-        AnswerFraming::ToEnd => read_to_end(source, buffer, body),
     }
 }
 

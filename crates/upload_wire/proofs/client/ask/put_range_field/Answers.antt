@@ -5,7 +5,7 @@ use Rattle.upload_wire.specs.Writing.{sink}
 use Rattle.upload_wire.specs.Gathering.{Gathered}
 use Rattle.upload_wire.specs.AskText.{range_fields}
 use Rattle.upload_wire.specs.ReplyText.{print_field}
-use Rattle.upload_wire.proofs.AskLemmas.{range_text_is}
+use Rattle.upload_wire.proofs.AskTextLemmas.{range_text_is}
 use Rattle.upload_wire.proofs.client.ask.put_range_field.Goals as goal
 
 pub returns-in-Given : goal.returns-in-Given

@@ -2,7 +2,7 @@ use Rattle.std.proofs.Common.{◌≡◌, ◌∙◌, sym, ap, subst, List, ℕ, �
 use Rattle.upload_wire.specs.Writing.{sink}
 use Rattle.upload_wire.specs.Gathering.{Gathered}
 use Rattle.upload_wire.specs.AskText.{request_line, message_of}
-use Rattle.upload_wire.proofs.AskLemmas.{single_line, mount_line, chunk_line, status_line, close_line}
+use Rattle.upload_wire.proofs.AskTextLemmas.{single_line, mount_line, chunk_line, status_line, close_line}
 use Rattle.upload_wire.proofs.client.ask.put_request_line.Goals as goal
 
 pub returns-in-Single : goal.returns-in-Single

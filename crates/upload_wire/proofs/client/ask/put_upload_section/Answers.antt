@@ -1,7 +1,7 @@
 use Rattle.std.proofs.Common.{subst, List, ℕ, ◌++◌}
 use Rattle.upload_wire.specs.Writing.{sink}
 use Rattle.upload_wire.specs.Gathering.{Gathered}
-use Rattle.upload_wire.proofs.AskLemmas.{upload_section}
+use Rattle.upload_wire.proofs.AskTextLemmas.{upload_section}
 use Rattle.upload_wire.proofs.client.ask.put_upload_section.Goals as goal
 
 pub returns : goal.returns

@@ -2,7 +2,7 @@ use Rattle.std.proofs.Common.{◌≡◌, ◌∙◌, sym, ap, subst, List, ℕ, [
 use Rattle.upload_wire.specs.Writing.{sink, Wrote}
 use Rattle.upload_wire.specs.Gathering.{Gathered}
 use Rattle.upload_wire.proofs.WritingLemmas.{appends_none}
-use Rattle.upload_wire.proofs.AskLemmas.{whole_text}
+use Rattle.upload_wire.proofs.AskTextLemmas.{whole_text}
 use Rattle.upload_wire.proofs.client.ask.write_ask.Goals as goal
 
 pub returns : goal.returns

@@ -1,7 +1,7 @@
 use Rattle.std.proofs.Common.{◌≡◌, ◌≤◌, ◌-◌}
 use Rattle.upload_wire.specs.Counts.{CountsAtMost}
 use Rattle.upload_wire.specs.BodyReading.{Moved}
-use Rattle.upload_wire.proofs.client.answer.move_bytes.Given as goal
+use Rattle.upload_wire.proofs.client.body.move_bytes.Given as goal
 
 abbrev pub invariant-loop-left : goal.invariant-loop-left
 invariant-loop-left g l = record {

@@ -1,6 +1,6 @@
 use Rattle.upload_wire.specs.AnswerReading.{FindsBody}
 use Rattle.upload_wire.proofs.AnswerBodyLemmas.{sized_body}
-use Rattle.upload_wire.proofs.client.answer.read_body.Goals as goal
+use Rattle.upload_wire.proofs.client.body.read_body.Goals as goal
 
 pub returns-in-Sized-clause-found : goal.returns-in-Sized-clause-found
 returns-in-Sized-clause-found g c =
