@@ -1,7 +1,7 @@
 -- Parts of a body, one after another.
-use Rattle.std.proofs.Common.{◌≡◌, ◌≢◌, inl, inr, ℕ, ◌+◌, ◌-◌, ◌<◌, ◌≤◌, List, [], ◌∷◌, ◌++◌, length, take, drop, refl, sym, ap, ◌∙◌, subst, arith, append_assoc, length-append}
+use Rattle.std.proofs.Common.{◌≡◌, ◌≢◌, inl, inr, ℕ, ◌+◌, ◌-◌, ◌<◌, ◌≤◌, List, [], ◌∷◌, ◌++◌, length, take, drop, refl, sym, ap, ◌∙◌, subst, arith, append_assoc, length-append, length-take, min}
 use Rattle.std.specs.Prelude.{Option, Some, None, Result, Ok, Err, ⊤, ◌⊎◌}
-use Rattle.std.proofs.lemmas.List.{append-nil}
+use Rattle.std.proofs.lemmas.List.{append-nil, take-append-drop}
 use Rattle.std.specs.Io.KnownBytes.{Consumes, IsAtEnd}
 use Rattle.upload_wire.specs.Reading.{Gave}
 use Rattle.upload_wire.specs.BodyReading.{Moved, MovedNone}
@@ -11,7 +11,7 @@ use Rattle.upload_wire.specs.declared.client.framing.AnswerFraming.{AnswerFramin
 use Rattle.upload_wire.specs.declared.client.framing.AnswerFraming.TheVariants.{Sized, ToEnd}
 use Rattle.upload_wire.specs.declared.client.heard.HeardFault.{HeardFault}
 use Rattle.upload_wire.specs.declared.client.heard.HeardFault.TheVariants as Fault
-use Rattle.upload_wire.specs.AnswerReading.{MovesAll, MovesPart, MovesUpTo, FindsBody, FindsBodyIn, fault_of}
+use Rattle.upload_wire.specs.AnswerReading.{MovesAll, MovesPart, MovesUpTo, Takes, FindsBody, FindsBodyIn, end_of, fault_of}
 use Rattle.upload_wire.proofs.GaveLemmas.{gave_none, gave_after}
 
 pub moved_nothing : (old : Option (List ℕ)) (held before : List ℕ) (n : ℕ) → n ≡ 0 → Moved old held before old held before n
@@ -134,11 +134,47 @@ ended_body old new held before rest after u none m =
       found = (ap (λ t. t ++ rest) (sym same), (omega (arith, lengths, few, counted), m.none_left, m.ended));
     }
 
-pub end_fault : (old new : Option (List ℕ)) (held before rest after : List ℕ) (e : HeardFault) → e ≢ Fault.Truncated
-    → MovesUpTo old held before new rest after 65537 (Err e) → FindsBody ToEnd held old after rest new (Err e)
-end_fault old new held before rest after Fault.Truncated other m = absurd (other refl)
-end_fault old new held before rest after Fault.Read other m = body_fault ToEnd old new held rest after Fault.Read (inl refl) m
-end_fault old new held before rest after Fault.NoMemory other m = body_fault ToEnd old new held rest after Fault.NoMemory (inr refl) m
-end_fault old new held before rest after Fault.Unreadable other m = absurd m
-end_fault old new held before rest after Fault.TooLarge other m = absurd m
-end_fault old new held before rest after Fault.Ended other m = absurd m
+pub end_found : (old new : Option (List ℕ)) (held before rest after : List ℕ) (e : HeardFault) → before ≡ []
+    → MovesUpTo old held before new rest after 65537 (Err e) → FindsBody ToEnd held old after rest new (end_of e)
+end_found old new held before rest after Fault.Truncated none m = ended_body old new held before rest after tt none m
+end_found old new held before rest after Fault.Read none m = body_fault ToEnd old new held rest after Fault.Read (inl refl) m
+end_found old new held before rest after Fault.NoMemory none m = body_fault ToEnd old new held rest after Fault.NoMemory (inr refl) m
+end_found old new held before rest after Fault.Unreadable none m = absurd m
+end_found old new held before rest after Fault.TooLarge none m = absurd m
+end_found old new held before rest after Fault.Ended none m = absurd m
+
+-- a failed read stays one
+pub end_read : (e : HeardFault) → end_of e ≡ Err Fault.Read → e ≡ Fault.Read
+end_read Fault.Truncated h = absurd (cc)
+end_read Fault.Read h = refl
+end_read Fault.NoMemory h = absurd (cc)
+end_read Fault.Unreadable h = absurd (cc)
+end_read Fault.TooLarge h = absurd (cc)
+end_read Fault.Ended h = absurd (cc)
+
+-- ---- parts
+
+-- bytes that the buffer held are a part
+pub part_taken : (old new : Option (List ℕ)) (held mid before rest after : List ℕ) (left : ℕ) (r : Result ℕ HeardFault) → Gave old new held mid → 0 < length mid → 0 < left
+    → Takes mid before rest after left r → MovesPart old held before new rest after left r
+part_taken old new held mid before rest after left (Ok n) gave some room t =
+    let count = t.0 in
+    let fits : n ≤ length mid = omega (arith, count) in
+    (record {
+      bytes = take n mid;
+      gave = (gave.0, gave.1, ap (λ r. take n mid ++ r) t.1 ∙ take-append-drop n mid ∙ gave.2);
+      joined = t.2;
+      counted = omega (arith, fits, length-take n mid);
+    }, omega (arith, count), λ zero. absurd (omega (arith, count, some, room, zero)))
+part_taken old new held mid before rest after left (Err e) gave some room t =
+    subst (λ f. MovesPart old held before new rest after left (Err f)) (sym t.0) (record { text = mid; gave = gave })
+
+nothing_left : (xs : List ℕ) → length xs ≡ 0 → xs ≡ []
+nothing_left [] h = refl
+nothing_left (x ∷ xs) h = absurd (omega arith)
+
+-- the end of the input is no part
+pub part_none : (old new : Option (List ℕ)) (held mid before : List ℕ) (left : ℕ) → Gave old new held mid → length mid ≡ 0 → IsAtEnd new
+    → MovesPart old held before new mid before left (Ok 0)
+part_none old new held mid before left gave none end =
+    (record { bytes = []; gave = gave; joined = sym (append-nil before); counted = refl }, omega arith, λ zero. (nothing_left mid none, end))

@@ -1,5 +1,5 @@
 -- What the functions find that read a reply.
-use Rattle.std.specs.Prelude.{◌≡◌, ℕ, ◌+◌, ◌<◌, ◌≤◌, ◌⊎◌, List, [], ◌++◌, length, map, take, Option, Some, None, Result, Ok, Err, ⊤}
+use Rattle.std.specs.Prelude.{◌≡◌, ℕ, ◌+◌, ◌<◌, ◌≤◌, ◌⊎◌, List, [], ◌++◌, length, map, min, take, drop, Option, Some, None, Result, Ok, Err, ⊤}
 use Rattle.std.specs.Io.KnownBytes.{IsAtEnd}
 use Rattle.httparse.specs.Grammar.{HasNoResponse}
 use Rattle.httparse.specs.Spans.{IsResponseWithin, IsResponseOf, header_bytes}
@@ -62,6 +62,11 @@ FindsHead text new (Err Wire.Ended) = ⊥
 
 -- ---- the body
 
+-- bytes that were held are moved to the end of a body, as many as there are and no more than are left of it
+abbrev pub Takes : List ℕ → List ℕ → List ℕ → List ℕ → ℕ → Result ℕ HeardFault → Type 0
+Takes held before rest after left (Ok count) = (count ≡ min left (length held)) × (rest ≡ drop count held) × (after ≡ before ++ take count held)
+Takes held before rest after left (Err fault) = (fault ≡ Fault.NoMemory) × (rest ≡ held)
+
 -- a part of what is left of a body, or nothing at the end of the input
 abbrev pub MovesPart : Option (List ℕ) → List ℕ → List ℕ → Option (List ℕ) → List ℕ → List ℕ → ℕ → Result ℕ HeardFault → Type 0
 MovesPart old held before new rest after left (Ok count) =
@@ -90,6 +95,15 @@ MovesUpTo old held before new rest after count (Err Fault.NoMemory) = MovedNone 
 MovesUpTo old held before new rest after count (Err Fault.Unreadable) = ⊥
 MovesUpTo old held before new rest after count (Err Fault.TooLarge) = ⊥
 MovesUpTo old held before new rest after count (Err Fault.Ended) = ⊥
+
+-- what a fault means to a body that goes to the end of the input
+abbrev pub end_of : HeardFault → Result ⊤ HeardFault
+end_of Fault.Truncated = Ok tt
+end_of Fault.Read = Err Fault.Read
+end_of Fault.NoMemory = Err Fault.NoMemory
+end_of Fault.Unreadable = Err Fault.Unreadable
+end_of Fault.TooLarge = Err Fault.TooLarge
+end_of Fault.Ended = Err Fault.Ended
 
 -- what was found of a body in the text that was held behind its head and read
 abbrev pub FindsBodyIn : AnswerFraming → List ℕ → List ℕ → List ℕ → Option (List ℕ) → Result ⊤ HeardFault → Type 0

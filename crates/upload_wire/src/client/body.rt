@@ -1,13 +1,14 @@
 //! The body of a reply, read behind its head.
 ghost use Rattle.std.specs.Prelude.{◌≡◌, ◌≢◌, ◌<◌, [], Err};
 ghost use Rattle.upload_wire.specs.Counts.{CountsUp, CountsAtMost};
-ghost use Rattle.upload_wire.specs.AnswerReading.{FindsBody, IsSmall, MovesPart, MovesUpTo, fault_of};
+ghost use Rattle.upload_wire.specs.AnswerReading.{FindsBody, IsSmall, MovesPart, MovesUpTo, Takes, end_of, fault_of};
 
 use crate::buffer::ReadBuffer;
 use crate::bytes::ByteSource;
 use crate::client::framing::AnswerFraming;
 use crate::client::heard::HeardFault;
 use crate::fault::WireFault;
+use crate::head::has_byte;
 
 /// The most bytes of a reply's body.
 pub const MAX_ANSWER: usize = 65_536;
@@ -21,6 +22,26 @@ pub fn fault_of(fault: WireFault) -> HeardFault
         WireFault::Read => HeardFault::Read,
         WireFault::NoMemory => HeardFault::NoMemory,
         WireFault::Ended => HeardFault::Ended,
+    }
+}
+
+/// Moves bytes that the buffer holds to the end of a body, no more than are left of it, and says how
+/// many.
+fn take_held(
+    buffer: &mut ReadBuffer,
+    body: &mut Vec<u8>,
+    left: usize,
+) -> Result<usize, HeardFault>
+    ensures { Takes buffer.old body.old.items buffer.new body.new.items left result }
+{
+    let count = left.min(buffer.len());
+    let (front, _) = buffer.as_slice().split_at(count);
+    match body.extend_from_slice(front) {
+        Ok(()) => {
+            buffer.consume(count);
+            Ok(count)
+        }
+        Err(_) => Err(HeardFault::NoMemory),
     }
 }
 
@@ -40,17 +61,16 @@ fn move_part<S: ByteSource>(
     ensures unfailed { result ≢ Err HeardFault.Read
         → S.failed_reads source.new ≡ S.failed_reads source.old }
 {
-    if buffer.len() == 0 {
-        if let Err(_) = buffer.fill(source) {
-            return Err(HeardFault::Read);
+    match has_byte(source, buffer, 0) {
+        Ok(there) => {
+            if there {
+                take_held(buffer, body, left)
+            } else {
+                Ok(0)
+            }
         }
+        Err(_) => Err(HeardFault::Read),
     }
-    let count = left.min(buffer.len());
-    if body.extend_from_slice(&buffer.as_slice()[..count]).is_err() {
-        return Err(HeardFault::NoMemory);
-    }
-    buffer.consume(count);
-    Ok(count)
 }
 
 /// Moves so many bytes to the end of a body, or all up to the end of the input where that comes
@@ -99,13 +119,17 @@ fn read_to_end<S: ByteSource>(
 {
     match move_bytes(source, buffer, body, MAX_ANSWER + 1) {
         Ok(()) => Err(HeardFault::TooLarge),
-        Err(fault) => {
-            if fault == HeardFault::Truncated {
-                Ok(())
-            } else {
-                Err(fault)
-            }
-        }
+        Err(fault) => end_of(fault),
+    }
+}
+
+/// What a fault means to a body that goes to the end of the input.
+fn end_of(fault: HeardFault) -> Result<(), HeardFault>
+    ensures { result ≡ end_of fault }
+{
+    match fault {
+        HeardFault::Truncated => Ok(()),
+        _ => Err(fault),
     }
 }
 
