@@ -159,13 +159,16 @@ pub part_taken : (old new : Option (List ℕ)) (held mid before rest after : Lis
     → Takes mid before rest after left r → MovesPart old held before new rest after left r
 part_taken old new held mid before rest after left (Ok n) gave some room t =
     let count = t.0 in
-    let fits : n ≤ length mid = omega (arith, count) in
-    (record {
-      bytes = take n mid;
-      gave = (gave.0, gave.1, ap (λ r. take n mid ++ r) t.1 ∙ take-append-drop n mid ∙ gave.2);
-      joined = t.2;
-      counted = omega (arith, fits, length-take n mid);
-    }, omega (arith, count), λ zero. absurd (omega (arith, count, some, room, zero)))
+    let fits : n ≤ length mid = omega (arith, count) in (
+      record {
+        bytes = take n mid;
+        gave = (gave.0, gave.1, ap (λ r. take n mid ++ r) t.1 ∙ take-append-drop n mid ∙ gave.2);
+        joined = t.2;
+        counted = omega (arith, fits, length-take n mid);
+      },
+      omega (arith, count),
+      λ zero. absurd (omega (arith, count, some, room, zero)),
+    )
 part_taken old new held mid before rest after left (Err e) gave some room t =
     subst (λ f. MovesPart old held before new rest after left (Err f)) (sym t.0) (record { text = mid; gave = gave })
 

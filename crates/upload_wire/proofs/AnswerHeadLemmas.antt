@@ -30,7 +30,7 @@ pub head_ends : (h : ResponseHead) → (front : List ℕ) × (print_response h �
 unfolding print_response
 head_ends h =
     let before : List ℕ =
-        print_blank h.blank ++ print_version h.minor ++ 32 ∷ h.digits ++ print_reason h.reason ++ print_end h.line_end in
+    print_blank h.blank ++ print_version h.minor ++ 32 ∷ h.digits ++ print_reason h.reason ++ print_end h.line_end in
     let end = end_is_line_feed (before ++ flat_map print_field h.fields) h.last in
     (end.0, sym (append_assoc before (flat_map print_field h.fields) (print_end h.last)) ∙ end.1)
 
@@ -39,9 +39,12 @@ pub only_whole : (front : List ℕ) (b : ℕ) (h : ResponseHead) (rest : List �
     → ReadsResponse (front ++ b ∷ []) h rest → rest ≡ []
 only_whole front b h rest none x =
     elim (snoc_cases rest) [
-      inl e ↦ e
-    | inr s ↦ absurd (none h s.0 (x.0, (snoc_inj front (print_response h ++ s.0) b s.1
-        (x.1 ∙ ap (λ t. print_response h ++ t) s.2 ∙ sym (append_assoc (print_response h) s.0 (s.1 ∷ [])))).0))
+      | inl e ↦ e
+      | inr s ↦ absurd (none h s.0 (
+        x.0,
+        (snoc_inj front (print_response h ++ s.0) b s.1
+            (x.1 ∙ ap (λ t. print_response h ++ t) s.2 ∙ sym (append_assoc (print_response h) s.0 (s.1 ∷ [])))).0,
+      ))
     ]
 
 -- and that byte is a line feed
@@ -51,7 +54,7 @@ whole_ends front b h rest none x =
     let e = only_whole front b h rest none x in
     let ends = head_ends h in
     (snoc_inj front ends.0 b line_feed
-        (x.1 ∙ ap (λ t. print_response h ++ t) e ∙ append-nil (print_response h) ∙ ends.1)).1
+    (x.1 ∙ ap (λ t. print_response h ++ t) e ∙ append-nil (print_response h) ∙ ends.1)).1
 
 pub none_more : (front : List ℕ) (b : ℕ) → HasNoResponse front → b ≢ line_feed → HasNoResponse (front ++ b ∷ [])
 none_more front b none other h rest x = other (whole_ends front b h rest none x)
@@ -69,10 +72,15 @@ pub line_feeds-head : (h : ResponseHead) → length h.fields + 2 ≤ line_feeds 
 unfolding print_response
 line_feeds-head h =
     let start : List ℕ = print_blank h.blank ++ print_version h.minor ++ 32 ∷ h.digits ++ print_reason h.reason in
-    omega (arith, line_feeds-append (start ++ print_end h.line_end) (print_section h.fields h.last),
-      line_feeds-append start (print_end h.line_end), line_feeds-end h.line_end,
-      line_feeds-append (flat_map print_field h.fields) (print_end h.last), line_feeds-end h.last,
-      line_feeds-fields h.fields)
+    omega (
+      arith,
+      line_feeds-append (start ++ print_end h.line_end) (print_section h.fields h.last),
+      line_feeds-append start (print_end h.line_end),
+      line_feeds-end h.line_end,
+      line_feeds-append (flat_map print_field h.fields) (print_end h.last),
+      line_feeds-end h.last,
+      line_feeds-fields h.fields,
+    )
 
 -- ---- too many headers
 
@@ -84,8 +92,15 @@ pub exceeds_line_feeds : (room : ℕ) (text : List ℕ) → ResponseExceeds room
 exceeds_line_feeds room text e =
     let h = e.3 in
     let printed = ap line_feeds (e.4.1 ∙ append-nil (print_response h)) in
-    omega (arith, printed, line_feeds-append e.0 (line_feed ∷ []), line_feeds-head h, e.5,
-      ap line_feeds e.2, line_feeds-append e.0 e.1)
+    omega (
+      arith,
+      printed,
+      line_feeds-append e.0 (line_feed ∷ []),
+      line_feeds-head h,
+      e.5,
+      ap line_feeds e.2,
+      line_feeds-append e.0 e.1,
+    )
 
 pub refused_by_fields : (text : List ℕ) → ResponseOverflows max_fields text → ResponseExceeds max_fields text
     → MayBeRefused text
@@ -116,7 +131,7 @@ pub refused_at : (text : List ℕ) (at : ℕ) → at < length text → at < 1638
     → get_or text at 0 ≡ line_feed → MayBeRefused (take (at + 1) text) → IsRefused text
 refused_at text at lt short none same may =
     let next : take (at + 1) text ≡ take at text ++ line_feed ∷ [] =
-        take-next text at lt ∙ ap (λ b. take at text ++ b ∷ []) same in
+    take-next text at lt ∙ ap (λ b. take at text ++ b ∷ []) same in
     record {
       before = take at text;
       rest = drop (at + 1) text;
@@ -136,8 +151,8 @@ head_at text at p lt short none found =
     let reads : ReadsResponse front found.1.0 (drop p.spans.len front) = found.1.1.reads in
     let next = take-next text at lt in
     let whole : drop p.spans.len front ≡ [] =
-        only_whole (take at text) (get_or text at 0) found.1.0 (drop p.spans.len front) none
-        (subst (λ t. ReadsResponse t found.1.0 (drop p.spans.len front)) next reads) in
+    only_whole (take at text) (get_or text at 0) found.1.0 (drop p.spans.len front) none
+    (subst (λ t. ReadsResponse t found.1.0 (drop p.spans.len front)) next reads) in
     let none_left = ap length whole in
     let same : p.spans.len ≡ at + 1 = omega (arith, none_left, length-drop p.spans.len front, long, fits) in
     record {

@@ -45,8 +45,14 @@ head_reads text p f =
     record {
       reads = (f.head.1.1.reads.0, sym (take-append-drop p.spans.len text) ∙ ap (λ t. t ++ drop p.spans.len text) printed);
       short = omega (arith, len, short);
-      few = omega (arith, few, lengths, length-map (the_head f).fields name_and_value,
-        length-map (take p.spans.headers p.headers) (header_bytes (take p.spans.len text)), length-take p.spans.headers p.headers);
+      few = omega (
+        arith,
+        few,
+        lengths,
+        length-map (the_head f).fields name_and_value,
+        length-map (take p.spans.headers p.headers) (header_bytes (take p.spans.len text)),
+        length-take p.spans.headers p.headers,
+      );
     }
 
 -- a head at the front is there when more comes
@@ -65,7 +71,7 @@ framed : (h : Bool) (text : List ℕ) (p : ParsedAnswer) (r : Result AnswerFrami
 framed h text p r f e = record {
   reads = head_reads text p f;
   framed = ap (framing_of h (status_code (the_head f))) (sym (fields_same text p f))
-    ∙ ap (λ s. framing_of h s (fields_of (take p.spans.len text) p)) (sym f.head.1.1.code) ∙ e;
+      ∙ ap (λ s. framing_of h s (fields_of (take p.spans.len text) p)) (sym f.head.1.1.code) ∙ e;
 }
 
 -- a refused framing
@@ -148,11 +154,11 @@ module _ (h : Bool) (held rest body : List ℕ) (old new : Option (List ℕ)) (p
         given = given;
         consumed = b.gave.1;
         found = says_found h text rest new (the_head k) body r
-          (record {
-            framing = framing;
-            framed = subst (ReadsFramed h text (Ok framing) (the_head k)) b.found.0 (framed_on given b.text b.gave.2);
-            is_body = b.found.1;
-          }) said;
+            (record {
+              framing = framing;
+              framed = subst (ReadsFramed h text (Ok framing) (the_head k)) b.found.0 (framed_on given b.text b.gave.2);
+              is_body = b.found.1;
+            }) said;
       }
 
 -- reads before it

@@ -13,7 +13,7 @@ use Rattle.std.proofs.lemmas.Slice.Eq.{bytes_eq-Decides}
 
 pub code_none : (body : List ℕ) → (IsUtf8 body → read body ≡ None) → None ≡ code_of body
 code_none body none = elim (cases_Bool (is_utf8 body)) [
-    inl text ↦ rw (text, none (IsUtf8-from_is_utf8 body text)) refl
+  | inl text ↦ rw (text, none (IsUtf8-from_is_utf8 body text)) refl
   | inr other ↦ rw other refl
 ]
 
@@ -40,6 +40,6 @@ first-other name fields f found e differs = e ∙ ap first_of (sym (values_of-di
 pub first-kept : (name : List ℕ) (fields : Fields) (f : List ℕ × List ℕ) (value : List ℕ) → Some value ≡ first_of (values_of name fields)
     → Some value ≡ first_of (values_of name (fields ++ f ∷ []))
 first-kept name fields f value h = elim (cases_Bool (same_word f.0 name)) [
-    inl same ↦ sym (ap first_of (values_of-same name fields f same) ∙ first-some (values_of name fields) (f.1 ∷ []) value h)
+  | inl same ↦ sym (ap first_of (values_of-same name fields f same) ∙ first-some (values_of name fields) (f.1 ∷ []) value h)
   | inr differs ↦ first-other name fields f (Some value) h differs
 ]

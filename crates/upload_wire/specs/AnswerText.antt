@@ -51,7 +51,7 @@ abbrev pub framing_of : Bool → ℕ → Fields → Result AnswerFraming HeardFa
 framing_of head status fields =
     if nat_lt status 200 then Err Fault.Unreadable
     else framing_without_coding (values_of (codes "transfer-encoding") fields)
-      (framing_by_length (is_empty head status) (values_of (codes "content-length") fields))
+    (framing_by_length (is_empty head status) (values_of (codes "content-length") fields))
 
 -- ---- what is heard
 

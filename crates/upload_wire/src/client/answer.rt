@@ -290,11 +290,11 @@ impl<S: ByteSource> Model for AnswerReader<S> {
     ghost Value = { AnswerReaderState };
 
     ghost view = { λ r. record {
-        held = r.buffer;
-        remaining = S.remaining r.source;
-        reads = S.reads r.source;
-        failed_reads = S.failed_reads r.source;
-        ended = r.ended;
+      held = r.buffer;
+      remaining = S.remaining r.source;
+      reads = S.reads r.source;
+      failed_reads = S.failed_reads r.source;
+      ended = r.ended;
     } };
 }
 
@@ -304,11 +304,11 @@ impl<S: ByteSource> AnswerReader<S> {
     where
         S: Drop,
         ensures { IfOk result (λ reader. reader ≡ record {
-            held = [];
-            remaining = S.remaining source;
-            reads = S.reads source;
-            failed_reads = S.failed_reads source;
-            ended = false;
+          held = [];
+          remaining = S.remaining source;
+          reads = S.reads source;
+          failed_reads = S.failed_reads source;
+          ended = false;
         }) }
     {
         let buffer = ReadBuffer::new(alloc)?;

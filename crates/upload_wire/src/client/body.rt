@@ -27,11 +27,7 @@ pub fn fault_of(fault: WireFault) -> HeardFault
 
 /// Moves bytes that the buffer holds to the end of a body, no more than are left of it, and says how
 /// many.
-fn take_held(
-    buffer: &mut ReadBuffer,
-    body: &mut Vec<u8>,
-    left: usize,
-) -> Result<usize, HeardFault>
+fn take_held(buffer: &mut ReadBuffer, body: &mut Vec<u8>, left: usize) -> Result<usize, HeardFault>
     ensures { Takes buffer.old body.old.items buffer.new body.new.items left result }
 {
     let count = left.min(buffer.len());

@@ -18,7 +18,7 @@ returns-in-Ok-read_body-clause-found g c =
     let found = subst (λ t. FindsBody c.in-Ok.framing t _ c.read_body.new.body.items c.read_body.new.buffer _ (Ok tt)) c.consume.ensures c.in-Ok-read_body.ensures.found in
     let said = subst (λ t. SaysBare p.spans.code (fields_of (take p.spans.len t) p) c.said_of-said.result) c.as_slice.ensures c.said_of-said.ensures in
     let says = subst (λ t. Says p.spans.code (fields_of (take p.spans.len c.args.buffer.now) p) t c.with_code.result) c.deref.ensures.value
-      (c.with_code.ensures p.spans.code (fields_of (take p.spans.len c.args.buffer.now) p) said) in
+    (c.with_code.ensures p.spans.code (fields_of (take p.spans.len c.args.buffer.now) p) said) in
     reply_found c.args.head_only c.args.buffer.now c.read_body.new.buffer c.read_body.new.body.items _ _ p c.in-Ok.framing c.requires is tt c.with_code.result found says
 
 pub returns-in-Err-read_body-clause-found : goal.returns-in-Err-read_body-clause-found
