@@ -97,10 +97,7 @@ fn line_step(state: LineState, byte: u8) -> LineStep
 }
 
 /// Reads a size line, and takes it out of the buffer.
-fn read_line<S: ByteSource>(
-    source: &mut S,
-    buffer: &mut ReadBuffer,
-) -> Result<LineRead, WireFault>
+fn read_line<S: ByteSource>(source: &mut S, buffer: &mut ReadBuffer) -> Result<LineRead, WireFault>
     ensures found { FindsLine (S.remaining source.old) buffer.old (S.remaining source.new) buffer.new result }
     ensures reads { CountsAtMost (S.reads source.old) (S.reads source.new) 10 }
     ensures failed { result ≡ Err WireFault.Read
@@ -128,10 +125,7 @@ fn read_line<S: ByteSource>(
 }
 
 /// Reads a line end, CR LF, and takes it out of the buffer. `false`: a byte came that isn't one of it.
-fn read_line_end<S: ByteSource>(
-    source: &mut S,
-    buffer: &mut ReadBuffer,
-) -> Result<bool, WireFault>
+fn read_line_end<S: ByteSource>(source: &mut S, buffer: &mut ReadBuffer) -> Result<bool, WireFault>
     ensures found { FindsEnd (S.remaining source.old) buffer.old (S.remaining source.new) buffer.new result }
     ensures reads { CountsAtMost (S.reads source.old) (S.reads source.new) 2 }
     ensures failed { result ≡ Err WireFault.Read
