@@ -16,8 +16,8 @@ use Rattle.upload_wire.specs.Target.{IsFormOf, named, Parts, ask_of_form, AsksAt
 pub named_none : (text : List ℕ) → (IsName text → ⊥) → None ≡ named text
 named_none text differs =
     elim (cases_Bool (is_name text)) [
-      inl is ↦ absurd (differs (IsName-from text is))
-    | inr other ↦ ap (λ b. cond b (Some text) None) (sym other)
+      | inl is ↦ absurd (differs (IsName-from text is))
+      | inr other ↦ ap (λ b. cond b (Some text) None) (sym other)
     ]
 
 -- an ask that depends on the method alone, on the method and the query, and on all three

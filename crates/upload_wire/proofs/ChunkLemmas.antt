@@ -56,7 +56,7 @@ chunk_first c t body is h = first h.chunks h.zeros h.each h.last (sym (chunk_fla
         let is_d : IsChunk d = All-head IsChunk d chunks each in
         let tail : List ℕ = chunks_text chunks ++ (zeros ++ (13 ∷ 10 ∷ 13 ∷ 10 ∷ [])) in
         let flat : c.digits ++ (13 ∷ 10 ∷ (c.data_bytes ++ (13 ∷ 10 ∷ t))) ≡ d.digits ++ (13 ∷ 10 ∷ (d.data_bytes ++ (13 ∷ 10 ∷ tail))) =
-            cut ∙ append_assoc (print_chunk d) (chunks_text chunks) (zeros ++ (13 ∷ 10 ∷ 13 ∷ 10 ∷ [])) ∙ chunk_flat d tail in
+        cut ∙ append_assoc (print_chunk d) (chunks_text chunks) (zeros ++ (13 ∷ 10 ∷ 13 ∷ 10 ∷ [])) ∙ chunk_flat d tail in
         let s = lines_same c.digits d.digits (c.data_bytes ++ (13 ∷ 10 ∷ t)) (d.data_bytes ++ (13 ∷ 10 ∷ tail)) is.size is_d.size flat in
         let lengths : length c.data_bytes ≡ length d.data_bytes = sym is.same ∙ ap (digits_value 16) s.0 ∙ is_d.same in
         let parts = same_front c.data_bytes d.data_bytes (13 ∷ 10 ∷ t) (13 ∷ 10 ∷ tail) lengths s.1 in
@@ -95,7 +95,7 @@ never_after [] text each never more body h = never more body h
 never_after (c ∷ chunks) text each never more body h =
     let is : IsChunk c = All-head IsChunk c chunks each in
     let moved : IsChunked (print_chunk c ++ ((chunks_text chunks ++ text) ++ more)) body =
-      subst (λ t. IsChunked t body) (ap (λ t. t ++ more) (append_assoc (print_chunk c) (chunks_text chunks) text) ∙ append_assoc (print_chunk c) (chunks_text chunks ++ text) more) h in
+    subst (λ t. IsChunked t body) (ap (λ t. t ++ more) (append_assoc (print_chunk c) (chunks_text chunks) text) ∙ append_assoc (print_chunk c) (chunks_text chunks ++ text) more) h in
     let f = chunk_first c ((chunks_text chunks ++ text) ++ more) body is moved in
     never_after chunks text (All-tail IsChunk c chunks each) never more f.after f.chunked
 
@@ -110,8 +110,8 @@ front_after (c ∷ chunks) text each front =
       body = c.data_bytes ++ f.body;
       some = f.some;
       chunked = subst (λ t. IsChunked t (c.data_bytes ++ f.body))
-        (sym (ap (λ t. t ++ f.more) (append_assoc (print_chunk c) (chunks_text chunks) text) ∙ append_assoc (print_chunk c) (chunks_text chunks ++ text) f.more))
-        (chunk_more c ((chunks_text chunks ++ text) ++ f.more) f.body is f.chunked);
+          (sym (ap (λ t. t ++ f.more) (append_assoc (print_chunk c) (chunks_text chunks) text) ∙ append_assoc (print_chunk c) (chunks_text chunks ++ text) f.more))
+          (chunk_more c ((chunks_text chunks ++ text) ++ f.more) f.body is f.chunked);
     }
 
 -- a whole body, behind chunks
@@ -120,7 +120,7 @@ pub chunked_after : (chunks : List Chunk) (text body : List ℕ) → All IsChunk
 chunked_after [] text body each h = h
 chunked_after (c ∷ chunks) text body each h =
     let more = chunk_more c (chunks_text chunks ++ text) (chunks_data chunks ++ body) (All-head IsChunk c chunks each)
-      (chunked_after chunks text body (All-tail IsChunk c chunks each) h) in
+    (chunked_after chunks text body (All-tail IsChunk c chunks each) h) in
     subst (λ t. IsChunked t ((c.data_bytes ++ chunks_data chunks) ++ body)) (sym (append_assoc (print_chunk c) (chunks_text chunks) text))
     (subst (λ b. IsChunked (print_chunk c ++ (chunks_text chunks ++ text)) b) (sym (append_assoc c.data_bytes (chunks_data chunks) body)) more)
 
@@ -143,7 +143,7 @@ over_first max c t is fits h = first h.chunks h.digits h.rest h.each h.size (sym
         let is_d : IsChunk d = All-head IsChunk d chunks each in
         let tail : List ℕ = chunks_text chunks ++ (digits ++ (13 ∷ 10 ∷ rest)) in
         let flat : c.digits ++ (13 ∷ 10 ∷ (c.data_bytes ++ (13 ∷ 10 ∷ t))) ≡ d.digits ++ (13 ∷ 10 ∷ (d.data_bytes ++ (13 ∷ 10 ∷ tail))) =
-            cut ∙ append_assoc (print_chunk d) (chunks_text chunks) (digits ++ (13 ∷ 10 ∷ rest)) ∙ chunk_flat d tail in
+        cut ∙ append_assoc (print_chunk d) (chunks_text chunks) (digits ++ (13 ∷ 10 ∷ rest)) ∙ chunk_flat d tail in
         let s = lines_same c.digits d.digits (c.data_bytes ++ (13 ∷ 10 ∷ t)) (d.data_bytes ++ (13 ∷ 10 ∷ tail)) is.size is_d.size flat in
         let lengths : length c.data_bytes ≡ length d.data_bytes = sym is.same ∙ ap (digits_value 16) s.0 ∙ is_d.same in
         let parts = same_front c.data_bytes d.data_bytes (13 ∷ 10 ∷ t) (13 ∷ 10 ∷ tail) lengths s.1 in
@@ -184,8 +184,8 @@ over_after max chunks text each fits h =
       each = All-append IsChunk chunks h.chunks each h.each;
       size = h.size;
       cut = ap (λ t. chunks_text chunks ++ t) h.cut
-        ∙ sym (append_assoc (chunks_text chunks) (chunks_text h.chunks) (h.digits ++ (13 ∷ 10 ∷ h.rest)))
-        ∙ ap (λ t. t ++ (h.digits ++ (13 ∷ 10 ∷ h.rest))) (sym (flat_map-append print_chunk chunks h.chunks));
+          ∙ sym (append_assoc (chunks_text chunks) (chunks_text h.chunks) (h.digits ++ (13 ∷ 10 ∷ h.rest)))
+          ∙ ap (λ t. t ++ (h.digits ++ (13 ∷ 10 ∷ h.rest))) (sym (flat_map-append print_chunk chunks h.chunks));
       over = omega (arith, over, fits, data_joined, length-append (chunks_data chunks) (chunks_data h.chunks));
     }
 
@@ -197,9 +197,12 @@ over_has_line max text h = first h.chunks h.each h.cut
         → (digits : List ℕ) × (rest : List ℕ) × IsSize digits × (text ≡ digits ++ (13 ∷ 10 ∷ rest))
     first [] each cut = (h.digits, h.rest, h.size, cut)
     first (d ∷ chunks) each cut =
-        let tail : List ℕ = chunks_text chunks ++ (h.digits ++ (13 ∷ 10 ∷ h.rest)) in
-        (d.digits, d.data_bytes ++ (13 ∷ 10 ∷ tail), (All-head IsChunk d chunks each).size,
-          cut ∙ append_assoc (print_chunk d) (chunks_text chunks) (h.digits ++ (13 ∷ 10 ∷ h.rest)) ∙ chunk_flat d tail)
+        let tail : List ℕ = chunks_text chunks ++ (h.digits ++ (13 ∷ 10 ∷ h.rest)) in (
+          d.digits,
+          d.data_bytes ++ (13 ∷ 10 ∷ tail),
+          (All-head IsChunk d chunks each).size,
+          cut ∙ append_assoc (print_chunk d) (chunks_text chunks) (h.digits ++ (13 ∷ 10 ∷ h.rest)) ∙ chunk_flat d tail,
+        )
 
 -- inside a chunk that fits nothing is over
 pub under_inside : (max : ℕ) (digits d : List ℕ) → IsSize digits → digits_value 16 digits ≤ max
@@ -216,7 +219,7 @@ under_inside max digits d size fits short h = first h.chunks h.each h.cut h.over
         let is_e : IsChunk e = All-head IsChunk e chunks each in
         let tail : List ℕ = chunks_text chunks ++ (h.digits ++ (13 ∷ 10 ∷ h.rest)) in
         let flat : digits ++ (13 ∷ 10 ∷ d) ≡ e.digits ++ (13 ∷ 10 ∷ (e.data_bytes ++ (13 ∷ 10 ∷ tail))) =
-            cut ∙ append_assoc (print_chunk e) (chunks_text chunks) (h.digits ++ (13 ∷ 10 ∷ h.rest)) ∙ chunk_flat e tail in
+        cut ∙ append_assoc (print_chunk e) (chunks_text chunks) (h.digits ++ (13 ∷ 10 ∷ h.rest)) ∙ chunk_flat e tail in
         let s = lines_same digits e.digits d (e.data_bytes ++ (13 ∷ 10 ∷ tail)) size is_e.size flat in
         let value = ap (digits_value 16) s.0 in
         let same = is_e.same in
@@ -230,6 +233,7 @@ never_end digits bytes x size counted never more body h = first h.chunks h.zeros
   where
     flat_more : digits ++ (13 ∷ 10 ∷ (bytes ++ (x ++ more))) ≡ (digits ++ (13 ∷ 10 ∷ (bytes ++ x))) ++ more
     flat_more = simp append_assoc
+
     first : (chunks : List Chunk) (zeros : List ℕ) → All IsChunk chunks → IsZero zeros
         → digits ++ (13 ∷ 10 ∷ (bytes ++ (x ++ more))) ≡ chunks_text chunks ++ (zeros ++ (13 ∷ 10 ∷ 13 ∷ 10 ∷ [])) → ⊥
     first [] zeros each last cut =
@@ -242,7 +246,7 @@ never_end digits bytes x size counted never more body h = first h.chunks h.zeros
         let is_d : IsChunk d = All-head IsChunk d chunks each in
         let tail : List ℕ = chunks_text chunks ++ (zeros ++ (13 ∷ 10 ∷ 13 ∷ 10 ∷ [])) in
         let flat : digits ++ (13 ∷ 10 ∷ (bytes ++ (x ++ more))) ≡ d.digits ++ (13 ∷ 10 ∷ (d.data_bytes ++ (13 ∷ 10 ∷ tail))) =
-            cut ∙ append_assoc (print_chunk d) (chunks_text chunks) (zeros ++ (13 ∷ 10 ∷ 13 ∷ 10 ∷ [])) ∙ chunk_flat d tail in
+        cut ∙ append_assoc (print_chunk d) (chunks_text chunks) (zeros ++ (13 ∷ 10 ∷ 13 ∷ 10 ∷ [])) ∙ chunk_flat d tail in
         let s = lines_same digits d.digits (bytes ++ (x ++ more)) (d.data_bytes ++ (13 ∷ 10 ∷ tail)) size is_d.size flat in
         let lengths : length bytes ≡ length d.data_bytes = sym counted ∙ ap (digits_value 16) s.0 ∙ is_d.same in
         never more tail (same_front bytes d.data_bytes (x ++ more) (13 ∷ 10 ∷ tail) lengths s.1).1

@@ -28,15 +28,18 @@ pub chunk_line_broken : (room : ℕ) (a b : Option (List ℕ)) (held : List ℕ)
 chunk_line_broken room a b held h = record {
   text = h.before ++ h.byte ∷ h.rest;
   gave = h.gave;
-  bad = inr (refl, record {
-    before = h.before;
-    byte = h.byte;
-    rest = h.rest;
-    cut = refl;
-    under = under_line room h.before h.state h.stands;
-    front = front_line h.before h.state h.stands;
-    never = never_from_line (h.before ++ h.byte ∷ []) h.never;
-  });
+  bad = inr (
+    refl,
+    record {
+      before = h.before;
+      byte = h.byte;
+      rest = h.rest;
+      cut = refl;
+      under = under_line room h.before h.state h.stands;
+      front = front_line h.before h.state h.stands;
+      never = never_from_line (h.before ++ h.byte ∷ []) h.never;
+    },
+  );
 }
 
 pub chunk_line_fault : (room : ℕ) (a b : Option (List ℕ)) (held rest x y : List ℕ) (e : WireFault) → FindsLine a held b rest (Err e)
@@ -58,15 +61,18 @@ chunk_over room a b held rest value h over =
     record {
       text = h.line ++ rest;
       gave = h.gave;
-      bad = inl (refl, record {
-        chunks = [];
-        digits = l.digits;
-        rest = rest;
-        each = All-nil IsChunk;
-        size = l.size;
-        cut = ap (λ t. t ++ rest) l.cut ∙ append_assoc l.digits (13 ∷ 10 ∷ []) rest;
-        over = omega (arith, valued, over);
-      });
+      bad = inl (
+        refl,
+        record {
+          chunks = [];
+          digits = l.digits;
+          rest = rest;
+          each = All-nil IsChunk;
+          size = l.size;
+          cut = ap (λ t. t ++ rest) l.cut ∙ append_assoc l.digits (13 ∷ 10 ∷ []) rest;
+          over = omega (arith, valued, over);
+        },
+      );
     }
 
 -- the text of a line and of what follows it
@@ -114,16 +120,19 @@ chunk_end_broken room a b c d held mid rest x y value h fits m e =
     record {
       text = h.line ++ (m.bytes ++ (e.before ++ e.byte ∷ e.rest));
       gave = gave_chunk a b c d held mid rest (e.before ++ e.byte ∷ e.rest) x y value h m e.gave;
-      bad = inr (refl, record {
-        before = before;
-        byte = e.byte;
-        rest = e.rest;
-        cut = line_text h.line l.digits (m.bytes ++ (e.before ++ e.byte ∷ e.rest)) l.cut ∙ simp append_assoc;
-        under = under_inside room l.digits (m.bytes ++ e.before) l.size (omega (arith, valued, fits))
-          (omega (arith, same, len, some, length-append m.bytes e.before, length-append e.before front.1));
-        front = front_data_end l.digits m.bytes e.before front.1 l.size same front.2 front.3;
-        never = subst NeverChunked (simp append_assoc) (never_end l.digits m.bytes (e.before ++ e.byte ∷ []) l.size same e.never);
-      });
+      bad = inr (
+        refl,
+        record {
+          before = before;
+          byte = e.byte;
+          rest = e.rest;
+          cut = line_text h.line l.digits (m.bytes ++ (e.before ++ e.byte ∷ e.rest)) l.cut ∙ simp append_assoc;
+          under = under_inside room l.digits (m.bytes ++ e.before) l.size (omega (arith, valued, fits))
+              (omega (arith, same, len, some, length-append m.bytes e.before, length-append e.before front.1));
+          front = front_data_end l.digits m.bytes e.before front.1 l.size same front.2 front.3;
+          never = subst NeverChunked (simp append_assoc) (never_end l.digits m.bytes (e.before ++ e.byte ∷ []) l.size same e.never);
+        },
+      );
     }
   where
     front_of : (x : List ℕ) → (x ≡ []) ⊎ (x ≡ 13 ∷ []) → (u : ℕ) × (y : List ℕ) × (x ++ y ≡ 13 ∷ 10 ∷ []) × (0 < length y)
@@ -146,7 +155,7 @@ chunk_end_cut room a b c d held mid rest x y value h fits m e =
       cut = subst (IsCutBody room Chunked) (sym (line_text h.line l.digits (m.bytes ++ e.text) l.cut)) (
         front_data_end l.digits m.bytes e.text front.1 l.size same front.2 front.3,
         under_inside room l.digits (m.bytes ++ e.text) l.size (omega (arith, valued, fits))
-          (omega (arith, same, len, some, length-append m.bytes e.text, length-append e.text front.1)),
+            (omega (arith, same, len, some, length-append m.bytes e.text, length-append e.text front.1)),
       );
       ended = e.ended;
     }
@@ -194,8 +203,12 @@ chunk_last a b c d held mid rest last x y value h zero m end =
     record {
       zeros = l.digits;
       is_zero = record { size = l.size; zero = omega (arith, valued, zero) };
-      gave = (gave.0, gave.1, flat l.digits ∙ ap (λ d. l.digits ++ (13 ∷ 10 ∷ (d ++ (13 ∷ 10 ∷ last)))) (sym none)
-        ∙ sym (line_text h.line l.digits (m.bytes ++ (13 ∷ 10 ∷ last)) l.cut) ∙ gave.2);
+      gave = (
+        gave.0,
+        gave.1,
+        flat l.digits ∙ ap (λ d. l.digits ++ (13 ∷ 10 ∷ (d ++ (13 ∷ 10 ∷ last)))) (sym none)
+            ∙ sym (line_text h.line l.digits (m.bytes ++ (13 ∷ 10 ∷ last)) l.cut) ∙ gave.2,
+      );
       joined = m.joined ∙ ap (λ d. x ++ d) none ∙ append-nil x;
     }
   where
@@ -207,9 +220,9 @@ chunk_last a b c d held mid rest last x y value h zero m end =
 pub taken_nothing : (max : ℕ) (known : Option (List ℕ)) (held : List ℕ) → AreTaken max known held known held []
 taken_nothing max known held = record { chunks = []; each = All-nil IsChunk; gave = gave_none known held; joined = refl; fits = omega arith }
 
-pub taken_more : (max : ℕ) (a b c : Option (List ℕ)) (held mid rest x y : List ℕ) → AreTaken max a held b mid x
-    → TakesChunk (max - length x) b mid x c rest y → AreTaken max a held c rest y
-taken_more max a b c held mid rest x y t h =
+pub taken_more : (max room : ℕ) (a b c : Option (List ℕ)) (held mid rest x y : List ℕ) → room ≡ max - length x → AreTaken max a held b mid x
+    → TakesChunk room b mid x c rest y → AreTaken max a held c rest y
+taken_more max room a b c held mid rest x y left t h =
     let fits = t.fits in
     let more = h.fits in
     let joined = ap length h.joined in
@@ -217,13 +230,16 @@ taken_more max a b c held mid rest x y t h =
     record {
       chunks = t.chunks ++ h.chunk ∷ [];
       each = All-append IsChunk t.chunks (h.chunk ∷ []) t.each (All-cons IsChunk h.chunk [] h.is_chunk (All-nil IsChunk));
-      gave = (gave.0, gave.1,
+      gave = (
+        gave.0,
+        gave.1,
         ap (λ s. s ++ rest) (flat_map-append print_chunk t.chunks (h.chunk ∷ []) ∙ ap (λ s. chunks_text t.chunks ++ s) (append-nil (print_chunk h.chunk)))
-        ∙ append_assoc (chunks_text t.chunks) (print_chunk h.chunk) rest ∙ gave.2);
+            ∙ append_assoc (chunks_text t.chunks) (print_chunk h.chunk) rest ∙ gave.2,
+      );
       joined = h.joined ∙ ap (λ s. s ++ h.chunk.data_bytes) t.joined
-        ∙ ap (λ s. chunks_data t.chunks ++ s) (sym (append-nil h.chunk.data_bytes))
-        ∙ sym (flat_map-append (λ c. c.data_bytes) t.chunks (h.chunk ∷ []));
-      fits = omega (arith, fits, more, joined, length-append x h.chunk.data_bytes);
+          ∙ ap (λ s. chunks_data t.chunks ++ s) (sym (append-nil h.chunk.data_bytes))
+          ∙ sym (flat_map-append (λ c. c.data_bytes) t.chunks (h.chunk ∷ []));
+      fits = omega (arith, fits, more, left, joined, length-append x h.chunk.data_bytes);
     }
 
 pub body_whole : (max : ℕ) (a b c : Option (List ℕ)) (held mid rest x y : List ℕ) → AreTaken max a held b mid x
@@ -243,56 +259,59 @@ body_whole max a b c held mid rest x y t h =
     }
 
 -- the room that is left, by the chunks
-room_left : (max : ℕ) (x : List ℕ) (chunks : List Chunk) → x ≡ chunks_data chunks → max - length x ≡ max - length (chunks_data chunks)
-room_left max x chunks same = ap (λ t. max - length t) same
+room_left : (max room : ℕ) (x : List ℕ) (chunks : List Chunk) → room ≡ max - length x → x ≡ chunks_data chunks → room ≡ max - length (chunks_data chunks)
+room_left max room x chunks left same = left ∙ ap (λ t. max - length t) same
 
 pub bad_after : (max : ℕ) (chunks : List Chunk) (text : List ℕ) (number : ℕ) → All IsChunk chunks → length (chunks_data chunks) ≤ max
     → IsBadBody (max - length (chunks_data chunks)) Chunked text number → IsBadBody max Chunked (chunks_text chunks ++ text) number
 bad_after max chunks text number each fits bad = elim bad [
-    inl b ↦ inl (b.0, over_after max chunks text each fits b.1)
+  | inl b ↦ inl (b.0, over_after max chunks text each fits b.1)
   | inr b ↦
       let broken = b.1 in
-      inr (b.0, record {
-        before = chunks_text chunks ++ broken.before;
-        byte = broken.byte;
-        rest = broken.rest;
-        cut = ap (λ t. chunks_text chunks ++ t) broken.cut ∙ sym (append_assoc (chunks_text chunks) broken.before (broken.byte ∷ broken.rest));
-        under = under_after max chunks broken.before each fits broken.under;
-        front = front_after chunks broken.before each broken.front;
-        never = subst NeverChunked (sym (append_assoc (chunks_text chunks) broken.before (broken.byte ∷ [])))
-          (never_after chunks (broken.before ++ broken.byte ∷ []) each broken.never);
-      })
+      inr (
+        b.0,
+        record {
+          before = chunks_text chunks ++ broken.before;
+          byte = broken.byte;
+          rest = broken.rest;
+          cut = ap (λ t. chunks_text chunks ++ t) broken.cut ∙ sym (append_assoc (chunks_text chunks) broken.before (broken.byte ∷ broken.rest));
+          under = under_after max chunks broken.before each fits broken.under;
+          front = front_after chunks broken.before each broken.front;
+          never = subst NeverChunked (sym (append_assoc (chunks_text chunks) broken.before (broken.byte ∷ [])))
+              (never_after chunks (broken.before ++ broken.byte ∷ []) each broken.never);
+        },
+      )
 ]
 
-pub body_refused : (max : ℕ) (a b c : Option (List ℕ)) (held mid x : List ℕ) (number : ℕ) → AreTaken max a held b mid x
-    → RefusesChunk (max - length x) b mid c number → RefusesBodyText max Chunked a held c number
-body_refused max a b c held mid x number t h =
+pub body_refused : (max room : ℕ) (a b c : Option (List ℕ)) (held mid x : List ℕ) (number : ℕ) → room ≡ max - length x → AreTaken max a held b mid x
+    → RefusesChunk room b mid c number → RefusesBodyText max Chunked a held c number
+body_refused max room a b c held mid x number left t h =
     let fits = t.fits in
     let same = ap length t.joined in
     record {
       text = chunks_text t.chunks ++ h.text;
       gave = gave_after a b c held (chunks_text t.chunks) mid h.text t.gave h.gave;
       bad = bad_after max t.chunks h.text number t.each (omega (arith, fits, same))
-        (subst (λ n. IsBadBody n Chunked h.text number) (room_left max x t.chunks t.joined) h.bad);
+          (subst (λ n. IsBadBody n Chunked h.text number) (room_left max room x t.chunks left t.joined) h.bad);
     }
 
-pub body_fault : (max : ℕ) (a b c : Option (List ℕ)) (held mid rest x y : List ℕ) (e : WireFault) → AreTaken max a held b mid x
-    → FindsChunk (max - length x) b mid x c rest y (Err e) → FindsBody max Chunked a held c rest (Err e)
-body_fault max a b c held mid rest x y Fault.Truncated t h =
+pub body_fault : (max room : ℕ) (a b c : Option (List ℕ)) (held mid rest x y : List ℕ) (e : WireFault) → room ≡ max - length x → AreTaken max a held b mid x
+    → FindsChunk room b mid x c rest y (Err e) → FindsBody max Chunked a held c rest (Err e)
+body_fault max room a b c held mid rest x y Fault.Truncated left t h =
     let fits = t.fits in
     let same = ap length t.joined in
-    let cut = subst (λ n. IsCutBody n Chunked h.text) (room_left max x t.chunks t.joined) h.cut in
+    let cut = subst (λ n. IsCutBody n Chunked h.text) (room_left max room x t.chunks left t.joined) h.cut in
     record {
       text = chunks_text t.chunks ++ h.text;
       gave = gave_after a b c held (chunks_text t.chunks) mid h.text t.gave h.gave;
       cut = (front_after t.chunks h.text t.each cut.0, under_after max t.chunks h.text t.each (omega (arith, fits, same)) cut.1);
       ended = h.ended;
     }
-body_fault max a b c held mid rest x y Fault.Read t h =
+body_fault max room a b c held mid rest x y Fault.Read left t h =
     record { text = chunks_text t.chunks ++ h.text; gave = gave_after a b c held (chunks_text t.chunks) mid h.text t.gave h.gave }
-body_fault max a b c held mid rest x y Fault.NoMemory t h =
+body_fault max room a b c held mid rest x y Fault.NoMemory left t h =
     record { text = chunks_text t.chunks ++ h.text; gave = gave_after a b c held (chunks_text t.chunks) mid h.text t.gave h.gave }
-body_fault max a b c held mid rest x y Fault.Ended t h = absurd h
+body_fault max room a b c held mid rest x y Fault.Ended left t h = absurd h
 
 -- ---- a body of a length
 

@@ -49,15 +49,15 @@ front_shorter a b f =
 pub front_data_end : (ds d x y : List ℕ) → IsSize ds → digits_value 16 ds ≡ length d → x ++ y ≡ 13 ∷ 10 ∷ [] → 0 < length y
     → IsFrontOfChunked (ds ++ (13 ∷ 10 ∷ (d ++ x)))
 front_data_end ds d x y is same end some = elim (cases_lt 0 (length d)) [
-    inl filled ↦
+  | inl filled ↦
       let c : Chunk = record { digits = ds; data_bytes = d } in
       let is_chunk : IsChunk c = record { size = is; some = filled; same = same } in
       record {
         more = y ++ (48 ∷ 13 ∷ 10 ∷ 13 ∷ 10 ∷ []);
         body = d ++ [];
         some = omega (arith, some, length-append y (48 ∷ 13 ∷ 10 ∷ 13 ∷ 10 ∷ []));
-        chunked = subst (λ t. IsChunked t (d ++ [])) (sym (joined (48 ∷ 13 ∷ 10 ∷ 13 ∷ 10 ∷ [])) )
-          (subst (λ t. IsChunked t (d ++ [])) (chunk_flat c (48 ∷ 13 ∷ 10 ∷ 13 ∷ 10 ∷ [])) (chunk_more c (48 ∷ 13 ∷ 10 ∷ 13 ∷ 10 ∷ []) [] is_chunk last_chunked));
+        chunked = subst (λ t. IsChunked t (d ++ [])) (sym (joined (48 ∷ 13 ∷ 10 ∷ 13 ∷ 10 ∷ [])))
+            (subst (λ t. IsChunked t (d ++ [])) (chunk_flat c (48 ∷ 13 ∷ 10 ∷ 13 ∷ 10 ∷ [])) (chunk_more c (48 ∷ 13 ∷ 10 ∷ 13 ∷ 10 ∷ []) [] is_chunk last_chunked));
       }
   | inr none ↦
       let empty : d ≡ [] = empty_of d (omega (arith, none)) in
@@ -78,6 +78,7 @@ front_data_end ds d x y is same end some = elim (cases_lt 0 (length d)) [
   where
     flat : (z : List ℕ) → (ds ++ (13 ∷ 10 ∷ (d ++ x))) ++ z ≡ ds ++ (13 ∷ 10 ∷ (d ++ (x ++ z)))
     flat z = simp append_assoc
+
     joined : (z : List ℕ) → (ds ++ (13 ∷ 10 ∷ (d ++ x))) ++ (y ++ z) ≡ ds ++ (13 ∷ 10 ∷ (d ++ (13 ∷ 10 ∷ z)))
     joined z = flat (y ++ z) ∙ ap (λ t. ds ++ (13 ∷ 10 ∷ (d ++ t))) (sym (append_assoc x y z) ∙ ap (λ t. t ++ z) end)
 

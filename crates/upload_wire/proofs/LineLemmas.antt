@@ -54,7 +54,7 @@ never_other front b count value d none_hex other more digits rest size e =
 -- a ninth digit
 pub never_ninth : (front : List ℕ) (b count value : ℕ) → AreDigits front count value → count ≡ 8 → (b ≡ 13 → ⊥) → NeverLine (front ++ b ∷ [])
 never_ninth front b count value d eight other more digits rest size e = elim (cases_Bool (is_ascii_hexdigit b)) [
-    inl hex ↦
+  | inl hex ↦
       let all : All IsHex (front ++ b ∷ []) = All-append IsHex front (b ∷ []) d.hex (All-cons IsHex b [] hex (All-nil IsHex)) in
       let under = digits_le (front ++ b ∷ []) digits more (10 ∷ rest) all e in
       let few = size.few in

@@ -7,6 +7,7 @@ use Rattle.std.specs.Io.KnownBytes.{Consumes, IsAtEnd}
 use Rattle.httparse.specs.Grammar.{RequestHead, print_request, ReadsRequest}
 use Rattle.httparse.specs.Spans.{span_bytes, header_bytes, name_and_value}
 use Rattle.upload_service.specs.declared.ask.Ask.{Ask}
+use Rattle.upload_service.specs.declared.ask.Extent.{Extent}
 use Rattle.upload_wire.specs.Fronts.{ReadsHead}
 use Rattle.upload_wire.specs.Fields.{Fields, head_fields, values_of, keeps_connection}
 use Rattle.upload_wire.specs.Body.{framing_of, head_framing, IsBodyText, IsBadBody, IsCutBody}
@@ -51,8 +52,14 @@ head_then text more p f =
     record {
       reads = (f.head.1.1.reads.0, ap (λ t. t ++ more) (front_printed text p f));
       short = omega (arith, len, short);
-      few = omega (arith, few, lengths, length-map (the_head f).fields name_and_value,
-        length-map (take p.spans.headers p.headers) (header_bytes (take p.spans.len text)), length-take p.spans.headers p.headers);
+      few = omega (
+        arith,
+        few,
+        lengths,
+        length-map (the_head f).fields name_and_value,
+        length-map (take p.spans.headers p.headers) (header_bytes (take p.spans.len text)),
+        length-take p.spans.headers p.headers,
+      );
     }
 
 -- what the fields of the spans frame, the head frames
@@ -73,11 +80,11 @@ asks_same text body p ask style f d =
     let h = the_head f in
     let front : List ℕ = take p.spans.len text in
     let range : extent_of (values_of (codes "content-range") (fields_of front p)) ≡ head_range h =
-      ap (λ fields. extent_of (values_of (codes "content-range") fields)) (fields_same text p f) in
+    ap (λ fields. extent_of (values_of (codes "content-range") fields)) (fields_same text p f) in
     let by_range : Asks (span_bytes front p.spans.method) (span_bytes front p.spans.path) (head_range h) ask =
-      subst (λ r. Asks (span_bytes front p.spans.method) (span_bytes front p.spans.path) r ask) range d.asks in
+    subst (λ r. Asks (span_bytes front p.spans.method) (span_bytes front p.spans.path) r ask) range d.asks in
     let by_target : Asks (span_bytes front p.spans.method) h.target (head_range h) ask =
-      subst (λ t. Asks (span_bytes front p.spans.method) t (head_range h) ask) f.head.1.1.path by_range in
+    subst (λ t. Asks (span_bytes front p.spans.method) t (head_range h) ask) f.head.1.1.path by_range in
     (ask, subst (λ m. Asks m h.target (head_range h) ask) f.head.1.1.method by_target, refl)
 
 style_same : (text : List ℕ) (p : ParsedHead) (ask : Ask) (style : Style) (f : IsHeadAtFront text p)
@@ -86,8 +93,8 @@ style_same text p ask style f d =
     let h = the_head f in
     let is_head : style.head ≡ bytes_eq h.method (codes "HEAD") = d.is_head ∙ ap (λ m. bytes_eq m (codes "HEAD")) f.head.1.1.method in
     let keeps : style.keep ≡ keeps_connection h.minor (head_fields h) =
-      d.keeps ∙ ap (λ n. keeps_connection n (fields_of (take p.spans.len text) p)) f.head.1.1.version
-      ∙ ap (keeps_connection h.minor) (fields_same text p f) in
+    d.keeps ∙ ap (λ n. keeps_connection n (fields_of (take p.spans.len text) p)) f.head.1.1.version
+    ∙ ap (keeps_connection h.minor) (fields_same text p f) in
     (λ i. record { head = is_head i; keep = keeps i })
 
 pub request_next : (max : ℕ) (old new : Option (List ℕ)) (held rest body : List ℕ) (p : ParsedHead) (framing : Framing) (ask : Ask) (style : Style)
@@ -149,14 +156,17 @@ pub fault_next : (max : ℕ) (old new : Option (List ℕ)) (held rest : List ℕ
 fault_next max old new held rest p framing Fault.Truncated f framed b = record {
   given = b.gave.0;
   consumed = b.gave.1;
-  found = (inr (record {
-    head = the_head f;
-    rest = b.text;
-    reads = subst (λ t. ReadsHead t (the_head f) b.text) (sym (whole_text held b.gave.0 b.text p.spans.len b.gave.2)) (head_then held b.text p f);
-    framing = framing;
-    framed = framing_same max held p (Ok framing) f framed;
-    short = b.cut;
-  }), b.ended);
+  found = (
+    inr (record {
+      head = the_head f;
+      rest = b.text;
+      reads = subst (λ t. ReadsHead t (the_head f) b.text) (sym (whole_text held b.gave.0 b.text p.spans.len b.gave.2)) (head_then held b.text p f);
+      framing = framing;
+      framed = framing_same max held p (Ok framing) f framed;
+      short = b.cut;
+    }),
+    b.ended,
+  );
 }
 fault_next max old new held rest p framing Fault.Read f framed b = record { given = b.gave.0; consumed = b.gave.1; found = tt }
 fault_next max old new held rest p framing Fault.NoMemory f framed b = record { given = b.gave.0; consumed = b.gave.1; found = tt }
@@ -173,4 +183,17 @@ reads_after max held text rest old mid new r gave next = record {
   given = gave.0 ++ next.given;
   consumed = consumes_both old mid new gave.0 next.given gave.1 next.consumed;
   found = subst (λ t. FindsNext max t rest new r) (ap (λ t. t ++ next.given) gave.2 ∙ append_assoc held gave.0 next.given) next.found;
+}
+
+pub described : (front : List ℕ) (p : ParsedHead) (ask : Ask) (style : Style) (method target : List ℕ) (range : Extent)
+    → method ≡ span_bytes front p.spans.method → target ≡ span_bytes front p.spans.path
+    → range ≡ extent_of (values_of (codes "content-range") (fields_of front p)) → Asks method target range ask
+    → style.head ≡ bytes_eq method (codes "HEAD") → style.keep ≡ keeps_connection p.spans.version (fields_of front p)
+    → Describes front p ask style
+described front p ask style method target range m t r asks is_head keeps = record {
+  asks = subst (λ x. Asks x (span_bytes front p.spans.path) (extent_of (values_of (codes "content-range") (fields_of front p))) ask) m
+      (subst (λ x. Asks method x (extent_of (values_of (codes "content-range") (fields_of front p))) ask) t
+      (subst (λ x. Asks method target x ask) r asks));
+  is_head = is_head ∙ ap (λ x. bytes_eq x (codes "HEAD")) m;
+  keeps = keeps;
 }

@@ -20,6 +20,7 @@ pub cut_at : (text : List ℕ) (i : ℕ) → i < length text → get_or text i 0
     → text ≡ take i text ++ 47 ∷ drop (i + 1) text
 cut_at text i lt same =
     sym (take-append-drop i text) ∙ ap (λ t. take i text ++ t) (drop-next text i lt ∙ ap (λ b. b ∷ drop (i + 1) text) same)
+
 pub no_slash_after : (text : List ℕ) (i : ℕ) → ((k : ℕ) → i ≤ k → k < length text → get_or text k 0 ≡ 47 → ⊥)
     → HasNoSlash (drop i text)
 no_slash_after text i none k lt same =
@@ -67,7 +68,7 @@ not_before_suffix text suffix front other e =
 
 pub after_found : (text prefix : List ℕ) (r : Option (Bor (List ℕ)))
     → MatchOption r (bytes_eq (take (length prefix) text) prefix ≡ false)
-      (λ x. (bytes_eq (take (length prefix) text) prefix ≡ true) × (x.now ≡ drop (length prefix) text) × (length x.now + length prefix ≡ length text))
+    (λ x. (bytes_eq (take (length prefix) text) prefix ≡ true) × (x.now ≡ drop (length prefix) text) × (length x.now + length prefix ≡ length text))
     → MatchOption r ((rest : List ℕ) → text ≢ prefix ++ rest) (λ x. text ≡ prefix ++ x.now)
 after_found text prefix None h = λ rest. not_after_prefix text prefix rest (λ e. not_both h ((bytes_eq-Decides _ _).1 e))
 after_found text prefix (Some x) h =
@@ -75,7 +76,7 @@ after_found text prefix (Some x) h =
 
 pub before_found : (text suffix : List ℕ) (r : Option (Bor (List ℕ)))
     → MatchOption r (bytes_eq (drop (length text - length suffix) text) suffix ≡ false)
-      (λ x. (bytes_eq (drop (length text - length suffix) text) suffix ≡ true) × (x.now ≡ take (length text - length suffix) text) × (length x.now + length suffix ≡ length text))
+    (λ x. (bytes_eq (drop (length text - length suffix) text) suffix ≡ true) × (x.now ≡ take (length text - length suffix) text) × (length x.now + length suffix ≡ length text))
     → MatchOption r ((front : List ℕ) → text ≢ front ++ suffix) (λ x. text ≡ x.now ++ suffix)
 before_found text suffix None h = λ front. not_before_suffix text suffix front (λ e. not_both h ((bytes_eq-Decides _ _).1 e))
 before_found text suffix (Some x) h =
@@ -92,12 +93,12 @@ pub no_form_with : (path rest front tail : List ℕ) → path ≡ 47 ∷ 118 ∷
 no_form_with path rest front tail p r none not_uploads not_blobs = (
   λ e. let same : rest ≡ [] = cc in let l = ap length (sym same ∙ r) in omega (arith, l, length-append front (47 ∷ tail)),
   λ name other clear e.
-    let same : rest ≡ name ++ (47 ∷ 98 ∷ 108 ∷ 111 ∷ 98 ∷ 115 ∷ 47 ∷ other) = cc in
-    not_blobs name (cut_unique front tail (name ++ (47 ∷ 98 ∷ 108 ∷ 111 ∷ 98 ∷ 115 ∷ [])) other none clear
+      let same : rest ≡ name ++ (47 ∷ 98 ∷ 108 ∷ 111 ∷ 98 ∷ 115 ∷ 47 ∷ other) = cc in
+      not_blobs name (cut_unique front tail (name ++ (47 ∷ 98 ∷ 108 ∷ 111 ∷ 98 ∷ 115 ∷ [])) other none clear
       (sym r ∙ same ∙ sym (append_assoc name (47 ∷ 98 ∷ 108 ∷ 111 ∷ 98 ∷ 115 ∷ []) (47 ∷ other)))).0,
   λ name other clear e.
-    let same : rest ≡ name ++ (47 ∷ 98 ∷ 108 ∷ 111 ∷ 98 ∷ 115 ∷ 47 ∷ 117 ∷ 112 ∷ 108 ∷ 111 ∷ 97 ∷ 100 ∷ 115 ∷ 47 ∷ other) = cc in
-    not_uploads name (cut_unique front tail (name ++ (47 ∷ 98 ∷ 108 ∷ 111 ∷ 98 ∷ 115 ∷ 47 ∷ 117 ∷ 112 ∷ 108 ∷ 111 ∷ 97 ∷ 100 ∷ 115 ∷ [])) other none clear
+      let same : rest ≡ name ++ (47 ∷ 98 ∷ 108 ∷ 111 ∷ 98 ∷ 115 ∷ 47 ∷ 117 ∷ 112 ∷ 108 ∷ 111 ∷ 97 ∷ 100 ∷ 115 ∷ 47 ∷ other) = cc in
+      not_uploads name (cut_unique front tail (name ++ (47 ∷ 98 ∷ 108 ∷ 111 ∷ 98 ∷ 115 ∷ 47 ∷ 117 ∷ 112 ∷ 108 ∷ 111 ∷ 97 ∷ 100 ∷ 115 ∷ [])) other none clear
       (sym r ∙ same ∙ sym (append_assoc name (47 ∷ 98 ∷ 108 ∷ 111 ∷ 98 ∷ 115 ∷ 47 ∷ 117 ∷ 112 ∷ 108 ∷ 111 ∷ 97 ∷ 100 ∷ 115 ∷ []) (47 ∷ other)))).0,
 )
 
@@ -106,9 +107,9 @@ pub no_form_without : (path rest : List ℕ) → path ≡ 47 ∷ 118 ∷ 50 ∷ 
 no_form_without path rest p some none = (
   λ e. let same : rest ≡ [] = cc in let l = ap length same in omega (arith, l, some),
   λ name other clear e.
-    let same : rest ≡ name ++ (47 ∷ 98 ∷ 108 ∷ 111 ∷ 98 ∷ 115 ∷ 47 ∷ other) = cc in
-    not_after rest name (98 ∷ 108 ∷ 111 ∷ 98 ∷ 115 ∷ 47 ∷ other) none same,
+      let same : rest ≡ name ++ (47 ∷ 98 ∷ 108 ∷ 111 ∷ 98 ∷ 115 ∷ 47 ∷ other) = cc in
+      not_after rest name (98 ∷ 108 ∷ 111 ∷ 98 ∷ 115 ∷ 47 ∷ other) none same,
   λ name other clear e.
-    let same : rest ≡ name ++ (47 ∷ 98 ∷ 108 ∷ 111 ∷ 98 ∷ 115 ∷ 47 ∷ 117 ∷ 112 ∷ 108 ∷ 111 ∷ 97 ∷ 100 ∷ 115 ∷ 47 ∷ other) = cc in
-    not_after rest name (98 ∷ 108 ∷ 111 ∷ 98 ∷ 115 ∷ 47 ∷ 117 ∷ 112 ∷ 108 ∷ 111 ∷ 97 ∷ 100 ∷ 115 ∷ 47 ∷ other) none same,
+      let same : rest ≡ name ++ (47 ∷ 98 ∷ 108 ∷ 111 ∷ 98 ∷ 115 ∷ 47 ∷ 117 ∷ 112 ∷ 108 ∷ 111 ∷ 97 ∷ 100 ∷ 115 ∷ 47 ∷ other) = cc in
+      not_after rest name (98 ∷ 108 ∷ 111 ∷ 98 ∷ 115 ∷ 47 ∷ 117 ∷ 112 ∷ 108 ∷ 111 ∷ 97 ∷ 100 ∷ 115 ∷ 47 ∷ other) none same,
 )

@@ -11,10 +11,6 @@ use Rattle.upload_wire.specs.declared.connection.ConnEnd.{ConnEnd}
 use Rattle.upload_wire.specs.declared.connection.ConnEnd.TheVariants.{Clean, AfterClose, AfterBad, TooMany, DeskGone, Fault}
 use Rattle.upload_wire.specs.declared.connection.ConnFault.TheVariants as Conn
 
--- the desk gave this answer
-abbrev pub Answered : {D : Type 0} → Moves D → Ask → D → D → Type 0
-Answered step ask old new = (answer : Answer) × step old ask (Some answer) new
-
 -- What was done with a request that came behind `count` others; None where the connection goes on.
 abbrev pub AnswersOne : {D : Type 0} → Moves D → ℕ → Ask → Style → D → D → Sink → Sink → Option ConnEnd → Type 0
 AnswersOne step count ask style old new mid after None =

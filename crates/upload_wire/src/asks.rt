@@ -135,12 +135,7 @@ fn post_ask(alloc: Global, name: RepoName, query: &[u8]) -> Result<Ask, AllocErr
 }
 
 /// A request for a repository's uploads.
-fn uploads_ask(
-    alloc: Global,
-    method: &[u8],
-    name: &[u8],
-    query: &[u8],
-) -> Result<Ask, AllocError>
+fn uploads_ask(alloc: Global, method: &[u8], name: &[u8], query: &[u8]) -> Result<Ask, AllocError>
     ensures { IfOk result (λ ask. (p : Parts) → p.method ≡ method.now → p.query ≡ query.now → ask ≡ uploads_ask (named name.now) p) }
 {
     let name = match name_of(alloc, name) {
@@ -248,12 +243,7 @@ fn ask_at(
 }
 
 /// What a request asks, with no body yet.
-pub fn ask_of(
-    alloc: Global,
-    method: &[u8],
-    target: &[u8],
-    range: Extent,
-) -> Result<Ask, AllocError>
+pub fn ask_of(alloc: Global, method: &[u8], target: &[u8], range: Extent) -> Result<Ask, AllocError>
     ensures { IfOk result (Asks method.now target.now range) }
 {
     match Uri::from_bytes(alloc, target) {

@@ -1,7 +1,8 @@
 //! HTTP/1.1 requests and replies of the blob-upload service, from bytes and to bytes.
 //!
 //! A request goes through `request`, which reads its head (`head`, `fields`), what it asks (`target`,
-//! `query`, `draft`) and its body (`framing`, `body`, `chunked`) out of one buffer (`buffer`).
+//! `query`, `draft`) and its body (`framing`, `body`, `chunked`) out of one buffer (`buffer`). `connection` asks
+//! a `desk`, and `reply` gathers the head of the reply and writes it with its body (`writing`).
 #![tactic(auto)]
 
 mod asks;

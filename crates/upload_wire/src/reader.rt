@@ -41,12 +41,12 @@ impl<S: ByteSource> Model for RequestReader<S> {
     ghost Value = { ReaderState };
 
     ghost view = { λ r. record {
-        held = r.buffer;
-        remaining = S.remaining r.source;
-        reads = S.reads r.source;
-        failed_reads = S.failed_reads r.source;
-        max_body = r.max_body;
-        phase = r.phase;
+      held = r.buffer;
+      remaining = S.remaining r.source;
+      reads = S.reads r.source;
+      failed_reads = S.failed_reads r.source;
+      max_body = r.max_body;
+      phase = r.phase;
     } };
 
     ghost invariant = { λ r. r.max_body ≤ 2 ^ 31 };
@@ -58,12 +58,12 @@ impl<S: ByteSource + Drop> RequestReader<S> {
     pub fn new(alloc: Global, source: S, limits: Limits) -> Result<RequestReader<S>, AllocError>
         requires { AreLawful limits }
         ensures { IfOk result (λ reader. reader ≡ record {
-            held = [];
-            remaining = S.remaining source;
-            reads = S.reads source;
-            failed_reads = S.failed_reads source;
-            max_body = limits.max_body;
-            phase = Phase.Ready;
+          held = [];
+          remaining = S.remaining source;
+          reads = S.reads source;
+          failed_reads = S.failed_reads source;
+          max_body = limits.max_body;
+          phase = Phase.Ready;
         }) }
     {
         let Ok(buffer) = ReadBuffer::new(alloc) else {
@@ -101,7 +101,12 @@ impl<S: ByteSource> RequestReader<S> {
             Phase::Ended => return Err(WireFault::Ended),
             Phase::Ready => {}
         }
-        let next = read_next(self.alloc, &mut self.source, &mut self.buffer, self.max_body);
+        let next = read_next(
+            self.alloc,
+            &mut self.source,
+            &mut self.buffer,
+            self.max_body,
+        );
         self.phase = match &next {
             Ok(Next::Request { ask: _, style: _ }) => Phase::Ready,
             Ok(Next::Over) => Phase::Over,
@@ -110,3 +115,6 @@ impl<S: ByteSource> RequestReader<S> {
         next
     }
 }
+
+#[cfg(test)]
+mod tests;

@@ -12,6 +12,6 @@ pub returns-in-Err-TooLong : goal.returns-in-Err-TooLong
 returns-in-Err-TooLong c =
     let is = c.in-Err-TooLong.is ∙ ap Err c.in-Err-TooLong.field-0-is in
     named_none c.args.text.now (λ name.
-      let long = (c.read.ensures.too_long.0 is).1 in
-      let short = name.short in
-      omega (arith, long, short))
+    let long = (c.read.ensures.too_long.0 is).1 in
+    let short = name.short in
+    omega (arith, long, short))

@@ -16,10 +16,10 @@ loop-left-preserved g c =
     record {
       within = omega (arith, within);
       moved = subst (λ n. Moved (g.S.ByteSource.remaining c.args.source.now) c.args.buffer.now c.args.body.now.items
-        (g.S.ByteSource.remaining c.read_part.new.source) c.read_part.new.buffer c.read_part.new.body.items n) done
-        (moved_both _ _ _ _ _ _ _ _ _ (count - left) part c.loop-left.invariant.moved found.0);
+          (g.S.ByteSource.remaining c.read_part.new.source) c.read_part.new.buffer c.read_part.new.body.items n) done
+          (moved_both _ _ _ _ _ _ _ _ _ (count - left) part c.loop-left.invariant.moved found.0);
       reads = λ low. let before = c.loop-left.invariant.reads (omega (arith, low, done)) in
-        let one = c.read_part.ensures.reads (omega (arith, low, before, done, some)) in omega (arith, one, before, done, some);
+          let one = c.read_part.ensures.reads (omega (arith, low, before, done, some)) in omega (arith, one, before, done, some);
       unfailed = c.in-Ok.ensures.unfailed (λ e. cc) ∙ c.loop-left.invariant.unfailed;
     }
 

@@ -7,7 +7,7 @@ abbrev pub invariant-loop-left : goal.invariant-loop-left
 invariant-loop-left g l = record {
   within : l.left ≤ l.fn.count;
   moved : Moved (g.S.ByteSource.remaining l.initial.source) l.initial.buffer l.initial.body.items
-    (g.S.ByteSource.remaining l.source) l.buffer l.body.items (l.fn.count - l.left);
+      (g.S.ByteSource.remaining l.source) l.buffer l.body.items (l.fn.count - l.left);
   reads : CountsAtMost (g.S.ByteSource.reads l.initial.source) (g.S.ByteSource.reads l.source) (l.fn.count - l.left);
   unfailed : g.S.ByteSource.failed_reads l.source ≡ g.S.ByteSource.failed_reads l.initial.source;
 }

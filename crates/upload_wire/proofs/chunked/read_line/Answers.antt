@@ -23,11 +23,11 @@ returns-in-Whole-clause-found g c =
     let stands : StandsAt (take at text) c.loop-at.state = subst (λ t. StandsAt t c.loop-at.state) (sym kept) c.loop-at.invariant.stands in
     let byte = get_or c.as_slice.result.now at 0 in
     let next : take (at + 1) text ≡ take at text ++ byte ∷ [] =
-      take-next text at there ∙ ap (λ t. take at text ++ get_or t at 0 ∷ []) (sym c.as_slice.ensures) in
+    take-next text at there ∙ ap (λ t. take at text ++ get_or t at 0 ∷ []) (sym c.as_slice.ensures) in
     subst (λ rest. TakesLine (g.S.ByteSource.remaining c.args.source.now) c.args.buffer.now (g.S.ByteSource.remaining c.has_byte.new.source) rest c.in-Whole.size)
     (sym c.consume.ensures)
     (line_taken _ _ c.args.buffer.now text (take at text) at byte c.in-Whole.size
-      (gave_both _ _ _ _ _ _ c.loop-at.invariant.gave c.has_byte.ensures.gave) next (c.in-Whole.ensures (take at text) stands))
+    (gave_both _ _ _ _ _ _ c.loop-at.invariant.gave c.has_byte.ensures.gave) next (c.in-Whole.ensures (take at text) stands))
 
 pub returns-in-Broken-clause-found : goal.returns-in-Broken-clause-found
 returns-in-Broken-clause-found g c =
@@ -38,7 +38,7 @@ returns-in-Broken-clause-found g c =
     let stands : StandsAt (take at text) c.loop-at.state = subst (λ t. StandsAt t c.loop-at.state) (sym kept) c.loop-at.invariant.stands in
     let byte = get_or c.as_slice.result.now at 0 in
     let next : take (at + 1) text ≡ take at text ++ byte ∷ [] =
-      take-next text at there ∙ ap (λ t. take at text ++ get_or t at 0 ∷ []) (sym c.as_slice.ensures) in
+    take-next text at there ∙ ap (λ t. take at text ++ get_or t at 0 ∷ []) (sym c.as_slice.ensures) in
     line_broken _ _ c.args.buffer.now text at byte c.loop-at.state
     (gave_both _ _ _ _ _ _ c.loop-at.invariant.gave c.has_byte.ensures.gave) next stands (c.in-Broken.ensures (take at text) stands)
 
@@ -51,12 +51,12 @@ loop-at-preserved g c =
     let stands : StandsAt (take at text) c.loop-at.state = subst (λ t. StandsAt t c.loop-at.state) (sym kept) c.loop-at.invariant.stands in
     let byte = get_or c.as_slice.result.now at 0 in
     let next : take (at + 1) text ≡ take at text ++ byte ∷ [] =
-      take-next text at there ∙ ap (λ t. take at text ++ get_or t at 0 ∷ []) (sym c.as_slice.ensures) in
+    take-next text at there ∙ ap (λ t. take at text ++ get_or t at 0 ∷ []) (sym c.as_slice.ensures) in
     record {
       gave = gave_both _ _ _ _ _ _ c.loop-at.invariant.gave c.has_byte.ensures.gave;
       within = omega (arith, there);
       stands = subst (λ t. StandsAt t c.in-More.next) (sym next) (c.in-More.ensures (take at text) stands);
       reads = λ low. let before = c.loop-at.invariant.reads (omega (arith, low)) in
-        let one = c.has_byte.ensures.reads (omega (arith, low, before)) in omega (arith, one, before);
+          let one = c.has_byte.ensures.reads (omega (arith, low, before)) in omega (arith, one, before);
       unfailed = c.in-Ok-true.ensures.unfailed (λ e. cc) ∙ c.loop-at.invariant.unfailed;
     }

@@ -1,0 +1,56 @@
+use Rattle.std.proofs.Common.{◌≡◌, ◌∙◌, arith, ◌-◌, ◌+◌, ◌*◌, ◌<◌, ◌≤◌, length, ap, sym, subst, refl, length-append}
+use Rattle.std.specs.Prelude.{Ok}
+use Rattle.upload_wire.specs.ChunkReading.{FindsChunk, TakesChunk}
+use Rattle.upload_wire.specs.ChunksRead.{AreTaken}
+use Rattle.upload_wire.proofs.ChunkReadLemmas.{taken_nothing, taken_more, body_whole, body_refused, body_fault}
+use Rattle.upload_wire.proofs.chunked.read_chunks.Goals as goal
+
+pub loop-chunk-init : goal.loop-chunk-init
+loop-chunk-init g c = record {
+  taken = subst (λ body. AreTaken c.args.max_body (g.S.ByteSource.remaining c.args.source.now) c.args.buffer.now (g.S.ByteSource.remaining c.args.source.now) c.args.buffer.now body)
+      (sym c.new-body.ensures.items) (taken_nothing c.args.max_body _ c.args.buffer.now);
+  filled = omega arith;
+  reads = λ _. omega arith;
+  unfailed = refl;
+}
+
+pub loop-chunk-preserved : goal.loop-chunk-preserved
+loop-chunk-preserved g c =
+    let h : TakesChunk (c.args.max_body - c.len.result) (g.S.ByteSource.remaining c.loop-chunk.source) c.loop-chunk.buffer c.loop-chunk.body.items
+    (g.S.ByteSource.remaining c.read_chunk.new.source) c.read_chunk.new.buffer c.read_chunk.new.body.items = subst (λ r. FindsChunk (c.args.max_body - c.len.result) (g.S.ByteSource.remaining c.loop-chunk.source) c.loop-chunk.buffer c.loop-chunk.body.items
+    (g.S.ByteSource.remaining c.read_chunk.new.source) c.read_chunk.new.buffer c.read_chunk.new.body.items (Ok r))
+    c.in-Ok-More.field-0-is c.in-Ok-More.ensures.found in
+    let taken = c.loop-chunk.invariant.taken in
+    let filled = c.loop-chunk.invariant.filled in
+    let some = h.is_chunk.some in
+    let grown : length c.read_chunk.new.body.items ≡ length c.loop-chunk.body.items + length h.chunk.data_bytes =
+    ap length h.joined ∙ length-append c.loop-chunk.body.items h.chunk.data_bytes in
+    record {
+      taken = taken_more c.args.max_body _ _ _ _ c.args.buffer.now c.loop-chunk.buffer c.read_chunk.new.buffer c.loop-chunk.body.items c.read_chunk.new.body.items
+          (omega arith) taken h;
+      filled = omega (arith, filled, some, grown);
+      reads = λ low. let before = c.loop-chunk.invariant.reads (omega (arith, low, grown)) in
+          let one = c.in-Ok-More.ensures.few (ap Ok c.in-Ok-More.field-0-is) (omega (arith, low, before, grown, some)) in omega (arith, one, before, grown, some);
+      unfailed = c.in-Ok-More.ensures.unfailed (λ e. cc) ∙ c.loop-chunk.invariant.unfailed;
+    }
+
+pub returns-in-Ok-Last-clause-found : goal.returns-in-Ok-Last-clause-found
+returns-in-Ok-Last-clause-found g c =
+    let found = subst (λ r. FindsChunk (c.args.max_body - c.len.result) (g.S.ByteSource.remaining c.loop-chunk.source) c.loop-chunk.buffer c.loop-chunk.body.items
+    (g.S.ByteSource.remaining c.read_chunk.new.source) c.read_chunk.new.buffer c.read_chunk.new.body.items (Ok r))
+    c.in-Ok-Last.field-0-is c.in-Ok-Last.ensures.found in
+    body_whole c.args.max_body _ _ _ c.args.buffer.now c.loop-chunk.buffer c.read_chunk.new.buffer c.loop-chunk.body.items c.read_chunk.new.body.items
+    c.loop-chunk.invariant.taken found
+
+pub returns-in-Ok-Refused-clause-found : goal.returns-in-Ok-Refused-clause-found
+returns-in-Ok-Refused-clause-found g c =
+    let found = subst (λ r. FindsChunk (c.args.max_body - c.len.result) (g.S.ByteSource.remaining c.loop-chunk.source) c.loop-chunk.buffer c.loop-chunk.body.items
+    (g.S.ByteSource.remaining c.read_chunk.new.source) c.read_chunk.new.buffer c.read_chunk.new.body.items (Ok r))
+    c.in-Ok-Refused.field-0-is c.in-Ok-Refused.ensures.found in
+    body_refused c.args.max_body _ _ _ _ c.args.buffer.now c.loop-chunk.buffer c.loop-chunk.body.items c.in-Ok-Refused.number
+    (omega arith) c.loop-chunk.invariant.taken found
+
+pub returns-in-Err-clause-found : goal.returns-in-Err-clause-found
+returns-in-Err-clause-found g c =
+    body_fault c.args.max_body _ _ _ _ c.args.buffer.now c.loop-chunk.buffer c.read_chunk.new.buffer c.loop-chunk.body.items c.read_chunk.new.body.items
+    c.in-Err.fault (omega arith) c.loop-chunk.invariant.taken c.in-Err.ensures.found
