@@ -1,0 +1,5 @@
+pub mod Cases
+pub mod AsksLeft
+pub mod Count
+pub mod Sound
+pub mod Underway

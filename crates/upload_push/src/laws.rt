@@ -1,0 +1,17 @@
+// What is true of every push.
+ghost use Rattle.std.specs.Prelude.{◌≡◌, ◌≤◌, List, Option, length};
+ghost use Rattle.upload_push.specs.declared.standin.Heard.{Heard};
+ghost use Rattle.upload_push.specs.Slices.{Push, IsLawfulPush, IsSound, IsClose, IsHead, EndsWith, after_all, log_of, most_asks};
+
+use crate::pusher::{Outcome, Phase};
+
+/// Whatever is heard: each request is sound, a push ends well only after the reply that says so, and it makes no more
+/// requests than (tries + 1) * (chunks of the file + 2).
+pub fn every_push()
+    ensures sound { (p : Push) (heard : List (Option Heard)) → IsLawfulPush p → IsSound p (log_of p heard) }
+    ensures pushed { (p : Push) (heard : List (Option Heard)) → (after_all p heard).phase ≡ Phase.Done Outcome.Pushed
+        → EndsWith IsClose 201 (log_of p heard) }
+    ensures already { (p : Push) (heard : List (Option Heard)) → (after_all p heard).phase ≡ Phase.Done Outcome.Already
+        → EndsWith IsHead 200 (log_of p heard) }
+    ensures count { (p : Push) (heard : List (Option Heard)) → IsLawfulPush p → length (log_of p heard) ≤ most_asks p }
+{}
