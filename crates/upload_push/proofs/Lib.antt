@@ -3,3 +3,4 @@ pub mod AsksLeft
 pub mod Count
 pub mod Sound
 pub mod Underway
+pub mod Events

@@ -6,10 +6,10 @@ use Rattle.upload_push.specs.Steps.{Plan, Stand, PushState, IsLawfulPlan, turn, 
 use Rattle.upload_push.specs.Slices.{Push, IsLawfulPush, Exchange, after_all, log_of, logged, plan_of, request, request_of, Leads, IsPush, IsEnd}
 use Rattle.upload_push.proofs.AsksLeft.{asks_left}
 use Rattle.upload_push.specs.declared.standin.Heard.{Heard}
-use Rattle.upload_service.specs.declared.Ask.{Ask}
+use Rattle.upload_service.specs.declared.ask.Ask.{Ask}
 use Rattle.upload_push.specs.declared.pusher.PushAsk.{PushAsk}
 use Rattle.upload_push.specs.declared.pusher.Outcome.{Outcome}
-use Rattle.upload_names.specs.Names.{Digest}
+use Rattle.upload_names.specs.Digest.{Digest}
 use Rattle.upload_push.specs.declared.pusher.Why.{Why}
 use Rattle.upload_push.specs.declared.pusher.PushStep.{PushStep}
 use Rattle.upload_push.specs.declared.pusher.PushStep.TheVariants as steps

@@ -1,3 +1,5 @@
 pub mod Wire
 pub mod Steps
 pub mod Slices
+pub mod World
+pub mod Codes

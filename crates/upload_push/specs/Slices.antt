@@ -1,11 +1,12 @@
 -- Whole pushes: the list of what was asked and heard, the newest first, and what is true of each such list.
 use Rattle.std.specs.Prelude.{Result, Ok, Err, ◌≡◌, ℕ, ◌+◌, ◌-◌, ◌*◌, ◌/◌, ◌^◌, ◌<◌, ◌≤◌, Bool, true, ◌==◌, if◌then◌else◌, List, [], ◌∷◌, length, slice_range, Option, Some, None}
-use Rattle.upload_names.specs.Names.{Digest, Span, digest_of}
-use Rattle.upload_names.specs.declared.Algorithm.{Algorithm}
-use Rattle.upload_service.specs.declared.Extent.{Extent}
-use Rattle.upload_service.specs.declared.Extent.TheVariants.{Absent, Given}
-use Rattle.upload_service.specs.declared.Ask.{Ask}
-use Rattle.upload_service.specs.declared.Ask.TheVariants.{Has, Opening, Chunk, Status, Close}
+use Rattle.upload_names.specs.Digest.{Digest, content_digest}
+use Rattle.upload_names.specs.ByteRange.{Span}
+use Rattle.upload_names.specs.declared.digest.Algorithm.{Algorithm}
+use Rattle.upload_service.specs.declared.ask.Extent.{Extent}
+use Rattle.upload_service.specs.declared.ask.Extent.TheVariants.{Absent, Given}
+use Rattle.upload_service.specs.declared.ask.Ask.{Ask}
+use Rattle.upload_service.specs.declared.ask.Ask.TheVariants.{Has, Opening, Chunk, Status, Close}
 use Rattle.upload_push.specs.Steps.{Plan, Stand, turn, ask_at, count_to, place_of}
 use Rattle.upload_push.specs.declared.standin.Heard.{Heard}
 use Rattle.upload_push.specs.declared.pusher.PushAsk.{PushAsk}
@@ -27,7 +28,7 @@ pub record Push : Type 0 where
 -- the push of a file under a name and under its digest by an algorithm
 abbrev pub push_of : Algorithm → List ℕ → List ℕ → ℕ → ℕ → Push
 push_of algorithm name file chunk tries =
-    record { name = name; digest = digest_of algorithm file; file = file; chunk = chunk; tries = tries }
+    record { name = name; digest = content_digest algorithm file; file = file; chunk = chunk; tries = tries }
 
 -- at most 2^40 bytes, in chunks of 1 to 2^31 bytes
 pub record IsLawfulPush (p : Push) : Type 0 where

@@ -1,6 +1,7 @@
 -- The table of a push's steps: where it stands, what it asks there, and where a reply leads.
 use Rattle.std.specs.Prelude.{◌≡◌, ℕ, ◌+◌, ◌-◌, ◌^◌, ◌<◌, ◌≤◌, min, ◌==◌, nat_le, nat_lt, if◌then◌else◌, List, Option, Some, None}
-use Rattle.upload_names.specs.Names.{Digest, Span}
+use Rattle.upload_names.specs.Digest.{Digest}
+use Rattle.upload_names.specs.ByteRange.{Span}
 use Rattle.upload_push.specs.Wire.{place_in}
 use Rattle.upload_push.specs.declared.standin.Heard.{Heard}
 use Rattle.upload_push.specs.declared.pusher.Outcome.{Outcome}

@@ -1,14 +1,14 @@
 -- A stand-in for the definitions of the client half of the wire.
 use Rattle.std.specs.Prelude.{◌≡◌, ◌≢◌, zero, suc, ℕ, ◌<◌, ◌==◌, List, [], ◌∷◌, length, Option, Some, None, if◌then◌else◌}
-use Rattle.upload_names.specs.Names.{Digest}
-use Rattle.upload_service.specs.declared.Extent.{Extent}
-use Rattle.upload_service.specs.declared.Extent.TheVariants.{Bad}
-use Rattle.upload_service.specs.declared.Refusal.{Refusal}
-use Rattle.upload_service.specs.declared.Refusal.TheVariants as refusals
-use Rattle.upload_service.specs.declared.Ask.{Ask}
-use Rattle.upload_service.specs.declared.Ask.TheVariants as asks
-use Rattle.upload_service.specs.declared.Answer.{Answer}
-use Rattle.upload_service.specs.declared.Answer.TheVariants as answers
+use Rattle.upload_names.specs.Digest.{Digest}
+use Rattle.upload_service.specs.declared.ask.Extent.{Extent}
+use Rattle.upload_service.specs.declared.ask.Extent.TheVariants.{Bad}
+use Rattle.upload_service.specs.declared.answer.Refusal.{Refusal}
+use Rattle.upload_service.specs.declared.answer.Refusal.TheVariants as refusals
+use Rattle.upload_service.specs.declared.ask.Ask.{Ask}
+use Rattle.upload_service.specs.declared.ask.Ask.TheVariants as asks
+use Rattle.upload_service.specs.declared.answer.Answer.{Answer}
+use Rattle.upload_service.specs.declared.answer.Answer.TheVariants as answers
 use Rattle.upload_push.specs.declared.standin.Heard.{Heard}
 
 abbrev pub upload_path : List ℕ → List ℕ → List ℕ

@@ -9,8 +9,10 @@ mod laws;
 mod pusher;
 mod pushing;
 mod standin;
+mod world;
 
 pub use laws::every_push;
 pub use pusher::{Outcome, PushAsk, PushStep, Pusher, Why};
 pub use pushing::{PushFault, push, push_with};
 pub use standin::{Heard, Transport};
+pub use world::{Event, LossyWorld};

@@ -1,6 +1,6 @@
 // A push over any transport.
 ghost use Rattle.std.specs.Prelude.{◌≡◌, ◌≤◌, ◌^◌, IfOk, length};
-ghost use Rattle.upload_names.specs.declared.Algorithm.{Algorithm};
+ghost use Rattle.upload_names.specs.declared.digest.Algorithm.{Algorithm};
 ghost use Rattle.upload_push.specs.Wire.{CanBeWritten};
 ghost use Rattle.upload_push.specs.Steps.{IsAskWithin};
 ghost use Rattle.upload_push.specs.Slices.{IsPush, push_of, request_of};

@@ -18,7 +18,7 @@ pub struct Heard {
 /// Where requests go, and replies may come from.
 pub trait Transport {
     ghost use Rattle.std.specs.Prelude.{Option};
-    ghost use Rattle.upload_service.specs.declared.Ask.{Ask};
+    ghost use Rattle.upload_service.specs.declared.ask.Ask.{Ask};
     ghost use Rattle.upload_push.specs.declared.standin.Heard.{Heard};
 
     /// What a request may do: the state before it, the request, what is heard, the state after it.
