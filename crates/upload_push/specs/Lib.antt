@@ -3,3 +3,4 @@ pub mod Steps
 pub mod Slices
 pub mod World
 pub mod Codes
+pub mod Promise

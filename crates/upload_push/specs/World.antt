@@ -74,7 +74,7 @@ Meets fates.NotDelivered w ask heard new = (heard ≡ None) × (new ≡ w)
 -- twelve bytes
 pub record IsSecret (secret : List ℕ) : Type 0 where
   pub twelve : length secret ≡ 12
-  pub bytes : All (λ b. b < 2 ^ 8) secret
+  pub bytes : All (λ b. b < 256) secret
 
 -- a lawful service, and a secret of twelve bytes
 pub record IsLawfulWorld (w : World) : Type 0 where

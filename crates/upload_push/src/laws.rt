@@ -1,9 +1,12 @@
 // What is true of every push.
 ghost use Rattle.std.specs.Prelude.{◌≡◌, ◌≤◌, List, Option, length};
 ghost use Rattle.upload_push.specs.declared.standin.Heard.{Heard};
+ghost use Rattle.upload_push.specs.Promise.{PushPromise};
 ghost use Rattle.upload_push.specs.Slices.{Push, IsLawfulPush, IsSound, IsClose, IsHead, EndsWith, after_all, log_of, most_asks};
 
 use crate::pusher::{Outcome, Phase};
+use crate::standin::places_read_back;
+use upload_service::{headline_holds, others_leave_a_session};
 
 /// Whatever is heard: each request is sound, a push ends well only after the reply that says so, and it makes no more
 /// requests than (tries + 1) * (chunks of the file + 2).
@@ -15,3 +18,14 @@ pub fn every_push()
         → EndsWith IsHead 200 (log_of p heard) }
     ensures count { (p : Push) (heard : List (Option Heard)) → IsLawfulPush p → length (log_of p heard) ≤ most_asks p }
 {}
+
+/// The promise of a push: over a lossy world with any events, beside any clients, a push that ends `Pushed` or `Already` left
+/// or found the repository with its digest, and the bytes that stand under it have that digest. Where no other client's
+/// request carried the reference that the pusher had heard, a push that ends `Pushed` left exactly the file there.
+pub fn push_promise()
+    ensures { PushPromise }
+{
+    headline_holds();
+    others_leave_a_session();
+    places_read_back();
+}

@@ -11,7 +11,7 @@ mod pushing;
 mod standin;
 mod world;
 
-pub use laws::every_push;
+pub use laws::{every_push, push_promise};
 pub use pusher::{Outcome, PushAsk, PushStep, Pusher, Why};
 pub use pushing::{PushFault, push, push_with};
 pub use standin::{Heard, Transport};

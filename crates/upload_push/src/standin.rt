@@ -1,6 +1,6 @@
 // A stand-in for the client half of the wire.
-ghost use Rattle.std.specs.Prelude.{◌≡◌, IfOk};
-ghost use Rattle.upload_push.specs.Wire.{reply_heard, place_in, last_below, status_of, CanBeWritten};
+ghost use Rattle.std.specs.Prelude.{◌≡◌, ◌<◌, ℕ, List, All, length, Some, IfOk};
+ghost use Rattle.upload_push.specs.Wire.{reply_heard, place_in, last_below, status_of, upload_path, CanBeWritten};
 
 use std::alloc::{AllocError, Global};
 use upload_names::{BlobDigest, Bytes, RepoName, UploadRef};
@@ -104,3 +104,8 @@ pub fn heard_of(alloc: Global, answer: &Answer) -> Result<Heard, AllocError>
         Answer::NoMemory => Ok(plain(503)),
     }
 }
+
+/// What is written as an upload's place is read as its reference.
+pub fn places_read_back()
+    ensures { (name at : List ℕ) → length at ≡ 16 → All (λ b. b < 256) at → place_in (upload_path name at) name ≡ Some at }
+{}
