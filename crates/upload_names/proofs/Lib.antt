@@ -1,0 +1,5 @@
+pub mod NameFacts
+pub mod DigestFacts
+pub mod RangeFacts
+pub mod ReferenceFacts
+pub mod TextFacts

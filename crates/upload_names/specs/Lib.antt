@@ -1,0 +1,6 @@
+pub mod Name
+pub mod NamePass
+pub mod Digest
+pub mod Sum
+pub mod ByteRange
+pub mod Reference

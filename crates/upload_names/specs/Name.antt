@@ -1,0 +1,62 @@
+-- The names of repositories (OCI Distribution Specification 1.1, section "Pulling manifests", `<name>`).
+use Rattle.std.specs.Prelude.{◌≡◌, ℕ, ◌+◌, ◌<◌, ◌≤◌, ◌||◌, ◌&&◌, nat_le, Bool, List, ◌∷◌, ◌++◌, length, codes, flat_map, All, replicate, ◌⊎◌, IsTrue}
+use Rattle.std.specs.List.{list_all}
+
+-- the letters `a` to `z` and the digits
+abbrev pub is_word_byte : ℕ → Bool
+is_word_byte c = (nat_le 97 c && nat_le c 122) || (nat_le 48 c && nat_le c 57)
+
+abbrev pub hyphen : ℕ
+hyphen = 45
+
+abbrev pub slash : ℕ
+slash = 47
+
+-- one or more letters and digits
+pub record IsWord (text : List ℕ) : Type 0 where
+  pub filled : 0 < length text
+  pub bytes : IsTrue (list_all is_word_byte text)
+
+-- a dot, an underscore, two underscores, or one or more hyphens
+abbrev pub IsSeparator : List ℕ → Type 0
+IsSeparator text =
+    (text ≡ codes ".") ⊎ ((text ≡ codes "_") ⊎ ((text ≡ codes "__") ⊎ ((more : ℕ) × (text ≡ replicate (more + 1) hyphen))))
+
+-- a separator and the word behind it
+pub record Joint : Type 0 where
+  pub separator : List ℕ
+  pub word : List ℕ
+
+abbrev pub IsJoint : Joint → Type 0
+IsJoint joint = IsSeparator joint.separator × IsWord joint.word
+
+abbrev pub joint_text : Joint → List ℕ
+joint_text joint = joint.separator ++ joint.word
+
+-- a component: a word, and then any number of times a separator and a word
+pub record IsComponent (text : List ℕ) : Type 0 where
+  pub first : List ℕ
+  pub joints : List Joint
+  pub is_word : IsWord first
+  pub are_joints : All IsJoint joints
+  pub cut : text ≡ first ++ flat_map joint_text joints
+
+abbrev pub behind_slash : List ℕ → List ℕ
+behind_slash component = slash ∷ component
+
+-- a text of the grammar: one or more components, with a slash between each two
+pub record IsInGrammar (text : List ℕ) : Type 0 where
+  pub first : List ℕ
+  pub others : List (List ℕ)
+  pub is_component : IsComponent first
+  pub are_components : All IsComponent others
+  pub cut : text ≡ first ++ flat_map behind_slash others
+
+-- the most bytes that a name may have
+abbrev pub longest_name : ℕ
+longest_name = 255
+
+-- A name: a text of the grammar that isn't too long.
+pub record IsName (text : List ℕ) : Type 0 where
+  pub in_grammar : IsInGrammar text
+  pub short : length text ≤ longest_name

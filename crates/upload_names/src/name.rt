@@ -1,0 +1,138 @@
+//! Names of repositories.
+ghost use Rattle.std.specs.Prelude.{◌≡◌, ◌↔◌, ◌<◌, List, ℕ, length, IsTrue, IfOk, OnOk, nat_eq, refl, Some, Ok, Err};
+ghost use Rattle.std.specs.Ordering.{nat_cmp};
+ghost use Rattle.std.specs.Cmp.Lexicographic.{pointwise, slice_cmp, nat_list_eq_equiv, nat_list_cmp_total, texts_ties, texts_po};
+ghost use Rattle.std.specs.Cmp.{partial_equiv_from_equiv};
+ghost use Rattle.upload_names.specs.Name.{IsInGrammar, IsName, longest_name};
+ghost use Rattle.upload_names.specs.NamePass.{is_in_grammar, is_name};
+
+use crate::grammar::is_in_grammar;
+use std::alloc::{AllocError, Global};
+use std::cmp::Ordering;
+use std::marker::Model;
+
+/// The most bytes that a name may have.
+const LONGEST_NAME: usize = 255;
+
+/// Why a text isn't read as a name. Where several causes apply, the first in this order is answered.
+#[derive(Clone, Copy, Debug, PartialEq, Eq)]
+pub enum NameFault {
+    /// The text isn't of the grammar of names.
+    NotAName,
+    /// The text is of the grammar and has more than 255 bytes.
+    TooLong,
+    /// The text is a name, and there was no memory to keep it.
+    NoMemory,
+}
+
+/// The name of a repository (OCI Distribution Specification 1.1, section "Pulling manifests", `<name>`), of at
+/// most 255 bytes. It is seen as its text's bytes.
+#[derive(Drop)]
+pub struct RepoName {
+    text: String,
+}
+
+impl Model for RepoName {
+    ghost use Rattle.std.specs.Prelude.{List, ℕ, IsTrue, string_bytes};
+    ghost use Rattle.upload_names.specs.NamePass.{is_name};
+
+    ghost Value = { List ℕ };
+
+    ghost view = { λ a. string_bytes a.text };
+
+    ghost invariant = { λ a. IsTrue (is_name (string_bytes a.text)) };
+}
+
+impl PartialEq for RepoName {
+    ghost eq = { pointwise nat_eq };
+
+    ghost laws = { partial_equiv_from_equiv nat_list_eq_equiv };
+
+    fn eq(&self, other: &Self) -> bool {
+        self.text.as_bytes() == other.text.as_bytes()
+    }
+}
+
+impl Eq for RepoName {
+    ghost laws = { nat_list_eq_equiv };
+}
+
+impl PartialOrd for RepoName {
+    ghost partial_cmp = { λ x y. Some (slice_cmp nat_cmp x y) };
+
+    ghost laws = { texts_po };
+
+    fn partial_cmp(&self, other: &Self) -> Option<Ordering> {
+        Some(self.cmp(other))
+    }
+}
+
+impl Ord for RepoName {
+    ghost cmp = { slice_cmp nat_cmp };
+
+    ghost total = { nat_list_cmp_total };
+
+    ghost matches_partial_cmp = { λ x y. refl };
+
+    ghost matches_eq = { texts_ties };
+
+    fn cmp(&self, other: &Self) -> Ordering {
+        self.text.as_bytes().cmp(other.text.as_bytes())
+    }
+}
+
+impl RepoName {
+    /// Reads a name. `NotAName` comes exactly for a text outside the grammar, `TooLong` exactly for one of the
+    /// grammar with over 255 bytes, and `NoMemory` only for a name.
+    pub fn read(alloc: Global, text: &[u8]) -> Result<RepoName, NameFault>
+        ensures value { IfOk result (λ name. name ≡ text.now) }
+        ensures named { OnOk result (IsName text.now) }
+
+        ensures not_a_name { (result ≡ Err NameFault.NotAName) ↔ ¬ (IsInGrammar text.now) }
+        ensures too_long { (result ≡ Err NameFault.TooLong) ↔ (IsInGrammar text.now × (longest_name < length text.now)) }
+        ensures no_memory { result ≡ Err NameFault.NoMemory → IsName text.now }
+    {
+        if !is_in_grammar(text) {
+            return Err(NameFault::NotAName);
+        }
+        if text.len() > LONGEST_NAME {
+            return Err(NameFault::TooLong);
+        }
+        let Ok(text) = str::from_utf8(text) else {
+            return Err(NameFault::NotAName);
+        };
+        match String::from_str(alloc, text) {
+            Ok(text) => Ok(RepoName { text }),
+            Err(_) => Err(NameFault::NoMemory),
+        }
+    }
+
+    pub fn as_str(&self) -> &str
+        ensures text { result.now ≡ self.now }
+        ensures named { IsName self.now }
+    {
+        self.text.as_str()
+    }
+
+    /// Whether both are the same name.
+    pub fn same(&self, other: &RepoName) -> bool
+        ensures { IsTrue result ↔ (self.now ≡ other.now) }
+    {
+        self.text.as_bytes() == other.text.as_bytes()
+    }
+
+    /// An equal name.
+    pub fn copy(&self, alloc: Global) -> Result<RepoName, AllocError>
+        ensures { IfOk result (λ name. name ≡ self.now) }
+    {
+        let text = String::from_str(alloc, self.text.as_str())?;
+        Ok(RepoName { text })
+    }
+}
+
+/// The law that the tests of `specs/NamePass.antt` decide the definitions: a text is of the grammar, or a name,
+/// exactly where the computed test is true.
+pub fn names_are_decided()
+    ensures grammar { (text : List ℕ) → IsTrue (is_in_grammar text) ↔ IsInGrammar text }
+    ensures names { (text : List ℕ) → IsTrue (is_name text) ↔ IsName text }
+{}
