@@ -1,6 +1,7 @@
 -- A stand-in for the definitions of the client half of the wire.
 use Rattle.std.specs.Prelude.{◌≡◌, ◌≢◌, zero, suc, ℕ, ◌<◌, ◌==◌, List, [], ◌∷◌, length, Option, Some, None, if◌then◌else◌}
 use Rattle.upload_names.specs.Digest.{Digest}
+use Rattle.upload_names.specs.Reference.{reference_text, reference_of}
 use Rattle.upload_service.specs.declared.ask.Extent.{Extent}
 use Rattle.upload_service.specs.declared.ask.Extent.TheVariants.{Bad}
 use Rattle.upload_service.specs.declared.answer.Refusal.{Refusal}
@@ -12,10 +13,10 @@ use Rattle.upload_service.specs.declared.answer.Answer.TheVariants as answers
 use Rattle.upload_push.specs.declared.standin.Heard.{Heard}
 
 abbrev pub upload_path : List ℕ → List ℕ → List ℕ
-upload_path name at = at
+upload_path name at = reference_text at
 
 abbrev pub place_in : List ℕ → List ℕ → Option (List ℕ)
-place_in path name = if length path == 16 then Some path else None
+place_in path name = reference_of path
 
 abbrev pub last_below : ℕ → Option ℕ
 last_below next = elim next [ zero ↦ None | suc n ↦ Some n ]

@@ -1,9 +1,10 @@
 // A stand-in for the client half of the wire.
 ghost use Rattle.std.specs.Prelude.{◌≡◌, ◌<◌, ℕ, List, All, length, Some, IfOk};
+ghost use Rattle.upload_names.specs.Reference.{reference_text};
 ghost use Rattle.upload_push.specs.Wire.{reply_heard, place_in, last_below, status_of, upload_path, CanBeWritten};
 
 use std::alloc::{AllocError, Global};
-use upload_names::{BlobDigest, Bytes, RepoName, UploadRef};
+use upload_names::{Bytes, RepoName, UploadRef, references_read_back};
 use upload_service::{Answer, Ask, Refusal};
 
 /// A reply.
@@ -32,12 +33,7 @@ pub trait Transport {
 pub fn read_place(path: &[u8], _name: &RepoName) -> Option<UploadRef>
     ensures { result ≡ place_in path.now _name.now }
 {
-    if path.len() != 16 {
-        return None;
-    }
-    let mut bytes = [0u8; 16];
-    bytes.copy_from_slice(path);
-    Some(UploadRef::of_bytes(bytes))
+    UploadRef::read(path)
 }
 
 fn status_of(refusal: &Refusal) -> u16
@@ -64,11 +60,11 @@ fn last_below(next: u64) -> Option<u64>
 }
 
 fn upload(alloc: Global, status: u16, at: &UploadRef, next: u64) -> Result<Heard, AllocError>
-    ensures { IfOk result (λ heard. heard ≡ record { status = status; place = Some at.now; upto = last_below next; code = None }) }
+    ensures { IfOk result (λ heard. heard ≡ record { status = status; place = Some (reference_text at.now); upto = last_below next; code = None }) }
 {
     Ok(Heard {
         status,
-        place: Some(Bytes::of(Vec::from_slice(alloc, &at.to_bytes())?)),
+        place: Some(Bytes::of(Vec::from_slice(alloc, &at.text())?)),
         upto: last_below(next),
         code: None,
     })
