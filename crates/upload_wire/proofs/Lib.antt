@@ -1,0 +1,12 @@
+pub mod BufferLemmas
+pub mod GaveLemmas
+pub mod HeadLemmas
+pub mod ElementLemmas
+pub mod FieldLemmas
+pub mod DigestTexts
+pub mod ReplyLemmas
+pub mod WritingLemmas
+pub mod FrontLemmas
+pub mod PlaceLemmas
+pub mod GatherLemmas
+pub mod AskLemmas
