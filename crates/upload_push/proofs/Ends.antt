@@ -11,7 +11,7 @@ use Rattle.upload_service.specs.declared.answer.Answer.{Answer}
 use Rattle.upload_service.specs.declared.answer.Answer.TheVariants as answers
 use Rattle.upload_service.specs.declared.answer.Refusal.TheVariants as refusals
 use Rattle.upload_service.specs.Machine.{same_digest, Session, State, Outcome, Replies, Commits, state_after, size_fault, unless_fault, checked, blob_reply, holds, outcome, Comes, Turn, IsLawful}
-use Rattle.upload_push.specs.Wire.{reply_heard}
+use Rattle.upload_wire.specs.Heard.{reply_heard}
 use Rattle.upload_push.specs.Slices.{Push}
 use Rattle.upload_push.specs.Promise.{IsStored, IsThere}
 use Rattle.upload_push.proofs.Cases.{cond_case}

@@ -3,9 +3,9 @@ use Rattle.std.proofs.Common.{◌≡◌, ℕ, ◌+◌, ◌-◌, ◌<◌, ◌≤�
 use Rattle.std.proofs.lemmas.Bool.{eqb-true, ne_eqb, ltb-true, ltb-false, leb-true, leb-false}
 use Rattle.upload_push.proofs.Cases.{cond_case, cond_case_both, cond_yes, cond_no}
 use Rattle.upload_push.proofs.Count.{all_within}
-use Rattle.upload_push.specs.Steps.{Plan, Stand, IsLawfulPlan, IsWithin, turn, turn_at, answered, unheard, retry, send_from, opened, taken, place_of, refused, to_phase, chunk_end, count_to, ask_at}
+use Rattle.upload_push.specs.Steps.{Plan, Stand, IsOver, IsLawfulPlan, IsWithin, turn, turn_at, answered, unheard, retry, send_from, opened, taken, place_of, refused, to_phase, chunk_end, count_to, ask_at}
 use Rattle.upload_push.specs.Slices.{Push, IsLawfulPush, Exchange, after_all, log_of, logged, plan_of, request, heard_offset, heard_place, offset_after, place_after, IsSound, IsSoundAsk, IsNextChunk, EndsWith, IsClose, IsHead}
-use Rattle.upload_push.specs.declared.standin.Heard.{Heard}
+use Rattle.upload_wire.specs.declared.client.heard.Heard.{Heard}
 use Rattle.upload_push.specs.declared.pusher.PushAsk.{PushAsk}
 use Rattle.upload_push.specs.declared.pusher.PushAsk.TheVariants as asks
 use Rattle.upload_push.specs.declared.pusher.Outcome.TheVariants.{Pushed, Already}
@@ -168,3 +168,17 @@ pushed_last p heard is = subst (Tracks p (log_of p heard)) is (all_tracks p hear
 
 pub already_last : (p : Push) (heard : List (Option Heard)) → (after_all p heard).phase ≡ Done Already → EndsWith IsHead 200 (log_of p heard)
 already_last p heard is = subst (Tracks p (log_of p heard)) is (all_tracks p heard)
+
+-- once a push has ended, nothing changes it
+over_at : (p : Plan) (s : Stand) (phase : Phase) (heard : Option Heard) → IsOver phase → turn_at p s phase heard ≡ s
+over_at p s (Done outcome) None over = refl
+over_at p s (Done outcome) (Some h) over = cond_case (λ (t : Stand). t ≡ s) (h.status == 503) _ _ (λ _. refl) (λ _. refl)
+over_at p s (GaveUp why) None over = refl
+over_at p s (GaveUp why) (Some h) over = cond_case (λ (t : Stand). t ≡ s) (h.status == 503) _ _ (λ _. refl) (λ _. refl)
+over_at p s Opening heard over = absurd over
+over_at p s (Sending at offset) heard over = absurd over
+over_at p s (Asking at) heard over = absurd over
+over_at p s Looking heard over = absurd over
+
+pub over_stays : (p : Plan) (s : Stand) (heard : Option Heard) → IsOver s.phase → turn p s heard ≡ s
+over_stays p s heard over = over_at p s s.phase heard over

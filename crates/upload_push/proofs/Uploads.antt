@@ -3,10 +3,12 @@ use Rattle.std.proofs.Common.{zero, suc, ◌≡◌, ◌≢◌, ℕ, ◌+◌, ◌
 use Rattle.std.specs.Prelude.{slice_range, nat_le, ◌||◌}
 use Rattle.std.proofs.lemmas.List.{take_all, length-take-le}
 use Rattle.std.proofs.Math.Seq.{take-add}
+use Rattle.std.specs.Prelude.{◌==◌}
+use Rattle.std.proofs.lemmas.Bool.{eqb-true, eqb-false}
 use Rattle.std.specs.FinMap as map
 use Rattle.upload_names.specs.Digest.{Digest, content_digest}
 use Rattle.upload_names.specs.ByteRange.{Span}
-use Rattle.upload_names.specs.Reference.{reference, number_of}
+use Rattle.upload_names.specs.Reference.{reference, reference_text, number_of}
 use Rattle.upload_service.specs.declared.ask.Ask.{Ask}
 use Rattle.upload_service.specs.declared.ask.Ask.TheVariants as asks
 use Rattle.upload_service.specs.declared.ask.Extent.TheVariants.{Absent, Given}
@@ -16,12 +18,13 @@ use Rattle.upload_service.specs.declared.answer.Refusal.TheVariants as refusals
 use Rattle.upload_service.specs.Machine.{same_digest, Session, State, Outcome, Replies, Begins, Takes, Commits, state_after, refused, size_fault, body_fault, unless_fault, checked, last_number, opening, blob_reply, holds, all_awake, swept, Comes, Turn, IsLawful}
 use Rattle.upload_service.specs.Session.{carries}
 use Rattle.upload_service.specs.Headline.{HeadlineHolds, OthersLeaveIt}
-use Rattle.upload_push.specs.Wire.{upload_path, place_in, last_below, reply_heard}
+use Rattle.upload_wire.specs.Target.{upload_path}
+use Rattle.upload_wire.specs.Heard.{place_in, last_below, reply_heard}
 use Rattle.upload_push.specs.Steps.{count_to}
 use Rattle.upload_push.specs.Slices.{Push, IsNextChunk, place_after, offset_after}
 use Rattle.upload_push.specs.World.{IsSecret}
 use Rattle.upload_push.specs.Promise.{Avoids}
-use Rattle.upload_push.specs.declared.standin.Heard.{Heard}
+use Rattle.upload_wire.specs.declared.client.heard.Heard.{Heard}
 use Rattle.upload_push.proofs.Cases.{cond_case}
 use Rattle.upload_push.proofs.Tables.{get-insert_same, get-remove_same}
 use Rattle.upload_push.proofs.References.{IsReference, reference_is}
@@ -110,8 +113,7 @@ changed p s now ask place offset a t o parts kept lacks answer new comes =
     ]
 
 pub count_last : (next : ℕ) → count_to (last_below next) ≡ next
-count_last zero = refl
-count_last (suc n) = omega arith
+count_last next = cond_case (λ (o : Option ℕ). count_to o ≡ next) (next == 0) None (Some (next - 1)) (λ is. sym (eqb-true next 0 is)) (λ some. let not = eqb-false next 0 some in omega (arith, not))
 
 -- the first bytes of the file, with the chunk after them
 pub longer_front : (p : Push) (bytes body : List ℕ) (range : Span) (offset : ℕ) → IsNextChunk p offset range body
@@ -139,7 +141,7 @@ at_offset p s at session offset is has =
 
 -- what is written as an upload's place is read as its reference
 abbrev pub PlacesReadBack : Type 0
-PlacesReadBack = (name at : List ℕ) → IsReference at → place_in (upload_path name at) name ≡ Some at
+PlacesReadBack = (name at : List ℕ) → IsReference at → place_in (upload_path name (reference_text at)) name ≡ Some at
 
 -- the push's chunk
 pub chunk_keeps : PlacesReadBack → (p : Push) (s : State) (now : ℕ) (secret at : List ℕ) (offset : ℕ) (range : Span) (body : List ℕ) (answer : Answer) (new : State)
@@ -240,7 +242,7 @@ opening_keeps reads others p s now secret place offset answer new is_secret lawf
     elim comes [
       | inl c ↦ subst (λ (x : Answer). Q x t) (sym c.0) (λ had. (
         had,
-        subst (λ (x : State). IsUpload p.file x (place_in (upload_path p.name at) p.name) 0) (sym c.1)
+        subst (λ (x : State). IsUpload p.file x (place_in (upload_path p.name (reference_text at)) p.name) 0) (sym c.1)
             (subst (λ (found : Option (List ℕ)). IsUpload p.file after found 0) (sym (reads p.name at (reference_is (s.issued + 1) secret is_secret))) there),
       ))
       | inr c ↦ subst (λ (x : Answer). Q x t) (sym c.1) (λ had. (had, had))

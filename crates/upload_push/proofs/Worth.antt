@@ -9,11 +9,11 @@ use Rattle.upload_service.specs.declared.ask.Extent.TheVariants.{Absent, Bad, Gi
 use Rattle.upload_service.specs.declared.answer.Answer.{Answer}
 use Rattle.upload_service.specs.Machine.{State, Turn, IsLawful, holds}
 use Rattle.upload_service.specs.Headline.{HeadlineHolds, OthersLeaveIt}
-use Rattle.upload_push.specs.Wire.{reply_heard}
+use Rattle.upload_wire.specs.Heard.{reply_heard}
 use Rattle.upload_push.specs.Slices.{Push, IsLawfulPush, Exchange, after_all, log_of, heard_offset, heard_place, offset_after, place_after, IsSound, IsSoundAsk, IsWholeClose, EndsWith, IsClose, IsHead, HeardStatus, Leads, IsEnd, IsPush}
 use Rattle.upload_push.specs.World.{World, world_with, world_later, Reaches, AskedBy, Asked, IsSecret, IsLawfulWorld}
 use Rattle.upload_push.specs.Promise.{others_in_front, events_left, events_after, AvoidAll, IsQuiet, IsStored, IsThere, IsWorth}
-use Rattle.upload_push.specs.declared.standin.Heard.{Heard}
+use Rattle.upload_wire.specs.declared.client.heard.Heard.{Heard}
 use Rattle.upload_push.specs.declared.world.Event.{Event}
 use Rattle.upload_push.specs.declared.world.Event.TheVariants.{Delivered, ReplyLost, NotDelivered, Other, Passes}
 use Rattle.upload_push.specs.declared.pusher.Outcome.{Outcome}

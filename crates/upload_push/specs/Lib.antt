@@ -1,4 +1,3 @@
-pub mod Wire
 pub mod Steps
 pub mod Slices
 pub mod World

@@ -8,7 +8,7 @@ use Rattle.upload_service.specs.declared.ask.Extent.TheVariants.{Absent, Given}
 use Rattle.upload_service.specs.declared.ask.Ask.{Ask}
 use Rattle.upload_service.specs.declared.ask.Ask.TheVariants.{Has, Opening, Chunk, Status, Close}
 use Rattle.upload_push.specs.Steps.{Plan, Stand, turn, ask_at, count_to, place_of}
-use Rattle.upload_push.specs.declared.standin.Heard.{Heard}
+use Rattle.upload_wire.specs.declared.client.heard.Heard.{Heard}
 use Rattle.upload_push.specs.declared.pusher.PushAsk.{PushAsk}
 use Rattle.upload_push.specs.declared.pusher.PushAsk.TheVariants as asks
 use Rattle.upload_push.specs.declared.pusher.Outcome.{Outcome}

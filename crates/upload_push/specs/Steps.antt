@@ -2,8 +2,8 @@
 use Rattle.std.specs.Prelude.{◌≡◌, ℕ, ◌+◌, ◌-◌, ◌^◌, ◌<◌, ◌≤◌, min, ◌==◌, nat_le, nat_lt, if◌then◌else◌, List, Option, Some, None}
 use Rattle.upload_names.specs.Digest.{Digest}
 use Rattle.upload_names.specs.ByteRange.{Span}
-use Rattle.upload_push.specs.Wire.{place_in}
-use Rattle.upload_push.specs.declared.standin.Heard.{Heard}
+use Rattle.upload_wire.specs.Heard.{place_in}
+use Rattle.upload_wire.specs.declared.client.heard.Heard.{Heard}
 use Rattle.upload_push.specs.declared.pusher.Outcome.{Outcome}
 use Rattle.upload_push.specs.declared.pusher.Outcome.TheVariants.{Pushed, Already}
 use Rattle.upload_push.specs.declared.pusher.Why.{Why}
@@ -124,6 +124,12 @@ turn_at p s phase (Some h) = if h.status == 503 then unheard s phase else answer
 -- where a push stands after what was heard
 abbrev pub turn : Plan → Stand → Option Heard → Stand
 turn p s heard = turn_at p s s.phase heard
+
+-- the push has ended
+abbrev pub IsOver : Phase → Type 0
+IsOver (Done outcome) = Unit {0}
+IsOver (GaveUp why) = Unit {0}
+IsOver phase = ⊥
 
 -- what is asked next, if anything is
 abbrev pub ask_at : Plan → Phase → Option PushAsk

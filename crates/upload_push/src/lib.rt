@@ -8,11 +8,13 @@
 mod laws;
 mod pusher;
 mod pushing;
-mod standin;
+#[cfg(test)]
+mod random_worlds;
+#[cfg(test)]
+mod tests;
 mod world;
 
 pub use laws::{every_push, push_promise};
 pub use pusher::{Outcome, PushAsk, PushStep, Pusher, Why};
 pub use pushing::{PushFault, push, push_with};
-pub use standin::{Heard, Transport};
 pub use world::{Event, LossyWorld};

@@ -2,10 +2,10 @@
 ghost use Rattle.std.specs.Prelude.{IfOk, ◌≡◌, ◌≤◌, ◌<◌, ◌^◌, ◌==◌, if◌then◌else◌};
 ghost use Rattle.upload_push.specs.Steps.{after, IsWithin, IsStepOf, IsStepWithin, turn, retry, unheard, answered, chunk_answered, close_answered, refused, place_of, send_from, count_to, to_phase};
 
-use crate::standin::{Heard, read_place};
 use std::alloc::{AllocError, Global};
 use std::marker::Model;
 use upload_names::{BlobDigest, ByteRange, Bytes, RepoName, UploadRef};
+use upload_wire::{Heard, read_place};
 
 /// How a push ended well.
 #[derive(Clone, Copy, Debug, PartialEq, Eq)]

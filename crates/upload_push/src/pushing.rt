@@ -1,15 +1,15 @@
 // A push over any transport.
 ghost use Rattle.std.specs.Prelude.{◌≡◌, ◌≤◌, ◌^◌, IfOk, length};
 ghost use Rattle.upload_names.specs.declared.digest.Algorithm.{Algorithm};
-ghost use Rattle.upload_push.specs.Wire.{CanBeWritten};
+ghost use Rattle.upload_wire.specs.AskText.{CanBeWritten};
 ghost use Rattle.upload_push.specs.Steps.{IsAskWithin};
 ghost use Rattle.upload_push.specs.Slices.{IsPush, push_of, request_of};
 
 use crate::pusher::{Outcome, PushAsk, PushStep, Pusher, Why};
-use crate::standin::Transport;
 use std::alloc::{AllocError, Global};
 use upload_names::{Algorithm, BlobDigest, Bytes, RepoName};
 use upload_service::{Ask, Extent};
+use upload_wire::Transport;
 
 /// Why a push has no outcome.
 #[derive(Drop)]

@@ -2,16 +2,16 @@
 ghost use Rattle.std.specs.Prelude.{◌≡◌};
 ghost use Rattle.std.specs.Prelude.{Option, length};
 ghost use Rattle.upload_service.specs.declared.ask.Ask.{Ask};
-ghost use Rattle.upload_push.specs.declared.standin.Heard.{Heard};
+ghost use Rattle.upload_wire.specs.declared.client.heard.Heard.{Heard};
 ghost use Rattle.upload_service.specs.declared.answer.Answer.{Answer};
 ghost use Rattle.upload_service.specs.Machine.{Turn};
 ghost use Rattle.upload_push.specs.World.{World, Asked, Meets, Reaches, IsSecret, IsLawfulWorld};
 
-use crate::standin::{Heard, Transport, heard_of};
 use std::alloc::Global;
 use std::marker::Model;
 use std::vec::IntoIter;
 use upload_service::{Ask, Service};
+use upload_wire::{Heard, Transport, heard_of};
 
 /// What becomes of a request, or what happens in front of it.
 #[derive(Drop)]

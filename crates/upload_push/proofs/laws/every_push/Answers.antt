@@ -1,5 +1,5 @@
 use Rattle.upload_push.proofs.Count.{counted}
-use Rattle.upload_push.proofs.Sound.{all_sound, pushed_last, already_last}
+use Rattle.upload_push.proofs.Sound.{all_sound, over_stays, pushed_last, already_last}
 use Rattle.upload_push.proofs.laws.every_push.Goals as goal
 
 pub returns-clause-sound : goal.returns-clause-sound
@@ -13,3 +13,6 @@ returns-clause-already c = already_last
 
 pub returns-clause-count : goal.returns-clause-count
 returns-clause-count c = counted
+
+pub returns-clause-over : goal.returns-clause-over
+returns-clause-over c = over_stays

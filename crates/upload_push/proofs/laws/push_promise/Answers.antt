@@ -5,5 +5,5 @@ pub returns : goal.returns
 returns c = worth (record {
   headline = c.headline_holds.ensures;
   others = c.others_leave_a_session.ensures;
-  reads = λ name at is. c.places_read_back.ensures name at is.sixteen is.bytes;
+  reads = λ name at is. c.written_places_are_read.ensures name at is.sixteen is.bytes;
 })
