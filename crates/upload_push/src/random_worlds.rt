@@ -57,8 +57,11 @@ fn any_other(alloc: Global, numbers: &mut Numbers) -> Result<Ask, Fail> {
 }
 
 /// Pushes over a list of events, and compares what is left with the promise, and the requests with their bound.
-fn push_over_any_events(rt: &HostRuntime, numbers: &mut Numbers) -> Result<End, Fail> {
-    let alloc = rt.alloc();
+fn push_over_any_events(
+    rt: &impl Abort,
+    alloc: Global,
+    numbers: &mut Numbers,
+) -> Result<End, Fail> {
     let mut events = Vec::new(alloc);
     let mut alone = true;
     for _ in 0..numbers.below(14) {
@@ -97,7 +100,7 @@ fn pushes_over_200_lists_of_events(rt: HostRuntime) -> Result<(), Fail> {
     let mut numbers = Numbers { state: 2_026 };
     let mut ends = [0u32; 3];
     for _ in 0..200u32 {
-        match push_over_any_events(&rt, &mut numbers)? {
+        match push_over_any_events(&rt, rt.alloc(), &mut numbers)? {
             End::Pushed => ends[0] = ends[0].saturating_add(1),
             End::Already => ends[1] = ends[1].saturating_add(1),
             _ => ends[2] = ends[2].saturating_add(1),

@@ -154,7 +154,8 @@ pub(crate) fn held(
 
 /// Pushes over these events, and compares what was asked and how it ended.
 fn expect(
-    rt: &HostRuntime,
+    rt: &impl Abort,
+    alloc: Global,
     script: &[u8],
     file: &[u8],
     tries: u32,
@@ -164,7 +165,6 @@ fn expect(
     requires file { length file.now ≤ 100 }
     requires tries { tries ≤ 10 }
 {
-    let alloc = rt.alloc();
     let mut over = new_world(alloc, events(alloc, script)?);
     let result = push(alloc, &mut over, file, &name(alloc)?, 2, tries);
     assert_eq!(rt; end_of(&result), end);
@@ -189,7 +189,7 @@ fn pushes_over_lost_replies(rt: HostRuntime) -> Result<(), Fail> {
         Chunk(4, 4),
         Close,
     ];
-    expect(&rt, b"ddl", file, 5, &asked, End::Pushed)?;
+    expect(&rt, rt.alloc(), b"ddl", file, 5, &asked, End::Pushed)?;
     let asked = [
         Opening,
         Chunk(0, 1),
@@ -199,7 +199,7 @@ fn pushes_over_lost_replies(rt: HostRuntime) -> Result<(), Fail> {
         Status,
         Head,
     ];
-    expect(&rt, b"ddddl", file, 5, &asked, End::Already)?;
+    expect(&rt, rt.alloc(), b"ddddl", file, 5, &asked, End::Already)?;
     let asked = [
         Opening,
         Chunk(0, 1),
@@ -209,7 +209,7 @@ fn pushes_over_lost_replies(rt: HostRuntime) -> Result<(), Fail> {
         Status,
         Close,
     ];
-    expect(&rt, b"ddddn", file, 5, &asked, End::Pushed)?;
+    expect(&rt, rt.alloc(), b"ddddn", file, 5, &asked, End::Pushed)?;
     let asked = [
         Opening,
         Opening,
@@ -218,9 +218,9 @@ fn pushes_over_lost_replies(rt: HostRuntime) -> Result<(), Fail> {
         Chunk(4, 4),
         Close,
     ];
-    expect(&rt, b"l", file, 5, &asked, End::Pushed)?;
-    expect(&rt, b"", b"", 5, &[Opening, Close], End::Pushed)?;
-    expect(&rt, b"n", file, 0, &[Opening], End::OutOfTries)?;
+    expect(&rt, rt.alloc(), b"l", file, 5, &asked, End::Pushed)?;
+    expect(&rt, rt.alloc(), b"", b"", 5, &[Opening, Close], End::Pushed)?;
+    expect(&rt, rt.alloc(), b"n", file, 0, &[Opening], End::OutOfTries)?;
     Ok(())
 }
 
@@ -230,6 +230,7 @@ fn a_session_that_fell_idle_is_no_way_to_pushed(rt: HostRuntime) -> Result<(), F
     let file = b"abcde";
     expect(
         &rt,
+        rt.alloc(),
         b"ddp",
         file,
         5,
@@ -237,13 +238,18 @@ fn a_session_that_fell_idle_is_no_way_to_pushed(rt: HostRuntime) -> Result<(), F
         End::Refused(404),
     )?;
     let asked = [Opening, Chunk(0, 1), Chunk(2, 3), Status, Head];
-    expect(&rt, b"ddlp", file, 5, &asked, End::Refused(404))?;
+    expect(&rt, rt.alloc(), b"ddlp", file, 5, &asked, End::Refused(404))?;
     Ok(())
 }
 
 /// A push whose opening is followed by another client's byte in its session.
-fn beside_another(rt: &HostRuntime, byte: u8, asked: &[Asked], end: End) -> Result<(), Fail> {
-    let alloc = rt.alloc();
+fn beside_another(
+    rt: &impl Abort,
+    alloc: Global,
+    byte: u8,
+    asked: &[Asked],
+    end: End,
+) -> Result<(), Fail> {
     let mut events = events(alloc, b"d")?;
     events.push(Event::Other(chunk_of_one(alloc, 1, 0, byte)?))?;
     let mut over = new_world(alloc, events);
@@ -257,8 +263,8 @@ fn beside_another(rt: &HostRuntime, byte: u8, asked: &[Asked], end: End) -> Resu
 fn other_clients(rt: HostRuntime) -> Result<(), Fail> {
     use Asked::{Chunk, Close, Opening};
     let asked = [Opening, Chunk(0, 1), Chunk(1, 2), Chunk(3, 4), Close];
-    beside_another(&rt, b'z', &asked, End::Refused(400))?;
-    beside_another(&rt, b'a', &asked, End::Pushed)?;
+    beside_another(&rt, rt.alloc(), b'z', &asked, End::Refused(400))?;
+    beside_another(&rt, rt.alloc(), b'a', &asked, End::Pushed)?;
     Ok(())
 }
 
@@ -342,7 +348,7 @@ fn pusher_looks_for_a_lost_upload(rt: HostRuntime) -> Result<(), Fail> {
     }));
     match pusher.next() {
         PushStep::GaveUp(Why::Refused(404, Some(code))) => {
-            assert_eq!(rt; code.as_slice(), b"BLOB_UNKNOWN")
+            assert_eq!(rt; code.as_slice(), b"BLOB_UNKNOWN".as_slice())
         }
         _ => assert!(rt; false, "refused with its code"),
     }
