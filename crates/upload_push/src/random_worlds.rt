@@ -4,6 +4,7 @@ ghost use Rattle.std.specs.Prelude.{◌<◌};
 use crate::tests::{End, chunk_of_one, end_of, held, name, new_world, session};
 use crate::{Event, push};
 use std::alloc::Global;
+use std::process::Abort;
 use std::test::Fail;
 use upload_names::{BlobDigest, Bytes};
 use upload_service::{Ask, Extent};

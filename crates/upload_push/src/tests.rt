@@ -10,6 +10,7 @@ use crate::{
     push_with,
 };
 use std::alloc::{AllocError, Global};
+use std::process::Abort;
 use std::test::Fail;
 use upload_names::{Algorithm, BlobDigest, ByteRange, Bytes, RepoName, UploadRef};
 use upload_service::{Answer, Ask, Extent, Limits, Service};
