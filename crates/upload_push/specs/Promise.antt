@@ -41,7 +41,7 @@ abbrev pub AvoidAll : Option (List ℕ) → List Ask → Type 0
 AvoidAll place [] = Unit {0}
 AvoidAll place (ask ∷ asks) = Avoids place ask × AvoidAll place asks
 
--- THE PREMISE ON OTHER CLIENTS: from the opening on whose reply the pusher heard, no other client's request carries the
+-- The premise on other clients: from the opening on whose reply the pusher heard, no other client's request carries the
 -- reference that the pusher has heard by then.
 abbrev pub IsQuiet : List ℕ → List Event → List Exchange → Type 0
 IsQuiet name events [] = Unit {0}
@@ -66,7 +66,7 @@ pub record IsWorth (p : Push) (heard : List (Option Heard)) (old new : World) (e
   pub already : end ≡ Ok Already → IsThere p new.service
   pub lawful : IsLawfulWorld new
 
--- THE PROMISE OF A PUSH over a lossy world with any events.
+-- The promise of a push over a lossy world with any events.
 abbrev pub PushPromise : Type 0
 PushPromise = (p : Push) (old new : World) (end : Result Outcome PushFault) → IsLawfulPush p → IsLawfulWorld old
     → (run : IsPush Asked p old new end) → IsWorth p run.heard old new end

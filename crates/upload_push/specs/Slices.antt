@@ -70,7 +70,7 @@ abbrev pub log_of : Push → List (Option Heard) → List Exchange
 log_of p [] = []
 log_of p (heard ∷ earlier) = logged p (ask_at (plan_of p) (after_all p earlier).phase) heard (log_of p earlier)
 
--- THE HEARD OFFSET: the offset that the server named last. It is 0 after the opening's 202, and one more than the
+-- The heard offset: the offset that the server named last. It is 0 after the opening's 202, and one more than the
 -- last position (0 without one) after a chunk's 202 or 416 or a status' 204.
 abbrev pub offset_after : Ask → Option Heard → ℕ → ℕ
 offset_after ask None offset = offset
@@ -84,7 +84,7 @@ abbrev pub heard_offset : List Exchange → ℕ
 heard_offset [] = 0
 heard_offset (e ∷ log) = offset_after e.ask e.heard (heard_offset log)
 
--- THE HEARD PLACE: the reference of the place in the last 202 that was heard.
+-- The heard place: the reference of the place in the last 202 that was heard.
 abbrev pub place_after : List ℕ → Option Heard → Option (List ℕ) → Option (List ℕ)
 place_after name None place = place
 place_after name (Some h) place = if h.status == 202 then place_of name h else place
@@ -123,7 +123,7 @@ IsSoundAsk p log (Close name at range digest body) =
 IsSoundAsk p log (Has name digest head) = (name ≡ p.name) × (digest ≡ p.digest) × (head ≡ true)
 IsSoundAsk p log other = ⊥
 
--- SOUND: each request is sound after those before it.
+-- The push is sound: each request is sound after those before it.
 abbrev pub IsSound : Push → List Exchange → Type 0
 IsSound p [] = Unit {0}
 IsSound p (e ∷ log) = IsSoundAsk p log e.ask × IsSound p log
@@ -165,7 +165,7 @@ IsEnd phase (Ok outcome) = phase ≡ phases.Done outcome
 IsEnd phase (Err (faults.GaveUp why)) = phase ≡ phases.GaveUp why
 IsEnd phase (Err faults.NoMemory) = Unit {0}
 
--- A PUSH OVER A TRANSPORT: there is all that was heard, the transport went by the requests of that run and no others,
+-- A push over a transport: there is all that was heard, the transport went by the requests of that run and no others,
 -- and the answer is the run's end.
 pub record IsPush {S : Type 0} (asked : S → Ask → Option Heard → S → Type 0) (p : Push) (old new : S) (end : Result Outcome PushFault) : Type 0 where
   pub heard : List (Option Heard)

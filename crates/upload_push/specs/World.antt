@@ -61,7 +61,7 @@ AskedBy w (ReplyLost ∷ events) ask heard new = IsReplyLost w events ask heard 
 AskedBy w (NotDelivered ∷ events) ask heard new = (heard ≡ None) × (new ≡ world_with w w.service events)
 AskedBy w [] ask heard new = IsDelivered w [] ask heard new
 
--- ONE REQUEST IN THE WORLD.
+-- One request in the world.
 abbrev pub Asked : World → Ask → Option Heard → World → Type 0
 Asked w ask heard new = AskedBy w w.events ask heard new
 
