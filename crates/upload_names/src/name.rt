@@ -111,14 +111,14 @@ impl RepoName {
         ensures text { result.now ≡ self.now }
         ensures named { IsName self.now }
     {
-        self.text.as_str()
+        &self.text
     }
 
     /// Whether both are the same name.
     pub fn same(&self, other: &RepoName) -> bool
         ensures { IsTrue result ↔ (self.now ≡ other.now) }
     {
-        self.text.as_bytes() == other.text.as_bytes()
+        self == other
     }
 
     /// An equal name.
@@ -136,3 +136,54 @@ pub fn names_are_decided()
     ensures grammar { (text : List ℕ) → IsTrue (is_in_grammar text) ↔ IsInGrammar text }
     ensures names { (text : List ℕ) → IsTrue (is_name text) ↔ IsName text }
 {}
+
+#[cfg(test)]
+mod tests {
+    use super::*;
+
+    #[test]
+    fn name_grammar(rt: HostRuntime) {
+        let names: [&[u8]; 9] = [
+            b"a", b"lib/a", b"a__b", b"a--b", b"a---b", b"a.b/c-d", b"a_b/0", b"0", b"a/b/c/d",
+        ];
+        for text in names {
+            let name = RepoName::read(rt.alloc(), text).expect(&rt, "a name");
+            assert_eq!(rt; name.as_str().as_bytes(), text);
+        }
+        let others: [&[u8]; 15] = [
+            b"", b"A", b"a___b", b"a..b", b"a_-b", b"/a", b"a/", b"a//b", b"-a", b"a-", b"a.",
+            b"a_", b"a b", b"a%2fb", b"\xff",
+        ];
+        for text in others {
+            let fault = RepoName::read(rt.alloc(), text).err();
+            assert_eq!(rt; fault, Some(NameFault::NotAName), "{text:?}");
+        }
+    }
+
+    #[test]
+    fn longest_name(rt: HostRuntime) {
+        let text = [b'a'; 256];
+        let fault = RepoName::read(rt.alloc(), &text).err();
+        assert_eq!(rt; fault, Some(NameFault::TooLong));
+        let name = RepoName::read(rt.alloc(), &text[1..]).expect(&rt, "a name of 255 bytes");
+        assert_eq!(rt; name.as_str().len(), 255);
+        // what is no name is never called too long
+        let mut other = [b'a'; 256];
+        other[255] = b'/';
+        assert_eq!(rt;
+            RepoName::read(rt.alloc(), &other).err(),
+            Some(NameFault::NotAName)
+        );
+    }
+
+    #[test]
+    fn copy_is_the_same_name(rt: HostRuntime) {
+        let name = RepoName::read(rt.alloc(), b"lib/a").expect(&rt, "a name");
+        let copy = name.copy(rt.alloc()).expect(&rt, "memory");
+        assert!(rt; copy.same(&name));
+        assert_eq!(rt; copy.as_str(), "lib/a");
+        let other = RepoName::read(rt.alloc(), b"lib/b").expect(&rt, "a name");
+        assert!(rt; !copy.same(&other));
+        assert!(rt; copy < other);
+    }
+}

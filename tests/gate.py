@@ -1,0 +1,51 @@
+#!/usr/bin/env python3
+"""The whole gate: the repository's own checks, and the toolchain's gate over every crate.
+
+Each part ends with a line 'N passed, M failed'; so does the whole. Exit status 1 where anything failed.
+"""
+import os
+import re
+import subprocess
+import sys
+
+TOP = os.path.dirname(os.path.dirname(os.path.abspath(__file__)))
+CLOSING = re.compile(r"^(\d+) passed, (\d+) failed$")
+
+# The cheap parts come first, so that a slip is told at once.
+PARTS = [
+    ("the repository", [sys.executable, "tests/repository.py"]),
+    ("the crates", ["rt", "ci"]),
+    # `rt ci` leaves the program that it built
+    ("whole connections", [sys.executable, "tests/connections.py", "crates/blobd/out/blobd"]),
+]
+
+
+def run(command):
+    """Runs a part, showing what it prints, and gives its counts. A part that says no counts has failed."""
+    passed, failed = 0, 1
+    with subprocess.Popen(command, cwd=TOP, stdout=subprocess.PIPE, stderr=subprocess.STDOUT, text=True) as part:
+        for line in part.stdout:
+            closing = CLOSING.match(line.strip())
+            if closing:
+                passed, failed = int(closing.group(1)), int(closing.group(2))
+            else:
+                print(line, end="", flush=True)
+    if part.returncode != 0 and failed == 0:
+        failed = 1
+    return passed, failed
+
+
+def main():
+    all_passed = all_failed = 0
+    for name, command in PARTS:
+        print(f"--- {name}", flush=True)
+        passed, failed = run(command)
+        print(f"--- {name}: {passed} passed, {failed} failed", flush=True)
+        all_passed += passed
+        all_failed += failed
+    print(f"{all_passed} passed, {all_failed} failed")
+    return 1 if all_failed else 0
+
+
+if __name__ == "__main__":
+    sys.exit(main())

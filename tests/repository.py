@@ -1,0 +1,152 @@
+#!/usr/bin/env python3
+"""Checks of the repository itself: what its files may say, and what must stand beside each public function.
+
+Prints a line for each check, and 'N passed, M failed' as the last. Exit status 1 where one failed.
+"""
+import os
+import re
+import subprocess
+import sys
+
+TOP = os.path.dirname(os.path.dirname(os.path.abspath(__file__)))
+HANDLES = "Handles allowed: Threads, Wait, Net.\n"
+
+# The repository stands alone: its reader has none of the texts that it grew from, so a numbered citation of one
+# says nothing. A letter with a number is a citation unless it is a type parameter.
+CITATION = re.compile(
+    r"(^|[^A-Za-z0-9_])(D(1[0-7]|[1-9])|T[1-5][a-e]?|W(1[0-9]|2[0-3]|[1-9])|R(1[0-6]|[1-9]))([^A-Za-z0-9_]|$)"
+    r"|0[1-4]-(scope|theorems|requests|formats)|the papers?([^A-Za-z]|$)|worked row|\brow [0-9]+"
+)
+TYPE_PARAMETER = re.compile(r"<[A-Z][0-9]?(,|>)|[:,] *[A-Z][0-9] *:")
+HOLE = re.compile(r"(=\s*\?|[( ]\?[ ),]|\?\s*$)")
+PUBLIC_FUNCTION = re.compile(r"^\s*pub (?:const )?fn (\w+)")
+IMPL = re.compile(r"^impl(?:<.*?>)?\s+(?:[\w:<>', ]+\s+for\s+)?(\w+)")
+TEST_MODULE = re.compile(r"#\[cfg\(test\)\]\s*mod \w+ \{")
+# A law takes nothing and gives nothing: its contract is all that it has.
+LAW = re.compile(r"^\s*pub fn \w+\(\)\s*(\{\s*\})?$")
+
+
+def tracked():
+    listed = subprocess.run(["git", "ls-files", "-z"], cwd=TOP, capture_output=True, check=True)
+    return [path for path in listed.stdout.decode().split("\0") if path]
+
+
+def text_of(path):
+    try:
+        with open(os.path.join(TOP, path), encoding="utf-8") as file:
+            return file.read()
+    except (UnicodeDecodeError, FileNotFoundError):
+        return ""
+
+
+def citations(paths):
+    """Lines that cite by number what the repository doesn't have."""
+    found = []
+    for path in paths:
+        if path == "tests/repository.py" or "/data/" in path or path.startswith("tests/connections/"):
+            continue
+        for number, line in enumerate(text_of(path).splitlines(), 1):
+            if CITATION.search(line) and not TYPE_PARAMETER.search(line):
+                found.append(f"{path}:{number}: {line.strip()}")
+    return found
+
+
+def holes(paths):
+    """Proofs that are not finished."""
+    return [
+        f"{path}:{number}: {line.strip()}"
+        for path in paths
+        if path.endswith(".antt")
+        for number, line in enumerate(text_of(path).splitlines(), 1)
+        if HOLE.search(line.split("--")[0])
+    ]
+
+
+def outputs(paths):
+    """What the toolchain makes, which is never committed."""
+    return [path for path in paths if "out" in path.split("/")[:-1]]
+
+
+def handles(_):
+    return [] if text_of("HANDLES") == HANDLES else ["HANDLES is not its one line"]
+
+
+def sources(crate):
+    folder = os.path.join(TOP, "crates", crate, "src")
+    for at, _, files in sorted(os.walk(folder)):
+        if os.path.basename(at) != "tests":
+            yield from (os.path.join(at, name) for name in sorted(files) if name.endswith(".rt") and name != "tests.rt")
+
+
+def exported(crate):
+    """The names that a library hands out; None for a program, whose public functions all count."""
+    path = f"crates/{crate}/src/lib.rt"
+    if not os.path.exists(os.path.join(TOP, path)):
+        return None
+    return set(re.findall(r"\w+", " ".join(re.findall(r"^pub use ([^;]+);", text_of(path), re.MULTILINE | re.DOTALL))))
+
+
+def public_functions(crate):
+    """`Type::name` or `name` of each function that the crate hands out and that does work: all but laws."""
+    names = exported(crate)
+    for path in sources(crate):
+        with open(path, encoding="utf-8") as file:
+            text = TEST_MODULE.split(file.read())[0]
+        kind = ""
+        for line in text.splitlines():
+            if line.startswith("impl"):
+                found = IMPL.match(line)
+                kind = found.group(1) if found else ""
+            elif line.startswith("}"):
+                kind = ""
+            match = PUBLIC_FUNCTION.match(line)
+            if match and (names is None or (kind or match.group(1)) in names) and not LAW.match(line):
+                yield f"{kind}::{match.group(1)}" if kind else match.group(1)
+
+
+def broken_by_edits(crate):
+    """The functions that the crate's must-fail edits say they break."""
+    folder = os.path.join(TOP, "crates", crate, "must-fail")
+    broken = set()
+    for name in sorted(os.listdir(folder)) if os.path.isdir(folder) else []:
+        for line in text_of(f"crates/{crate}/must-fail/{name}").splitlines():
+            if line.startswith("breaks:"):
+                broken.update(word.strip() for word in line[len("breaks:") :].split(","))
+    return broken
+
+
+def unbroken(_):
+    """Public functions of libraries that no must-fail edit breaks, and edits that name no function."""
+    found = []
+    for crate in sorted(os.listdir(os.path.join(TOP, "crates"))):
+        functions = list(public_functions(crate))
+        broken = broken_by_edits(crate)
+        found += [f"{crate}: no must-fail edit breaks {name}" for name in functions if name not in broken]
+        found += [f"{crate}: an edit breaks {name}, which isn't there" for name in sorted(broken - set(functions))]
+    return found
+
+
+CHECKS = [
+    ("no line cites what the repository doesn't have", citations),
+    ("no hole in a proof", holes),
+    ("no output is committed", outputs),
+    ("HANDLES is its one line", handles),
+    ("every public function has a must-fail edit", unbroken),
+]
+
+
+def main():
+    paths = tracked()
+    failed = 0
+    for name, check in CHECKS:
+        found = check(paths)
+        print(f"{'ok' if not found else 'FAILED'}: {name}")
+        for line in found:
+            print(f"    {line}")
+        failed += bool(found)
+    print(f"{len(CHECKS) - failed} passed, {failed} failed")
+    return 1 if failed else 0
+
+
+if __name__ == "__main__":
+    sys.exit(main())
