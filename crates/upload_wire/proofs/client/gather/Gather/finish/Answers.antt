@@ -16,6 +16,6 @@ returns g c = λ start before held.
     let bytes = c.as_slice.ensures.value ∙ ap (λ (h : Held). h.bytes) c.self.view_is in
     let now = sink (g.W.ByteSink.contents c.args.writer.now) (g.W.ByteSink.failed_writes c.args.writer.now) in
     let new = sink (g.W.ByteSink.contents c.then_flush.new.writer) (g.W.ByteSink.failed_writes c.then_flush.new.writer) in
-    let both = c.then_flush.ensures _ _ (c.then_write-done.ensures _ _ c.write_all-done.ensures) in
+    let both = c.then_flush.ensures.wrote _ _ (c.then_write-done.ensures _ _ c.write_all-done.ensures) in
     write_held start now new c.args.self before c.args.body.now c.then_flush.result failed held
     (subst (λ t. Wrote now new (t ++ c.args.body.now) c.then_flush.result) bytes both)
