@@ -1,0 +1,214 @@
+-- What one turn does to each session.
+use Rattle.std.proofs.Common.{◌≡◌, ◌≢◌, ℕ, ◌+◌, ◌<◌, ◌≤◌, ◌^◌, List, [], true, false, Some, None, refl, sym, ◌∙◌, ap, subst, ◌⊎◌, inl, inr, arith}
+use Rattle.std.proofs.lemmas.Bool.{true≢false}
+use Rattle.std.specs.FinMap as map
+use Rattle.upload_names.specs.Reference.{reference, number_of}
+use Rattle.upload_service.specs.declared.limits.Limits.{Limits}
+use Rattle.upload_service.specs.declared.answer.Refusal.TheVariants as refusals
+use Rattle.upload_service.specs.declared.ask.Ask.{Ask}
+use Rattle.upload_service.specs.declared.ask.Ask.TheVariants as asks
+use Rattle.upload_service.specs.declared.answer.Answer.{Answer}
+use Rattle.upload_service.specs.declared.answer.Answer.TheVariants as answers
+use Rattle.upload_service.specs.Machine.{same, is_idle, unless_idle, awake, swept, Session, State, Outcome, Replies, Begins, Takes, Commits, Stores, Mounts, answer_of, state_after, refused, at_session, last_number, outcome}
+use Rattle.upload_service.specs.Session.{carries, begins}
+use Rattle.upload_service.specs.Alone.{Life, Unborn, Open, Gone, life_after, name_of, alone_outcome, alone_answer, alone_after}
+use Rattle.upload_service.proofs.Tables.{eq_from_same}
+use Rattle.std.proofs.lemmas.Nat.{from_be_bytes-to_be_bytes_4}
+use Rattle.upload_service.proofs.Tables.{one_or_two, get-insert_same, get-insert_other, get-remove_same, get-remove_other, ne_from_same}
+use Rattle.upload_service.proofs.Steps.{IsReply, IsOutcome, AsksToBegin, outcome_sound, None≢Some, idle_is_none}
+use Rattle.upload_service.proofs.Sweeps.{kept_or_left, was_there, idle_later, idle_from}
+
+pub number_of-reference : (n : ℕ) (secret : List ℕ) → n < 2 ^ 32 → number_of (reference n secret) ≡ n
+unfolding number_of reference
+number_of-reference n secret h = from_be_bytes-to_be_bytes_4 n h
+
+-- each open session's number was issued
+abbrev pub IsNumbered : State → Type 0
+IsNumbered s = (at : List ℕ) (session : Session) → map.get s.sessions at ≡ Some session → number_of at ≤ s.issued
+
+pub new_number : (s : State) (secret at : List ℕ) → at ≡ reference (s.issued + 1) secret → s.issued < last_number → number_of at ≡ s.issued + 1
+new_number s secret at e h = ap number_of e ∙ number_of-reference (s.issued + 1) secret (omega arith)
+
+-- a number that was issued isn't the next
+pub not_new : (s : State) (secret at new : List ℕ) → new ≡ reference (s.issued + 1) secret → s.issued < last_number → number_of at ≤ s.issued → at ≢ new
+not_new s secret at new e h le same = let n : number_of new ≡ s.issued + 1 = new_number s secret new e h in let m : number_of at ≡ number_of new = ap number_of same in omega arith
+
+pub numbered_after : (s : State) (ask : Ask) (secret : List ℕ) (now : ℕ) (o : Outcome) → IsOutcome s ask secret now o → IsNumbered s → IsNumbered (state_after s now o)
+numbered_after s ask secret now (Replies answer) f h = h
+numbered_after s ask secret now (Begins name new) f h = λ at session e.
+    elim (one_or_two at new) [
+      | inl same ↦ let n : number_of new ≡ s.issued + 1 = new_number s secret new f.is_new f.numbers_left in let m : number_of at ≡ number_of new = ap number_of same in omega arith
+      | inr other ↦ let le : number_of at ≤ s.issued = h at session (was_there s now at session (sym (get-insert_other (swept s now) new _ at other) ∙ e)) in omega arith
+    ]
+numbered_after s ask secret now (Takes name to received) f h = λ at session e.
+    elim (one_or_two at to) [
+      | inl same ↦ let m : number_of at ≡ number_of to = ap number_of same in let le : number_of to ≤ s.issued = h to f.found.session f.found.is_open in omega arith
+      | inr other ↦ h at session (sym (get-insert_other s.sessions to _ at other) ∙ e)
+    ]
+numbered_after s ask secret now (Commits name to digest blob) f h = λ at session e.
+    elim (one_or_two at to) [
+      | inl same ↦ absurd (None≢Some (sym (get-remove_same s.sessions to) ∙ ap (map.get (map.remove s.sessions to)) (sym same) ∙ e))
+      | inr other ↦ h at session (sym (get-remove_other s.sessions to at other) ∙ e)
+    ]
+numbered_after s ask secret now (Stores name digest blob) f h = h
+numbered_after s ask secret now (Mounts name digest) f h = h
+
+-- an issued reference that isn't in the table
+abbrev pub IsGone : State → List ℕ → Type 0
+IsGone s at = (map.get s.sessions at ≡ None) × (number_of at ≤ s.issued)
+
+-- a session that has left the table, and is idle from this moment on
+pub record LeftIdle (s : State) (now : ℕ) (at : List ℕ) (session : Session) : Type 0 where
+  pub gone : IsGone s at
+  pub idle : session.seen + s.limits.max_idle < now
+
+-- what a session is in a state, where no moment to come is before this one
+abbrev pub Fits : State → ℕ → List ℕ → Life → Type 0
+Fits s now at Unborn = map.get s.sessions at ≡ None
+Fits s now at (Open session) = (map.get s.sessions at ≡ Some session) ⊎ LeftIdle s now at session
+Fits s now at Gone = IsGone s at
+
+-- the part of the table at a reference and the count of numbers are all that a life speaks of
+pub fits_by : (s t : State) (from now : ℕ) (at : List ℕ) (life : Life) → map.get t.sessions at ≡ map.get s.sessions at → s.issued ≤ t.issued → t.limits ≡ s.limits → from ≤ now
+    → Fits s from at life → Fits t now at life
+fits_by s t from now at Unborn e le k later f = e ∙ f
+fits_by s t from now at (Open session) e le k later (inl f) = inl (e ∙ f)
+fits_by s t from now at (Open session) e le k later (inr f) =
+    let g : number_of at ≤ s.issued = f.gone.1 in
+    let m : t.limits.max_idle ≡ s.limits.max_idle = ap (λ (l : Limits). l.max_idle) k in
+    let idle : session.seen + s.limits.max_idle < from = f.idle in
+    inr (record { gone = (e ∙ f.gone.0, omega arith); idle = omega arith })
+fits_by s t from now at Gone e le k later f = (e ∙ f.0, let g : number_of at ≤ s.issued = f.1 in omega arith)
+
+-- a session that leaves the table because it is idle
+fits_left : (s t : State) (from now : ℕ) (at : List ℕ) (life : Life) → IsNumbered s → (session : Session) → map.get s.sessions at ≡ Some session → is_idle s.limits.max_idle now session ≡ true
+    → map.get t.sessions at ≡ None → s.issued ≤ t.issued → t.limits ≡ s.limits → Fits s from at life → Fits t now at life
+fits_left s t from now at Unborn h session was idle none le k f = none
+fits_left s t from now at (Open mine) h session was idle none le k (inl f) =
+    let both : Some mine ≡ Some session = sym f ∙ was in
+    let is : mine ≡ session = cc in
+    let number : number_of at ≤ s.issued = h at session was in
+    let m : t.limits.max_idle ≡ s.limits.max_idle = ap (λ (l : Limits). l.max_idle) k in
+    let seen : mine.seen ≡ session.seen = ap (λ (q : Session). q.seen) is in
+    let late : session.seen + s.limits.max_idle < now = idle_from s.limits.max_idle now session idle in
+    inr (record { gone = (none, omega arith); idle = omega arith })
+fits_left s t from now at (Open mine) h session was idle none le k (inr f) = absurd (None≢Some (sym f.gone.0 ∙ was))
+fits_left s t from now at Gone h session was idle none le k f = (none, let g : number_of at ≤ s.issued = f.1 in omega arith)
+
+-- an exchange that isn't the session's leaves the session
+pub others_leave : (s : State) (ask : Ask) (secret : List ℕ) (from now : ℕ) (o : Outcome) → IsOutcome s ask secret now o → IsNumbered s → from ≤ now → (at : List ℕ) (life : Life)
+    → carries at ask ≡ false → begins at (answer_of o) ≡ false → Fits s from at life → Fits (state_after s now o) now at life
+others_leave s ask secret from now (Replies answer) f h later at life c b fits = fits_by s s from now at life refl (omega arith) refl later fits
+others_leave s ask secret from now (Begins name new) f h later at life c b fits =
+    let t : State = state_after s now (Begins name new) in
+    let there : map.get t.sessions at ≡ map.get (swept s now) at = get-insert_other (swept s now) new _ at (ne_from_same at new b) in
+    elim (kept_or_left s now at) [
+      | inl kept ↦ fits_by s t from now at life (there ∙ kept) (omega arith) refl later fits
+      | inr left ↦ fits_left s t from now at life h left.session left.was_open left.idle (there ∙ left.left) (omega arith) refl fits
+    ]
+others_leave s ask secret from now (Takes name to received) f h later at life c b fits =
+    fits_by s (state_after s now (Takes name to received)) from now at life (get-insert_other s.sessions to _ at (ne_from_same at to (sym (ap (carries at) f.asked) ∙ c))) (omega arith) refl later fits
+others_leave s ask secret from now (Commits name to digest blob) f h later at life c b fits =
+    fits_by s (state_after s now (Commits name to digest blob)) from now at life (get-remove_other s.sessions to at (ne_from_same at to (sym (ap (carries at) f.asked) ∙ c))) (omega arith) refl later fits
+others_leave s ask secret from now (Stores name digest blob) f h later at life c b fits = fits_by s (state_after s now (Stores name digest blob)) from now at life refl (omega arith) refl later fits
+others_leave s ask secret from now (Mounts name digest) f h later at life c b fits = fits_by s (state_after s now (Mounts name digest)) from now at life refl (omega arith) refl later fits
+
+-- what carries a reference doesn't ask to begin
+no_opening_carries : (name at : List ℕ) (ask : Ask) → AsksToBegin name ask → carries at ask ≡ true → ⊥
+no_opening_carries name at (asks.Opening n) a c = true≢false (sym c)
+no_opening_carries name at (asks.Mount n digest source) a c = true≢false (sym c)
+no_opening_carries name at other a c = a
+
+-- an open session after a request that carries its reference
+open_after : (s : State) (ask : Ask) (secret : List ℕ) (now : ℕ) (o : Outcome) → IsOutcome s ask secret now o → IsNumbered s → (at : List ℕ) (session : Session)
+    → map.get s.sessions at ≡ Some session → carries at ask ≡ true → Fits (state_after s now o) now at (life_after session now o)
+open_after s ask secret now (Replies answer) f h at session e c = inl e
+open_after s ask secret now (Begins name new) f h at session e c = absurd (no_opening_carries name at ask f.asked c)
+open_after s ask secret now (Takes name to received) f h at session e c =
+    let is : at ≡ to = eq_from_same at to (sym (ap (carries at) f.asked) ∙ c) in
+    inl (ap (map.get (state_after s now (Takes name to received)).sessions) is ∙ get-insert_same s.sessions to _)
+open_after s ask secret now (Commits name to digest blob) f h at session e c =
+    let is : at ≡ to = eq_from_same at to (sym (ap (carries at) f.asked) ∙ c) in
+    (ap (map.get (map.remove s.sessions to)) is ∙ get-remove_same s.sessions to, h at session e)
+open_after s ask secret now (Stores name digest blob) f h at session e c = inl e
+open_after s ask secret now (Mounts name digest) f h at session e c = inl e
+
+-- the session's own exchange gives what it gives alone
+pub record Own (s : State) (ask : Ask) (now : ℕ) (o : Outcome) (at : List ℕ) (life : Life) : Type 0 where
+  pub told : answer_of o ≡ alone_answer s.limits.max_blob s.limits.max_idle at life ask now
+  pub fits : Fits (state_after s now o) now at (alone_after s.limits.max_blob s.limits.max_idle life ask now)
+
+own_refused : (s : State) (ask : Ask) (now : ℕ) (o : Outcome) (at : List ℕ) (life : Life) → o ≡ refused refusals.NoUpload
+    → alone_answer s.limits.max_blob s.limits.max_idle at life ask now ≡ answers.Refused refusals.NoUpload → alone_after s.limits.max_blob s.limits.max_idle life ask now ≡ life → Fits s now at life → Own s ask now o at life
+own_refused s ask now o at life e a l fits =
+    record {
+      told = ap answer_of e ∙ sym a;
+      fits = subst (λ q. Fits (state_after s now q) now at (alone_after s.limits.max_blob s.limits.max_idle life ask now)) (sym e) (subst (λ q. Fits s now at q) (sym l) fits);
+    }
+
+own_carried : (s : State) (ask : Ask) (secret : List ℕ) (from now : ℕ) (name at : List ℕ) (life : Life) → IsNumbered s → from ≤ now
+    → outcome s ask secret now ≡ at_session s.limits.max_blob (awake s now at) name ask → name_of ask ≡ name
+    → alone_answer s.limits.max_blob s.limits.max_idle at Unborn ask now ≡ answers.Refused refusals.NoUpload → alone_after s.limits.max_blob s.limits.max_idle Unborn ask now ≡ Unborn
+    → carries at ask ≡ true → Fits s from at life → Own s ask now (outcome s ask secret now) at life
+own_carried s ask secret from now name at Unborn h later oe ne a l c fits =
+    own_refused s ask now (outcome s ask secret now) at Unborn (oe ∙ ap (λ x. at_session s.limits.max_blob (unless_idle s.limits.max_idle now x) name ask) fits) a l fits
+own_carried s ask secret from now name at Gone h later oe ne a l c fits =
+    own_refused s ask now (outcome s ask secret now) at Gone (oe ∙ ap (λ x. at_session s.limits.max_blob (unless_idle s.limits.max_idle now x) name ask) fits.0) refl refl fits
+own_carried s ask secret from now name at (Open session) h later oe ne a l c (inl is_open) =
+    let e : outcome s ask secret now ≡ alone_outcome s.limits.max_blob s.limits.max_idle session ask now =
+    oe ∙ ap (λ x. at_session s.limits.max_blob (unless_idle s.limits.max_idle now x) name ask) is_open ∙ ap (λ n. at_session s.limits.max_blob (unless_idle s.limits.max_idle now (Some session)) n ask) (sym ne) in
+    record {
+      told = ap answer_of e;
+      fits = subst (λ q. Fits (state_after s now (outcome s ask secret now)) now at (life_after session now q)) e (open_after s ask secret now (outcome s ask secret now) (outcome_sound s now ask secret) h at session is_open c);
+    }
+own_carried s ask secret from now name at (Open session) h later oe ne a l c (inr left) =
+    let idle : is_idle s.limits.max_idle now session ≡ true = idle_later s.limits.max_idle from now session left.idle later in
+    let e : alone_outcome s.limits.max_blob s.limits.max_idle session ask now ≡ refused refusals.NoUpload =
+    ap (λ x. at_session s.limits.max_blob x (name_of ask) ask) (idle_is_none s.limits.max_idle now session idle) in
+    own_refused s ask now (outcome s ask secret now) at (Open session)
+    (oe ∙ ap (λ x. at_session s.limits.max_blob (unless_idle s.limits.max_idle now x) name ask) left.gone.0)
+    (ap answer_of e) (ap (life_after session now) e)
+    (fits_by s s from now at (Open session) refl (omega arith) refl later (inr left))
+
+-- the reference in the request, in place of the one asked about
+at_key : (s : State) (ask : Ask) (secret : List ℕ) (now : ℕ) (name at to : List ℕ) → same at to ≡ true
+    → outcome s ask secret now ≡ at_session s.limits.max_blob (awake s now to) name ask
+    → outcome s ask secret now ≡ at_session s.limits.max_blob (awake s now at) name ask
+at_key s ask secret now name at to c e = e ∙ ap (λ k. at_session s.limits.max_blob (awake s now k) name ask) (sym (eq_from_same at to c))
+
+pub own_by_reference : (s : State) (ask : Ask) (secret : List ℕ) (from now : ℕ) (at : List ℕ) (life : Life) → IsNumbered s → from ≤ now → carries at ask ≡ true → Fits s from at life → Own s ask now (outcome s ask secret now) at life
+own_by_reference s (asks.Chunk name to range body) secret from now at life h later c fits =
+    let ask : Ask = asks.Chunk name to range body in own_carried s ask secret from now name at life h later (at_key s ask secret now name at to c refl) refl refl refl c fits
+own_by_reference s (asks.Status name to) secret from now at life h later c fits =
+    let ask : Ask = asks.Status name to in own_carried s ask secret from now name at life h later (at_key s ask secret now name at to c refl) refl refl refl c fits
+own_by_reference s (asks.Close name to range digest body) secret from now at life h later c fits =
+    let ask : Ask = asks.Close name to range digest body in own_carried s ask secret from now name at life h later (at_key s ask secret now name at to c refl) refl refl refl c fits
+own_by_reference s other secret from now at life h later c fits = absurd (true≢false (sym c))
+
+reply_begins_none : (s : State) (now : ℕ) (ask : Ask) (at : List ℕ) (answer : Answer) → IsReply s now ask answer → begins at answer ≡ true → ⊥
+reply_begins_none s now ask at (answers.Begun name new) f b = f
+reply_begins_none s now ask at other f b = true≢false (sym b)
+
+begun_alone : (s : State) (ask : Ask) (now : ℕ) (name at new : List ℕ) → at ≡ new → AsksToBegin name ask → Own s ask now (Begins name new) at Unborn
+begun_alone s (asks.Opening n) now name at new is a =
+    record {
+      told = λ i. answers.Begun (sym a i) (sym is i);
+      fits = inl (ap (map.get (state_after s now (Begins name new)).sessions) is ∙ get-insert_same (swept s now) new _ ∙ ap (λ m. Some (record { name = m; received = []; seen = now })) (sym a));
+    }
+begun_alone s (asks.Mount n digest source) now name at new is a =
+    record {
+      told = λ i. answers.Begun (sym a i) (sym is i);
+      fits = inl (ap (map.get (state_after s now (Begins name new)).sessions) is ∙ get-insert_same (swept s now) new _ ∙ ap (λ m. Some (record { name = m; received = []; seen = now })) (sym a));
+    }
+begun_alone s other now name at new is a = absurd a
+
+pub own_by_opening : (s : State) (ask : Ask) (secret : List ℕ) (from now : ℕ) (o : Outcome) → IsOutcome s ask secret now o → (at : List ℕ) (life : Life) → IsNumbered s → begins at (answer_of o) ≡ true → Fits s from at life → Own s ask now o at life
+own_by_opening s ask secret from now (Replies answer) f at life h b fits = absurd (reply_begins_none s now ask at answer f b)
+own_by_opening s ask secret from now (Begins name new) f at Unborn h b fits = begun_alone s ask now name at new (eq_from_same at new b) f.asked
+own_by_opening s ask secret from now (Begins name new) f at (Open session) h b (inl fits) = absurd (not_new s secret at new f.is_new f.numbers_left (h at session fits) (eq_from_same at new b))
+own_by_opening s ask secret from now (Begins name new) f at (Open session) h b (inr left) = absurd (not_new s secret at new f.is_new f.numbers_left left.gone.1 (eq_from_same at new b))
+own_by_opening s ask secret from now (Begins name new) f at Gone h b fits = absurd (not_new s secret at new f.is_new f.numbers_left fits.1 (eq_from_same at new b))
+own_by_opening s ask secret from now (Takes name to received) f at life h b fits = absurd (true≢false (sym b))
+own_by_opening s ask secret from now (Commits name to digest blob) f at life h b fits = absurd (true≢false (sym b))
+own_by_opening s ask secret from now (Stores name digest blob) f at life h b fits = absurd (true≢false (sym b))
+own_by_opening s ask secret from now (Mounts name digest) f at life h b fits = absurd (true≢false (sym b))

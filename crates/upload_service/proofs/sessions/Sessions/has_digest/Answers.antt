@@ -1,0 +1,36 @@
+use Rattle.std.proofs.Common.{◌≡◌, ◌++◌, true, false, Option, Some, None, refl, sym, ◌∙◌, ap, subst, List, ℕ}
+use Rattle.std.specs.Prelude.{is_some, ◌↔◌, IsTrue}
+use Rattle.std.specs.Cmp.Lexicographic.{nat_list_cmp_total}
+use Rattle.std.specs.FinMap as map
+use Rattle.std.specs.Option.{option_map}
+use Rattle.std.proofs.lemmas.Bool.{true≢false}
+use Rattle.upload_names.specs.Digest.{HasDigest}
+use Rattle.upload_service.specs.Machine.{Table, Session}
+use Rattle.upload_service.specs.Kept.Entries.{session_of}
+use Rattle.upload_service.specs.declared.sessions.OpenSession.{OpenSession}
+use Rattle.upload_service.proofs.Kept.{kept-written, get-kept}
+use Rattle.upload_service.proofs.Swept.{keys_exact}
+use Rattle.upload_service.proofs.sessions.Sessions.has_digest.Goals as goal
+
+pub unreachable-requires : goal.unreachable-requires
+unreachable-requires c =
+    let none : map.get c.args.self.now c.args.at.now ≡ None =
+    ap (λ (m : Table Session). map.get m c.args.at.now) (sym c.self.view_is) ∙ get-kept nat_list_cmp_total keys_exact session_of c.self.inside.open.entries c.args.at.now ∙ ap (option_map session_of) (sym c.in_default.ensures.value) in
+    true≢false (sym c.requires ∙ ap is_some none)
+
+pub returns-clause-is : goal.returns-clause-is
+returns-clause-is c = λ session e.
+    let old : OpenSession = c.in-Some.session.now in
+    let has : map.get c.args.self.now c.args.at.now ≡ Some (session_of old) =
+    ap (λ (m : Table Session). map.get m c.args.at.now) (sym c.self.view_is) ∙ get-kept nat_list_cmp_total keys_exact session_of c.self.inside.open.entries c.args.at.now ∙ ap (option_map session_of) (sym c.in-Some.ensures.value) in
+    let both : Some (session_of old) ≡ Some session = sym has ∙ e in
+    let is : session_of old ≡ session = cc in
+    subst (λ (s : Session). IsTrue c.has_digest.result ↔ HasDigest (s.received ++ c.args.body.now) c.args.digest.now) is c.has_digest.ensures.is
+
+pub returns-clause-same : goal.returns-clause-same
+returns-clause-same c =
+    let old : OpenSession = c.in-Some.session.now in
+    let at : OpenSession = record { name = old.name; received = c.has_digest.new.self; seen = old.seen } in
+    kept-written nat_list_cmp_total keys_exact session_of c.self.inside.open.entries (c.get_mut.follows.lender at).entries c.args.at.now old at c.in-Some.ensures.value (((c.get_mut.follows.holds at).3 (ap is_some (sym c.in-Some.ensures.value))).0)
+    (λ i. record { name = old.name; received = c.has_digest.ensures.same i; seen = old.seen })
+    ∙ c.self.view_is

@@ -1,0 +1,44 @@
+use Rattle.std.proofs.Common.{◌≡◌, ◌≢◌, ◌+◌, ◌≤◌, ◌<◌, ◌^◌, ◌++◌, length, sym, ◌∙◌, ap, subst, refl, true, false, Option, Some, None, List, ℕ, arith, length-append}
+use Rattle.std.specs.Prelude.{IsSome, is_some}
+use Rattle.std.specs.FinMap as map
+use Rattle.std.specs.FinSet as set
+use Rattle.std.proofs.lemmas.Bool.{true≢false}
+use Rattle.upload_names.specs.Digest.{Digest, HasDigest, content_digest}
+use Rattle.upload_service.specs.Machine.{Turn, Comes, Replies, Takes, Commits, Stores, refused, checked, at_session, awake, Outcome, Session, Table, State}
+use Rattle.upload_service.specs.Kept.Tables.{state_of}
+use Rattle.upload_service.specs.Kept.Entries.{session_of}
+use Rattle.upload_service.specs.declared.answer.Refusal.TheVariants as refusals
+use Rattle.upload_service.specs.declared.ask.Ask.{Ask}
+use Rattle.upload_service.specs.declared.answer.Answer.TheVariants as answers
+use Rattle.upload_service.proofs.Serving.{does, lacks, comes_by, none_named, named, chunk_turned_away, chunk_fits, close_turned_away, close_fits, single_fits, mismatch, match}
+use Rattle.upload_service.proofs.turn.single.Goals as goal
+
+pub returns-then-not-same : goal.returns-then-not-same
+unfolding Turn
+returns-then-not-same c = λ _ now.
+    let fits : length c.args.body ≤ c.args.limits.max_blob = subst (λ b. length b ≤ c.args.limits.max_blob) c.as_slice.ensures c.if-as_slice-limits.false in
+    let content : c.of-content.result ≡ content_digest c.in-Some.digest.algorithm c.args.body = c.of-content.ensures ∙ (λ i. content_digest (c.algorithm.ensures i) (c.as_slice-2.ensures i)) in
+    let other : content_digest c.in-Some.digest.algorithm c.args.body ≢ c.in-Some.digest = λ e. true≢false (sym (c.same.ensures.1 (content ∙ e)) ∙ c.if-not-same.true) in
+    does _ _ _ (refused refusals.Mismatch) _ _ (single_fits c.args.limits.max_blob c.args.name c.args.body c.args.digest c.in-Some.digest fits c.in-Some.is ∙ mismatch c.in-Some.digest c.args.body (λ d. Stores c.args.name d c.args.body) other) refl refl
+
+pub returns-in_default-store : goal.returns-in_default-store
+unfolding Turn
+returns-in_default-store c = λ _ now.
+    let fits : length c.args.body ≤ c.args.limits.max_blob = subst (λ b. length b ≤ c.args.limits.max_blob) c.as_slice.ensures c.if-as_slice-limits.false in
+    let content : c.of-content.result ≡ content_digest c.in-Some.digest.algorithm c.args.body = c.of-content.ensures ∙ (λ i. content_digest (c.algorithm.ensures i) (c.as_slice-2.ensures i)) in
+    let own : content_digest c.in-Some.digest.algorithm c.args.body ≡ c.in-Some.digest = sym content ∙ c.same.ensures.0 c.if-not-same.false in
+    lacks _ _ _ (Stores c.args.name c.in-Some.digest c.args.body) _ _
+    (single_fits c.args.limits.max_blob c.args.name c.args.body c.args.digest c.in-Some.digest fits c.in-Some.is ∙ match c.in-Some.digest c.args.body (λ d. Stores c.args.name d c.args.body) own) refl refl
+    (λ i. record { limits = c.args.limits; issued = c.args.tables.now.issued; sessions = c.args.tables.now.sessions; blobs = c.in_default-store.ensures.err.0 i; pairs = c.in_default-store.ensures.err.1 i })
+
+pub returns : goal.returns
+unfolding Turn
+returns c = λ _ now.
+    let fits : length c.args.body ≤ c.args.limits.max_blob = subst (λ b. length b ≤ c.args.limits.max_blob) c.as_slice.ensures c.if-as_slice-limits.false in
+    let content : c.of-content.result ≡ content_digest c.in-Some.digest.algorithm c.args.body = c.of-content.ensures ∙ (λ i. content_digest (c.algorithm.ensures i) (c.as_slice-2.ensures i)) in
+    let own : content_digest c.in-Some.digest.algorithm c.args.body ≡ c.in-Some.digest = sym content ∙ c.same.ensures.0 c.if-not-same.false in
+    let blobs : c.store.new.self ≡ map.insert c.args.tables.now.blobs c.in-Some.digest c.args.body =
+    c.in-Ok.ensures.blobs ∙ ap (map.insert c.args.tables.now.blobs c.in-Some.digest) c.of-blob.ensures in
+    does _ _ _ (Stores c.args.name c.in-Some.digest c.args.body) _ _
+    (single_fits c.args.limits.max_blob c.args.name c.args.body c.args.digest c.in-Some.digest fits c.in-Some.is ∙ match c.in-Some.digest c.args.body (λ d. Stores c.args.name d c.args.body) own) refl
+    (λ i. record { limits = c.args.limits; issued = c.args.tables.now.issued; sessions = c.args.tables.now.sessions; blobs = blobs i; pairs = c.in-Ok.ensures.pairs i })

@@ -1,0 +1,78 @@
+-- One session with nothing else of the service, and what it would be told.
+use Rattle.std.specs.Prelude.{◌≡◌, ℕ, not, nat_le, Bool, true, false, List, [], ◌∷◌, map as list_map, filter, Option, Some, None}
+use Rattle.std.specs.FinMap as map
+use Rattle.upload_names.specs.Reference.{number_of}
+use Rattle.upload_service.specs.declared.answer.Refusal.TheVariants as refusals
+use Rattle.upload_service.specs.declared.ask.Ask.{Ask}
+use Rattle.upload_service.specs.declared.ask.Ask.TheVariants as asks
+use Rattle.upload_service.specs.declared.answer.Answer.{Answer}
+use Rattle.upload_service.specs.declared.answer.Answer.TheVariants as answers
+use Rattle.upload_service.specs.Machine.{unless_idle, Session, State, Outcome, Takes, Commits, answer_of, at_session}
+use Rattle.upload_service.specs.Run.{Exchange}
+use Rattle.upload_service.specs.Session.{part, received}
+
+-- One session, with nothing else of the service but the largest size of a blob and the longest idle time.
+pub data Life : Type 0 where
+  Unborn : Life
+  Open : (session : Session) → Life
+  Gone : Life
+
+abbrev pub life_of : Option Session → Bool → Life
+life_of (Some session) issued = Open session
+life_of None true = Gone
+life_of None false = Unborn
+
+-- what a session is in a state
+abbrev pub life_in : State → List ℕ → Life
+life_in s at = life_of (map.get s.sessions at) (nat_le (number_of at) s.issued)
+
+abbrev pub life_after : Session → ℕ → Outcome → Life
+life_after session now (Takes name at received) = Open (record { name = name; received = received; seen = now })
+life_after session now (Commits name at digest blob) = Gone
+life_after session now other = Open session
+
+-- the name under which a request asks for a session
+abbrev pub name_of : Ask → List ℕ
+name_of (asks.Chunk name at range body) = name
+name_of (asks.Status name at) = name
+name_of (asks.Close name at range digest body) = name
+name_of other = []
+
+-- what a request to the session comes to
+abbrev pub alone_outcome : ℕ → ℕ → Session → Ask → ℕ → Outcome
+alone_outcome max_blob max_idle session ask now = at_session max_blob (unless_idle max_idle now (Some session)) (name_of ask) ask
+
+-- the answer to a request, and the session after it, where the session is alone
+abbrev pub alone_answer : ℕ → ℕ → List ℕ → Life → Ask → ℕ → Answer
+alone_answer max_blob max_idle at Unborn (asks.Opening name) now = answers.Begun name at
+alone_answer max_blob max_idle at Unborn (asks.Mount name digest source) now = answers.Begun name at
+alone_answer max_blob max_idle at Unborn other now = answers.Refused refusals.NoUpload
+alone_answer max_blob max_idle at (Open session) ask now = answer_of (alone_outcome max_blob max_idle session ask now)
+alone_answer max_blob max_idle at Gone ask now = answers.Refused refusals.NoUpload
+
+abbrev pub alone_after : ℕ → ℕ → Life → Ask → ℕ → Life
+alone_after max_blob max_idle Unborn (asks.Opening name) now = Open (record { name = name; received = []; seen = now })
+alone_after max_blob max_idle Unborn (asks.Mount name digest source) now = Open (record { name = name; received = []; seen = now })
+alone_after max_blob max_idle Unborn other now = Unborn
+alone_after max_blob max_idle (Open session) ask now = life_after session now (alone_outcome max_blob max_idle session ask now)
+alone_after max_blob max_idle Gone ask now = Gone
+
+-- the answers to the requests of one session that is alone, each at its moment
+abbrev pub alone : ℕ → ℕ → List ℕ → Life → List (Ask × ℕ) → List Answer
+alone max_blob max_idle at life [] = []
+alone max_blob max_idle at life ((ask, now) ∷ asked) =
+    alone_answer max_blob max_idle at life ask now ∷ alone max_blob max_idle at (alone_after max_blob max_idle life ask now) asked
+
+abbrev pub lacks_memory : Answer → Bool
+lacks_memory answers.NoMemory = true
+lacks_memory other = false
+
+-- what one session was told, refusals for memory left out
+abbrev pub told : List Exchange → List ℕ → List Exchange
+told xs at = filter (λ x. not (lacks_memory x.answer)) (part xs at)
+
+-- each session is told what it would be told alone
+abbrev pub IsToldAsAlone : State → List Exchange → List ℕ → Type 0
+IsToldAsAlone start xs at =
+    list_map (λ x. x.answer) (told xs at)
+    ≡ alone start.limits.max_blob start.limits.max_idle at (life_in start at) (list_map (λ x. (x.ask, x.now)) (told xs at))

@@ -1,0 +1,6 @@
+-- What the tables, the segments and the hashes of a service stand for. Nothing here is part of what it promises.
+pub mod Entries
+pub mod Pairs
+pub mod Parts
+pub mod Running
+pub mod Tables

@@ -1,0 +1,90 @@
+-- What one session is in a run: its exchanges, the chunks it took, what it has received, and when it is closed.
+use Rattle.std.specs.List.{list_any}
+use Rattle.std.specs.Prelude.{ℕ, ◌+◌, ◌||◌, ◌&&◌, nat_lt, Bool, true, false, List, [], ◌∷◌, ◌++◌, filter, flat_map, Option, Some, None, if◌then◌else◌}
+use Rattle.std.specs.FinMap as map
+use Rattle.upload_service.specs.declared.ask.Ask.{Ask}
+use Rattle.upload_service.specs.declared.ask.Ask.TheVariants as asks
+use Rattle.upload_service.specs.declared.answer.Answer.{Answer}
+use Rattle.upload_service.specs.declared.answer.Answer.TheVariants as answers
+use Rattle.upload_service.specs.Machine.{same, Session, State}
+use Rattle.upload_service.specs.Run.{Exchange}
+
+-- the request carries this reference
+abbrev pub carries : List ℕ → Ask → Bool
+carries at (asks.Chunk name to range body) = same at to
+carries at (asks.Status name to) = same at to
+carries at (asks.Close name to range digest body) = same at to
+carries at other = false
+
+-- the answer begins a session of this reference
+abbrev pub begins : List ℕ → Answer → Bool
+begins at (answers.Begun name new) = same at new
+begins at other = false
+
+-- the exchanges of one session, in their order
+abbrev pub is_part : List ℕ → Exchange → Bool
+is_part at x = carries at x.ask || begins at x.answer
+
+abbrev pub part : List Exchange → List ℕ → List Exchange
+part xs at = filter (is_part at) xs
+
+abbrev pub is_taken : Answer → Bool
+is_taken (answers.Taken name at next) = true
+is_taken other = false
+
+abbrev pub is_stored : Answer → Bool
+is_stored (answers.Stored name digest) = true
+is_stored other = false
+
+-- the body that a session takes: a chunk answered Taken, or a close answered Stored
+abbrev pub accepted_of : Ask → Answer → List (List ℕ)
+accepted_of (asks.Chunk name at range body) answer = if is_taken answer then body ∷ [] else []
+accepted_of (asks.Close name at range digest body) answer = if is_stored answer then body ∷ [] else []
+accepted_of other answer = []
+
+abbrev pub accepted : Exchange → List (List ℕ)
+accepted x = accepted_of x.ask x.answer
+
+-- the chunks that the session took, in the order taken
+abbrev pub taken : List Exchange → List ℕ → List (List ℕ)
+taken xs at = flat_map accepted (part xs at)
+
+abbrev pub joined : List (List ℕ) → List ℕ
+joined chunks = flat_map (λ chunk. chunk) chunks
+
+abbrev pub bytes_of : Option Session → List ℕ
+bytes_of None = []
+bytes_of (Some session) = session.received
+
+-- what the session has received: what it had at the start, and then the chunks it took
+abbrev pub received : State → List Exchange → List ℕ → List ℕ
+received s xs at = bytes_of (map.get s.sessions at) ++ joined (taken xs at)
+
+-- the session was closed by this request
+abbrev pub closes_of : List ℕ → Ask → Answer → Bool
+closes_of at (asks.Close name to range digest body) answer = same at to && is_stored answer
+closes_of at other answer = false
+
+-- the exchange touches the session: it begins it, or the session takes its chunk
+abbrev pub touches : List ℕ → Exchange → Bool
+touches at x = begins at x.answer || (carries at x.ask && is_taken x.answer)
+
+-- when a session was last touched, if it ever was
+abbrev pub seen_of : Option Session → Option ℕ
+seen_of None = None
+seen_of (Some session) = Some session.seen
+
+abbrev pub is_late : ℕ → Option ℕ → ℕ → Bool
+is_late max_idle None now = false
+is_late max_idle (Some touched) now = nat_lt (touched + max_idle) now
+
+-- some exchange, of whichever session, came more than max_idle after the last touch before it
+abbrev pub is_lapsed : ℕ → List ℕ → Option ℕ → List Exchange → Bool
+is_lapsed max_idle at touched [] = false
+is_lapsed max_idle at touched (x ∷ xs) = is_late max_idle touched x.now || is_lapsed max_idle at (if touches at x then Some x.now else touched) xs
+
+-- the session was closed, or fell idle, in these exchanges
+abbrev pub is_closed : State → List Exchange → List ℕ → Bool
+is_closed start xs at =
+    list_any (λ x. closes_of at x.ask x.answer) xs
+    || is_lapsed start.limits.max_idle at (seen_of (map.get start.sessions at)) xs

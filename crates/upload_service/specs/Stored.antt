@@ -1,0 +1,61 @@
+-- What a run stored, and the store after it.
+use Rattle.std.specs.List.{list_any}
+use Rattle.std.specs.Prelude.{◌≡◌, ℕ, ◌+◌, ◌||◌, Bool, false, List, [], ◌∷◌, ◌++◌, length, Option, Some, None, if◌then◌else◌}
+use Rattle.std.specs.FinMap as map
+use Rattle.upload_names.specs.Digest.{Digest}
+use Rattle.upload_service.specs.declared.ask.Ask.{Ask}
+use Rattle.upload_service.specs.declared.ask.Ask.TheVariants as asks
+use Rattle.upload_service.specs.declared.answer.Answer.{Answer}
+use Rattle.upload_service.specs.declared.answer.Answer.TheVariants as answers
+use Rattle.upload_service.specs.Machine.{same_digest, State, holds, pair_cmp}
+use Rattle.std.specs.Ordering.{eq_by_cmp}
+use Rattle.upload_service.specs.Run.{Exchange}
+use Rattle.upload_service.specs.Session.{received}
+
+-- a blob that was stored, and under which name and digest
+pub record Stored : Type 0 where
+  pub name : List ℕ
+  pub digest : Digest
+  pub blob : List ℕ
+
+-- what a request that was answered Stored stored, where upto are the exchanges up to it and with it
+abbrev pub blob_of : State → List Exchange → List ℕ → Digest → Ask → List Stored
+blob_of start upto name digest (asks.Close n at range asked body) = record { name = name; digest = digest; blob = received start upto at } ∷ []
+blob_of start upto name digest (asks.Single n asked body) = record { name = name; digest = digest; blob = body } ∷ []
+blob_of start upto name digest other = []
+
+abbrev pub stored_by : State → List Exchange → Ask → Answer → List Stored
+stored_by start upto ask (answers.Stored name digest) = blob_of start upto name digest ask
+stored_by start upto ask other = []
+
+abbrev pub stored_from : State → List Exchange → List Exchange → List Stored
+stored_from start front [] = []
+stored_from start front (x ∷ xs) = stored_by start (front ++ x ∷ []) x.ask x.answer ++ stored_from start (front ++ x ∷ []) xs
+
+-- the blobs that were stored, in order
+abbrev pub stored : State → List Exchange → List Stored
+stored start xs = stored_from start [] xs
+
+-- the last of them under a digest, and else what was there
+abbrev pub last_under : Digest → List Stored → Option (List ℕ) → Option (List ℕ)
+last_under digest [] had = had
+last_under digest (x ∷ xs) had = last_under digest xs (if same_digest digest x.digest then Some x.blob else had)
+
+-- the repository was told that it has the blob
+abbrev pub notes : List ℕ → Digest → Answer → Bool
+notes name digest (answers.Stored n d) = eq_by_cmp pair_cmp (name, digest) (n, d)
+notes name digest other = false
+
+-- What is stored after a run: under each digest the last blob that was stored there, else what was there at the start;
+-- and the pairs are those of the start and those that were answered Stored.
+pub record IsStoreAfter (start : State) (xs : List Exchange) (end : State) : Type 0 where
+  pub blobs : (digest : Digest) → map.get end.blobs digest ≡ last_under digest (stored start xs) (map.get start.blobs digest)
+  pub pairs : (name : List ℕ) (digest : Digest) → holds end name digest ≡ (holds start name digest || list_any (λ x. notes name digest x.answer) xs)
+
+-- what is handed out of a blob: its own digest, its length, and its bytes, but for a HEAD
+pub record IsHandedOut (digest : Digest) (head : Bool) (blob : Option (List ℕ)) (of : Digest) (size : ℕ) (bytes : Option (List ℕ)) : Type 0 where
+  pub own : of ≡ digest
+  pub content : List ℕ
+  pub is_content : blob ≡ Some content
+  pub is_size : size ≡ length content
+  pub is_bytes : bytes ≡ (if head then None else Some content)

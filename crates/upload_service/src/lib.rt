@@ -1,0 +1,23 @@
+//! The upload service of a registry for blobs: sessions that take chunks, stored blobs, and which repository
+//! has which blob. `Service::step` serves one request. The core is pure: the moment, the secret and the bytes
+//! of a request come in as values.
+#![tactic(auto)]
+
+pub use answer::{Answer, Form, Refusal};
+pub use ask::{Ask, Extent};
+pub use laws::{headline_holds, others_leave_a_session};
+pub use limits::Limits;
+pub use service::Service;
+
+mod answer;
+mod ask;
+mod blob;
+mod blobs;
+mod laws;
+mod limits;
+mod pairs;
+mod received;
+mod segments;
+mod service;
+mod sessions;
+mod turn;

@@ -1,0 +1,145 @@
+//! Bodies one after another. Each is kept as it came, moved in and not copied, but that small ones are joined
+//! into one segment, so that a session which is fed a byte at a time takes little more than its bytes.
+ghost use Rattle.std.specs.Prelude.{◌≡◌, ◌+◌, ◌<◌, ◌≤◌, ◌^◌, ◌++◌, ◌∷◌, [], ℕ, List, length, take, vec_len, vec_capacity, IfOk, OnOk, OnErr};
+ghost use Rattle.upload_service.specs.Kept.Parts.{joined, with_part, whole};
+
+use std::alloc::{AllocError, Global};
+use std::marker::Model;
+use std::mem;
+use upload_names::Bytes;
+
+/// The most bytes of a segment that small bodies are joined into.
+const JOINED_SIZE: usize = 65_536;
+
+/// Segments, seen as those that stay as they are and the last one.
+#[derive(Drop)]
+pub struct Segments {
+    alloc: Global,
+    /// The segments that stay as they are.
+    settled: Vec<Bytes>,
+    /// The last segment, which small bodies are joined to. It is empty where there is none.
+    tail: Vec<u8>,
+    /// How many bytes there are in all.
+    total: u64,
+}
+
+impl Model for Segments {
+    ghost use Rattle.std.specs.Prelude.{◌≡◌, length};
+    ghost use Rattle.upload_service.specs.Kept.Parts.{Parts, whole};
+
+    ghost Value = { Parts };
+
+    ghost view = { λ a. record { settled = a.settled.items; tail = a.tail.items } };
+
+    ghost invariant = { λ a. a.total ≡ length (whole (record { settled = a.settled.items; tail = a.tail.items })) };
+}
+
+impl Segments {
+    /// No segments. It takes no memory.
+    pub fn new(alloc: Global) -> Segments
+        ensures { result ≡ record { settled = []; tail = [] } }
+    {
+        Segments {
+            alloc,
+            settled: Vec::new(alloc),
+            tail: Vec::new(alloc),
+            total: 0,
+        }
+    }
+
+    /// How many bytes there are in all.
+    pub fn total(&self) -> u64
+        ensures { result ≡ length (whole self.now) }
+    {
+        self.total
+    }
+
+    /// The segments that stay as they are, in their order.
+    pub fn settled(&self) -> &[Bytes]
+        ensures { result.now ≡ self.now.settled }
+    {
+        self.settled.as_slice()
+    }
+
+    /// The last segment.
+    pub fn tail(&self) -> &[u8]
+        ensures { result.now ≡ self.now.tail }
+    {
+        self.tail.as_slice()
+    }
+
+    /// Puts a body behind the others. An empty one adds no segment. An `Err` changes nothing.
+    pub fn append(&mut self, body: Bytes) -> Result<(), AllocError>
+        requires { length (whole self.old) + length body < 2 ^ 64 }
+        ensures more { OnOk result (whole self.new ≡ whole self.old ++ body) }
+        ensures front { OnOk result (take (length self.old.settled) self.new.settled ≡ self.old.settled) }
+        ensures longer { OnOk result (length self.old.settled ≤ length self.new.settled) }
+        ensures err { OnErr result (self.new ≡ self.old) }
+    {
+        let size = body.as_slice().len();
+        if size > JOINED_SIZE || self.tail.len() > JOINED_SIZE - size {
+            self.settled.reserve(2)?;
+            roll_over(self.alloc, &mut self.settled, &mut self.tail, body);
+        } else {
+            join(&mut self.tail, body)?;
+        }
+        self.total += size as u64;
+        Ok(())
+    }
+
+    /// Copies the bytes of all segments behind those that are there.
+    pub fn copy_into(&self, bytes: &mut Vec<u8>) -> Result<(), AllocError>
+        ensures { OnOk result (bytes.new.items ≡ bytes.old.items ++ whole self.now) }
+    {
+        for part in self.settled.as_slice() {
+            bytes.extend_from_slice(part.as_slice())?;
+        }
+        bytes.extend_from_slice(self.tail.as_slice())?;
+        Ok(())
+    }
+}
+
+/// Joins a body to the last segment, or moves it in where there is none.
+fn join(tail: &mut Vec<u8>, body: Bytes) -> Result<(), AllocError>
+    ensures ok { OnOk result (tail.new.items ≡ tail.old.items ++ body) }
+    ensures err { OnErr result (tail.new.items ≡ tail.old.items) }
+{
+    if tail.is_empty() {
+        *tail = body.into_vec();
+        return Ok(());
+    }
+    tail.extend_from_slice(body.as_slice())?;
+    Ok(())
+}
+
+/// Settles the last segment and moves a body in behind it: as the last segment where it is small.
+fn roll_over(alloc: Global, settled: &mut Vec<Bytes>, tail: &mut Vec<u8>, body: Bytes)
+    requires { vec_len settled.old + 2 ≤ vec_capacity settled.old }
+    ensures more { joined settled.new.items ++ tail.new.items ≡ joined settled.old.items ++ tail.old.items ++ body }
+    ensures front { take (length settled.old.items) settled.new.items ≡ settled.old.items }
+    ensures longer { length settled.old.items ≤ length settled.new.items }
+{
+    let last = mem::replace(tail, Vec::new(alloc));
+    settle(settled, Bytes::of(last));
+    if body.as_slice().len() > JOINED_SIZE {
+        settle(settled, body);
+    } else {
+        *tail = body.into_vec();
+    }
+}
+
+/// Makes a body a segment that stays as it is, where it isn't empty.
+fn settle(settled: &mut Vec<Bytes>, body: Bytes)
+    requires { vec_len settled.old + 1 ≤ vec_capacity settled.old }
+    ensures items { settled.new.items ≡ with_part settled.old.items body }
+    ensures one { vec_len settled.new ≤ vec_len settled.old + 1 }
+    ensures room { vec_capacity settled.old ≤ vec_capacity settled.new }
+{
+    if body.as_slice().is_empty() {
+        return;
+    }
+    match settled.push(body) {
+        Ok(()) => {}
+        Err(_) => unreachable!(),
+    }
+}

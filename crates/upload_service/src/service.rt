@@ -1,0 +1,144 @@
+//! The service: its tables, the step that serves one request, and runs of it.
+ghost use Rattle.std.specs.Prelude.{◌≡◌, ◌↔◌, IsTrue, List, ℕ, length, IfOk, OnErr};
+ghost use Rattle.upload_service.specs.Machine.{State, IsLawful, AreLawful, Turn, empty_state, holds as holds_of};
+ghost use Rattle.std.specs.FinMap as map;
+ghost use Rattle.std.specs.Option.{option_map};
+ghost use Rattle.upload_service.specs.Run.{Run, NeverFall, exchanges};
+ghost use Rattle.upload_service.specs.Headline.{Headline};
+
+use crate::answer::Answer;
+use crate::ask::Ask;
+use crate::blobs::Blobs;
+use crate::limits::Limits;
+use crate::pairs::Pairs;
+use crate::sessions::Sessions;
+use crate::turn::{Tables, turn};
+use std::alloc::{AllocError, Global};
+use std::marker::Model;
+use upload_names::{BlobDigest, RepoName, UploadRef};
+
+/// The upload service: the open sessions, the stored blobs, and which repository has which blob. It and its
+/// limits are lawful wherever it is held.
+#[derive(Drop)]
+pub struct Service {
+    alloc: Global,
+    limits: Limits,
+    tables: Tables,
+}
+
+impl Model for Service {
+    ghost use Rattle.upload_service.specs.Machine.{State};
+    ghost use Rattle.upload_service.specs.Codes.{state_code};
+
+    ghost Value = { State };
+
+    ghost coded = { state_code };
+
+    ghost use Rattle.upload_service.specs.Kept.Tables.{state_of, IsService};
+
+    ghost view = { λ a. state_of a.limits a.tables };
+
+    ghost invariant = { λ a. IsService a.limits a.tables };
+}
+
+impl Service {
+    /// A new service, which keeps these limits. It takes no memory.
+    pub fn new(alloc: Global, limits: Limits) -> Service
+        requires { AreLawful limits }
+        ensures { result ≡ empty_state limits 0 }
+    {
+        Service::after(alloc, limits, 0)
+    }
+
+    /// A new service with the numbers up to `issued` used up. It takes no memory.
+    pub fn after(alloc: Global, limits: Limits, issued: u32) -> Service
+        requires { AreLawful limits }
+        ensures { result ≡ empty_state limits issued }
+    {
+        Service {
+            alloc,
+            limits,
+            tables: Tables {
+                issued,
+                sessions: Sessions::new(alloc),
+                blobs: Blobs::new(alloc),
+                pairs: Pairs::new(alloc),
+            },
+        }
+    }
+
+    /// The limits that it keeps.
+    pub fn limits(&self) -> Limits
+        ensures limits { result ≡ self.now.limits }
+        ensures lawful_limits { AreLawful result }
+        ensures lawful { IsLawful self.now }
+    {
+        self.limits
+    }
+
+    /// Serves one request, at this moment in seconds: one turn of the machine. The secret is used only where
+    /// the answer is Begun. The answer is NoMemory only where a growth was refused, at a change or where the
+    /// bytes of a blob are handed out, and nothing has changed then.
+    pub fn step(&mut self, ask: Ask, secret: [u8; 12], now: u64) -> Answer
+        ensures turn { Turn self.old ask secret now result self.new }
+        ensures lawful { IsLawful self.new }
+    {
+        turn(self.alloc, self.limits, &mut self.tables, ask, secret, now)
+    }
+
+    /// How many bytes a session has received, or None where no such session is open. One that is idle counts
+    /// as open until it leaves the table. It takes no memory.
+    pub fn next_of(&self, at: &UploadRef) -> Option<u64>
+        ensures { result ≡ option_map (λ session. length session.received) (map.get self.now.sessions at.now) }
+    {
+        match self.tables.sessions.find(at) {
+            Some(session) => Some(session.received.len()),
+            None => None,
+        }
+    }
+
+    /// Whether a repository has a blob. It takes no memory.
+    pub fn holds(&self, name: &RepoName, digest: &BlobDigest) -> bool
+        ensures { result ≡ holds_of self.now name.now digest.now }
+    {
+        self.tables.pairs.contains(name, digest)
+    }
+
+    /// Serves requests in order, each with a secret and at a moment in seconds: one answer for each. The
+    /// answers and the service after them are a run of the machine, and where the moments don't fall the
+    /// headline holds of it. The list of answers is reserved first: an `Err` changes nothing.
+    pub fn run_all(
+        &mut self,
+        alloc: Global,
+        jobs: Vec<(Ask, [u8; 12], u64)>,
+    ) -> Result<Vec<Answer>, AllocError>
+        ensures count { IfOk result (λ answers. length answers.items ≡ length jobs.items) }
+        ensures run { IfOk result (λ answers. Run self.old (exchanges jobs.items answers.items) self.new) }
+        ensures headline { IfOk result (λ answers. NeverFall (exchanges jobs.items answers.items) → Headline self.old (exchanges jobs.items answers.items) self.new) }
+        ensures err { OnErr result (self.new ≡ self.old) }
+    {
+        let _ = &self.limits;
+        let answers = self.run_each(alloc, jobs)?;
+        Ok(answers)
+    }
+
+    fn run_each(
+        &mut self,
+        alloc: Global,
+        jobs: Vec<(Ask, [u8; 12], u64)>,
+    ) -> Result<Vec<Answer>, AllocError>
+        ensures count { IfOk result (λ answers. length answers.items ≡ length jobs.items) }
+        ensures run { IfOk result (λ answers. Run self.old (exchanges jobs.items answers.items) self.new) }
+        ensures err { OnErr result (self.new ≡ self.old) }
+    {
+        let mut answers = Vec::with_capacity(alloc, jobs.len())?;
+        for (ask, secret, now) in jobs {
+            let answer = self.step(ask, secret, now);
+            match answers.push(answer) {
+                Ok(()) => {}
+                Err(_) => unreachable!(),
+            }
+        }
+        Ok(answers)
+    }
+}

@@ -1,0 +1,192 @@
+//! The open sessions, by their references.
+ghost use Rattle.std.specs.Prelude.{◌≡◌, ◌≢◌, ◌↔◌, ◌+◌, ◌<◌, ◌≤◌, ◌^◌, ◌++◌, [], ℕ, length, filter, nat_le, Some, None, IsTrue, IsSome, IfSome, IfNone, OnOk, OnErr};
+ghost use Rattle.std.specs.FinMap as map;
+ghost use Rattle.upload_names.specs.Digest.{HasDigest};
+ghost use Rattle.upload_service.specs.Machine.{Session, is_idle, unless_idle, awake_of, swept_of};
+ghost use Rattle.upload_service.specs.Kept.Entries.{session_of, is_kept};
+
+use crate::limits::Limits;
+use crate::received::Received;
+use std::alloc::{AllocError, Global};
+use std::collections::BTreeMap;
+use std::marker::Model;
+use upload_names::{BlobDigest, Bytes, RepoName, UploadRef};
+
+/// A session that was opened and not yet closed.
+#[derive(Drop)]
+pub struct OpenSession {
+    pub name: RepoName,
+    pub received: Received,
+    /// The moment, in seconds, of its opening or of the last chunk that it took.
+    pub seen: u64,
+}
+
+impl OpenSession {
+    /// Whether it took nothing for more than `max_idle` seconds.
+    fn is_idle(&self, max_idle: u64, now: u64) -> bool
+        ensures { result ≡ is_idle max_idle now (session_of self.now) }
+    {
+        now > self.seen && now - self.seen > max_idle
+    }
+}
+
+/// The open sessions, seen as a map from their references.
+#[derive(Drop)]
+pub struct Sessions {
+    open: BTreeMap<UploadRef, OpenSession>,
+}
+
+impl Model for Sessions {
+    ghost use Rattle.std.specs.FinMap as map;
+    ghost use Rattle.std.specs.Ordering.{nat_cmp};
+    ghost use Rattle.std.specs.Cmp.Lexicographic.{slice_cmp};
+    ghost use Rattle.upload_service.specs.Machine.{Table, Session};
+    ghost use Rattle.upload_service.specs.Codes.{bytes_code, session_code};
+
+    ghost Value = { Table Session };
+
+    ghost coded = { map.code bytes_code session_code };
+
+    ghost use Rattle.upload_service.specs.Kept.Entries.{kept_as, session_of};
+
+    ghost view = { λ a. kept_as (slice_cmp nat_cmp) session_of a.open.entries };
+}
+
+impl Sessions {
+    /// No sessions. It takes no memory.
+    pub fn new(alloc: Global) -> Sessions
+        ensures { result ≡ map.empty }
+    {
+        Sessions {
+            open: BTreeMap::new(alloc),
+        }
+    }
+
+    /// The session of a reference, idle or not.
+    pub fn find(&self, at: &UploadRef) -> Option<&OpenSession>
+        ensures found { IfSome result (λ session. map.get self.now at.now ≡ Some (session_of session.now)) }
+        ensures none { IfNone result (map.get self.now at.now ≡ None) }
+    {
+        self.open.get(at)
+    }
+
+    /// The session of a reference, where it is open under this name and isn't idle.
+    pub fn find_awake(
+        &self,
+        name: &RepoName,
+        at: &UploadRef,
+        max_idle: u64,
+        now: u64,
+    ) -> Option<&OpenSession>
+        ensures found { IfSome result (λ session. map.get self.now at.now ≡ Some (session_of session.now)) }
+        ensures awake { IfSome result (λ session. unless_idle max_idle now (map.get self.now at.now) ≡ Some (session_of session.now)) }
+        ensures named { IfSome result (λ session. session.now.name ≡ name.now) }
+        ensures none { IfNone result ((session : Session) → unless_idle max_idle now (map.get self.now at.now) ≡ Some session → session.name ≢ name.now) }
+    {
+        let Some(session) = self.find(at) else {
+            return None;
+        };
+        if session.is_idle(max_idle, now) {
+            return None;
+        }
+        if !session.name.same(name) {
+            return None;
+        }
+        Some(session)
+    }
+
+    /// Whether as many sessions as may be open are open and not idle. Where the table has room it looks at none.
+    pub fn is_full(&self, limits: Limits, now: u64) -> bool
+        ensures { result ≡ nat_le limits.max_open (map.len (awake_of limits.max_idle now self.now)) }
+    {
+        if self.open.len() < limits.max_open as usize {
+            return false;
+        }
+        count_awake(&self.open, limits.max_idle, now) >= limits.max_open as usize
+    }
+
+    /// Opens a session with no bytes. Where the table is full the idle ones leave it, once there is room.
+    pub fn begin(
+        &mut self,
+        alloc: Global,
+        limits: Limits,
+        at: UploadRef,
+        name: RepoName,
+        now: u64,
+    ) -> Result<(), AllocError>
+        ensures ok { OnOk result (self.new ≡ map.insert (swept_of limits now self.old) at (record { name = name; received = []; seen = now })) }
+        ensures err { OnErr result (self.new ≡ self.old) }
+    {
+        let full = self.open.len() >= limits.max_open as usize;
+        let received = Received::new(alloc);
+        let session = OpenSession {
+            name,
+            received,
+            seen: now,
+        };
+        let Ok(_) = self.open.insert(at, session) else {
+            return Err(AllocError);
+        };
+        if full {
+            sweep(&mut self.open, limits.max_idle, now);
+        }
+        Ok(())
+    }
+
+    /// Has an open session take a body in.
+    pub fn append(&mut self, at: &UploadRef, body: Bytes, now: u64) -> Result<(), AllocError>
+        requires open { IsSome (map.get self.old at.now) }
+        requires fits { (session : Session) → map.get self.old at.now ≡ Some session → length session.received + length body < 2 ^ 64 }
+        ensures ok { OnOk result ((session : Session) → map.get self.old at.now ≡ Some session →
+            self.new ≡ map.insert self.old at.now (record { name = session.name; received = session.received ++ body; seen = now })) }
+        ensures err { OnErr result (self.new ≡ self.old) }
+    {
+        let Some(session) = self.open.get_mut(at) else {
+            unreachable!();
+        };
+        let Ok(()) = session.received.append(body) else {
+            return Err(AllocError);
+        };
+        session.seen = now;
+        Ok(())
+    }
+
+    /// Whether what an open session received and a last body have a digest, by the algorithm of that digest.
+    /// Nothing that is seen changes.
+    pub fn has_digest(&mut self, at: &UploadRef, digest: &BlobDigest, body: &[u8]) -> bool
+        requires { IsSome (map.get self.old at.now) }
+        ensures is { (session : Session) → map.get self.old at.now ≡ Some session → (IsTrue result ↔ HasDigest (session.received ++ body.now) digest.now) }
+        ensures same { self.new ≡ self.old }
+    {
+        let Some(session) = self.open.get_mut(at) else {
+            unreachable!();
+        };
+        session.received.has_digest(digest, body)
+    }
+
+    /// Closes a session and hands it out.
+    pub fn close(&mut self, at: &UploadRef) -> Option<OpenSession>
+        ensures found { IfSome result (λ session. map.get self.old at.now ≡ Some (session_of session)) }
+        ensures none { IfNone result (map.get self.old at.now ≡ None) }
+        ensures closed { IsSome result → self.new ≡ map.remove self.old at.now }
+    {
+        self.open.remove(at)
+    }
+}
+
+/// How many sessions aren't idle.
+fn count_awake(entries: &BTreeMap<UploadRef, OpenSession>, max_idle: u64, now: u64) -> usize
+    ensures { result ≡ length (filter (is_kept max_idle now) entries.now.entries) }
+{
+    entries
+        .iter()
+        .filter(|entry| !entry.1.is_idle(max_idle, now))
+        .count()
+}
+
+/// Has the idle sessions leave the table.
+fn sweep(entries: &mut BTreeMap<UploadRef, OpenSession>, max_idle: u64, now: u64)
+    ensures { entries.new.entries ≡ filter (is_kept max_idle now) entries.old.entries }
+{
+    entries.retain(|_, session| !session.is_idle(max_idle, now));
+}

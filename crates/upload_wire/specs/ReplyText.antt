@@ -1,0 +1,200 @@
+-- The replies (RFC 9112, sections 4 and 5; RFC 9110, section 15, for the reasons; OCI Distribution Specification 1.1,
+-- sections "Push" and "Error Codes").
+use Rattle.std.specs.Prelude.{ℕ, ◌-◌, Bool, false, ◌==◌, List, [], ◌∷◌, ◌++◌, length, codes, decimal, flat_map, unwrap_or, if◌then◌else◌}
+use Rattle.httparse.specs.Ascii.{crlf_bytes}
+use Rattle.upload_names.specs.Digest.{Digest, digest_text}
+use Rattle.upload_names.specs.Reference.{reference_text}
+use Rattle.upload_service.specs.declared.answer.Answer.{Answer}
+use Rattle.upload_service.specs.declared.answer.Answer.TheVariants as answers
+use Rattle.upload_service.specs.declared.answer.Form.{Form}
+use Rattle.upload_service.specs.declared.answer.Form.TheVariants as forms
+use Rattle.upload_service.specs.declared.answer.Refusal.{Refusal}
+use Rattle.upload_service.specs.declared.answer.Refusal.TheVariants as refusals
+use Rattle.upload_wire.specs.declared.request.Style.{Style}
+use Rattle.upload_wire.specs.declared.reply.status.Status.{Status}
+use Rattle.upload_wire.specs.declared.reply.status.Status.TheVariants as statuses
+use Rattle.upload_wire.specs.declared.reply.error.ErrorCode.{ErrorCode}
+use Rattle.upload_wire.specs.declared.reply.error.ErrorCode.TheVariants as errors
+
+-- a field, as its name and its value
+abbrev pub ReplyField : Type 0
+ReplyField = List ℕ × List ℕ
+
+-- name: value
+abbrev pub print_field : ReplyField → List ℕ
+print_field (name, value) = name ++ (codes ": " ++ (value ++ crlf_bytes))
+
+-- the number and the reason of a status
+abbrev pub status_text : Status → List ℕ
+status_text statuses.Ok = codes "200 OK"
+status_text statuses.Created = codes "201 Created"
+status_text statuses.Accepted = codes "202 Accepted"
+status_text statuses.NoContent = codes "204 No Content"
+status_text statuses.BadRequest = codes "400 Bad Request"
+status_text statuses.NotFound = codes "404 Not Found"
+status_text statuses.MethodNotAllowed = codes "405 Method Not Allowed"
+status_text statuses.LengthRequired = codes "411 Length Required"
+status_text statuses.ContentTooLarge = codes "413 Content Too Large"
+status_text statuses.RangeNotSatisfiable = codes "416 Range Not Satisfiable"
+status_text statuses.TooManyRequests = codes "429 Too Many Requests"
+status_text statuses.HeaderFieldsTooLarge = codes "431 Request Header Fields Too Large"
+status_text statuses.ServiceUnavailable = codes "503 Service Unavailable"
+
+-- HTTP/1.1 <status>
+abbrev pub status_line : Status → List ℕ
+status_line status = codes "HTTP/1.1 " ++ (status_text status ++ crlf_bytes)
+
+-- the field that closes the connection
+abbrev pub closing_fields : Bool → List ReplyField
+closing_fields keep = if keep then [] else (codes "Connection", codes "close") ∷ []
+
+-- the status line, the fields, and an empty line
+abbrev pub print_head : Status → List ReplyField → Bool → List ℕ
+print_head status fields keep = status_line status ++ (flat_map print_field (fields ++ closing_fields keep) ++ crlf_bytes)
+
+-- Content-Length: <count>
+abbrev pub length_field : ℕ → ReplyField
+length_field count = (codes "Content-Length", decimal count)
+
+-- the status of the reply to a request that could not be read, by its number
+abbrev pub bad_status : ℕ → Status
+bad_status number =
+    if number == 2 then statuses.HeaderFieldsTooLarge
+    else if number == 4 then statuses.ContentTooLarge
+    else if number == 5 then statuses.LengthRequired
+    else statuses.BadRequest
+
+-- the reply to a request that could not be read
+abbrev pub bad : ℕ → List ℕ
+bad number = print_head (bad_status number) (length_field 0 ∷ []) false
+
+-- a code of the OCI Distribution Specification
+abbrev pub code_text : ErrorCode → List ℕ
+code_text errors.BlobUnknown = codes "BLOB_UNKNOWN"
+code_text errors.BlobUploadInvalid = codes "BLOB_UPLOAD_INVALID"
+code_text errors.BlobUploadUnknown = codes "BLOB_UPLOAD_UNKNOWN"
+code_text errors.DigestInvalid = codes "DIGEST_INVALID"
+code_text errors.NameInvalid = codes "NAME_INVALID"
+code_text errors.SizeInvalid = codes "SIZE_INVALID"
+code_text errors.Unsupported = codes "UNSUPPORTED"
+code_text errors.TooManyRequests = codes "TOOMANYREQUESTS"
+
+abbrev pub message : ErrorCode → List ℕ
+message errors.BlobUnknown = codes "blob unknown to registry"
+message errors.BlobUploadInvalid = codes "blob upload invalid"
+message errors.BlobUploadUnknown = codes "blob upload unknown to registry"
+message errors.DigestInvalid = codes "provided digest did not match uploaded content"
+message errors.NameInvalid = codes "invalid repository name"
+message errors.SizeInvalid = codes "provided length did not match content length"
+message errors.Unsupported = codes "the operation is unsupported"
+message errors.TooManyRequests = codes "too many requests"
+
+-- {"errors":[{"code":"<code>","message":"<message>"}]}
+abbrev pub error_body : ErrorCode → List ℕ
+error_body code =
+    codes "{\"errors\":[{\"code\":\"" ++ (code_text code ++ (codes "\",\"message\":\"" ++ (message code ++ codes "\"}]}")))
+
+abbrev pub refusal_status : Refusal → Status
+refusal_status refusals.NoForm = statuses.NotFound
+refusal_status refusals.BadName = statuses.NotFound
+refusal_status (refusals.Method form) = statuses.MethodNotAllowed
+refusal_status refusals.NoUpload = statuses.NotFound
+refusal_status refusals.BadRange = statuses.BadRequest
+refusal_status refusals.WrongLength = statuses.BadRequest
+refusal_status refusals.TooLarge = statuses.ContentTooLarge
+refusal_status refusals.NoDigest = statuses.BadRequest
+refusal_status refusals.Mismatch = statuses.BadRequest
+refusal_status refusals.HasBody = statuses.BadRequest
+refusal_status refusals.TooMany = statuses.TooManyRequests
+refusal_status refusals.NoBlob = statuses.NotFound
+refusal_status refusals.BadDigest = statuses.BadRequest
+
+abbrev pub refusal_code : Refusal → ErrorCode
+refusal_code refusals.NoForm = errors.Unsupported
+refusal_code refusals.BadName = errors.NameInvalid
+refusal_code (refusals.Method form) = errors.Unsupported
+refusal_code refusals.NoUpload = errors.BlobUploadUnknown
+refusal_code refusals.BadRange = errors.BlobUploadInvalid
+refusal_code refusals.WrongLength = errors.SizeInvalid
+refusal_code refusals.TooLarge = errors.SizeInvalid
+refusal_code refusals.NoDigest = errors.DigestInvalid
+refusal_code refusals.Mismatch = errors.DigestInvalid
+refusal_code refusals.HasBody = errors.SizeInvalid
+refusal_code refusals.TooMany = errors.TooManyRequests
+refusal_code refusals.NoBlob = errors.BlobUnknown
+refusal_code refusals.BadDigest = errors.DigestInvalid
+
+-- the methods of a form
+abbrev pub methods : Form → List ℕ
+methods forms.Base = codes "GET, HEAD"
+methods forms.Blob = codes "GET, HEAD"
+methods forms.Uploads = codes "POST"
+methods forms.Upload = codes "GET, HEAD, PATCH, PUT"
+
+-- Allow, where the method is not of the form
+abbrev pub allow_fields : Refusal → List ReplyField
+allow_fields (refusals.Method form) = (codes "Allow", methods form) ∷ []
+allow_fields other = []
+
+-- the path of an upload
+abbrev pub upload_location : List ℕ → List ℕ → List ℕ
+upload_location name at = codes "/v2/" ++ (name ++ (codes "/blobs/uploads/" ++ reference_text at))
+
+-- the path of a blob
+abbrev pub blob_location : List ℕ → Digest → List ℕ
+blob_location name digest = codes "/v2/" ++ (name ++ (codes "/blobs/" ++ digest_text digest))
+
+-- Range: 0-<last>, where there are bytes
+abbrev pub range_fields : ℕ → List ReplyField
+range_fields next = if next == 0 then [] else (codes "Range", codes "0-" ++ decimal (next - 1)) ∷ []
+
+-- where an upload is, and how far it has come
+abbrev pub upload_fields : List ℕ → List ℕ → ℕ → List ReplyField
+upload_fields name at next = (codes "Location", upload_location name at) ∷ range_fields next
+
+-- the kind and the length of a body
+abbrev pub body_fields : List ℕ → ℕ → List ReplyField
+body_fields kind size = (codes "Content-Type", kind) ∷ length_field size ∷ []
+
+abbrev pub error_fields : ErrorCode → List ReplyField
+error_fields code = body_fields (codes "application/json") (length (error_body code))
+
+-- a reply, but for the field that closes the connection
+pub record Reply : Type 0 where
+  pub status : Status
+  pub fields : List ReplyField
+  pub body : List ℕ
+
+abbrev pub without_body : Status → List ReplyField → Reply
+without_body status fields = record { status = status; fields = fields; body = [] }
+
+abbrev pub with_error : Status → List ReplyField → ErrorCode → Reply
+with_error status fields code = record { status = status; fields = fields ++ error_fields code; body = error_body code }
+
+-- the reply to each answer
+abbrev pub reply_of : Answer → Reply
+reply_of answers.Base = without_body statuses.Ok (length_field 0 ∷ [])
+reply_of (answers.Blob digest size bytes) = record {
+  status = statuses.Ok;
+  fields = (codes "Docker-Content-Digest", digest_text digest) ∷ body_fields (codes "application/octet-stream") size;
+  body = unwrap_or bytes [];
+}
+reply_of (answers.Begun name at) = without_body statuses.Accepted ((codes "Location", upload_location name at) ∷ length_field 0 ∷ [])
+reply_of (answers.Stored name digest) = without_body statuses.Created ((codes "Location", blob_location name digest) ∷ length_field 0 ∷ [])
+reply_of (answers.Taken name at next) = without_body statuses.Accepted (upload_fields name at next ++ length_field 0 ∷ [])
+reply_of (answers.Standing name at next) = without_body statuses.NoContent (upload_fields name at next)
+reply_of (answers.Misplaced name at next) = with_error statuses.RangeNotSatisfiable (upload_fields name at next) errors.BlobUploadInvalid
+reply_of (answers.Refused refusal) = with_error (refusal_status refusal) (allow_fields refusal) (refusal_code refusal)
+reply_of answers.NoMemory = without_body statuses.ServiceUnavailable (length_field 0 ∷ [])
+
+-- the bytes of the reply up to its body
+abbrev pub reply_head : Answer → Bool → List ℕ
+reply_head answer keep = print_head (reply_of answer).status (reply_of answer).fields keep
+
+-- the bytes of the body: a HEAD gets none
+abbrev pub reply_body : Answer → Bool → List ℕ
+reply_body answer head = if head then [] else (reply_of answer).body
+
+-- the bytes of the reply
+abbrev pub reply : Answer → Style → List ℕ
+reply answer style = reply_head answer style.keep ++ reply_body answer style.head

@@ -1,0 +1,93 @@
+-- A request as a text: its head, its body, and what it asks (RFC 9112, sections 2 and 6).
+use Rattle.std.specs.Prelude.{◌≡◌, ℕ, ◌⊎◌, Bool, List, [], ◌++◌, codes, bytes_eq, Option, Result, Ok, Err, ⊤}
+use Rattle.std.specs.Io.KnownBytes.{Consumes, IsAtEnd}
+use Rattle.httparse.specs.Grammar.{RequestHead}
+use Rattle.upload_service.specs.declared.ask.Ask.{Ask}
+use Rattle.upload_wire.specs.Fronts.{ReadsHead, IsRefused, IsTooLong, IsUnfinished}
+use Rattle.upload_wire.specs.Fields.{head_fields, keeps_connection}
+use Rattle.upload_wire.specs.Body.{head_framing, IsBodyText, IsBadBody, IsCutBody}
+use Rattle.upload_wire.specs.Target.{AsksWhole}
+use Rattle.upload_wire.specs.declared.framing.Framing.{Framing}
+use Rattle.upload_wire.specs.declared.fault.WireFault.{WireFault}
+use Rattle.upload_wire.specs.declared.fault.WireFault.TheVariants as Fault
+use Rattle.upload_wire.specs.declared.request.Style.{Style}
+use Rattle.upload_wire.specs.declared.request.Next.{Next}
+use Rattle.upload_wire.specs.declared.request.Next.TheVariants.{Request, Over, Bad}
+
+-- how a request wants its reply
+abbrev pub style_of : RequestHead → Style
+style_of head = record {
+  head = bytes_eq head.method (codes "HEAD");
+  keep = keeps_connection head.minor (head_fields head);
+}
+
+-- the text is a head and the body that its fields announce, and it asks this
+pub record IsRequest (max_body : ℕ) (text : List ℕ) (ask : Ask) (style : Style) : Type 0 where
+  pub head : RequestHead
+  pub rest : List ℕ
+  pub reads : ReadsHead text head rest
+  pub framing : Framing
+  pub framed : head_framing max_body head ≡ Ok framing
+  pub body : List ℕ
+  pub written : IsBodyText max_body framing rest body
+  pub asks : AsksWhole head body ask
+  pub styled : style ≡ style_of head
+
+-- the text begins with a head that announces no body that may be read
+pub record RefusesFraming (max_body : ℕ) (text : List ℕ) (number : ℕ) : Type 0 where
+  pub head : RequestHead
+  pub rest : List ℕ
+  pub reads : ReadsHead text head rest
+  pub refused : head_framing max_body head ≡ Err number
+
+-- the text begins with a head, and what follows is refused as its body
+pub record RefusesBody (max_body : ℕ) (text : List ℕ) (number : ℕ) : Type 0 where
+  pub head : RequestHead
+  pub rest : List ℕ
+  pub reads : ReadsHead text head rest
+  pub framing : Framing
+  pub framed : head_framing max_body head ≡ Ok framing
+  pub refused : IsBadBody max_body framing rest number
+
+-- the input that begins with the text is refused with this number
+abbrev pub IsBad : ℕ → List ℕ → ℕ → Type 0
+IsBad max_body text number =
+    ((number ≡ 1) × IsRefused text) ⊎ (((number ≡ 2) × IsTooLong text)
+    ⊎ (RefusesFraming max_body text number ⊎ RefusesBody max_body text number))
+
+-- the text has a head, and ends inside its body
+pub record HasCutBody (max_body : ℕ) (text : List ℕ) : Type 0 where
+  pub head : RequestHead
+  pub rest : List ℕ
+  pub reads : ReadsHead text head rest
+  pub framing : Framing
+  pub framed : head_framing max_body head ≡ Ok framing
+  pub short : IsCutBody max_body framing rest
+
+-- the input that is no more than the text ends inside a request
+abbrev pub IsTruncated : ℕ → List ℕ → Type 0
+IsTruncated max_body text = IsUnfinished text ⊎ HasCutBody max_body text
+
+-- the text is a request, and then rest
+pub record ReadsOne (max_body : ℕ) (text rest : List ℕ) (ask : Ask) (style : Style) : Type 0 where
+  pub message : List ℕ
+  pub cut : text ≡ message ++ rest
+  pub request : IsRequest max_body message ask style
+
+-- what the reader found in the text, where it holds rest and the source is left as new
+abbrev pub FindsNext : ℕ → List ℕ → List ℕ → Option (List ℕ) → Result Next WireFault → Type 0
+FindsNext max_body text rest new (Ok (Request ask style)) = ReadsOne max_body text rest ask style
+FindsNext max_body text rest new (Ok Over) = (text ≡ []) × (rest ≡ []) × IsAtEnd new
+FindsNext max_body text rest new (Ok (Bad number)) = IsBad max_body text number
+FindsNext max_body text rest new (Err Fault.Truncated) = IsTruncated max_body text × IsAtEnd new
+FindsNext max_body text rest new (Err Fault.Read) = ⊤
+FindsNext max_body text rest new (Err Fault.NoMemory) = ⊤
+FindsNext max_body text rest new (Err Fault.Ended) = ⊥
+
+-- some bytes were read, and this was found in what was held and read
+pub record ReadsNext
+    (max_body : ℕ) (held : List ℕ) (old : Option (List ℕ)) (rest : List ℕ) (new : Option (List ℕ)) (r : Result Next WireFault)
+    : Type 0 where
+  pub given : List ℕ
+  pub consumed : Consumes old new given
+  pub found : FindsNext max_body (held ++ given) rest new r

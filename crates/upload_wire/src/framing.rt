@@ -1,0 +1,67 @@
+//! How long a body is, and how it is written.
+ghost use Rattle.std.specs.Prelude.{◌≡◌, ◌^◌, ◌≤◌};
+ghost use Rattle.upload_wire.specs.Body.{length_of, framing_of};
+ghost use Rattle.upload_wire.specs.HeadReading.{IsHeadOf};
+ghost use Rattle.upload_wire.specs.FieldReading.{fields_of};
+
+use crate::fields::{Occurrence, field_named, is_same_word};
+use crate::parsed::ParsedHead;
+
+/// How a body stands in the input.
+#[derive(Clone, Copy, Debug, PartialEq, Eq)]
+pub enum Framing {
+    /// So many bytes.
+    Length(u64),
+    /// Chunks, each behind its size.
+    Chunked,
+}
+
+/// The number that the digits of a Content-Length write, or a Bad number.
+fn length_of(value: &[u8], max_body: u64) -> Result<u64, u8>
+    requires { max_body ≤ 2 ^ 31 }
+    ensures { result ≡ length_of max_body value.now }
+{
+    if value.is_empty() {
+        return Err(3);
+    }
+    let mut total: u64 = 0;
+    for b in value {
+        if !b.is_ascii_digit() {
+            return Err(3);
+        }
+        if total <= max_body {
+            total = total * 10 + u64::from(*b - b'0');
+        }
+    }
+    if total > max_body {
+        return Err(4);
+    }
+    Ok(total)
+}
+
+/// How the body behind a head is written, or a Bad number: 3 where its length is unreadable or said twice,
+/// or where it has a coding too; 4 where its length is over the limit; 5 for a coding other than one
+/// `chunked` in HTTP/1.1.
+pub fn framing_of(head: &[u8], parsed: &ParsedHead, max_body: u64) -> Result<Framing, u8>
+    requires limit { max_body ≤ 2 ^ 31 }
+    requires head { IsHeadOf head.now parsed.now }
+    ensures { result ≡ framing_of max_body parsed.now.spans.version (fields_of head.now parsed.now) }
+{
+    let coding = field_named(head, parsed, b"transfer-encoding");
+    let length = field_named(head, parsed, b"content-length");
+    match (coding, length) {
+        (Occurrence::Absent, Occurrence::Absent) => Ok(Framing::Length(0)),
+        (Occurrence::Absent, Occurrence::Once(value)) => match length_of(value, max_body) {
+            Ok(length) => Ok(Framing::Length(length)),
+            Err(number) => Err(number),
+        },
+        (Occurrence::Absent, Occurrence::Repeated) => Err(3),
+        (Occurrence::Once(coding), Occurrence::Absent)
+            if parsed.spans.version == 1 && is_same_word(coding, b"chunked") =>
+        {
+            Ok(Framing::Chunked)
+        }
+        (_, Occurrence::Absent) => Err(5),
+        (_, _) => Err(3),
+    }
+}

@@ -1,0 +1,150 @@
+//! Heads of requests, read from a source of bytes.
+ghost use Rattle.std.specs.Prelude.{◌≡◌, ◌≢◌, ℕ, ◌+◌, ◌<◌, ◌≤◌, List, length, take, Ok, Err, IfOk, IfErr, IsTrue, IsFalse};
+ghost use Rattle.std.specs.Io.KnownBytes.{IsAtEnd};
+ghost use Rattle.httparse.specs.Grammar.{HasNoRequest};
+ghost use Rattle.upload_wire.specs.Counts.{CountsUp, CountsAtMost};
+ghost use Rattle.upload_wire.specs.Fronts.{line_feeds};
+ghost use Rattle.upload_wire.specs.Reading.{Gave};
+ghost use Rattle.upload_wire.specs.HeadReading.{Judges, JudgesAt, FindsHead};
+
+use crate::buffer::{CAPACITY, ReadBuffer};
+use crate::bytes::ByteSource;
+use crate::fault::WireFault;
+use crate::parsed::ParsedHead;
+use httparse::Status;
+use httparse::spans::{EMPTY_HEADER_SPAN, parse_request};
+
+/// The most bytes of a head, with its empty line.
+pub const MAX_HEAD: usize = 16_384;
+
+/// The most fields of a head.
+pub const MAX_FIELDS: usize = 64;
+
+/// What a front of the input is.
+#[derive(Clone, Copy)]
+pub enum Verdict {
+    /// It is a head.
+    Complete(ParsedHead),
+    /// No head of the limits begins with it.
+    Refused,
+    /// It is no head yet.
+    Open,
+}
+
+/// What stands at the front of the input.
+#[derive(Clone, Copy)]
+pub enum HeadRead {
+    /// The input has no more bytes.
+    Over,
+    /// No head.
+    Refused,
+    /// The most bytes of a head, and no head in them.
+    TooLong,
+    /// A head.
+    Head(ParsedHead),
+}
+
+/// Asks the parser for a verdict on a front of the input.
+fn judge(front: &[u8]) -> Verdict
+    ensures { Judges front.now result }
+{
+    let mut headers = [EMPTY_HEADER_SPAN; MAX_FIELDS];
+    match parse_request(front, &mut headers) {
+        Ok(Status::Complete(spans)) => Verdict::Complete(ParsedHead { spans, headers }),
+        Ok(Status::Partial) => Verdict::Open,
+        Err(_) => Verdict::Refused,
+    }
+}
+
+/// The verdict on the front that ends at a byte, where so many lines ended before it. A head ends in a line
+/// feed, and one of 64 fields has 66 of them: a front with more that is no head is given up, so that a
+/// hostile head costs at most 66 verdicts.
+fn judge_at(text: &[u8], at: usize, lines: usize) -> Verdict
+    requires in_range { at < length text.now }
+    requires short { at < MAX_HEAD }
+    requires counted { lines ≡ line_feeds (take at text.now) }
+    requires none_before { HasNoRequest (take at text.now) }
+    ensures { JudgesAt text.now at result }
+{
+    if text[at] != b'\n' {
+        return Verdict::Open;
+    }
+    let verdict = judge(&text[..at + 1]);
+    if lines <= MAX_FIELDS {
+        return verdict;
+    }
+    match verdict {
+        Verdict::Open => Verdict::Refused,
+        verdict => verdict,
+    }
+}
+
+/// How many lines ended up to a byte, where so many ended before it.
+fn lines_after(text: &[u8], at: usize, lines: usize) -> usize
+    requires in_range { at < length text.now }
+    requires short { at < MAX_HEAD }
+    requires counted { lines ≡ line_feeds (take at text.now) }
+    ensures { result ≡ line_feeds (take (at + 1) text.now) }
+{
+    if text[at] == b'\n' { lines + 1 } else { lines }
+}
+
+/// Reads until the buffer has a byte at this index. `false`: the input ended before it.
+pub fn has_byte<S: ByteSource>(
+    source: &mut S,
+    buffer: &mut ReadBuffer,
+    at: usize,
+) -> Result<bool, WireFault>
+    requires near { at ≤ length buffer.old }
+    requires small { at < CAPACITY }
+    ensures gave { Gave (S.remaining source.old) (S.remaining source.new) buffer.old buffer.new }
+    ensures there { IfOk result (λ b. IsTrue b → at < length buffer.new) }
+    ensures ended { IfOk result (λ b. IsFalse b → (length buffer.new ≡ at)
+        × (buffer.new ≡ buffer.old) × IsAtEnd (S.remaining source.new)) }
+    ensures error { IfErr result (λ e. e ≡ WireFault.Read) }
+    ensures reads { CountsAtMost (S.reads source.old) (S.reads source.new) 1 }
+    ensures failed { result ≡ Err WireFault.Read
+        → CountsUp (S.failed_reads source.old) (S.failed_reads source.new) }
+    ensures unfailed { result ≢ Err WireFault.Read
+        → S.failed_reads source.new ≡ S.failed_reads source.old }
+{
+    if at < buffer.len() {
+        return Ok(true);
+    }
+    match buffer.fill(source) {
+        Ok(count) => Ok(count > 0),
+        Err(fault) => Err(fault),
+    }
+}
+
+/// Reads the head of a request, behind what the buffer holds of it.
+pub fn read_head<S: ByteSource>(
+    source: &mut S,
+    buffer: &mut ReadBuffer,
+) -> Result<HeadRead, WireFault>
+    ensures gave { Gave (S.remaining source.old) (S.remaining source.new) buffer.old buffer.new }
+    ensures found { FindsHead buffer.new (S.remaining source.new) result }
+    ensures reads { CountsAtMost (S.reads source.old) (S.reads source.new) MAX_HEAD }
+    ensures failed { result ≡ Err WireFault.Read
+        → CountsUp (S.failed_reads source.old) (S.failed_reads source.new) }
+    ensures unfailed { result ≢ Err WireFault.Read
+        → S.failed_reads source.new ≡ S.failed_reads source.old }
+{
+    let mut lines = 0;
+    for at in 0..MAX_HEAD {
+        if !has_byte(source, buffer, at)? {
+            return if at == 0 {
+                Ok(HeadRead::Over)
+            } else {
+                Err(WireFault::Truncated)
+            };
+        }
+        match judge_at(buffer.as_slice(), at, lines) {
+            Verdict::Complete(parsed) => return Ok(HeadRead::Head(parsed)),
+            Verdict::Refused => return Ok(HeadRead::Refused),
+            Verdict::Open => {}
+        }
+        lines = lines_after(buffer.as_slice(), at, lines);
+    }
+    Ok(HeadRead::TooLong)
+}

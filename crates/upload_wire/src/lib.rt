@@ -1,0 +1,27 @@
+//! HTTP/1.1 requests and replies of the blob-upload service, from bytes and to bytes.
+//!
+//! A request goes through `request`, which reads its head (`head`, `fields`), what it asks (`target`,
+//! `query`, `draft`) and its body (`framing`, `body`, `chunked`) out of one buffer (`buffer`).
+#![tactic(auto)]
+
+mod buffer;
+mod bytes;
+mod elements;
+mod fault;
+mod fields;
+mod framing;
+mod head;
+mod parsed;
+mod reply;
+mod request;
+mod target;
+mod writing;
+
+pub use bytes::{ByteSink, ByteSource, Failed, FromRead, ToWrite};
+pub use fault::WireFault;
+pub use reply::{write_bad, write_reply};
+pub use request::{Next, Style};
+pub use writing::WriteFault;
+
+#[cfg(test)]
+mod memory;

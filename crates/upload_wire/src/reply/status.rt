@@ -1,0 +1,46 @@
+//! The statuses of replies.
+ghost use Rattle.std.specs.Prelude.{◌≡◌, ◌≤◌, length};
+
+/// A status of a reply (RFC 9110, section 15).
+#[derive(Clone, Copy, Debug, PartialEq, Eq)]
+pub(crate) enum Status {
+    Ok,
+    Created,
+    Accepted,
+    NoContent,
+    BadRequest,
+    NotFound,
+    MethodNotAllowed,
+    LengthRequired,
+    ContentTooLarge,
+    RangeNotSatisfiable,
+    TooManyRequests,
+    HeaderFieldsTooLarge,
+    ServiceUnavailable,
+}
+
+impl Status {
+    ghost use Rattle.upload_wire.specs.ReplyText.{status_line};
+
+    /// The first line of a reply.
+    pub(crate) fn line(self) -> &'static str
+        ensures line { result.now ≡ status_line self }
+        ensures short { length result.now ≤ 46 }
+    {
+        match self {
+            Status::Ok => "HTTP/1.1 200 OK\r\n",
+            Status::Created => "HTTP/1.1 201 Created\r\n",
+            Status::Accepted => "HTTP/1.1 202 Accepted\r\n",
+            Status::NoContent => "HTTP/1.1 204 No Content\r\n",
+            Status::BadRequest => "HTTP/1.1 400 Bad Request\r\n",
+            Status::NotFound => "HTTP/1.1 404 Not Found\r\n",
+            Status::MethodNotAllowed => "HTTP/1.1 405 Method Not Allowed\r\n",
+            Status::LengthRequired => "HTTP/1.1 411 Length Required\r\n",
+            Status::ContentTooLarge => "HTTP/1.1 413 Content Too Large\r\n",
+            Status::RangeNotSatisfiable => "HTTP/1.1 416 Range Not Satisfiable\r\n",
+            Status::TooManyRequests => "HTTP/1.1 429 Too Many Requests\r\n",
+            Status::HeaderFieldsTooLarge => "HTTP/1.1 431 Request Header Fields Too Large\r\n",
+            Status::ServiceUnavailable => "HTTP/1.1 503 Service Unavailable\r\n",
+        }
+    }
+}

@@ -1,0 +1,56 @@
+//! Writes of whole texts.
+ghost use Rattle.std.specs.Prelude.{◌≡◌, ◌++◌, List, ℕ};
+ghost use Rattle.upload_wire.specs.Writing.{Sink, Wrote, sink};
+
+use crate::bytes::ByteSink;
+
+/// A write or a flush failed. What was written up to then is a front of the text.
+#[derive(Clone, Copy, Debug, PartialEq, Eq)]
+pub struct WriteFault;
+
+/// Writes all the bytes, in one write where the writer takes them so.
+pub(crate) fn write_all<W: ByteSink>(writer: &mut W, bytes: &[u8]) -> Result<(), WriteFault>
+    ensures { Wrote (sink (W.contents writer.old) (W.failed_writes writer.old))
+        (sink (W.contents writer.new) (W.failed_writes writer.new)) bytes.now result }
+{
+    let mut at = 0;
+    while at < bytes.len() {
+        match writer.write(&bytes[at..]) {
+            Ok(count) => at += count,
+            Err(_) => return Err(WriteFault),
+        }
+    }
+    Ok(())
+}
+
+/// Writes these bytes too, unless a write has failed.
+pub(crate) fn then_write<W: ByteSink>(
+    done: Result<(), WriteFault>,
+    writer: &mut W,
+    bytes: &[u8],
+) -> Result<(), WriteFault>
+    ensures { (start : Sink) (text : List ℕ)
+        → Wrote start (sink (W.contents writer.old) (W.failed_writes writer.old)) text done
+        → Wrote start (sink (W.contents writer.new) (W.failed_writes writer.new)) (text ++ bytes.now) result }
+{
+    done?;
+    write_all(writer, bytes)
+}
+
+/// Flushes, unless a write has failed.
+pub(crate) fn then_flush<W: ByteSink>(
+    done: Result<(), WriteFault>,
+    writer: &mut W,
+) -> Result<(), WriteFault>
+    ensures { (start : Sink) (text : List ℕ)
+        → Wrote start (sink (W.contents writer.old) (W.failed_writes writer.old)) text done
+        → Wrote start (sink (W.contents writer.new) (W.failed_writes writer.new)) text result }
+{
+    match done {
+        Ok(()) => match writer.flush() {
+            Ok(()) => Ok(()),
+            Err(_) => Err(WriteFault),
+        },
+        Err(fault) => Err(fault),
+    }
+}
