@@ -21,7 +21,9 @@ TYPE_PARAMETER = re.compile(r"<[A-Z][0-9]?(,|>)|[:,] *[A-Z][0-9] *:")
 HOLE = re.compile(r"(=\s*\?|[( ]\?[ ),]|\?\s*$)")
 PUBLIC_FUNCTION = re.compile(r"^\s*pub (?:const )?fn (\w+)")
 IMPL = re.compile(r"^impl(?:<.*?>)?\s+(?:[\w:<>', ]+\s+for\s+)?(\w+)")
-EMPTY_BODY = re.compile(r"\{\s*\}")
+TEST_MODULE = re.compile(r"#\[cfg\(test\)\]\s*mod \w+ \{")
+# A law takes nothing and gives nothing: its contract is all that it has.
+LAW = re.compile(r"^\s*pub fn \w+\(\)\s*(\{\s*\})?$")
 
 
 def tracked():
@@ -69,40 +71,37 @@ def handles(_):
     return [] if text_of("HANDLES") == HANDLES else ["HANDLES is not its one line"]
 
 
-def body_after(text, start):
-    """The function's body, from its opening brace at the start of a line or at the end of its signature."""
-    depth, index = 0, start
-    while index < len(text):
-        if text[index] == "{" and depth == 0 and text[index - 1] in "\n \t":
-            before = text[start:index].rsplit("\n", 1)[-1].strip()
-            if not before.startswith(("requires", "ensures")):
-                return text[index : index + 200]
-        depth += {"{": 1, "}": -1}.get(text[index], 0)
-        index += 1
-    return ""
+def sources(crate):
+    folder = os.path.join(TOP, "crates", crate, "src")
+    for at, _, files in sorted(os.walk(folder)):
+        if os.path.basename(at) != "tests":
+            yield from (os.path.join(at, name) for name in sorted(files) if name.endswith(".rt") and name != "tests.rt")
+
+
+def exported(crate):
+    """The names that a library hands out; None for a program, whose public functions all count."""
+    path = f"crates/{crate}/src/lib.rt"
+    if not os.path.exists(os.path.join(TOP, path)):
+        return None
+    return set(re.findall(r"\w+", " ".join(re.findall(r"^pub use ([^;]+);", text_of(path), re.MULTILINE | re.DOTALL))))
 
 
 def public_functions(crate):
-    """`Type::name` or `name` of each public function that does work: all but laws, whose bodies are empty."""
-    folder = os.path.join(TOP, "crates", crate, "src")
-    for at, _, files in sorted(os.walk(folder)):
-        if os.path.basename(at) == "tests":
-            continue
-        for name in sorted(files):
-            if not name.endswith(".rt") or name == "tests.rt":
-                continue
-            with open(os.path.join(at, name), encoding="utf-8") as file:
-                text = file.read().split("#[cfg(test)]")[0]
-            kind, offset = "", 0
-            for line in text.splitlines(keepends=True):
-                if line.startswith("impl"):
-                    kind = IMPL.match(line).group(1) if IMPL.match(line) else ""
-                elif line.startswith("}"):
-                    kind = ""
-                match = PUBLIC_FUNCTION.match(line)
-                if match and not EMPTY_BODY.match(body_after(text, offset)):
-                    yield f"{kind}::{match.group(1)}" if kind else match.group(1)
-                offset += len(line)
+    """`Type::name` or `name` of each function that the crate hands out and that does work: all but laws."""
+    names = exported(crate)
+    for path in sources(crate):
+        with open(path, encoding="utf-8") as file:
+            text = TEST_MODULE.split(file.read())[0]
+        kind = ""
+        for line in text.splitlines():
+            if line.startswith("impl"):
+                found = IMPL.match(line)
+                kind = found.group(1) if found else ""
+            elif line.startswith("}"):
+                kind = ""
+            match = PUBLIC_FUNCTION.match(line)
+            if match and (names is None or (kind or match.group(1)) in names) and not LAW.match(line):
+                yield f"{kind}::{match.group(1)}" if kind else match.group(1)
 
 
 def broken_by_edits(crate):

@@ -10,7 +10,8 @@ use Rattle.std.proofs.lemmas.List.Elements.{All-cons, All-nil, All-head, All-tai
 use Rattle.upload_names.specs.declared.grammar.Place.{Place}
 use Rattle.upload_names.specs.declared.grammar.Place.TheVariants.{WordStart, InWord, BehindUnderscore, BehindHyphen}
 use Rattle.upload_names.specs.Name.{is_word_byte, hyphen, slash, IsWord, IsSeparator, Joint, IsJoint, joint_text, IsComponent, behind_slash, IsInGrammar, IsName, longest_name}
-use Rattle.upload_names.specs.NamePass.{dot, underscore, place_behind_joint, passes, is_in_grammar, is_name}
+use Rattle.upload_names.specs.NameBytes.{dot, underscore}
+use Rattle.upload_names.specs.NamePass.{place_behind_joint, passes, is_in_grammar, is_name}
 
 -- ---- one byte of a pass
 

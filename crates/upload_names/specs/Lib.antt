@@ -1,4 +1,5 @@
 pub mod Name
+pub mod NameBytes
 pub mod NamePass
 pub mod Digest
 pub mod Sum

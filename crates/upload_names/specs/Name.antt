@@ -1,16 +1,10 @@
 -- The names of repositories (OCI Distribution Specification 1.1, section "Pulling manifests", `<name>`).
-use Rattle.std.specs.Prelude.{◌≡◌, ℕ, ◌+◌, ◌<◌, ◌≤◌, ◌||◌, ◌&&◌, nat_le, Bool, List, ◌∷◌, ◌++◌, length, codes, flat_map, All, replicate, ◌⊎◌, IsTrue}
+use Rattle.std.specs.Prelude.{◌≡◌, ℕ, ◌+◌, ◌<◌, ◌≤◌, List, ◌∷◌, ◌++◌, length, codes, flat_map, All, replicate, ◌⊎◌, IsTrue}
 use Rattle.std.specs.List.{list_all}
+pub use Rattle.upload_names.specs.NameBytes.{is_word_byte, hyphen, slash, longest_name}
 
--- the letters `a` to `z` and the digits
-abbrev pub is_word_byte : ℕ → Bool
-is_word_byte c = (nat_le 97 c && nat_le c 122) || (nat_le 48 c && nat_le c 57)
-
-abbrev pub hyphen : ℕ
-hyphen = 45
-
-abbrev pub slash : ℕ
-slash = 47
+-- the tests that decide what is defined here
+pub use Rattle.upload_names.specs.NamePass.{is_in_grammar, is_name}
 
 -- one or more letters and digits
 pub record IsWord (text : List ℕ) : Type 0 where
@@ -51,10 +45,6 @@ pub record IsInGrammar (text : List ℕ) : Type 0 where
   pub is_component : IsComponent first
   pub are_components : All IsComponent others
   pub cut : text ≡ first ++ flat_map behind_slash others
-
--- the most bytes that a name may have
-abbrev pub longest_name : ℕ
-longest_name = 255
 
 -- A name: a text of the grammar that isn't too long.
 pub record IsName (text : List ℕ) : Type 0 where

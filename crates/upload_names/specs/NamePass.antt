@@ -2,13 +2,7 @@
 use Rattle.std.specs.Prelude.{ℕ, ◌==◌, ◌||◌, ◌&&◌, nat_le, Bool, true, false, List, [], ◌∷◌, length, Option, Some, None, if◌then◌else◌}
 use Rattle.upload_names.specs.declared.grammar.Place.{Place}
 use Rattle.upload_names.specs.declared.grammar.Place.TheVariants.{WordStart, InWord, BehindUnderscore, BehindHyphen}
-use Rattle.upload_names.specs.Name.{is_word_byte, hyphen, slash, longest_name}
-
-abbrev pub dot : ℕ
-dot = 46
-
-abbrev pub underscore : ℕ
-underscore = 95
+use Rattle.upload_names.specs.NameBytes.{is_word_byte, dot, underscore, hyphen, slash, longest_name}
 
 -- where a byte that belongs to no word leads, if a name may go on with it
 abbrev pub place_behind_joint : Place → ℕ → Option Place

@@ -1,5 +1,5 @@
 //! Digests of blobs.
-ghost use Rattle.std.specs.Prelude.{◌≡◌, ◌≢◌, MatchOption, ◌↔◌, ◌+◌, ◌*◌, ◌++◌, List, ℕ, length, IsTrue, Some, refl};
+ghost use Rattle.std.specs.Prelude.{◌≡◌, ◌≢◌, MatchOption, ◌↔◌, ◌+◌, ◌*◌, ◌≤◌, ◌++◌, List, ℕ, length, IsTrue, Some, refl};
 ghost use Rattle.std.specs.Cmp.{partial_equiv_from_equiv};
 ghost use Rattle.std.specs.List.{list_all};
 ghost use Rattle.hex.specs.Hex.{encode_lower};
@@ -198,6 +198,7 @@ impl BlobDigest {
     /// The digest's text, which `read` reads back.
     pub fn text(&self) -> DigestText
         ensures text { result ≡ digest_text self.now }
+        ensures short { length result ≤ 135 }
         ensures reads_back { digest_of result ≡ Some self.now }
     {
         let text = match &self.sum {

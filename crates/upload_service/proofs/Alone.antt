@@ -18,17 +18,17 @@ use Rattle.upload_service.specs.Alone.{Life, life_of, life_in, alone_answer, alo
 use Rattle.upload_service.proofs.Steps.{IsReply, IsOutcome, outcome_sound}
 use Rattle.upload_service.proofs.Turns.{IsNumbered, numbered_after, Fits, fits_by, others_leave, Own, own_by_reference, own_by_opening}
 
-told_other : (x : Exchange) (xs : List Exchange) (at : List ℕ) → is_part at x ≡ false → told (x ∷ xs) at ≡ told xs at
+pub told_other : (x : Exchange) (xs : List Exchange) (at : List ℕ) → is_part at x ≡ false → told (x ∷ xs) at ≡ told xs at
 told_other x xs at e = ap (λ b. filter (λ y. not (lacks_memory y.answer)) (cond b (x ∷ part xs at) (part xs at))) e
 
-told_none : (x : Exchange) (xs : List Exchange) (at : List ℕ) → lacks_memory x.answer ≡ true → told (x ∷ xs) at ≡ told xs at
+pub told_none : (x : Exchange) (xs : List Exchange) (at : List ℕ) → lacks_memory x.answer ≡ true → told (x ∷ xs) at ≡ told xs at
 told_none x xs at e =
     elim (is_part at x) as (λ b. filter (λ y. not (lacks_memory y.answer)) (cond b (x ∷ part xs at) (part xs at)) ≡ told xs at) [
       | true ↦ ap (λ b. cond (not b) (x ∷ told xs at) (told xs at)) e
       | false ↦ refl
     ]
 
-told_own : (x : Exchange) (xs : List Exchange) (at : List ℕ) → is_part at x ≡ true → lacks_memory x.answer ≡ false → told (x ∷ xs) at ≡ x ∷ told xs at
+pub told_own : (x : Exchange) (xs : List Exchange) (at : List ℕ) → is_part at x ≡ true → lacks_memory x.answer ≡ false → told (x ∷ xs) at ≡ x ∷ told xs at
 told_own x xs at e m =
     ap (λ b. filter (λ y. not (lacks_memory y.answer)) (cond b (x ∷ part xs at) (part xs at))) e
     ∙ ap (λ b. cond (not b) (x ∷ told xs at) (told xs at)) m
@@ -54,7 +54,7 @@ same_limits s now (Stores name digest blob) = refl
 same_limits s now (Mounts name digest) = refl
 
 -- Where this holds of the run after an exchange, it holds of the run with it.
-abbrev SoFar : Limits → List ℕ → Life → List Exchange → Type 0
+abbrev pub SoFar : Limits → List ℕ → Life → List Exchange → Type 0
 SoFar limits at life xs = list_map (λ x. x.answer) (told xs at) ≡ alone limits.max_blob limits.max_idle at life (list_map (λ x. (x.ask, x.now)) (told xs at))
 
 one_more : (limits : Limits) (at : List ℕ) (life : Life) (x : Exchange) (xs : List Exchange) → told (x ∷ xs) at ≡ x ∷ told xs at

@@ -1,5 +1,5 @@
 -- When an opening is refused, in the words of a full table.
-use Rattle.std.proofs.Common.{◌≡◌, ℕ, zero, suc, ◌+◌, ◌-◌, ◌<◌, ◌≤◌, List, [], ◌∷◌, length, true, false, Option, Some, None, refl, sym, ◌∙◌, ap, subst, inl, inr, cond, arith}
+use Rattle.std.proofs.Common.{◌≡◌, ℕ, zero, suc, ◌+◌, ◌-◌, ◌<◌, ◌≤◌, List, [], ◌∷◌, length, Bool, true, false, Option, Some, None, refl, sym, ◌∙◌, ap, subst, inl, inr, cond, arith}
 use Rattle.std.specs.Prelude.{nat_le, is_some, ◌||◌}
 use Rattle.std.proofs.lemmas.Bool.{le-leb, lt-leb}
 use Rattle.std.specs.FinMap as map
@@ -8,7 +8,8 @@ use Rattle.std.specs.Ordering.{nat_cmp}
 use Rattle.std.specs.Cmp.Lexicographic.{slice_cmp, nat_list_cmp_total}
 use Rattle.upload_names.specs.Reference.{reference}
 use Rattle.upload_service.specs.declared.answer.Refusal.TheVariants as refusals
-use Rattle.upload_service.specs.Machine.{Session, Table, State, Begins, refused, is_idle, unless_idle, awake_of, all_awake, last_number, opening}
+use Rattle.upload_service.specs.Machine.{Session, Table, State, Begins, refused, is_idle, unless_idle, awake_of, all_awake, swept, last_number, opening}
+use Rattle.upload_service.specs.FullTable.{OpeningsMeetTheTable}
 use Rattle.upload_service.proofs.Tables.{same_itself, one_or_two, get-remove_same, get-remove_other}
 use Rattle.upload_service.proofs.Steps.{None≢Some}
 use Rattle.upload_service.proofs.Sweeps.{get-awake_of}
@@ -87,3 +88,28 @@ full_and_one_idle s name secret now full left k x e idle =
     let few : map.len (all_awake s now) < map.len s.sessions = fewer_awake s.limits.max_idle now s.sessions k x e idle in
     let room : map.len (all_awake s now) < s.limits.max_open = subst (λ n. map.len (all_awake s now) < n) full few in
     (λ i. cond (lt-leb s.limits.max_open (map.len (all_awake s now)) room i || lt-leb last_number s.issued left i) (refused refusals.TooMany) (Begins name (reference (s.issued + 1) secret)))
+
+used_up : (s : State) (name secret : List ℕ) (now : ℕ) → last_number ≤ s.issued → opening s name secret now ≡ refused refusals.TooMany
+used_up s name secret now le =
+    ap (λ b. cond (nat_le s.limits.max_open (map.len (all_awake s now)) || b) (refused refusals.TooMany) (Begins name (reference (s.issued + 1) secret))) (le-leb last_number s.issued le)
+    ∙ ap (λ b. cond b (refused refusals.TooMany) (Begins name (reference (s.issued + 1) secret))) (or_true (nat_le s.limits.max_open (map.len (all_awake s now))))
+  where
+    or_true : (b : Bool) → (b || true) ≡ true
+    or_true true = refl
+    or_true false = refl
+
+room_left : (s : State) (name secret : List ℕ) (now : ℕ) → s.issued < last_number → map.len s.sessions < s.limits.max_open → opening s name secret now ≡ Begins name (reference (s.issued + 1) secret)
+room_left s name secret now left room =
+    let few : map.len (all_awake s now) ≤ map.len s.sessions = len_within (map.len (all_awake s now)) (all_awake s now) s.sessions refl (λ q x here. awake_within s.limits.max_idle now (map.get s.sessions q) x (sym (get-awake_of s.limits.max_idle now s.sessions q) ∙ here)) in
+    (λ i. cond (lt-leb s.limits.max_open (map.len (all_awake s now)) (omega arith) i || lt-leb last_number s.issued left i) (refused refusals.TooMany) (Begins name (reference (s.issued + 1) secret)))
+
+pub openings_meet_the_table : OpeningsMeetTheTable
+openings_meet_the_table =
+    record {
+      used_up = used_up;
+      full = λ s name secret now full none. full_and_none_idle s name secret now full none;
+      idle = λ s name secret now left full one. full_and_one_idle s name secret now full left one.0 one.1 one.2 one.3;
+      room = room_left;
+      leave = λ s now full at. ap (λ b. map.get (cond b (all_awake s now) s.sessions) at) (le-leb s.limits.max_open (map.len s.sessions) (omega arith)) ∙ get-awake_of s.limits.max_idle now s.sessions at;
+      stay = λ s now room. ap (λ b. cond b (all_awake s now) s.sessions) (lt-leb s.limits.max_open (map.len s.sessions) room);
+    }

@@ -42,7 +42,7 @@ pub record IsCommitted (blob name name' : List ℕ) (asked : Option Digest) (dig
   pub stored : map.get new.blobs digest ≡ Some blob
   pub held : IsTrue (holds new name digest)
 
--- WHAT HOLDS OF EVERY EXCHANGE OF A RUN, where front are the exchanges before it, and received start front at is what a
+-- What holds of every exchange of a run, where front are the exchanges before it, and received start front at is what a
 -- session has received by then.
 pub record IsOrderly (start : State) (front : List Exchange) (before : State) (x : Exchange) (after : State) : Type 0 where
   -- what a session commits is what it received, with the digest asked for, stored under it
@@ -62,7 +62,8 @@ pub record IsOrderly (start : State) (front : List Exchange) (before : State) (x
       → x.ask ≡ asks.Has name digest head → x.answer ≡ answers.Blob of size bytes
       → IsHandedOut digest head (last_under digest (stored start front) (map.get start.blobs digest)) of size bytes
 
--- THE HEADLINE of a run.
+-- The headline of a run: each exchange is orderly, each session is told what it would be told alone, and the store is
+-- what was stored.
 pub record Headline (start : State) (xs : List Exchange) (end : State) : Type 0 where
   pub each : (front : List Exchange) (x : Exchange) (rest : List Exchange) → xs ≡ front ++ x ∷ rest
       → (before : State) × (after : State) × Run start front before × Turn before x.ask x.secret x.now x.answer after × Run after rest end × IsOrderly start front before x after
@@ -71,7 +72,7 @@ pub record Headline (start : State) (xs : List Exchange) (end : State) : Type 0 
   pub store : IsStoreAfter start xs end
   pub lawful : IsLawful end
 
--- THE HEADLINE holds of every run from every lawful state, where the moments don't fall.
+-- The headline holds of every run from every lawful state, where the moments don't fall.
 abbrev pub HeadlineHolds : Type 0
 HeadlineHolds = (start : State) (xs : List Exchange) (end : State) → IsLawful start → NeverFall xs → Run start xs end → Headline start xs end
 

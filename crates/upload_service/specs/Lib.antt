@@ -4,5 +4,7 @@ pub mod Session
 pub mod Alone
 pub mod Stored
 pub mod Headline
+pub mod FullTable
+pub mod RuledOut
 pub mod Codes
 pub mod Kept

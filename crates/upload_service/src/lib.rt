@@ -5,7 +5,9 @@
 
 pub use answer::{Answer, Form, Refusal};
 pub use ask::{Ask, Extent};
-pub use laws::{headline_holds, others_leave_a_session};
+pub use laws::{
+    headline_holds, headline_rules_out, openings_meet_the_table, others_leave_a_session,
+};
 pub use limits::Limits;
 pub use service::Service;
 
@@ -20,4 +22,6 @@ mod received;
 mod segments;
 mod service;
 mod sessions;
+#[cfg(test)]
+mod tests;
 mod turn;

@@ -117,6 +117,7 @@ impl Service {
         ensures headline { IfOk result (λ answers. NeverFall (exchanges jobs.items answers.items) → Headline self.old (exchanges jobs.items answers.items) self.new) }
         ensures err { OnErr result (self.new ≡ self.old) }
     {
+        // Opens the service: that it is lawful is what the headline starts from.
         let _ = &self.limits;
         let answers = self.run_each(alloc, jobs)?;
         Ok(answers)
