@@ -1,0 +1,29 @@
+//! `blobd once`: one connection over a reader and a writer, over a new service.
+
+use crate::limits::limits;
+use crate::output::{DONE, FAULT, REFUSED};
+use std::alloc::Global;
+use upload_service::Service;
+use upload_wire::{ByteSink, ByteSource, ConnEnd, ServiceDesk, serve_connection};
+
+/// The exit status of a connection's end: 0 where the client ended it, 1 where the service did, 3 after a fault.
+fn status_of(end: ConnEnd) -> u8 {
+    match end {
+        ConnEnd::Clean | ConnEnd::AfterClose => DONE,
+        ConnEnd::AfterBad | ConnEnd::TooMany => REFUSED,
+        ConnEnd::DeskGone | ConnEnd::Fault(_) => FAULT,
+    }
+}
+
+/// Serves one connection over a new service, whose secrets are zero and whose clock stands at 0, and gives the exit
+/// status.
+pub fn run_once<R: ByteSource, W: ByteSink>(
+    alloc: Global,
+    reader: &mut R,
+    writer: &mut W,
+) -> u8 {
+    let limits = limits();
+    let service = Service::new(alloc, limits);
+    let mut desk = ServiceDesk::new(service, [0; 12], 0);
+    status_of(serve_connection(alloc, reader, writer, &mut desk, limits))
+}

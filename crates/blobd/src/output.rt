@@ -1,0 +1,27 @@
+//! What the program prints, a line at a time.
+use std::fmt::Arguments;
+use std::io;
+use std::io::Write;
+
+/// The exit status where what the words asked for was done.
+pub const DONE: u8 = 0;
+
+/// The exit status where it was refused.
+pub const REFUSED: u8 = 1;
+
+/// The exit status where something that isn't the other side's answer went wrong.
+pub const FAULT: u8 = 3;
+
+fn put_line<W: Write>(out: &mut W, line: Arguments<'_>) -> io::Result<()> {
+    writeln!(out, "{line}")?;
+    out.flush()
+}
+
+/// Prints a line, and gives the exit status that goes with it: this one, or that of a fault where the line can't be
+/// printed.
+pub fn print_line<W: Write>(out: &mut W, line: Arguments<'_>, status: u8) -> u8 {
+    match put_line(out, line) {
+        Ok(()) => status,
+        Err(_) => FAULT,
+    }
+}

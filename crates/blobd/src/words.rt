@@ -1,0 +1,133 @@
+//! The words of the command line.
+ghost use Rattle.std.specs.Prelude.{◌≡◌, ℕ};
+ghost use Rattle.blobd.specs.Words.{number_of};
+
+use std::net::SocketAddr;
+
+/// What is printed on standard error where the words are no command.
+pub const USAGE: &str = "usage: blobd once | serve ADDR COUNT | push ADDR NAME FILE CHUNK";
+
+/// The most connections that one worker serves.
+const MOST_CONNECTIONS: u64 = 1_000_000;
+
+/// The largest chunk, in bytes.
+const LARGEST_CHUNK: u64 = 2_147_483_648;
+
+/// A command. Texts are those of the words.
+#[derive(Debug, PartialEq, Eq, Drop)]
+pub enum Command<'w> {
+    /// One connection over standard input and output.
+    Once,
+    /// Two workers, each of which takes `count` connections at `addr`.
+    Serve {
+        addr: SocketAddr,
+        count: u64,
+    },
+    /// Pushes `file` in chunks of at most `chunk` bytes into the repository `name` of the server at `addr`.
+    Push {
+        addr: SocketAddr,
+        name: &'w str,
+        file: &'w str,
+        chunk: u64,
+    },
+}
+
+/// The number from 1 to `most` that one or more decimal digits spell; leading zeros are allowed.
+fn read_number(word: &str, most: u64) -> Option<u64>
+    ensures { result ≡ number_of most word.now }
+{
+    if !word.as_bytes().iter().all(|byte| byte.is_ascii_digit()) {
+        return None;
+    }
+    match word.parse::<u64>() {
+        Ok(number) if number >= 1 && number <= most => Some(number),
+        _ => None,
+    }
+}
+
+fn read_addr(word: &str) -> Option<SocketAddr> {
+    word.parse().ok()
+}
+
+/// The command that the words behind the program's name make, or `None` where they make none. Nothing is opened.
+pub fn read_words<'w>(words: &[&'w str]) -> Option<Command<'w>> {
+    match words {
+        ["once"] => Some(Command::Once),
+        ["serve", addr, count] => Some(Command::Serve {
+            addr: read_addr(addr)?,
+            count: read_number(count, MOST_CONNECTIONS)?,
+        }),
+        ["push", addr, name, file, chunk] => Some(Command::Push {
+            addr: read_addr(addr)?,
+            name,
+            file,
+            chunk: read_number(chunk, LARGEST_CHUNK)?,
+        }),
+        _ => None,
+    }
+}
+
+#[cfg(test)]
+mod tests {
+    use super::*;
+    use std::test::Fail;
+
+    #[test]
+    fn commands(rt: HostRuntime) -> Result<(), Fail> {
+        assert_eq!(rt; read_words(&["once"]), Some(Command::Once));
+        let addr: SocketAddr = "127.0.0.1:5000".parse()?;
+        let six: SocketAddr = "[::1]:0".parse()?;
+        let most = read_words(&["serve", "127.0.0.1:5000", "1000000"]);
+        assert_eq!(rt;
+            most,
+            Some(Command::Serve {
+                addr,
+                count: 1_000_000
+            })
+        );
+        let padded = read_words(&["serve", "[::1]:0", "0001"]);
+        assert_eq!(rt;
+            padded,
+            Some(Command::Serve {
+                addr: six,
+                count: 1
+            })
+        );
+        let push = read_words(&["push", "127.0.0.1:5000", "A", "", "2147483648"]);
+        let (name, file) = ("A", "");
+        assert_eq!(rt;
+            push,
+            Some(Command::Push {
+                addr,
+                name,
+                file,
+                chunk: 2_147_483_648
+            })
+        );
+        Ok(())
+    }
+
+    #[test]
+    fn no_commands(rt: HostRuntime) {
+        assert_eq!(rt; read_words(&[]), None);
+        assert_eq!(rt; read_words(&["Once"]), None);
+        assert_eq!(rt; read_words(&["once", "once"]), None);
+        for count in ["0", "", "1000001", "+1", "1x", "18446744073709551617"] {
+            assert_eq!(rt;
+                read_words(&["serve", "127.0.0.1:0", count]),
+                None,
+                "{count}"
+            );
+        }
+        for addr in ["localhost:0", "127.0.0.1", "127.0.0.1:65536", ""] {
+            assert_eq!(rt; read_words(&["serve", addr, "1"]), None, "{addr}");
+        }
+        for chunk in ["0", "2147483649", "-1"] {
+            assert_eq!(rt;
+                read_words(&["push", "127.0.0.1:0", "a", "f", chunk]),
+                None,
+                "{chunk}"
+            );
+        }
+    }
+}
