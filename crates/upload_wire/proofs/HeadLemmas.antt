@@ -28,8 +28,8 @@ pub snoc_cases : (xs : List ℕ) → (xs ≡ []) ⊎ ((front : List ℕ) × (b :
 snoc_cases [] = inl refl
 snoc_cases (x ∷ xs) =
     elim (snoc_cases xs) [
-      inl e ↦ inr ([], x, ap (λ t. x ∷ t) e)
-    | inr s ↦ inr (x ∷ s.0, s.1, ap (λ t. x ∷ t) s.2)
+      | inl e ↦ inr ([], x, ap (λ t. x ∷ t) e)
+      | inr s ↦ inr (x ∷ s.0, s.1, ap (λ t. x ∷ t) s.2)
     ]
 
 pub snoc_inj : (xs ys : List ℕ) (b c : ℕ) → xs ++ b ∷ [] ≡ ys ++ c ∷ [] → (xs ≡ ys) × (b ≡ c)
@@ -53,7 +53,7 @@ pub head_ends : (h : RequestHead) → (front : List ℕ) × (print_request h ≡
 unfolding print_request
 head_ends h =
     let before : List ℕ =
-        print_blank h.blank ++ h.method ++ 32 ∷ h.target ++ 32 ∷ print_version h.minor ++ print_end h.line_end in
+    print_blank h.blank ++ h.method ++ 32 ∷ h.target ++ 32 ∷ print_version h.minor ++ print_end h.line_end in
     let end = end_is_line_feed (before ++ flat_map print_field h.fields) h.last in
     (end.0, sym (append_assoc before (flat_map print_field h.fields) (print_end h.last)) ∙ end.1)
 
@@ -62,9 +62,12 @@ pub only_whole : (front : List ℕ) (b : ℕ) (h : RequestHead) (rest : List ℕ
     → ReadsRequest (front ++ b ∷ []) h rest → rest ≡ []
 only_whole front b h rest none x =
     elim (snoc_cases rest) [
-      inl e ↦ e
-    | inr s ↦ absurd (none h s.0 (x.0, (snoc_inj front (print_request h ++ s.0) b s.1
-        (x.1 ∙ ap (λ t. print_request h ++ t) s.2 ∙ sym (append_assoc (print_request h) s.0 (s.1 ∷ [])))).0))
+      | inl e ↦ e
+      | inr s ↦ absurd (none h s.0 (
+        x.0,
+        (snoc_inj front (print_request h ++ s.0) b s.1
+            (x.1 ∙ ap (λ t. print_request h ++ t) s.2 ∙ sym (append_assoc (print_request h) s.0 (s.1 ∷ [])))).0,
+      ))
     ]
 
 -- and that byte is a line feed
@@ -74,7 +77,7 @@ whole_ends front b h rest none x =
     let e = only_whole front b h rest none x in
     let ends = head_ends h in
     (snoc_inj front ends.0 b line_feed
-        (x.1 ∙ ap (λ t. print_request h ++ t) e ∙ append-nil (print_request h) ∙ ends.1)).1
+    (x.1 ∙ ap (λ t. print_request h ++ t) e ∙ append-nil (print_request h) ∙ ends.1)).1
 
 pub none_more : (front : List ℕ) (b : ℕ) → HasNoRequest front → b ≢ line_feed → HasNoRequest (front ++ b ∷ [])
 none_more front b none other h rest x = other (whole_ends front b h rest none x)
@@ -109,10 +112,15 @@ pub line_feeds-head : (h : RequestHead) → length h.fields + 2 ≤ line_feeds (
 unfolding print_request
 line_feeds-head h =
     let start : List ℕ = print_blank h.blank ++ h.method ++ 32 ∷ h.target ++ 32 ∷ print_version h.minor in
-    omega (arith, line_feeds-append (start ++ print_end h.line_end) (print_section h.fields h.last),
-      line_feeds-append start (print_end h.line_end), line_feeds-end h.line_end,
-      line_feeds-append (flat_map print_field h.fields) (print_end h.last), line_feeds-end h.last,
-      line_feeds-fields h.fields)
+    omega (
+      arith,
+      line_feeds-append (start ++ print_end h.line_end) (print_section h.fields h.last),
+      line_feeds-append start (print_end h.line_end),
+      line_feeds-end h.line_end,
+      line_feeds-append (flat_map print_field h.fields) (print_end h.last),
+      line_feeds-end h.last,
+      line_feeds-fields h.fields,
+    )
 
 -- ---- too many headers
 
@@ -124,8 +132,15 @@ pub exceeds_line_feeds : (room : ℕ) (text : List ℕ) → RequestExceeds room 
 exceeds_line_feeds room text e =
     let h = e.3 in
     let printed = ap line_feeds (e.4.1 ∙ append-nil (print_request h)) in
-    omega (arith, printed, line_feeds-append e.0 (line_feed ∷ []), line_feeds-head h, e.5,
-      ap line_feeds e.2, line_feeds-append e.0 e.1)
+    omega (
+      arith,
+      printed,
+      line_feeds-append e.0 (line_feed ∷ []),
+      line_feeds-head h,
+      e.5,
+      ap line_feeds e.2,
+      line_feeds-append e.0 e.1,
+    )
 
 pub refused_by_fields : (text : List ℕ) → RequestOverflows max_fields text → RequestExceeds max_fields text
     → MayBeRefused text
@@ -159,7 +174,7 @@ pub refused_at : (text : List ℕ) (at : ℕ) → at < length text → at < 1638
     → get_or text at 0 ≡ line_feed → MayBeRefused (take (at + 1) text) → IsRefused text
 refused_at text at lt short none same may =
     let next : take (at + 1) text ≡ take at text ++ line_feed ∷ [] =
-        take-next text at lt ∙ ap (λ b. take at text ++ b ∷ []) same in
+    take-next text at lt ∙ ap (λ b. take at text ++ b ∷ []) same in
     record {
       before = take at text;
       rest = drop (at + 1) text;
@@ -179,8 +194,8 @@ head_at text at p lt short none found =
     let reads : ReadsRequest front found.1.0 (drop p.spans.len front) = found.1.1.reads in
     let next = take-next text at lt in
     let whole : drop p.spans.len front ≡ [] =
-        only_whole (take at text) (get_or text at 0) found.1.0 (drop p.spans.len front) none
-        (subst (λ t. ReadsRequest t found.1.0 (drop p.spans.len front)) next reads) in
+    only_whole (take at text) (get_or text at 0) found.1.0 (drop p.spans.len front) none
+    (subst (λ t. ReadsRequest t found.1.0 (drop p.spans.len front)) next reads) in
     let none_left = ap length whole in
     let same : p.spans.len ≡ at + 1 = omega (arith, none_left, length-drop p.spans.len front, long, fits) in
     record {

@@ -6,3 +6,5 @@ pub mod FieldLemmas
 pub mod DigestTexts
 pub mod ReplyLemmas
 pub mod WritingLemmas
+pub mod ConversationLemmas
+pub mod ServiceLemmas

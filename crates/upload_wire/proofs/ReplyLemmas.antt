@@ -6,6 +6,7 @@ use Rattle.std.specs.Prelude.{Bool, true, false, ◌==◌, if◌then◌else◌, 
 use Rattle.std.proofs.lemmas.List.{take_min, take_all, append-nil}
 use Rattle.httparse.specs.Ascii.{crlf_bytes}
 use Rattle.upload_wire.specs.ReplyBuffer.{Puts, capacity}
+use Rattle.upload_wire.specs.Target.{blob_path, upload_path}
 use Rattle.upload_wire.specs.declared.reply.status.Status.{Status}
 use Rattle.upload_wire.specs.ReplyText.{ReplyField, body_fields, closing_fields, length_field, print_field, print_head, range_fields, status_line}
 
@@ -54,13 +55,13 @@ put_whole {s = s} fits p = p.put ∙ take_all capacity s (omega (arith, p.short,
 
 pub upload_text : {name text at reference : List ℕ} → name ≡ text → at ≡ reference
     → codes "Location: /v2/" ++ name ++ codes "/blobs/uploads/" ++ at ++ crlf_bytes
-    ≡ print_field (codes "Location", codes "/v2/" ++ (text ++ (codes "/blobs/uploads/" ++ reference)))
+    ≡ print_field (codes "Location", upload_path text reference)
 upload_text name at =
     (λ i. codes "Location: /v2/" ++ name i ++ codes "/blobs/uploads/" ++ at i ++ crlf_bytes) ∙ simp append_assoc
 
 pub blob_text : {name text sum digest : List ℕ} → name ≡ text → sum ≡ digest
     → codes "Location: /v2/" ++ name ++ codes "/blobs/" ++ sum ++ crlf_bytes
-    ≡ print_field (codes "Location", codes "/v2/" ++ (text ++ (codes "/blobs/" ++ digest)))
+    ≡ print_field (codes "Location", blob_path text digest)
 blob_text name sum = (λ i. codes "Location: /v2/" ++ name i ++ codes "/blobs/" ++ sum i ++ crlf_bytes) ∙ simp append_assoc
 
 range_when : (none : Bool) (last : ℕ) → none ≡ false → codes "Range: 0-" ++ decimal last ++ crlf_bytes

@@ -11,6 +11,7 @@ use Rattle.upload_service.specs.declared.answer.Form.TheVariants as forms
 use Rattle.upload_service.specs.declared.answer.Refusal.{Refusal}
 use Rattle.upload_service.specs.declared.answer.Refusal.TheVariants as refusals
 use Rattle.upload_wire.specs.declared.request.Style.{Style}
+use Rattle.upload_wire.specs.Target.{blob_path, upload_path}
 use Rattle.upload_wire.specs.declared.reply.status.Status.{Status}
 use Rattle.upload_wire.specs.declared.reply.status.Status.TheVariants as statuses
 use Rattle.upload_wire.specs.declared.reply.error.ErrorCode.{ErrorCode}
@@ -136,13 +137,12 @@ abbrev pub allow_fields : Refusal → List ReplyField
 allow_fields (refusals.Method form) = (codes "Allow", methods form) ∷ []
 allow_fields other = []
 
--- the path of an upload
+-- the path of an upload, and of a blob
 abbrev pub upload_location : List ℕ → List ℕ → List ℕ
-upload_location name at = codes "/v2/" ++ (name ++ (codes "/blobs/uploads/" ++ reference_text at))
+upload_location name at = upload_path name (reference_text at)
 
--- the path of a blob
 abbrev pub blob_location : List ℕ → Digest → List ℕ
-blob_location name digest = codes "/v2/" ++ (name ++ (codes "/blobs/" ++ digest_text digest))
+blob_location name digest = blob_path name (digest_text digest)
 
 -- Range: 0-<last>, where there are bytes
 abbrev pub range_fields : ℕ → List ReplyField

@@ -4,7 +4,7 @@ use Rattle.std.specs.Prelude.{◌≡◌, ◌≢◌, ℕ, ◌<◌, ◌⊎◌, Boo
 use Rattle.httparse.specs.Grammar.{RequestHead}
 use Rattle.http_uri.specs.declared.uri.Uri.{Uri}
 use Rattle.http_uri.specs.Uri.{Spells, SpellsNone, uri_path, uri_query}
-use Rattle.upload_names.specs.Name.{is_name}
+use Rattle.upload_names.specs.NamePass.{is_name}
 use Rattle.upload_names.specs.Digest.{Digest, digest_of}
 use Rattle.upload_names.specs.ByteRange.{Span, range_of}
 use Rattle.upload_names.specs.Reference.{reference_of}

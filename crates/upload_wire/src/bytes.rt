@@ -1,5 +1,5 @@
 //! Readers and writers of bytes, with contracts that name the bytes and count the calls.
-ghost use Rattle.std.specs.Prelude.{◌≡◌, ℕ, ◌+◌, ◌-◌, ◌<◌, ◌≤◌, List, length, take, Option, IfOk, OnOk, OnErr};
+ghost use Rattle.std.specs.Prelude.{◌≡◌, ℕ, ◌+◌, ◌-◌, ◌<◌, ◌≤◌, Bool, true, IsTrue, List, length, take, Option, IfOk, OnOk, OnErr};
 ghost use Rattle.std.specs.Io.KnownBytes.{ReadConsumes, WriteAppends, Keeps};
 ghost use Rattle.upload_wire.specs.Counts.{CountsUp};
 
@@ -42,6 +42,9 @@ pub trait ByteSink {
     // How many writes and flushes failed.
     ghost failed_writes: { Self → ℕ };
 
+    // Whether all that was written was handed on. A sink that keeps nothing back need not say so.
+    ghost is_flushed: { Self → Bool } = { λ _. true };
+
     /// Writes some bytes from the front of `buf`, at least one where there is one, and says how many.
     /// `Failed` is any error of the write, and a write that takes none of the bytes that it is given.
     fn write(&mut self, buf: &[u8]) -> Result<usize, Failed>
@@ -55,6 +58,7 @@ pub trait ByteSink {
     /// Hands on what was written. `Failed` is any error of it.
     fn flush(&mut self) -> Result<(), Failed>
         ensures bytes { Keeps (contents self.old) (contents self.new) }
+        ensures flushed { OnOk result (IsTrue (is_flushed self.new)) }
         ensures counted { CountsUp (writes self.old) (writes self.new) }
         ensures ok { OnOk result (failed_writes self.new ≡ failed_writes self.old) }
         ensures err { OnErr result (CountsUp (failed_writes self.old) (failed_writes self.new)) };
@@ -106,17 +110,19 @@ pub struct ToWrite<W> {
     inner: W,
     writes: u64,
     failed_writes: u64,
+    flushed: bool,
 }
 
 impl<W> ToWrite<W> {
     /// The sink over this writer, with no write counted.
     pub fn new(inner: W) -> ToWrite<W>
-        ensures { result ≡ record { inner = inner; writes = 0; failed_writes = 0 } }
+        ensures { result ≡ record { inner = inner; writes = 0; failed_writes = 0; flushed = true } }
     {
         ToWrite {
             inner,
             writes: 0,
             failed_writes: 0,
+            flushed: true,
         }
     }
 
@@ -128,6 +134,7 @@ impl<W> ToWrite<W> {
             inner,
             writes: _,
             failed_writes: _,
+            flushed: _,
         } = self;
         inner
     }
@@ -140,8 +147,11 @@ impl<W: Write> ByteSink for ToWrite<W> {
 
     ghost failed_writes = { λ s. s.failed_writes };
 
+    ghost is_flushed = { λ s. s.flushed };
+
     fn write(&mut self, buf: &[u8]) -> Result<usize, Failed> {
         self.writes = self.writes.saturating_add(1);
+        self.flushed = false;
         match self.inner.write(buf) {
             Ok(count) if count > 0 || buf.is_empty() => Ok(count),
             _ => {
@@ -154,7 +164,10 @@ impl<W: Write> ByteSink for ToWrite<W> {
     fn flush(&mut self) -> Result<(), Failed> {
         self.writes = self.writes.saturating_add(1);
         match self.inner.flush() {
-            Ok(()) => Ok(()),
+            Ok(()) => {
+                self.flushed = true;
+                Ok(())
+            }
             Err(_) => {
                 self.failed_writes = self.failed_writes.saturating_add(1);
                 Err(Failed)

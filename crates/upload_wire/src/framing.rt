@@ -57,8 +57,7 @@ pub fn framing_of(head: &[u8], parsed: &ParsedHead, max_body: u64) -> Result<Fra
         },
         (Occurrence::Absent, Occurrence::Repeated) => Err(3),
         (Occurrence::Once(coding), Occurrence::Absent)
-            if parsed.spans.version == 1 && is_same_word(coding, b"chunked") =>
-        {
+            if parsed.spans.version == 1 && is_same_word(coding, b"chunked") => {
             Ok(Framing::Chunked)
         }
         (_, Occurrence::Absent) => Err(5),

@@ -6,19 +6,26 @@
 
 mod buffer;
 mod bytes;
+mod connection;
+mod desk;
 mod elements;
 mod fault;
 mod fields;
 mod framing;
 mod head;
+mod laws;
 mod parsed;
+mod read_next;
 mod reply;
 mod request;
 mod target;
 mod writing;
 
 pub use bytes::{ByteSink, ByteSource, Failed, FromRead, ToWrite};
+pub use connection::{ConnEnd, ConnFault, serve_connection};
+pub use desk::{Desk, ServiceDesk};
 pub use fault::WireFault;
+pub use laws::connections_run_the_service;
 pub use reply::{write_bad, write_reply};
 pub use request::{Next, Style};
 pub use writing::WriteFault;

@@ -1,5 +1,5 @@
 //! Replies (RFC 9112, section 4; OCI Distribution Specification 1.1, sections "Push" and "Error Codes").
-ghost use Rattle.std.specs.Prelude.{◌≡◌, ◌++◌, ◌≤◌};
+ghost use Rattle.std.specs.Prelude.{◌≡◌, ◌++◌, IsTrue, OnOk};
 ghost use Rattle.upload_wire.specs.Writing.{Wrote, sink};
 ghost use Rattle.upload_wire.specs.ReplyText.{bad, reply, reply_body};
 
@@ -17,29 +17,32 @@ mod error;
 mod head;
 mod refusal;
 mod status;
+#[cfg(test)]
+mod tests;
 
 /// Writes the reply to an answer, and flushes it: its head in one write, with its body where that is short,
-/// and a longer body out of its own memory. It takes no memory. `Ok` comes only where all of it was written
-/// and no call of the writer failed; else a front of it was written.
+/// and a longer body out of its own memory. It takes no memory. `Ok` comes only where all of it was written and
+/// handed on, and no call of the writer failed; else a front of it was written.
 pub fn write_reply<W: ByteSink>(
     writer: &mut W,
     answer: &Answer,
     style: Style,
 ) -> Result<(), WriteFault>
-    ensures { Wrote (sink (W.contents writer.old) (W.failed_writes writer.old))
+    ensures wrote { Wrote (sink (W.contents writer.old) (W.failed_writes writer.old))
         (sink (W.contents writer.new) (W.failed_writes writer.new)) (reply answer.now style) result }
+    ensures flushed { OnOk result (IsTrue (W.is_flushed writer.new)) }
 {
     let head = reply_head(answer, style.keep);
     send(writer, head, reply_body(answer, style.head))
 }
 
-/// Writes the reply to a request that could not be read, by its number from 1 to 6, and flushes it. It takes
-/// no memory. `Ok` comes only where all of it was written and no call of the writer failed; else a front of
-/// it was written.
+/// Writes the reply to a request that could not be read, by its number from 1 to 6, and flushes it; another
+/// number is written as 1. It takes no memory. `Ok` comes only where all of it was written and handed on, and no
+/// call of the writer failed; else a front of it was written.
 pub fn write_bad<W: ByteSink>(writer: &mut W, number: u8) -> Result<(), WriteFault>
-    requires { (1 ≤ number) × (number ≤ 6) }
-    ensures { Wrote (sink (W.contents writer.old) (W.failed_writes writer.old))
+    ensures wrote { Wrote (sink (W.contents writer.old) (W.failed_writes writer.old))
         (sink (W.contents writer.new) (W.failed_writes writer.new)) (bad number) result }
+    ensures flushed { OnOk result (IsTrue (W.is_flushed writer.new)) }
 {
     send(writer, bad_head(number), b"")
 }
@@ -64,8 +67,9 @@ fn reply_body(answer: &Answer, head: bool) -> &[u8]
 
 /// Writes a head and a body, and flushes them. A body that fits behind the head leaves in the same write.
 fn send<W: ByteSink>(writer: &mut W, head: ReplyBuffer, body: &[u8]) -> Result<(), WriteFault>
-    ensures { Wrote (sink (W.contents writer.old) (W.failed_writes writer.old))
+    ensures wrote { Wrote (sink (W.contents writer.old) (W.failed_writes writer.old))
         (sink (W.contents writer.new) (W.failed_writes writer.new)) (head ++ body.now) result }
+    ensures flushed { OnOk result (IsTrue (W.is_flushed writer.new)) }
 {
     let done = write_both(writer, head, body);
     then_flush(done, writer)

@@ -1,5 +1,5 @@
 //! Writes of whole texts.
-ghost use Rattle.std.specs.Prelude.{◌≡◌, ◌++◌, List, ℕ};
+ghost use Rattle.std.specs.Prelude.{◌≡◌, ◌++◌, List, ℕ, IsTrue, OnOk};
 ghost use Rattle.upload_wire.specs.Writing.{Sink, Wrote, sink};
 
 use crate::bytes::ByteSink;
@@ -42,9 +42,10 @@ pub(crate) fn then_flush<W: ByteSink>(
     done: Result<(), WriteFault>,
     writer: &mut W,
 ) -> Result<(), WriteFault>
-    ensures { (start : Sink) (text : List ℕ)
+    ensures wrote { (start : Sink) (text : List ℕ)
         → Wrote start (sink (W.contents writer.old) (W.failed_writes writer.old)) text done
         → Wrote start (sink (W.contents writer.new) (W.failed_writes writer.new)) text result }
+    ensures flushed { OnOk result (IsTrue (W.is_flushed writer.new)) }
 {
     match done {
         Ok(()) => match writer.flush() {

@@ -24,26 +24,26 @@ loop-b-preserved c =
     let next = value-next c.args.value.now c.loop-b.b-index c.loop-b-test.true in
     let digit = digit-minus b c.if-not-is_ascii_digit.ensures.cases in
     elim c.if-total-max_body.branch [
-      then-total-max_body w ↦
-        let total : c.if-total-max_body.total ≡ c.loop-b.total * 10 + (b - 48) = w.total-is ∙ ap (λ d. c.loop-b.total * 10 + d) w.from.ensures in
-        let kept : c.loop-b.total ≡ digits_value 10 (take c.loop-b.b-index c.args.value.now) = c.loop-b.invariant.2 w.if-total-max_body.true in
-        let same : c.if-total-max_body.total ≡ digits_value 10 (take (c.loop-b.b-index + 1) c.args.value.now) = omega (arith, total, kept, next, digit.0) in
-        let small = w.if-total-max_body.true in
-        (each, omega (arith, total, digit.1, small), λ _. same, λ over. omega (arith, same, over))
-    | else-total-max_body w ↦
-        let same = w.total-is in
-        let over = w.if-total-max_body.false in
-        let bound = c.loop-b.invariant.1 in
-        let more = c.loop-b.invariant.3 over in
-        (each, omega (arith, same, bound), λ fits. absurd (omega (arith, same, fits, over)), λ _. omega (arith, next, more))
+      | then-total-max_body w ↦
+          let total : c.if-total-max_body.total ≡ c.loop-b.total * 10 + (b - 48) = w.total-is ∙ ap (λ d. c.loop-b.total * 10 + d) w.from.ensures in
+          let kept : c.loop-b.total ≡ digits_value 10 (take c.loop-b.b-index c.args.value.now) = c.loop-b.invariant.2 w.if-total-max_body.true in
+          let same : c.if-total-max_body.total ≡ digits_value 10 (take (c.loop-b.b-index + 1) c.args.value.now) = omega (arith, total, kept, next, digit.0) in
+          let small = w.if-total-max_body.true in
+          (each, omega (arith, total, digit.1, small), λ _. same, λ over. omega (arith, same, over))
+      | else-total-max_body w ↦
+          let same = w.total-is in
+          let over = w.if-total-max_body.false in
+          let bound = c.loop-b.invariant.1 in
+          let more = c.loop-b.invariant.3 over in
+          (each, omega (arith, same, bound), λ fits. absurd (omega (arith, same, fits, over)), λ _. omega (arith, next, more))
     ]
 
 pub returns-then-total-max_body-2 : goal.returns-then-total-max_body-2
 returns-then-total-max_body-2 c =
     let all = take_to_end c.args.value.now c.loop-b.b-index c.loop-b-test.false in
     sym (length_of-over c.args.max_body c.args.value.now (some_length c.args.value.now c.if-is_empty.ensures)
-        (subst (λ v. list_all is_ascii_digit v ≡ true) all c.loop-b.invariant.0)
-        (subst (λ v. c.args.max_body < digits_value 10 v) all (c.loop-b.invariant.3 c.if-total-max_body-2.true)))
+    (subst (λ v. list_all is_ascii_digit v ≡ true) all c.loop-b.invariant.0)
+    (subst (λ v. c.args.max_body < digits_value 10 v) all (c.loop-b.invariant.3 c.if-total-max_body-2.true)))
 
 pub returns : goal.returns
 returns c =
@@ -51,5 +51,5 @@ returns c =
     let same = c.loop-b.invariant.2 c.if-total-max_body-2.false ∙ ap (digits_value 10) all in
     let fits = c.if-total-max_body-2.false in
     ap Ok same ∙ sym (length_of-ok c.args.max_body c.args.value.now (some_length c.args.value.now c.if-is_empty.ensures)
-        (subst (λ v. list_all is_ascii_digit v ≡ true) all c.loop-b.invariant.0)
-        (omega (arith, same, fits)))
+    (subst (λ v. list_all is_ascii_digit v ≡ true) all c.loop-b.invariant.0)
+    (omega (arith, same, fits)))

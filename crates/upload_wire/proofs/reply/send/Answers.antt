@@ -1,4 +1,4 @@
 use Rattle.upload_wire.proofs.reply.send.Goals as goal
 
-pub returns : goal.returns
-returns g c = c.then_flush.ensures _ _ c.write_both-done.ensures
+pub returns-clause-wrote : goal.returns-clause-wrote
+returns-clause-wrote g c = c.then_flush.ensures.wrote _ _ c.write_both-done.ensures

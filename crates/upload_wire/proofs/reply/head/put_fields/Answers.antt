@@ -1,5 +1,5 @@
 use Rattle.std.proofs.Common.{◌∙◌, ap, arith, length}
-use Rattle.upload_wire.proofs.DigestTexts.{short_digest}
+use Rattle.upload_wire.proofs.DigestTexts.{short_text}
 use Rattle.upload_wire.proofs.ReplyLemmas.{puts_as, puts_both, found_text, two_fields, fields_and, fields_both}
 use Rattle.upload_wire.specs.declared.reply.error.ErrorCode.TheVariants.{BlobUploadInvalid}
 use Rattle.upload_wire.specs.ReplyText.{allow_fields, blob_location, error_fields, length_field, upload_fields, upload_location}
@@ -10,7 +10,7 @@ pub returns-in-Blob : goal.returns-in-Blob
 returns-in-Blob c =
     let sum = c.as_bytes.ensures ∙ c.text.ensures.text in
     rw c.in-Blob.is
-    (puts_as (found_text c.in-Blob.size sum) (omega (arith, ap length sum, short_digest c.in-Blob.digest))
+    (puts_as (found_text c.in-Blob.size sum) (omega (arith, ap length sum, ap length c.as_bytes.ensures, short_text c.text.result c.in-Blob.digest c.text.ensures.reads_back))
     (puts_both (puts_both c.put_field.ensures c.put_field-in-Blob.ensures) c.put_length.ensures))
 
 pub returns-in-Begun : goal.returns-in-Begun

@@ -1,0 +1,201 @@
+-- One exchange after another.
+use Rattle.std.proofs.Common.{◌≡◌, ℕ, ◌+◌, ◌<◌, List, [], ◌∷◌, ◌++◌, length, refl, sym, ap, ◌∙◌, subst, append_assoc, inl, arith, length-append, lit<}
+use Rattle.std.specs.Prelude.{Option, Some, None, IfSome, Result, Ok, Err}
+use Rattle.std.specs.List.{AllByRecursion}
+use Rattle.std.proofs.lemmas.List.{append-nil}
+use Rattle.std.proofs.lemmas.Grind.{flat_map-append}
+use Rattle.std.specs.Io.KnownBytes.{Consumes}
+use Rattle.upload_service.specs.declared.ask.Ask.{Ask}
+use Rattle.upload_wire.specs.Counts.{CountsUp}
+use Rattle.upload_wire.specs.declared.fault.WireFault.{WireFault}
+use Rattle.upload_wire.specs.declared.fault.WireFault.TheVariants as Wire
+use Rattle.upload_wire.specs.declared.request.Style.{Style}
+use Rattle.upload_wire.specs.declared.request.Next.TheVariants.{Request}
+use Rattle.upload_wire.specs.declared.connection.ConnEnd.{ConnEnd}
+use Rattle.upload_wire.specs.declared.connection.ConnEnd.TheVariants.{Clean, AfterClose, AfterBad, TooMany, DeskGone, Fault}
+use Rattle.upload_wire.specs.declared.connection.ConnFault.TheVariants as Conn
+use Rattle.upload_wire.specs.RequestText.{ReadsNext}
+use Rattle.upload_wire.specs.ReplyText.{reply}
+use Rattle.upload_wire.specs.Writing.{Sink, TookAll}
+use Rattle.upload_wire.specs.Conversation.{Moves, Exchange, Source, source, IsKept, messages, replies, Answers, Serves, AnswersNext, EndsWith, ReadsFail, IsConversation, max_requests}
+use Rattle.upload_wire.specs.ConversationSteps.{AnswersOne, GoesOn, Stops}
+use Rattle.upload_wire.proofs.GaveLemmas.{consumes_none, consumes_both}
+use Rattle.upload_wire.proofs.WritingLemmas.{appends_none, took_both, took_more}
+
+pub took_none : (a : Sink) → TookAll a a []
+took_none a = record { grown = appends_none a.contents; unfailed = refl }
+
+pub ok_not_err : {T E : Type 0} (value : T) (error : E) → ◌≡◌ {A = Result T E} (Ok value) (Err error) → ⊥
+ok_not_err value error same = cc
+
+-- ---- one
+
+module _ {D : Type 0} (step : Moves D) (max count : ℕ) (held rest : List ℕ) (first left : Source) (ask : Ask) (style : Style)
+    (at new : D) (mid after : Sink) where
+  pub one_more : (r : Option ConnEnd) → ReadsNext max held first.remaining rest left.remaining (Ok (Request ask style))
+      → left.failed ≡ first.failed → AnswersOne step count ask style at new mid after r → r ≡ None
+      → GoesOn step max count held rest first left at new mid after
+  one_more None n same a e = record {
+    given = n.given;
+    consumed = n.consumed;
+    unfailed = same;
+    exchange = record { message = n.found.message; ask = ask; style = style; answer = a.0 };
+    read = n.found.cut;
+    kept = (n.found.request, a.3);
+    answered = a.1;
+    written = a.2;
+    few = a.4;
+  }
+  one_more (Some x) n same a e = absurd (cc)
+
+  pub one_last : (r : Option ConnEnd) → ReadsNext max held first.remaining rest left.remaining (Ok (Request ask style))
+      → left.failed ≡ first.failed → AnswersOne step count ask style at new mid after r
+      → IfSome r (Stops step max count held first left at new mid after)
+  one_last None n same a = tt
+  one_last (Some Clean) n same a = absurd a
+  one_last (Some AfterClose) n same a = record {
+    given = n.given;
+    consumed = n.consumed;
+    reads = same;
+    ended = (
+      record { message = n.found.message; ask = ask; style = style; answer = a.0 },
+      record { more = rest; read = n.found.cut; request = n.found.request; answered = a.1 },
+      a.3,
+      a.2,
+    );
+  }
+  one_last (Some AfterBad) n same a = absurd a
+  one_last (Some TooMany) n same a = record {
+    given = n.given;
+    consumed = n.consumed;
+    reads = same;
+    ended = (
+      record { message = n.found.message; ask = ask; style = style; answer = a.0 },
+      record { more = rest; read = n.found.cut; request = n.found.request; answered = a.1 },
+      a.3,
+      a.4,
+      a.2,
+    );
+  }
+  one_last (Some DeskGone) n same a = record {
+    given = n.given;
+    consumed = n.consumed;
+    reads = same;
+    ended = (
+      record { message = n.found.message; more = rest; ask = ask; style = style; read = n.found.cut; request = n.found.request; gone = a.0 },
+      a.1,
+    );
+  }
+  one_last (Some (Fault (Conn.Wire f))) n same a = absurd a
+  one_last (Some (Fault Conn.Write)) n same a = record {
+    given = n.given;
+    consumed = n.consumed;
+    reads = same;
+    ended = inl (
+      record { message = n.found.message; ask = ask; style = style; answer = a.0 },
+      record { more = rest; read = n.found.cut; request = n.found.request; answered = a.1 },
+      a.2,
+    );
+  }
+
+-- ---- many
+
+pub answers_more : {D : Type 0} (step : Moves D) (old mid new : D) (xs : List Exchange) (x : Exchange)
+    → Answers step old xs mid → step mid x.ask (Some x.answer) new → Answers step old (xs ++ x ∷ []) new
+answers_more step old mid new [] x h k = (new, subst (λ d. step d x.ask (Some x.answer) new) (sym h) k, refl)
+answers_more step old mid new (y ∷ xs) x h k = (h.0, h.1, answers_more step h.0 mid new xs x h.2 k)
+
+pub kept_more : (max : ℕ) (xs : List Exchange) (x : Exchange) → AllByRecursion (IsKept max) xs → IsKept max x
+    → AllByRecursion (IsKept max) (xs ++ x ∷ [])
+kept_more max [] x h k = (k, tt)
+kept_more max (y ∷ xs) x h k = (h.0, kept_more max xs x h.1 k)
+
+messages_more : (xs : List Exchange) (x : Exchange) → messages (xs ++ x ∷ []) ≡ messages xs ++ x.message
+messages_more xs x =
+    flat_map-append (λ x. x.message) xs (x ∷ []) ∙ ap (λ t. messages xs ++ t) (append-nil x.message)
+
+replies_more : (xs : List Exchange) (x : Exchange) → replies (xs ++ x ∷ []) ≡ replies xs ++ reply x.answer x.style
+replies_more xs x =
+    flat_map-append (λ x. reply x.answer x.style) xs (x ∷ []) ∙ ap (λ t. replies xs ++ t) (append-nil (reply x.answer x.style))
+
+-- what a connection has done behind so many requests
+pub record SoFar {D : Type 0} (step : Moves D) (max count : ℕ) (first left : Source) (old new : D) (held : List ℕ) (before after : Sink) : Type 0 where
+  pub given : List ℕ
+  pub consumed : Consumes first.remaining left.remaining given
+  pub unfailed : left.failed ≡ first.failed
+  pub exchanges : List Exchange
+  pub counted : length exchanges ≡ count
+  pub served : Serves step max old new given held before after exchanges
+
+pub starts : {D : Type 0} (step : Moves D) (max : ℕ) (first : Source) (desk : D) (held : List ℕ) (before : Sink) → held ≡ []
+    → SoFar step max 0 first first desk desk held before before
+starts step max first desk held before empty = record {
+  given = [];
+  consumed = consumes_none first.remaining;
+  unfailed = refl;
+  exchanges = [];
+  counted = refl;
+  served = record { few = lit< tt; read = sym empty; kept = tt; answered = refl; written = took_none before };
+}
+
+pub goes_on : {D : Type 0} (step : Moves D) (max count : ℕ) (first mid left : Source) (old at new : D) (held rest : List ℕ)
+    (before between after : Sink) → SoFar step max count first mid old at held before between
+    → GoesOn step max count held rest mid left at new between after → SoFar step max (count + 1) first left old new rest before after
+goes_on step max count first mid left old at new held rest before between after s n =
+    let counted = s.counted in
+    record {
+      given = s.given ++ n.given;
+      consumed = consumes_both first.remaining mid.remaining left.remaining s.given n.given s.consumed n.consumed;
+      unfailed = n.unfailed ∙ s.unfailed;
+      exchanges = s.exchanges ++ n.exchange ∷ [];
+      counted = omega (arith, counted, length-append s.exchanges (n.exchange ∷ []));
+      served = record {
+        few = omega (arith, counted, n.few, length-append s.exchanges (n.exchange ∷ []));
+        read = ap (λ t. t ++ n.given) s.served.read ∙ append_assoc (messages s.exchanges) held n.given
+            ∙ ap (λ t. messages s.exchanges ++ t) n.read ∙ sym (append_assoc (messages s.exchanges) n.exchange.message rest)
+            ∙ ap (λ t. t ++ rest) (sym (messages_more s.exchanges n.exchange));
+        kept = kept_more max s.exchanges n.exchange s.served.kept n.kept;
+        answered = answers_more step old at new s.exchanges n.exchange s.served.answered n.answered;
+        written = subst (TookAll before after) (sym (replies_more s.exchanges n.exchange))
+            (took_both before between after (replies s.exchanges) (reply n.exchange.answer n.exchange.style) s.served.written n.written);
+      };
+    }
+
+reads_fail_from : (end : ConnEnd) (a b c : ℕ) → b ≡ a → ReadsFail end b c → ReadsFail end a c
+reads_fail_from end a b c same h = subst (λ n. ReadsFail end n c) same h
+
+pub ends : {D : Type 0} (step : Moves D) (max count : ℕ) (first mid left : Source) (old at new : D) (held : List ℕ)
+    (before between after : Sink) (end : ConnEnd) → SoFar step max count first mid old at held before between
+    → Stops step max count held mid left at new between after end → IsConversation step max first left old new before after end
+ends step max count first mid left old at new held before between after end s n = record {
+  bytes = s.given ++ n.given;
+  consumed = consumes_both first.remaining mid.remaining left.remaining s.given n.given s.consumed n.consumed;
+  reads = reads_fail_from end first.failed mid.failed left.failed s.unfailed n.reads;
+  exchanges = s.exchanges;
+  rest = held ++ n.given;
+  at = at;
+  mid = between;
+  served = record {
+    few = s.served.few;
+    read = ap (λ t. t ++ n.given) s.served.read ∙ append_assoc (messages s.exchanges) held n.given;
+    kept = s.served.kept;
+    answered = s.served.answered;
+    written = s.served.written;
+  };
+  ended = subst (λ k. EndsWith step max k at new (held ++ n.given) left.remaining between after end) (sym s.counted) n.ended;
+}
+
+-- no buffer could be made
+pub ends_at_once : {D : Type 0} (step : Moves D) (max : ℕ) (first : Source) (desk : D) (before : Sink)
+    → IsConversation step max first first desk desk before before (Fault (Conn.Wire Wire.NoMemory))
+ends_at_once step max first desk before = record {
+  bytes = [];
+  consumed = consumes_none first.remaining;
+  reads = refl;
+  exchanges = [];
+  rest = [];
+  at = desk;
+  mid = before;
+  served = record { few = lit< tt; read = refl; kept = tt; answered = refl; written = took_none before };
+  ended = (tt, record { unasked = refl; unwritten = took_none before });
+}

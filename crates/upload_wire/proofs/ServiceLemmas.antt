@@ -1,0 +1,90 @@
+-- The steps of a desk over a service, as a run of the service's machine.
+use Rattle.std.proofs.Common.{◌≡◌, ℕ, ◌≤◌, List, [], ◌∷◌, ◌++◌, length, refl, sym, ap, ◌∙◌, subst, inl, inr, lit≤}
+use Rattle.std.specs.Prelude.{Option, Some, None, map}
+use Rattle.std.proofs.lemmas.List.{append-nil}
+use Rattle.upload_service.specs.declared.answer.Answer.{Answer}
+use Rattle.upload_service.specs.Machine.{Turn}
+use Rattle.upload_service.specs.Run.{Run}
+use Rattle.upload_wire.specs.declared.connection.ConnEnd.{ConnEnd}
+use Rattle.upload_wire.specs.declared.connection.ConnEnd.TheVariants.{Clean, AfterClose, AfterBad, TooMany, DeskGone, Fault}
+use Rattle.upload_wire.specs.declared.connection.ConnFault.TheVariants as Conn
+use Rattle.upload_wire.specs.declared.desk.ServiceDesk.{ServiceDesk}
+use Rattle.upload_wire.specs.Writing.{Sink}
+use Rattle.upload_wire.specs.Conversation.{Exchange, Source, Answers, EndsWith, IsConversation}
+use Rattle.upload_wire.specs.ServiceTurns.{StepsService}
+use Rattle.upload_wire.specs.ConnectionRuns.{service_exchange, IsRunOfService}
+use Rattle.upload_wire.proofs.ConversationLemmas.{answers_more}
+
+same_said : {A : Type 0} (said answer : A) → ◌≡◌ {A = Option A} (Some answer) (Some said) → said ≡ answer
+same_said said answer same = cc
+
+never_none : {A : Type 0} (said : A) → ◌≡◌ {A = Option A} None (Some said) → ⊥
+never_none said same = cc
+
+-- what the steps of the desk come to
+record Ran (old new : ServiceDesk) (xs : List Exchange) : Type 0 where
+  run : Run old.service (map (service_exchange old.secret old.now) xs) new.service
+  same_secret : new.secret ≡ old.secret
+  same_moment : new.now ≡ old.now
+
+with_secret : (from into : ServiceDesk) (xs : List Exchange) (new : ServiceDesk) → into.secret ≡ from.secret → into.now ≡ from.now
+    → Run into.service (map (service_exchange into.secret into.now) xs) new.service
+    → Run into.service (map (service_exchange from.secret from.now) xs) new.service
+with_secret from into xs new secret moment run =
+    subst (λ m. Run into.service (map (service_exchange from.secret m) xs) new.service) moment
+    (subst (λ s. Run into.service (map (service_exchange s into.now) xs) new.service) secret run)
+
+ran : (old new : ServiceDesk) (xs : List Exchange) → Answers StepsService old xs new → Ran old new xs
+ran old new [] same = record {
+  run = ap (λ d. d.service) (sym same);
+  same_secret = ap (λ d. d.secret) (sym same);
+  same_moment = ap (λ d. d.now) (sym same);
+}
+ran old new (x ∷ xs) h =
+    let step = h.1 in
+    let more = ran h.0 new xs h.2 in
+    record {
+      run = (
+        h.0.service,
+        subst (λ a. Turn old.service x.ask old.secret old.now a h.0.service) (same_said step.said x.answer step.answered) step.turn,
+        with_secret old h.0 xs new step.same_secret step.same_moment more.run,
+      );
+      same_secret = more.same_secret ∙ step.same_secret;
+      same_moment = more.same_moment ∙ step.same_moment;
+    }
+
+run_of : (old new : ServiceDesk) (xs last : List Exchange) (end : ConnEnd) → length last ≤ 1 → (end ≡ DeskGone → ⊥)
+    → Answers StepsService old (xs ++ last) new → IsRunOfService old new xs end
+run_of old new xs last end few there answers =
+    let all = ran old new (xs ++ last) answers in
+    record { last = last; few = few; run = all.run; same_secret = all.same_secret; same_moment = all.same_moment; never_gone = there }
+
+module _ (max_body count : ℕ) (old at new : ServiceDesk) (rest : List ℕ) (left : Option (List ℕ)) (mid after : Sink) (xs : List Exchange)
+    (answers : Answers StepsService old xs at) where
+  -- nothing more was asked
+  none_more : (end : ConnEnd) → (end ≡ DeskGone → ⊥) → new ≡ at → IsRunOfService old new xs end
+  none_more end there same =
+      run_of old new xs [] end (lit≤ tt) there
+      (subst (λ ys. Answers StepsService old ys new) (sym (append-nil xs)) (subst (λ d. Answers StepsService old xs d) (sym same) answers))
+
+  one_more : (end : ConnEnd) (x : Exchange) → (end ≡ DeskGone → ⊥) → StepsService at x.ask (Some x.answer) new → IsRunOfService old new xs end
+  one_more end x there step =
+      run_of old new xs (x ∷ []) end (lit≤ tt) there (answers_more StepsService old at new xs x answers step)
+
+  ended : (end : ConnEnd) → EndsWith StepsService max_body count at new rest left mid after end → IsRunOfService old new xs end
+  ended Clean e = none_more Clean (λ same. cc) e.2.unasked
+  ended AfterClose e = one_more AfterClose e.0 (λ same. cc) e.1.answered
+  ended AfterBad e = none_more AfterBad (λ same. cc) e.1.unasked
+  ended TooMany e = one_more TooMany e.0 (λ same. cc) e.1.answered
+  ended DeskGone e = absurd (never_none e.0.gone.said e.0.gone.answered)
+  ended (Fault (Conn.Wire fault)) e = none_more (Fault (Conn.Wire fault)) (λ same. cc) e.1.unasked
+  ended (Fault Conn.Write) e =
+      elim e [
+        | inl h ↦ one_more (Fault Conn.Write) h.0 (λ same. cc) h.1.answered
+        | inr h ↦ none_more (Fault Conn.Write) (λ same. cc) h.1.unasked
+      ]
+
+pub run_of_conversation : (max_body : ℕ) (first left : Source) (old new : ServiceDesk) (before after : Sink) (end : ConnEnd)
+    → (c : IsConversation StepsService max_body first left old new before after end) → IsRunOfService old new c.exchanges end
+run_of_conversation max_body first left old new before after end c =
+    ended max_body (length c.exchanges) old c.at new c.rest left.remaining c.mid after c.exchanges c.served.answered end c.ended

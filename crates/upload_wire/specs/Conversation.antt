@@ -1,0 +1,149 @@
+-- A connection as a conversation (RFC 9112, section 9.3): requests that were read one after another, each answered by
+-- the desk and replied to, and an end.
+use Rattle.std.specs.Prelude.{◌≡◌, ℕ, ◌+◌, ◌<◌, ◌⊎◌, ◌==◌, ◌&&◌, not, true, false, List, [], ◌∷◌, ◌++◌, length, flat_map, Option, Some, None, ⊤}
+use Rattle.std.specs.List.{AllByRecursion}
+use Rattle.std.specs.Io.KnownBytes.{Consumes, IsAtEnd}
+use Rattle.upload_service.specs.declared.ask.Ask.{Ask}
+use Rattle.upload_service.specs.declared.answer.Answer.{Answer}
+use Rattle.upload_wire.specs.Counts.{CountsUp}
+use Rattle.upload_wire.specs.RequestText.{IsRequest, IsBad, IsTruncated}
+use Rattle.upload_wire.specs.ReplyText.{reply, bad}
+use Rattle.upload_wire.specs.Writing.{Sink, TookAll, TookFront}
+use Rattle.upload_wire.specs.declared.fault.WireFault.{WireFault}
+use Rattle.upload_wire.specs.declared.fault.WireFault.TheVariants as Wire
+use Rattle.upload_wire.specs.declared.request.Style.{Style}
+use Rattle.upload_wire.specs.declared.connection.ConnEnd.{ConnEnd}
+use Rattle.upload_wire.specs.declared.connection.ConnEnd.TheVariants.{Clean, AfterClose, AfterBad, TooMany, DeskGone, Fault}
+use Rattle.upload_wire.specs.declared.connection.ConnFault.TheVariants as Conn
+
+-- the most requests of a connection
+abbrev pub max_requests : ℕ
+max_requests = 10000
+
+-- what contracts see of a source: the bytes that it has left, where they are known, and how many reads failed
+pub record Source : Type 0 where
+  pub remaining : Option (List ℕ)
+  pub failed : ℕ
+
+abbrev pub source : Option (List ℕ) → ℕ → Source
+source remaining failed = record { remaining = remaining; failed = failed }
+
+-- how a desk moves: its state, an ask, an answer or none where it is gone, and its new state
+abbrev pub Moves : Type 0 → Type 1
+Moves D = D → Ask → Option Answer → D → Type 0
+
+-- ---- exchanges
+
+-- a request as it was read, what it asks, how it wants its reply, and what it was answered
+pub record Exchange : Type 0 where
+  pub message : List ℕ
+  pub ask : Ask
+  pub style : Style
+  pub answer : Answer
+
+-- the message is the request
+abbrev pub IsRead : ℕ → Exchange → Type 0
+IsRead max_body x = IsRequest max_body x.message x.ask x.style
+
+-- and it wants the connection to go on
+abbrev pub IsKept : ℕ → Exchange → Type 0
+IsKept max_body x = IsRead max_body x × (x.style.keep ≡ true)
+
+-- what was read, and what was written
+abbrev pub messages : List Exchange → List ℕ
+messages xs = flat_map (λ x. x.message) xs
+
+abbrev pub replies : List Exchange → List ℕ
+replies xs = flat_map (λ x. reply x.answer x.style) xs
+
+-- the desk gave these answers, one after another
+abbrev pub Answers : {D : Type 0} → Moves D → D → List Exchange → D → Type 0
+Answers step old [] new = old ≡ new
+Answers {D} step old (x ∷ xs) new = (mid : D) × step old x.ask (Some x.answer) mid × Answers step mid xs new
+
+-- The bytes are these requests and then rest; each request wanted the connection to go on, was answered by the desk, and
+-- its reply was written whole.
+pub record Serves {D : Type 0} (step : Moves D) (max_body : ℕ) (old at : D) (bytes rest : List ℕ) (before mid : Sink) (xs : List Exchange) : Type 0 where
+  pub few : length xs < max_requests
+  pub read : bytes ≡ messages xs ++ rest
+  pub kept : AllByRecursion (IsKept max_body) xs
+  pub answered : Answers step old xs at
+  pub written : TookAll before mid (replies xs)
+
+-- ---- ends
+
+-- The reply to a request that comes behind so many others: the last that a connection may have closes it.
+abbrev pub last_style : ℕ → Style → Style
+last_style count style = record { head = style.head; keep = style.keep && not (count + 1 == max_requests) }
+
+abbrev pub last_reply : ℕ → Exchange → List ℕ
+last_reply count x = reply x.answer (last_style count x.style)
+
+-- rest begins with the request, and the desk answered it
+pub record AnswersNext {D : Type 0} (step : Moves D) (max_body : ℕ) (at new : D) (rest : List ℕ) (x : Exchange) : Type 0 where
+  pub more : List ℕ
+  pub read : rest ≡ x.message ++ more
+  pub request : IsRead max_body x
+  pub answered : step at x.ask (Some x.answer) new
+
+-- rest begins with a request, and the desk was gone when it was asked
+pub record FindsNoDesk {D : Type 0} (step : Moves D) (max_body : ℕ) (at new : D) (rest : List ℕ) : Type 0 where
+  pub message : List ℕ
+  pub more : List ℕ
+  pub ask : Ask
+  pub style : Style
+  pub read : rest ≡ message ++ more
+  pub request : IsRequest max_body message ask style
+  pub gone : step at ask None new
+
+-- rest is refused as a request, and the desk wasn't asked
+pub record Refuses {D : Type 0} (max_body : ℕ) (at new : D) (rest : List ℕ) (number : ℕ) : Type 0 where
+  pub bad : IsBad max_body rest number
+  pub unasked : new ≡ at
+
+-- the desk wasn't asked, and nothing was written
+pub record IsQuiet {D : Type 0} (at new : D) (mid after : Sink) : Type 0 where
+  pub unasked : new ≡ at
+  pub unwritten : TookAll mid after []
+
+-- why the reader gave no request: what the bytes say of it, and what the source does
+abbrev pub WireStops : ℕ → List ℕ → Option (List ℕ) → WireFault → Type 0
+WireStops max_body rest left Wire.Truncated = IsTruncated max_body rest × IsAtEnd left
+WireStops max_body rest left Wire.Read = ⊤
+WireStops max_body rest left Wire.NoMemory = ⊤
+WireStops max_body rest left Wire.Ended = ⊥
+
+-- How a conversation ends behind `count` replies, where the desk stands at `at`, rest is what was read and not answered,
+-- the sink stands at mid, and the source is left so.
+abbrev pub EndsWith : {D : Type 0} → Moves D → ℕ → ℕ → D → D → List ℕ → Option (List ℕ) → Sink → Sink → ConnEnd → Type 0
+EndsWith step max_body count at new rest left mid after Clean = (rest ≡ []) × IsAtEnd left × IsQuiet at new mid after
+EndsWith step max_body count at new rest left mid after AfterClose =
+    (x : Exchange) × AnswersNext step max_body at new rest x × (x.style.keep ≡ false) × TookAll mid after (last_reply count x)
+EndsWith step max_body count at new rest left mid after AfterBad =
+    (number : ℕ) × Refuses max_body at new rest number × TookAll mid after (bad number)
+EndsWith step max_body count at new rest left mid after TooMany =
+    (x : Exchange) × AnswersNext step max_body at new rest x × (x.style.keep ≡ true) × (count + 1 ≡ max_requests) × TookAll mid after (last_reply count x)
+EndsWith step max_body count at new rest left mid after DeskGone = FindsNoDesk step max_body at new rest × TookAll mid after []
+EndsWith step max_body count at new rest left mid after (Fault (Conn.Wire fault)) = WireStops max_body rest left fault × IsQuiet at new mid after
+EndsWith step max_body count at new rest left mid after (Fault Conn.Write) =
+    ((x : Exchange) × AnswersNext step max_body at new rest x × TookFront mid after (last_reply count x))
+    ⊎ ((number : ℕ) × Refuses max_body at new rest number × TookFront mid after (bad number))
+
+-- a read failed where the end says so, and nowhere else
+abbrev pub ReadsFail : ConnEnd → ℕ → ℕ → Type 0
+ReadsFail (Fault (Conn.Wire Wire.Read)) old new = CountsUp old new
+ReadsFail other old new = new ≡ old
+
+-- ---- the whole
+
+-- The bytes that were read, the desk's moves, and the bytes that were written are a conversation with this end.
+pub record IsConversation {D : Type 0} (step : Moves D) (max_body : ℕ) (first left : Source) (old new : D) (before after : Sink) (end : ConnEnd) : Type 0 where
+  pub bytes : List ℕ
+  pub consumed : Consumes first.remaining left.remaining bytes
+  pub reads : ReadsFail end first.failed left.failed
+  pub exchanges : List Exchange
+  pub rest : List ℕ
+  pub at : D
+  pub mid : Sink
+  pub served : Serves step max_body old at bytes rest before mid exchanges
+  pub ended : EndsWith step max_body (length exchanges) at new rest left.remaining mid after end
