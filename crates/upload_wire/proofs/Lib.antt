@@ -8,3 +8,12 @@ pub mod ReplyLemmas
 pub mod WritingLemmas
 pub mod ConversationLemmas
 pub mod ServiceLemmas
+pub mod TargetLemmas
+pub mod AskLemmas
+pub mod MovedLemmas
+pub mod LineLemmas
+pub mod ChunkLemmas
+pub mod FrontLemmas
+pub mod LineReadLemmas
+pub mod ChunkReadLemmas
+pub mod RequestLemmas

@@ -1,6 +1,6 @@
 -- The body of a request: how its head frames it (RFC 9112, section 6), and the text of a chunked one
 -- (section 7.1), which has no chunk extensions and no trailers here.
-use Rattle.std.specs.Prelude.{◌≡◌, ℕ, ◌+◌, ◌<◌, ◌≤◌, ◌⊎◌, ◌==◌, nat_lt, Bool, ◌&&◌, List, [], ◌∷◌, ◌++◌, length, codes, All, if◌then◌else◌, Result, Ok, Err}
+use Rattle.std.specs.Prelude.{◌≡◌, ℕ, ◌+◌, ◌<◌, ◌≤◌, ◌⊎◌, ◌==◌, nat_lt, Bool, ◌&&◌, List, [], ◌∷◌, ◌++◌, length, codes, All, if◌then◌else◌, Result, Ok, Err, ⊤}
 use Rattle.std.specs.List.{flat_map, list_all}
 use Rattle.std.specs.Char.{is_ascii_digit, is_ascii_hexdigit}
 use Rattle.std.specs.Str.Parse.{digits_value}
@@ -51,6 +51,11 @@ framing_of max_body minor fields =
 
 abbrev pub head_framing : ℕ → RequestHead → Result Framing ℕ
 head_framing max_body head = framing_of max_body head.minor (head_fields head)
+
+-- a length keeps the limit
+abbrev pub IsFraming : ℕ → Framing → Type 0
+IsFraming max_body (Length n) = n ≤ max_body
+IsFraming max_body Chunked = ⊤
 
 -- ---- chunked texts
 

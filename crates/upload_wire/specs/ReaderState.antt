@@ -1,10 +1,6 @@
 -- What contracts see of a request reader.
-use Rattle.std.specs.Prelude.{ℕ, ◌+◌, ◌*◌, List, Option, Result, Ok, Err}
-use Rattle.upload_wire.specs.declared.fault.WireFault.{WireFault}
-use Rattle.upload_wire.specs.declared.request.Next.{Next}
-use Rattle.upload_wire.specs.declared.request.Next.TheVariants.{Request, Over, Bad}
-use Rattle.upload_wire.specs.declared.request.Phase.{Phase}
-use Rattle.upload_wire.specs.declared.request.Phase.TheVariants as Phase
+use Rattle.std.specs.Prelude.{ℕ, List, Option}
+use Rattle.upload_wire.specs.declared.reader.Phase.{Phase}
 
 -- the bytes that were read and not taken, what is known of the source, the limit of a body, and the phase
 pub record ReaderState : Type 0 where
@@ -14,14 +10,3 @@ pub record ReaderState : Type 0 where
   pub failed_reads : ℕ
   pub max_body : ℕ
   pub phase : Phase
-
--- the phase after an answer
-abbrev pub phase_after : Result Next WireFault → Phase
-phase_after (Ok (Request ask style)) = Phase.Ready
-phase_after (Ok Over) = Phase.Over
-phase_after (Ok (Bad number)) = Phase.Ended
-phase_after (Err fault) = Phase.Ended
-
--- the most reads of one request: its head, and a chunked body of chunks of one byte each
-abbrev pub most_reads : ℕ → ℕ
-most_reads max_body = 16396 + 13 * max_body

@@ -63,24 +63,29 @@ is_get_or_head p = is_method (codes "GET") p || is_method (codes "HEAD") p
 abbrev pub is_upload_method : Parts → Bool
 is_upload_method p = is_get_or_head p || (is_method (codes "PATCH") p || is_method (codes "PUT") p)
 
--- the ask, for a name of the grammar
-abbrev pub if_named : List ℕ → Ask → Ask
-if_named name ask = if is_name name then ask else Refused Refusal.BadName
+-- the name that a text is
+abbrev pub named : List ℕ → Option (List ℕ)
+named text = if is_name text then Some text else None
 
 -- GET and HEAD of the base path
 abbrev pub base_ask : Parts → Ask
 base_ask p = if is_get_or_head p then Base else Refused (Refusal.Method Form.Base)
 
 -- GET and HEAD of a blob
-abbrev pub has_ask : List ℕ → Parts → Option Digest → Ask
-has_ask name p None = Refused Refusal.BadDigest
-has_ask name p (Some digest) = Has name digest (is_method (codes "HEAD") p)
+abbrev pub has_ask : List ℕ → Bool → Option Digest → Ask
+has_ask name head None = Refused Refusal.BadDigest
+has_ask name head (Some digest) = Has name digest head
+
+abbrev pub blob_ask : Option (List ℕ) → List ℕ → Parts → Ask
+blob_ask None tail p = Refused Refusal.BadName
+blob_ask (Some name) tail p =
+    if is_get_or_head p then has_ask name (is_method (codes "HEAD") p) (digest_of tail) else Refused (Refusal.Method Form.Blob)
 
 -- a mount needs its digest and its source, and is an opening without them
 abbrev pub mount_ask : List ℕ → Option Digest → Option (List ℕ) → Ask
 mount_ask name None source = Opening name
 mount_ask name (Some digest) None = Opening name
-mount_ask name (Some digest) (Some source) = if is_name source then Mount name digest source else Opening name
+mount_ask name (Some digest) (Some source) = Mount name digest source
 
 -- POST without `mount`: with `digest`, and without
 abbrev pub single_ask : List ℕ → Option (List ℕ) → Ask
@@ -88,27 +93,35 @@ single_ask name None = Opening name
 single_ask name (Some digest) = Single name (digest_of digest) []
 
 -- POST with `mount`, and without
-abbrev pub post_ask : List ℕ → Parts → Option (List ℕ) → Ask
-post_ask name p None = single_ask name (parameter (codes "digest") p.query)
-post_ask name p (Some mount) = mount_ask name (digest_of mount) (parameter (codes "from") p.query)
+abbrev pub post_ask : List ℕ → List ℕ → Option (List ℕ) → Ask
+post_ask name query None = single_ask name (parameter (codes "digest") query)
+post_ask name query (Some mount) = mount_ask name (digest_of mount) (option_and_then named (parameter (codes "from") query))
+
+abbrev pub uploads_ask : Option (List ℕ) → Parts → Ask
+uploads_ask None p = Refused Refusal.BadName
+uploads_ask (Some name) p =
+    if is_method (codes "POST") p then post_ask name p.query (parameter (codes "mount") p.query)
+    else Refused (Refusal.Method Form.Uploads)
 
 -- GET, HEAD, PATCH and PUT of an upload
-abbrev pub upload_ask : List ℕ → Parts → Option (List ℕ) → Ask
-upload_ask name p None = Refused Refusal.NoUpload
-upload_ask name p (Some at) =
+abbrev pub session_ask : List ℕ → Parts → Option (List ℕ) → Ask
+session_ask name p None = Refused Refusal.NoUpload
+session_ask name p (Some at) =
     if is_get_or_head p then Status name at
     else (if is_method (codes "PATCH") p then Chunk name at p.range []
     else Close name at p.range (option_and_then digest_of (parameter (codes "digest") p.query)) [])
 
+abbrev pub upload_ask : Option (List ℕ) → List ℕ → Parts → Ask
+upload_ask None tail p = Refused Refusal.BadName
+upload_ask (Some name) tail p =
+    if is_upload_method p then session_ask name p (reference_of tail) else Refused (Refusal.Method Form.Upload)
+
 -- the ask of each form, with no body yet
 abbrev pub ask_of_form : PathForm → Parts → Ask
 ask_of_form Path.Base p = base_ask p
-ask_of_form (Path.Blob name tail) p =
-    if_named name.now (if is_get_or_head p then has_ask name.now p (digest_of tail.now) else Refused (Refusal.Method Form.Blob))
-ask_of_form (Path.Uploads name) p =
-    if_named name.now (if is_method (codes "POST") p then post_ask name.now p (parameter (codes "mount") p.query) else Refused (Refusal.Method Form.Uploads))
-ask_of_form (Path.Upload name tail) p =
-    if_named name.now (if is_upload_method p then upload_ask name.now p (reference_of tail.now) else Refused (Refusal.Method Form.Upload))
+ask_of_form (Path.Blob name tail) p = blob_ask (named name.now) tail.now p
+ask_of_form (Path.Uploads name) p = uploads_ask (named name.now) p
+ask_of_form (Path.Upload name tail) p = upload_ask (named name.now) tail.now p
 ask_of_form Path.NoForm p = Refused Refusal.NoForm
 
 -- the ask, for a request without a body
@@ -139,25 +152,22 @@ extent_of [] = Absent
 extent_of (value ∷ []) = given_range (range_of value)
 extent_of (value ∷ other ∷ values) = Bad
 
-abbrev pub parts_of : List ℕ → Uri → Fields → Parts
-parts_of method uri fields = record {
-  method = method;
-  query = unwrap_or (uri_query uri) [];
-  range = extent_of (values_of (codes "content-range") fields);
-}
+-- the range that a head gives
+abbrev pub head_range : RequestHead → Extent
+head_range head = extent_of (values_of (codes "content-range") (head_fields head))
 
--- the target spells a URI, and by its path, the method, the query and the fields this is asked, with no body yet
-pub record AsksByTarget (method target : List ℕ) (fields : Fields) (ask : Ask) : Type 0 where
-  pub uri : Uri
-  pub spelled : Spells target uri
-  pub form : PathForm
-  pub is_form : IsFormOf (uri_path uri) form
-  pub same : ask ≡ ask_of_form form (parts_of method uri fields)
+-- what is asked at a URI, with no body yet
+abbrev pub AsksAt : List ℕ → List ℕ → Option (List ℕ) → Extent → Ask → Type 0
+AsksAt method path query range ask =
+    (form : PathForm) × IsFormOf path form
+    × (ask ≡ ask_of_form form (record { method = method; query = unwrap_or query []; range = range }))
 
--- what a request asks, with no body yet, by its method, target and fields: a target that spells no URI has no form
-abbrev pub Asks : List ℕ → List ℕ → Fields → Ask → Type 0
-Asks method target fields ask = (SpellsNone target × (ask ≡ Refused Refusal.NoForm)) ⊎ AsksByTarget method target fields ask
+-- What is asked, with no body yet, by the method, the target and the range. A target that spells no URI has no form.
+abbrev pub Asks : List ℕ → List ℕ → Extent → Ask → Type 0
+Asks method target range ask =
+    (SpellsNone target × (ask ≡ Refused Refusal.NoForm))
+    ⊎ ((uri : Uri) × Spells target uri × AsksAt method (uri_path uri) (uri_query uri) range ask)
 
 -- what a head and a body ask
 abbrev pub AsksWhole : RequestHead → List ℕ → Ask → Type 0
-AsksWhole head body ask = (bare : Ask) × Asks head.method head.target (head_fields head) bare × (ask ≡ with_body bare body)
+AsksWhole head body ask = (bare : Ask) × Asks head.method head.target (head_range head) bare × (ask ≡ with_body bare body)

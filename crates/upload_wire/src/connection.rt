@@ -9,7 +9,7 @@ use crate::buffer::ReadBuffer;
 use crate::bytes::{ByteSink, ByteSource};
 use crate::desk::Desk;
 use crate::fault::WireFault;
-use crate::read_next::read_next;
+use crate::request::read_next;
 use crate::reply::{write_bad, write_reply};
 use crate::request::{Next, Style};
 use std::alloc::Global;

@@ -1,6 +1,6 @@
 //! How long a body is, and how it is written.
-ghost use Rattle.std.specs.Prelude.{◌≡◌, ◌^◌, ◌≤◌};
-ghost use Rattle.upload_wire.specs.Body.{length_of, framing_of};
+ghost use Rattle.std.specs.Prelude.{◌≡◌, ◌^◌, ◌≤◌, IfOk};
+ghost use Rattle.upload_wire.specs.Body.{length_of, framing_of, IsFraming};
 ghost use Rattle.upload_wire.specs.HeadReading.{IsHeadOf};
 ghost use Rattle.upload_wire.specs.FieldReading.{fields_of};
 
@@ -19,7 +19,8 @@ pub enum Framing {
 /// The number that the digits of a Content-Length write, or a Bad number.
 fn length_of(value: &[u8], max_body: u64) -> Result<u64, u8>
     requires { max_body ≤ 2 ^ 31 }
-    ensures { result ≡ length_of max_body value.now }
+    ensures value { result ≡ length_of max_body value.now }
+    ensures kept { IfOk result (λ n. n ≤ max_body) }
 {
     if value.is_empty() {
         return Err(3);
@@ -45,7 +46,8 @@ fn length_of(value: &[u8], max_body: u64) -> Result<u64, u8>
 pub fn framing_of(head: &[u8], parsed: &ParsedHead, max_body: u64) -> Result<Framing, u8>
     requires limit { max_body ≤ 2 ^ 31 }
     requires head { IsHeadOf head.now parsed.now }
-    ensures { result ≡ framing_of max_body parsed.now.spans.version (fields_of head.now parsed.now) }
+    ensures framed { result ≡ framing_of max_body parsed.now.spans.version (fields_of head.now parsed.now) }
+    ensures kept { IfOk result (IsFraming max_body) }
 {
     let coding = field_named(head, parsed, b"transfer-encoding");
     let length = field_named(head, parsed, b"content-length");

@@ -4,8 +4,11 @@
 //! `query`, `draft`) and its body (`framing`, `body`, `chunked`) out of one buffer (`buffer`).
 #![tactic(auto)]
 
+mod asks;
+mod body;
 mod buffer;
 mod bytes;
+mod chunked;
 mod connection;
 mod desk;
 mod elements;
@@ -15,7 +18,8 @@ mod framing;
 mod head;
 mod laws;
 mod parsed;
-mod read_next;
+mod query;
+mod reader;
 mod reply;
 mod request;
 mod target;
@@ -26,6 +30,7 @@ pub use connection::{ConnEnd, ConnFault, serve_connection};
 pub use desk::{Desk, ServiceDesk};
 pub use fault::WireFault;
 pub use laws::connections_run_the_service;
+pub use reader::RequestReader;
 pub use reply::{write_bad, write_reply};
 pub use request::{Next, Style};
 pub use writing::WriteFault;

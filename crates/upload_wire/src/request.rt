@@ -1,5 +1,25 @@
 //! Requests, one after another.
-use upload_service::Ask;
+ghost use Rattle.std.specs.Prelude.{◌≡◌, ◌≢◌, ◌+◌, ◌*◌, ◌^◌, ◌≤◌, Ok, Err, IfOk, IfErr, codes};
+ghost use Rattle.upload_wire.specs.Counts.{CountsUp, CountsAtMost};
+ghost use Rattle.upload_wire.specs.Fields.{values_of};
+ghost use Rattle.upload_wire.specs.Target.{extent_of};
+ghost use Rattle.upload_wire.specs.HeadReading.{IsHeadOf, IsHeadAtFront};
+ghost use Rattle.upload_wire.specs.FieldReading.{fields_of};
+ghost use Rattle.upload_wire.specs.RequestText.{ReadsNext};
+ghost use Rattle.upload_wire.specs.RequestReading.{Describes};
+
+use crate::asks::{ask_of, with_body};
+use crate::body::{BodyRead, read_body};
+use crate::buffer::ReadBuffer;
+use crate::bytes::ByteSource;
+use crate::fault::WireFault;
+use crate::fields::{Occurrence, field_named, keeps_connection};
+use crate::framing::framing_of;
+use crate::head::{HeadRead, read_head};
+use crate::parsed::ParsedHead;
+use std::alloc::Global;
+use upload_names::ByteRange;
+use upload_service::{Ask, Extent};
 
 /// How a request wants its reply.
 #[derive(Clone, Copy, Debug, PartialEq, Eq)]
@@ -21,13 +41,105 @@ pub enum Next {
     Bad(u8),
 }
 
-/// What a reader does when it is asked again.
-#[derive(Clone, Copy, Debug, PartialEq, Eq)]
-pub enum Phase {
-    /// It reads on.
-    Ready,
-    /// It answers that the input is over.
-    Over,
-    /// It answers that an earlier call ended the reading.
-    Ended,
+/// What a head asks, with no body yet, and how it wants its reply.
+#[derive(Drop)]
+struct Described {
+    ask: Ask,
+    style: Style,
+}
+
+/// The range that a head gives.
+fn range_of(head: &[u8], parsed: &ParsedHead) -> Extent
+    requires { IsHeadOf head.now parsed.now }
+    ensures { result ≡ extent_of (values_of (codes "content-range") (fields_of head.now parsed.now)) }
+{
+    match field_named(head, parsed, b"content-range") {
+        Occurrence::Absent => Extent::Absent,
+        Occurrence::Once(value) => match ByteRange::read(value) {
+            Some(range) => Extent::Given(range),
+            None => Extent::Bad,
+        },
+        Occurrence::Repeated => Extent::Bad,
+    }
+}
+
+/// What a head asks. The error is a want of memory.
+fn describe(alloc: Global, head: &[u8], parsed: &ParsedHead) -> Result<Described, WireFault>
+    requires { IsHeadOf head.now parsed.now }
+    ensures found { IfOk result (λ d. Describes head.now parsed.now d.ask d.style) }
+    ensures error { IfErr result (λ e. e ≡ WireFault.NoMemory) }
+{
+    let method = parsed.spans.method.of(head);
+    let target = parsed.spans.path.of(head);
+    let Ok(ask) = ask_of(alloc, method, target, range_of(head, parsed)) else {
+        return Err(WireFault::NoMemory);
+    };
+    let style = Style {
+        head: method == b"HEAD".as_slice(),
+        keep: keeps_connection(head, parsed),
+    };
+    Ok(Described { ask, style })
+}
+
+/// Reads the request of the head that the buffer begins with.
+fn read_request<S: ByteSource>(
+    alloc: Global,
+    source: &mut S,
+    buffer: &mut ReadBuffer,
+    parsed: &ParsedHead,
+    max_body: u64,
+) -> Result<Next, WireFault>
+    requires limit { max_body ≤ 2 ^ 31 }
+    requires head { IsHeadAtFront buffer.old parsed.now }
+    ensures found { ReadsNext max_body buffer.old (S.remaining source.old)
+        buffer.new (S.remaining source.new) result }
+    ensures reads { CountsAtMost (S.reads source.old) (S.reads source.new) (12 + 13 * max_body) }
+    ensures failed { result ≡ Err WireFault.Read
+        → CountsUp (S.failed_reads source.old) (S.failed_reads source.new) }
+    ensures unfailed { result ≢ Err WireFault.Read
+        → S.failed_reads source.new ≡ S.failed_reads source.old }
+{
+    let head = &buffer.as_slice()[..parsed.spans.len];
+    let framing = match framing_of(head, parsed, max_body) {
+        Ok(framing) => framing,
+        Err(number) => return Ok(Next::Bad(number)),
+    };
+    let Described { ask, style } = match describe(alloc, head, parsed) {
+        Ok(described) => described,
+        Err(fault) => return Err(fault),
+    };
+    buffer.consume(parsed.spans.len);
+    match read_body(alloc, source, buffer, framing, max_body) {
+        Ok(BodyRead::Whole(body)) => Ok(Next::Request {
+            ask: with_body(ask, body),
+            style,
+        }),
+        Ok(BodyRead::Refused(number)) => Ok(Next::Bad(number)),
+        Err(fault) => Err(fault),
+    }
+}
+
+/// Reads what comes next, behind what the buffer holds of it.
+pub fn read_next<S: ByteSource>(
+    alloc: Global,
+    source: &mut S,
+    buffer: &mut ReadBuffer,
+    max_body: u64,
+) -> Result<Next, WireFault>
+    requires { max_body ≤ 2 ^ 31 }
+    ensures found { ReadsNext max_body buffer.old (S.remaining source.old)
+        buffer.new (S.remaining source.new) result }
+    ensures reads { CountsAtMost (S.reads source.old) (S.reads source.new) (16396 + 13 * max_body) }
+    ensures failed { result ≡ Err WireFault.Read
+        → CountsUp (S.failed_reads source.old) (S.failed_reads source.new) }
+    ensures unfailed { result ≢ Err WireFault.Read
+        → S.failed_reads source.new ≡ S.failed_reads source.old }
+{
+    match read_head(source, buffer) {
+        Ok(HeadRead::Head(parsed)) => read_request(alloc, source, buffer, &parsed, max_body),
+        Ok(HeadRead::Over) => Ok(Next::Over),
+        Ok(HeadRead::Refused) => Ok(Next::Bad(1)),
+        Ok(HeadRead::TooLong) => Ok(Next::Bad(2)),
+        Err(fault) => Err(fault),
+    }
 }

@@ -9,11 +9,11 @@ use Rattle.upload_wire.proofs.FieldLemmas.{length_of-empty, length_of-other, len
 use Rattle.upload_wire.proofs.framing.length_of.Goals as goal
 use Rattle.upload_wire.proofs.framing.length_of.Goals.{then-total-max_body, else-total-max_body}
 
-pub returns-then-is_empty : goal.returns-then-is_empty
-returns-then-is_empty c = sym (length_of-empty c.args.max_body c.args.value.now (eqb-true (length c.args.value.now) 0 (sym c.if-is_empty.ensures)))
+pub returns-then-is_empty-clause-value : goal.returns-then-is_empty-clause-value
+returns-then-is_empty-clause-value c = sym (length_of-empty c.args.max_body c.args.value.now (eqb-true (length c.args.value.now) 0 (sym c.if-is_empty.ensures)))
 
-pub returns-then-not-is_ascii_digit : goal.returns-then-not-is_ascii_digit
-returns-then-not-is_ascii_digit c =
+pub returns-then-not-is_ascii_digit-clause-value : goal.returns-then-not-is_ascii_digit-clause-value
+returns-then-not-is_ascii_digit-clause-value c =
     sym (length_of-other c.args.max_body c.args.value.now c.loop-b.b-index c.loop-b-test.true (sym c.if-not-is_ascii_digit.ensures.value))
 
 pub loop-b-preserved : goal.loop-b-preserved
@@ -38,15 +38,15 @@ loop-b-preserved c =
           (each, omega (arith, same, bound), λ fits. absurd (omega (arith, same, fits, over)), λ _. omega (arith, next, more))
     ]
 
-pub returns-then-total-max_body-2 : goal.returns-then-total-max_body-2
-returns-then-total-max_body-2 c =
+pub returns-then-total-max_body-2-clause-value : goal.returns-then-total-max_body-2-clause-value
+returns-then-total-max_body-2-clause-value c =
     let all = take_to_end c.args.value.now c.loop-b.b-index c.loop-b-test.false in
     sym (length_of-over c.args.max_body c.args.value.now (some_length c.args.value.now c.if-is_empty.ensures)
     (subst (λ v. list_all is_ascii_digit v ≡ true) all c.loop-b.invariant.0)
     (subst (λ v. c.args.max_body < digits_value 10 v) all (c.loop-b.invariant.3 c.if-total-max_body-2.true)))
 
-pub returns : goal.returns
-returns c =
+pub returns-clause-value : goal.returns-clause-value
+returns-clause-value c =
     let all = take_to_end c.args.value.now c.loop-b.b-index c.loop-b-test.false in
     let same = c.loop-b.invariant.2 c.if-total-max_body-2.false ∙ ap (digits_value 10) all in
     let fits = c.if-total-max_body-2.false in

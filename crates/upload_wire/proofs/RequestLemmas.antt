@@ -1,0 +1,176 @@
+-- From the spans of a head, and the body behind it, to the request.
+use Rattle.std.proofs.Common.{◌≡◌, ℕ, ◌+◌, ◌-◌, ◌<◌, ◌≤◌, List, [], ◌∷◌, ◌++◌, length, take, drop, map, refl, sym, ap, ◌∙◌, subst, arith, append_assoc, length-append, length-take, length-drop, inl, inr}
+use Rattle.std.specs.Prelude.{Option, Result, Ok, Err, bytes_eq, codes}
+use Rattle.std.proofs.lemmas.List.{take-append-drop, append-nil, length-map}
+use Rattle.std.proofs.Math.ListN.{drop_of_length-le}
+use Rattle.std.specs.Io.KnownBytes.{Consumes, IsAtEnd}
+use Rattle.httparse.specs.Grammar.{RequestHead, print_request, ReadsRequest}
+use Rattle.httparse.specs.Spans.{span_bytes, header_bytes, name_and_value}
+use Rattle.upload_service.specs.declared.ask.Ask.{Ask}
+use Rattle.upload_wire.specs.Fronts.{ReadsHead}
+use Rattle.upload_wire.specs.Fields.{Fields, head_fields, values_of, keeps_connection}
+use Rattle.upload_wire.specs.Body.{framing_of, head_framing, IsBodyText, IsBadBody, IsCutBody}
+use Rattle.upload_wire.specs.Target.{Asks, AsksWhole, extent_of, head_range, with_body}
+use Rattle.upload_wire.specs.HeadReading.{IsHeadOf, IsHeadAtFront}
+use Rattle.upload_wire.specs.FieldReading.{fields_of}
+use Rattle.upload_wire.specs.Reading.{Gave}
+use Rattle.upload_wire.specs.BodyReading.{MovedNone}
+use Rattle.upload_wire.specs.BodyFinding.{TakesBody, RefusesBodyText, CutsBody, FindsBody}
+use Rattle.upload_wire.specs.RequestReading.{Describes}
+use Rattle.upload_wire.specs.RequestText.{style_of, IsRequest, RefusesFraming, RefusesBody, IsBad, HasCutBody, IsTruncated, ReadsOne, FindsNext, ReadsNext}
+use Rattle.upload_wire.specs.declared.parsed.ParsedHead.{ParsedHead}
+use Rattle.upload_wire.specs.declared.framing.Framing.{Framing}
+use Rattle.upload_wire.specs.declared.fault.WireFault.{WireFault}
+use Rattle.upload_wire.specs.declared.fault.WireFault.TheVariants as Fault
+use Rattle.upload_wire.specs.declared.request.Style.{Style}
+use Rattle.upload_wire.specs.declared.request.Next.{Next}
+use Rattle.upload_wire.specs.declared.request.Next.TheVariants.{Request, Over, Bad}
+use Rattle.upload_wire.proofs.GaveLemmas.{gave_none, consumes_none, consumes_both}
+
+-- the head that the spans cover
+abbrev pub the_head : {text : List ℕ} {p : ParsedHead} → IsHeadAtFront text p → RequestHead
+the_head f = f.head.1.0
+
+drop_all : (n : ℕ) (text : List ℕ) → n ≤ length text → drop n (take n text) ≡ []
+drop_all n text le = drop_of_length-le (take n text) (omega (arith, length-take n text))
+
+front_printed : (text : List ℕ) (p : ParsedHead) (f : IsHeadAtFront text p) → take p.spans.len text ≡ print_request (the_head f)
+front_printed text p f =
+    f.head.1.1.reads.1 ∙ ap (λ t. print_request (the_head f) ++ t) (drop_all p.spans.len text f.in_range) ∙ append-nil (print_request (the_head f))
+
+fields_same : (text : List ℕ) (p : ParsedHead) (f : IsHeadAtFront text p) → fields_of (take p.spans.len text) p ≡ head_fields (the_head f)
+fields_same text p f = f.head.1.1.fields
+
+-- the head, and then any text
+pub head_then : (text more : List ℕ) (p : ParsedHead) (f : IsHeadAtFront text p) → ReadsHead (take p.spans.len text ++ more) (the_head f) more
+head_then text more p f =
+    let len = f.head.1.1.len in
+    let short = f.short in
+    let lengths = ap length (fields_same text p f) in
+    let few = p.count_fits in
+    record {
+      reads = (f.head.1.1.reads.0, ap (λ t. t ++ more) (front_printed text p f));
+      short = omega (arith, len, short);
+      few = omega (arith, few, lengths, length-map (the_head f).fields name_and_value,
+        length-map (take p.spans.headers p.headers) (header_bytes (take p.spans.len text)), length-take p.spans.headers p.headers);
+    }
+
+-- what the fields of the spans frame, the head frames
+framing_same : (max : ℕ) (text : List ℕ) (p : ParsedHead) (r : Result Framing ℕ) (f : IsHeadAtFront text p)
+    → r ≡ framing_of max p.spans.version (fields_of (take p.spans.len text) p) → head_framing max (the_head f) ≡ r
+framing_same max text p r f framed =
+    ap (λ n. framing_of max n (head_fields (the_head f))) (sym f.head.1.1.version)
+    ∙ ap (framing_of max p.spans.version) (sym (fields_same text p f)) ∙ sym framed
+
+-- the text in front of the body, what was read of the body, and what was read in all
+whole_text : (text given more : List ℕ) (n : ℕ) → more ≡ drop n text ++ given → text ++ given ≡ take n text ++ more
+whole_text text given more n same =
+    ap (λ t. t ++ given) (sym (take-append-drop n text)) ∙ append_assoc (take n text) (drop n text) given ∙ ap (λ t. take n text ++ t) (sym same)
+
+asks_same : (text body : List ℕ) (p : ParsedHead) (ask : Ask) (style : Style) (f : IsHeadAtFront text p)
+    → Describes (take p.spans.len text) p ask style → AsksWhole (the_head f) body (with_body ask body)
+asks_same text body p ask style f d =
+    let h = the_head f in
+    let front : List ℕ = take p.spans.len text in
+    let range : extent_of (values_of (codes "content-range") (fields_of front p)) ≡ head_range h =
+      ap (λ fields. extent_of (values_of (codes "content-range") fields)) (fields_same text p f) in
+    let by_range : Asks (span_bytes front p.spans.method) (span_bytes front p.spans.path) (head_range h) ask =
+      subst (λ r. Asks (span_bytes front p.spans.method) (span_bytes front p.spans.path) r ask) range d.asks in
+    let by_target : Asks (span_bytes front p.spans.method) h.target (head_range h) ask =
+      subst (λ t. Asks (span_bytes front p.spans.method) t (head_range h) ask) f.head.1.1.path by_range in
+    (ask, subst (λ m. Asks m h.target (head_range h) ask) f.head.1.1.method by_target, refl)
+
+style_same : (text : List ℕ) (p : ParsedHead) (ask : Ask) (style : Style) (f : IsHeadAtFront text p)
+    → Describes (take p.spans.len text) p ask style → style ≡ style_of (the_head f)
+style_same text p ask style f d =
+    let h = the_head f in
+    let is_head : style.head ≡ bytes_eq h.method (codes "HEAD") = d.is_head ∙ ap (λ m. bytes_eq m (codes "HEAD")) f.head.1.1.method in
+    let keeps : style.keep ≡ keeps_connection h.minor (head_fields h) =
+      d.keeps ∙ ap (λ n. keeps_connection n (fields_of (take p.spans.len text) p)) f.head.1.1.version
+      ∙ ap (keeps_connection h.minor) (fields_same text p f) in
+    (λ i. record { head = is_head i; keep = keeps i })
+
+pub request_next : (max : ℕ) (old new : Option (List ℕ)) (held rest body : List ℕ) (p : ParsedHead) (framing : Framing) (ask : Ask) (style : Style)
+    (f : IsHeadAtFront held p) → Ok framing ≡ framing_of max p.spans.version (fields_of (take p.spans.len held) p)
+    → Describes (take p.spans.len held) p ask style → TakesBody max framing old (drop p.spans.len held) new rest body
+    → ReadsNext max held old rest new (Ok (Request (with_body ask body) style))
+request_next max old new held rest body p framing ask style f framed d b = record {
+  given = b.gave.0;
+  consumed = b.gave.1;
+  found = record {
+    message = take p.spans.len held ++ b.text;
+    cut = whole_text held b.gave.0 (b.text ++ rest) p.spans.len b.gave.2 ∙ sym (append_assoc (take p.spans.len held) b.text rest);
+    request = record {
+      head = the_head f;
+      rest = b.text;
+      reads = head_then held b.text p f;
+      framing = framing;
+      framed = framing_same max held p (Ok framing) f framed;
+      body = body;
+      written = b.written;
+      asks = asks_same held body p ask style f d;
+      styled = style_same held p ask style f d;
+    };
+  };
+}
+
+pub bad_framing_next : (max : ℕ) (old : Option (List ℕ)) (held : List ℕ) (p : ParsedHead) (number : ℕ) (f : IsHeadAtFront held p)
+    → Err number ≡ framing_of max p.spans.version (fields_of (take p.spans.len held) p) → ReadsNext max held old held old (Ok (Bad number))
+bad_framing_next max old held p number f refused = record {
+  given = [];
+  consumed = consumes_none old;
+  found = inr (inr (inl (record {
+    head = the_head f;
+    rest = drop p.spans.len held;
+    reads = subst (λ t. ReadsHead t (the_head f) (drop p.spans.len held)) (take-append-drop p.spans.len held ∙ sym (append-nil held)) (head_then held (drop p.spans.len held) p f);
+    refused = framing_same max held p (Err number) f refused;
+  })));
+}
+
+pub bad_body_next : (max : ℕ) (old new : Option (List ℕ)) (held rest : List ℕ) (p : ParsedHead) (framing : Framing) (number : ℕ) (f : IsHeadAtFront held p)
+    → Ok framing ≡ framing_of max p.spans.version (fields_of (take p.spans.len held) p)
+    → RefusesBodyText max framing old (drop p.spans.len held) new number → ReadsNext max held old rest new (Ok (Bad number))
+bad_body_next max old new held rest p framing number f framed b = record {
+  given = b.gave.0;
+  consumed = b.gave.1;
+  found = inr (inr (inr (record {
+    head = the_head f;
+    rest = b.text;
+    reads = subst (λ t. ReadsHead t (the_head f) b.text) (sym (whole_text held b.gave.0 b.text p.spans.len b.gave.2)) (head_then held b.text p f);
+    framing = framing;
+    framed = framing_same max held p (Ok framing) f framed;
+    refused = b.bad;
+  })));
+}
+
+pub fault_next : (max : ℕ) (old new : Option (List ℕ)) (held rest : List ℕ) (p : ParsedHead) (framing : Framing) (e : WireFault) (f : IsHeadAtFront held p)
+    → Ok framing ≡ framing_of max p.spans.version (fields_of (take p.spans.len held) p)
+    → FindsBody max framing old (drop p.spans.len held) new rest (Err e) → ReadsNext max held old rest new (Err e)
+fault_next max old new held rest p framing Fault.Truncated f framed b = record {
+  given = b.gave.0;
+  consumed = b.gave.1;
+  found = (inr (record {
+    head = the_head f;
+    rest = b.text;
+    reads = subst (λ t. ReadsHead t (the_head f) b.text) (sym (whole_text held b.gave.0 b.text p.spans.len b.gave.2)) (head_then held b.text p f);
+    framing = framing;
+    framed = framing_same max held p (Ok framing) f framed;
+    short = b.cut;
+  }), b.ended);
+}
+fault_next max old new held rest p framing Fault.Read f framed b = record { given = b.gave.0; consumed = b.gave.1; found = tt }
+fault_next max old new held rest p framing Fault.NoMemory f framed b = record { given = b.gave.0; consumed = b.gave.1; found = tt }
+fault_next max old new held rest p framing Fault.Ended f framed b = absurd b
+
+pub no_memory_next : (max : ℕ) (old : Option (List ℕ)) (held : List ℕ) (e : WireFault) → e ≡ Fault.NoMemory → ReadsNext max held old held old (Err e)
+no_memory_next max old held e is =
+    subst (λ x. ReadsNext max held old held old (Err x)) (sym is) (record { given = []; consumed = consumes_none old; found = tt })
+
+-- a read, and then what came next
+pub reads_after : (max : ℕ) (held text rest : List ℕ) (old mid new : Option (List ℕ)) (r : Result Next WireFault)
+    → Gave old mid held text → ReadsNext max text mid rest new r → ReadsNext max held old rest new r
+reads_after max held text rest old mid new r gave next = record {
+  given = gave.0 ++ next.given;
+  consumed = consumes_both old mid new gave.0 next.given gave.1 next.consumed;
+  found = subst (λ t. FindsNext max t rest new r) (ap (λ t. t ++ next.given) gave.2 ∙ append_assoc held gave.0 next.given) next.found;
+}

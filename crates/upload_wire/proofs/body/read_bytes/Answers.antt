@@ -1,0 +1,31 @@
+use Rattle.std.proofs.Common.{◌≡◌, ◌-◌, ◌+◌, arith, subst, refl, ◌∙◌}
+use Rattle.upload_wire.specs.BodyReading.{Moved}
+use Rattle.upload_wire.proofs.MovedLemmas.{moved_nothing, moved_both, bytes_fault}
+use Rattle.upload_wire.proofs.body.read_bytes.Goals as goal
+
+pub loop-left-preserved : goal.loop-left-preserved
+loop-left-preserved g c =
+    let count = c.args.count in
+    let left = c.loop-left.left in
+    let part = c.in-Ok.part in
+    let found = c.in-Ok.ensures.found in
+    let some = found.1 in
+    let few = found.2 in
+    let within = c.loop-left.invariant.within in
+    let done : (count - left) + part ≡ count - (left - part) = omega (arith, within, few) in
+    record {
+      within = omega (arith, within);
+      moved = subst (λ n. Moved (g.S.ByteSource.remaining c.args.source.now) c.args.buffer.now c.args.body.now.items
+        (g.S.ByteSource.remaining c.read_part.new.source) c.read_part.new.buffer c.read_part.new.body.items n) done
+        (moved_both _ _ _ _ _ _ _ _ _ (count - left) part c.loop-left.invariant.moved found.0);
+      reads = λ low. let before = c.loop-left.invariant.reads (omega (arith, low, done)) in
+        let one = c.read_part.ensures.reads (omega (arith, low, before, done, some)) in omega (arith, one, before, done, some);
+      unfailed = c.in-Ok.ensures.unfailed (λ e. cc) ∙ c.loop-left.invariant.unfailed;
+    }
+
+pub returns-in-Err-clause-found : goal.returns-in-Err-clause-found
+returns-in-Err-clause-found g c =
+    let within = c.loop-left.invariant.within in
+    let some = c.loop-left-test.true in
+    bytes_fault _ _ _ _ _ c.read_part.new.buffer _ _ c.read_part.new.body.items (c.args.count - c.loop-left.left) c.loop-left.left c.args.count c.in-Err.fault
+    c.loop-left.invariant.moved (omega (arith, within, some)) c.in-Err.ensures.found

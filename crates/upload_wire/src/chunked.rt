@@ -1,0 +1,232 @@
+//! Chunked bodies (RFC 9112, section 7.1), read chunk by chunk. A size line has 1 to 8 hexadecimal digits and
+//! no extension, and no trailer stands behind the last one.
+ghost use Rattle.std.specs.Prelude.{◌≡◌, ◌≢◌, ℕ, ◌+◌, ◌*◌, ◌-◌, ◌^◌, ◌<◌, ◌≤◌, List, [], ◌∷◌, ◌++◌, length, Ok, Err, MatchOption, IsFalse, true};
+ghost use Rattle.std.specs.Char.{is_ascii_hexdigit, digit_value};
+ghost use Rattle.upload_wire.specs.Counts.{CountsUp, CountsAtMost};
+ghost use Rattle.upload_wire.specs.SizeLines.{StandsAt, StepSays, IsBounded};
+ghost use Rattle.upload_wire.specs.ChunkReading.{FindsLine, FindsEnd, FindsChunk};
+ghost use Rattle.upload_wire.specs.BodyFinding.{FindsBody};
+
+use crate::body::{BodyRead, read_bytes};
+use crate::buffer::ReadBuffer;
+use crate::bytes::ByteSource;
+use crate::fault::WireFault;
+use crate::framing::Framing;
+use crate::head::has_byte;
+use std::alloc::Global;
+
+/// What was read of a size line.
+#[derive(Clone, Copy)]
+pub enum LineState {
+    /// So many digits, and their value.
+    Digits(u8, u64),
+    /// The digits' value, and the CR behind them.
+    Ended(u64),
+}
+
+/// What one more byte makes of a size line.
+#[derive(Clone, Copy)]
+pub enum LineStep {
+    More(LineState),
+    Whole(u64),
+    Broken,
+}
+
+/// A size line that was read.
+#[derive(Clone, Copy)]
+pub enum LineRead {
+    Size(u64),
+    /// A byte came after which nothing makes it a size line.
+    Broken,
+}
+
+/// A chunk that was read.
+#[derive(Clone, Copy, Debug, PartialEq, Eq)]
+pub enum ChunkRead {
+    /// A chunk with data.
+    More,
+    /// The end.
+    Last,
+    /// Neither, with its Bad number: 4 where its size takes the body over the limit, and else 6.
+    Refused(u8),
+}
+
+/// The value of a hexadecimal digit.
+fn hex_value(byte: u8) -> Option<u64>
+    ensures { MatchOption result (IsFalse (is_ascii_hexdigit byte))
+        (λ v. (is_ascii_hexdigit byte ≡ true) × (v ≡ digit_value byte) × (v < 16)) }
+{
+    match byte {
+        b'0'..=b'9' => Some(u64::from(byte - b'0')),
+        b'a'..=b'f' => Some(u64::from(byte - b'a') + 10),
+        b'A'..=b'F' => Some(u64::from(byte - b'A') + 10),
+        _ => None,
+    }
+}
+
+/// A size line with one more byte.
+fn line_step(state: LineState, byte: u8) -> LineStep
+    requires { IsBounded state }
+    ensures { (front : List ℕ) → StandsAt front state → StepSays (front ++ byte ∷ []) result }
+{
+    match state {
+        LineState::Ended(value) => {
+            if byte == b'\n' {
+                LineStep::Whole(value)
+            } else {
+                LineStep::Broken
+            }
+        }
+        LineState::Digits(count, value) => {
+            if byte == b'\r' {
+                if count == 0 {
+                    LineStep::Broken
+                } else {
+                    LineStep::More(LineState::Ended(value))
+                }
+            } else if count == 8 {
+                LineStep::Broken
+            } else {
+                match hex_value(byte) {
+                    Some(digit) => LineStep::More(LineState::Digits(count + 1, value * 16 + digit)),
+                    None => LineStep::Broken,
+                }
+            }
+        }
+    }
+}
+
+/// Reads a size line, and takes it out of the buffer.
+fn read_line<S: ByteSource>(
+    source: &mut S,
+    buffer: &mut ReadBuffer,
+) -> Result<LineRead, WireFault>
+    ensures found { FindsLine (S.remaining source.old) buffer.old (S.remaining source.new) buffer.new result }
+    ensures reads { CountsAtMost (S.reads source.old) (S.reads source.new) 10 }
+    ensures failed { result ≡ Err WireFault.Read
+        → CountsUp (S.failed_reads source.old) (S.failed_reads source.new) }
+    ensures unfailed { result ≢ Err WireFault.Read
+        → S.failed_reads source.new ≡ S.failed_reads source.old }
+{
+    let mut state = LineState::Digits(0, 0);
+    for at in 0..10usize {
+        match has_byte(source, buffer, at) {
+            Ok(true) => {}
+            Ok(false) => return Err(WireFault::Truncated),
+            Err(fault) => return Err(fault),
+        }
+        match line_step(state, buffer.as_slice()[at]) {
+            LineStep::More(next) => state = next,
+            LineStep::Whole(size) => {
+                buffer.consume(at + 1);
+                return Ok(LineRead::Size(size));
+            }
+            LineStep::Broken => return Ok(LineRead::Broken),
+        }
+    }
+    unreachable!()
+}
+
+/// Reads a line end, CR LF, and takes it out of the buffer. `false`: a byte came that isn't one of it.
+fn read_line_end<S: ByteSource>(
+    source: &mut S,
+    buffer: &mut ReadBuffer,
+) -> Result<bool, WireFault>
+    ensures found { FindsEnd (S.remaining source.old) buffer.old (S.remaining source.new) buffer.new result }
+    ensures reads { CountsAtMost (S.reads source.old) (S.reads source.new) 2 }
+    ensures failed { result ≡ Err WireFault.Read
+        → CountsUp (S.failed_reads source.old) (S.failed_reads source.new) }
+    ensures unfailed { result ≢ Err WireFault.Read
+        → S.failed_reads source.new ≡ S.failed_reads source.old }
+{
+    match has_byte(source, buffer, 0) {
+        Ok(true) => {}
+        Ok(false) => return Err(WireFault::Truncated),
+        Err(fault) => return Err(fault),
+    }
+    if buffer.as_slice()[0] != b'\r' {
+        return Ok(false);
+    }
+    match has_byte(source, buffer, 1) {
+        Ok(true) => {}
+        Ok(false) => return Err(WireFault::Truncated),
+        Err(fault) => return Err(fault),
+    }
+    if buffer.as_slice()[1] != b'\n' {
+        return Ok(false);
+    }
+    buffer.consume(2);
+    Ok(true)
+}
+
+/// Reads one chunk and adds its data to the body, or reads the end.
+fn read_chunk<S: ByteSource>(
+    source: &mut S,
+    buffer: &mut ReadBuffer,
+    body: &mut Vec<u8>,
+    room: u64,
+) -> Result<ChunkRead, WireFault>
+    requires { room ≤ 2 ^ 31 }
+    ensures found { FindsChunk room (S.remaining source.old) buffer.old body.old.items (S.remaining source.new)
+        buffer.new body.new.items result }
+    ensures reads { CountsAtMost (S.reads source.old) (S.reads source.new) (12 + room) }
+    ensures few { result ≡ Ok ChunkRead.More → CountsAtMost (S.reads source.old) (S.reads source.new)
+        (12 + (length body.new.items - length body.old.items)) }
+    ensures failed { result ≡ Err WireFault.Read
+        → CountsUp (S.failed_reads source.old) (S.failed_reads source.new) }
+    ensures unfailed { result ≢ Err WireFault.Read
+        → S.failed_reads source.new ≡ S.failed_reads source.old }
+{
+    let size = match read_line(source, buffer) {
+        Ok(LineRead::Size(size)) => size,
+        Ok(LineRead::Broken) => return Ok(ChunkRead::Refused(6)),
+        Err(fault) => return Err(fault),
+    };
+    if size > room {
+        return Ok(ChunkRead::Refused(4));
+    }
+    match read_bytes(source, buffer, body, size as usize) {
+        Ok(()) => {}
+        Err(fault) => return Err(fault),
+    }
+    match read_line_end(source, buffer) {
+        Ok(true) => {}
+        Ok(false) => return Ok(ChunkRead::Refused(6)),
+        Err(fault) => return Err(fault),
+    }
+    if size == 0 {
+        Ok(ChunkRead::Last)
+    } else {
+        Ok(ChunkRead::More)
+    }
+}
+
+/// Reads chunks up to the end, and gives the body that they join to.
+pub fn read_chunks<S: ByteSource>(
+    alloc: Global,
+    source: &mut S,
+    buffer: &mut ReadBuffer,
+    max_body: u64,
+) -> Result<BodyRead, WireFault>
+    requires { max_body ≤ 2 ^ 31 }
+    ensures found { FindsBody max_body Framing.Chunked (S.remaining source.old) buffer.old (S.remaining source.new)
+        buffer.new result }
+    ensures reads { CountsAtMost (S.reads source.old) (S.reads source.new) (12 + 13 * max_body) }
+    ensures failed { result ≡ Err WireFault.Read
+        → CountsUp (S.failed_reads source.old) (S.failed_reads source.new) }
+    ensures unfailed { result ≢ Err WireFault.Read
+        → S.failed_reads source.new ≡ S.failed_reads source.old }
+{
+    let mut body = Vec::new(alloc);
+    // Each chunk but the last has a byte, so there are at most one more than the most bytes of a body.
+    for _chunk in 0..max_body + 1 {
+        let room = max_body - body.len() as u64;
+        match read_chunk(source, buffer, &mut body, room) {
+            Ok(ChunkRead::More) => {}
+            Ok(ChunkRead::Last) => return Ok(BodyRead::Whole(body)),
+            Ok(ChunkRead::Refused(number)) => return Ok(BodyRead::Refused(number)),
+            Err(fault) => return Err(fault),
+        }
+    }
+    unreachable!()
+}

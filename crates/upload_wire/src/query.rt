@@ -1,0 +1,28 @@
+//! The parameters of a query.
+ghost use Rattle.std.specs.Prelude.{◌≡◌, IfOk, option_map};
+ghost use Rattle.std.specs.Cow.{cow_str_bytes};
+ghost use Rattle.upload_wire.specs.Query.{parameter};
+
+use std::alloc::{AllocError, Global};
+use std::borrow::CowStr;
+
+/// The value of a parameter, decoded. Of a repeated one the first counts.
+pub fn parameter<'q>(
+    alloc: Global,
+    query: &'q [u8],
+    name: &str,
+) -> Result<Option<CowStr<'q>>, AllocError>
+    ensures { IfOk result (λ o. option_map cow_str_bytes o ≡ parameter name.now query.now) }
+{
+    for pair in form_urlencoded::parse(alloc, query) {
+        match pair {
+            Ok((key, value)) => {
+                if key.as_str() == name {
+                    return Ok(Some(value));
+                }
+            }
+            Err(error) => return Err(error),
+        }
+    }
+    Ok(None)
+}

@@ -1,0 +1,112 @@
+//! A reader of requests.
+ghost use Rattle.std.specs.Prelude.{◌≡◌, ◌≢◌, [], Ok, Err, IfOk};
+ghost use Rattle.upload_service.specs.Machine.{AreLawful};
+ghost use Rattle.upload_wire.specs.Counts.{CountsUp, CountsAtMost};
+ghost use Rattle.upload_wire.specs.RequestText.{ReadsNext};
+ghost use Rattle.upload_wire.specs.Phases.{phase_after, most_reads};
+
+use crate::buffer::ReadBuffer;
+use crate::bytes::ByteSource;
+use crate::fault::WireFault;
+use crate::request::{Next, read_next};
+use std::alloc::{AllocError, Global};
+use std::marker::Model;
+use upload_service::Limits;
+
+/// What a reader does when it is asked again.
+#[derive(Clone, Copy, Debug, PartialEq, Eq)]
+pub enum Phase {
+    /// It reads on.
+    Ready,
+    /// It answers that the input is over.
+    Over,
+    /// It answers that an earlier call ended the reading.
+    Ended,
+}
+
+/// Requests, read from a source one after another.
+#[derive(Drop)]
+pub struct RequestReader<S: ByteSource> {
+    alloc: Global,
+    source: S,
+    buffer: ReadBuffer,
+    max_body: u64,
+    phase: Phase,
+}
+
+impl<S: ByteSource> Model for RequestReader<S> {
+    ghost use Rattle.std.specs.Prelude.{◌≤◌, ◌^◌};
+    ghost use Rattle.upload_wire.specs.ReaderState.{ReaderState};
+
+    ghost Value = { ReaderState };
+
+    ghost view = { λ r. record {
+        held = r.buffer;
+        remaining = S.remaining r.source;
+        reads = S.reads r.source;
+        failed_reads = S.failed_reads r.source;
+        max_body = r.max_body;
+        phase = r.phase;
+    } };
+
+    ghost invariant = { λ r. r.max_body ≤ 2 ^ 31 };
+}
+
+impl<S: ByteSource + Drop> RequestReader<S> {
+    /// A reader of the source's requests, with bodies of at most `limits.max_body` bytes. It makes its one
+    /// buffer of 64 KiB, or answers that there is no memory for it.
+    pub fn new(alloc: Global, source: S, limits: Limits) -> Result<RequestReader<S>, AllocError>
+        requires { AreLawful limits }
+        ensures { IfOk result (λ reader. reader ≡ record {
+            held = [];
+            remaining = S.remaining source;
+            reads = S.reads source;
+            failed_reads = S.failed_reads source;
+            max_body = limits.max_body;
+            phase = Phase.Ready;
+        }) }
+    {
+        let Ok(buffer) = ReadBuffer::new(alloc) else {
+            return Err(AllocError);
+        };
+        Ok(RequestReader {
+            alloc,
+            source,
+            buffer,
+            max_body: limits.max_body,
+            phase: Phase::Ready,
+        })
+    }
+}
+
+impl<S: ByteSource> RequestReader<S> {
+    /// What comes next in the input: a request, read whole; the end of the input, which is answered again
+    /// when asked again; or a Bad number. After a Bad number or a fault it answers `Ended` and reads nothing.
+    pub fn next_request(&mut self) -> Result<Next, WireFault>
+        ensures ready { self.old.phase ≡ Phase.Ready → ReadsNext self.old.max_body self.old.held
+            self.old.remaining self.new.held self.new.remaining result }
+        ensures over { self.old.phase ≡ Phase.Over → (result ≡ Ok Next.Over) × (self.new ≡ self.old) }
+        ensures ended { self.old.phase ≡ Phase.Ended
+            → (result ≡ Err WireFault.Ended) × (self.new ≡ self.old) }
+        ensures phase { self.new.phase ≡ phase_after result }
+        ensures limit { self.new.max_body ≡ self.old.max_body }
+        ensures reads { CountsAtMost self.old.reads self.new.reads (most_reads self.old.max_body) }
+        ensures failed { result ≡ Err WireFault.Read
+            → CountsUp self.old.failed_reads self.new.failed_reads }
+        ensures unfailed { result ≢ Err WireFault.Read
+            → self.new.failed_reads ≡ self.old.failed_reads }
+    {
+        match self.phase {
+            Phase::Over => return Ok(Next::Over),
+            Phase::Ended => return Err(WireFault::Ended),
+            Phase::Ready => {}
+        }
+        let next = read_next(self.alloc, &mut self.source, &mut self.buffer, self.max_body);
+        self.phase = match &next {
+            Ok(Next::Request { ask: _, style: _ }) => Phase::Ready,
+            Ok(Next::Over) => Phase::Over,
+            _ => Phase::Ended,
+        };
+        next
+    }
+}
