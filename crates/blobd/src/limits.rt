@@ -1,11 +1,14 @@
 //! The limits of the program's service.
+ghost use Rattle.std.specs.Prelude.{◌≡◌};
 ghost use Rattle.upload_service.specs.Machine.{AreLawful};
+ghost use Rattle.blobd.specs.Once.{program_limits};
 
 use upload_service::Limits;
 
 /// A blob of 16 GiB, a body of 2 GiB, 1,024 open sessions, and an hour without a chunk.
 pub fn limits() -> Limits
-    ensures { AreLawful result }
+    ensures value { result ≡ program_limits }
+    ensures lawful { AreLawful result }
 {
     Limits {
         max_blob: 17_179_869_184,

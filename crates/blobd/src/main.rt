@@ -1,72 +1,35 @@
-//! The program: the blob upload part of an image registry, and a client that pushes.
+//! The program: the blob upload part of an image registry.
 //!
-//!     blobd once                          one connection over standard input and output, over a new service
-//!     blobd serve ADDR COUNT              listens; two workers take COUNT connections each
-//!     blobd push ADDR NAME FILE CHUNK     pushes a file in chunks of at most CHUNK bytes
+//!     blobd once      one connection over standard input and output, over a new service
 #![tactic(auto)]
 
 mod limits;
 mod once;
 mod output;
-mod push;
-mod serve;
-mod sockets;
 mod words;
 
 use crate::once::run_once;
-use crate::output::{FAULT, print_line};
-use crate::push::run_push;
-use crate::serve::run_serve;
 use crate::words::{Command, USAGE, read_words};
-use std::net::{SocketAddr, TcpListener};
+use std::env;
 use std::process::ExitCode;
-use std::{env, fs, io};
 use upload_wire::{FromRead, ToWrite};
 
 /// The exit status where the words are no command.
 const NO_COMMAND: u8 = 2;
-
-/// The most bytes that a file may have.
-const LARGEST_FILE: usize = 1_099_511_627_776;
 
 fn print_usage(rt: &HostRuntime) -> u8 {
     let _ = eprintln!(rt; "{USAGE}");
     NO_COMMAND
 }
 
-fn serve(rt: &HostRuntime, addr: SocketAddr, count: u64) -> u8 {
-    let mut out = io::writer(rt);
-    match TcpListener::bind(rt, addr) {
-        Ok(listener) => run_serve(rt, &listener, count, &mut out),
-        Err(_) => print_line(&mut out, format_args!("fault: listen"), FAULT),
-    }
-}
-
-fn push(rt: &HostRuntime, addr: SocketAddr, name: &str, path: &str, chunk: u64) -> u8 {
-    let mut out = io::writer(rt);
-    match fs::read(rt, path) {
-        Ok(file) if file.len() <= LARGEST_FILE => {
-            run_push(rt, addr, name.as_bytes(), file.as_slice(), chunk, &mut out)
-        }
-        _ => print_line(&mut out, format_args!("fault: file"), FAULT),
-    }
-}
-
 fn run(rt: &HostRuntime, words: &[&str]) -> u8 {
     match read_words(words) {
-        None => print_usage(rt),
         Some(Command::Once) => {
             let mut reader = FromRead::new(rt.stdin());
             let mut writer = ToWrite::new(rt.stdout());
             run_once(rt.alloc(), &mut reader, &mut writer)
         }
-        Some(Command::Serve { addr, count }) => serve(rt, addr, count),
-        Some(Command::Push {
-            addr,
-            name,
-            file,
-            chunk,
-        }) => push(rt, addr, name, file, chunk),
+        _ => print_usage(rt),
     }
 }
 

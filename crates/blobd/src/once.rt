@@ -1,4 +1,8 @@
 //! `blobd once`: one connection over a reader and a writer, over a new service.
+ghost use Rattle.std.specs.Prelude.{◌≡◌};
+ghost use Rattle.upload_wire.specs.Writing.{sink};
+ghost use Rattle.upload_wire.specs.Conversation.{source};
+ghost use Rattle.blobd.specs.Once.{IsOnce, status_of};
 
 use crate::limits::limits;
 use crate::output::{DONE, FAULT, REFUSED};
@@ -7,7 +11,9 @@ use upload_service::Service;
 use upload_wire::{ByteSink, ByteSource, ConnEnd, ServiceDesk, serve_connection};
 
 /// The exit status of a connection's end: 0 where the client ended it, 1 where the service did, 3 after a fault.
-fn status_of(end: ConnEnd) -> u8 {
+fn status_of(end: ConnEnd) -> u8
+    ensures { result ≡ status_of end }
+{
     match end {
         ConnEnd::Clean | ConnEnd::AfterClose => DONE,
         ConnEnd::AfterBad | ConnEnd::TooMany => REFUSED,
@@ -21,7 +27,10 @@ pub fn run_once<R: ByteSource, W: ByteSink>(
     alloc: Global,
     reader: &mut R,
     writer: &mut W,
-) -> u8 {
+) -> u8
+    ensures { IsOnce (source (R.remaining reader.old) (R.failed_reads reader.old)) (source (R.remaining reader.new) (R.failed_reads reader.new))
+        (sink (W.contents writer.old) (W.failed_writes writer.old)) (sink (W.contents writer.new) (W.failed_writes writer.new)) result }
+{
     let limits = limits();
     let service = Service::new(alloc, limits);
     let mut desk = ServiceDesk::new(service, [0; 12], 0);

@@ -1,5 +1,5 @@
 //! What the program prints, a line at a time.
-use std::fmt::Arguments;
+use std::fmt::Display;
 use std::io;
 use std::io::Write;
 
@@ -12,14 +12,14 @@ pub const REFUSED: u8 = 1;
 /// The exit status where something that isn't the other side's answer went wrong.
 pub const FAULT: u8 = 3;
 
-fn put_line<W: Write>(out: &mut W, line: Arguments<'_>) -> io::Result<()> {
+fn put_line<W: Write, D: Display + Drop>(out: &mut W, line: D) -> io::Result<()> {
     writeln!(out, "{line}")?;
     out.flush()
 }
 
 /// Prints a line, and gives the exit status that goes with it: this one, or that of a fault where the line can't be
 /// printed.
-pub fn print_line<W: Write>(out: &mut W, line: Arguments<'_>, status: u8) -> u8 {
+pub fn print_line<W: Write, D: Display + Drop>(out: &mut W, line: D, status: u8) -> u8 {
     match put_line(out, line) {
         Ok(()) => status,
         Err(_) => FAULT,

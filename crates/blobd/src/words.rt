@@ -1,6 +1,6 @@
 //! The words of the command line.
-ghost use Rattle.std.specs.Prelude.{◌≡◌, ℕ};
-ghost use Rattle.blobd.specs.Words.{number_of};
+ghost use Rattle.std.specs.Prelude.{◌≡◌, IfSome};
+ghost use Rattle.blobd.specs.Words.{number_of, IsInRange};
 
 use std::net::SocketAddr;
 
@@ -50,7 +50,9 @@ fn read_addr(word: &str) -> Option<SocketAddr> {
 }
 
 /// The command that the words behind the program's name make, or `None` where they make none. Nothing is opened.
-pub fn read_words<'w>(words: &[&'w str]) -> Option<Command<'w>> {
+pub fn read_words<'w>(words: &[&'w str]) -> Option<Command<'w>>
+    ensures { IfSome result IsInRange }
+{
     match words {
         ["once"] => Some(Command::Once),
         ["serve", addr, count] => Some(Command::Serve {

@@ -1,0 +1,34 @@
+-- What `blobd once` does: one conversation with a new service.
+use Rattle.std.specs.Prelude.{◌≡◌, ℕ, List, replicate}
+use Rattle.upload_service.specs.declared.limits.Limits.{Limits}
+use Rattle.upload_service.specs.Machine.{empty_state}
+use Rattle.upload_wire.specs.Writing.{Sink}
+use Rattle.upload_wire.specs.Conversation.{Source, IsConversation}
+use Rattle.upload_wire.specs.ServiceTurns.{StepsService}
+use Rattle.upload_wire.specs.declared.connection.ConnEnd.{ConnEnd}
+use Rattle.upload_wire.specs.declared.connection.ConnEnd.TheVariants.{Clean, AfterClose, AfterBad, TooMany, DeskGone, Fault}
+use Rattle.upload_wire.specs.declared.desk.ServiceDesk.{ServiceDesk}
+
+-- 16 GiB a blob, 2 GiB a body, 1,024 open sessions, an hour without a chunk
+abbrev pub program_limits : Limits
+program_limits = record { max_blob = 17179869184; max_body = 2147483648; max_open = 1024; max_idle = 3600 }
+
+-- a new service behind a desk with the zero secret, at moment 0
+abbrev pub first_desk : ServiceDesk
+first_desk = record { service = empty_state program_limits 0; secret = replicate 12 0; now = 0 }
+
+-- the exit status of a connection's end
+abbrev pub status_of : ConnEnd → ℕ
+status_of Clean = 0
+status_of AfterClose = 0
+status_of AfterBad = 1
+status_of TooMany = 1
+status_of DeskGone = 3
+status_of (Fault fault) = 3
+
+-- What was read and what was written are a conversation with a new service, and the exit status is that of its end.
+pub record IsOnce (first left : Source) (before after : Sink) (status : ℕ) : Type 0 where
+  pub end : ConnEnd
+  pub desk : ServiceDesk
+  pub conversation : IsConversation StepsService program_limits.max_body first left first_desk desk before after end
+  pub is_status : status ≡ status_of end
