@@ -1,0 +1,4 @@
+pub mod KeeperMoves
+pub mod LineMoves
+pub mod SeatMoves
+pub mod Settling

@@ -1,0 +1,5 @@
+use Rattle.upload_intake.specs.Served.{IsSameKeeper}
+use Rattle.upload_intake.proofs.keeper.Keeper.run.Given as goal
+
+abbrev pub invariant-loop : goal.invariant-loop
+invariant-loop g l = IsSameKeeper l.fn.self l.keeper

@@ -1,0 +1,11 @@
+pub mod Desks
+pub mod Generators
+pub mod Kept
+pub mod Line
+pub mod Log
+pub mod Passes
+pub mod SeatMoves
+pub mod Seats
+pub mod Secrets
+pub mod Served
+pub mod Settled

@@ -1,0 +1,38 @@
+-- What the keeper took from its two seats and answered, as one list.
+use Rattle.std.specs.Prelude.{ℕ, List, map, filter}
+use Rattle.upload_service.specs.declared.ask.Ask.{Ask}
+use Rattle.upload_service.specs.declared.answer.Answer.{Answer}
+use Rattle.upload_service.specs.Run.{Exchange}
+use Rattle.upload_intake.specs.declared.line.Side.{Side}
+use Rattle.upload_intake.specs.Line.{same_side}
+
+-- a job: a request, and the secret for the session that it may open
+abbrev pub Job : Type 0
+Job = Ask × List ℕ
+
+-- a job that was taken, and from which seat it came
+pub record TakenJob : Type 0 where
+  pub side : Side
+  pub job : Job
+
+-- one step of the service: from which seat the job came, and what was asked and answered at which moment
+pub record Step : Type 0 where
+  pub side : Side
+  pub exchange : Exchange
+
+abbrev pub exchanges_of : List Step → List Exchange
+exchanges_of steps = map (λ (s : Step). s.exchange) steps
+
+-- the jobs that the steps are of
+abbrev pub job_of : Exchange → Job
+job_of x = (x.ask, x.secret)
+
+abbrev pub taken_by : List Step → List TakenJob
+taken_by steps = map (λ (s : Step). record { side = s.side; job = job_of s.exchange }) steps
+
+-- one seat's jobs, and the answers to them, in the order in which they were taken
+abbrev pub jobs_of : Side → List TakenJob → List Job
+jobs_of side taken = map (λ (j : TakenJob). j.job) (filter (λ (j : TakenJob). same_side side j.side) taken)
+
+abbrev pub answers_to : Side → List Step → List Answer
+answers_to side steps = map (λ (s : Step). s.exchange.answer) (filter (λ (s : Step). same_side side s.side) steps)

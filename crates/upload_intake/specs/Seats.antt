@@ -1,0 +1,40 @@
+-- A seat: what it sent and heard, and whether the keeper is gone for it.
+use Rattle.std.specs.Prelude.{◌≡◌, ℕ, Bool, true, false, List, [], ◌∷◌, ◌++◌, Result, Ok, Err}
+use Rattle.upload_service.specs.declared.ask.Ask.{Ask}
+use Rattle.upload_service.specs.declared.answer.Answer.{Answer}
+use Rattle.upload_intake.specs.declared.line.Side.{Side}
+use Rattle.upload_intake.specs.declared.message.Message.{Message}
+use Rattle.upload_intake.specs.declared.gone.Gone.{Gone}
+use Rattle.upload_intake.specs.declared.gone.Gone.TheVariants.{NotSent, NoAnswer}
+use Rattle.upload_intake.specs.Log.{Job}
+use Rattle.upload_intake.specs.Passes.{LineId}
+
+-- on which lines a seat is and on which side, the jobs that it sent, the answers that it heard, and whether a call
+-- of it ended Gone
+pub record SeatState : Type 0 where
+  pub jobs : LineId Message
+  pub replies : LineId Answer
+  pub side : Side
+  pub sent : List Job
+  pub heard : List Answer
+  pub gone : Bool
+
+-- One call of `ask`. An answer comes only where no call ended Gone; it adds the job and the answer. NotSent gives the same
+-- ask back and adds nothing. NoAnswer adds the job alone. After both the seat is gone.
+abbrev pub Asks : SeatState → Ask → List ℕ → Result Answer Gone → SeatState → Type 0
+Asks old ask secret (Ok answer) new =
+    (old.gone ≡ false) × (new ≡ record old { sent = old.sent ++ (ask, secret) ∷ []; heard = old.heard ++ answer ∷ [] })
+Asks old ask secret (Err (NotSent back)) new = (back ≡ ask) × (new ≡ record old { gone = true })
+Asks old ask secret (Err NoAnswer) new = (old.gone ≡ false) × (new ≡ record old { sent = old.sent ++ (ask, secret) ∷ []; gone = true })
+
+-- it sent and heard nothing yet
+pub record IsFresh (seat : SeatState) : Type 0 where
+  pub sent : seat.sent ≡ []
+  pub heard : seat.heard ≡ []
+  pub gone : seat.gone ≡ false
+
+-- the same lines and the same side
+pub record IsSameSeat (old new : SeatState) : Type 0 where
+  pub jobs : new.jobs ≡ old.jobs
+  pub replies : new.replies ≡ old.replies
+  pub side : new.side ≡ old.side

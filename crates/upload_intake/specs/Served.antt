@@ -1,0 +1,52 @@
+-- A keeper: its lines, the service that it was given and the one that it has now, and the jobs that it took.
+use Rattle.std.specs.Prelude.{◌≡◌, List}
+use Rattle.upload_service.specs.declared.answer.Answer.{Answer}
+use Rattle.upload_service.specs.Machine.{State}
+use Rattle.upload_service.specs.Run.{Exchange, Run, NeverFall}
+use Rattle.upload_service.specs.Headline.{Headline}
+use Rattle.upload_intake.specs.declared.line.Side.TheVariants.{Left, Right}
+use Rattle.upload_intake.specs.declared.message.Message.{Message}
+use Rattle.upload_intake.specs.Log.{TakenJob, Step, exchanges_of, taken_by}
+use Rattle.upload_intake.specs.Passes.{LineId}
+use Rattle.upload_intake.specs.Seats.{SeatState}
+
+pub record KeeperState : Type 0 where
+  pub jobs : LineId Message
+  pub left : LineId Answer
+  pub right : LineId Answer
+  pub start : State
+  pub service : State
+  pub taken : List TakenJob
+
+-- the same lines, and the same service at the start
+pub record IsSameKeeper (old new : KeeperState) : Type 0 where
+  pub jobs : new.jobs ≡ old.jobs
+  pub left : new.left ≡ old.left
+  pub right : new.right ≡ old.right
+  pub start : new.start ≡ old.start
+
+-- The exchanges are a run of the service, at moments that don't fall; so the headline holds of it.
+pub record IsServed (start : State) (exchanges : List Exchange) (service : State) : Type 0 where
+  pub run : Run start exchanges service
+  pub moments : NeverFall exchanges
+  pub headline : Headline start exchanges service
+
+-- The steps are those of the jobs that the keeper took, in that order, from the service that it was given to the one that
+-- it has.
+pub record Explains (steps : List Step) (keeper : KeeperState) : Type 0 where
+  pub taken : taken_by steps ≡ keeper.taken
+  pub served : IsServed keeper.start (exchanges_of steps) keeper.service
+
+-- some run leads there
+pub record ComesOf (start service : State) : Type 0 where
+  pub exchanges : List Exchange
+  pub served : IsServed start exchanges service
+
+-- the seats and the keeper are of one call of `lines`, in this order
+pub record AreOfOneCall (keeper : KeeperState) (left right : SeatState) : Type 0 where
+  pub left_jobs : left.jobs ≡ keeper.jobs
+  pub right_jobs : right.jobs ≡ keeper.jobs
+  pub left_replies : left.replies ≡ keeper.left
+  pub right_replies : right.replies ≡ keeper.right
+  pub left_side : left.side ≡ Left
+  pub right_side : right.side ≡ Right

@@ -1,0 +1,49 @@
+//! A seat as a desk, which a connection asks.
+use crate::seat::Seat;
+use crate::secrets::Secrets;
+use std::sync::Wait;
+use upload_service::{Answer, Ask};
+use upload_wire::Desk;
+
+/// A seat that is asked with drawn secrets. It answers None where the seat's call ended `Gone`.
+#[derive(Drop)]
+pub struct SeatDesk<'a, R: Wait, S> {
+    rt: &'a R,
+    seat: Seat,
+    secrets: S,
+}
+
+impl<'a, R: Wait, S: Secrets + Drop> SeatDesk<'a, R, S> {
+    ghost use Rattle.std.specs.Prelude.{◌≡◌};
+    ghost use Rattle.upload_intake.specs.Desks.{seat_of, secrets_of};
+
+    pub fn new(rt: &'a R, seat: Seat, secrets: S) -> SeatDesk<'a, R, S>
+        ensures seat { seat_of result ≡ seat }
+        ensures secrets { secrets_of result ≡ secrets }
+    {
+        SeatDesk { rt, seat, secrets }
+    }
+
+    /// Gives the seat back, so that it can be finished.
+    pub fn into_seat(self) -> Seat
+        ensures { result ≡ seat_of self.entry }
+    {
+        let SeatDesk {
+            rt: _,
+            seat,
+            secrets: _,
+        } = self;
+        seat
+    }
+}
+
+impl<'a, R: Wait, S: Secrets> Desk for SeatDesk<'a, R, S> {
+    ghost use Rattle.upload_intake.specs.SeatMoves.{AsksWithDrawn};
+
+    ghost moves = { λ old ask answer new. AsksWithDrawn S.draws old.seat old.secrets ask answer new.seat new.secrets };
+
+    fn ask(&mut self, ask: Ask) -> Option<Answer> {
+        let secret = self.secrets.draw();
+        self.seat.ask(self.rt, ask, secret).ok()
+    }
+}

@@ -1,0 +1,31 @@
+//! Two workers round one upload service. The service is owned by one thread, the keeper, and asked from two seats over
+//! lines: bounded channels under a rule, by which what the keeper took is exactly what each seat sent, in its order, each
+//! once, and what a seat hears is in order what the service answered to its own requests.
+#![tactic(auto)]
+
+mod conns;
+mod desk;
+mod ends;
+mod gate;
+mod gone;
+mod keeper;
+mod line;
+mod message;
+mod moments;
+mod pair;
+mod seat;
+mod secrets;
+mod settlement;
+#[cfg(test)]
+mod tests;
+
+pub use conns::Conns;
+pub use desk::SeatDesk;
+pub use gate::{Gate, NoGate};
+pub use gone::Gone;
+pub use keeper::{Keeper, Served};
+pub use moments::Moments;
+pub use pair::{Pair, ServeFault, Worker, WorkerEnd, serve_pair};
+pub use seat::{Seat, SeatEnd};
+pub use secrets::{DrawnSecrets, Secrets, ZeroSecrets};
+pub use settlement::{Settled, lines, settle};
