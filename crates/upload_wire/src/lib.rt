@@ -11,6 +11,7 @@ mod bytes;
 mod chunked;
 mod connection;
 mod desk;
+mod client;
 mod elements;
 mod fault;
 mod fields;
@@ -28,6 +29,9 @@ mod writing;
 pub use bytes::{ByteSink, ByteSource, Failed, FromRead, ToWrite};
 pub use connection::{ConnEnd, ConnFault, serve_connection};
 pub use desk::{Desk, ServiceDesk};
+pub use client::{
+    Heard, HeardFault, Transport, heard_of, read_place, write_ask, written_places_are_read,
+};
 pub use fault::WireFault;
 pub use laws::connections_run_the_service;
 pub use reader::RequestReader;
