@@ -1,35 +1,67 @@
-//! The program: the blob upload part of an image registry.
+//! The program: the blob upload part of an image registry, and a client that pushes.
 //!
-//!     blobd once      one connection over standard input and output, over a new service
+//!     blobd once                          one connection over standard input and output, over a new service
+//!     blobd serve ADDR COUNT              listens; two workers take COUNT connections each
+//!     blobd push ADDR NAME FILE CHUNK     pushes a file in chunks of at most CHUNK bytes
 #![tactic(auto)]
+
+ghost use Rattle.std.specs.Prelude.{◌≤◌};
 
 mod limits;
 mod once;
 mod output;
+mod push;
+mod serve;
+mod sockets;
 mod words;
 
 use crate::once::run_once;
+use crate::output::{FAULT, print_line};
+use crate::push::run_push;
+use crate::serve::run_serve;
 use crate::words::{Command, USAGE, read_words};
-use std::env;
+use std::net::{Net, SocketAddr, TcpListener, TcpStream};
 use std::process::ExitCode;
+use std::random::RandomSource;
+use std::rt::{Clock, Files};
+use std::sync::Wait;
+use std::thread::Threads;
+use std::{env, fs, io};
 use upload_wire::{FromRead, ToWrite};
 
 /// The exit status where the words are no command.
 const NO_COMMAND: u8 = 2;
 
-fn print_usage(rt: &HostRuntime) -> u8 {
+/// The most bytes that a file may have.
+const LARGEST_FILE: usize = 1_099_511_627_776;
+
+fn print_usage(rt: &impl Eprint) -> u8 {
     let _ = eprintln!(rt; "{USAGE}");
     NO_COMMAND
 }
 
-fn run(rt: &HostRuntime, words: &[&str]) -> u8 {
-    match read_words(words) {
-        Some(Command::Once) => {
-            let mut reader = FromRead::new(rt.stdin());
-            let mut writer = ToWrite::new(rt.stdout());
-            run_once(rt.alloc(), &mut reader, &mut writer)
+fn listen<R>(rt: &R, addr: SocketAddr, count: u64) -> u8
+where
+    R: Threads + Wait + Sync + AllocGlobal + Clock + RandomSource + Print + Net<Listener = TcpListener, Stream = TcpStream>,
+{
+    let mut out = io::writer(rt);
+    match TcpListener::bind(rt, addr) {
+        Ok(listener) => run_serve(rt, &listener, count, &mut out),
+        Err(_) => print_line(&mut out, "fault: listen", FAULT),
+    }
+}
+
+fn push_file<R>(rt: &R, addr: SocketAddr, name: &str, path: &str, chunk: u64) -> u8
+where
+    R: AllocGlobal + Files + Print + Net<Stream = TcpStream>,
+    requires { (1 ≤ chunk) × (chunk ≤ 2147483648) }
+{
+    let mut out = io::writer(rt);
+    match fs::read(rt, path) {
+        Ok(file) if file.len() <= LARGEST_FILE => {
+            run_push(rt, addr, name.as_bytes(), file.as_slice(), chunk, &mut out)
         }
-        _ => print_usage(rt),
+        _ => print_line(&mut out, "fault: file", FAULT),
     }
 }
 
@@ -43,5 +75,20 @@ fn main(rt: HostRuntime) -> ExitCode {
     let Ok(words) = args.iter().map(|word| word.as_str()).collect::<Vec<&str>>(rt.alloc()) else {
         return ExitCode::from(print_usage(&rt));
     };
-    ExitCode::from(run(&rt, &words))
+    let status = match read_words(&words) {
+        None => print_usage(&rt),
+        Some(Command::Once) => {
+            let mut reader = FromRead::new(rt.stdin());
+            let mut writer = ToWrite::new(rt.stdout());
+            run_once(rt.alloc(), &mut reader, &mut writer)
+        }
+        Some(Command::Serve { addr, count }) => listen(&rt, addr, count),
+        Some(Command::Push {
+            addr,
+            name,
+            file,
+            chunk,
+        }) => push_file(&rt, addr, name, file, chunk),
+    };
+    ExitCode::from(status)
 }
