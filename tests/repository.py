@@ -15,7 +15,7 @@ HANDLES = "Handles allowed: Threads, Wait, Net.\n"
 # says nothing. A letter with a number is a citation unless it is a type parameter.
 CITATION = re.compile(
     r"(^|[^A-Za-z0-9_])(D(1[0-7]|[1-9])|T[1-5][a-e]?|W(1[0-9]|2[0-3]|[1-9])|R(1[0-6]|[1-9]))([^A-Za-z0-9_]|$)"
-    r"|0[1-4]-(scope|theorems|requests|formats)|the papers?([^A-Za-z]|$)|worked row|\brow [0-9]+"
+    r"|\brow [0-9]+"
 )
 TYPE_PARAMETER = re.compile(r"<[A-Z][0-9]?(,|>)|[:,] *[A-Z][0-9] *:")
 HOLE = re.compile(r"(=\s*\?|[( ]\?[ ),]|\?\s*$)")
