@@ -17,3 +17,7 @@ pub mod FrontLemmas
 pub mod LineReadLemmas
 pub mod ChunkReadLemmas
 pub mod RequestLemmas
+pub mod TextFronts
+pub mod PlaceLemmas
+pub mod GatherLemmas
+pub mod AskTextLemmas

@@ -10,6 +10,7 @@ mod body;
 mod buffer;
 mod bytes;
 mod chunked;
+mod client;
 mod connection;
 mod desk;
 mod elements;
@@ -27,6 +28,9 @@ mod target;
 mod writing;
 
 pub use bytes::{ByteSink, ByteSource, Failed, FromRead, ToWrite};
+pub use client::{
+    Heard, HeardFault, Transport, heard_of, read_place, write_ask, written_places_are_read,
+};
 pub use connection::{ConnEnd, ConnFault, serve_connection};
 pub use desk::{Desk, ServiceDesk};
 pub use fault::WireFault;

@@ -1,0 +1,115 @@
+-- What the last request of a push leaves in the service.
+use Rattle.std.proofs.Common.{◌≡◌, ◌≢◌, ℕ, ◌+◌, ◌≤◌, ◌⊎◌, inl, inr, Bool, true, false, List, [], ◌++◌, length, take, Option, Some, None, refl, arith, ap, subst, sym, ◌∙◌}
+use Rattle.std.specs.Prelude.{IsTrue, IsSome, is_some}
+use Rattle.std.proofs.lemmas.List.{take_all, append-nil}
+use Rattle.std.specs.FinMap as map
+use Rattle.upload_names.specs.Digest.{Digest, content_digest, HasDigest}
+use Rattle.upload_service.specs.declared.ask.Ask.{Ask}
+use Rattle.upload_service.specs.declared.ask.Ask.TheVariants as asks
+use Rattle.upload_service.specs.declared.ask.Extent.TheVariants.{Absent, Given}
+use Rattle.upload_service.specs.declared.answer.Answer.{Answer}
+use Rattle.upload_service.specs.declared.answer.Answer.TheVariants as answers
+use Rattle.upload_service.specs.declared.answer.Refusal.TheVariants as refusals
+use Rattle.upload_service.specs.Machine.{same_digest, Session, State, Outcome, Replies, Commits, state_after, size_fault, unless_fault, checked, blob_reply, holds, outcome, Comes, Turn, IsLawful}
+use Rattle.upload_wire.specs.Heard.{reply_heard}
+use Rattle.upload_push.specs.Slices.{Push}
+use Rattle.upload_push.specs.Promise.{IsStored, IsThere}
+use Rattle.upload_push.proofs.Cases.{cond_case}
+use Rattle.upload_push.proofs.Tables.{blob-insert_same, contains-insert_same}
+use Rattle.upload_push.proofs.Turns.{None≢Some, size_case, session_case, turn_case}
+use Rattle.upload_push.proofs.Uploads.{IsFront, IsUpload, found_front}
+
+some_is : {A : Type 0} (o : Option A) → IsSome o → (x : A) × (o ≡ Some x)
+some_is None e = cc
+some_is (Some x) e = (x, refl)
+
+-- where a lawful service has the pair, the bytes have the digest
+pub there_by_pair : (p : Push) (s : State) → IsLawful s → IsTrue (holds s p.name p.digest) → IsThere p s
+there_by_pair p s lawful pair =
+    let found = some_is (map.get s.blobs p.digest) (lawful.stored p.name p.digest pair) in
+    record { blob = found.0; bytes = found.1; own_digest = lawful.own_digest p.digest found.0 found.1; pair = pair }
+
+-- a reply of this status, after which this holds of the service
+abbrev Shows : (State → Type 0) → ℕ → Answer → State → Type 0
+Shows Q status answer new = (reply_heard answer).status ≡ status → Q new
+
+abbrev ShownBy : (State → Type 0) → ℕ → State → ℕ → Outcome → Type 0
+ShownBy Q status s now o = (answer : Answer) (new : State) → Comes s now o answer new → Shows Q status answer new
+
+-- an outcome that only replies
+shown : (Q : State → Type 0) (status : ℕ) (s : State) (now : ℕ) (a : Answer) → Shows Q status a s → Shows Q status answers.NoMemory s → ShownBy Q status s now (Replies a)
+shown Q status s now a shows lacks answer new comes =
+    let K : Answer → State → Type 0 = Shows Q status in
+    elim comes [
+      | inl c ↦ subst (λ x. K x new) (sym c.0) (subst (K a) (sym c.1) shows)
+      | inr c ↦ subst (λ x. K x new) (sym c.1) (subst (K answers.NoMemory) (sym c.2) lacks)
+    ]
+
+-- an outcome that commits a blob
+committed : (Q : State → Type 0) (s : State) (now : ℕ) (name at : List ℕ) (digest : Digest) (blob : List ℕ)
+    → Q (state_after s now (Commits name at digest blob)) → ShownBy Q 201 s now (Commits name at digest blob)
+committed Q s now name at digest blob there answer new comes =
+    let K : Answer → State → Type 0 = Shows Q 201 in
+    elim comes [
+      | inl c ↦ subst (λ x. K x new) (sym c.0) (subst (K (answers.Stored name digest)) (sym c.1) (λ _. there))
+      | inr c ↦ subst (λ x. K x new) (sym c.1) (λ e. absurd (omega (arith, e)))
+    ]
+
+-- a close of the push that is answered 201
+close_shows : (p : Push) (s : State) (now : ℕ) (secret at : List ℕ) (answer : Answer) (new : State) (Q : State → Type 0)
+    → ((session : Session) → map.get s.sessions at ≡ Some session → Q (state_after s now (Commits p.name at p.digest (session.received ++ []))))
+    → Turn s (asks.Close p.name at Absent (Some p.digest) []) secret now answer new → (reply_heard answer).status ≡ 201 → Q new
+close_shows p s now secret at answer new Q commits turn =
+    let ask : Ask = asks.Close p.name at Absent (Some p.digest) [] in
+    let P : Outcome → Type 0 = ShownBy Q 201 s now in
+    turn_case (Shows Q 201) s ask secret now answer new
+    (session_case P s now at p.name ask
+    (shown Q 201 s now _ (λ e. absurd (omega (arith, e))) (λ e. absurd (omega (arith, e))))
+    (λ session is.
+    let blob : List ℕ = session.received ++ [] in
+    let done : Outcome = checked (Some p.digest) blob (λ d. Commits p.name at d blob) in
+    let P' : Option Answer → Type 0 = λ f. P (unless_fault f done) in
+    size_case P' s.limits.max_blob (length session.received) []
+    (shown Q 201 s now _ (λ e. absurd (omega (arith, e))) (λ e. absurd (omega (arith, e))))
+    (cond_case P (same_digest (content_digest p.digest.algorithm blob) p.digest) _ _
+    (λ _. committed Q s now p.name at p.digest blob (commits session is))
+    (λ _. shown Q 201 s now _ (λ e. absurd (omega (arith, e))) (λ e. absurd (omega (arith, e)))))))
+    turn
+
+-- whatever others did, the pair is there
+pub close_leaves_pair : (p : Push) (s : State) (now : ℕ) (secret at : List ℕ) (answer : Answer) (new : State)
+    → Turn s (asks.Close p.name at Absent (Some p.digest) []) secret now answer new → (reply_heard answer).status ≡ 201 → IsTrue (holds new p.name p.digest)
+close_leaves_pair p s now secret at answer new turn is_201 =
+    close_shows p s now secret at answer new (λ t. IsTrue (holds t p.name p.digest)) (λ session is. contains-insert_same s.pairs (p.name, p.digest)) turn is_201
+
+-- where the upload is the push's own, the file is there
+pub close_leaves_file : (p : Push) (s : State) (now : ℕ) (secret at : List ℕ) (offset : ℕ) (answer : Answer) (new : State)
+    → IsUpload p.file s (Some at) offset → offset ≡ length p.file
+    → Turn s (asks.Close p.name at Absent (Some p.digest) []) secret now answer new → (reply_heard answer).status ≡ 201 → IsStored p new
+close_leaves_file p s now secret at offset answer new up all turn is_201 =
+    close_shows p s now secret at answer new (IsStored p)
+    (λ session is.
+    let has = found_front p.file s at offset session up is in
+    let reaches = has.reaches in
+    let whole : session.received ++ [] ≡ p.file = append-nil session.received ∙ has.front ∙ take_all (length session.received) p.file (omega (arith, all, reaches)) in
+    record {
+      bytes = blob-insert_same s.blobs p.digest (session.received ++ []) ∙ ap (λ (x : List ℕ). Some x) whole;
+      pair = contains-insert_same s.pairs (p.name, p.digest);
+    })
+    turn is_201
+
+blob_shows : (p : Push) (s : State) (now : ℕ) (blob : Option (List ℕ)) → IsTrue (holds s p.name p.digest)
+    → ShownBy (λ t. IsTrue (holds t p.name p.digest)) 200 s now (blob_reply p.digest true blob)
+blob_shows p s now None pair = shown _ 200 s now _ (λ e. absurd (omega (arith, e))) (λ e. absurd (omega (arith, e)))
+blob_shows p s now (Some blob) pair = shown _ 200 s now _ (λ _. pair) (λ e. absurd (omega (arith, e)))
+
+-- a look for the blob that is answered 200
+pub head_finds_pair : (p : Push) (s : State) (now : ℕ) (secret : List ℕ) (answer : Answer) (new : State)
+    → Turn s (asks.Has p.name p.digest true) secret now answer new → (reply_heard answer).status ≡ 200 → IsTrue (holds new p.name p.digest)
+head_finds_pair p s now secret answer new turn =
+    let Q : State → Type 0 = λ t. IsTrue (holds t p.name p.digest) in
+    turn_case (Shows Q 200) s (asks.Has p.name p.digest true) secret now answer new
+    (cond_case (ShownBy Q 200 s now) (holds s p.name p.digest) _ _
+    (λ pair. blob_shows p s now (map.get s.blobs p.digest) pair)
+    (λ _. shown Q 200 s now _ (λ e. absurd (omega (arith, e))) (λ e. absurd (omega (arith, e)))))
+    turn

@@ -1,0 +1,12 @@
+pub mod Cases
+pub mod AsksLeft
+pub mod Count
+pub mod Sound
+pub mod Underway
+pub mod Events
+pub mod Tables
+pub mod References
+pub mod Turns
+pub mod Uploads
+pub mod Ends
+pub mod Worth

@@ -1,0 +1,269 @@
+-- The upload of a push in the service: it is open with the first bytes of the file, or it is gone.
+use Rattle.std.proofs.Common.{zero, suc, ◌≡◌, ◌≢◌, ℕ, ◌+◌, ◌-◌, ◌<◌, ◌≤◌, ◌^◌, ◌⊎◌, inl, inr, Bool, true, false, List, [], ◌∷◌, ◌++◌, length, take, drop, Option, Some, None, refl, arith, ap, subst, sym, ◌∙◌, length-append}
+use Rattle.std.specs.Prelude.{slice_range, nat_le, ◌||◌}
+use Rattle.std.proofs.lemmas.List.{take_all, length-take-le}
+use Rattle.std.proofs.Math.Seq.{take-add}
+use Rattle.std.specs.Prelude.{◌==◌}
+use Rattle.std.proofs.lemmas.Bool.{eqb-true, eqb-false}
+use Rattle.std.specs.FinMap as map
+use Rattle.upload_names.specs.Digest.{Digest, content_digest}
+use Rattle.upload_names.specs.ByteRange.{Span}
+use Rattle.upload_names.specs.Reference.{reference, reference_text, number_of}
+use Rattle.upload_service.specs.declared.ask.Ask.{Ask}
+use Rattle.upload_service.specs.declared.ask.Ask.TheVariants as asks
+use Rattle.upload_service.specs.declared.ask.Extent.TheVariants.{Absent, Given}
+use Rattle.upload_service.specs.declared.answer.Answer.{Answer}
+use Rattle.upload_service.specs.declared.answer.Answer.TheVariants as answers
+use Rattle.upload_service.specs.declared.answer.Refusal.TheVariants as refusals
+use Rattle.upload_service.specs.Machine.{same_digest, Session, State, Outcome, Replies, Begins, Takes, Commits, state_after, refused, size_fault, body_fault, unless_fault, checked, last_number, opening, blob_reply, holds, all_awake, swept, Comes, Turn, IsLawful}
+use Rattle.upload_service.specs.Session.{carries}
+use Rattle.upload_service.specs.Headline.{HeadlineHolds, OthersLeaveIt}
+use Rattle.upload_wire.specs.Target.{upload_path}
+use Rattle.upload_wire.specs.Heard.{place_in, last_below, reply_heard}
+use Rattle.upload_push.specs.Steps.{count_to}
+use Rattle.upload_push.specs.Slices.{Push, IsNextChunk, place_after, offset_after}
+use Rattle.upload_push.specs.World.{IsSecret}
+use Rattle.upload_push.specs.Promise.{Avoids}
+use Rattle.upload_wire.specs.declared.client.heard.Heard.{Heard}
+use Rattle.upload_push.proofs.Cases.{cond_case}
+use Rattle.upload_push.proofs.Tables.{get-insert_same, get-remove_same}
+use Rattle.upload_push.proofs.References.{IsReference, reference_is}
+use Rattle.upload_push.proofs.Turns.{None≢Some, same_inside, fault_case, size_case, body_case, checked_case, session_case, turn_case, issued_turn, IsGone, gone_turn, opening_case}
+
+-- an open session of a push, up to an offset at least
+pub record IsFront (file : List ℕ) (offset : ℕ) (at : List ℕ) (session : Session) : Type 0 where
+  pub reference : IsReference at
+  pub front : session.received ≡ take (length session.received) file
+  pub reaches : offset ≤ length session.received
+
+pub record IsOpen (file : List ℕ) (s : State) (at : List ℕ) (offset : ℕ) : Type 0 where
+  pub session : Session
+  pub is : map.get s.sessions at ≡ Some session
+  pub has : IsFront file offset at session
+
+abbrev pub IsUpload : List ℕ → State → Option (List ℕ) → ℕ → Type 0
+IsUpload file s None offset = Unit {0}
+IsUpload file s (Some at) offset = IsOpen file s at offset ⊎ IsGone s at
+
+-- a request that doesn't carry the reference leaves the upload
+pub others_keep : OthersLeaveIt → (file : List ℕ) (s : State) (ask : Ask) (secret : List ℕ) (now : ℕ) (answer : Answer) (new : State) (at : List ℕ) (offset : ℕ)
+    → IsLawful s → Turn s ask secret now answer new → carries at ask ≡ false → IsUpload file s (Some at) offset → IsUpload file new (Some at) offset
+others_keep others file s ask secret now answer new at offset lawful turn avoids up =
+    elim up [
+      | inl o ↦ elim (others s ask secret now answer new lawful turn at o.session o.is avoids) [
+        | inl same ↦ inl (record { session = o.session; is = same; has = o.has })
+        | inr left ↦
+            let number = (lawful.numbered at o.session o.is).1 in
+            let more = issued_turn s ask secret now answer new turn in
+            inr (left.1, omega (arith, number, more))
+      ]
+      | inr gone ↦ inr (gone_turn s ask secret now answer new at turn gone)
+    ]
+
+-- the same of any upload that was heard, or of none
+pub keep_place : OthersLeaveIt → (file : List ℕ) (s : State) (ask : Ask) (secret : List ℕ) (now : ℕ) (answer : Answer) (new : State) (place : Option (List ℕ)) (offset : ℕ)
+    → IsLawful s → Turn s ask secret now answer new → Avoids place ask → IsUpload file s place offset → IsUpload file new place offset
+keep_place others file s ask secret now answer new None offset lawful turn avoids up = tt
+keep_place others file s ask secret now answer new (Some at) offset lawful turn avoids up = others_keep others file s ask secret now answer new at offset lawful turn avoids up
+
+pub avoids_opening : (name : List ℕ) (place : Option (List ℕ)) → Avoids place (asks.Opening name)
+avoids_opening name None = tt
+avoids_opening name (Some at) = refl
+
+pub avoids_has : (name : List ℕ) (digest : Digest) (head : Bool) (place : Option (List ℕ)) → Avoids place (asks.Has name digest head)
+avoids_has name digest head None = tt
+avoids_has name digest head (Some at) = refl
+
+-- the session that is found is the push's
+pub found_front : (file : List ℕ) (s : State) (at : List ℕ) (offset : ℕ) (session : Session) → IsUpload file s (Some at) offset → map.get s.sessions at ≡ Some session → IsFront file offset at session
+found_front file s at offset session up is =
+    elim up [
+      | inl o ↦ subst (IsFront file offset at) (same_inside (sym o.is ∙ is)) o.has
+      | inr gone ↦ absurd (None≢Some (sym gone.0 ∙ is))
+    ]
+
+-- the upload after a request of the push, unheard and heard
+abbrev pub IsKept : Push → Ask → Option (List ℕ) → ℕ → Answer → State → Type 0
+IsKept p ask place offset answer new =
+    IsUpload p.file new place offset
+    × IsUpload p.file new (place_after p.name (Some (reply_heard answer)) place) (offset_after ask (Some (reply_heard answer)) offset)
+
+abbrev pub KeptBy : Push → State → ℕ → Ask → Option (List ℕ) → ℕ → Outcome → Type 0
+KeptBy p s now ask place offset o = (answer : Answer) (new : State) → Comes s now o answer new → IsKept p ask place offset answer new
+
+-- an outcome that only replies
+pub replied : (p : Push) (s : State) (now : ℕ) (ask : Ask) (place : Option (List ℕ)) (offset : ℕ) (a : Answer)
+    → IsKept p ask place offset a s → IsKept p ask place offset answers.NoMemory s → KeptBy p s now ask place offset (Replies a)
+replied p s now ask place offset a kept lacks answer new comes =
+    let K : Answer → State → Type 0 = IsKept p ask place offset in
+    elim comes [
+      | inl c ↦ subst (λ x. K x new) (sym c.0) (subst (K a) (sym c.1) kept)
+      | inr c ↦ subst (λ x. K x new) (sym c.1) (subst (K answers.NoMemory) (sym c.2) lacks)
+    ]
+
+-- an outcome that changes the service
+pub changed : (p : Push) (s : State) (now : ℕ) (ask : Ask) (place : Option (List ℕ)) (offset : ℕ) (a : Answer) (t : State) (o : Outcome)
+    → ((answer : Answer) (new : State) → Comes s now o answer new → ((answer ≡ a) × (new ≡ t)) ⊎ ((answer ≡ answers.NoMemory) × (new ≡ s)))
+    → IsKept p ask place offset a t → IsKept p ask place offset answers.NoMemory s → KeptBy p s now ask place offset o
+changed p s now ask place offset a t o parts kept lacks answer new comes =
+    let K : Answer → State → Type 0 = IsKept p ask place offset in
+    elim (parts answer new comes) [
+      | inl c ↦ subst (λ x. K x new) (sym c.0) (subst (K a) (sym c.1) kept)
+      | inr c ↦ subst (λ x. K x new) (sym c.0) (subst (K answers.NoMemory) (sym c.1) lacks)
+    ]
+
+pub count_last : (next : ℕ) → count_to (last_below next) ≡ next
+count_last next = cond_case (λ (o : Option ℕ). count_to o ≡ next) (next == 0) None (Some (next - 1)) (λ is. sym (eqb-true next 0 is)) (λ some. let not = eqb-false next 0 some in omega (arith, not))
+
+-- the first bytes of the file, with the chunk after them
+pub longer_front : (p : Push) (bytes body : List ℕ) (range : Span) (offset : ℕ) → IsNextChunk p offset range body
+    → range.first ≡ length bytes → bytes ≡ take (length bytes) p.file → bytes ++ body ≡ take (length (bytes ++ body)) p.file
+longer_front p bytes body range offset next at front =
+    let size = range.last + 1 - range.first in
+    let within = next.within in
+    let some = next.some in
+    let body_is : body ≡ take size (drop (length bytes) p.file) =
+    next.bytes ∙ ap (λ (n : ℕ). take size (drop n p.file)) at in
+    let whole : bytes ++ body ≡ take (length bytes + size) p.file =
+    ap (λ (x : List ℕ). x ++ body) front
+    ∙ ap (λ (x : List ℕ). take (length bytes) p.file ++ x) body_is
+    ∙ sym (take-add (length bytes) size p.file) in
+    let count : length (bytes ++ body) ≡ length bytes + size =
+    ap (λ (x : List ℕ). length x) whole ∙ length-take-le (length bytes + size) p.file (omega arith) in
+    whole ∙ ap (λ (n : ℕ). take n p.file) (sym count)
+
+-- an upload at the offset that its session stands at
+pub at_offset : (p : Push) (s : State) (at : List ℕ) (session : Session) (offset : ℕ) → map.get s.sessions at ≡ Some session → IsFront p.file offset at session
+    → IsUpload p.file s (Some at) (count_to (last_below (length session.received)))
+at_offset p s at session offset is has =
+    let count = count_last (length session.received) in
+    inl (record { session = session; is = is; has = record { reference = has.reference; front = has.front; reaches = omega (arith, count) } })
+
+-- what is written as an upload's place is read as its reference
+abbrev pub PlacesReadBack : Type 0
+PlacesReadBack = (name at : List ℕ) → IsReference at → place_in (upload_path name (reference_text at)) name ≡ Some at
+
+-- the push's chunk
+pub chunk_keeps : PlacesReadBack → (p : Push) (s : State) (now : ℕ) (secret at : List ℕ) (offset : ℕ) (range : Span) (body : List ℕ) (answer : Answer) (new : State)
+    → IsNextChunk p offset range body → IsUpload p.file s (Some at) offset
+    → Turn s (asks.Chunk p.name at (Given range) body) secret now answer new
+    → IsKept p (asks.Chunk p.name at (Given range) body) (Some at) offset answer new
+chunk_keeps reads p s now secret at offset range body answer new next up turn =
+    let ask : Ask = asks.Chunk p.name at (Given range) body in
+    let P : Outcome → Type 0 = KeptBy p s now ask (Some at) offset in
+    turn_case (IsKept p ask (Some at) offset) s ask secret now answer new
+    (session_case P s now at p.name ask
+    (replied p s now ask (Some at) offset _ (up, up) (up, up))
+    (λ session is.
+    let has = found_front p.file s at offset session up is in
+    let taken : List ℕ = session.received ++ body in
+    let P' : Option Answer → Type 0 = λ f. P (unless_fault f (Takes p.name at taken)) in
+    body_case P' s.limits.max_blob p.name at (length session.received) range body
+    (replied p s now ask (Some at) offset _ (up, at_offset p s at session offset is has) (up, up))
+    (replied p s now ask (Some at) offset _ (up, up) (up, up))
+    (replied p s now ask (Some at) offset _ (up, up) (up, up))
+    (λ at_next.
+    let after : Session = record { name = p.name; received = taken; seen = now } in
+    let t : State = state_after s now (Takes p.name at taken) in
+    let long = length-append session.received body in
+    let reaches = has.reaches in
+    let front = longer_front p session.received body range offset next at_next has.front in
+    let there : map.get t.sessions at ≡ Some after = get-insert_same s.sessions at after in
+    let grown : IsFront p.file offset at after = record { reference = has.reference; front = front; reaches = omega (arith, long, reaches) } in
+    changed p s now ask (Some at) offset (answers.Taken p.name at (length taken)) t (Takes p.name at taken)
+    (λ a n comes. elim comes [ inl c ↦ inl c | inr c ↦ inr (c.1, c.2) ]) (
+      inl (record { session = after; is = there; has = grown }),
+      subst (λ (place : Option (List ℕ)). IsUpload p.file t place (count_to (last_below (length taken)))) (sym (reads p.name at has.reference))
+          (at_offset p t at after offset there grown),
+    )
+    (up, up))))
+    turn
+
+-- the push's status
+pub status_keeps : (p : Push) (s : State) (now : ℕ) (secret at : List ℕ) (offset : ℕ) (answer : Answer) (new : State)
+    → IsUpload p.file s (Some at) offset → Turn s (asks.Status p.name at) secret now answer new → IsKept p (asks.Status p.name at) (Some at) offset answer new
+status_keeps p s now secret at offset answer new up turn =
+    let ask : Ask = asks.Status p.name at in
+    turn_case (IsKept p ask (Some at) offset) s ask secret now answer new
+    (session_case (KeptBy p s now ask (Some at) offset) s now at p.name ask
+    (replied p s now ask (Some at) offset _ (up, up) (up, up))
+    (λ session is.
+    replied p s now ask (Some at) offset _ (up, at_offset p s at session offset is (found_front p.file s at offset session up is)) (up, up)))
+    turn
+
+-- the push's close
+pub close_keeps : (p : Push) (s : State) (now : ℕ) (secret at : List ℕ) (offset : ℕ) (answer : Answer) (new : State)
+    → IsLawful s → IsUpload p.file s (Some at) offset → Turn s (asks.Close p.name at Absent (Some p.digest) []) secret now answer new
+    → IsKept p (asks.Close p.name at Absent (Some p.digest) []) (Some at) offset answer new
+close_keeps p s now secret at offset answer new lawful up turn =
+    let ask : Ask = asks.Close p.name at Absent (Some p.digest) [] in
+    let P : Outcome → Type 0 = KeptBy p s now ask (Some at) offset in
+    turn_case (IsKept p ask (Some at) offset) s ask secret now answer new
+    (session_case P s now at p.name ask
+    (replied p s now ask (Some at) offset _ (up, up) (up, up))
+    (λ session is.
+    let blob : List ℕ = session.received ++ [] in
+    let number = (lawful.numbered at session is).1 in
+    let done : Outcome = checked (Some p.digest) blob (λ d. Commits p.name at d blob) in
+    let P' : Option Answer → Type 0 = λ f. P (unless_fault f done) in
+    size_case P' s.limits.max_blob (length session.received) []
+    (replied p s now ask (Some at) offset _ (up, up) (up, up))
+    (cond_case P (same_digest (content_digest p.digest.algorithm blob) p.digest) _ _
+    (λ _.
+    let t : State = state_after s now (Commits p.name at p.digest blob) in
+    let gone : IsUpload p.file t (Some at) offset = inr (get-remove_same s.sessions at, number) in
+    changed p s now ask (Some at) offset (answers.Stored p.name p.digest) t (Commits p.name at p.digest blob)
+    (λ a n comes. elim comes [ inl c ↦ inl c | inr c ↦ inr (c.1, c.2) ])
+    (gone, gone) (up, up))
+    (λ _. replied p s now ask (Some at) offset _ (up, up) (up, up)))))
+    turn
+
+-- the push's opening, which leaves the upload before it
+pub opening_keeps : PlacesReadBack → OthersLeaveIt → (p : Push) (s : State) (now : ℕ) (secret : List ℕ) (place : Option (List ℕ)) (offset : ℕ) (answer : Answer) (new : State)
+    → IsSecret secret → IsLawful s → IsUpload p.file s place offset → Turn s (asks.Opening p.name) secret now answer new
+    → IsKept p (asks.Opening p.name) place offset answer new
+opening_keeps reads others p s now secret place offset answer new is_secret lawful up turn =
+    let ask : Ask = asks.Opening p.name in
+    let kept : IsUpload p.file new place offset = keep_place others p.file s ask secret now answer new place offset lawful turn (avoids_opening p.name place) up in
+    let Q : Answer → State → Type 0 = λ a t. IsUpload p.file t place offset → IsKept p ask place offset a t in
+    turn_case Q s ask secret now answer new
+    (opening_case (λ o. (a : Answer) (t : State) → Comes s now o a t → Q a t) s p.name secret now
+    (λ a t comes.
+    elim comes [
+      | inl c ↦ subst (λ (x : Answer). Q x t) (sym c.0) (λ there. (there, there))
+      | inr c ↦ subst (λ (x : Answer). Q x t) (sym c.1) (λ there. (there, there))
+    ])
+    (λ room a t comes.
+    let at : List ℕ = reference (s.issued + 1) secret in
+    let begun : Session = record { name = p.name; received = []; seen = now } in
+    let after : State = state_after s now (Begins p.name at) in
+    let there : IsUpload p.file after (Some at) 0 =
+    inl (record { session = begun; is = get-insert_same (swept s now) at begun; has = record { reference = reference_is (s.issued + 1) secret is_secret; front = refl; reaches = omega arith } }) in
+    elim comes [
+      | inl c ↦ subst (λ (x : Answer). Q x t) (sym c.0) (λ had. (
+        had,
+        subst (λ (x : State). IsUpload p.file x (place_in (upload_path p.name (reference_text at)) p.name) 0) (sym c.1)
+            (subst (λ (found : Option (List ℕ)). IsUpload p.file after found 0) (sym (reads p.name at (reference_is (s.issued + 1) secret is_secret))) there),
+      ))
+      | inr c ↦ subst (λ (x : Answer). Q x t) (sym c.1) (λ had. (had, had))
+    ]))
+    turn kept
+
+has_case : (P : Outcome → Type 0) (digest : Digest) (head : Bool) (blob : Option (List ℕ)) → P (refused refusals.NoBlob)
+    → ((size : ℕ) (bytes : Option (List ℕ)) → P (Replies (answers.Blob digest size bytes))) → P (blob_reply digest head blob)
+has_case P digest head None none some = none
+has_case P digest head (Some blob) none some = some _ _
+
+-- the push's look for its blob, which leaves the upload
+pub has_keeps : (p : Push) (s : State) (now : ℕ) (secret : List ℕ) (place : Option (List ℕ)) (offset : ℕ) (digest : Digest) (head : Bool) (answer : Answer) (new : State)
+    → IsUpload p.file s place offset → Turn s (asks.Has p.name digest head) secret now answer new → IsKept p (asks.Has p.name digest head) place offset answer new
+has_keeps p s now secret place offset digest head answer new up turn =
+    let ask : Ask = asks.Has p.name digest head in
+    let P : Outcome → Type 0 = KeptBy p s now ask place offset in
+    turn_case (IsKept p ask place offset) s ask secret now answer new
+    (cond_case P (holds s p.name digest) _ _
+    (λ _. has_case P digest head (map.get s.blobs digest)
+    (replied p s now ask place offset _ (up, up) (up, up))
+    (λ size bytes. replied p s now ask place offset _ (up, up) (up, up)))
+    (λ _. replied p s now ask place offset _ (up, up) (up, up)))
+    turn

@@ -1,0 +1,5 @@
+pub mod Steps
+pub mod Slices
+pub mod World
+pub mod Codes
+pub mod Promise

@@ -1,0 +1,33 @@
+// What is true of every push.
+ghost use Rattle.std.specs.Prelude.{◌≡◌, ◌≤◌, List, Option, length};
+ghost use Rattle.upload_wire.specs.declared.client.heard.Heard.{Heard};
+ghost use Rattle.upload_push.specs.Promise.{PushPromise};
+ghost use Rattle.upload_push.specs.Steps.{Plan, Stand, turn, IsOver};
+ghost use Rattle.upload_push.specs.Slices.{Push, IsLawfulPush, IsSound, IsClose, IsHead, EndsWith, after_all, log_of, most_asks};
+
+use crate::pusher::{Outcome, Phase};
+use upload_service::{headline_holds, others_leave_a_session};
+use upload_wire::written_places_are_read;
+
+/// Whatever is heard: each request is sound, a push ends well only after the reply that says so, and it makes no more
+/// requests than (tries + 1) * (chunks of the file + 2). Once it has ended, nothing that is heard changes it.
+pub fn every_push()
+    ensures sound { (p : Push) (heard : List (Option Heard)) → IsLawfulPush p → IsSound p (log_of p heard) }
+    ensures pushed { (p : Push) (heard : List (Option Heard)) → (after_all p heard).phase ≡ Phase.Done Outcome.Pushed
+        → EndsWith IsClose 201 (log_of p heard) }
+    ensures already { (p : Push) (heard : List (Option Heard)) → (after_all p heard).phase ≡ Phase.Done Outcome.Already
+        → EndsWith IsHead 200 (log_of p heard) }
+    ensures over { (p : Plan) (s : Stand) (heard : Option Heard) → IsOver s.phase → turn p s heard ≡ s }
+    ensures count { (p : Push) (heard : List (Option Heard)) → IsLawfulPush p → length (log_of p heard) ≤ most_asks p }
+{}
+
+/// The promise of a push: over a lossy world with any events, beside any clients, a push that ends `Pushed` or `Already` left
+/// or found the repository with its digest, and the bytes that stand under it have that digest. Where no other client's
+/// request carried the reference that the pusher had heard, a push that ends `Pushed` left exactly the file there.
+pub fn push_promise()
+    ensures { PushPromise }
+{
+    headline_holds();
+    others_leave_a_session();
+    written_places_are_read();
+}

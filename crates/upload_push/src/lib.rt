@@ -1,0 +1,20 @@
+//! The pushing client: a file goes up in chunks, over any transport, and what was not heard is asked again.
+//!
+//! `Pusher` decides what is asked next, by the table of `specs/Steps.antt`; `push` runs it over a `Transport`;
+//! `LossyWorld` is a service behind a network that loses requests and replies, beside other clients, in which the
+//! promise of a push is stated (`push_promise`).
+#![tactic(auto)]
+
+mod laws;
+mod pusher;
+mod pushing;
+#[cfg(test)]
+mod random_worlds;
+#[cfg(test)]
+mod tests;
+mod world;
+
+pub use laws::{every_push, push_promise};
+pub use pusher::{Outcome, PushAsk, PushStep, Pusher, Why};
+pub use pushing::{PushFault, push, push_with};
+pub use world::{Event, LossyWorld};

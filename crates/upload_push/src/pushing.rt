@@ -1,0 +1,127 @@
+// A push over any transport.
+ghost use Rattle.std.specs.Prelude.{◌≡◌, ◌≤◌, ◌^◌, IfOk, length};
+ghost use Rattle.upload_names.specs.declared.digest.Algorithm.{Algorithm};
+ghost use Rattle.upload_wire.specs.AskText.{CanBeWritten};
+ghost use Rattle.upload_push.specs.Steps.{IsAskWithin};
+ghost use Rattle.upload_push.specs.Slices.{IsPush, push_of, request_of};
+
+use crate::pusher::{Outcome, PushAsk, PushStep, Pusher, Why};
+use std::alloc::{AllocError, Global};
+use upload_names::{Algorithm, BlobDigest, Bytes, RepoName};
+use upload_service::{Ask, Extent};
+use upload_wire::Transport;
+
+/// Why a push has no outcome.
+#[derive(Drop)]
+pub enum PushFault {
+    /// The push was given up; what it had sent stays where it is.
+    GaveUp(Why),
+    /// A growth was refused; what was asked before it stays done.
+    NoMemory,
+}
+
+/// Pushes a file under its sha256 digest: `push_with` of that algorithm.
+pub fn push<T: Transport>(
+    alloc: Global,
+    transport: &mut T,
+    file: &[u8],
+    name: &RepoName,
+    chunk: u64,
+    tries: u32,
+) -> Result<Outcome, PushFault>
+    requires size { length file.now ≤ 2 ^ 40 }
+    requires chunk { (1 ≤ chunk) × (chunk ≤ 2 ^ 31) }
+    requires tries { tries ≤ 1000 }
+    ensures { IsPush T.asked (push_of Algorithm.Sha256 name.now file.now chunk tries) transport.old transport.new result }
+{
+    push_with(
+        alloc,
+        transport,
+        file,
+        name,
+        chunk,
+        tries,
+        Algorithm::Sha256,
+    )
+}
+
+/// Pushes a file of at most 2^40 bytes under a name and its digest by an algorithm, in chunks of at most `chunk` bytes
+/// (1 to 2^31), and answers how that ended. The transport is asked what one run of the pusher asks, and nothing else.
+/// `GaveUp` comes with the reason of that run's end, `NoMemory` only where a growth was refused.
+pub fn push_with<T: Transport>(
+    alloc: Global,
+    transport: &mut T,
+    file: &[u8],
+    name: &RepoName,
+    chunk: u64,
+    tries: u32,
+    algorithm: Algorithm,
+) -> Result<Outcome, PushFault>
+    requires size { length file.now ≤ 2 ^ 40 }
+    requires chunk { (1 ≤ chunk) × (chunk ≤ 2 ^ 31) }
+    requires tries { tries ≤ 1000 }
+    ensures { IsPush T.asked (push_of algorithm name.now file.now chunk tries) transport.old transport.new result }
+{
+    let digest = BlobDigest::of(algorithm, file);
+    let Ok(own) = name.copy(alloc) else {
+        return Err(PushFault::NoMemory);
+    };
+    let mut pusher = Pusher::new(own, digest, file.len() as u64, chunk, tries);
+    'asks: loop {
+        let ask = match pusher.next() {
+            PushStep::Ask(ask) => ask,
+            PushStep::Done(outcome) => return Ok(outcome),
+            PushStep::GaveUp(why) => {
+                let Ok(why) = why.copy(alloc) else {
+                    return Err(PushFault::NoMemory);
+                };
+                return Err(PushFault::GaveUp(why));
+            }
+        };
+        let Ok(asked) = request(alloc, name, digest, file, ask) else {
+            return Err(PushFault::NoMemory);
+        };
+        let heard = transport.ask(asked);
+        pusher.heard(heard);
+    }
+}
+
+// What a pusher asks, with the name, the digest and the bytes of the file.
+fn request(
+    alloc: Global,
+    name: &RepoName,
+    digest: BlobDigest,
+    file: &[u8],
+    ask: PushAsk,
+) -> Result<Ask, AllocError>
+    requires { IsAskWithin (length file.now) ask }
+    ensures value { IfOk result (λ r. r ≡ request_of name.now digest file.now ask) }
+    ensures writable { IfOk result CanBeWritten }
+{
+    let name = name.copy(alloc)?;
+    match ask {
+        PushAsk::Opening => Ok(Ask::Opening { name }),
+        PushAsk::Chunk { at, range } => {
+            let part = &file[range.first as usize..range.last as usize + 1];
+            Ok(Ask::Chunk {
+                name,
+                at,
+                range: Extent::Given(range),
+                body: Bytes::of(part.to_vec(alloc)?),
+            })
+        }
+        PushAsk::Status { at } => Ok(Ask::Status { name, at }),
+        PushAsk::Close { at } => Ok(Ask::Close {
+            name,
+            at,
+            range: Extent::Absent,
+            digest: Some(digest),
+            body: Bytes::of(Vec::new(alloc)),
+        }),
+        PushAsk::Head => Ok(Ask::Has {
+            name,
+            digest,
+            head: true,
+        }),
+    }
+}

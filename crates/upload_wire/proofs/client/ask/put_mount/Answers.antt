@@ -1,0 +1,12 @@
+use Rattle.std.proofs.Common.{◌≡◌, ◌∙◌, sym, ap, subst, List, ℕ, ◌++◌, append_assoc}
+use Rattle.upload_wire.specs.Writing.{sink}
+use Rattle.upload_wire.specs.Gathering.{Gathered}
+use Rattle.upload_wire.proofs.client.ask.put_mount.Goals as goal
+
+pub returns : goal.returns
+returns g c = λ start before held.
+    let digest = c.as_bytes.ensures ∙ c.text.ensures.text in
+    let source = c.as_bytes-2.ensures.value ∙ c.as_str.ensures.text in
+    let put = c.put-3.ensures start _ (c.put-2.ensures start _ (c.put.ensures start _ (c.put_path.ensures start before held))) in
+    subst (Gathered start (sink (g.W.ByteSink.contents c.put-3.new.writer) (g.W.ByteSink.failed_writes c.put-3.new.writer)) c.put-3.new.self)
+    (rw (digest, source) (simp append_assoc)) put

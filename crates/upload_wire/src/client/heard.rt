@@ -1,0 +1,183 @@
+//! What a client hears in a reply.
+ghost use Rattle.std.specs.Prelude.{◌≡◌, ◌++◌, IfOk, codes};
+ghost use Rattle.std.specs.Option.{option_copied};
+ghost use Rattle.upload_wire.specs.ReplyText.{refusal_status, refusal_code, code_text};
+ghost use Rattle.upload_wire.specs.Heard.{reply_heard, of_upload, bare, last_below, status_number, after_front, place_in};
+
+use std::alloc::{AllocError, Global};
+use upload_names::{BlobDigest, Bytes, RepoName, UploadRef};
+use upload_service::{Answer, Refusal};
+
+/// What a reply says to a client.
+#[derive(Drop)]
+pub struct Heard {
+    /// The status, from 200 to 999.
+    pub status: u16,
+    /// The path of the Location, where there is one.
+    pub place: Option<Bytes>,
+    /// The last position of a Range that begins at 0, where there is one.
+    pub upto: Option<u64>,
+    /// The first error code of the body, where there is one.
+    pub code: Option<Bytes>,
+}
+
+/// Why no reply could be read.
+#[derive(Clone, Copy, Debug, PartialEq, Eq)]
+pub enum HeardFault {
+    /// The input ended before the end of a reply.
+    Truncated = 1,
+    /// A read failed.
+    Read = 2,
+    /// There was no memory to read the reply.
+    NoMemory = 3,
+    /// The head, its framing, its Location or its Range is of no form that is read.
+    Unreadable = 4,
+    /// The head has over 16,384 bytes, or the body over 65,536.
+    TooLarge = 5,
+    /// There was a fault before, and nothing was read.
+    Ended = 6,
+}
+
+/// What is heard in the reply to an answer, or want of memory for its texts.
+pub fn heard_of(alloc: Global, answer: &Answer) -> Result<Heard, AllocError>
+    ensures { IfOk result (λ heard. heard ≡ reply_heard answer.now) }
+{
+    match answer {
+        Answer::Base => Ok(bare(200)),
+        Answer::Blob { .. } => Ok(bare(200)),
+        Answer::NoMemory => Ok(bare(503)),
+        Answer::Begun { name, at } => Ok(of_upload(alloc, 202, name, at, 0)?),
+        Answer::Taken { name, at, next } => Ok(of_upload(alloc, 202, name, at, *next)?),
+        Answer::Standing { name, at, next } => Ok(of_upload(alloc, 204, name, at, *next)?),
+        Answer::Misplaced { name, at, next } => {
+            let heard = of_upload(alloc, 416, name, at, *next)?;
+            let code = copied(alloc, b"BLOB_UPLOAD_INVALID")?;
+            Ok(Heard {
+                code: Some(code),
+                ..heard
+            })
+        }
+        Answer::Stored { name, digest } => {
+            let place = path_of(alloc, name, b"/blobs/", digest.text().as_bytes())?;
+            Ok(Heard {
+                place: Some(place),
+                ..bare(201)
+            })
+        }
+        Answer::Refused(refusal) => {
+            let code = copied(alloc, refusal_code(*refusal))?;
+            Ok(Heard {
+                code: Some(code),
+                ..bare(refusal_status(*refusal))
+            })
+        }
+    }
+}
+
+/// The status alone.
+fn bare(status: u16) -> Heard
+    ensures { result ≡ bare status }
+{
+    Heard {
+        status,
+        place: None,
+        upto: None,
+        code: None,
+    }
+}
+
+/// The status and the place of an upload, and how far it is.
+fn of_upload(
+    alloc: Global,
+    status: u16,
+    name: &RepoName,
+    at: &UploadRef,
+    next: u64,
+) -> Result<Heard, AllocError>
+    ensures { IfOk result (λ heard. heard ≡ of_upload status name.now at.now next) }
+{
+    let place = path_of(alloc, name, b"/blobs/uploads/", &at.text())?;
+    Ok(Heard {
+        status,
+        place: Some(place),
+        upto: last_below(next),
+        code: None,
+    })
+}
+
+/// The last position below the next offset.
+fn last_below(next: u64) -> Option<u64>
+    ensures { result ≡ last_below next }
+{
+    if next == 0 { None } else { Some(next - 1) }
+}
+
+/// A path of the repository.
+fn path_of(alloc: Global, name: &RepoName, kind: &[u8], tail: &[u8]) -> Result<Bytes, AllocError>
+    ensures { IfOk result (λ path. path ≡ codes "/v2/" ++ (name.now ++ (kind.now ++ tail.now))) }
+{
+    let mut path = Vec::from_slice(alloc, b"/v2/")?;
+    path.extend_from_slice(name.as_str().as_bytes())?;
+    path.extend_from_slice(kind)?;
+    path.extend_from_slice(tail)?;
+    Ok(Bytes::of(path))
+}
+
+/// A text of its own.
+fn copied(alloc: Global, text: &[u8]) -> Result<Bytes, AllocError>
+    ensures { IfOk result (λ copy. copy ≡ text.now) }
+{
+    Ok(Bytes::of(Vec::from_slice(alloc, text)?))
+}
+
+/// The status of a refusal.
+fn refusal_status(refusal: Refusal) -> u16
+    ensures { result ≡ status_number (refusal_status refusal) }
+{
+    match refusal {
+        Refusal::NoForm | Refusal::BadName | Refusal::NoUpload | Refusal::NoBlob => 404,
+        Refusal::Method(_) => 405,
+        Refusal::TooLarge => 413,
+        Refusal::TooMany => 429,
+        Refusal::BadRange
+        | Refusal::WrongLength
+        | Refusal::NoDigest
+        | Refusal::Mismatch
+        | Refusal::HasBody
+        | Refusal::BadDigest => 400,
+    }
+}
+
+/// The error code of a refusal.
+fn refusal_code(refusal: Refusal) -> &'static [u8]
+    ensures { result.now ≡ code_text (refusal_code refusal) }
+{
+    match refusal {
+        Refusal::NoForm | Refusal::Method(_) => b"UNSUPPORTED",
+        Refusal::BadName => b"NAME_INVALID",
+        Refusal::NoUpload => b"BLOB_UPLOAD_UNKNOWN",
+        Refusal::BadRange => b"BLOB_UPLOAD_INVALID",
+        Refusal::WrongLength | Refusal::TooLarge | Refusal::HasBody => b"SIZE_INVALID",
+        Refusal::NoDigest | Refusal::Mismatch | Refusal::BadDigest => b"DIGEST_INVALID",
+        Refusal::TooMany => b"TOOMANYREQUESTS",
+        Refusal::NoBlob => b"BLOB_UNKNOWN",
+    }
+}
+
+/// The reference in a path of the form `/v2/<name>/blobs/uploads/<reference>`, where the name is this
+/// one and the reference is readable; else `None`. It takes no memory.
+pub fn read_place(path: &[u8], name: &RepoName) -> Option<UploadRef>
+    ensures { result ≡ place_in path.now name.now }
+{
+    let named = behind(b"/v2/", path)?;
+    let kind = behind(name.as_str().as_bytes(), named)?;
+    let reference = behind(b"/blobs/uploads/", kind)?;
+    UploadRef::read(reference)
+}
+
+/// What stands behind a front of a text.
+fn behind<'t>(front: &[u8], text: &'t [u8]) -> Option<&'t [u8]>
+    ensures { option_copied result ≡ after_front front.now text.now }
+{
+    text.strip_prefix(front)
+}
