@@ -17,7 +17,11 @@ pub mod FrontLemmas
 pub mod LineReadLemmas
 pub mod ChunkReadLemmas
 pub mod RequestLemmas
-pub mod TextFronts
+pub mod PlaceFronts
 pub mod PlaceLemmas
 pub mod GatherLemmas
 pub mod AskTextLemmas
+pub mod AnswerHeadLemmas
+pub mod CodeLemmas
+pub mod AnswerBodyLemmas
+pub mod AnswerLemmas

@@ -6,7 +6,7 @@ use Rattle.upload_names.specs.Reference.{reference_of, reference_text}
 use Rattle.upload_names.proofs.ReferenceFacts.{reference_of-text}
 use Rattle.upload_wire.specs.Heard.{after_front, place_in, PlacesAreReadBack}
 use Rattle.upload_wire.specs.Target.{upload_path}
-use Rattle.upload_wire.proofs.TextFronts.{after_front-append, after_front-front}
+use Rattle.upload_wire.proofs.PlaceFronts.{after_front-append, after_front-front}
 
 and_then_both : (f g : List ℕ → Option (List ℕ)) (o : Option (List ℕ)) → option_and_then (λ x. option_and_then g (f x)) o ≡ option_and_then g (option_and_then f o)
 and_then_both f g None = refl

@@ -1,11 +1,17 @@
 //! The client's half: asks written, replies read, and a transport over them.
 
+mod answer;
 mod ask;
+mod body;
+mod framing;
 mod gather;
+mod head;
 mod heard;
 mod laws;
+mod parsed;
 mod transport;
 
+pub use answer::AnswerReader;
 pub use ask::write_ask;
 pub use heard::{Heard, HeardFault, heard_of, read_place};
 pub use laws::written_places_are_read;

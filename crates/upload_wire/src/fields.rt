@@ -56,7 +56,7 @@ fn with_field<'b>(
 }
 
 /// The field of that name.
-fn field_among<'b>(head: &'b [u8], headers: &[HeaderSpan], name: &[u8]) -> Occurrence<'b>
+pub fn field_among<'b>(head: &'b [u8], headers: &[HeaderSpan], name: &[u8]) -> Occurrence<'b>
     requires { All (IsHeaderWithin (length head.now)) headers.now }
     ensures { IsOccurrence (values_of name.now (map (header_bytes head.now) headers.now)) result }
 {

@@ -17,7 +17,7 @@ pub enum Framing {
 }
 
 /// The number that the digits of a Content-Length write, or a Bad number.
-fn length_of(value: &[u8], max_body: u64) -> Result<u64, u8>
+pub fn length_of(value: &[u8], max_body: u64) -> Result<u64, u8>
     requires { max_body ≤ 2 ^ 31 }
     ensures value { result ≡ length_of max_body value.now }
     ensures kept { IfOk result (λ n. n ≤ max_body) }

@@ -1,0 +1,18 @@
+use Rattle.std.proofs.Common.{◌≡◌, ◌∙◌, sym, ap}
+use Rattle.std.specs.Prelude.{Err}
+use Rattle.upload_wire.specs.AnswerReading.{end_of}
+use Rattle.upload_wire.proofs.AnswerBodyLemmas.{long_body, end_found, end_read, err_same}
+use Rattle.upload_wire.proofs.client.body.read_to_end.Goals as goal
+
+pub returns-in-Ok-clause-found : goal.returns-in-Ok-clause-found
+returns-in-Ok-clause-found g c = long_body _ _ _ _ _ _ c.in-Ok.ensures.found
+
+pub returns-in-Err-clause-found : goal.returns-in-Err-clause-found
+returns-in-Err-clause-found g c = rw c.end_of.ensures (end_found _ _ _ _ _ _ c.in-Err.fault c.requires c.in-Err.ensures.found)
+
+pub returns-in-Err-clause-failed : goal.returns-in-Err-clause-failed
+returns-in-Err-clause-failed g c = λ e. c.in-Err.ensures.failed (ap Err (end_read c.in-Err.fault (sym c.end_of.ensures ∙ e)))
+
+pub returns-in-Err-clause-unfailed : goal.returns-in-Err-clause-unfailed
+returns-in-Err-clause-unfailed g c = λ other.
+    c.in-Err.ensures.unfailed (λ e. other (c.end_of.ensures ∙ ap end_of (err_same _ _ e)))

@@ -1,0 +1,184 @@
+-- What the functions find that read a reply.
+use Rattle.std.specs.Prelude.{◌≡◌, ℕ, ◌+◌, ◌<◌, ◌≤◌, ◌⊎◌, List, [], ◌++◌, length, map, min, take, drop, Option, Some, None, Result, Ok, Err, ⊤}
+use Rattle.std.specs.Io.KnownBytes.{IsAtEnd}
+use Rattle.httparse.specs.Grammar.{HasNoResponse}
+use Rattle.httparse.specs.Spans.{IsResponseWithin, IsResponseOf, header_bytes}
+use Rattle.upload_wire.specs.Fronts.{max_head}
+use Rattle.upload_wire.specs.AnswerFronts.{IsRefused, IsTooLong, IsUnfinished, MayBeRefused}
+use Rattle.upload_wire.specs.Fields.{Fields}
+use Rattle.upload_wire.specs.Reading.{Gave}
+use Rattle.upload_wire.specs.BodyReading.{Moved, MovedNone}
+use Rattle.upload_wire.specs.AnswerText.{IsBody, IsHeard, IsMisplaced, IsPlaceOf, location, max_answer, range, upto_of}
+use Rattle.upload_wire.specs.declared.client.parsed.ParsedAnswer.{ParsedAnswer}
+use Rattle.upload_wire.specs.declared.client.head.Verdict.{Verdict}
+use Rattle.upload_wire.specs.declared.client.head.Verdict.TheVariants.{Complete, Refused, Open}
+use Rattle.upload_wire.specs.declared.client.head.AnswerHead.{AnswerHead}
+use Rattle.upload_wire.specs.declared.client.head.AnswerHead.TheVariants as Found
+use Rattle.upload_wire.specs.declared.client.framing.AnswerFraming.{AnswerFraming}
+use Rattle.upload_wire.specs.declared.client.framing.AnswerFraming.TheVariants.{Sized, ToEnd}
+use Rattle.upload_wire.specs.declared.client.heard.Heard.{Heard}
+use Rattle.upload_wire.specs.declared.client.heard.HeardFault.{HeardFault}
+use Rattle.upload_wire.specs.declared.client.heard.HeardFault.TheVariants as Fault
+use Rattle.upload_wire.specs.declared.fault.WireFault.{WireFault}
+use Rattle.upload_wire.specs.declared.fault.WireFault.TheVariants as Wire
+
+-- ---- the head
+
+-- the spans are those of a head that begins the text
+abbrev pub IsHeadOf : List ℕ → ParsedAnswer → Type 0
+IsHeadOf text p = IsResponseWithin text p.headers p.spans × IsResponseOf text p.headers p.spans
+
+-- the fields that the spans of a head cover
+abbrev pub fields_of : List ℕ → ParsedAnswer → Fields
+fields_of head p = map (header_bytes head) (take p.spans.headers p.headers)
+
+-- what the verdict says of a front
+abbrev pub Judges : List ℕ → Verdict → Type 0
+Judges front (Complete p) = IsHeadOf front p
+Judges front Refused = MayBeRefused front
+Judges front Open = HasNoResponse front
+
+-- the head is the first p.spans.len bytes of the text
+pub record IsHeadAtFront (text : List ℕ) (p : ParsedAnswer) : Type 0 where
+  pub short : p.spans.len ≤ max_head
+  pub in_range : p.spans.len ≤ length text
+  pub head : IsHeadOf (take p.spans.len text) p
+
+-- what the verdict on the front that ends at an index says of the text
+abbrev pub JudgesAt : List ℕ → ℕ → Verdict → Type 0
+JudgesAt text at (Complete p) = IsHeadAtFront text p
+JudgesAt text at Refused = IsRefused text
+JudgesAt text at Open = HasNoResponse (take (at + 1) text)
+
+-- what a read of a head found in the text that was read, where the source is left as new
+abbrev pub FindsHead : List ℕ → Option (List ℕ) → Result AnswerHead WireFault → Type 0
+FindsHead text new (Ok Found.Refused) = IsRefused text
+FindsHead text new (Ok Found.TooLong) = IsTooLong text
+FindsHead text new (Ok (Found.Head p)) = IsHeadAtFront text p
+FindsHead text new (Err Wire.Truncated) = IsUnfinished text × IsAtEnd new
+FindsHead text new (Err Wire.Read) = ⊤
+FindsHead text new (Err Wire.NoMemory) = ⊥
+FindsHead text new (Err Wire.Ended) = ⊥
+
+-- ---- the body
+
+-- bytes that were held are moved to the end of a body, as many as there are and no more than are left of it
+abbrev pub Takes : List ℕ → List ℕ → List ℕ → List ℕ → ℕ → Result ℕ HeardFault → Type 0
+Takes held before rest after left (Ok count) = (count ≡ min left (length held)) × (rest ≡ drop count held) × (after ≡ before ++ take count held)
+Takes held before rest after left (Err fault) = (fault ≡ Fault.NoMemory) × (rest ≡ held)
+
+-- a part of what is left of a body, or nothing at the end of the input
+abbrev pub MovesPart : Option (List ℕ) → List ℕ → List ℕ → Option (List ℕ) → List ℕ → List ℕ → ℕ → Result ℕ HeardFault → Type 0
+MovesPart old held before new rest after left (Ok count) =
+    Moved old held before new rest after count × (count ≤ left) × (count ≡ 0 → (rest ≡ []) × IsAtEnd new)
+MovesPart old held before new rest after left (Err Fault.Read) = MovedNone old held new
+MovesPart old held before new rest after left (Err Fault.NoMemory) = MovedNone old held new
+MovesPart old held before new rest after left (Err Fault.Truncated) = ⊥
+MovesPart old held before new rest after left (Err Fault.Unreadable) = ⊥
+MovesPart old held before new rest after left (Err Fault.TooLarge) = ⊥
+MovesPart old held before new rest after left (Err Fault.Ended) = ⊥
+
+-- all up to the end of the input was moved, if it is fewer bytes than so many
+pub record MovesAll (old : Option (List ℕ)) (held before : List ℕ) (new : Option (List ℕ)) (rest after : List ℕ) (count : ℕ) : Type 0 where
+  pub moved : ℕ
+  pub bytes : Moved old held before new rest after moved
+  pub few : moved < count
+  pub none_left : rest ≡ []
+  pub ended : IsAtEnd new
+
+-- so many bytes were moved, or all of fewer
+abbrev pub MovesUpTo : Option (List ℕ) → List ℕ → List ℕ → Option (List ℕ) → List ℕ → List ℕ → ℕ → Result ⊤ HeardFault → Type 0
+MovesUpTo old held before new rest after count (Ok done) = Moved old held before new rest after count
+MovesUpTo old held before new rest after count (Err Fault.Truncated) = MovesAll old held before new rest after count
+MovesUpTo old held before new rest after count (Err Fault.Read) = MovedNone old held new
+MovesUpTo old held before new rest after count (Err Fault.NoMemory) = MovedNone old held new
+MovesUpTo old held before new rest after count (Err Fault.Unreadable) = ⊥
+MovesUpTo old held before new rest after count (Err Fault.TooLarge) = ⊥
+MovesUpTo old held before new rest after count (Err Fault.Ended) = ⊥
+
+-- what a fault means to a body that goes to the end of the input
+abbrev pub end_of : HeardFault → Result ⊤ HeardFault
+end_of Fault.Truncated = Ok tt
+end_of Fault.Read = Err Fault.Read
+end_of Fault.NoMemory = Err Fault.NoMemory
+end_of Fault.Unreadable = Err Fault.Unreadable
+end_of Fault.TooLarge = Err Fault.TooLarge
+end_of Fault.Ended = Err Fault.Ended
+
+-- what was found of a body in the text that was held behind its head and read
+abbrev pub FindsBodyIn : AnswerFraming → List ℕ → List ℕ → List ℕ → Option (List ℕ) → Result ⊤ HeardFault → Type 0
+FindsBodyIn framing text body rest new (Ok done) = (text ≡ body ++ rest) × IsBody framing body rest new
+FindsBodyIn (Sized n) text body rest new (Err Fault.Truncated) = (length text < n) × IsAtEnd new
+FindsBodyIn ToEnd text body rest new (Err Fault.Truncated) = ⊥
+FindsBodyIn (Sized n) text body rest new (Err Fault.TooLarge) = ⊥
+FindsBodyIn ToEnd text body rest new (Err Fault.TooLarge) = max_answer < length text
+FindsBodyIn framing text body rest new (Err Fault.Read) = ⊤
+FindsBodyIn framing text body rest new (Err Fault.NoMemory) = ⊤
+FindsBodyIn framing text body rest new (Err Fault.Unreadable) = ⊥
+FindsBodyIn framing text body rest new (Err Fault.Ended) = ⊥
+
+-- some bytes were read, and this was found of a body in what was held and read
+pub record FindsBody
+    (framing : AnswerFraming) (held : List ℕ) (old : Option (List ℕ)) (body rest : List ℕ) (new : Option (List ℕ)) (r : Result ⊤ HeardFault)
+    : Type 0 where
+  pub text : List ℕ
+  pub gave : Gave old new held text
+  pub found : FindsBodyIn framing text body rest new r
+
+-- ---- what it says
+
+-- the fault that a fault of a read is
+abbrev pub fault_of : WireFault → HeardFault
+fault_of Wire.Truncated = Fault.Truncated
+fault_of Wire.Read = Fault.Read
+fault_of Wire.NoMemory = Fault.NoMemory
+fault_of Wire.Ended = Fault.Ended
+
+-- the path that was read, or the refusal of the value, unless memory was refused
+abbrev pub PlaceUnlessNoMemory : Option (List ℕ) → Result (Option (List ℕ)) HeardFault → Type 0
+PlaceUnlessNoMemory value (Ok place) = IsPlaceOf value (Ok place)
+PlaceUnlessNoMemory value (Err Fault.Unreadable) = IsPlaceOf value (Err Fault.Unreadable)
+PlaceUnlessNoMemory value (Err Fault.NoMemory) = ⊤
+PlaceUnlessNoMemory value (Err Fault.Truncated) = ⊥
+PlaceUnlessNoMemory value (Err Fault.Read) = ⊥
+PlaceUnlessNoMemory value (Err Fault.TooLarge) = ⊥
+PlaceUnlessNoMemory value (Err Fault.Ended) = ⊥
+
+-- what a reply says: what is heard, or that a Location or a Range is unreadable
+abbrev pub Says : ℕ → Fields → List ℕ → Result Heard HeardFault → Type 0
+Says status fields body (Ok heard) = IsHeard status fields body heard
+Says status fields body (Err Fault.Unreadable) = IsMisplaced fields
+Says status fields body (Err Fault.NoMemory) = ⊤
+Says status fields body (Err Fault.Truncated) = ⊥
+Says status fields body (Err Fault.Read) = ⊥
+Says status fields body (Err Fault.TooLarge) = ⊥
+Says status fields body (Err Fault.Ended) = ⊥
+
+-- what a head says, with no code: what is heard, or that a Location or a Range is unreadable
+pub record IsHeardBare (status : ℕ) (fields : Fields) (heard : Heard) : Type 0 where
+  pub status_is : heard.status ≡ status
+  pub place_is : IsPlaceOf (location fields) (Ok heard.place)
+  pub upto_is : upto_of (range fields) ≡ Ok heard.upto
+
+abbrev pub SaysBare : ℕ → Fields → Result Heard HeardFault → Type 0
+SaysBare status fields (Ok heard) = IsHeardBare status fields heard
+SaysBare status fields (Err Fault.Unreadable) = IsMisplaced fields
+SaysBare status fields (Err Fault.NoMemory) = ⊤
+SaysBare status fields (Err Fault.Truncated) = ⊥
+SaysBare status fields (Err Fault.Read) = ⊥
+SaysBare status fields (Err Fault.TooLarge) = ⊥
+SaysBare status fields (Err Fault.Ended) = ⊥
+
+-- a body that isn't longer than the limit
+abbrev pub IsSmall : AnswerFraming → Type 0
+IsSmall (Sized n) = n ≤ max_answer
+IsSmall ToEnd = ⊤
+
+-- the faults of a framing
+abbrev pub IsFramingFault : HeardFault → Type 0
+IsFramingFault Fault.Unreadable = ⊤
+IsFramingFault Fault.TooLarge = ⊤
+IsFramingFault Fault.Truncated = ⊥
+IsFramingFault Fault.Read = ⊥
+IsFramingFault Fault.NoMemory = ⊥
+IsFramingFault Fault.Ended = ⊥

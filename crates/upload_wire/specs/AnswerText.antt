@@ -1,0 +1,193 @@
+-- A reply as a text: its head, its body (RFC 9112, section 6.3), and what a client hears in them.
+use Rattle.std.specs.Prelude.{◌≡◌, ℕ, ◌+◌, ◌<◌, ◌≤◌, ◌⊎◌, Bool, true, false, ◌||◌, ◌==◌, nat_lt, List, [], ◌∷◌, ◌++◌, length, map, codes, Option, Some, None, option_and_then, if◌then◌else◌, Result, Ok, Err, is_err, ⊤}
+use Rattle.std.specs.Str.{is_utf8}
+use Rattle.std.specs.Str.Parse.{digits_value}
+use Rattle.std.specs.Io.KnownBytes.{Consumes, IsAtEnd}
+use Rattle.httparse.specs.Grammar.{ResponseHead, status_code}
+use Rattle.httparse.specs.Spans.{name_and_value}
+use Rattle.http_uri.specs.declared.uri.Uri.{Uri}
+use Rattle.http_uri.specs.Uri.{Spells, SpellsNone, uri_path}
+use Rattle.serde_json.specs.Data.{Data}
+use Rattle.serde_json.specs.Read.{read}
+use Rattle.serde_json.specs.Find.{get, at, as_str}
+use Rattle.upload_names.specs.ByteRange.{Span, range_of}
+use Rattle.upload_wire.specs.Fields.{Fields, values_of}
+use Rattle.upload_wire.specs.Body.{is_number}
+use Rattle.upload_wire.specs.AnswerFronts.{ReadsHead, IsRefused, IsTooLong, IsUnfinished}
+use Rattle.upload_wire.specs.declared.client.framing.AnswerFraming.{AnswerFraming}
+use Rattle.upload_wire.specs.declared.client.framing.AnswerFraming.TheVariants.{Sized, ToEnd}
+use Rattle.upload_wire.specs.declared.client.heard.Heard.{Heard}
+use Rattle.upload_wire.specs.declared.client.heard.HeardFault.{HeardFault}
+use Rattle.upload_wire.specs.declared.client.heard.HeardFault.TheVariants as Fault
+
+-- ---- how far the body goes
+
+-- the most bytes of a reply's body
+abbrev pub max_answer : ℕ
+max_answer = 65536
+
+-- a length over the limit is too large
+abbrev pub sized : ℕ → Result AnswerFraming HeardFault
+sized n = if nat_lt max_answer n then Err Fault.TooLarge else Ok (Sized n)
+
+-- by the values of Content-Length, for a reply that has no body and for one that has
+abbrev pub framing_by_length : Bool → List (List ℕ) → Result AnswerFraming HeardFault
+framing_by_length empty [] = if empty then Ok (Sized 0) else Ok ToEnd
+framing_by_length empty (value ∷ []) =
+    if is_number value then (if empty then Ok (Sized 0) else sized (digits_value 10 value)) else Err Fault.Unreadable
+framing_by_length empty (value ∷ other ∷ values) = Err Fault.Unreadable
+
+-- by the values of Transfer-Encoding: there is none
+abbrev pub framing_without_coding : List (List ℕ) → Result AnswerFraming HeardFault → Result AnswerFraming HeardFault
+framing_without_coding [] framing = framing
+framing_without_coding (coding ∷ codings) framing = Err Fault.Unreadable
+
+-- the reply to a HEAD, a 204 and a 304 have no body
+abbrev pub is_empty : Bool → ℕ → Bool
+is_empty head status = head || (status == 204) || (status == 304)
+
+-- how far the body goes, by the method's being HEAD, the status and the fields; a status below 200 is no reply
+abbrev pub framing_of : Bool → ℕ → Fields → Result AnswerFraming HeardFault
+framing_of head status fields =
+    if nat_lt status 200 then Err Fault.Unreadable
+    else framing_without_coding (values_of (codes "transfer-encoding") fields)
+    (framing_by_length (is_empty head status) (values_of (codes "content-length") fields))
+
+-- ---- what is heard
+
+-- the first of the values
+abbrev pub first_of : List (List ℕ) → Option (List ℕ)
+first_of [] = None
+first_of (value ∷ values) = Some value
+
+-- the path of a Location, in origin form or in absolute form
+abbrev pub IsPlaceOf : Option (List ℕ) → Result (Option (List ℕ)) HeardFault → Type 0
+IsPlaceOf None r = r ≡ Ok None
+IsPlaceOf (Some value) (Ok place) = (uri : Uri) × Spells value uri × (place ≡ Some (uri_path uri))
+IsPlaceOf (Some value) (Err e) = (e ≡ Fault.Unreadable) × SpellsNone value
+
+-- the last position of a range that begins at 0
+abbrev pub last_from_zero : Option Span → Result (Option ℕ) HeardFault
+last_from_zero None = Err Fault.Unreadable
+last_from_zero (Some range) = if range.first == 0 then Ok (Some range.last) else Err Fault.Unreadable
+
+-- the last position of a Range
+abbrev pub upto_of : Option (List ℕ) → Result (Option ℕ) HeardFault
+upto_of None = Ok None
+upto_of (Some value) = last_from_zero (range_of value)
+
+-- the `code` of the first item of `errors`
+abbrev pub code_in : Data → Option (List ℕ)
+code_in d = option_and_then as_str (option_and_then (get (codes "code")) (option_and_then (at 0) (get (codes "errors") d)))
+
+-- the first error code of a body, where it is JSON
+abbrev pub code_of : List ℕ → Option (List ℕ)
+code_of body = if is_utf8 body then option_and_then code_in (read body) else None
+
+abbrev pub location : Fields → Option (List ℕ)
+location fields = first_of (values_of (codes "location") fields)
+
+abbrev pub range : Fields → Option (List ℕ)
+range fields = first_of (values_of (codes "range") fields)
+
+-- what is heard in a head and a body
+pub record IsHeard (status : ℕ) (fields : Fields) (body : List ℕ) (heard : Heard) : Type 0 where
+  pub status_is : heard.status ≡ status
+  pub place_is : IsPlaceOf (location fields) (Ok heard.place)
+  pub upto_is : upto_of (range fields) ≡ Ok heard.upto
+  pub code_is : heard.code ≡ code_of body
+
+-- the Location or the Range is unreadable
+abbrev pub IsMisplaced : Fields → Type 0
+IsMisplaced fields =
+    IsPlaceOf (location fields) (Err Fault.Unreadable) ⊎ (upto_of (range fields) ≡ Err Fault.Unreadable)
+
+-- ---- replies
+
+-- the fields of a head, in their order
+abbrev pub head_fields : ResponseHead → Fields
+head_fields head = map name_and_value head.fields
+
+-- the text begins with a head whose body goes so far, and then comes rest
+pub record ReadsFramed (head_only : Bool) (text : List ℕ) (framing : Result AnswerFraming HeardFault) (head : ResponseHead) (rest : List ℕ) : Type 0 where
+  pub reads : ReadsHead text head rest
+  pub framed : framing_of head_only (status_code head) (head_fields head) ≡ framing
+
+-- the body is as long as its framing says; one that goes to the end of the input leaves nothing
+abbrev pub IsBody : AnswerFraming → List ℕ → List ℕ → Option (List ℕ) → Type 0
+IsBody (Sized n) body rest new = length body ≡ n
+IsBody ToEnd body rest new = (length body ≤ max_answer) × (rest ≡ []) × IsAtEnd new
+
+-- a whole reply and then rest
+pub record IsWhole (head_only : Bool) (text rest : List ℕ) (new : Option (List ℕ)) (head : ResponseHead) (body : List ℕ) : Type 0 where
+  pub framing : AnswerFraming
+  pub framed : ReadsFramed head_only text (Ok framing) head (body ++ rest)
+  pub is_body : IsBody framing body rest new
+
+-- a reply of which this is heard
+pub record TellsHeard (head_only : Bool) (text rest : List ℕ) (new : Option (List ℕ)) (heard : Heard) : Type 0 where
+  pub head : ResponseHead
+  pub body : List ℕ
+  pub whole : IsWhole head_only text rest new head body
+  pub says : IsHeard (status_code head) (head_fields head) body heard
+
+-- a reply whose Location or Range is unreadable
+pub record TellsMisplaced (head_only : Bool) (text rest : List ℕ) (new : Option (List ℕ)) : Type 0 where
+  pub head : ResponseHead
+  pub body : List ℕ
+  pub whole : IsWhole head_only text rest new head body
+  pub misplaced : IsMisplaced (head_fields head)
+
+-- a head whose framing is this fault
+pub record HasFramingFault (head_only : Bool) (text : List ℕ) (fault : HeardFault) : Type 0 where
+  pub head : ResponseHead
+  pub rest : List ℕ
+  pub framed : ReadsFramed head_only text (Err fault) head rest
+
+-- a body that goes to the end of the input, and is over the limit
+pub record HasLongBody (head_only : Bool) (text : List ℕ) : Type 0 where
+  pub head : ResponseHead
+  pub rest : List ℕ
+  pub framed : ReadsFramed head_only text (Ok ToEnd) head rest
+  pub long : max_answer < length rest
+
+-- the text ends inside a body
+pub record HasCutBody (head_only : Bool) (text : List ℕ) : Type 0 where
+  pub head : ResponseHead
+  pub rest : List ℕ
+  pub size : ℕ
+  pub framed : ReadsFramed head_only text (Ok (Sized size)) head rest
+  pub cut : length rest < size
+
+-- what was found in the text, where the reader holds rest and the source is left as new
+abbrev pub FindsAnswer : Bool → List ℕ → List ℕ → Option (List ℕ) → Result Heard HeardFault → Type 0
+FindsAnswer head_only text rest new (Ok heard) = TellsHeard head_only text rest new heard
+FindsAnswer head_only text rest new (Err Fault.Unreadable) =
+    IsRefused text ⊎ (HasFramingFault head_only text Fault.Unreadable ⊎ TellsMisplaced head_only text rest new)
+FindsAnswer head_only text rest new (Err Fault.TooLarge) =
+    IsTooLong text ⊎ (HasFramingFault head_only text Fault.TooLarge ⊎ HasLongBody head_only text)
+FindsAnswer head_only text rest new (Err Fault.Truncated) = IsAtEnd new × (IsUnfinished text ⊎ HasCutBody head_only text)
+FindsAnswer head_only text rest new (Err Fault.Read) = ⊤
+FindsAnswer head_only text rest new (Err Fault.NoMemory) = ⊤
+FindsAnswer head_only text rest new (Err Fault.Ended) = ⊥
+
+-- so many bytes were read, and this was found in what was held and read
+pub record ReadsAnswer
+    (head_only : Bool) (held : List ℕ) (old : Option (List ℕ)) (rest : List ℕ) (new : Option (List ℕ)) (r : Result Heard HeardFault)
+    : Type 0 where
+  pub given : List ℕ
+  pub consumed : Consumes old new given
+  pub found : FindsAnswer head_only (held ++ given) rest new r
+
+-- what contracts see of a reader of replies: the bytes that were read and not taken, what is known of the source, its
+-- counts, and whether a fault ended the reading
+pub record AnswerReaderState : Type 0 where
+  pub held : List ℕ
+  pub remaining : Option (List ℕ)
+  pub reads : ℕ
+  pub failed_reads : ℕ
+  pub ended : Bool
+
+-- the most reads of one reply: its head and its body, one byte each
+abbrev pub most_answer_reads : ℕ
+most_answer_reads = 16384 + 65537

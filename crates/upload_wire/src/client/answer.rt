@@ -1,0 +1,351 @@
+//! Replies, read from a source of bytes.
+ghost use Rattle.std.specs.Prelude.{◌≡◌, ◌≢◌, ℕ, ◌+◌, ◌<◌, ◌≤◌, List, [], ◌∷◌, ◌++◌, length, drop, take, map, All, Option, Some, None, option_map, Ok, Err, IfOk, IfErr, false, true, is_err};
+ghost use Rattle.std.specs.Option.{option_copied};
+ghost use Rattle.std.specs.Io.KnownBytes.{IsAtEnd};
+ghost use Rattle.httparse.specs.Spans.{IsHeaderWithin, header_bytes};
+ghost use Rattle.serde_json.specs.View.{view};
+ghost use Rattle.upload_wire.specs.Counts.{CountsUp, CountsAtMost};
+ghost use Rattle.upload_wire.specs.Fields.{Fields, values_of};
+ghost use Rattle.upload_wire.specs.AnswerText.{ReadsAnswer, code_in, code_of, first_of, framing_of, framing_by_length, most_answer_reads, upto_of};
+ghost use Rattle.upload_wire.specs.AnswerReading.{IsHeadAtFront, IsHeadOf, IsSmall, IsFramingFault, PlaceUnlessNoMemory, Says, SaysBare, fields_of};
+
+use crate::buffer::ReadBuffer;
+use crate::bytes::ByteSource;
+use crate::client::body::{MAX_ANSWER, fault_of, read_body};
+use crate::client::framing::AnswerFraming;
+use crate::client::head::{AnswerHead, read_head};
+use crate::client::heard::{Heard, HeardFault};
+use crate::client::parsed::ParsedAnswer;
+use crate::fields::{Occurrence, field_among, is_same_word};
+use crate::framing::length_of;
+use http_uri::{Uri, UriError};
+use httparse::spans::HeaderSpan;
+use serde_json::Value;
+use std::alloc::{AllocError, Global};
+use std::marker::Model;
+use upload_names::{ByteRange, Bytes};
+
+/// The first error code of a body.
+fn code_of(alloc: Global, body: &[u8]) -> Result<Option<Bytes>, AllocError>
+    ensures { IfOk result (λ code. code ≡ code_of body.now) }
+{
+    let value = match Value::from_slice(alloc, body) {
+        Ok(value) => value,
+        Err(error) => {
+            return if error.is_memory() {
+                Err(AllocError)
+            } else {
+                Ok(None)
+            };
+        }
+    };
+    let Some(code) = first_code(&value) else {
+        return Ok(None);
+    };
+    match Vec::from_slice(alloc, code.as_bytes()) {
+        Ok(text) => Ok(Some(Bytes::of(text))),
+        Err(_) => Err(AllocError),
+    }
+}
+
+/// The code of the first of the errors.
+fn first_code(value: &Value) -> Option<&str>
+    ensures { option_map (λ s. s.now) result ≡ code_in (view value.now) }
+{
+    let first = value.get("errors").and_then(|errors| errors.get(0));
+    first
+        .and_then(|first| first.get("code"))
+        .and_then(Value::as_str)
+}
+
+/// The first value of a name, with one more field.
+fn with_first<'b>(
+    found: Option<&'b [u8]>,
+    head: &'b [u8],
+    header: HeaderSpan,
+    name: &[u8],
+) -> Option<&'b [u8]>
+    requires { IsHeaderWithin (length head.now) header }
+    ensures { (fields : Fields) → option_map (λ v. v.now) found.entry ≡ first_of (values_of name.now fields)
+        → option_map (λ v. v.now) result ≡ first_of (values_of name.now (fields ++ header_bytes head.now header ∷ [])) }
+{
+    match found {
+        Some(value) => Some(value),
+        None => {
+            if is_same_word(header.name.of(head), name) {
+                Some(header.value.of(head))
+            } else {
+                None
+            }
+        }
+    }
+}
+
+/// The value of the first field of that name.
+fn first_named<'b>(head: &'b [u8], headers: &[HeaderSpan], name: &[u8]) -> Option<&'b [u8]>
+    requires { All (IsHeaderWithin (length head.now)) headers.now }
+    ensures { option_map (λ v. v.now) result ≡ first_of (values_of name.now (map (header_bytes head.now) headers.now)) }
+{
+    let mut found = None;
+    for header in headers {
+        found = with_first(found, head, *header, name);
+    }
+    found
+}
+
+/// How far a body of a said length goes.
+fn sized(value: &[u8], empty: bool) -> Result<AnswerFraming, HeardFault>
+    ensures framing { result ≡ framing_by_length empty (value.now ∷ []) }
+    ensures small { IfOk result IsSmall }
+    ensures error { IfErr result IsFramingFault }
+{
+    match length_of(value, MAX_ANSWER as u64) {
+        Ok(length) => Ok(AnswerFraming::Sized(if empty { 0 } else { length })),
+        Err(3) => Err(HeardFault::Unreadable),
+        Err(_) => {
+            if empty {
+                Ok(AnswerFraming::Sized(0))
+            } else {
+                Err(HeardFault::TooLarge)
+            }
+        }
+    }
+}
+
+/// How far the body of a reply goes. `Unreadable`: a status below 200, a coding, or a length that is
+/// unreadable or said twice. `TooLarge`: a length over the limit, of a reply that has a body.
+fn framing_of(
+    head_only: bool,
+    head: &[u8],
+    parsed: &ParsedAnswer,
+) -> Result<AnswerFraming, HeardFault>
+    requires { IsHeadOf head.now parsed.now }
+    ensures framing { result ≡ framing_of head_only parsed.now.spans.code (fields_of head.now parsed.now) }
+    ensures small { IfOk result IsSmall }
+    ensures error { IfErr result IsFramingFault }
+{
+    let status = parsed.spans.code;
+    if status < 200 {
+        return Err(HeardFault::Unreadable);
+    }
+    let headers = &parsed.headers[..parsed.spans.headers];
+    match field_among(head, headers, b"transfer-encoding") {
+        Occurrence::Absent => {}
+        _ => return Err(HeardFault::Unreadable),
+    }
+    let empty = head_only || status == 204 || status == 304;
+    match field_among(head, headers, b"content-length") {
+        Occurrence::Absent => Ok(if empty {
+            AnswerFraming::Sized(0)
+        } else {
+            AnswerFraming::ToEnd
+        }),
+        Occurrence::Once(value) => sized(value, empty),
+        Occurrence::Repeated => Err(HeardFault::Unreadable),
+    }
+}
+
+/// The path of a Location.
+fn place_of(alloc: Global, value: Option<&[u8]>) -> Result<Option<Bytes>, HeardFault>
+    ensures { PlaceUnlessNoMemory (option_map (λ v. v.now) value.entry) result }
+{
+    let Some(value) = value else {
+        return Ok(None);
+    };
+    let uri = match Uri::from_bytes(alloc, value) {
+        Ok(uri) => uri,
+        Err(UriError::Invalid(_)) => return Err(HeardFault::Unreadable),
+        Err(UriError::OutOfMemory) => return Err(HeardFault::NoMemory),
+    };
+    match Vec::from_slice(alloc, uri.path().as_bytes()) {
+        Ok(path) => Ok(Some(Bytes::of(path))),
+        Err(_) => Err(HeardFault::NoMemory),
+    }
+}
+
+/// The last position of a Range, which begins at 0.
+fn upto_of(value: Option<&[u8]>) -> Result<Option<u64>, HeardFault>
+    ensures { result ≡ upto_of (option_map (λ v. v.now) value.entry) }
+{
+    let Some(value) = value else {
+        return Ok(None);
+    };
+    match ByteRange::read(value) {
+        Some(range) => {
+            if range.first == 0 {
+                Ok(Some(range.last))
+            } else {
+                Err(HeardFault::Unreadable)
+            }
+        }
+        None => Err(HeardFault::Unreadable),
+    }
+}
+
+/// What a head says, with no code yet.
+fn said_of(alloc: Global, head: &[u8], parsed: &ParsedAnswer) -> Result<Heard, HeardFault>
+    requires { IsHeadOf head.now parsed.now }
+    ensures { SaysBare parsed.now.spans.code (fields_of head.now parsed.now) result }
+{
+    let headers = &parsed.headers[..parsed.spans.headers];
+    let place = match place_of(alloc, first_named(head, headers, b"location")) {
+        Ok(place) => place,
+        Err(fault) => return Err(fault),
+    };
+    let upto = match upto_of(first_named(head, headers, b"range")) {
+        Ok(upto) => upto,
+        Err(fault) => return Err(fault),
+    };
+    Ok(Heard {
+        status: parsed.spans.code,
+        place,
+        upto,
+        code: None,
+    })
+}
+
+/// What a head said, and the code of the body.
+fn with_code(
+    alloc: Global,
+    said: Result<Heard, HeardFault>,
+    body: &[u8],
+) -> Result<Heard, HeardFault>
+    ensures { (status : ℕ) (fields : Fields) → SaysBare status fields said → Says status fields body.now result }
+{
+    let said = match said {
+        Ok(said) => said,
+        Err(fault) => return Err(fault),
+    };
+    match code_of(alloc, body) {
+        Ok(code) => Ok(Heard { code, ..said }),
+        Err(_) => Err(HeardFault::NoMemory),
+    }
+}
+
+/// Reads the body behind a head, and takes the reply out of the buffer.
+fn read_framed<S: ByteSource>(
+    alloc: Global,
+    source: &mut S,
+    buffer: &mut ReadBuffer,
+    parsed: &ParsedAnswer,
+    head_only: bool,
+) -> Result<Heard, HeardFault>
+    requires { IsHeadAtFront buffer.old parsed.now }
+    ensures found { ReadsAnswer head_only buffer.old (S.remaining source.old) buffer.new (S.remaining source.new) result }
+    ensures reads { CountsAtMost (S.reads source.old) (S.reads source.new) 65537 }
+    ensures failed { result ≡ Err HeardFault.Read
+        → CountsUp (S.failed_reads source.old) (S.failed_reads source.new) }
+    ensures unfailed { result ≢ Err HeardFault.Read
+        → S.failed_reads source.new ≡ S.failed_reads source.old }
+{
+    let head = &buffer.as_slice()[..parsed.spans.len];
+    let framing = match framing_of(head_only, head, parsed) {
+        Ok(framing) => framing,
+        Err(fault) => return Err(fault),
+    };
+    // What the head says is heard once the body is there.
+    let said = said_of(alloc, head, parsed);
+    buffer.consume(parsed.spans.len);
+    let mut body = Vec::new(alloc);
+    match read_body(source, buffer, &mut body, framing) {
+        Ok(()) => with_code(alloc, said, &body),
+        Err(fault) => Err(fault),
+    }
+}
+
+/// Reads the next reply, behind what the buffer holds of it.
+fn read_answer<S: ByteSource>(
+    alloc: Global,
+    source: &mut S,
+    buffer: &mut ReadBuffer,
+    head_only: bool,
+) -> Result<Heard, HeardFault>
+    ensures found { ReadsAnswer head_only buffer.old (S.remaining source.old) buffer.new (S.remaining source.new) result }
+    ensures reads { CountsAtMost (S.reads source.old) (S.reads source.new) most_answer_reads }
+    ensures failed { result ≡ Err HeardFault.Read
+        → CountsUp (S.failed_reads source.old) (S.failed_reads source.new) }
+    ensures unfailed { result ≢ Err HeardFault.Read
+        → S.failed_reads source.new ≡ S.failed_reads source.old }
+{
+    match read_head(source, buffer) {
+        Ok(AnswerHead::Head(parsed)) => read_framed(alloc, source, buffer, &parsed, head_only),
+        Ok(AnswerHead::Refused) => Err(HeardFault::Unreadable),
+        Ok(AnswerHead::TooLong) => Err(HeardFault::TooLarge),
+        Err(fault) => Err(fault_of(fault)),
+    }
+}
+
+/// Reads the replies to a client's requests, one after another.
+#[derive(Drop)]
+pub struct AnswerReader<S: ByteSource> {
+    alloc: Global,
+    source: S,
+    buffer: ReadBuffer,
+    ended: bool,
+}
+
+impl<S: ByteSource> Model for AnswerReader<S> {
+    ghost use Rattle.upload_wire.specs.AnswerText.{AnswerReaderState};
+
+    ghost Value = { AnswerReaderState };
+
+    ghost view = { λ r. record {
+      held = r.buffer;
+      remaining = S.remaining r.source;
+      reads = S.reads r.source;
+      failed_reads = S.failed_reads r.source;
+      ended = r.ended;
+    } };
+}
+
+impl<S: ByteSource> AnswerReader<S> {
+    /// A reader of the replies that the source gives. It takes a buffer of 65,536 bytes.
+    pub fn new(alloc: Global, source: S) -> Result<AnswerReader<S>, AllocError>
+    where
+        S: Drop,
+        ensures { IfOk result (λ reader. reader ≡ record {
+          held = [];
+          remaining = S.remaining source;
+          reads = S.reads source;
+          failed_reads = S.failed_reads source;
+          ended = false;
+        }) }
+    {
+        let buffer = ReadBuffer::new(alloc)?;
+        Ok(AnswerReader {
+            alloc,
+            source,
+            buffer,
+            ended: false,
+        })
+    }
+
+    /// Reads the reply to one request, whose method was HEAD where `head`, and takes just its bytes.
+    /// The faults come in this order, and after one every call answers `Ended` and reads nothing:
+    ///
+    /// - `Unreadable`, `TooLarge` or `Truncated` for a head that is none, that has over 16,384 bytes,
+    ///   or that the input ends before;
+    /// - `Unreadable` for a status below 200, a Transfer-Encoding, and a Content-Length that is no
+    ///   number or is said twice; `TooLarge` for one over 65,536 of a reply that has a body;
+    /// - `Truncated` for an input that ends before so many bytes, and `TooLarge` for a body without a
+    ///   length that goes on behind 65,536;
+    /// - `Unreadable` for a Location that is no URI, and then for a Range that isn't one from 0.
+    ///
+    /// `Read` comes only where a read failed in this call, and `NoMemory` where a growth was refused.
+    pub fn next_answer(&mut self, head: bool) -> Result<Heard, HeardFault>
+        ensures ended { self.old.ended ≡ true → (result ≡ Err HeardFault.Ended) × (self.new ≡ self.old) }
+        ensures found { self.old.ended ≡ false
+            → ReadsAnswer head self.old.held self.old.remaining self.new.held self.new.remaining result }
+        ensures ends { self.new.ended ≡ is_err result }
+        ensures reads { CountsAtMost self.old.reads self.new.reads most_answer_reads }
+        ensures failed { result ≡ Err HeardFault.Read → CountsUp self.old.failed_reads self.new.failed_reads }
+        ensures unfailed { result ≢ Err HeardFault.Read → self.new.failed_reads ≡ self.old.failed_reads }
+    {
+        if self.ended {
+            return Err(HeardFault::Ended);
+        }
+        let heard = read_answer(self.alloc, &mut self.source, &mut self.buffer, head);
+        self.ended = heard.is_err();
+        heard
+    }
+}
