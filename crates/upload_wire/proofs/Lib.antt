@@ -25,3 +25,4 @@ pub mod AnswerHeadLemmas
 pub mod CodeLemmas
 pub mod AnswerBodyLemmas
 pub mod AnswerLemmas
+pub mod TransportLemmas

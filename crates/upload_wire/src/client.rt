@@ -10,9 +10,11 @@ mod heard;
 mod laws;
 mod parsed;
 mod transport;
+mod wire;
 
 pub use answer::AnswerReader;
 pub use ask::write_ask;
 pub use heard::{Heard, HeardFault, heard_of, read_place};
 pub use laws::written_places_are_read;
 pub use transport::Transport;
+pub use wire::WireTransport;
