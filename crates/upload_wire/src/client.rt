@@ -9,6 +9,8 @@ mod head;
 mod heard;
 mod laws;
 mod parsed;
+#[cfg(test)]
+mod tests;
 mod transport;
 mod wire;
 

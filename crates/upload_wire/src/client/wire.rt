@@ -34,10 +34,10 @@ impl<S: ByteSource, W: ByteSink> Model for WireTransport<S, W> {
     ghost Value = { WireState };
 
     ghost view = { λ t. record {
-        reader = t.reader;
-        writer = sink (W.contents t.writer) (W.failed_writes t.writer);
-        host = t.host;
-        broken = t.broken;
+      reader = t.reader;
+      writer = sink (W.contents t.writer) (W.failed_writes t.writer);
+      host = t.host;
+      broken = t.broken;
     } };
 
     ghost invariant = { λ t. IsTrue (is_host t.host) × GoesOn t.broken t.reader };
@@ -56,16 +56,16 @@ impl<S: ByteSource, W: ByteSink> WireTransport<S, W> {
         W: Drop,
         requires { IsTrue (is_host host.now) }
         ensures { IfOk result (λ transport. transport ≡ record {
-            reader = record {
-                held = [];
-                remaining = S.remaining source;
-                reads = S.reads source;
-                failed_reads = S.failed_reads source;
-                ended = false;
-            };
-            writer = sink (W.contents writer) (W.failed_writes writer);
-            host = host.now;
-            broken = false;
+          reader = record {
+            held = [];
+            remaining = S.remaining source;
+            reads = S.reads source;
+            failed_reads = S.failed_reads source;
+            ended = false;
+          };
+          writer = sink (W.contents writer) (W.failed_writes writer);
+          host = host.now;
+          broken = false;
         }) }
     {
         let reader = AnswerReader::new(alloc, source)?;
