@@ -1,17 +1,27 @@
 //! The program: the blob upload part of an image registry.
 //!
-//!     blobd once      one connection over standard input and output, over a new service
+//!     blobd once                  one connection over standard input and output, over a new service
+//!     blobd serve ADDR COUNT      listens; two workers take COUNT connections each
 #![tactic(auto)]
 
 mod limits;
 mod once;
+mod serve;
+mod sockets;
 mod status;
 mod words;
 
 use crate::once::run_once;
+use crate::serve::run_serve;
+use crate::status::{FAULT, print_line};
 use crate::words::{Command, USAGE, read_words};
-use std::env;
+use std::net::{Net, SocketAddr, TcpListener, TcpStream};
 use std::process::ExitCode;
+use std::random::RandomSource;
+use std::rt::Clock;
+use std::sync::Wait;
+use std::thread::Threads;
+use std::{env, io};
 use upload_wire::{FromRead, ToWrite};
 
 /// The exit status where the words are no command.
@@ -22,14 +32,21 @@ fn print_usage(rt: &HostRuntime) -> u8 {
     NO_COMMAND
 }
 
-fn run(rt: &HostRuntime, words: &[&str]) -> u8 {
-    match read_words(words) {
-        Some(Command::Once) => {
-            let mut reader = FromRead::new(rt.stdin());
-            let mut writer = ToWrite::new(rt.stdout());
-            run_once(rt.alloc(), &mut reader, &mut writer)
-        }
-        _ => print_usage(rt),
+fn serve_input(rt: &HostRuntime) -> u8 {
+    let mut reader = FromRead::new(rt.stdin());
+    let mut writer = ToWrite::new(rt.stdout());
+    run_once(rt.alloc(), &mut reader, &mut writer)
+}
+
+fn listen<R>(rt: &R, addr: SocketAddr, count: u64) -> u8
+where
+    R: Threads + Wait + Sync + AllocGlobal + Clock + RandomSource + Print,
+    R: Net<Listener = TcpListener, Stream = TcpStream>,
+{
+    let mut out = io::writer(rt);
+    match TcpListener::bind(rt, addr) {
+        Ok(listener) => run_serve(rt, &listener, count, &mut out),
+        Err(_) => print_line(&mut out, "fault: listen", FAULT),
     }
 }
 
@@ -47,5 +64,9 @@ fn main(rt: HostRuntime) -> ExitCode {
     else {
         return ExitCode::from(print_usage(&rt));
     };
-    ExitCode::from(run(&rt, &words))
+    ExitCode::from(match read_words(&words) {
+        Some(Command::Once) => serve_input(&rt),
+        Some(Command::Serve { addr, count }) => listen(&rt, addr, count),
+        _ => print_usage(&rt),
+    })
 }

@@ -1,0 +1,152 @@
+//! `blobd serve`: a listener, and two workers that take connections from it.
+ghost use Rattle.blobd.specs.Status.{IsServeStatus};
+
+use crate::limits::limits;
+use crate::sockets::{Reader, Writer, close_politely, split};
+use crate::status::{DONE, FAULT, print_line};
+use rand::rngs::StdRng;
+use std::alloc::Global;
+use std::io;
+use std::io::Write;
+use std::net::{TcpListener, TcpStream};
+use std::random::RandomSource;
+use std::rt::Clock;
+use std::sync::Wait;
+use std::sync::atomic::{AtomicBool, Ordering};
+use std::thread::Threads;
+use std::time::Instant;
+use upload_intake::{Conns, DrawnSecrets, Moments, NoGate, ServeFault, Worker, serve_pair};
+use upload_service::Service;
+
+/// Secrets of the system's random numbers.
+type SystemSecrets = DrawnSecrets<StdRng>;
+
+/// The connections of one worker: the next ones that the listener accepts, up to a count.
+#[derive(Drop)]
+struct Accepted<'a, R> {
+    rt: &'a R,
+    listener: &'a TcpListener,
+    /// How many more it takes.
+    left: u64,
+    /// The connection before, which is closed when the next one is asked for.
+    served: Option<TcpStream>,
+    /// Set where a connection couldn't be taken.
+    failed: &'a AtomicBool,
+}
+
+impl<'a, R> Accepted<'a, R> {
+    fn accept(&mut self) -> io::Result<(Reader, Writer)> {
+        let (stream, _) = self.listener.accept()?;
+        let halves = split(&stream)?;
+        self.served = Some(stream);
+        Ok(halves)
+    }
+}
+
+impl<'a, R: Clock> Conns for Accepted<'a, R> {
+    type In = Reader;
+
+    type Out = Writer;
+
+    /// Closes the connection before, and waits for the next one. None where as many as were asked for are served, and
+    /// for good after one that couldn't be taken.
+    fn next_conn(&mut self) -> Option<(Reader, Writer)> {
+        if let Some(stream) = self.served.take() {
+            close_politely(self.rt, stream);
+        }
+        self.left = self.left.checked_sub(1)?;
+        match self.accept() {
+            Ok(halves) => Some(halves),
+            Err(_) => {
+                self.left = 0;
+                self.failed.store(true, Ordering::SeqCst);
+                None
+            }
+        }
+    }
+}
+
+/// Whole seconds since a start; 0 where the clock can't be read, which the keeper takes as no time passed.
+#[derive(Drop)]
+struct SinceStart<'a, R> {
+    rt: &'a R,
+    start: Option<Instant>,
+}
+
+impl<'a, R: Clock> Moments for SinceStart<'a, R> {
+    fn now(&mut self) -> u64 {
+        let Some(start) = self.start else {
+            return 0;
+        };
+        match start.elapsed(self.rt) {
+            Ok(passed) => passed.as_secs(),
+            Err(_) => 0,
+        }
+    }
+}
+
+fn system_secrets<R: RandomSource>(rt: &R) -> io::Result<SystemSecrets> {
+    Ok(DrawnSecrets::new(rand::make_rng(rt)?))
+}
+
+/// How the workers ended: `Ok(true)` where each took all of its connections.
+fn serve_workers<R>(
+    rt: &R,
+    alloc: Global,
+    listener: &TcpListener,
+    count: u64,
+    left: SystemSecrets,
+    right: SystemSecrets,
+) -> Result<bool, ServeFault>
+where
+    R: Threads + Wait + Sync + Clock,
+{
+    let failed = AtomicBool::new(false);
+    let worker = |secrets: SystemSecrets| Worker {
+        conns: Accepted {
+            rt,
+            listener,
+            left: count,
+            served: None,
+            failed: &failed,
+        },
+        secrets,
+        gate: NoGate,
+    };
+    let mut moments = SinceStart {
+        rt,
+        start: Instant::now(rt).ok(),
+    };
+    let service = Service::new(alloc, limits());
+    serve_pair(rt, alloc, service, worker(left), worker(right), &mut moments)?;
+    Ok(!failed.load(Ordering::SeqCst))
+}
+
+/// Serves a listener: two workers take `count` connections each. Prints `listening` and the local address, and `served`
+/// after the last connection; gives the exit status.
+///
+/// A fault is printed in place of the line that would come next, and has status 3: `fault: listen` where the local
+/// address can't be told, `fault: random` where a generator of secrets can't be made, `fault: workers` where the workers
+/// couldn't be started, and `fault: accept` where a connection couldn't be accepted or split, once the other worker has
+/// ended too. A line that can't be printed ends the program with status 3.
+pub fn run_serve<R, W>(rt: &R, listener: &TcpListener, count: u64, out: &mut W) -> u8
+where
+    R: Threads + Wait + Sync + AllocGlobal + Clock + RandomSource,
+    W: Write,
+    ensures { IsServeStatus result }
+{
+    let Ok(addr) = listener.local_addr() else {
+        return print_line(out, "fault: listen", FAULT);
+    };
+    let (Ok(left), Ok(right)) = (system_secrets(rt), system_secrets(rt)) else {
+        return print_line(out, "fault: random", FAULT);
+    };
+    if print_line(out, format_args!("listening {addr}"), DONE) != DONE {
+        return FAULT;
+    }
+    match serve_workers(rt, rt.alloc(), listener, count, left, right) {
+        Ok(true) => print_line(out, "served", DONE),
+        Ok(false) => print_line(out, "fault: accept", FAULT),
+        Err(_) => print_line(out, "fault: workers", FAULT),
+    }
+}
