@@ -2,30 +2,40 @@
 //!
 //!     blobd once                  one connection over standard input and output, over a new service
 //!     blobd serve ADDR COUNT      listens; two workers take COUNT connections each
+//!     blobd push ADDR NAME FILE CHUNK
+//!                                 pushes a file in chunks, connecting again after a fault
 #![tactic(auto)]
+
+ghost use Rattle.std.specs.Prelude.{◌≤◌};
 
 mod limits;
 mod once;
+mod push;
 mod serve;
 mod sockets;
 mod status;
 mod words;
 
 use crate::once::run_once;
+use crate::push::run_push;
 use crate::serve::run_serve;
 use crate::status::{FAULT, print_line};
 use crate::words::{Command, USAGE, read_words};
+use std::fs::Files;
 use std::net::{Net, SocketAddr, TcpListener, TcpStream};
 use std::process::ExitCode;
 use std::random::RandomSource;
 use std::rt::Clock;
 use std::sync::Wait;
 use std::thread::Threads;
-use std::{env, io};
+use std::{env, fs, io};
 use upload_wire::{FromRead, ToWrite};
 
 /// The exit status where the words are no command.
 const NO_COMMAND: u8 = 2;
+
+/// The most bytes of a file that is pushed.
+const LARGEST_FILE: usize = 1_099_511_627_776;
 
 fn print_usage(rt: &HostRuntime) -> u8 {
     let _ = eprintln!(rt; "{USAGE}");
@@ -50,6 +60,20 @@ where
     }
 }
 
+fn push_file<R>(rt: &R, addr: SocketAddr, name: &str, path: &str, chunk: u64) -> u8
+where
+    R: AllocGlobal + Files + Print + Net<Stream = TcpStream>,
+    requires { (1 ≤ chunk) × (chunk ≤ 2147483648) }
+{
+    let mut out = io::writer(rt);
+    match fs::read(rt, path) {
+        Ok(file) if file.len() <= LARGEST_FILE => {
+            run_push(rt, addr, name.as_bytes(), &file, chunk, &mut out)
+        }
+        _ => print_line(&mut out, "fault: file", FAULT),
+    }
+}
+
 fn main(rt: HostRuntime) -> ExitCode {
     let Ok(args) = env::args(&rt) else {
         return ExitCode::from(print_usage(&rt));
@@ -67,6 +91,14 @@ fn main(rt: HostRuntime) -> ExitCode {
     ExitCode::from(match read_words(&words) {
         Some(Command::Once) => serve_input(&rt),
         Some(Command::Serve { addr, count }) => listen(&rt, addr, count),
-        _ => print_usage(&rt),
+        Some(
+            Command::Push {
+                addr,
+                name,
+                file,
+                chunk,
+            },
+        ) => push_file(&rt, addr, name, file, chunk),
+        None => print_usage(&rt),
     })
 }

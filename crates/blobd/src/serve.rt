@@ -118,7 +118,14 @@ where
         start: Instant::now(rt).ok(),
     };
     let service = Service::new(alloc, limits());
-    serve_pair(rt, alloc, service, worker(left), worker(right), &mut moments)?;
+    serve_pair(
+        rt,
+        alloc,
+        service,
+        worker(left),
+        worker(right),
+        &mut moments,
+    )?;
     Ok(!failed.load(Ordering::SeqCst))
 }
 

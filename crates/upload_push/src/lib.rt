@@ -6,6 +6,8 @@
 #![tactic(auto)]
 
 mod laws;
+#[cfg(test)]
+mod over_wire;
 mod pusher;
 mod pushing;
 #[cfg(test)]

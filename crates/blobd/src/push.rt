@@ -1,0 +1,148 @@
+//! `blobd push`: a file goes up, over connections that are made anew after a fault.
+ghost use Rattle.std.specs.Prelude.{length, ◌≤◌, ◌^◌};
+ghost use Rattle.blobd.specs.Status.{IsPushStatus, IsStatusOr};
+
+use crate::sockets::{Reader, Writer, split};
+use crate::status::{DONE, FAULT, REFUSED, print_line};
+use std::alloc::Global;
+use std::io::Write;
+use std::net::{Net, SocketAddr, TcpStream};
+use upload_names::{BlobDigest, Bytes, NameFault, RepoName};
+use upload_push::{Outcome, PushFault, Why, push};
+use upload_service::Ask;
+use upload_wire::{Heard, Transport, WireTransport};
+
+/// How often a push may go on after a request whose reply wasn't heard.
+const TRIES: u32 = 5;
+
+/// The asks of one push, over a connection to its server. After a fault the connection is closed, and the next ask
+/// makes another.
+#[derive(Drop)]
+struct Dialer<'r, R> {
+    rt: &'r R,
+    alloc: Global,
+    addr: SocketAddr,
+    host: String,
+    wire: Option<WireTransport<Reader, Writer>>,
+    /// The digest that was asked for last: a push asks for that of its file alone.
+    digest: Option<BlobDigest>,
+}
+
+impl<'r, R: Net<Stream = TcpStream>> Dialer<'r, R> {
+    /// A new connection, or `None` where it can't be made, for want of memory too.
+    fn dial(&self) -> Option<WireTransport<Reader, Writer>> {
+        let stream = TcpStream::connect(self.rt, self.addr).ok()?;
+        let (reader, writer) = split(&stream).ok()?;
+        WireTransport::new(self.alloc, reader, writer, self.host.as_bytes()).ok()
+    }
+}
+
+impl<'r, R: Net<Stream = TcpStream>> Transport for Dialer<'r, R> {
+    // Nothing is said of what a network delivers.
+    ghost asked = { λ _ _ _ _. Unit {0} };
+
+    fn ask(&mut self, ask: Ask) -> Option<Heard> {
+        match &ask {
+            Ask::Close { digest, .. } => self.digest = *digest,
+            Ask::Has { digest, .. } => self.digest = Some(*digest),
+            _ => {}
+        }
+        let mut wire = match self.wire.take() {
+            Some(wire) => wire,
+            None => self.dial()?,
+        };
+        let heard = wire.ask(ask)?;
+        self.wire = Some(wire);
+        Some(heard)
+    }
+}
+
+/// The code as it is printed: `-` where there is none, or where it isn't visible ASCII, since a server could else
+/// write more lines than one.
+fn printable(code: &Option<Bytes>) -> &str {
+    match code {
+        Some(code) if code.as_slice().iter().all(u8::is_ascii_graphic) => {
+            str::from_utf8(code.as_slice()).unwrap_or("-")
+        }
+        _ => "-",
+    }
+}
+
+/// Prints why a push was given up, and gives the exit status.
+fn print_why<W: Write>(out: &mut W, why: &Why) -> u8
+    ensures { IsStatusOr 1 result }
+{
+    match why {
+        Why::Refused(status, code) => {
+            let code = printable(code);
+            print_line(out, format_args!("refused: {status} {code}"), REFUSED)
+        }
+        Why::BadServer => print_line(out, "refused: bad server", REFUSED),
+        Why::OutOfTries => print_line(out, "refused: out of tries", REFUSED),
+    }
+}
+
+/// Prints a word and the digest of the file, and gives the exit status.
+fn print_digest<W: Write>(out: &mut W, word: &str, digest: BlobDigest) -> u8
+    ensures { IsStatusOr 0 result }
+{
+    let text = digest.text();
+    let text = str::from_utf8(text.as_bytes()).unwrap_or("-");
+    print_line(out, format_args!("{word} {text}"), DONE)
+}
+
+/// Pushes a file's bytes under a repository's name to the server at `addr`, in chunks of at most `chunk` bytes. Prints
+/// one line, and gives the exit status:
+///
+/// - `pushed` or `already` and the digest, 0: what each is worth is said at [`push`];
+/// - `refused: name` where `name` isn't one, and nothing is sent; `refused:` and the status and the error code of the
+///   reply that ended the push; `refused: bad server` after a reply that no such service gives; `refused: out of
+///   tries` after too many asks that weren't heard; 1;
+/// - `fault: memory`, 3; and 3 where the line can't be printed.
+pub fn run_push<R, W>(
+    rt: &R,
+    addr: SocketAddr,
+    name: &[u8],
+    file: &[u8],
+    chunk: u64,
+    out: &mut W,
+) -> u8
+where
+    R: Net<Stream = TcpStream> + AllocGlobal,
+    W: Write,
+    requires size { length file.now ≤ 2 ^ 40 }
+    requires chunk { (1 ≤ chunk) × (chunk ≤ 2 ^ 31) }
+    ensures { IsPushStatus result }
+{
+    let name = match RepoName::read(rt.alloc(), name) {
+        Ok(name) => name,
+        Err(NameFault::NoMemory) => return print_line(out, "fault: memory", FAULT),
+        Err(_) => return print_line(out, "refused: name", REFUSED),
+    };
+    let Ok(host) = format!(in rt.alloc(); "{addr}") else {
+        return print_line(out, "fault: memory", FAULT);
+    };
+    let mut transport = Dialer {
+        rt,
+        alloc: rt.alloc(),
+        addr,
+        host,
+        wire: None,
+        digest: None,
+    };
+    match push(rt.alloc(), &mut transport, file, &name, chunk, TRIES) {
+        Ok(outcome) => {
+            let word = match outcome {
+                Outcome::Pushed => "pushed",
+                Outcome::Already => "already",
+            };
+            let digest = match transport.digest {
+                Some(digest) => digest,
+                None => BlobDigest::of_sha256(file),
+            };
+            print_digest(out, word, digest)
+        }
+        Err(PushFault::NoMemory) => print_line(out, "fault: memory", FAULT),
+        Err(PushFault::GaveUp(why)) => print_why(out, &why),
+    }
+}
