@@ -21,3 +21,9 @@ pub mod TextFronts
 pub mod PlaceLemmas
 pub mod GatherLemmas
 pub mod AskTextLemmas
+pub mod PlainTexts
+pub mod WrittenTargets
+pub mod WrittenQueries
+pub mod WrittenHeads
+pub mod WrittenFields
+pub mod WrittenRequests

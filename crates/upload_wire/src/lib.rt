@@ -29,7 +29,8 @@ mod writing;
 
 pub use bytes::{ByteSink, ByteSource, Failed, FromRead, ToWrite};
 pub use client::{
-    Heard, HeardFault, Transport, heard_of, read_place, write_ask, written_places_are_read,
+    Heard, HeardFault, Transport, heard_of, read_place, write_ask, written_asks_are_read,
+    written_places_are_read,
 };
 pub use connection::{ConnEnd, ConnFault, serve_connection};
 pub use desk::{Desk, ServiceDesk};
