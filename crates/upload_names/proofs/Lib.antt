@@ -3,3 +3,4 @@ pub mod DigestFacts
 pub mod RangeFacts
 pub mod ReferenceFacts
 pub mod TextFacts
+pub mod ReferenceTexts

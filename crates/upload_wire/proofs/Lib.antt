@@ -26,3 +26,9 @@ pub mod CodeLemmas
 pub mod AnswerBodyLemmas
 pub mod AnswerLemmas
 pub mod TransportLemmas
+pub mod PlainTexts
+pub mod WrittenTargets
+pub mod WrittenQueries
+pub mod WrittenHeads
+pub mod WrittenFields
+pub mod WrittenRequests

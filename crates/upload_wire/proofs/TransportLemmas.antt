@@ -6,9 +6,9 @@ use Rattle.std.proofs.lemmas.Bool.{true≢false}
 use Rattle.upload_service.specs.declared.ask.Ask.{Ask}
 use Rattle.upload_wire.specs.Counts.{CountsUp, CountsAtMost}
 use Rattle.upload_wire.specs.Writing.{Sink, TookAll, Wrote}
-use Rattle.upload_wire.specs.AskText.{ask_text}
+use Rattle.upload_wire.specs.AskText.{ask_text, wants_head}
 use Rattle.upload_wire.specs.AnswerText.{ReadsAnswer, most_answer_reads}
-use Rattle.upload_wire.specs.TransportText.{AsksOverWire, AsksWhere, Hears, WireState, wants_head}
+use Rattle.upload_wire.specs.TransportText.{AsksOverWire, AsksWhere, Hears, WireState}
 use Rattle.upload_wire.specs.declared.client.heard.Heard.{Heard}
 use Rattle.upload_wire.specs.declared.client.heard.HeardFault.{HeardFault}
 use Rattle.upload_wire.specs.declared.client.heard.HeardFault.TheVariants as Fault

@@ -1,5 +1,5 @@
 -- The requests that a client writes (OCI Distribution Specification 1.1, section "Endpoints"; RFC 9112, section 3).
-use Rattle.std.specs.Prelude.{ℕ, ◌&&◌, nat_lt, Bool, List, [], ◌∷◌, ◌++◌, length, codes, decimal, flat_map, Option, Some, None, if◌then◌else◌}
+use Rattle.std.specs.Prelude.{ℕ, ◌&&◌, nat_lt, Bool, false, List, [], ◌∷◌, ◌++◌, length, codes, decimal, flat_map, Option, Some, None, if◌then◌else◌}
 use Rattle.std.specs.List.{list_all}
 use Rattle.std.specs.Char.{is_ascii_graphic}
 use Rattle.httparse.specs.Ascii.{crlf_bytes}
@@ -93,6 +93,11 @@ message_of (Chunk name at range body) = record { method = codes "PATCH"; path = 
 message_of (Status name at) = bare_message (codes "GET") (upload_path name (reference_text at))
 message_of (Close name at range digest body) = record { method = codes "PUT"; path = upload_path name (reference_text at); query = digest_query digest; fields = range_fields range ++ body_fields body; body = body }
 message_of (Refused refusal) = bare_message [] []
+
+-- the method is HEAD, whose reply has no body
+abbrev pub wants_head : Ask → Bool
+wants_head (Has name digest head) = head
+wants_head other = false
 
 -- what a client writes to ask a host
 abbrev pub ask_text : Ask → List ℕ → List ℕ

@@ -2,9 +2,8 @@
 use Rattle.std.specs.Prelude.{◌≡◌, ◌≢◌, ℕ, Bool, true, false, List, Option, None, Result, Ok, Err, is_err, ◌⊎◌}
 use Rattle.std.specs.Result.{result_ok}
 use Rattle.upload_service.specs.declared.ask.Ask.{Ask}
-use Rattle.upload_service.specs.declared.ask.Ask.TheVariants.{Base, Has, Opening, Single, Mount, Chunk, Status, Close, Refused}
 use Rattle.upload_wire.specs.Writing.{Sink, TookAll, TookFront}
-use Rattle.upload_wire.specs.AskText.{ask_text}
+use Rattle.upload_wire.specs.AskText.{ask_text, wants_head}
 use Rattle.upload_wire.specs.AnswerText.{AnswerReaderState, ReadsAnswer, most_answer_reads}
 use Rattle.upload_wire.specs.Counts.{CountsUp, CountsAtMost}
 use Rattle.upload_wire.specs.declared.client.heard.Heard.{Heard}
@@ -22,11 +21,6 @@ pub record WireState : Type 0 where
 abbrev pub GoesOn : Bool → AnswerReaderState → Type 0
 GoesOn true reader = Unit {0}
 GoesOn false reader = reader.ended ≡ false
-
--- the method is HEAD
-abbrev pub wants_head : Ask → Bool
-wants_head (Has name digest head) = head
-wants_head other = false
 
 -- the request was written whole, and one reply read; a failed read is Read, and nothing else is
 pub record Hears (old : WireState) (ask : Ask) (heard : Option Heard) (new : WireState) : Type 0 where

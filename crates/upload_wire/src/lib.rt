@@ -30,7 +30,7 @@ mod writing;
 pub use bytes::{ByteSink, ByteSource, Failed, FromRead, ToWrite};
 pub use client::{
     AnswerReader, Heard, HeardFault, Transport, WireTransport, heard_of, read_place, write_ask,
-    written_places_are_read,
+    written_asks_are_read, written_places_are_read,
 };
 pub use connection::{ConnEnd, ConnFault, serve_connection};
 pub use desk::{Desk, ServiceDesk};

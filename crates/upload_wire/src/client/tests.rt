@@ -1,5 +1,6 @@
 //! Replies that a client reads, requests that it writes, and both over memory.
-ghost use Rattle.std.specs.Prelude.{◌≤◌};
+ghost use Rattle.std.specs.Prelude.{IsTrue};
+ghost use Rattle.upload_wire.specs.AskText.{CanBeWritten};
 
 use crate::client::{
     AnswerReader, Heard, HeardFault, Transport, WireTransport, heard_of, read_place, write_ask,
@@ -414,6 +415,17 @@ fn places_are_read_under_their_name(rt: HostRuntime) -> Result<(), Fail> {
     Ok(())
 }
 
+/// Whether an ask may be written.
+fn is_writable(ask: &Ask) -> bool
+    ensures { IsTrue result → CanBeWritten ask.now }
+{
+    match ask {
+        Ask::Refused(_) => false,
+        Ask::Chunk { range, .. } | Ask::Close { range, .. } => !matches!(range, Extent::Bad),
+        _ => true,
+    }
+}
+
 #[test]
 fn requests_are_written(rt: HostRuntime) -> Result<(), Fail> {
     let alloc = rt.alloc();
@@ -480,6 +492,9 @@ fn requests_are_written(rt: HostRuntime) -> Result<(), Fail> {
         ),
     ];
     for (ask, text) in table {
+        if !is_writable(&ask) {
+            return Err(Fail::new("an ask that no client writes"));
+        }
         for step in [1, 65_536] {
             let mut sink = MemorySink::new(Vec::new(alloc), step, 65_536);
             assert_eq!(rt; write_ask(&mut sink, &ask, b"h").is_ok(), true, "{text}");

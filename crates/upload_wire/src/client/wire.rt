@@ -2,8 +2,8 @@
 ghost use Rattle.std.specs.Prelude.{◌≡◌, IfOk, IsTrue, [], false};
 ghost use Rattle.upload_service.specs.declared.ask.Ask.{Ask as AskModel};
 ghost use Rattle.upload_wire.specs.Writing.{sink};
-ghost use Rattle.upload_wire.specs.AskText.{CanBeWritten, is_host};
-ghost use Rattle.upload_wire.specs.TransportText.{AsksOverWire, wants_head};
+ghost use Rattle.upload_wire.specs.AskText.{CanBeWritten, is_host, wants_head};
+ghost use Rattle.upload_wire.specs.TransportText.{AsksOverWire};
 
 use crate::bytes::{ByteSink, ByteSource};
 use crate::client::answer::AnswerReader;
