@@ -1,12 +1,13 @@
 # What a person does here. A bare `make` lists it.
 
-.PHONY: help once test check format figures
+.PHONY: help once test check format figures fuzz
 
 help:
 	@echo 'make once    a whole upload over one connection, through `blobd once`'
 	@echo 'make test    everything that must hold: proofs from nothing, must-fail edits, tests, the repository'"'"'s own checks'
 	@echo 'make check   proves what changed since the last check (quick; make test is the judge)'
 	@echo 'make format  lays out the sources'
+	@echo 'make fuzz    20,000 generated streams of requests through `blobd once` (after make once; make test runs 500)'
 	@echo 'make figures speed and memory of `blobd once`, as ratios in one run (after make once)'
 
 once:
@@ -23,3 +24,6 @@ format:
 
 figures:
 	@python3 bench/connection.py crates/blobd/out/blobd
+
+fuzz:
+	@python3 tests/fuzz.py crates/blobd/out/blobd
