@@ -1,4 +1,5 @@
--- The bytes of names, digests and references: each may stand in a path, in a query and in a request line.
+-- The bytes of written targets: those of names, digests and references may stand in a path, in a query and in a
+-- request line.
 use Rattle.std.proofs.Common.{◌≡◌, ◌≢◌, ℕ, ◌/◌, ◌%◌, ◌<◌, ◌||◌, ◌==◌, cond, Bool, true, false, codes, List, [], ◌∷◌, ◌++◌, All, length, get_or, refl, arith, ◌∙◌, sym, ap, IsTrue, inl, inr}
 use Rattle.std.specs.Prelude.{Option, Some, None, nat_le}
 use Rattle.std.proofs.lemmas.Bool.{and_parts, cases_Bool}
@@ -21,56 +22,97 @@ use Rattle.upload_names.specs.Reference.{reference_text}
 use Rattle.upload_names.proofs.ReferenceTexts.{is_reference_byte, reference_text-bytes}
 use Rattle.upload_wire.specs.Target.{HasNoSlash, blob_path, upload_path}
 
--- a letter in lower case, a digit, or one of `-./:_`
+-- ---- texts whose bytes pass a test
+
+pub AllPass-each : (test : ℕ → Bool) (P : ℕ → Type 0) (text : List ℕ) → ((b : ℕ) → test b ≡ true → P b) → AllPass test text → All P text
+AllPass-each test P text h = All-weaker (λ b. IsTrue (test b)) P h text
+
+pub AllPass-weaker : (test other : ℕ → Bool) (text : List ℕ) → ((b : ℕ) → test b ≡ true → other b ≡ true) → AllPass test text → AllPass other text
+AllPass-weaker test other text h = AllPass-each test (λ b. IsTrue (other b)) text h
+
+pub AllPass-append : (test : ℕ → Bool) (a b : List ℕ) → AllPass test a → AllPass test b → AllPass test (a ++ b)
+AllPass-append test a b = All-append (λ c. IsTrue (test c)) a b
+
+pub AllPass-cons : (test : ℕ → Bool) (b : ℕ) (text : List ℕ) → test b ≡ true → AllPass test text → AllPass test (b ∷ text)
+AllPass-cons test b text h t = All-cons (λ c. IsTrue (test c)) b text h t
+
+pub AllPass-nil : (test : ℕ → Bool) → AllPass test []
+AllPass-nil test = All-nil (λ c. IsTrue (test c))
+
+-- ---- the bytes of a target
+
+-- of a path: a letter in lower case, a digit, or one of `-./:_`
 abbrev pub is_plain_byte : ℕ → Bool
 is_plain_byte b = is_in_range 97 122 b || is_in_range 45 58 b || (b == 95)
+
+-- of a query: also `=` and `&`
+abbrev pub is_parameter_byte : ℕ → Bool
+is_parameter_byte b = is_plain_byte b || (b == 61) || (b == 38)
+
+-- of both, and the `?` between them
+abbrev pub is_target_byte : ℕ → Bool
+is_target_byte b = is_parameter_byte b || (b == 63)
 
 abbrev pub IsPlain : List ℕ → Type 0
 IsPlain text = AllPass is_plain_byte text
 
--- what the classes of the grammars ask of a byte
-pub record IsTargetByte (b : ℕ) : Type 0 where
-  pub path : is_path_byte b ≡ true
-  pub query : is_query_byte b ≡ true
-  pub uri : is_uri_byte b ≡ true
-  pub ascii : b < 128
-  pub no_mark : b ≢ 63
-  pub no_hash : b ≢ 35
-  pub no_and : b ≢ 38
-  pub no_equals : b ≢ 61
-  pub no_plus : b ≢ 43
-  pub no_percent : b ≢ 37
+abbrev pub IsParameters : List ℕ → Type 0
+IsParameters text = AllPass is_parameter_byte text
 
-pub plain_byte : (b : ℕ) → is_plain_byte b ≡ true → IsTargetByte b
-plain_byte b h = record {
-  path = grind (arith, nat_tests);
-  query = grind (arith, nat_tests);
-  uri = grind (arith, nat_tests);
-  ascii = grind (arith, nat_tests);
-  no_mark = grind (arith, nat_tests);
-  no_hash = grind (arith, nat_tests);
-  no_and = grind (arith, nat_tests);
-  no_equals = grind (arith, nat_tests);
-  no_plus = grind (arith, nat_tests);
-  no_percent = grind (arith, nat_tests);
-}
+abbrev pub IsTarget : List ℕ → Type 0
+IsTarget text = AllPass is_target_byte text
 
-pub IsPlain-append : (a b : List ℕ) → IsPlain a → IsPlain b → IsPlain (a ++ b)
-IsPlain-append a b = All-append (λ c. IsTrue (is_plain_byte c)) a b
+-- no byte of the text is c
+abbrev pub Lacks : ℕ → List ℕ → Type 0
+Lacks c text = All (λ b. b ≢ c) text
 
-pub IsPlain-literal : (text : List ℕ) → list_all is_plain_byte text ≡ true → IsPlain text
-IsPlain-literal text h = AllPass-from_list_all is_plain_byte text h
+plain_is_parameter : (b : ℕ) → is_plain_byte b ≡ true → is_parameter_byte b ≡ true
+plain_is_parameter b h = grind (arith, nat_tests)
 
-pub IsPlain-cons : (b : ℕ) (text : List ℕ) → is_plain_byte b ≡ true → IsPlain text → IsPlain (b ∷ text)
-IsPlain-cons b text h t = All-cons (λ c. IsTrue (is_plain_byte c)) b text h t
+parameter_is_target : (b : ℕ) → is_parameter_byte b ≡ true → is_target_byte b ≡ true
+parameter_is_target b h = grind (arith, nat_tests)
 
-pub IsPlain-nil : IsPlain []
-IsPlain-nil = All-nil (λ c. IsTrue (is_plain_byte c))
+plain_in_path : (b : ℕ) → is_plain_byte b ≡ true → is_path_byte b ≡ true
+plain_in_path b h = grind (arith, nat_tests)
+
+parameter_in_query : (b : ℕ) → is_parameter_byte b ≡ true → is_query_byte b ≡ true
+parameter_in_query b h = grind (arith, nat_tests)
+
+target_in_line : (b : ℕ) → is_target_byte b ≡ true → is_uri_byte b ≡ true
+target_in_line b h = grind (arith, nat_tests)
+
+target_ascii : (b : ℕ) → is_target_byte b ≡ true → b < 128
+target_ascii b h = grind (arith, nat_tests)
+
+pub IsParameters-plain : (text : List ℕ) → IsPlain text → IsParameters text
+IsParameters-plain text h = AllPass-weaker is_plain_byte is_parameter_byte text plain_is_parameter h
+
+pub IsTarget-parameters : (text : List ℕ) → IsParameters text → IsTarget text
+IsTarget-parameters text h = AllPass-weaker is_parameter_byte is_target_byte text parameter_is_target h
+
+pub IsTarget-plain : (text : List ℕ) → IsPlain text → IsTarget text
+IsTarget-plain text h = IsTarget-parameters text (IsParameters-plain text h)
+
+pub path_bytes : (text : List ℕ) → IsPlain text → AllPass is_path_byte text
+path_bytes text h = AllPass-weaker is_plain_byte is_path_byte text plain_in_path h
+
+pub query_bytes : (text : List ℕ) → IsParameters text → AllPass is_query_byte text
+query_bytes text h = AllPass-weaker is_parameter_byte is_query_byte text parameter_in_query h
+
+pub line_bytes : (text : List ℕ) → IsTarget text → AllPass is_uri_byte text
+line_bytes text h = AllPass-weaker is_target_byte is_uri_byte text target_in_line h
+
+pub ascii_bytes : (text : List ℕ) → IsTarget text → All (λ b. b < 128) text
+ascii_bytes text h = AllPass-each is_target_byte (λ b. b < 128) text target_ascii h
+
+-- a text lacks what its test refuses
+pub lacks : (test : ℕ → Bool) (c : ℕ) (text : List ℕ) → test c ≡ false → AllPass test text → Lacks c text
+lacks test c text refused h = AllPass-each test (λ b. b ≢ c) text (λ b passed same. differs b passed same) h
+  where
+    differs : (b : ℕ) → test b ≡ true → b ≡ c → ⊥
+    differs b passed same = let both : false ≡ true = sym refused ∙ ap test (sym same) ∙ passed in cc both
 
 -- ---- names
-
-word_plain : (c : ℕ) → is_word_byte c ≡ true → is_plain_byte c ≡ true
-word_plain c h = grind (arith, nat_tests)
 
 joint_plain : (place : Place) (c : ℕ) → is_plain_byte c ≡ false → place_behind_joint place c ≡ None
 joint_plain WordStart c h = refl
@@ -85,10 +127,10 @@ no_place : (place : Place) (c : ℕ) → is_plain_byte c ≡ false → place_beh
 no_place place c h = ap (λ b. cond b (Some InWord) (place_behind_joint place c)) (not_word c h) ∙ joint_plain place c h
 
 passes_plain : (text : List ℕ) (place : Place) → passes (Some place) text ≡ true → IsPlain text
-passes_plain [] place h = IsPlain-nil
+passes_plain [] place h = AllPass-nil is_plain_byte
 passes_plain (c ∷ text) place h =
     elim (cases_Bool (is_plain_byte c)) [
-      | inl plain ↦ IsPlain-cons c text plain (behind_some (place_behind place c) (passes_plain text) h)
+      | inl plain ↦ AllPass-cons is_plain_byte c text plain (behind_some (place_behind place c) (passes_plain text) h)
       | inr other ↦ let none : false ≡ true = sym (ap (λ o. passes o text) (no_place place c other)) ∙ h in cc none
     ]
   where
@@ -103,69 +145,67 @@ name_plain name h = passes_plain name WordStart (and_parts (is_in_grammar name) 
 -- ---- digests and references
 
 -- a letter in lower case, a digit, or one of `-:`
-abbrev is_clear_byte : ℕ → Bool
-is_clear_byte b = is_in_range 97 122 b || is_in_range 48 58 b || (b == 45)
+abbrev is_tail_byte : ℕ → Bool
+is_tail_byte b = is_in_range 97 122 b || is_in_range 48 58 b || (b == 45)
 
-abbrev pub IsClear : List ℕ → Type 0
-IsClear text = AllPass is_clear_byte text
+-- what may stand behind the last slash of a path
+abbrev pub IsTail : List ℕ → Type 0
+IsTail text = AllPass is_tail_byte text
 
-clear_plain : (b : ℕ) → is_clear_byte b ≡ true → is_plain_byte b ≡ true
-clear_plain b h = grind (arith, nat_tests)
+tail_is_plain : (b : ℕ) → is_tail_byte b ≡ true → is_plain_byte b ≡ true
+tail_is_plain b h = grind (arith, nat_tests)
 
-clear_no_slash : (b : ℕ) → is_clear_byte b ≡ true → b ≢ 47
-clear_no_slash b h = λ e. absurd (grind (arith, nat_tests))
+pub IsPlain-tail : (text : List ℕ) → IsTail text → IsPlain text
+IsPlain-tail text h = AllPass-weaker is_tail_byte is_plain_byte text tail_is_plain h
 
-pub IsPlain-clear : (text : List ℕ) → IsClear text → IsPlain text
-IsPlain-clear text h = All-weaker (λ b. IsTrue (is_clear_byte b)) (λ b. IsTrue (is_plain_byte b)) clear_plain text h
+pub HasNoSlash-tail : (text : List ℕ) → IsTail text → HasNoSlash text
+HasNoSlash-tail text h k inside = All-get_or (λ b. b ≢ 47) text k 0 inside (lacks is_tail_byte 47 text refl h)
 
-pub HasNoSlash-clear : (text : List ℕ) → IsClear text → HasNoSlash text
-HasNoSlash-clear text h k inside = clear_no_slash (get_or text k 0) (All-get_or (λ b. IsTrue (is_clear_byte b)) text k 0 inside h)
+lower_digit : (i : ℕ) → i < 16 → is_tail_byte (get_or lower_digits i 0) ≡ true
+lower_digit i h = All-get_or (λ c. IsTrue (is_tail_byte c)) lower_digits i 0 h (AllPass-from_list_all is_tail_byte lower_digits refl)
 
-clear_literal : (text : List ℕ) → list_all is_clear_byte text ≡ true → IsClear text
-clear_literal text h = AllPass-from_list_all is_clear_byte text h
-
-clear_cons : (b : ℕ) (text : List ℕ) → is_clear_byte b ≡ true → IsClear text → IsClear (b ∷ text)
-clear_cons b text h t = All-cons (λ c. IsTrue (is_clear_byte c)) b text h t
-
-clear_append : (a b : List ℕ) → IsClear a → IsClear b → IsClear (a ++ b)
-clear_append a b = All-append (λ c. IsTrue (is_clear_byte c)) a b
-
-lower_digit : (i : ℕ) → i < 16 → is_clear_byte (get_or lower_digits i 0) ≡ true
-lower_digit i h = All-get_or (λ c. IsTrue (is_clear_byte c)) lower_digits i 0 h (clear_literal lower_digits refl)
-
-hex_clear : (bytes : List ℕ) → All (λ b. b < 256) bytes → IsClear (encode_lower bytes)
+hex_tail : (bytes : List ℕ) → All (λ b. b < 256) bytes → IsTail (encode_lower bytes)
 unfolding encode_with
-hex_clear [] h = All-nil (λ c. IsTrue (is_clear_byte c))
-hex_clear (b ∷ bytes) h =
+hex_tail [] h = AllPass-nil is_tail_byte
+hex_tail (b ∷ bytes) h =
     let small : b < 256 = All-head (λ b. b < 256) b bytes h in
-    clear_cons (get_or lower_digits (b / 16) 0) (get_or lower_digits (b % 16) 0 ∷ encode_lower bytes) (lower_digit (b / 16) (omega arith))
-    (clear_cons (get_or lower_digits (b % 16) 0) (encode_lower bytes) (lower_digit (b % 16) (omega arith)) (hex_clear bytes (All-tail (λ b. b < 256) b bytes h)))
+    let low = get_or lower_digits (b % 16) 0 in
+    let rest = AllPass-cons is_tail_byte low (encode_lower bytes) (lower_digit (b % 16) (omega arith)) (hex_tail bytes (All-tail (λ b. b < 256) b bytes h)) in
+    AllPass-cons is_tail_byte (get_or lower_digits (b / 16) 0) (low ∷ encode_lower bytes) (lower_digit (b / 16) (omega arith)) rest
 
-prefix_clear : (algorithm : Algorithm) → IsClear (prefix_of algorithm)
-prefix_clear Sha256 = clear_literal (codes "sha256:") refl
-prefix_clear Sha512 = clear_literal (codes "sha512:") refl
+prefix_tail : (algorithm : Algorithm) → IsTail (prefix_of algorithm)
+prefix_tail Sha256 = AllPass-from_list_all is_tail_byte (codes "sha256:") refl
+prefix_tail Sha512 = AllPass-from_list_all is_tail_byte (codes "sha512:") refl
 
-pub digest_clear : (digest : Digest) → IsDigest digest → IsClear (digest_text digest)
+pub digest_tail : (digest : Digest) → IsDigest digest → IsTail (digest_text digest)
 unfolding digest_text
-digest_clear digest h = clear_append (prefix_of digest.algorithm) (encode_lower digest.bytes) (prefix_clear digest.algorithm) (hex_clear digest.bytes h.bytes)
+digest_tail digest h =
+    AllPass-append is_tail_byte (prefix_of digest.algorithm) (encode_lower digest.bytes) (prefix_tail digest.algorithm) (hex_tail digest.bytes h.bytes)
 
-reference_byte_clear : (b : ℕ) → is_reference_byte b ≡ true → is_clear_byte b ≡ true
-reference_byte_clear b h = grind (arith, nat_tests)
+pub digest_plain : (digest : Digest) → IsDigest digest → IsPlain (digest_text digest)
+digest_plain digest h = IsPlain-tail (digest_text digest) (digest_tail digest h)
 
-pub reference_clear : (at : List ℕ) → IsClear (reference_text at)
-reference_clear at =
-    All-weaker (λ b. IsTrue (is_reference_byte b)) (λ b. IsTrue (is_clear_byte b)) reference_byte_clear (reference_text at) (reference_text-bytes at)
+reference_is_tail : (b : ℕ) → is_reference_byte b ≡ true → is_tail_byte b ≡ true
+reference_is_tail b h = grind (arith, nat_tests)
+
+pub reference_tail : (at : List ℕ) → IsTail (reference_text at)
+reference_tail at = AllPass-weaker is_reference_byte is_tail_byte (reference_text at) reference_is_tail (reference_text-bytes at)
 
 -- ---- paths
 
-pub upload_plain : (name reference : List ℕ) → is_name name ≡ true → IsPlain reference → IsPlain (upload_path name reference)
-upload_plain name reference h r =
-    IsPlain-append (codes "/v2/") (name ++ (codes "/blobs/uploads/" ++ reference)) (IsPlain-literal (codes "/v2/") refl)
-    (IsPlain-append name (codes "/blobs/uploads/" ++ reference) (name_plain name h)
-    (IsPlain-append (codes "/blobs/uploads/") reference (IsPlain-literal (codes "/blobs/uploads/") refl) r))
+-- /v2/<name><kind><tail>
+path_plain : (name kind tail : List ℕ) → is_name name ≡ true → list_all is_plain_byte kind ≡ true → IsPlain tail
+    → IsPlain (codes "/v2/" ++ (name ++ (kind ++ tail)))
+path_plain name kind tail n k t =
+    AllPass-append is_plain_byte (codes "/v2/") (name ++ (kind ++ tail)) (AllPass-from_list_all is_plain_byte (codes "/v2/") refl)
+    (AllPass-append is_plain_byte name (kind ++ tail) (name_plain name n)
+    (AllPass-append is_plain_byte kind tail (AllPass-from_list_all is_plain_byte kind k) t))
 
-pub blob_plain : (name digest : List ℕ) → is_name name ≡ true → IsPlain digest → IsPlain (blob_path name digest)
-blob_plain name digest h d =
-    IsPlain-append (codes "/v2/") (name ++ (codes "/blobs/" ++ digest)) (IsPlain-literal (codes "/v2/") refl)
-    (IsPlain-append name (codes "/blobs/" ++ digest) (name_plain name h)
-    (IsPlain-append (codes "/blobs/") digest (IsPlain-literal (codes "/blobs/") refl) d))
+pub blob_plain : (name : List ℕ) (digest : Digest) → is_name name ≡ true → IsDigest digest → IsPlain (blob_path name (digest_text digest))
+blob_plain name digest n d = path_plain name (codes "/blobs/") (digest_text digest) n refl (digest_plain digest d)
+
+pub uploads_plain : (name : List ℕ) → is_name name ≡ true → IsPlain (upload_path name [])
+uploads_plain name n = path_plain name (codes "/blobs/uploads/") [] n refl (AllPass-nil is_plain_byte)
+
+pub upload_plain : (name at : List ℕ) → is_name name ≡ true → IsPlain (upload_path name (reference_text at))
+upload_plain name at n = path_plain name (codes "/blobs/uploads/") (reference_text at) n refl (IsPlain-tail (reference_text at) (reference_tail at))

@@ -1,8 +1,8 @@
 -- The fields of a written request are read as what they say.
-use Rattle.std.proofs.Common.{◌≡◌, ℕ, ◌+◌, ◌<◌, ◌≤◌, ◌^◌, ◌%◌, true, false, codes, List, [], ◌∷◌, ◌++◌, All, length, refl, arith, ap, IsTrue, Some, Ok, lt-ltb, le-ltb, nat_lt}
+use Rattle.std.proofs.Common.{◌≡◌, ℕ, ◌+◌, ◌<◌, ◌≤◌, ◌^◌, ◌%◌, true, false, codes, List, [], ◌∷◌, ◌++◌, All, length, refl, arith, ap, Some, Ok, lt-ltb, le-ltb, nat_lt}
 use Rattle.std.proofs.lemmas.Bool.{and_parts}
 use Rattle.std.proofs.lemmas.Bool.Decides.{nat_tests}
-use Rattle.std.proofs.lemmas.List.Elements.{All-append, All-weaker, All-cons, All-nil}
+use Rattle.std.proofs.lemmas.List.Elements.{All-cons, All-nil}
 use Rattle.std.proofs.lemmas.List.Sums.{AllPass-from_list_all, list_all-from_AllPass}
 use Rattle.std.proofs.lemmas.Fmt.{decimal_by_steps, decimal_is_IsNumeral, decimal_nonempty}
 use Rattle.std.specs.List.{list_all}
@@ -19,7 +19,9 @@ use Rattle.upload_wire.specs.Body.{framing_of, is_number, length_of}
 use Rattle.upload_wire.specs.declared.framing.Framing.TheVariants.{Length}
 use Rattle.upload_wire.specs.Target.{extent_of, given_range}
 use Rattle.upload_wire.specs.AskText.{is_host, range_text, range_fields, body_fields, IsAbsentOrGiven}
+use Rattle.upload_wire.specs.ReplyText.{length_field}
 use Rattle.upload_wire.specs.WrittenAsks.{HasSpan}
+use Rattle.upload_wire.proofs.PlainTexts.{AllPass-append, AllPass-cons, AllPass-nil, AllPass-weaker}
 use Rattle.upload_wire.proofs.WrittenHeads.{IsPlainField}
 
 -- ---- numbers
@@ -28,12 +30,12 @@ digit_is : (n : ℕ) → n < 10 → is_ascii_digit (48 + n) ≡ true
 digit_is n h = grind (arith, nat_tests)
 
 one_digit : (n : ℕ) → n < 10 → AllPass is_ascii_digit ((48 + n) ∷ [])
-one_digit n h = All-cons (λ b. IsTrue (is_ascii_digit b)) (48 + n) [] (digit_is n h) (All-nil (λ b. IsTrue (is_ascii_digit b)))
+one_digit n h = AllPass-cons is_ascii_digit (48 + n) [] (digit_is n h) (AllPass-nil is_ascii_digit)
 
 decimal_digits : (n : ℕ) → n < 2 ^ 64 → AllPass is_ascii_digit (decimal n)
 decimal_digits n h =
-    decimal_by_steps (λ k ds. AllPass is_ascii_digit ds) one_digit
-    (λ k ds big so_far. All-append (λ b. IsTrue (is_ascii_digit b)) ds ((48 + k % 10) ∷ []) so_far (one_digit (k % 10) (omega arith)))
+    decimal_by_steps (λ k digits. AllPass is_ascii_digit digits) one_digit
+    (λ k digits big so_far. AllPass-append is_ascii_digit digits ((48 + k % 10) ∷ []) so_far (one_digit (k % 10) (omega arith)))
     n h
 
 all_digits : (n : ℕ) → n < 2 ^ 64 → list_all is_ascii_digit (decimal n) ≡ true
@@ -43,7 +45,7 @@ digit_graphic : (b : ℕ) → is_ascii_digit b ≡ true → is_ascii_graphic b �
 digit_graphic b h = grind (arith, nat_tests)
 
 decimal_graphic : (n : ℕ) → n < 2 ^ 64 → AllPass is_ascii_graphic (decimal n)
-decimal_graphic n h = All-weaker (λ b. IsTrue (is_ascii_digit b)) (λ b. IsTrue (is_ascii_graphic b)) digit_graphic (decimal n) (decimal_digits n h)
+decimal_graphic n h = AllPass-weaker is_ascii_digit is_ascii_graphic (decimal n) digit_graphic (decimal_digits n h)
 
 length_read : (max_body n : ℕ) → n ≤ max_body → n < 2 ^ 64 → length_of max_body (decimal n) ≡ Ok n
 unfolding is_number
@@ -78,8 +80,9 @@ range_read range h =
 
 range_graphic : (range : Span) → IsSpan range → AllPass is_ascii_graphic (range_text range)
 range_graphic range h =
-    All-append (λ b. IsTrue (is_ascii_graphic b)) (decimal range.first) (codes "-" ++ decimal range.last) (decimal_graphic range.first (omega (arith, h.0)))
-    (All-append (λ b. IsTrue (is_ascii_graphic b)) (codes "-") (decimal range.last) (AllPass-from_list_all is_ascii_graphic (codes "-") refl) (decimal_graphic range.last (omega (arith, h.1))))
+    let last = codes "-" ++ decimal range.last in
+    AllPass-append is_ascii_graphic (decimal range.first) last (decimal_graphic range.first (omega (arith, h.0)))
+    (AllPass-append is_ascii_graphic (codes "-") (decimal range.last) (AllPass-from_list_all is_ascii_graphic (codes "-") refl) (decimal_graphic range.last (omega (arith, h.1))))
 
 -- ---- fields
 
@@ -91,14 +94,12 @@ pub record AreRead (max_body : ℕ) (fields : Fields) (size : ℕ) (range : Exte
   pub keeps : keeps_connection 1 fields ≡ true
   pub range_is : extent_of (values_of (codes "content-range") fields) ≡ range
 
-plain_field : (name value : List ℕ) → nat_lt 0 (length name) ≡ true → list_all is_token_byte name ≡ true → AllPass is_ascii_graphic value → IsPlainField (name, value)
+plain_field : (name value : List ℕ) → nat_lt 0 (length name) ≡ true → list_all is_token_byte name ≡ true → AllPass is_ascii_graphic value
+    → IsPlainField (name, value)
 plain_field name value some h v = record {
   name = (grind (arith, nat_tests), AllPass-from_list_all is_token_byte name h);
   value = v;
 }
-
-literal_field : (name value : List ℕ) → nat_lt 0 (length name) ≡ true → list_all is_token_byte name ≡ true → list_all is_ascii_graphic value ≡ true → IsPlainField (name, value)
-literal_field name value some h v = plain_field name value some h (AllPass-from_list_all is_ascii_graphic value v)
 
 with_field : (f : List ℕ × List ℕ) (fields : Fields) → IsPlainField f → All IsPlainField fields → All IsPlainField (f ∷ fields)
 with_field f fields h t = All-cons IsPlainField f fields h t
@@ -107,6 +108,33 @@ host_plain : (host : List ℕ) → is_host host ≡ true → IsPlainField (codes
 unfolding is_token_byte
 host_plain host h =
     plain_field (codes "Host") host refl refl (AllPass-from_list_all is_ascii_graphic host (and_parts (nat_lt 0 (length host)) (list_all is_ascii_graphic host) h).1)
+
+abbrev zero_field : List ℕ × List ℕ
+zero_field = (codes "Content-Length", codes "0")
+
+zero_plain : IsPlainField zero_field
+unfolding is_token_byte
+zero_plain = plain_field (codes "Content-Length") (codes "0") refl refl (AllPass-from_list_all is_ascii_graphic (codes "0") refl)
+
+type_plain : IsPlainField (codes "Content-Type", codes "application/octet-stream")
+unfolding is_token_byte
+type_plain =
+    let octets = codes "application/octet-stream" in
+    plain_field (codes "Content-Type") octets refl refl (AllPass-from_list_all is_ascii_graphic octets refl)
+
+length_plain : (n : ℕ) → n < 2 ^ 64 → IsPlainField (length_field n)
+unfolding is_token_byte
+length_plain n small = plain_field (codes "Content-Length") (decimal n) refl refl (decimal_graphic n small)
+
+range_plain : (range : Span) → IsSpan range → IsPlainField (codes "Content-Range", range_text range)
+unfolding is_token_byte
+range_plain range h = plain_field (codes "Content-Range") (range_text range) refl refl (range_graphic range h)
+
+body_plain : (body : List ℕ) → length body < 2 ^ 64 → All IsPlainField (body_fields body)
+body_plain body small =
+    let size = length_field (length body) in
+    with_field (codes "Content-Type", codes "application/octet-stream") (size ∷ []) type_plain
+    (with_field size [] (length_plain (length body) small) (All-nil IsPlainField))
 
 -- no field but the Host
 pub bare_read : (max_body : ℕ) (host : List ℕ) → is_host host ≡ true → AreRead max_body ((codes "Host", host) ∷ []) 0 Absent
@@ -120,25 +148,15 @@ bare_read max_body host h = record {
 }
 
 -- a length of 0
-pub post_read : (max_body : ℕ) (host : List ℕ) → is_host host ≡ true
-    → AreRead max_body ((codes "Host", host) ∷ (codes "Content-Length", codes "0") ∷ []) 0 Absent
-unfolding values_of is_token_byte is_number
+pub post_read : (max_body : ℕ) (host : List ℕ) → is_host host ≡ true → AreRead max_body ((codes "Host", host) ∷ zero_field ∷ []) 0 Absent
+unfolding values_of is_number
 post_read max_body host h = record {
-  plain = with_field (codes "Host", host) ((codes "Content-Length", codes "0") ∷ []) (host_plain host h)
-      (with_field (codes "Content-Length", codes "0") [] (literal_field (codes "Content-Length") (codes "0") refl refl refl) (All-nil IsPlainField));
+  plain = with_field (codes "Host", host) (zero_field ∷ []) (host_plain host h) (with_field zero_field [] zero_plain (All-nil IsPlainField));
   few = omega arith;
   framed = rw (le-ltb max_body 0 (omega arith)) refl;
   keeps = refl;
   range_is = refl;
 }
-
-body_plain : (body : List ℕ) → length body < 2 ^ 64 → All IsPlainField (body_fields body)
-unfolding is_token_byte
-body_plain body small =
-    with_field (codes "Content-Type", codes "application/octet-stream") ((codes "Content-Length", decimal (length body)) ∷ [])
-    (literal_field (codes "Content-Type") (codes "application/octet-stream") refl refl refl)
-    (with_field (codes "Content-Length", decimal (length body)) []
-    (plain_field (codes "Content-Length") (decimal (length body)) refl refl (decimal_graphic (length body) small)) (All-nil IsPlainField))
 
 -- the type and the length of a body
 pub body_read : (max_body : ℕ) (host body : List ℕ) → is_host host ≡ true → length body ≤ max_body → max_body < 2 ^ 64
@@ -157,15 +175,15 @@ body_read max_body host body h fits limit =
 -- a range where it is given, and the fields of a body
 pub upload_read : (max_body : ℕ) (host : List ℕ) (range : Extent) (body : List ℕ) → is_host host ≡ true → IsAbsentOrGiven range → HasSpan range
     → length body ≤ max_body → max_body < 2 ^ 64 → AreRead max_body ((codes "Host", host) ∷ (range_fields range ++ body_fields body)) (length body) range
-unfolding values_of is_token_byte
+unfolding values_of
 upload_read max_body host Absent body h r s fits limit = body_read max_body host body h fits limit
 upload_read max_body host Bad body h r s fits limit = absurd r
 upload_read max_body host (Given range) body h r s fits limit =
     let small : length body < 2 ^ 64 = omega arith in
+    let given : List ℕ × List ℕ = (codes "Content-Range", range_text range) in
     record {
-      plain = with_field (codes "Host", host) ((codes "Content-Range", range_text range) ∷ body_fields body) (host_plain host h)
-          (with_field (codes "Content-Range", range_text range) (body_fields body)
-          (plain_field (codes "Content-Range") (range_text range) refl refl (range_graphic range s)) (body_plain body small));
+      plain = with_field (codes "Host", host) (given ∷ body_fields body) (host_plain host h)
+          (with_field given (body_fields body) (range_plain range s) (body_plain body small));
       few = omega arith;
       framed = rw (length_read max_body (length body) fits small) refl;
       keeps = refl;

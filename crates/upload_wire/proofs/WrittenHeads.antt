@@ -2,7 +2,7 @@
 use Rattle.std.proofs.Common.{◌≡◌, ℕ, ◌<◌, ◌≤◌, true, false, codes, List, [], ◌∷◌, ◌++◌, All, length, map, reverse, refl, arith, ◌∙◌, ap, IsTrue, append_assoc}
 use Rattle.std.proofs.lemmas.List.{length-map}
 use Rattle.std.proofs.lemmas.Bool.Decides.{nat_tests}
-use Rattle.std.proofs.lemmas.List.Elements.{All-weaker, All-head, All-tail, All-cons, All-map}
+use Rattle.std.proofs.lemmas.List.Elements.{All-weaker, All-head, All-tail, All-map}
 use Rattle.std.specs.List.{flat_map}
 use Rattle.std.specs.Prelude.{IsUtf8}
 use Rattle.std.specs.Char.{is_ascii_graphic}
@@ -14,6 +14,7 @@ use Rattle.upload_wire.specs.Fronts.{ReadsHead, max_head, max_fields}
 use Rattle.upload_wire.specs.Fields.{Fields}
 use Rattle.upload_wire.specs.AskText.{Message, print_message, target_of, request_line, host_text, section_text}
 use Rattle.upload_wire.specs.ReplyText as written
+use Rattle.upload_wire.proofs.PlainTexts.{AllPass-cons, AllPass-weaker}
 
 abbrev pub field_of : List ℕ × List ℕ → Field
 field_of (name, value) = record { name = name; raw = 32 ∷ value; end = crlf }
@@ -22,9 +23,13 @@ field_of (name, value) = record { name = name; raw = 32 ∷ value; end = crlf }
 abbrev pub sent_fields : Message → List ℕ → Fields
 sent_fields m host = (codes "Host", host) ∷ m.fields
 
+abbrev head_with : List ℕ → List ℕ → Fields → RequestHead
+head_with method target fields =
+    record { blank = []; method = method; target = target; minor = 1; line_end = crlf; fields = map field_of fields; last = crlf }
+
 -- the head that is written
 abbrev pub head_of : Message → List ℕ → RequestHead
-head_of m host = record { blank = []; method = m.method; target = target_of m; minor = 1; line_end = crlf; fields = map field_of (sent_fields m host); last = crlf }
+head_of m host = head_with m.method (target_of m) (sent_fields m host)
 
 fields_printed : (fields : Fields) → flat_map print_field (map field_of fields) ≡ flat_map written.print_field fields
 fields_printed [] = refl
@@ -32,7 +37,7 @@ fields_printed ((name, value) ∷ fields) = rw (fields_printed fields) (simp app
 
 whole_head : (method target : List ℕ) (fields : Fields)
     → method ++ (codes " " ++ (target ++ (codes " HTTP/1.1" ++ (crlf_bytes ++ (flat_map written.print_field fields ++ crlf_bytes)))))
-    ≡ print_request (record { blank = []; method = method; target = target; minor = 1; line_end = crlf; fields = map field_of fields; last = crlf })
+    ≡ print_request (head_with method target fields)
 unfolding print_request
 whole_head method target fields =
     rw (fields_printed fields) (joined method target (flat_map written.print_field fields))
@@ -84,7 +89,7 @@ values_kept ((name, value) ∷ fields) h =
 field_valid : (f : List ℕ × List ℕ) → IsPlainField f → IsField (field_of f)
 field_valid (name, value) h = record {
   name = h.name;
-  raw = All-cons (λ b. IsTrue (is_value_byte b)) 32 value refl (All-weaker (λ b. IsTrue (is_ascii_graphic b)) (λ b. IsTrue (is_value_byte b)) graphic_value value h.value);
+  raw = AllPass-cons is_value_byte 32 value refl (AllPass-weaker is_ascii_graphic is_value_byte value graphic_value h.value);
 }
 
 -- what a message must keep to be read
@@ -98,10 +103,12 @@ pub record IsSendable (m : Message) (host : List ℕ) : Type 0 where
 
 pub reads_head : (m : Message) (host : List ℕ) → IsSendable m host → ReadsHead (print_message m host) (head_of m host) m.body
 reads_head m host h =
-    let fields = sent_fields m host in
+    let sent = sent_fields m host in
+    let fields : All IsField (map field_of sent) =
+    All-map IsField field_of sent (All-weaker IsPlainField (λ f. IsField (field_of f)) field_valid sent h.fields) in
     record {
       reads = (
-        record { method = h.method; target = h.target; target_text = h.target_text; minor = omega arith; fields = All-map IsField field_of fields (All-weaker IsPlainField (λ f. IsField (field_of f)) field_valid fields h.fields) },
+        record { method = h.method; target = h.target; target_text = h.target_text; minor = omega arith; fields = fields },
         printed_whole m host,
       );
       short = h.short;

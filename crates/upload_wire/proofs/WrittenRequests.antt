@@ -1,16 +1,13 @@
 -- The text of each ask is a request of the same ask.
-use Rattle.std.proofs.Common.{◌≡◌, ℕ, ◌<◌, ◌≤◌, ◌^◌, ◌||◌, ◌==◌, Bool, true, false, codes, List, [], ◌∷◌, ◌++◌, length, map, get_or, refl, arith, ◌∙◌, sym, ap, subst, IsTrue, IfSome, Option, Some, None, inr, append-nil, append_assoc, length-append, cond}
-use Rattle.std.proofs.Common.{nat_lt}
+use Rattle.std.proofs.Common.{◌≡◌, ℕ, ◌<◌, ◌≤◌, ◌^◌, Bool, true, false, codes, List, [], ◌∷◌, ◌++◌, length, map, get_or, refl, arith, ◌∙◌, sym, ap, subst, IfSome, Option, Some, None, inr, append_assoc, length-append, nat_lt}
 use Rattle.std.specs.Prelude.{bytes_eq, option_and_then, unwrap_or}
 use Rattle.std.specs.List.{list_all}
 use Rattle.std.specs.Borrow.{Bor}
 use Rattle.std.proofs.lemmas.Bool.Decides.{nat_tests}
-use Rattle.std.proofs.lemmas.List.Elements.{All-append, All-weaker, All-cons}
 use Rattle.std.proofs.lemmas.List.Sums.{AllPass-from_list_all}
 use Rattle.std.proofs.lemmas.Str.{IsUtf8-from_ascii}
 use Rattle.std.proofs.lemmas.Str.Ascii.{IsAscii-from_all}
-use Rattle.httparse.specs.Grammar.{AllPass, IsToken, is_token_byte, is_uri_byte, print_request, print_version, print_end, print_section, crlf}
-use Rattle.form_urlencoded.proofs.FormLemmas.{raw_pairs-nil}
+use Rattle.httparse.specs.Grammar.{IsToken, is_token_byte, print_request, print_version, print_end, print_section, crlf}
 use Rattle.upload_names.specs.NamePass.{is_name}
 use Rattle.upload_names.specs.Digest.{Digest, IsDigest, digest_of, digest_text}
 use Rattle.upload_names.specs.Reference.{reference_of, reference_text}
@@ -25,55 +22,20 @@ use Rattle.upload_wire.specs.declared.target.PathForm.{PathForm}
 use Rattle.upload_wire.specs.declared.target.PathForm.TheVariants as Path
 use Rattle.upload_wire.specs.declared.framing.Framing.TheVariants.{Length}
 use Rattle.upload_wire.specs.Fronts.{max_head}
-use Rattle.upload_wire.specs.Query.{parameter, first_value}
+use Rattle.upload_wire.specs.Query.{parameter}
 use Rattle.upload_wire.specs.Fields.{values_of, keeps_connection, head_fields}
 use Rattle.upload_wire.specs.Body.{framing_of}
 use Rattle.upload_wire.specs.RequestText.{IsRequest}
-use Rattle.upload_wire.specs.Target.{IsFormOf, ask_of_form, with_body, extent_of, named, upload_path, Asks}
+use Rattle.upload_wire.specs.Target.{IsFormOf, ask_of_form, with_body, extent_of, upload_path, Asks}
 use Rattle.upload_wire.specs.AskText.{Message, message_of, print_message, target_of, query_text, is_host, look_method, digest_query, digest_or_nothing, IsAbsentOrGiven, CanBeWritten, ask_text}
 use Rattle.upload_wire.specs.WrittenAsks.{AsksAreReadBack, HasLawfulParts, HasSpan, IsReference, body_text, written_style}
-use Rattle.upload_wire.proofs.PlainTexts.{IsPlain, IsPlain-literal, IsPlain-nil, IsPlain-clear, HasNoSlash-clear, is_plain_byte, name_plain, digest_clear, reference_clear, upload_plain, blob_plain}
-use Rattle.upload_wire.proofs.WrittenTargets.{IsSpelled, spelled_bare, spelled_query, nonempty}
-use Rattle.upload_wire.proofs.WrittenQueries.{IsQueryText, is_query_text, query_of_text, text_of_plain, text_literal, IsQueryText-append, digest_parameter, mount_parameters}
+use Rattle.upload_wire.proofs.PlainTexts.{IsPlain, IsParameters, IsTarget, is_plain_byte, AllPass-nil, HasNoSlash-tail, name_plain, digest_tail, digest_plain, reference_tail, blob_plain, uploads_plain, upload_plain, line_bytes, ascii_bytes}
+use Rattle.upload_wire.proofs.WrittenTargets.{spelled, target_bytes, nonempty}
+use Rattle.upload_wire.proofs.WrittenQueries.{digest_parameters, digest_parameter, mount_parameters, mount_parameter, no_parameter}
 use Rattle.upload_wire.proofs.WrittenHeads.{IsSendable, field_of, head_of, sent_fields, reads_head, values_kept, printed}
 use Rattle.upload_wire.proofs.WrittenFields.{AreRead, bare_read, post_read, body_read, upload_read}
 
--- ---- targets
-
-abbrev is_wide_byte : ℕ → Bool
-is_wide_byte b = is_plain_byte b || (b == 61) || (b == 38) || (b == 63)
-
-abbrev IsWide : List ℕ → Type 0
-IsWide text = AllPass is_wide_byte text
-
-plain_wide : (b : ℕ) → is_plain_byte b ≡ true → is_wide_byte b ≡ true
-plain_wide b h = grind (arith, nat_tests)
-
-query_wide : (b : ℕ) → is_query_text b ≡ true → is_wide_byte b ≡ true
-query_wide b h = grind (arith, nat_tests)
-
-wide_uri : (b : ℕ) → is_wide_byte b ≡ true → is_uri_byte b ≡ true
-wide_uri b h = grind (arith, nat_tests)
-
-wide_ascii : (b : ℕ) → is_wide_byte b ≡ true → b < 128
-wide_ascii b h = grind (arith, nat_tests)
-
-IsWide-plain : (text : List ℕ) → IsPlain text → IsWide text
-IsWide-plain text h = All-weaker (λ b. IsTrue (is_plain_byte b)) (λ b. IsTrue (is_wide_byte b)) plain_wide text h
-
-IsWide-query : (text : List ℕ) → IsQueryText text → IsWide text
-IsWide-query text h = All-weaker (λ b. IsTrue (is_query_text b)) (λ b. IsTrue (is_wide_byte b)) query_wide text h
-
-target_wide : (path : List ℕ) (query : Option (List ℕ)) → IsPlain path → IfSome query IsQueryText → IsWide (path ++ query_text query)
-target_wide path None p q = rw append-nil (IsWide-plain path p)
-target_wide path (Some query) p q =
-    All-append (λ b. IsTrue (is_wide_byte b)) path (63 ∷ query) (IsWide-plain path p)
-    (All-cons (λ b. IsTrue (is_wide_byte b)) 63 query refl (IsWide-query query q))
-
-target_spelled : (path : List ℕ) (query : Option (List ℕ)) → IsPlain path → get_or path 0 0 ≡ 47 → IfSome query IsQueryText
-    → length (path ++ query_text query) ≤ 65534 → IsSpelled path query
-target_spelled path None p slash q short = spelled_bare path p slash (subst (λ t. length t ≤ 65534) (append-nil path) short)
-target_spelled path (Some query) p slash q short = spelled_query path query p slash (query_of_text query q) short
+-- ---- messages
 
 longer : (a t r : List ℕ) (x : ℕ) → length t ≤ length (a ++ x ∷ (t ++ r))
 longer a t r x = omega (arith, length-append a (x ∷ (t ++ r)), length-append t r)
@@ -86,46 +48,41 @@ target_short m host h =
     let l : length (target_of m) ≤ length (print_request (head_of m host)) = rw cut (longer m.method (target_of m) rest 32) in
     omega arith
 
--- ---- messages
-
 -- what is asked of the form, with these fields and this body
 abbrev asked : Message → PathForm → Extent → Ask
 asked m form range = with_body (ask_of_form form (record { method = m.method; query = unwrap_or m.query []; range = range })) m.body
 
 -- the parts of a message are read as an ask
-pub record ReadsAs (max_body : ℕ) (m : Message) (host : List ℕ) (range : Extent) (form : PathForm) (ask : Ask) : Type 0 where
+record ReadsAs (max_body : ℕ) (m : Message) (host : List ℕ) (range : Extent) (form : PathForm) (ask : Ask) : Type 0 where
   method : IsToken m.method
   path : IsPlain m.path
   slash : get_or m.path 0 0 ≡ 47
-  query : IfSome m.query IsQueryText
+  query : IfSome m.query IsParameters
   fields : AreRead max_body (sent_fields m host) (length m.body) range
   form_is : IsFormOf m.path form
   asks : ask ≡ asked m form range
 
-sendable : (max_body : ℕ) (m : Message) (host : List ℕ) (range : Extent) (form : PathForm) (ask : Ask) → ReadsAs max_body m host range form ask
+sendable : {max_body : ℕ} {m : Message} {host : List ℕ} {range : Extent} {form : PathForm} {ask : Ask} → ReadsAs max_body m host range form ask
     → length (print_request (head_of m host)) ≤ max_head → IsSendable m host
-sendable max_body m host range form ask h short =
-    let wide : IsWide (target_of m) = target_wide m.path m.query h.path h.query in
+sendable {max_body} {m} h short =
+    let bytes : IsTarget (target_of m) = target_bytes m.path m.query h.path h.query in
     record {
       method = h.method;
-      target = (
-        omega (arith, nonempty m.path h.slash, length-append m.path (query_text m.query)),
-        All-weaker (λ b. IsTrue (is_wide_byte b)) (λ b. IsTrue (is_uri_byte b)) wide_uri (target_of m) wide,
-      );
-      target_text = IsUtf8-from_ascii (target_of m) (IsAscii-from_all (target_of m)
-          (All-weaker (λ b. IsTrue (is_wide_byte b)) (λ b. b < 128) wide_ascii (target_of m) wide));
+      target = (omega (arith, nonempty m.path h.slash, length-append m.path (query_text m.query)), line_bytes (target_of m) bytes);
+      target_text = IsUtf8-from_ascii (target_of m) (IsAscii-from_all (target_of m) (ascii_bytes (target_of m) bytes));
       fields = h.fields.plain;
       few = h.fields.few;
       short = short;
     }
 
-pub read_as : (max_body : ℕ) (m : Message) (host : List ℕ) (range : Extent) (form : PathForm) (ask : Ask) → ReadsAs max_body m host range form ask
+-- such a message is a request of that ask
+read_as : {max_body : ℕ} {m : Message} {host : List ℕ} {range : Extent} {form : PathForm} {ask : Ask} → ReadsAs max_body m host range form ask
     → length (print_request (head_of m host)) ≤ max_head
     → IsRequest max_body (print_message m host) ask (record { head = bytes_eq m.method (codes "HEAD"); keep = true })
-read_as max_body m host range form ask h short =
+read_as {max_body} {m} {host} {range} {form} h short =
     let fields = sent_fields m host in
     let kept : head_fields (head_of m host) ≡ fields = values_kept fields h.fields.plain in
-    let s = target_spelled m.path m.query h.path h.slash h.query (target_short m host short) in
+    let s = spelled m.path m.query h.path h.slash h.query (target_short m host short) in
     let ranged : extent_of (values_of (codes "content-range") (head_fields (head_of m host))) ≡ range =
     ap (λ f. extent_of (values_of (codes "content-range") f)) kept ∙ h.fields.range_is in
     let bare = ask_of_form form (record { method = m.method; query = unwrap_or m.query []; range = range }) in
@@ -134,7 +91,7 @@ read_as max_body m host range form ask h short =
     record {
       head = head_of m host;
       rest = m.body;
-      reads = reads_head m host (sendable max_body m host range form ask h short);
+      reads = reads_head m host (sendable h short);
       framing = Length (length m.body);
       framed = ap (framing_of max_body 1) kept ∙ h.fields.framed;
       body = m.body;
@@ -182,30 +139,18 @@ at_uploads name = Path.Uploads (held name)
 abbrev at_upload : List ℕ → List ℕ → PathForm
 at_upload name at = Path.Upload (held name) (held (reference_text at))
 
-named_itself : (name : List ℕ) → is_name name ≡ true → named name ≡ Some name
-named_itself name h = ap (λ b. cond b (Some name) None) h
-
 is_upload : (name at : List ℕ) → IsFormOf (upload_path name (reference_text at)) (at_upload name at)
-is_upload name at = (refl, HasNoSlash-clear (reference_text at) (reference_clear at), omega (arith, length-reference_text at))
+is_upload name at = (refl, HasNoSlash-tail (reference_text at) (reference_tail at), omega (arith, length-reference_text at))
 
 reference_read : (at : List ℕ) → IsReference at → reference_of (reference_text at) ≡ Some at
 reference_read at h = reference_of-text at h.sized h.bytes
-
-digest_plain : (digest : Digest) → IsDigest digest → IsPlain (digest_text digest)
-digest_plain digest h = IsPlain-clear (digest_text digest) (digest_clear digest h)
-
-at_uploads_plain : (name : List ℕ) → is_name name ≡ true → IsPlain (upload_path name [])
-at_uploads_plain name n = upload_plain name [] n IsPlain-nil
-
-at_upload_plain : (name at : List ℕ) → is_name name ≡ true → IsPlain (upload_path name (reference_text at))
-at_upload_plain name at n = upload_plain name (reference_text at) n (IsPlain-clear (reference_text at) (reference_clear at))
 
 -- ---- the asks
 
 base_read : (max_body : ℕ) (host : List ℕ) → is_host host ≡ true → ReadsAs max_body (message_of Base) host Absent Path.Base Base
 base_read max_body host h = record {
   method = get_token;
-  path = IsPlain-literal (codes "/v2/") refl;
+  path = AllPass-from_list_all is_plain_byte (codes "/v2/") refl;
   slash = refl;
   query = tt;
   fields = bare_read max_body host h;
@@ -222,23 +167,19 @@ has_read : (max_body : ℕ) (host name : List ℕ) (digest : Digest) (head : Boo
     → ReadsAs max_body (message_of (Has name digest head)) host Absent (at_blob name digest) (Has name digest head)
 has_read max_body host name digest head h n d = record {
   method = look_token head;
-  path = blob_plain name (digest_text digest) n (digest_plain digest d);
+  path = blob_plain name digest n d;
   slash = refl;
   query = tt;
   fields = bare_read max_body host h;
-  form_is = (refl, HasNoSlash-clear (digest_text digest) (digest_clear digest d));
+  form_is = (refl, HasNoSlash-tail (digest_text digest) (digest_tail digest d));
   asks = has_asked name digest head n d;
 }
-
--- no query has no parameters
-no_parameter : (name : List ℕ) → parameter name [] ≡ None
-no_parameter name = ap (first_value name) raw_pairs-nil
 
 opening_read : (max_body : ℕ) (host name : List ℕ) → is_host host ≡ true → is_name name ≡ true
     → ReadsAs max_body (message_of (Opening name)) host Absent (at_uploads name) (Opening name)
 opening_read max_body host name h n = record {
   method = post_token;
-  path = at_uploads_plain name n;
+  path = uploads_plain name n;
   slash = refl;
   query = tt;
   fields = post_read max_body host h;
@@ -246,11 +187,8 @@ opening_read max_body host name h n = record {
   asks = rw (n, no_parameter (codes "mount"), no_parameter (codes "digest")) refl;
 }
 
-digest_query_text : (text : List ℕ) → IsPlain text → IsQueryText (codes "digest=" ++ text)
-digest_query_text text h = IsQueryText-append (codes "digest=") text (text_literal (codes "digest=") refl) (text_of_plain text h)
-
 digest_or_nothing_plain : (digest : Option Digest) → IfSome digest IsDigest → IsPlain (digest_or_nothing digest)
-digest_or_nothing_plain None d = IsPlain-nil
+digest_or_nothing_plain None d = AllPass-nil is_plain_byte
 digest_or_nothing_plain (Some digest) d = digest_plain digest d
 
 nothing_read : digest_of [] ≡ None
@@ -269,30 +207,24 @@ single_read max_body host name digest body h n d fits limit =
     let given = digest_parameter (digest_or_nothing digest) plain in
     record {
       method = post_token;
-      path = at_uploads_plain name n;
+      path = uploads_plain name n;
       slash = refl;
-      query = digest_query_text (digest_or_nothing digest) plain;
+      query = digest_parameters (digest_or_nothing digest) plain;
       fields = body_read max_body host body h fits limit;
       form_is = refl;
       asks = rw (n, given.0, given.1, digest_or_nothing_read digest d) refl;
     }
 
-mount_query_text : (digest source : List ℕ) → IsPlain digest → IsPlain source → IsQueryText (codes "mount=" ++ (digest ++ (codes "&from=" ++ source)))
-mount_query_text digest source d s =
-    IsQueryText-append (codes "mount=") (digest ++ (codes "&from=" ++ source)) (text_literal (codes "mount=") refl)
-    (IsQueryText-append digest (codes "&from=" ++ source) (text_of_plain digest d)
-    (IsQueryText-append (codes "&from=") source (text_literal (codes "&from=") refl) (text_of_plain source s)))
-
 mount_read : (max_body : ℕ) (host name : List ℕ) (digest : Digest) (source : List ℕ) → is_host host ≡ true → is_name name ≡ true
     → IsDigest digest → is_name source ≡ true
     → ReadsAs max_body (message_of (Mount name digest source)) host Absent (at_uploads name) (Mount name digest source)
 mount_read max_body host name digest source h n d s =
-    let given = mount_parameters (digest_text digest) source (digest_plain digest d) (name_plain source s) in
+    let given = mount_parameter (digest_text digest) source (digest_plain digest d) (name_plain source s) in
     record {
       method = post_token;
-      path = at_uploads_plain name n;
+      path = uploads_plain name n;
       slash = refl;
-      query = mount_query_text (digest_text digest) source (digest_plain digest d) (name_plain source s);
+      query = mount_parameters (digest_text digest) source (digest_plain digest d) (name_plain source s);
       fields = post_read max_body host h;
       form_is = refl;
       asks = rw (n, given.0, given.1, digest_of-text digest d, s) refl;
@@ -303,7 +235,7 @@ chunk_read : (max_body : ℕ) (host name at : List ℕ) (range : Extent) (body :
     → ReadsAs max_body (message_of (Chunk name at range body)) host range (at_upload name at) (Chunk name at range body)
 chunk_read max_body host name at range body h n r given span fits limit = record {
   method = patch_token;
-  path = at_upload_plain name at n;
+  path = upload_plain name at n;
   slash = refl;
   query = tt;
   fields = upload_read max_body host range body h given span fits limit;
@@ -315,7 +247,7 @@ status_read : (max_body : ℕ) (host name at : List ℕ) → is_host host ≡ tr
     → ReadsAs max_body (message_of (Status name at)) host Absent (at_upload name at) (Status name at)
 status_read max_body host name at h n r = record {
   method = get_token;
-  path = at_upload_plain name at n;
+  path = upload_plain name at n;
   slash = refl;
   query = tt;
   fields = bare_read max_body host h;
@@ -323,9 +255,9 @@ status_read max_body host name at h n r = record {
   asks = rw (n, reference_read at r) refl;
 }
 
-close_query_text : (digest : Option Digest) → IfSome digest IsDigest → IfSome (digest_query digest) IsQueryText
-close_query_text None d = tt
-close_query_text (Some digest) d = digest_query_text (digest_text digest) (digest_plain digest d)
+close_parameters : (digest : Option Digest) → IfSome digest IsDigest → IfSome (digest_query digest) IsParameters
+close_parameters None d = tt
+close_parameters (Some digest) d = digest_parameters (digest_text digest) (digest_plain digest d)
 
 -- the digest that a close's query gives
 closing_digest : (digest : Option Digest) → IfSome digest IsDigest
@@ -339,9 +271,9 @@ close_read : (max_body : ℕ) (host name at : List ℕ) (range : Extent) (digest
     → ReadsAs max_body (message_of (Close name at range digest body)) host range (at_upload name at) (Close name at range digest body)
 close_read max_body host name at range digest body h n r given span d fits limit = record {
   method = put_token;
-  path = at_upload_plain name at n;
+  path = upload_plain name at n;
   slash = refl;
-  query = close_query_text digest d;
+  query = close_parameters digest d;
   fields = upload_read max_body host range body h given span fits limit;
   form_is = is_upload name at;
   asks = rw (n, reference_read at r, closing_digest digest d) refl;
@@ -359,26 +291,19 @@ asks_read_back max_body ask host limit written parts h short fits =
   where
     go : (ask : Ask) → CanBeWritten ask → HasLawfulParts ask → length (print_request (head_of (message_of ask) host)) ≤ max_head
         → length (body_text ask) ≤ max_body → IsRequest max_body (ask_text ask host) ask (written_style ask)
-    go Base written parts short fits = read_as max_body (message_of Base) host Absent Path.Base Base (base_read max_body host h) short
+    go Base written parts short fits = read_as (base_read max_body host h) short
     go (Has name digest head) written parts short fits =
-        let read = read_as max_body (message_of (Has name digest head)) host Absent (at_blob name digest) (Has name digest head)
-        (has_read max_body host name digest head h parts.0 parts.1) short in
-        subst (λ b. IsRequest max_body (ask_text (Has name digest head) host) (Has name digest head) (record { head = b; keep = true })) (look_style head) read
-    go (Opening name) written parts short fits =
-        read_as max_body (message_of (Opening name)) host Absent (at_uploads name) (Opening name) (opening_read max_body host name h parts) short
+        let ask = Has name digest head in
+        subst (λ b. IsRequest max_body (ask_text ask host) ask (record { head = b; keep = true })) (look_style head)
+        (read_as (has_read max_body host name digest head h parts.0 parts.1) short)
+    go (Opening name) written parts short fits = read_as (opening_read max_body host name h parts) short
     go (Single name digest body) written parts short fits =
-        read_as max_body (message_of (Single name digest body)) host Absent (at_uploads name) (Single name digest body)
-        (single_read max_body host name digest body h parts.0 parts.1 fits limit) short
+        read_as (single_read max_body host name digest body h parts.0 parts.1 fits limit) short
     go (Mount name digest source) written parts short fits =
-        read_as max_body (message_of (Mount name digest source)) host Absent (at_uploads name) (Mount name digest source)
-        (mount_read max_body host name digest source h parts.0 parts.1 parts.2) short
+        read_as (mount_read max_body host name digest source h parts.0 parts.1 parts.2) short
     go (Chunk name at range body) written parts short fits =
-        read_as max_body (message_of (Chunk name at range body)) host range (at_upload name at) (Chunk name at range body)
-        (chunk_read max_body host name at range body h parts.0 parts.1 written parts.2 fits limit) short
-    go (Status name at) written parts short fits =
-        read_as max_body (message_of (Status name at)) host Absent (at_upload name at) (Status name at)
-        (status_read max_body host name at h parts.0 parts.1) short
+        read_as (chunk_read max_body host name at range body h parts.0 parts.1 written parts.2 fits limit) short
+    go (Status name at) written parts short fits = read_as (status_read max_body host name at h parts.0 parts.1) short
     go (Close name at range digest body) written parts short fits =
-        read_as max_body (message_of (Close name at range digest body)) host range (at_upload name at) (Close name at range digest body)
-        (close_read max_body host name at range digest body h parts.0 parts.1 written parts.2 parts.3 fits limit) short
+        read_as (close_read max_body host name at range digest body h parts.0 parts.1 written parts.2 parts.3 fits limit) short
     go (Refused refusal) written parts short fits = absurd written

@@ -1,10 +1,10 @@
 -- A written target is read as the URI of its path and its query.
-use Rattle.std.proofs.Common.{◌≡◌, ◌≢◌, ℕ, ◌<◌, ◌≤◌, ◌==◌, false, List, [], ◌∷◌, ◌++◌, All, length, get_or, refl, arith, ◌∙◌, sym, ap, subst, IsTrue, IfSome, Option, Some, None, inl, inr, append-nil, take_all, lt-ltb, le-ltb, length-append}
+use Rattle.std.proofs.Common.{◌≡◌, ◌≢◌, ℕ, ◌<◌, ◌≤◌, ◌==◌, false, List, [], ◌∷◌, ◌++◌, length, get_or, refl, arith, ◌∙◌, sym, ap, subst, IfSome, Option, Some, None, inl, inr, append-nil, take_all, lt-ltb, le-ltb, length-append}
 use Rattle.std.proofs.Math.Seq.{take-append_seam, get_or-append_seam, drop-append-add}
 use Rattle.std.proofs.lemmas.Bool.Decides.{nat_tests}
 use Rattle.std.proofs.lemmas.List.{get_or_append_left}
 use Rattle.std.proofs.lemmas.Str.Ascii.{IsAscii-from_all}
-use Rattle.std.proofs.lemmas.List.Elements.{All-append, All-weaker, All-get_or, All-cons}
+use Rattle.std.proofs.lemmas.List.Elements.{All-get_or}
 use Rattle.std.proofs.lemmas.Str.{IsUtf8-from_ascii}
 use Rattle.std.specs.Prelude.{IsSome}
 use Rattle.std.specs.Option.{ForSome, ForNone}
@@ -14,11 +14,9 @@ use Rattle.http_uri.specs.Grammar.{AllPass, IsPathAndQuery}
 use Rattle.http_uri.specs.Uri.{Spells, uri_path, uri_query}
 use Rattle.http_uri.proofs.RunLemmas.{index_of_is}
 use Rattle.upload_wire.specs.AskText.{query_text}
-use Rattle.upload_wire.proofs.PlainTexts.{IsPlain, is_plain_byte, plain_byte}
+use Rattle.upload_wire.proofs.PlainTexts.{IsPlain, IsParameters, IsTarget, Lacks, is_plain_byte, is_target_byte, lacks, AllPass-append, AllPass-cons, IsTarget-plain, IsTarget-parameters, path_bytes, query_bytes, ascii_bytes}
 
--- no byte of the text is c
-abbrev pub Lacks : ℕ → List ℕ → Type 0
-Lacks c text = All (λ b. b ≢ c) text
+-- ---- texts cut at a byte
 
 index_at : (c : ℕ) (a b : List ℕ) → Lacks c a → index_of c (a ++ c ∷ b) ≡ length a
 index_at c a b h =
@@ -44,18 +42,7 @@ front_none c a h = rw (index_none c a h) (take_all (length a) a (omega arith))
 pub back_none : (c : ℕ) (a : List ℕ) → Lacks c a → split_once_back c a ≡ None
 back_none c a h = rw (index_none c a h, le-ltb (length a) (length a) (omega arith)) refl
 
--- what the query's bytes must be
-pub record IsQuery (text : List ℕ) : Type 0 where
-  pub bytes : AllPass is_query_byte text
-  pub ascii : All (λ b. b < 128) text
-  pub no_hash : Lacks 35 text
-
-pub IsQuery-plain : (text : List ℕ) → IsPlain text → IsQuery text
-IsQuery-plain text h = record {
-  bytes = All-weaker (λ b. IsTrue (is_plain_byte b)) (λ b. IsTrue (is_query_byte b)) (λ b p. (plain_byte b p).query) text h;
-  ascii = All-weaker (λ b. IsTrue (is_plain_byte b)) (λ b. b < 128) (λ b p. (plain_byte b p).ascii) text h;
-  no_hash = All-weaker (λ b. IsTrue (is_plain_byte b)) (λ b. b ≢ 35) (λ b p. (plain_byte b p).no_hash) text h;
-}
+-- ---- targets
 
 abbrev no_text : Option (List ℕ)
 no_text = None
@@ -70,27 +57,30 @@ no_authority kept = λ n x e. cc e
 abbrev uri_with : List ℕ → Uri
 uri_with kept = record { scheme = None; authority = None; path_and_query = kept; absolute = no_scheme; authority_alone = no_authority kept }
 
-path_lacks : (path : List ℕ) → IsPlain path → Lacks 63 path
-path_lacks path h = All-weaker (λ b. IsTrue (is_plain_byte b)) (λ b. b ≢ 63) (λ b p. (plain_byte b p).no_mark) path h
+pub target_bytes : (path : List ℕ) (query : Option (List ℕ)) → IsPlain path → IfSome query IsParameters → IsTarget (path ++ query_text query)
+target_bytes path None p q = rw append-nil (IsTarget-plain path p)
+target_bytes path (Some query) p q =
+    AllPass-append is_target_byte path (63 ∷ query) (IsTarget-plain path p) (AllPass-cons is_target_byte 63 query refl (IsTarget-parameters query q))
 
+-- a path and a query are read from the text that joins them
 pub record IsSpelled (path : List ℕ) (query : Option (List ℕ)) : Type 0 where
   pub uri : Uri
   pub spells : Spells (path ++ query_text query) uri
   pub path_is : uri_path uri ≡ path
   pub query_is : uri_query uri ≡ query
 
-spells_kept : (text : List ℕ) → get_or text 0 0 ≡ 47 → Lacks 35 text → All (λ b. b < 128) text
+spells_kept : (text : List ℕ) → get_or text 0 0 ≡ 47 → IsTarget text
     → AllPass is_path_byte (split_once_front 63 text) → IfSome (split_once_back 63 text) (AllPass is_query_byte) → length text ≤ 65534
     → Spells text (uri_with text)
-spells_kept text slash no_hash ascii path query short =
+spells_kept text slash bytes path query short =
     let kept : IsPathAndQuery text = record {
       start = inr (inr (inl slash));
       path = path;
       query = query;
-      utf8 = IsUtf8-from_ascii text (IsAscii-from_all text ascii);
+      utf8 = IsUtf8-from_ascii text (IsAscii-from_all text (ascii_bytes text bytes));
       short = short;
     } in
-    let same : split_once_front 35 text ≡ text = front_none 35 text no_hash in
+    let same : split_once_front 35 text ≡ text = front_none 35 text (lacks is_target_byte 35 text refl bytes) in
     (short, ((inr slash, record { start = inr (rw slash refl); short = short; kept = subst IsPathAndQuery (sym same) kept }), sym same))
 
 not_zero : (n : ℕ) → 0 < n → (n == 0) ≡ false
@@ -106,34 +96,39 @@ pub nonempty : (path : List ℕ) → get_or path 0 0 ≡ 47 → 0 < length path
 nonempty [] h = absurd (omega arith)
 nonempty (x ∷ path) h = omega arith
 
-plain_paths : (path : List ℕ) → IsPlain path → AllPass is_path_byte path
-plain_paths path h = All-weaker (λ b. IsTrue (is_plain_byte b)) (λ b. IsTrue (is_path_byte b)) (λ b p. (plain_byte b p).path) path h
+no_mark : (path : List ℕ) → IsPlain path → Lacks 63 path
+no_mark path h = lacks is_plain_byte 63 path refl h
 
-pub spelled_bare : (path : List ℕ) → IsPlain path → get_or path 0 0 ≡ 47 → length path ≤ 65534 → IsSpelled path None
-spelled_bare path h slash short =
-    let lacks = path_lacks path h in
-    let q = IsQuery-plain path h in
+spelled_path : (path : List ℕ) → IsPlain path → get_or path 0 0 ≡ 47 → length path ≤ 65534 → IsSpelled path None
+spelled_path path h slash short =
+    let cut = no_mark path h in
+    let whole = IsTarget-plain path h in
+    let some = nonempty path slash in
+    let query : IfSome (split_once_back 63 path) (AllPass is_query_byte) = rw (back_none 63 path cut) tt in
     record {
       uri = uri_with path;
-      spells = rw append-nil (spells_kept path slash q.no_hash q.ascii (rw (front_none 63 path lacks) (plain_paths path h)) (rw (back_none 63 path lacks) tt) short);
-      path_is = path_read path path (nonempty path slash) (nonempty path slash) (front_none 63 path lacks);
-      query_is = back_none 63 path lacks;
+      spells = rw append-nil (spells_kept path slash whole (rw (front_none 63 path cut) (path_bytes path h)) query short);
+      path_is = path_read path path some some (front_none 63 path cut);
+      query_is = back_none 63 path cut;
     }
 
-pub spelled_query : (path query : List ℕ) → IsPlain path → get_or path 0 0 ≡ 47 → IsQuery query → length (path ++ 63 ∷ query) ≤ 65534 → IsSpelled path (Some query)
-spelled_query path query h slash q short =
-    let lacks = path_lacks path h in
-    let p = IsQuery-plain path h in
+spelled_both : (path query : List ℕ) → IsPlain path → get_or path 0 0 ≡ 47 → IsParameters query → length (path ++ 63 ∷ query) ≤ 65534
+    → IsSpelled path (Some query)
+spelled_both path query h slash q short =
+    let text = path ++ 63 ∷ query in
+    let cut = no_mark path h in
     let some = nonempty path slash in
-    let first : get_or (path ++ 63 ∷ query) 0 0 ≡ 47 = get_or_append_left path (63 ∷ query) 0 0 some ∙ slash in
-    let whole : 0 < length (path ++ 63 ∷ query) = omega (arith, length-append path (63 ∷ query)) in
-    let no_hash : Lacks 35 (path ++ 63 ∷ query) =
-    All-append (λ b. b ≢ 35) path (63 ∷ query) p.no_hash (All-cons (λ b. b ≢ 35) 63 query (λ e. absurd (omega arith)) q.no_hash) in
-    let ascii : All (λ b. b < 128) (path ++ 63 ∷ query) =
-    All-append (λ b. b < 128) path (63 ∷ query) p.ascii (All-cons (λ b. b < 128) 63 query (omega arith) q.ascii) in
+    let first : get_or text 0 0 ≡ 47 = get_or_append_left path (63 ∷ query) 0 0 some ∙ slash in
+    let front : AllPass is_path_byte (split_once_front 63 text) = rw (front_at 63 path query cut) (path_bytes path h) in
+    let back : IfSome (split_once_back 63 text) (AllPass is_query_byte) = rw (back_at 63 path query cut) (query_bytes query q) in
     record {
-      uri = uri_with (path ++ 63 ∷ query);
-      spells = spells_kept (path ++ 63 ∷ query) first no_hash ascii (rw (front_at 63 path query lacks) (plain_paths path h)) (rw (back_at 63 path query lacks) q.bytes) short;
-      path_is = path_read (path ++ 63 ∷ query) path whole some (front_at 63 path query lacks);
-      query_is = back_at 63 path query lacks;
+      uri = uri_with text;
+      spells = spells_kept text first (target_bytes path (Some query) h q) front back short;
+      path_is = path_read text path (omega (arith, length-append path (63 ∷ query))) some (front_at 63 path query cut);
+      query_is = back_at 63 path query cut;
     }
+
+pub spelled : (path : List ℕ) (query : Option (List ℕ)) → IsPlain path → get_or path 0 0 ≡ 47 → IfSome query IsParameters
+    → length (path ++ query_text query) ≤ 65534 → IsSpelled path query
+spelled path None p slash q short = spelled_path path p slash (subst (λ t. length t ≤ 65534) (append-nil path) short)
+spelled path (Some query) p slash q short = spelled_both path query p slash q short
