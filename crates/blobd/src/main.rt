@@ -14,6 +14,8 @@ mod push;
 mod serve;
 mod sockets;
 mod status;
+#[cfg(test)]
+mod tests;
 mod words;
 
 use crate::once::run_once;

@@ -1,0 +1,84 @@
+//! A server and pushes in one process.
+ghost use Rattle.std.specs.Thread.{IsSync};
+
+use crate::push::run_push;
+use crate::serve::run_serve;
+use std::net::{Net, SocketAddr, TcpListener, TcpStream};
+use std::random::RandomSource;
+use std::rt::Clock;
+use std::sync::Wait;
+use std::test::Fail;
+use std::thread::{Threads, join};
+
+/// A line, and the exit status.
+type Printed = (Vec<u8>, u8);
+
+fn pushed<R>(rt: &R, addr: SocketAddr, name: &[u8]) -> Printed
+where
+    R: Net<Stream = TcpStream> + AllocGlobal,
+{
+    let mut out = Vec::new(rt.alloc());
+    let status = run_push(rt, addr, name, b"abc", 2, &mut out);
+    (out, status)
+}
+
+fn served<R>(rt: &R, listener: &TcpListener) -> Printed
+where
+    R: Threads + Wait + Sync + AllocGlobal + Clock + RandomSource,
+{
+    let mut out = Vec::new(rt.alloc());
+    let status = run_serve(rt, listener, 1, &mut out);
+    (out, status)
+}
+
+/// What a server whose workers take a connection each prints, and two pushes to it at once.
+fn all_printed<R>(rt: &R, listener: &TcpListener, addr: SocketAddr) -> (Printed, (Printed, Printed))
+where
+    R: Threads + Wait + Sync + AllocGlobal + Clock + RandomSource + Net<Stream = TcpStream>,
+{
+    join(
+        rt,
+        || -> Printed
+            requires { IsSync R.row }
+        { served(rt, listener) },
+        || -> (Printed, Printed)
+            requires { IsSync R.row }
+        {
+            join(
+                rt,
+                || -> Printed
+                    requires { IsSync R.row }
+                { pushed(rt, addr, b"lib/a") },
+                || -> Printed
+                    requires { IsSync R.row }
+                { pushed(rt, addr, b"lib/b") },
+            )
+        },
+    )
+}
+
+#[test]
+fn a_server_and_two_pushes_at_once(rt: HostRuntime) -> Result<(), Fail> {
+    let any: SocketAddr = "127.0.0.1:0".parse()?;
+    let listener = TcpListener::bind(&rt, any)?;
+    let addr = listener.local_addr()?;
+    let (server, (left, right)) = all_printed(&rt, &listener, addr);
+    let lines = format!(in rt.alloc(); "listening {addr}\nserved\n")?;
+    assert_eq!(rt; (server.0.as_slice(), server.1), (lines.as_bytes(), 0));
+    let line = "pushed sha256:ba7816bf8f01cfea414140de5dae2223b00361a396177a9cb410ff61f20015ad\n";
+    for push in [left, right] {
+        assert_eq!(rt; (push.0.as_slice(), push.1), (line.as_bytes(), 0));
+    }
+    Ok(())
+}
+
+#[test]
+fn a_name_that_is_none_is_refused(rt: HostRuntime) -> Result<(), Fail> {
+    let nowhere: SocketAddr = "127.0.0.1:1".parse()?;
+    let printed = pushed(&rt, nowhere, b"A");
+    assert_eq!(rt;
+        (printed.0.as_slice(), printed.1),
+        (b"refused: name\n".as_slice(), 1)
+    );
+    Ok(())
+}
