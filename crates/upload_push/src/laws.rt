@@ -1,4 +1,4 @@
-// What is true of every push.
+//! What is true of every push, as laws: functions that do nothing and whose contracts are the laws.
 ghost use Rattle.std.specs.Prelude.{◌≡◌, ◌≤◌, List, Option, length};
 ghost use Rattle.upload_wire.specs.declared.client.heard.Heard.{Heard};
 ghost use Rattle.upload_push.specs.Promise.{PushPromise};

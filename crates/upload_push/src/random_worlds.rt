@@ -1,4 +1,4 @@
-// Pushes over lists of events that a seeded generator makes.
+//! Pushes over lists of events that a seeded generator makes.
 ghost use Rattle.std.specs.Prelude.{◌<◌};
 
 use crate::tests::{End, chunk_of_one, end_of, held, name, new_world, session};

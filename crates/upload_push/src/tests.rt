@@ -1,4 +1,4 @@
-// Pushes over worlds that lose requests and replies, beside other clients and in passing time.
+//! Pushes over worlds that lose requests and replies, beside other clients and in passing time.
 ghost use Rattle.std.specs.Prelude.{◌≡◌, ◌≤◌, length};
 ghost use Rattle.upload_names.specs.declared.digest.Algorithm.{Algorithm};
 ghost use Rattle.upload_push.specs.Promise.{IsThere};
