@@ -1,11 +1,10 @@
 -- What the soundness of a push and its promise rule out.
-use Rattle.std.proofs.Common.{◌≡◌, ℕ, ◌+◌, ◌<◌, ◌≤◌, List, [], ◌∷◌, ◌++◌, length, Option, Some, None, refl, arith, ap, sym, ◌∙◌, length-append}
+use Rattle.std.proofs.Common.{◌≡◌, ℕ, List, [], ◌∷◌, ◌++◌, length, Option, Some, None, refl, arith, ap, sym, ◌∙◌, length-append}
 use Rattle.std.specs.Prelude.{Ok}
 use Rattle.std.specs.FinMap as map
 use Rattle.upload_names.specs.Digest.{Digest}
 use Rattle.upload_service.specs.declared.ask.Extent.{Extent}
 use Rattle.upload_service.specs.declared.ask.Extent.TheVariants.{Absent, Bad, Given}
-use Rattle.upload_service.specs.declared.ask.Ask.{Ask}
 use Rattle.upload_service.specs.declared.ask.Ask.TheVariants.{Chunk, Close}
 use Rattle.upload_push.specs.Slices.{Push, Exchange, IsSound, IsSoundAsk, log_of}
 use Rattle.upload_push.specs.World.{World}
