@@ -1,10 +1,10 @@
 -- The number of requests falls.
-use Rattle.std.proofs.Common.{◌≡◌, ℕ, zero, suc, ◌+◌, ◌-◌, ◌*◌, ◌/◌, ◌<◌, ◌≤◌, min, Bool, true, false, ◌==◌, nat_lt, nat_le, if◌then◌else◌, List, [], ◌∷◌, length, Option, Some, None, refl, arith, ap, subst, sym}
+use Rattle.std.proofs.Common.{◌≡◌, ℕ, zero, suc, ◌+◌, ◌-◌, ◌*◌, ◌/◌, ◌<◌, ◌≤◌, min, true, false, ◌==◌, nat_lt, nat_le, List, [], ◌∷◌, length, Option, Some, None, refl, arith, ap, subst, sym}
 use Rattle.std.proofs.Math.Nat.{div-mul-le_self}
 use Rattle.std.proofs.lemmas.Nat.{le-div, div_below}
-use Rattle.std.proofs.lemmas.Bool.{eqb-true, eqb-false, ltb-true, leb-true, leb-false}
+use Rattle.std.proofs.lemmas.Bool.{eqb-false, ltb-true, leb-true, leb-false}
 use Rattle.upload_push.proofs.Cases.{cond_case}
-use Rattle.upload_push.specs.Steps.{Plan, Stand, IsLawfulPlan, IsWithin, turn, turn_at, answered, unheard, retry, send_from, opened, taken, place_of, refused, to_phase, chunk_end, count_to, ask_at}
+use Rattle.upload_push.specs.Steps.{Plan, Stand, IsLawfulPlan, IsWithin, turn, answered, unheard, retry, send_from, opened, taken, place_of, chunk_end, count_to, ask_at}
 use Rattle.upload_push.specs.Slices.{Push, IsLawfulPush, chunks, most_asks, after_all, log_of, logged, plan_of, Exchange}
 use Rattle.upload_push.proofs.AsksLeft.{most_in_try, left_in_try, asks_left}
 use Rattle.upload_wire.specs.declared.client.heard.Heard.{Heard}

@@ -1,23 +1,22 @@
 -- What the last request of a push leaves in the service.
-use Rattle.std.proofs.Common.{◌≡◌, ◌≢◌, ℕ, ◌+◌, ◌≤◌, ◌⊎◌, inl, inr, Bool, true, false, List, [], ◌++◌, length, take, Option, Some, None, refl, arith, ap, subst, sym, ◌∙◌}
-use Rattle.std.specs.Prelude.{IsTrue, IsSome, is_some}
+use Rattle.std.proofs.Common.{◌≡◌, ℕ, inl, inr, true, List, [], ◌++◌, length, Option, Some, None, refl, arith, ap, subst, sym, ◌∙◌}
+use Rattle.std.specs.Prelude.{IsTrue, IsSome}
 use Rattle.std.proofs.lemmas.List.{take_all, append-nil}
 use Rattle.std.specs.FinMap as map
-use Rattle.upload_names.specs.Digest.{Digest, content_digest, HasDigest}
+use Rattle.upload_names.specs.Digest.{Digest, content_digest}
 use Rattle.upload_service.specs.declared.ask.Ask.{Ask}
 use Rattle.upload_service.specs.declared.ask.Ask.TheVariants as asks
-use Rattle.upload_service.specs.declared.ask.Extent.TheVariants.{Absent, Given}
+use Rattle.upload_service.specs.declared.ask.Extent.TheVariants.{Absent}
 use Rattle.upload_service.specs.declared.answer.Answer.{Answer}
 use Rattle.upload_service.specs.declared.answer.Answer.TheVariants as answers
-use Rattle.upload_service.specs.declared.answer.Refusal.TheVariants as refusals
-use Rattle.upload_service.specs.Machine.{same_digest, Session, State, Outcome, Replies, Commits, state_after, size_fault, unless_fault, checked, blob_reply, holds, outcome, Comes, Turn, IsLawful}
+use Rattle.upload_service.specs.Machine.{same_digest, Session, State, Outcome, Replies, Commits, state_after, unless_fault, checked, blob_reply, holds, Comes, Turn, IsLawful}
 use Rattle.upload_wire.specs.Heard.{reply_heard}
 use Rattle.upload_push.specs.Slices.{Push}
 use Rattle.upload_push.specs.Promise.{IsStored, IsThere}
 use Rattle.upload_push.proofs.Cases.{cond_case}
 use Rattle.upload_push.proofs.Tables.{blob-insert_same, contains-insert_same}
-use Rattle.upload_push.proofs.Turns.{None≢Some, size_case, session_case, turn_case}
-use Rattle.upload_push.proofs.Uploads.{IsFront, IsUpload, found_front}
+use Rattle.upload_push.proofs.Turns.{size_case, session_case, turn_case}
+use Rattle.upload_push.proofs.Uploads.{IsUpload, found_front}
 
 some_is : {A : Type 0} (o : Option A) → IsSome o → (x : A) × (o ≡ Some x)
 some_is None e = cc

@@ -1,5 +1,5 @@
 -- What the world's events say of a request.
-use Rattle.std.proofs.Common.{◌≡◌, ℕ, ◌<◌, ◌^◌, List, [], ◌∷◌, ◌++◌, length, Option, Some, None, refl, sym, ◌∙◌, ap, subst}
+use Rattle.std.proofs.Common.{◌≡◌, ℕ, List, [], ◌∷◌, ◌++◌, length, Option, Some, None, sym, ◌∙◌, ap, subst}
 use Rattle.std.specs.Option.{option_to_list}
 use Rattle.std.specs.Vec.Iter.{into_iter_steps, into_iter_len}
 use Rattle.std.specs.declared.vec.IntoIter.{IntoIter}
@@ -8,7 +8,7 @@ use Rattle.std.proofs.lemmas.List.{nil_from_length}
 use Rattle.upload_service.specs.Machine.{State, Turn}
 use Rattle.upload_service.specs.declared.ask.Ask.{Ask}
 use Rattle.upload_service.specs.declared.answer.Answer.{Answer}
-use Rattle.upload_push.specs.World.{World, world_of, Asked, AskedBy, IsDelivered, Meets}
+use Rattle.upload_push.specs.World.{World, world_of, Asked, AskedBy, IsDelivered}
 use Rattle.upload_wire.specs.declared.client.heard.Heard.{Heard}
 use Rattle.upload_push.specs.declared.world.Event.{Event}
 use Rattle.upload_push.specs.declared.world.Event.TheVariants.{Other}

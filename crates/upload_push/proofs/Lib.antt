@@ -10,3 +10,4 @@ pub mod Turns
 pub mod Uploads
 pub mod Ends
 pub mod Worth
+pub mod RuledOut

@@ -1,10 +1,10 @@
 -- Each request is right after what was asked and heard before it.
-use Rattle.std.proofs.Common.{◌≡◌, ℕ, ◌+◌, ◌-◌, ◌<◌, ◌≤◌, min, Bool, true, false, ◌==◌, nat_lt, nat_le, if◌then◌else◌, List, [], ◌∷◌, length, Option, Some, None, refl, arith, ap, subst, sym, ◌∙◌}
-use Rattle.std.proofs.lemmas.Bool.{eqb-true, ne_eqb, ltb-true, ltb-false, leb-true, leb-false}
+use Rattle.std.proofs.Common.{◌≡◌, ℕ, ◌+◌, ◌-◌, ◌<◌, ◌≤◌, true, false, ◌==◌, nat_lt, nat_le, if◌then◌else◌, List, [], ◌∷◌, length, Option, Some, None, refl, arith, subst, sym, ◌∙◌}
+use Rattle.std.proofs.lemmas.Bool.{eqb-true, ne_eqb, ltb-true, ltb-false}
 use Rattle.upload_push.proofs.Cases.{cond_case, cond_case_both, cond_yes, cond_no}
 use Rattle.upload_push.proofs.Count.{all_within}
-use Rattle.upload_push.specs.Steps.{Plan, Stand, IsOver, IsLawfulPlan, IsWithin, turn, turn_at, answered, unheard, retry, send_from, opened, taken, place_of, refused, to_phase, chunk_end, count_to, ask_at}
-use Rattle.upload_push.specs.Slices.{Push, IsLawfulPush, Exchange, after_all, log_of, logged, plan_of, request, heard_offset, heard_place, offset_after, place_after, IsSound, IsSoundAsk, IsNextChunk, EndsWith, IsClose, IsHead}
+use Rattle.upload_push.specs.Steps.{Plan, Stand, IsOver, IsWithin, turn, turn_at, answered, unheard, retry, send_from, opened, taken, place_of, refused, to_phase, chunk_end, count_to, ask_at}
+use Rattle.upload_push.specs.Slices.{Push, IsLawfulPush, Exchange, after_all, log_of, logged, plan_of, request, heard_offset, heard_place, place_after, IsSound, EndsWith, IsClose, IsHead}
 use Rattle.upload_wire.specs.declared.client.heard.Heard.{Heard}
 use Rattle.upload_push.specs.declared.pusher.PushAsk.{PushAsk}
 use Rattle.upload_push.specs.declared.pusher.PushAsk.TheVariants as asks

@@ -1,5 +1,5 @@
 -- The service's tables at the key that was written, and at the others.
-use Rattle.std.proofs.Common.{◌≡◌, ◌≢◌, ℕ, List, true, false, Option, Some, None, refl, sym, ◌∙◌, ap, ◌⊎◌, inl, inr, cond, Bool}
+use Rattle.std.proofs.Common.{◌≡◌, ◌≢◌, ℕ, List, true, false, Some, None, refl, sym, ◌∙◌, ap, ◌⊎◌, inl, inr, cond, Bool}
 use Rattle.std.specs.Prelude.{◌||◌}
 use Rattle.std.specs.Ordering.{nat_cmp, is_eq}
 use Rattle.std.specs.Cmp.{Equal-is, tied_itself, IsTotalOrder}

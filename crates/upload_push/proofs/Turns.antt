@@ -1,5 +1,5 @@
 -- What a turn of the service does, case by case.
-use Rattle.std.proofs.Common.{◌≡◌, ◌≢◌, ℕ, ◌+◌, ◌-◌, ◌<◌, ◌≤◌, ◌^◌, List, [], ◌∷◌, ◌++◌, length, Bool, true, false, Option, Some, None, refl, sym, ◌∙◌, ap, subst, ◌⊎◌, inl, inr, cond, not, arith}
+use Rattle.std.proofs.Common.{◌≡◌, ◌≢◌, ℕ, ◌+◌, ◌-◌, ◌<◌, ◌≤◌, List, [], ◌∷◌, ◌++◌, length, Bool, true, false, Option, Some, None, refl, sym, ◌∙◌, ap, subst, inl, inr, not, arith}
 use Rattle.std.specs.Prelude.{◌||◌, ◌==◌, nat_lt, nat_le}
 use Rattle.std.proofs.lemmas.Bool.{true≢false, leb-false, eqb-true}
 use Rattle.std.specs.FinMap as map
@@ -8,7 +8,6 @@ use Rattle.upload_names.specs.ByteRange.{Span}
 use Rattle.upload_names.specs.Reference.{reference, number_of}
 use Rattle.upload_service.specs.declared.ask.Ask.{Ask}
 use Rattle.upload_service.specs.declared.ask.Ask.TheVariants as asks
-use Rattle.upload_service.specs.declared.ask.Extent.{Extent}
 use Rattle.upload_service.specs.declared.ask.Extent.TheVariants.{Given}
 use Rattle.upload_service.specs.declared.answer.Answer.{Answer}
 use Rattle.upload_service.specs.declared.answer.Answer.TheVariants as answers

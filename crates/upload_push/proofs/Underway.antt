@@ -1,9 +1,9 @@
 -- A push under way over a transport.
-use Rattle.std.proofs.Common.{◌≡◌, ℕ, ◌+◌, ◌*◌, ◌<◌, ◌≤◌, List, [], ◌∷◌, length, Option, Some, None, refl, arith, ap, subst, sym, ◌∙◌}
+use Rattle.std.proofs.Common.{◌≡◌, ℕ, ◌<◌, List, [], ◌∷◌, length, Option, Some, refl, arith, ap, subst, sym, ◌∙◌}
 use Rattle.std.specs.Prelude.{Result}
 use Rattle.upload_push.proofs.Count.{Falls, turn_falls, all_within, lawful_plan, asked}
-use Rattle.upload_push.specs.Steps.{Plan, Stand, PushState, IsLawfulPlan, turn, ask_at, after, IsStepAt, IsStepOf, IsAskWithin}
-use Rattle.upload_push.specs.Slices.{Push, IsLawfulPush, Exchange, after_all, log_of, logged, plan_of, request, request_of, Leads, IsPush, IsEnd}
+use Rattle.upload_push.specs.Steps.{Plan, PushState, turn, ask_at, after, IsStepAt, IsStepOf, IsAskWithin}
+use Rattle.upload_push.specs.Slices.{Push, IsLawfulPush, after_all, log_of, logged, plan_of, request, request_of, Leads, IsPush, IsEnd}
 use Rattle.upload_push.proofs.AsksLeft.{asks_left}
 use Rattle.upload_wire.specs.declared.client.heard.Heard.{Heard}
 use Rattle.upload_service.specs.declared.ask.Ask.{Ask}

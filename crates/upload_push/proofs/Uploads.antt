@@ -1,34 +1,32 @@
 -- The upload of a push in the service: it is open with the first bytes of the file, or it is gone.
-use Rattle.std.proofs.Common.{zero, suc, ◌≡◌, ◌≢◌, ℕ, ◌+◌, ◌-◌, ◌<◌, ◌≤◌, ◌^◌, ◌⊎◌, inl, inr, Bool, true, false, List, [], ◌∷◌, ◌++◌, length, take, drop, Option, Some, None, refl, arith, ap, subst, sym, ◌∙◌, length-append}
-use Rattle.std.specs.Prelude.{slice_range, nat_le, ◌||◌}
-use Rattle.std.proofs.lemmas.List.{take_all, length-take-le}
+use Rattle.std.proofs.Common.{◌≡◌, ℕ, ◌+◌, ◌-◌, ◌≤◌, ◌⊎◌, inl, inr, Bool, false, List, [], ◌++◌, length, take, drop, Option, Some, None, refl, arith, ap, subst, sym, ◌∙◌, length-append}
+use Rattle.std.proofs.lemmas.List.{length-take-le}
 use Rattle.std.proofs.Math.Seq.{take-add}
 use Rattle.std.specs.Prelude.{◌==◌}
 use Rattle.std.proofs.lemmas.Bool.{eqb-true, eqb-false}
 use Rattle.std.specs.FinMap as map
 use Rattle.upload_names.specs.Digest.{Digest, content_digest}
 use Rattle.upload_names.specs.ByteRange.{Span}
-use Rattle.upload_names.specs.Reference.{reference, reference_text, number_of}
+use Rattle.upload_names.specs.Reference.{reference, reference_text}
 use Rattle.upload_service.specs.declared.ask.Ask.{Ask}
 use Rattle.upload_service.specs.declared.ask.Ask.TheVariants as asks
 use Rattle.upload_service.specs.declared.ask.Extent.TheVariants.{Absent, Given}
 use Rattle.upload_service.specs.declared.answer.Answer.{Answer}
 use Rattle.upload_service.specs.declared.answer.Answer.TheVariants as answers
 use Rattle.upload_service.specs.declared.answer.Refusal.TheVariants as refusals
-use Rattle.upload_service.specs.Machine.{same_digest, Session, State, Outcome, Replies, Begins, Takes, Commits, state_after, refused, size_fault, body_fault, unless_fault, checked, last_number, opening, blob_reply, holds, all_awake, swept, Comes, Turn, IsLawful}
+use Rattle.upload_service.specs.Machine.{same_digest, Session, State, Outcome, Replies, Begins, Takes, Commits, state_after, refused, unless_fault, checked, blob_reply, holds, swept, Comes, Turn, IsLawful}
 use Rattle.upload_service.specs.Session.{carries}
-use Rattle.upload_service.specs.Headline.{HeadlineHolds, OthersLeaveIt}
+use Rattle.upload_service.specs.Headline.{OthersLeaveIt}
 use Rattle.upload_wire.specs.Target.{upload_path}
 use Rattle.upload_wire.specs.Heard.{place_in, last_below, reply_heard}
 use Rattle.upload_push.specs.Steps.{count_to}
 use Rattle.upload_push.specs.Slices.{Push, IsNextChunk, place_after, offset_after}
 use Rattle.upload_push.specs.World.{IsSecret}
 use Rattle.upload_push.specs.Promise.{Avoids}
-use Rattle.upload_wire.specs.declared.client.heard.Heard.{Heard}
 use Rattle.upload_push.proofs.Cases.{cond_case}
 use Rattle.upload_push.proofs.Tables.{get-insert_same, get-remove_same}
 use Rattle.upload_push.proofs.References.{IsReference, reference_is}
-use Rattle.upload_push.proofs.Turns.{None≢Some, same_inside, fault_case, size_case, body_case, checked_case, session_case, turn_case, issued_turn, IsGone, gone_turn, opening_case}
+use Rattle.upload_push.proofs.Turns.{None≢Some, same_inside, size_case, body_case, session_case, turn_case, issued_turn, IsGone, gone_turn, opening_case}
 
 -- an open session of a push, up to an offset at least
 pub record IsFront (file : List ℕ) (offset : ℕ) (at : List ℕ) (session : Session) : Type 0 where

@@ -1,5 +1,5 @@
 -- The way of a push through a lossy world, and what its end is worth.
-use Rattle.std.proofs.Common.{◌≡◌, ℕ, ◌⊎◌, inl, inr, Bool, true, List, [], ◌∷◌, length, Option, Some, None, refl, ap, subst, sym, ◌∙◌}
+use Rattle.std.proofs.Common.{◌≡◌, ℕ, ◌⊎◌, inl, inr, Bool, List, [], ◌∷◌, Option, Some, None, refl, ap, subst, sym, ◌∙◌}
 use Rattle.std.specs.Prelude.{Result, Ok, IsTrue}
 use Rattle.upload_names.specs.Digest.{Digest}
 use Rattle.upload_service.specs.declared.ask.Ask.{Ask}
@@ -10,9 +10,9 @@ use Rattle.upload_service.specs.declared.answer.Answer.{Answer}
 use Rattle.upload_service.specs.Machine.{State, Turn, IsLawful, holds}
 use Rattle.upload_service.specs.Headline.{HeadlineHolds, OthersLeaveIt}
 use Rattle.upload_wire.specs.Heard.{reply_heard}
-use Rattle.upload_push.specs.Slices.{Push, IsLawfulPush, Exchange, after_all, log_of, heard_offset, heard_place, offset_after, place_after, IsSound, IsSoundAsk, IsWholeClose, EndsWith, IsClose, IsHead, HeardStatus, Leads, IsEnd, IsPush}
+use Rattle.upload_push.specs.Slices.{Push, IsLawfulPush, Exchange, after_all, log_of, heard_offset, heard_place, offset_after, place_after, IsSound, IsSoundAsk, EndsWith, IsClose, IsHead, HeardStatus, Leads, IsEnd, IsPush}
 use Rattle.upload_push.specs.World.{World, world_with, world_later, Reaches, AskedBy, Asked, IsSecret, IsLawfulWorld}
-use Rattle.upload_push.specs.Promise.{others_in_front, events_left, events_after, AvoidAll, IsQuiet, IsStored, IsThere, IsWorth}
+use Rattle.upload_push.specs.Promise.{others_in_front, events_left, events_after, AvoidAll, IsQuiet, IsStored, IsWorth}
 use Rattle.upload_wire.specs.declared.client.heard.Heard.{Heard}
 use Rattle.upload_push.specs.declared.world.Event.{Event}
 use Rattle.upload_push.specs.declared.world.Event.TheVariants.{Delivered, ReplyLost, NotDelivered, Other, Passes}

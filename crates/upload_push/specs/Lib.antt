@@ -3,3 +3,4 @@ pub mod Slices
 pub mod World
 pub mod Codes
 pub mod Promise
+pub mod RuledOut

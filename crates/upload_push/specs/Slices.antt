@@ -1,5 +1,5 @@
 -- Whole pushes: the list of what was asked and heard, the newest first, and what is true of each such list.
-use Rattle.std.specs.Prelude.{Result, Ok, Err, ◌≡◌, ℕ, ◌+◌, ◌-◌, ◌*◌, ◌/◌, ◌^◌, ◌<◌, ◌≤◌, Bool, true, ◌==◌, if◌then◌else◌, List, [], ◌∷◌, length, slice_range, Option, Some, None}
+use Rattle.std.specs.Prelude.{Result, Ok, Err, ◌≡◌, ℕ, ◌+◌, ◌-◌, ◌*◌, ◌/◌, ◌^◌, ◌<◌, ◌≤◌, true, ◌==◌, if◌then◌else◌, List, [], ◌∷◌, length, slice_range, Option, Some, None}
 use Rattle.upload_names.specs.Digest.{Digest, content_digest}
 use Rattle.upload_names.specs.ByteRange.{Span}
 use Rattle.upload_names.specs.declared.digest.Algorithm.{Algorithm}

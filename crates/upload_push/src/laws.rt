@@ -1,7 +1,8 @@
-// What is true of every push.
+//! What is true of every push, as laws: functions that do nothing and whose contracts are the laws.
 ghost use Rattle.std.specs.Prelude.{◌≡◌, ◌≤◌, List, Option, length};
 ghost use Rattle.upload_wire.specs.declared.client.heard.Heard.{Heard};
 ghost use Rattle.upload_push.specs.Promise.{PushPromise};
+ghost use Rattle.upload_push.specs.RuledOut.{PushesRuleOut};
 ghost use Rattle.upload_push.specs.Steps.{Plan, Stand, turn, IsOver};
 ghost use Rattle.upload_push.specs.Slices.{Push, IsLawfulPush, IsSound, IsClose, IsHead, EndsWith, after_all, log_of, most_asks};
 
@@ -31,3 +32,9 @@ pub fn push_promise()
     others_leave_a_session();
     written_places_are_read();
 }
+
+/// What the soundness of a push and its promise rule out, from their claims alone: that a push closes right behind a chunk
+/// of which nothing was heard, and that the file which a push left exactly has a chunk twice or lacks one.
+pub fn pushes_rule_out()
+    ensures { PushesRuleOut }
+{}

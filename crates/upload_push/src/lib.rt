@@ -11,12 +11,10 @@ mod over_wire;
 mod pusher;
 mod pushing;
 #[cfg(test)]
-mod random_worlds;
-#[cfg(test)]
 mod tests;
 mod world;
 
-pub use laws::{every_push, push_promise};
+pub use laws::{every_push, push_promise, pushes_rule_out};
 pub use pusher::{Outcome, PushAsk, PushStep, Pusher, Why};
 pub use pushing::{PushFault, push, push_with};
 pub use world::{Event, LossyWorld};

@@ -1,4 +1,4 @@
-// The steps of a push, by the table in `specs/Steps.antt`.
+//! The steps of a push, by the table in `specs/Steps.antt`: what is asked next, and where what was heard leads.
 ghost use Rattle.std.specs.Prelude.{IfOk, ◌≡◌, ◌≤◌, ◌<◌, ◌^◌, ◌==◌, if◌then◌else◌};
 ghost use Rattle.upload_push.specs.Steps.{after, IsWithin, IsStepOf, IsStepWithin, turn, retry, unheard, answered, chunk_answered, close_answered, refused, place_of, send_from, count_to, to_phase};
 
@@ -62,8 +62,11 @@ pub enum PushAsk {
 /// What a pusher does next.
 #[derive(Drop)]
 pub enum PushStep<'a> {
+    /// It asks this, and wants to be told what was heard.
     Ask(PushAsk),
+    /// The push ended well.
     Done(Outcome),
+    /// The push was given up.
     GaveUp(&'a Why),
 }
 
@@ -78,7 +81,9 @@ pub(crate) enum Phase {
     Asking { at: UploadRef },
     /// The upload is gone: whether the blob is there is to be asked.
     Looking,
+    /// The push ended well.
     Done(Outcome),
+    /// The push was given up.
     GaveUp(Why),
 }
 
@@ -173,7 +178,7 @@ impl Pusher {
         }
     }
 
-    // A try is taken.
+    /// Takes a try and goes on to a phase; with none left the push is given up.
     fn retry(&mut self, phase: Phase)
         requires { IsWithin self.old.plan.size phase }
         ensures { self.new ≡ after self.old (retry self.old.stand phase) }
@@ -186,6 +191,7 @@ impl Pusher {
         }
     }
 
+    /// Takes a try where nothing was heard: what became of a chunk or of a close is asked first.
     fn unheard(&mut self)
         ensures { self.new ≡ after self.old (unheard self.old.stand self.old.stand.phase) }
     {
@@ -204,6 +210,7 @@ impl Pusher {
         }
     }
 
+    /// Takes a reply other than 503.
     fn answered(&mut self, reply: Heard)
         ensures { self.new ≡ after self.old (answered self.old.plan self.old.stand self.old.stand.phase reply) }
     {
@@ -227,13 +234,14 @@ impl Pusher {
         }
     }
 
+    /// Gives up at a reply that leads no further.
     fn refuse(&mut self, reply: Heard)
         ensures { self.new ≡ after self.old (to_phase self.old.stand (refused reply)) }
     {
         self.phase = Phase::GaveUp(Why::Refused(reply.status, reply.code));
     }
 
-    // The upload that a reply names, if it is one under this push's name.
+    /// The upload that a reply names, if it is one under this push's name.
     fn place_of(&self, reply: &Heard) -> Option<UploadRef>
         ensures { result ≡ place_of self.now.plan.name reply.now }
     {
@@ -243,6 +251,7 @@ impl Pusher {
         }
     }
 
+    /// Takes a reply to the opening.
     fn opening_answered(&mut self, reply: Heard)
         ensures { self.new ≡ after self.old (answered self.old.plan self.old.stand Phase.Opening reply) }
     {
@@ -256,7 +265,8 @@ impl Pusher {
         }
     }
 
-    // Sending from what the server has.
+    /// Sending from what the server has: behind the last position, or from the start where there is none. A position beyond
+    /// the file is given up.
     fn send_from(&self, at: UploadRef, upto: Option<u64>) -> Phase
         ensures value { result ≡ send_from self.now.plan at (count_to upto) }
         ensures within { IsWithin self.now.plan.size result }
@@ -276,6 +286,7 @@ impl Pusher {
         }
     }
 
+    /// Takes a reply to the chunk from an offset on.
     fn chunk_answered(&mut self, at: UploadRef, offset: u64, reply: Heard)
         requires { offset < self.old.plan.size }
         ensures { self.new ≡ after self.old (chunk_answered self.old.plan self.old.stand at offset reply) }
@@ -300,6 +311,7 @@ impl Pusher {
         }
     }
 
+    /// Takes a reply to the close.
     fn close_answered(&mut self, reply: Heard)
         ensures { self.new ≡ after self.old (close_answered self.old.stand reply) }
     {
@@ -310,6 +322,7 @@ impl Pusher {
         }
     }
 
+    /// Takes a reply to how much has arrived.
     fn status_answered(&mut self, at: UploadRef, reply: Heard)
         ensures { self.new ≡ after self.old (answered self.old.plan self.old.stand (Phase.Asking at) reply) }
     {
@@ -322,6 +335,7 @@ impl Pusher {
         }
     }
 
+    /// Takes a reply to whether the blob is there.
     fn head_answered(&mut self, reply: Heard)
         ensures { self.new ≡ after self.old (answered self.old.plan self.old.stand Phase.Looking reply) }
     {

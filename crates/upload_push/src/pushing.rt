@@ -1,4 +1,4 @@
-// A push over any transport.
+//! A push over any transport: a pusher's asks, with the bytes of the file.
 ghost use Rattle.std.specs.Prelude.{◌≡◌, ◌≤◌, ◌^◌, IfOk, length};
 ghost use Rattle.upload_names.specs.declared.digest.Algorithm.{Algorithm};
 ghost use Rattle.upload_wire.specs.AskText.{CanBeWritten};
@@ -14,13 +14,13 @@ use upload_wire::Transport;
 /// Why a push has no outcome.
 #[derive(Drop)]
 pub enum PushFault {
-    /// The push was given up; what it had sent stays where it is.
+    /// The push was given up, for this reason; what it had sent stays where it is.
     GaveUp(Why),
     /// A growth was refused; what was asked before it stays done.
     NoMemory,
 }
 
-/// Pushes a file under its sha256 digest: `push_with` of that algorithm.
+/// Pushes a file under its sha256 digest: `push_with` of that algorithm, with its errors.
 pub fn push<T: Transport>(
     alloc: Global,
     transport: &mut T,
@@ -86,7 +86,8 @@ pub fn push_with<T: Transport>(
     }
 }
 
-// What a pusher asks, with the name, the digest and the bytes of the file.
+/// What a pusher asks, with the name, the digest and the bytes of the file. An error is want of memory for the name or
+/// for the bytes of a chunk.
 fn request(
     alloc: Global,
     name: &RepoName,

@@ -1,9 +1,12 @@
-// Pushes over worlds that lose requests and replies, beside other clients and in passing time.
+//! Pushes over worlds that lose requests and replies, beside other clients and in passing time.
 ghost use Rattle.std.specs.Prelude.{◌≡◌, ◌≤◌, length};
 ghost use Rattle.upload_names.specs.declared.digest.Algorithm.{Algorithm};
 ghost use Rattle.upload_push.specs.Promise.{IsThere};
 ghost use Rattle.upload_push.specs.Slices.{push_of};
 ghost use Rattle.upload_push.specs.World.{IsLawfulWorld};
+
+mod growths;
+mod random_worlds;
 
 use crate::{
     Event, LossyWorld, Outcome, PushAsk, PushFault, PushStep, Pusher, Why, push, push_promise,
@@ -18,7 +21,7 @@ use upload_wire::{Heard, Transport};
 
 /// What a push asked.
 #[derive(Clone, Copy, Debug, PartialEq, Eq)]
-pub(crate) enum Asked {
+enum Asked {
     Opening,
     Chunk(u64, u64),
     Status,
@@ -43,7 +46,7 @@ fn kind_of(ask: &Ask) -> Asked {
 
 /// How a push ended.
 #[derive(Clone, Copy, Debug, PartialEq, Eq)]
-pub(crate) enum End {
+enum End {
     Pushed,
     Already,
     Refused(u16),
@@ -52,7 +55,7 @@ pub(crate) enum End {
     NoMemory,
 }
 
-pub(crate) fn end_of(end: &Result<Outcome, PushFault>) -> End {
+fn end_of(end: &Result<Outcome, PushFault>) -> End {
     match end {
         Ok(Outcome::Pushed) => End::Pushed,
         Ok(Outcome::Already) => End::Already,
@@ -65,9 +68,9 @@ pub(crate) fn end_of(end: &Result<Outcome, PushFault>) -> End {
 
 /// A world that keeps what it was asked.
 #[derive(Drop)]
-pub(crate) struct Recorder {
-    pub(crate) world: LossyWorld,
-    pub(crate) asked: Vec<Asked>,
+struct Recorder {
+    world: LossyWorld,
+    asked: Vec<Asked>,
 }
 
 impl Transport for Recorder {
@@ -81,7 +84,7 @@ impl Transport for Recorder {
     }
 }
 
-pub(crate) fn name(alloc: Global) -> Result<RepoName, Fail> {
+fn name(alloc: Global) -> Result<RepoName, Fail> {
     Ok(RepoName::read(alloc, b"lib/a")?)
 }
 
@@ -92,7 +95,7 @@ const LIMITS: Limits = Limits {
     max_idle: 3_600,
 };
 
-pub(crate) fn new_world(alloc: Global, events: Vec<Event>) -> Recorder {
+fn new_world(alloc: Global, events: Vec<Event>) -> Recorder {
     let service = Service::new(alloc, LIMITS);
     Recorder {
         world: LossyWorld::new(alloc, service, [0; 12], 0, events),
@@ -114,12 +117,12 @@ fn events(alloc: Global, script: &[u8]) -> Result<Vec<Event>, AllocError> {
     Ok(events)
 }
 
-pub(crate) fn session(number: u32) -> UploadRef {
+fn session(number: u32) -> UploadRef {
     UploadRef::make(number, [0; 12])
 }
 
 /// A chunk of one byte for a session.
-pub(crate) fn chunk_of_one(alloc: Global, number: u32, at: u64, byte: u8) -> Result<Ask, Fail>
+fn chunk_of_one(alloc: Global, number: u32, at: u64, byte: u8) -> Result<Ask, Fail>
     requires { at ≤ 100 }
 {
     Ok(Ask::Chunk {
@@ -134,11 +137,7 @@ pub(crate) fn chunk_of_one(alloc: Global, number: u32, at: u64, byte: u8) -> Res
 }
 
 /// The bytes that the repository has under a digest, if it has it.
-pub(crate) fn held(
-    alloc: Global,
-    service: &mut Service,
-    digest: BlobDigest,
-) -> Result<Option<Vec<u8>>, Fail> {
+fn held(alloc: Global, service: &mut Service, digest: BlobDigest) -> Result<Option<Vec<u8>>, Fail> {
     let ask = Ask::Has {
         name: name(alloc)?,
         digest,
@@ -243,6 +242,14 @@ fn a_session_that_fell_idle_is_no_way_to_pushed(rt: HostRuntime) -> Result<(), F
     Ok(())
 }
 
+/// The error code with which a push was refused.
+fn code_of(end: &Result<Outcome, PushFault>) -> Option<&[u8]> {
+    match end {
+        Err(PushFault::GaveUp(Why::Refused(_, Some(code)))) => Some(code.as_slice()),
+        _ => None,
+    }
+}
+
 /// A push whose opening is followed by another client's byte in its session.
 fn beside_another(
     rt: &impl Abort,
@@ -250,12 +257,14 @@ fn beside_another(
     byte: u8,
     asked: &[Asked],
     end: End,
+    code: Option<&[u8]>,
 ) -> Result<(), Fail> {
     let mut events = events(alloc, b"d")?;
     events.push(Event::Other(chunk_of_one(alloc, 1, 0, byte)?))?;
     let mut over = new_world(alloc, events);
     let result = push(alloc, &mut over, b"abcde", &name(alloc)?, 2, 5);
     assert_eq!(rt; end_of(&result), end);
+    assert!(rt; code_of(&result) == code);
     assert_eq!(rt; over.asked.as_slice(), asked);
     Ok(())
 }
@@ -264,9 +273,9 @@ fn beside_another(
 fn other_clients(rt: HostRuntime) -> Result<(), Fail> {
     use Asked::{Chunk, Close, Opening};
     let asked = [Opening, Chunk(0, 1), Chunk(1, 2), Chunk(3, 4), Close];
-    beside_another(&rt, rt.alloc(), b'z', &asked, End::Refused(400))?;
-    beside_another(&rt, rt.alloc(), b'a', &asked, End::Pushed)?;
-    Ok(())
+    let code = Some(b"DIGEST_INVALID".as_slice());
+    beside_another(&rt, rt.alloc(), b'z', &asked, End::Refused(400), code)?;
+    beside_another(&rt, rt.alloc(), b'a', &asked, End::Pushed, None)
 }
 
 #[test]

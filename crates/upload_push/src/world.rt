@@ -1,4 +1,5 @@
-// A service behind a network that loses requests and replies, beside other clients.
+//! A service behind a network that loses requests and replies, beside other clients: the world in which the promise of a
+//! push is stated.
 ghost use Rattle.std.specs.Prelude.{◌≡◌};
 ghost use Rattle.std.specs.Prelude.{Option, length};
 ghost use Rattle.upload_service.specs.declared.ask.Ask.{Ask};
@@ -28,7 +29,7 @@ pub enum Event {
     Passes(u64),
 }
 
-// What becomes of one request.
+/// What becomes of one request.
 #[derive(Clone, Copy, Debug, PartialEq, Eq)]
 enum Fate {
     Delivered,
@@ -59,14 +60,14 @@ impl Model for LossyWorld {
     ghost view = { λ w. record { service = w.service; secret = w.secret; now = w.now; events = into_iter_items w.events } };
 }
 
-// A request whose answer nobody hears.
+/// Serves a request whose answer nobody hears.
 fn serve(service: &mut Service, ask: Ask, secret: [u8; 12], now: u64)
     ensures { (answer : Answer) × Turn service.old ask secret now answer service.new }
 {
     let _ = service.step(ask, secret, now);
 }
 
-// A request, and its reply where there is memory for it.
+/// Serves a request, and hears its reply where there is memory for it.
 fn reply(
     alloc: Global,
     service: &mut Service,
@@ -80,7 +81,7 @@ fn reply(
     heard_of(alloc, &answer).ok()
 }
 
-// Nothing is done: the clause is what the type says.
+/// Does nothing: its clause is what the type says.
 fn is_secret(secret: &[u8])
     requires { length secret.now ≡ 12 }
     ensures { IsSecret secret.now }
@@ -118,7 +119,7 @@ impl LossyWorld {
         self.service
     }
 
-    // Takes what stands in front of the next request, and then what becomes of that.
+    /// Takes what stands in front of the next request, and then what becomes of that.
     fn next_fate(&mut self) -> Fate
         ensures { (ask : Ask) (heard : Option Heard) (new : World) → Meets result self.new ask heard new → Asked self.old ask heard new }
     {

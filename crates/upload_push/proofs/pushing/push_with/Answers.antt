@@ -1,4 +1,3 @@
-use Rattle.std.proofs.Common.{◌≡◌, refl, sym, ap}
 use Rattle.upload_push.proofs.Underway.{started, moved, fewer, ended, sent, within_file, step_says}
 use Rattle.upload_push.specs.Slices.{push_of, IsLawfulPush}
 use Rattle.upload_push.proofs.pushing.push_with.Goals as goal

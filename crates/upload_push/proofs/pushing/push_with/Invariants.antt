@@ -1,4 +1,3 @@
-use Rattle.std.proofs.Common.{◌≡◌, ℕ}
 use Rattle.upload_push.specs.Slices.{push_of}
 use Rattle.upload_push.proofs.AsksLeft.{asks_left}
 use Rattle.upload_push.proofs.Underway.{IsUnderway}

@@ -1,4 +1,4 @@
-use Rattle.std.proofs.Common.{◌≤◌, ◌^◌, arith}
+use Rattle.std.proofs.Common.{arith}
 use Rattle.upload_names.specs.declared.digest.Algorithm.TheVariants.{Sha256}
 use Rattle.upload_push.specs.Slices.{IsLawfulPush, push_of}
 use Rattle.upload_push.proofs.tests.push_and_know.Goals as goal

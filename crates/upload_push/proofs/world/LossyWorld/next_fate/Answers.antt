@@ -1,4 +1,4 @@
-use Rattle.std.proofs.Common.{◌≡◌, ℕ, sym, ◌∙◌, ap, Some}
+use Rattle.std.proofs.Common.{◌≡◌, sym, ◌∙◌, ap, Some}
 use Rattle.upload_push.specs.declared.world.Event.{Event}
 use Rattle.std.specs.Prelude.{length}
 use Rattle.upload_push.proofs.Events.{nothing_left, first_left, all_left, other_in_front, nothing_in_front}

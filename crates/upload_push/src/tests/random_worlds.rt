@@ -1,7 +1,7 @@
-// Pushes over lists of events that a seeded generator makes.
+//! Pushes over lists of events that a seeded generator makes.
 ghost use Rattle.std.specs.Prelude.{◌<◌};
 
-use crate::tests::{End, chunk_of_one, end_of, held, name, new_world, session};
+use super::{End, chunk_of_one, end_of, held, name, new_world, session};
 use crate::{Event, push};
 use std::alloc::Global;
 use std::process::Abort;
