@@ -1,5 +1,8 @@
 //! `blobd push`: a file goes up, over connections that are made anew after a fault.
-ghost use Rattle.std.specs.Prelude.{length, ◌≤◌, ◌^◌};
+ghost use Rattle.std.specs.Prelude.{length, ◌≡◌, ◌≤◌, ◌^◌};
+ghost use Rattle.std.specs.List.{list_all};
+ghost use Rattle.std.specs.Char.{is_ascii_graphic};
+ghost use Rattle.upload_wire.specs.AskText.{is_host};
 ghost use Rattle.blobd.specs.Status.{IsPushStatus, IsStatusOr};
 
 use crate::sockets::{Reader, Writer, split};
@@ -14,6 +17,20 @@ use upload_wire::{Heard, Transport, WireTransport};
 
 /// How often a push may go on after a request whose reply wasn't heard.
 const TRIES: u32 = 5;
+
+fn are_visible(text: &[u8]) -> bool
+    ensures { result ≡ list_all is_ascii_graphic text.now }
+{
+    text.iter().all(u8::is_ascii_graphic)
+}
+
+/// Whether a text may stand as a Host: at least one byte, all of them visible ASCII. The text of an address is one, which
+/// std's contract doesn't say.
+fn is_host(text: &[u8]) -> bool
+    ensures { result ≡ is_host text.now }
+{
+    !text.is_empty() && are_visible(text)
+}
 
 /// The asks of one push, over a connection to its server. After a fault the connection is closed, and the next ask
 /// makes another.
@@ -31,6 +48,9 @@ struct Dialer<'r, R> {
 impl<'r, R: Net<Stream = TcpStream>> Dialer<'r, R> {
     /// A new connection, or `None` where it can't be made, for want of memory too.
     fn dial(&self) -> Option<WireTransport<Reader, Writer>> {
+        if !is_host(self.host.as_bytes()) {
+            return None;
+        }
         let stream = TcpStream::connect(self.rt, self.addr).ok()?;
         let (reader, writer) = split(&stream).ok()?;
         WireTransport::new(self.alloc, reader, writer, self.host.as_bytes()).ok()
@@ -61,7 +81,7 @@ impl<'r, R: Net<Stream = TcpStream>> Transport for Dialer<'r, R> {
 /// write more lines than one.
 fn printable(code: &Option<Bytes>) -> &str {
     match code {
-        Some(code) if code.as_slice().iter().all(u8::is_ascii_graphic) => {
+        Some(code) if are_visible(code.as_slice()) => {
             str::from_utf8(code.as_slice()).unwrap_or("-")
         }
         _ => "-",

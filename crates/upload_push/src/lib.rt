@@ -6,8 +6,6 @@
 #![tactic(auto)]
 
 mod laws;
-#[cfg(test)]
-mod over_wire;
 mod pusher;
 mod pushing;
 #[cfg(test)]

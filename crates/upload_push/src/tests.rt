@@ -6,6 +6,7 @@ ghost use Rattle.upload_push.specs.Slices.{push_of};
 ghost use Rattle.upload_push.specs.World.{IsLawfulWorld};
 
 mod growths;
+mod over_wire;
 mod random_worlds;
 
 use crate::{

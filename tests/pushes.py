@@ -1,0 +1,212 @@
+#!/usr/bin/env python3
+"""Pushes files with the built program to its own server, over loopback and through a proxy that cuts connections.
+
+    pushes.py PROGRAM
+
+Prints a line for each check that fails, and 'N passed, M failed' as the last.
+"""
+import concurrent.futures
+import os
+import random
+import socket
+import sys
+import tempfile
+import threading
+
+import program
+from program import MIB, RESULTS, Server, check, pull, run, sha256
+
+CUT_PUSHES = 50
+
+
+def written(folder, content):
+    path = os.path.join(folder, sha256(content).replace(":", "-"))
+    with open(path, "wb") as file:
+        file.write(content)
+    return path
+
+
+def push(addr, name, path, chunk):
+    return run("push", addr, name, path, str(chunk))
+
+
+def pushed(content):
+    return f"pushed {sha256(content)}\n", 0, ""
+
+
+def already(content):
+    return f"already {sha256(content)}\n", 0, ""
+
+
+def two_pushes_at_once(folder):
+    contents = [random.Random(seed).randbytes(64 * MIB) for seed in (1, 2)]
+    paths = [written(folder, content) for content in contents]
+    with Server(100) as server, concurrent.futures.ThreadPoolExecutor(2) as pool:
+        pushes = [pool.submit(push, server.addr, f"lib/{which}", paths[which], MIB) for which in (0, 1)]
+        for which, ended in enumerate(pushes):
+            check(f"push {which} of two at once", ended.result() == pushed(contents[which]), ended.result())
+        for which, content in enumerate(contents):
+            check(f"pull {which} of two", pull(server, f"lib/{which}", sha256(content)) == content)
+            check(f"a repository without blob {which}", pull(server, f"lib/{1 - which}", sha256(content)) == 404)
+
+
+def pushes_and_their_lines(folder):
+    abc = written(folder, b"abc")
+    with Server(100) as server:
+        check("one chunk", push(server.addr, "lib/a", abc, 2147483648) == pushed(b"abc"))
+        check("the same digest by another client", push(server.addr, "lib/b", abc, 1) == pushed(b"abc"))
+        check("the same again", push(server.addr, "lib/a", abc, 2) == pushed(b"abc"))
+        for name in ("lib/a", "lib/b"):
+            check(f"pull of {name}", pull(server, name, sha256(b"abc")) == b"abc")
+        nothing = written(folder, b"")
+        check("an empty file", push(server.addr, "lib/a", nothing, 2) == pushed(b""))
+        check("a name that isn't one", push(server.addr, "A", abc, 2) == ("refused: name\n", 1, ""))
+        missing = abc + "-that-is-not-there"
+        check("a missing file", push(server.addr, "lib/a", missing, 2) == ("fault: file\n", 3, ""))
+        check("a missing file goes before the name", push(server.addr, "A", missing, 2) == ("fault: file\n", 3, ""))
+        check("a folder in place of a file", push(server.addr, "lib/a", folder, 2) == ("fault: file\n", 3, ""))
+        addr = server.addr
+        server.end()
+    check("a server that isn't there", push(addr, "lib/a", abc, 2) == ("refused: out of tries\n", 1, ""))
+
+
+class Answering:
+    """A server of one connection after the other that answers each with the same bytes."""
+
+    def __init__(self, reply):
+        self.listener = socket.create_server(("127.0.0.1", 0))
+        self.addr = "127.0.0.1:%d" % self.listener.getsockname()[1]
+        self.reply = reply
+        threading.Thread(target=self.serve, daemon=True).start()
+
+    def serve(self):
+        while True:
+            try:
+                client, _ = self.listener.accept()
+                with client:
+                    client.recv(65536)
+                    client.sendall(self.reply)
+                    client.shutdown(socket.SHUT_WR)
+                    while client.recv(65536):
+                        pass
+            except OSError:
+                return
+
+    def close(self):
+        self.listener.close()
+
+
+def strange_servers(folder):
+    abc = written(folder, b"abc")
+    coded = b'{"errors":[{"code":"DENIED"}]}'
+    lines = b'{"errors":[{"code":"A\\nB"}]}'
+    table = [
+        ("a refusal with a code", b"HTTP/1.1 403 Forbidden\r\nContent-Length: %d\r\n\r\n" % len(coded) + coded, "refused: 403 DENIED\n"),
+        ("a refusal without a code", b"HTTP/1.1 403 Forbidden\r\nContent-Length: 0\r\n\r\n", "refused: 403 -\n"),
+        ("a code of two lines", b"HTTP/1.1 403 Forbidden\r\nContent-Length: %d\r\n\r\n" % len(lines) + lines, "refused: 403 -\n"),
+        ("a 202 without a place", b"HTTP/1.1 202 Accepted\r\nContent-Length: 0\r\n\r\n", "refused: bad server\n"),
+        ("no HTTP", b"SSH-2.0-none\r\n", "refused: out of tries\n"),
+    ]
+    for name, reply, line in table:
+        server = Answering(reply)
+        ended = push(server.addr, "lib/a", abc, 2)
+        server.close()
+        check(name, ended == (line, 1, ""), ended)
+
+
+class Proxy:
+    """Forwards connections to a server and cuts each where `judge`, of its number, says: after so many bytes from the client, or
+    from the server, or before the first reply that has a text."""
+
+    def __init__(self, addr, judge):
+        self.server, self.judge = addr, judge
+        self.listener = socket.create_server(("127.0.0.1", 0))
+        self.addr = "127.0.0.1:%d" % self.listener.getsockname()[1]
+        threading.Thread(target=self.serve, daemon=True).start()
+
+    def close(self):
+        self.listener.close()
+
+    def serve(self):
+        number = 0
+        while True:
+            try:
+                client, _ = self.listener.accept()
+            except OSError:
+                return
+            host, port = self.server.rsplit(":", 1)
+            server = socket.create_connection((host, int(port)))
+            upward, downward, text = self.judge(number)
+            number += 1
+            threading.Thread(target=self.forward, args=(client, server, upward, b""), daemon=True).start()
+            threading.Thread(target=self.forward, args=(server, client, downward, text), daemon=True).start()
+
+    @staticmethod
+    def forward(source, sink, left, text):
+        try:
+            while left > 0 and (data := source.recv(min(65536, left))) and not (text and text in data):
+                sink.sendall(data)
+                left -= len(data)
+        except OSError:
+            pass
+        for end in (source, sink):
+            try:
+                end.shutdown(socket.SHUT_RDWR)
+            except OSError:
+                pass
+
+
+EVERYTHING = 1 << 62
+
+
+def a_lost_reply_to_the_close(folder):
+    content = random.Random(5).randbytes(5000)
+    path = written(folder, content)
+    with Server(100) as server:
+        proxy = Proxy(server.addr, lambda number: (EVERYTHING, EVERYTHING, b" 201 " if number == 0 else b""))
+        ended = push(proxy.addr, "lib/a", path, 1000)
+        proxy.close()
+        check("a push whose close was answered unheard", ended == already(content), ended)
+        check("what it left", pull(server, "lib/a", sha256(content)) == content)
+
+
+def pushes_over_cut_connections(folder):
+    counts = {"pushed": 0, "already": 0, "refused": 0}
+    with Server(1000) as server:
+        for seed in range(CUT_PUSHES):
+            chance = random.Random(seed)
+            content = chance.randbytes(20_000 + seed)
+
+            def judge(_, chance=chance):
+                cut = chance.random() < 0.6
+                return (chance.randrange(1, 30_000), chance.randrange(1, 2_000), b"") if cut else (EVERYTHING, EVERYTHING, b"")
+
+            proxy = Proxy(server.addr, judge)
+            line, status, _ = push(proxy.addr, "lib/a", written(folder, content), 1500)
+            proxy.close()
+            got = pull(server, "lib/a", sha256(content))
+            word = line.split(":")[0].split(" ")[0]
+            counts[word] = counts.get(word, 0) + 1
+            if status == 0:
+                check(f"what cut push {seed} says", line in (pushed(content)[0], already(content)[0]), line)
+                check(f"what cut push {seed} left", got == content, "other bytes")
+            else:
+                check(f"what cut push {seed} says", (line, status) == ("refused: out of tries\n", 1), (line, status))
+                check(f"what cut push {seed} left", got in (404, content), "other bytes")
+    check("pushes got through the proxy, and some were given up", counts["pushed"] > 5 and counts["refused"] > 0, counts)
+
+
+def main():
+    program.PROGRAM = os.path.abspath(sys.argv[1])
+    with tempfile.TemporaryDirectory() as folder:
+        pushes_and_their_lines(folder)
+        strange_servers(folder)
+        a_lost_reply_to_the_close(folder)
+        two_pushes_at_once(folder)
+        pushes_over_cut_connections(folder)
+    print(f"{RESULTS['passed']} passed, {RESULTS['failed']} failed")
+    return 1 if RESULTS["failed"] else 0
+
+
+if __name__ == "__main__":
+    sys.exit(main())
