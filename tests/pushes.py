@@ -176,10 +176,11 @@ def pushes_over_cut_connections(folder):
         for seed in range(CUT_PUSHES):
             chance = random.Random(seed)
             content = chance.randbytes(20_000 + seed)
+            often = 0.6 if seed % 2 else 1.0
 
-            def judge(_, chance=chance):
-                cut = chance.random() < 0.6
-                return (chance.randrange(1, 30_000), chance.randrange(1, 2_000), b"") if cut else (EVERYTHING, EVERYTHING, b"")
+            def judge(_, chance=chance, often=often):
+                cut = chance.random() < often
+                return (chance.randrange(1, 12_000), chance.randrange(1, 2_000), b"") if cut else (EVERYTHING, EVERYTHING, b"")
 
             proxy = Proxy(server.addr, judge)
             line, status, _ = push(proxy.addr, "lib/a", written(folder, content), 1500)
