@@ -11,3 +11,4 @@ pub mod Uploads
 pub mod Ends
 pub mod Worth
 pub mod RuledOut
+pub mod Quiet

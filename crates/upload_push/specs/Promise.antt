@@ -47,6 +47,16 @@ abbrev pub IsQuiet : List ℕ → List Event → List Exchange → Type 0
 IsQuiet name events [] = Unit {0}
 IsQuiet name events (e ∷ log) = AvoidAll (heard_place name log) (others_in_front (events_after events log)) × IsQuiet name events log
 
+-- no event is another client's request
+abbrev pub AreOwn : List Event → Type 0
+AreOwn [] = Unit {0}
+AreOwn (Other ask ∷ events) = ⊥
+AreOwn (event ∷ events) = AreOwn events
+
+-- where there is no other client, the premise holds
+abbrev pub AloneIsQuiet : Type 0
+AloneIsQuiet = (name : List ℕ) (events : List Event) (log : List Exchange) → AreOwn events → IsQuiet name events log
+
 -- exactly the file stands under the digest, and the repository has it
 pub record IsStored (p : Push) (s : State) : Type 0 where
   pub bytes : map.get s.blobs p.digest ≡ Some p.file

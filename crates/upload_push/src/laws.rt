@@ -1,7 +1,7 @@
 //! What is true of every push, as laws: functions that do nothing and whose contracts are the laws.
 ghost use Rattle.std.specs.Prelude.{◌≡◌, ◌≤◌, List, Option, length};
 ghost use Rattle.upload_wire.specs.declared.client.heard.Heard.{Heard};
-ghost use Rattle.upload_push.specs.Promise.{PushPromise};
+ghost use Rattle.upload_push.specs.Promise.{PushPromise, AloneIsQuiet};
 ghost use Rattle.upload_push.specs.RuledOut.{PushesRuleOut};
 ghost use Rattle.upload_push.specs.Steps.{Plan, Stand, turn, IsOver};
 ghost use Rattle.upload_push.specs.Slices.{Push, IsLawfulPush, IsSound, IsClose, IsHead, EndsWith, after_all, log_of, most_asks};
@@ -24,9 +24,11 @@ pub fn every_push()
 
 /// The promise of a push: over a lossy world with any events, beside any clients, a push that ends `Pushed` or `Already` left
 /// or found the repository with its digest, and the bytes that stand under it have that digest. Where no other client's
-/// request carried the reference that the pusher had heard, a push that ends `Pushed` left exactly the file there.
+/// request carried the reference that the pusher had heard, a push that ends `Pushed` left exactly the file there. So it is
+/// where there is no other client.
 pub fn push_promise()
-    ensures { PushPromise }
+    ensures promise { PushPromise }
+    ensures alone { AloneIsQuiet }
 {
     headline_holds();
     others_leave_a_session();

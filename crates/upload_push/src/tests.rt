@@ -1,7 +1,7 @@
 //! Pushes over worlds that lose requests and replies, beside other clients and in passing time.
 ghost use Rattle.std.specs.Prelude.{◌≡◌, ◌≤◌, length};
 ghost use Rattle.upload_names.specs.declared.digest.Algorithm.{Algorithm};
-ghost use Rattle.upload_push.specs.Promise.{IsThere};
+ghost use Rattle.upload_push.specs.Promise.{AreOwn, IsStored, IsThere};
 ghost use Rattle.upload_push.specs.Slices.{push_of};
 ghost use Rattle.upload_push.specs.World.{IsLawfulWorld};
 
@@ -375,6 +375,7 @@ fn push_and_know(
 ) -> Result<Outcome, PushFault>
     requires file { length file.now ≤ 100 }
     requires lawful { IsLawfulWorld world.old }
+    ensures alone { result ≡ Ok Outcome.Pushed → AreOwn world.old.events → IsStored (push_of Algorithm.Sha256 name.now file.now 2 5) world.new.service }
     ensures pushed { result ≡ Ok Outcome.Pushed → IsThere (push_of Algorithm.Sha256 name.now file.now 2 5) world.new.service }
     ensures already { result ≡ Ok Outcome.Already → IsThere (push_of Algorithm.Sha256 name.now file.now 2 5) world.new.service }
 {
