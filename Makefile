@@ -1,9 +1,13 @@
 # What a person does here. A bare `make` lists it.
 
-.PHONY: help once test check format figures fuzz
+ADDR = 127.0.0.1:5000
+COUNT = 1000000
+
+.PHONY: help once serve build test check format figures fuzz
 
 help:
 	@echo 'make once    a whole upload over one connection, through `blobd once`'
+	@echo 'make serve   the service at $(ADDR) (make serve ADDR=.. COUNT=.. takes others), for $(COUNT) connections to each of its two workers'
 	@echo 'make test    everything that must hold: proofs from nothing, must-fail edits, tests, the repository'"'"'s own checks'
 	@echo 'make check   proves what changed since the last check (quick; make test is the judge)'
 	@echo 'make format  lays out the sources'
@@ -12,6 +16,13 @@ help:
 
 once:
 	@cd crates/blobd && rt run -- once < stdin
+
+# `blobd once` over nothing does nothing: this only builds the program.
+build:
+	@cd crates/blobd && rt run -- once < /dev/null
+
+serve: build
+	@crates/blobd/out/blobd serve $(ADDR) $(COUNT)
 
 test:
 	@python3 tests/gate.py

@@ -17,6 +17,7 @@ PARTS = [
     ("the crates", ["rt", "ci"]),
     # `rt ci` leaves the program that it built
     ("whole connections", [sys.executable, "tests/connections.py", "crates/blobd/out/blobd"]),
+    ("the program over loopback", [sys.executable, "tests/program.py", "crates/blobd/out/blobd"]),
     ("pushes", [sys.executable, "tests/pushes.py", "crates/blobd/out/blobd"]),
     ("streams that a generator makes", [sys.executable, "tests/fuzz.py", "crates/blobd/out/blobd", "500"]),
 ]

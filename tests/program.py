@@ -23,7 +23,6 @@ import time
 
 MIB = 1 << 20
 USAGE = "usage: blobd once | serve ADDR COUNT | push ADDR NAME FILE CHUNK"
-NOTHING = hashlib.sha256(b"").hexdigest()
 PROGRAM = ""
 RESULTS = {"passed": 0, "failed": 0}
 

@@ -1,1 +1,2 @@
 pub mod OnceFacts
+pub mod ServedLines

@@ -1,3 +1,4 @@
+pub mod Halves
 pub mod Once
 pub mod Status
 pub mod Words

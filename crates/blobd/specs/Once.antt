@@ -1,5 +1,5 @@
 -- What `blobd once` does: one conversation with a new service.
-use Rattle.std.specs.Prelude.{◌≡◌, ℕ, List, replicate}
+use Rattle.std.specs.Prelude.{◌≡◌, ℕ, replicate}
 use Rattle.upload_service.specs.declared.limits.Limits.{Limits}
 use Rattle.upload_service.specs.Machine.{empty_state}
 use Rattle.upload_wire.specs.Writing.{Sink}

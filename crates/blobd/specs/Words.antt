@@ -1,10 +1,26 @@
--- Commands.
-use Rattle.std.specs.Prelude.{◌≤◌}
+-- Commands, and the words that make them.
+use Rattle.std.specs.Prelude.{◌≡◌, ℕ, ◌≤◌, List, [], length, slice_index_or, codes}
+use Rattle.std.specs.Borrow.{Bor}
+use Rattle.std.specs.Str.Parse.{IsNumeral, digits_value}
+use Rattle.std.specs.Net.Grammar.{IsSocketText}
 use Rattle.blobd.specs.declared.words.Command.{Command}
 use Rattle.blobd.specs.declared.words.Command.TheVariants.{Once, Serve, Push}
 
--- the numbers of a command are in their ranges
-abbrev pub IsInRange : Command → Type 0
-IsInRange Once = Unit {0}
-IsInRange (Serve addr count) = (1 ≤ count) × (count ≤ 1000000)
-IsInRange (Push addr name file chunk) = (1 ≤ chunk) × (chunk ≤ 2147483648)
+-- the word is one or more decimal digits, which write the number; it is from 1 to `most`
+abbrev pub IsCount : ℕ → List ℕ → ℕ → Type 0
+IsCount most word number = IsNumeral 10 word × (digits_value 10 word ≡ number) × (1 ≤ number) × (number ≤ most)
+
+-- the word behind k others, or nothing
+abbrev pub word_at : List (Bor (List ℕ)) → ℕ → List ℕ
+word_at words k = (slice_index_or words k (record { ref_ptr = (0, 0); now = [] })).now
+
+-- the words make the command
+abbrev pub Makes : List (Bor (List ℕ)) → Command → Type 0
+Makes words Once = (length words ≡ 1) × (word_at words 0 ≡ codes "once")
+Makes words (Serve addr count) =
+    (length words ≡ 3) × (word_at words 0 ≡ codes "serve")
+    × IsSocketText (word_at words 1) addr × IsCount 1000000 (word_at words 2) count
+Makes words (Push addr name file chunk) =
+    (length words ≡ 5) × (word_at words 0 ≡ codes "push")
+    × IsSocketText (word_at words 1) addr × IsCount 2147483648 (word_at words 4) chunk
+    × (name.now ≡ word_at words 2) × (file.now ≡ word_at words 3)

@@ -1,5 +1,6 @@
 //! `blobd serve`: a listener, and two workers that take connections from it.
-ghost use Rattle.blobd.specs.Status.{IsServeStatus};
+ghost use Rattle.std.specs.Prelude.{◌≡◌, ◌+◌, OnSome};
+ghost use Rattle.blobd.specs.Status.{IsServed};
 
 use crate::limits::limits;
 use crate::sockets::{Reader, Writer, close_politely, split};
@@ -35,7 +36,9 @@ struct Accepted<'a, R> {
 }
 
 impl<'a, R> Accepted<'a, R> {
-    fn accept(&mut self) -> io::Result<(Reader, Writer)> {
+    fn accept(&mut self) -> io::Result<(Reader, Writer)>
+        ensures { self.new.left ≡ self.old.left }
+    {
         let (stream, _) = self.listener.accept()?;
         let halves = split(&stream)?;
         self.served = Some(stream);
@@ -50,7 +53,9 @@ impl<'a, R: Clock> Conns for Accepted<'a, R> {
 
     /// Closes the connection before, and waits for the next one. None where as many as were asked for are served, and
     /// for good after one that couldn't be taken.
-    fn next_conn(&mut self) -> Option<(Reader, Writer)> {
+    fn next_conn(&mut self) -> Option<(Reader, Writer)>
+        ensures { OnSome result (self.new.left + 1 ≡ self.old.left) }
+    {
         if let Some(stream) = self.served.take() {
             close_politely(self.rt, stream);
         }
@@ -140,7 +145,7 @@ pub fn run_serve<R, W>(rt: &R, listener: &TcpListener, count: u64, out: &mut W) 
 where
     R: Threads + Wait + Sync + AllocGlobal + Clock + RandomSource,
     W: Write,
-    ensures { IsServeStatus result }
+    ensures { IsServed (W.contents out.old) (W.contents out.new) result }
 {
     let Ok(addr) = listener.local_addr() else {
         return print_line(out, "fault: listen", FAULT);
@@ -155,5 +160,46 @@ where
         Ok(true) => print_line(out, "served", DONE),
         Ok(false) => print_line(out, "fault: accept", FAULT),
         Err(_) => print_line(out, "fault: workers", FAULT),
+    }
+}
+
+#[cfg(test)]
+mod tests {
+    use super::*;
+    use std::io::Read;
+    use std::test::Fail;
+
+    const OPENING: &[u8] =
+        b"POST /v2/lib/a/blobs/uploads/ HTTP/1.1\r\nContent-Length: 0\r\nConnection: close\r\n\r\n";
+
+    fn reply(alloc: Global, client: &mut TcpStream) -> io::Result<String> {
+        let mut reply = String::new(alloc);
+        client.read_to_string(&mut reply)?;
+        Ok(reply)
+    }
+
+    /// Both connections wait to be accepted, with a request each, before the listener is served.
+    #[test]
+    fn a_connection_for_each_worker(rt: HostRuntime) -> Result<(), Fail> {
+        let alloc = rt.alloc();
+        let listener = TcpListener::bind(&rt, "127.0.0.1:0")?;
+        let addr = listener.local_addr()?;
+        let mut left = TcpStream::connect(&rt, addr)?;
+        let mut right = TcpStream::connect(&rt, addr)?;
+        left.write_all(OPENING)?;
+        right.write_all(OPENING)?;
+        let mut printed = Vec::new(alloc);
+        assert_eq!(rt; run_serve(&rt, &listener, 1, &mut printed), DONE);
+        let wanted = format!(in alloc; "listening {addr}\nserved\n")?;
+        assert_eq!(rt; printed.as_slice(), wanted.as_bytes());
+        for reply in [reply(alloc, &mut left)?, reply(alloc, &mut right)?] {
+            assert!(rt;
+                reply.starts_with(
+                    "HTTP/1.1 202 Accepted\r\nLocation: /v2/lib/a/blobs/uploads/0000000"
+                )
+            );
+            assert!(rt; reply.ends_with("Content-Length: 0\r\nConnection: close\r\n\r\n"));
+        }
+        Ok(())
     }
 }

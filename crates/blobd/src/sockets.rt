@@ -1,5 +1,8 @@
 //! Connections over TCP: small writes leave at once, and a close lets the peer read the last reply.
 
+ghost use Rattle.std.specs.Prelude.{IfOk};
+ghost use Rattle.blobd.specs.Halves.{AreUnused};
+
 use std::io;
 use std::io::Read;
 use std::net::{Shutdown, TcpStream};
@@ -28,7 +31,9 @@ const LINGER_READS: u64 = 100_000_000;
 /// The two halves of a stream. What is written leaves as it is written: a head and a small body are one write.
 ///
 /// An error comes where the system has no further handle for the stream.
-pub fn split(stream: &TcpStream) -> io::Result<(Reader, Writer)> {
+pub fn split(stream: &TcpStream) -> io::Result<(Reader, Writer)>
+    ensures { IfOk result (λ halves. AreUnused halves.0 halves.1) }
+{
     // A peer that has gone already can make this fail; the reads and writes will tell.
     let _ = stream.set_nodelay(true);
     let reader = stream.try_clone()?;

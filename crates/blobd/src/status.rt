@@ -1,6 +1,7 @@
 //! What the program prints, a line at a time, and its exit statuses.
-ghost use Rattle.std.specs.Prelude.{◌≡◌};
-ghost use Rattle.blobd.specs.Status.{IsStatusOr};
+ghost use Rattle.std.specs.Prelude.{IfSome, OnOk};
+ghost use Rattle.std.specs.Io.KnownBytes.{Appends};
+ghost use Rattle.blobd.specs.Status.{IsPrinted, line};
 
 use std::fmt::Display;
 use std::io;
@@ -15,16 +16,18 @@ pub const REFUSED: u8 = 1;
 /// The exit status where something that isn't the other side's answer went wrong.
 pub const FAULT: u8 = 3;
 
-fn put_line<W: Write, D: Display + Drop>(out: &mut W, line: D) -> io::Result<()> {
-    writeln!(out, "{line}")?;
+fn put_line<W: Write, D: Display + Drop>(out: &mut W, text: D) -> io::Result<()>
+    ensures { OnOk result (IfSome (D.output text) (λ bytes. Appends (W.contents out.old) (W.contents out.new) (line bytes))) }
+{
+    writeln!(out, "{text}")?;
     out.flush()
 }
 
-/// Prints a line, and gives the exit status that goes with it: this one, or [`FAULT`] where the line can't be printed.
-pub fn print_line<W: Write, D: Display + Drop>(out: &mut W, line: D, status: u8) -> u8
-    ensures { IsStatusOr status result }
+/// Prints a text as a line, and gives the exit status that goes with it: this one, or [`FAULT`] where the line can't be printed.
+pub fn print_line<W: Write, D: Display + Drop>(out: &mut W, text: D, status: u8) -> u8
+    ensures { IsPrinted (D.output text) (W.contents out.old) (W.contents out.new) status result }
 {
-    match put_line(out, line) {
+    match put_line(out, text) {
         Ok(()) => status,
         Err(_) => FAULT,
     }

@@ -1,8 +1,7 @@
 //! The words of the command line.
-ghost use Rattle.std.specs.Prelude.{◌≡◌, ◌≤◌, IfSome};
-ghost use Rattle.std.specs.List.{list_all};
-ghost use Rattle.std.specs.Char.{is_ascii_digit};
-ghost use Rattle.blobd.specs.Words.{IsInRange};
+ghost use Rattle.std.specs.Prelude.{ℕ, MatchOption};
+ghost use Rattle.std.specs.Net.Grammar.{IsSocketText};
+ghost use Rattle.blobd.specs.Words.{IsCount, Makes};
 
 use std::net::SocketAddr;
 
@@ -34,18 +33,12 @@ pub enum Command<'w> {
     },
 }
 
-/// Whether a word has nothing but decimal digits.
-fn are_digits(word: &str) -> bool
-    ensures { result ≡ list_all is_ascii_digit word.now }
+/// The number from 1 to `most` that one or more decimal digits write; leading zeros are allowed.
+fn read_count(word: &str, most: u64) -> Option<u64>
+    ensures { MatchOption result ((number : ℕ) → ¬ (IsCount most word.now number)) (IsCount most word.now) }
 {
-    word.as_bytes().iter().all(|byte| byte.is_ascii_digit())
-}
-
-/// The number from 1 to `most` that one or more decimal digits spell; leading zeros are allowed.
-fn read_number(word: &str, most: u64) -> Option<u64>
-    ensures { IfSome result (λ number. (1 ≤ number) × (number ≤ most)) }
-{
-    if !are_digits(word) {
+    // A sign is no digit, though `parse` takes a leading plus.
+    if matches!(word.as_bytes(), [b'+', ..]) {
         return None;
     }
     match word.parse::<u64>() {
@@ -54,25 +47,28 @@ fn read_number(word: &str, most: u64) -> Option<u64>
     }
 }
 
-fn read_addr(word: &str) -> Option<SocketAddr> {
+/// The IP address and port that a word writes.
+fn read_addr(word: &str) -> Option<SocketAddr>
+    ensures { MatchOption result ((addr : SocketAddr) → ¬ (IsSocketText word.now addr)) (IsSocketText word.now) }
+{
     word.parse().ok()
 }
 
 /// The command that the words behind the program's name make, or `None` where they make none. Nothing is opened.
 pub fn read_words<'w>(words: &[&'w str]) -> Option<Command<'w>>
-    ensures { IfSome result IsInRange }
+    ensures { MatchOption result ((command : Command) → ¬ (Makes words.now command)) (Makes words.now) }
 {
     match words {
         ["once"] => Some(Command::Once),
         ["serve", addr, count] => Some(Command::Serve {
             addr: read_addr(addr)?,
-            count: read_number(count, MOST_CONNECTIONS)?,
+            count: read_count(count, MOST_CONNECTIONS)?,
         }),
         ["push", addr, name, file, chunk] => Some(Command::Push {
             addr: read_addr(addr)?,
             name,
             file,
-            chunk: read_number(chunk, LARGEST_CHUNK)?,
+            chunk: read_count(chunk, LARGEST_CHUNK)?,
         }),
         _ => None,
     }

@@ -1,0 +1,10 @@
+-- The two halves of a connection.
+use Rattle.std.specs.Prelude.{◌≡◌}
+use Rattle.std.specs.declared.net.tcp.TcpStream.{TcpStream}
+use Rattle.upload_wire.specs.declared.bytes.FromRead.{FromRead}
+use Rattle.upload_wire.specs.declared.bytes.ToWrite.{ToWrite}
+
+-- nothing was read and nothing was written
+abbrev pub AreUnused : FromRead TcpStream → ToWrite TcpStream → Type 0
+AreUnused reader writer =
+    (reader.reads ≡ 0) × (reader.failed_reads ≡ 0) × (writer.writes ≡ 0) × (writer.failed_writes ≡ 0)
