@@ -2,12 +2,14 @@
 
 ADDR = 127.0.0.1:5000
 COUNT = 1000000
+FILE = README.md
 
-.PHONY: help once serve build test check format figures fuzz
+.PHONY: help once serve upload build test check format figures fuzz
 
 help:
 	@echo 'make once    a whole upload over one connection, through `blobd once`'
 	@echo 'make serve   the service at $(ADDR) (make serve ADDR=.. COUNT=.. takes others), for $(COUNT) connections to each of its two workers'
+	@echo 'make upload  pushes $(FILE) to that service (FILE=.. takes another), pulls it back and compares, in another shell'
 	@echo 'make test    everything that must hold: proofs from nothing, must-fail edits, tests, the repository'"'"'s own checks'
 	@echo 'make check   proves what changed since the last check (quick; make test is the judge)'
 	@echo 'make format  lays out the sources'
@@ -23,6 +25,11 @@ build:
 
 serve: build
 	@crates/blobd/out/blobd serve $(ADDR) $(COUNT)
+
+upload:
+	@crates/blobd/out/blobd push $(ADDR) lib/demo '$(FILE)' 1048576
+	@curl -sS -H 'Connection: close' http://$(ADDR)/v2/lib/demo/blobs/sha256:$$(sha256sum '$(FILE)' | cut -d' ' -f1) | cmp - '$(FILE)'
+	@echo 'the same came back'
 
 test:
 	@python3 tests/gate.py
