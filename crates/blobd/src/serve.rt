@@ -13,7 +13,6 @@ use std::net::{TcpListener, TcpStream};
 use std::random::RandomSource;
 use std::rt::Clock;
 use std::sync::Wait;
-use std::sync::atomic::{AtomicBool, Ordering};
 use std::thread::Threads;
 use std::time::Instant;
 use upload_intake::{Conns, DrawnSecrets, Moments, NoGate, ServeFault, Worker, serve_pair};
@@ -31,8 +30,6 @@ struct Accepted<'a, R> {
     left: u64,
     /// The connection before, which is closed when the next one is asked for.
     served: Option<TcpStream>,
-    /// Set where a connection couldn't be taken.
-    failed: &'a AtomicBool,
 }
 
 impl<'a, R> Accepted<'a, R> {
@@ -51,8 +48,8 @@ impl<'a, R: Clock> Conns for Accepted<'a, R> {
 
     type Out = Writer;
 
-    /// Closes the connection before, and waits for the next one. None where as many as were asked for are served, and
-    /// for good after one that couldn't be taken.
+    /// Closes the connection before, and waits for the next one. None where as many as were asked for are served, or
+    /// where one couldn't be taken.
     fn next_conn(&mut self) -> Option<(Reader, Writer)>
         ensures { OnSome result (self.new.left + 1 ≡ self.old.left) }
     {
@@ -60,14 +57,7 @@ impl<'a, R: Clock> Conns for Accepted<'a, R> {
             close_politely(self.rt, stream);
         }
         self.left = self.left.checked_sub(1)?;
-        match self.accept() {
-            Ok(halves) => Some(halves),
-            Err(_) => {
-                self.left = 0;
-                self.failed.store(true, Ordering::SeqCst);
-                None
-            }
-        }
+        self.accept().ok()
     }
 }
 
@@ -94,7 +84,7 @@ fn system_secrets<R: RandomSource>(rt: &R) -> io::Result<SystemSecrets> {
     Ok(DrawnSecrets::new(rand::make_rng(rt)?))
 }
 
-/// How the workers ended: `Ok(true)` where each took all of its connections.
+/// How the workers ended: `Ok(true)` where each took all of its connections, and `Ok(false)` where one couldn't be taken.
 fn serve_workers<R>(
     rt: &R,
     alloc: Global,
@@ -106,14 +96,12 @@ fn serve_workers<R>(
 where
     R: Threads + Wait + Sync + Clock,
 {
-    let failed = AtomicBool::new(false);
     let worker = |secrets: SystemSecrets| Worker {
         conns: Accepted {
             rt,
             listener,
             left: count,
             served: None,
-            failed: &failed,
         },
         secrets,
         gate: NoGate,
@@ -123,7 +111,7 @@ where
         start: Instant::now(rt).ok(),
     };
     let service = Service::new(alloc, limits());
-    serve_pair(
+    let pair = serve_pair(
         rt,
         alloc,
         service,
@@ -131,7 +119,7 @@ where
         worker(right),
         &mut moments,
     )?;
-    Ok(!failed.load(Ordering::SeqCst))
+    Ok(pair.left.conns == count && pair.right.conns == count)
 }
 
 /// Serves a listener: two workers take `count` connections each. Prints `listening` and the local address, and `served`
