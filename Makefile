@@ -1,6 +1,6 @@
 # What a person does here. A bare `make` lists it.
 
-.PHONY: help once test check format figures fuzz
+.PHONY: help once test check format figures bench fuzz
 
 help:
 	@echo 'make once    a whole upload over one connection, through `blobd once`'
@@ -9,6 +9,7 @@ help:
 	@echo 'make format  lays out the sources'
 	@echo 'make fuzz    20,000 generated streams of requests through `blobd once` (after make once; make test runs 500)'
 	@echo 'make figures speed and memory of `blobd once`, as ratios in one run (after make once)'
+	@echo 'make bench   the same of `blobd serve` and `blobd push`, over loopback (after make once; docs/PERFORMANCE.md)'
 
 once:
 	@cd crates/blobd && rt run -- once < stdin
@@ -24,6 +25,9 @@ format:
 
 figures:
 	@python3 bench/connection.py crates/blobd/out/blobd
+
+bench:
+	@python3 bench/loopback.py crates/blobd/out/blobd
 
 fuzz:
 	@python3 tests/fuzz.py crates/blobd/out/blobd
