@@ -210,28 +210,33 @@ def upload(connection, name, blob, chunk):
     wanted(connection.ask("PUT", place + query, Content_Length=0), 201)
 
 
-def receive(connection, length, room):
-    """Takes so many bytes into the same room again and again."""
+def receive(connection, length, room, take=None):
+    """Takes so many bytes into the same room again and again, and hands each part on where that is asked for."""
     while length:
         taken = connection.recv_into(room)
         if not taken:
             sys.exit("the server closed inside a body")
+        if take:
+            take(memoryview(room)[:taken])
         length -= taken
 
 
-def pull(connection, name, blob, room):
+def pull(connection, name, blob, room, take=None):
     connection.socket.sendall(connection.head("GET", f"/v2/{name}/blobs/{blob.digest}"))
     status, fields = connection.reply_head()
     if (status, int(fields["content-length"])) != (200, blob.size):
         sys.exit(f"a pull was answered {status} {fields}")
-    receive(connection.socket, blob.size - len(connection.unread), room)
-    connection.unread = b""
+    begun, connection.unread = connection.unread, b""
+    if take:
+        take(begun)
+    receive(connection.socket, blob.size - len(begun), room, take)
 
 
-def pulled_well(connection, name, blob):
+def pulled_well(connection, name, blob, room):
     """Whether what is pulled is what was stored."""
-    reply = wanted(connection.ask("GET", f"/v2/{name}/blobs/{blob.digest}"), 200)
-    return "sha256:" + hashlib.sha256(reply.body).hexdigest() == blob.digest
+    digest = hashlib.sha256()
+    pull(connection, name, blob, room, digest.update)
+    return "sha256:" + digest.hexdigest() == blob.digest
 
 
 def seconds(work):
@@ -240,9 +245,34 @@ def seconds(work):
     return time.monotonic() - start
 
 
+def ran(words):
+    """Runs a program: what it printed, the seconds it took, those of the processor, and the most memory it had in bytes."""
+    start = time.monotonic()
+    with subprocess.Popen(words, stdout=subprocess.PIPE, text=True) as program:
+        told = program.stdout.read()
+        _, status, used = os.wait4(program.pid, 0)
+        program.returncode = os.waitstatus_to_exitcode(status)
+    return told, time.monotonic() - start, used.ru_utime + used.ru_stime, used.ru_maxrss * 1024
+
+
 def hashed(blob):
-    """Seconds that `sha256sum` takes."""
-    return seconds(lambda: subprocess.run(["sha256sum", blob.path], stdout=subprocess.DEVNULL, check=True))
+    """Seconds that `sha256sum` takes, by the clock and of the processor."""
+    told, wall, processor, _ = ran(["sha256sum", blob.path])
+    if "sha256:" + told.split()[0] != blob.digest:
+        sys.exit(f"sha256sum: {told}")
+    return wall, processor
+
+
+def beside_hashing(blob, wall, processor, plain):
+    """What uploads and pushes have in common, from their runs and those of `sha256sum`."""
+    plain_wall, plain_processor = (min(taken) for taken in zip(*plain))
+    return {
+        "bytes_a_second": blob.size / min(wall),
+        "of_sha256sum": plain_wall / min(wall),
+        "of_sha256sum_by_processor": plain_processor / min(processor),
+        "server_seconds": min(processor),
+        "sha256sum_seconds": plain_processor,
+    }
 
 
 def moved_bare(blob, room):
@@ -264,7 +294,7 @@ def moved_bare(blob, room):
 
 
 def upload_row(server, blob, chunk):
-    """An upload's best run, each with a new server; the first one's memory."""
+    """An upload, each run with a new server."""
     wall, processor, plain, peaks = [], [], [], []
     for _ in range(RUNS):
         plain.append(hashed(blob))
@@ -273,13 +303,7 @@ def upload_row(server, blob, chunk):
             wall.append(seconds(lambda: upload(connection, "lib/a", blob, chunk)))
             processor.append(server.processor() - before)
             peaks.append(server.peak())
-    return {
-        "bytes_a_second": blob.size / min(wall),
-        "of_sha256sum": min(plain) / min(wall),
-        "server_seconds": min(processor),
-        "sha256sum_seconds": min(plain),
-        "peak_bytes_a_byte": min(peaks) / blob.size,
-    }
+    return {**beside_hashing(blob, wall, processor, plain), "peak_bytes_a_byte": max(peaks) / blob.size}
 
 
 def pull_row(server, blob):
@@ -287,47 +311,39 @@ def pull_row(server, blob):
     wall, processor, bare = [], [], []
     with server, server.connect() as connection:
         upload(connection, "lib/a", blob, blob.size)
-        if not pulled_well(connection, "lib/a", blob):
+        if not pulled_well(connection, "lib/a", blob, room):
             sys.exit("what was pulled isn't what was stored")
         for _ in range(RUNS):
             bare.append(moved_bare(blob, room))
             before = server.processor()
             wall.append(seconds(lambda: pull(connection, "lib/a", blob, room)))
             processor.append(server.processor() - before)
+        peak = server.peak()
     return {
         "bytes_a_second": blob.size / min(wall),
         "of_bare_connection": min(bare) / min(wall),
+        "peak_bytes_a_byte": peak / blob.size,
         "server_seconds": min(processor),
         "bare_seconds": min(bare),
     }
 
 
 def push_row(server, blob, chunk):
-    """A push's best run, each to a new server; the client's own processor time and memory beside it."""
+    """A push, each run to a new server; the client's own processor time and memory beside it."""
     wall, processor, client, plain, peaks = [], [], [], [], []
     for _ in range(RUNS):
         plain.append(hashed(blob))
         with server:
-            words = [server.program, "push", "%s:%d" % server.place, "lib/a", blob.path, str(chunk)]
-            before, start = server.processor(), time.monotonic()
-            with subprocess.Popen(words, stdout=subprocess.PIPE, text=True) as ran:
-                told = ran.stdout.read()
-                _, status, used = os.wait4(ran.pid, 0)
-                ran.returncode = os.waitstatus_to_exitcode(status)
-            wall.append(time.monotonic() - start)
+            before = server.processor()
+            told, taken, used, peak = ran([server.program, "push", "%s:%d" % server.place, "lib/a", blob.path, str(chunk)])
             processor.append(server.processor() - before)
             if told != f"pushed {blob.digest}\n":
-                sys.exit(f"a push ended {ran.returncode}: {told}")
-            client.append(used.ru_utime + used.ru_stime)
-            peaks.append(used.ru_maxrss * 1024)
-    return {
-        "bytes_a_second": blob.size / min(wall),
-        "of_sha256sum": min(plain) / min(wall),
-        "server_seconds": min(processor),
-        "client_seconds": min(client),
-        "sha256sum_seconds": min(plain),
-        "client_peak_bytes_a_byte": min(peaks) / blob.size,
-    }
+                sys.exit(f"a push ended with {told!r}")
+            wall.append(taken)
+            client.append(used)
+            peaks.append(peak)
+    figures = beside_hashing(blob, wall, processor, plain)
+    return {**figures, "client_seconds": min(client), "client_peak_bytes_a_byte": max(peaks) / blob.size}
 
 
 def has_push(program):
@@ -418,39 +434,47 @@ def push_rows(server, blob):
         yield "push", f"push in {what}", push_row(server, blob, chunk)
 
 
+def mib(value):
+    return f"{value / MIB:.0f}"
+
+
+SPEED = {"MiB a second": ("bytes_a_second", mib)}
+SPENT = {"server's processor, s": ("server_seconds", "{:.3f}".format)}
+HASHING = {
+    "of sha256sum's speed": ("of_sha256sum", "{:.2f}".format),
+    "the same by processor time": ("of_sha256sum_by_processor", "{:.2f}".format),
+    "sha256sum's processor, s": ("sha256sum_seconds", "{:.3f}".format),
+}
 COLUMNS = {
-    "upload": {
-        "MiB a second": ("bytes_a_second", lambda value: f"{value / MIB:.0f}"),
-        "of sha256sum": ("of_sha256sum", "{:.2f}".format),
-        "server's processor, s": ("server_seconds", "{:.3f}".format),
-        "sha256sum, s": ("sha256sum_seconds", "{:.3f}".format),
-        "server's peak memory a byte": ("peak_bytes_a_byte", "{:.2f}".format),
-    },
+    "upload": {**SPEED, **HASHING, **SPENT, "server's peak memory a byte": ("peak_bytes_a_byte", "{:.3f}".format)},
     "pull": {
-        "MiB a second": ("bytes_a_second", lambda value: f"{value / MIB:.0f}"),
-        "of a bare connection": ("of_bare_connection", "{:.2f}".format),
-        "server's processor, s": ("server_seconds", "{:.3f}".format),
+        **SPEED,
+        "of a bare connection's": ("of_bare_connection", "{:.2f}".format),
         "bare connection, s": ("bare_seconds", "{:.3f}".format),
+        **SPENT,
+        "server's peak memory a byte": ("peak_bytes_a_byte", "{:.3f}".format),
     },
     "small": {
         "requests a second by the clock": ("requests_a_second", "{:.0f}".format),
         "requests a second of the server's processor": ("requests_a_server_second", "{:.0f}".format),
     },
     "push": {
-        "MiB a second": ("bytes_a_second", lambda value: f"{value / MIB:.0f}"),
-        "of sha256sum": ("of_sha256sum", "{:.2f}".format),
-        "server's processor, s": ("server_seconds", "{:.3f}".format),
+        **SPEED,
+        **HASHING,
+        **SPENT,
         "client's processor, s": ("client_seconds", "{:.3f}".format),
-        "sha256sum, s": ("sha256sum_seconds", "{:.3f}".format),
-        "client's peak memory a byte": ("client_peak_bytes_a_byte", "{:.2f}".format),
+        "client's peak memory a byte": ("client_peak_bytes_a_byte", "{:.3f}".format),
     },
 }
 
 
 def print_tables(rows):
-    """A table for each kind of row, in Markdown."""
+    """A table for each kind of row, in Markdown, where each server's row stands beside the others'."""
     for kind, columns in COLUMNS.items():
-        lines = [[row["what"], row["server"], *(show(row[key]) for key, show in columns.values())] for row in rows if row["kind"] == kind]
+        chosen = [row for row in rows if row["kind"] == kind]
+        order = list(dict.fromkeys(row["what"] for row in chosen))
+        chosen.sort(key=lambda row: order.index(row["what"]))
+        lines = [[row["what"], row["server"], *(show(row[key]) for key, show in columns.values())] for row in chosen]
         if lines:
             heads = ["what", "server", *columns]
             widths = [max(map(len, cells)) for cells in zip(heads, *lines)]
