@@ -27,7 +27,7 @@ figures:
 	@python3 bench/connection.py crates/blobd/out/blobd
 
 bench:
-	@python3 bench/loopback.py crates/blobd/out/blobd
+	@python3 bench/loopback.py crates/blobd/out/blobd $(if $(JSON),--json $(JSON))
 
 fuzz:
 	@python3 tests/fuzz.py crates/blobd/out/blobd

@@ -246,7 +246,10 @@ def seconds(work):
 
 
 def ran(words):
-    """Runs a program: what it printed, the seconds it took, those of the processor, and the most memory it had in bytes."""
+    """Runs a program: what it printed, the seconds it took, those of the processor, and the most memory it had in bytes.
+
+    The system counts the memory of the process that started it as its own, so that it is at least Python's, some 20 MiB.
+    """
     start = time.monotonic()
     with subprocess.Popen(words, stdout=subprocess.PIPE, text=True) as program:
         told = program.stdout.read()
