@@ -18,6 +18,7 @@ import contextlib
 import ctypes
 import hashlib
 import json
+import mmap
 import multiprocessing
 import os
 import shutil
@@ -266,6 +267,17 @@ def hashed(blob):
     return wall, processor
 
 
+def hashed_by_library(blob):
+    """The least processor seconds that Python's library (OpenSSL's code, mostly) takes, which may use instructions that `sha256sum` doesn't."""
+    with open(blob.path, "rb") as file, mmap.mmap(file.fileno(), 0, prot=mmap.PROT_READ) as content:
+        taken = []
+        for _ in range(RUNS):
+            start = time.process_time()
+            hashlib.sha256(content)
+            taken.append(time.process_time() - start)
+    return min(taken)
+
+
 def beside_hashing(blob, wall, processor, plain):
     """What uploads and pushes have in common, from their runs and those of `sha256sum`."""
     plain_wall, plain_processor = (min(taken) for taken in zip(*plain))
@@ -503,9 +515,8 @@ def read_words():
     return words.parse_args()
 
 
-def measure(words, folder):
-    program = os.path.abspath(words.program)
-    blob = Blob(folder, words.mib * MIB)
+def measure(program, blob, folder):
+    """The rows of each server, and those of the client."""
     blobd = Blobd(program)
     measured = [(blobd, server_rows(blobd, blob))]
     if has_push(program):
@@ -527,12 +538,15 @@ def main():
     words = read_words()
     load = [os.getloadavg()[0]]
     with tempfile.TemporaryDirectory(dir="/dev/shm") as folder:
-        rows = list(measure(words, folder))
+        blob = Blob(folder, words.mib * MIB)
+        library = hashed_by_library(blob)
+        rows = list(measure(os.path.abspath(words.program), blob, folder))
     load.append(os.getloadavg()[0])
-    told = {"machine": machine(), "load_before_and_after": load, "blob_bytes": words.mib * MIB, "runs": RUNS, "rows": rows}
+    told = {"machine": machine(), "load": load, "blob_bytes": blob.size, "runs": RUNS, "hashlib_seconds": library, "rows": rows}
     found = told["machine"]
     print(f"{found['model']}, {found['cores']} cores, {found['memory_bytes'] / (1 << 30):.0f} GiB; Linux {found['system']}")
     print(f"load {load[0]:.1f} before, {load[1]:.1f} after; a blob of {words.mib} MiB; the best of {RUNS} runs")
+    print(f"SHA-256 of the blob by Python's hashlib: {library:.3f} s of the processor")
     print_tables(rows)
     if words.json:
         with open(words.json, "w", encoding="utf-8") as file:
