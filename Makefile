@@ -4,7 +4,7 @@ ADDR = 127.0.0.1:5000
 COUNT = 1000000
 FILE = README.md
 
-.PHONY: help once serve upload build test check format figures fuzz
+.PHONY: help once serve upload build test check format figures fuzz bench
 
 help:
 	@echo 'make once    a whole upload over one connection, through `blobd once`'
@@ -15,6 +15,7 @@ help:
 	@echo 'make format  lays out the sources'
 	@echo 'make fuzz    20,000 generated streams of requests through `blobd once` (after make once; make test runs 500)'
 	@echo 'make figures speed and memory of `blobd once`, as ratios in one run (after make once)'
+	@echo 'make bench   the same of `blobd serve` and `blobd push`, over loopback (after make once; docs/PERFORMANCE.md)'
 
 once:
 	@cd crates/blobd && rt run -- once < stdin
@@ -42,6 +43,9 @@ format:
 
 figures:
 	@python3 bench/connection.py crates/blobd/out/blobd
+
+bench:
+	@python3 bench/loopback.py crates/blobd/out/blobd $(if $(JSON),--json $(JSON))
 
 fuzz:
 	@python3 tests/fuzz.py crates/blobd/out/blobd

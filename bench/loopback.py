@@ -1,0 +1,558 @@
+#!/usr/bin/env python3
+"""Figures of `blobd serve` and `blobd push` over loopback, as ratios in one run.
+
+    loopback.py PROGRAM [--json FILE] [--mib SIZE]
+
+Each figure is the best of three, each upload's and each openings' on a server of its own. Beside an upload and a push stands `sha256sum` on the same
+bytes, timed before each of their runs; beside a pull the same bytes over a connection with no server behind it, sent in the same way. Where Debian's
+`docker-registry` is installed it has the same rows, with its files in memory too.
+
+The client writes whole requests from memory to a raw socket, and still takes longer over a small request than the server does. So small requests
+are also counted by the seconds of processor time that the server spent, its own and the system's for it.
+
+Needs Linux, and about four times SIZE MiB (256 where none is given) of memory, part of it in /dev/shm.
+"""
+import argparse
+import collections
+import contextlib
+import ctypes
+import hashlib
+import json
+import mmap
+import multiprocessing
+import os
+import shutil
+import socket
+import subprocess
+import sys
+import tempfile
+import time
+
+MIB = 1 << 20
+RUNS = 3
+# A connection of `blobd` has at most 10,000 requests, and one of them goes before the measured ones.
+SMALL_REQUESTS = 9600
+# `blobd` has at most 1,024 open sessions.
+OPENINGS = 960
+PIPELINED = 16
+PATIENCE = 120
+
+Reply = collections.namedtuple("Reply", "status fields body")
+FORK = multiprocessing.get_context("fork")
+
+
+class Blob:
+    """Random bytes in a file in memory, and their digest."""
+
+    def __init__(self, folder, size):
+        self.path = os.path.join(folder, "blob")
+        self.size = size
+        digest = hashlib.sha256()
+        with open(self.path, "wb") as file:
+            for first in range(0, size, MIB):
+                part = os.urandom(min(MIB, size - first))
+                digest.update(part)
+                file.write(part)
+        self.digest = "sha256:" + digest.hexdigest()
+
+
+class Server:
+    """A server in a process of its own, on a free port, for as long as the `with` lasts."""
+
+    def __enter__(self):
+        self.start()
+        return self
+
+    def __exit__(self, *_):
+        self.process.kill()
+        self.process.wait()
+
+    def connect(self):
+        return Connection(self.place)
+
+    def processor(self):
+        """Seconds of processor time that its threads have had."""
+        clock = ctypes.c_int()
+        if ctypes.CDLL(None).clock_getcpuclockid(self.process.pid, ctypes.byref(clock)):
+            raise OSError("the server's clock can't be read")
+        return time.clock_gettime(clock.value)
+
+    def peak(self):
+        """The most memory that it has had, in bytes."""
+        with open(f"/proc/{self.process.pid}/status", encoding="ascii") as status:
+            for line in status:
+                if line.startswith("VmHWM:"):
+                    return int(line.split()[1]) * 1024
+        raise OSError("the server's memory can't be read")
+
+
+class Blobd(Server):
+    name = "blobd"
+
+    def __init__(self, program):
+        self.program = program
+
+    def start(self):
+        self.process = subprocess.Popen([self.program, "serve", "127.0.0.1:0", "1000000"], stdout=subprocess.PIPE, text=True)
+        told = self.process.stdout.readline()
+        if not told.startswith("listening "):
+            sys.exit(f"{self.program} serve: {told.strip() or 'it says nothing'}")
+        host, port = told.removeprefix("listening ").strip().rsplit(":", 1)
+        self.place = host, int(port)
+
+    def __exit__(self, *words):
+        super().__exit__(*words)
+        self.process.stdout.close()
+
+
+class DockerRegistry(Server):
+    name = "docker-registry"
+
+    def __init__(self, program, folder):
+        self.program = program
+        self.root = os.path.join(folder, "registry")
+        self.config = os.path.join(folder, "registry.yml")
+
+    def start(self):
+        with socket.socket() as free:
+            free.bind(("127.0.0.1", 0))
+            self.place = free.getsockname()
+        with open(self.config, "w", encoding="ascii") as config:
+            config.write(
+                "version: 0.1\nlog:\n  level: error\n  accesslog:\n    disabled: true\n"
+                f"storage:\n  filesystem:\n    rootdirectory: {self.root}\nhttp:\n  addr: {self.place[0]}:{self.place[1]}\n"
+            )
+        self.process = subprocess.Popen([self.program, "serve", self.config], stdout=subprocess.DEVNULL, stderr=subprocess.DEVNULL)
+        for _ in range(200):
+            with contextlib.suppress(OSError), self.connect():
+                return
+            time.sleep(0.05)
+        sys.exit(f"{self.program} serve: nobody listens on {self.place}")
+
+    def __exit__(self, *words):
+        super().__exit__(*words)
+        shutil.rmtree(self.root, ignore_errors=True)
+
+
+class Connection:
+    """A kept connection: one request, one reply."""
+
+    def __init__(self, place):
+        self.host = f"{place[0]}:{place[1]}"
+        self.socket = socket.create_connection(place, timeout=PATIENCE)
+        # A timeout would make each call of the socket two.
+        self.socket.setblocking(True)
+        self.socket.setsockopt(socket.IPPROTO_TCP, socket.TCP_NODELAY, 1)
+        self.unread = b""
+
+    def __enter__(self):
+        return self
+
+    def __exit__(self, *_):
+        self.socket.close()
+
+    def head(self, method, target, **fields):
+        lines = [f"{method} {target} HTTP/1.1", f"Host: {self.host}", *(f"{name.replace('_', '-')}: {value}" for name, value in fields.items())]
+        return "".join(line + "\r\n" for line in lines).encode() + b"\r\n"
+
+    def ask(self, method, target, **fields):
+        self.socket.sendall(self.head(method, target, **fields))
+        return self.reply()
+
+    def send_part(self, head, file, first, length):
+        """A head, and a part of a file that goes out as it lies in memory."""
+        self.socket.sendall(head, socket.MSG_MORE)
+        sent = 0
+        while sent < length:
+            sent += os.sendfile(self.socket.fileno(), file.fileno(), first + sent, length - sent)
+
+    def reply_head(self):
+        while b"\r\n\r\n" not in self.unread:
+            part = self.socket.recv(65536)
+            if not part:
+                sys.exit(f"the server closed behind {self.unread!r}")
+            self.unread += part
+        head, self.unread = self.unread.split(b"\r\n\r\n", 1)
+        lines = head.decode().split("\r\n")
+        pairs = (line.split(":", 1) for line in lines[1:])
+        return int(lines[0].split()[1]), {name.lower(): value.strip() for name, value in pairs}
+
+    def reply(self):
+        status, fields = self.reply_head()
+        length = int(fields.get("content-length", 0))
+        while len(self.unread) < length:
+            self.unread += self.socket.recv(65536)
+        body, self.unread = self.unread[:length], self.unread[length:]
+        return Reply(status, fields, body)
+
+
+def wanted(reply, status):
+    if reply.status != status:
+        sys.exit(f"a reply of {reply.status} where {status} was due: {reply.body[:200]!r}")
+    return reply
+
+
+def target_of(reply):
+    """The path and query of a Location, which may name the server too."""
+    location = reply.fields["location"]
+    return "/" + location.split("://", 1)[1].split("/", 1)[1] if "://" in location else location
+
+
+def upload(connection, name, blob, chunk):
+    """A whole upload: an opening, the chunks, and the close."""
+    place = target_of(wanted(connection.ask("POST", f"/v2/{name}/blobs/uploads/", Content_Length=0), 202))
+    with open(blob.path, "rb") as file:
+        for first in range(0, blob.size, chunk):
+            length = min(chunk, blob.size - first)
+            fields = {"Content_Type": "application/octet-stream", "Content_Range": f"{first}-{first + length - 1}", "Content_Length": length}
+            connection.send_part(connection.head("PATCH", place, **fields), file, first, length)
+            place = target_of(wanted(connection.reply(), 202))
+    query = f"{'&' if '?' in place else '?'}digest={blob.digest}"
+    wanted(connection.ask("PUT", place + query, Content_Length=0), 201)
+
+
+def receive(connection, length, room, take=None):
+    """Takes so many bytes into the same room again and again, and hands each part on where that is asked for."""
+    while length:
+        taken = connection.recv_into(room)
+        if not taken:
+            sys.exit("the server closed inside a body")
+        if take:
+            take(memoryview(room)[:taken])
+        length -= taken
+
+
+def pull(connection, name, blob, room, take=None):
+    connection.socket.sendall(connection.head("GET", f"/v2/{name}/blobs/{blob.digest}"))
+    status, fields = connection.reply_head()
+    if (status, int(fields["content-length"])) != (200, blob.size):
+        sys.exit(f"a pull was answered {status} {fields}")
+    begun, connection.unread = connection.unread, b""
+    if take:
+        take(begun)
+    receive(connection.socket, blob.size - len(begun), room, take)
+
+
+def pulled_well(connection, name, blob, room):
+    """Whether what is pulled is what was stored."""
+    digest = hashlib.sha256()
+    pull(connection, name, blob, room, digest.update)
+    return "sha256:" + digest.hexdigest() == blob.digest
+
+
+def seconds(work):
+    start = time.monotonic()
+    work()
+    return time.monotonic() - start
+
+
+def ran(words):
+    """Runs a program: what it printed, the seconds it took, those of the processor, and the most memory it had in bytes.
+
+    The system counts the memory of the process that started it as its own, so that it is at least Python's, some 20 MiB.
+    """
+    start = time.monotonic()
+    with subprocess.Popen(words, stdout=subprocess.PIPE, text=True) as program:
+        told = program.stdout.read()
+        _, status, used = os.wait4(program.pid, 0)
+        program.returncode = os.waitstatus_to_exitcode(status)
+    return told, time.monotonic() - start, used.ru_utime + used.ru_stime, used.ru_maxrss * 1024
+
+
+def hashed(blob):
+    """Seconds that `sha256sum` takes, by the clock and of the processor."""
+    told, wall, processor, _ = ran(["sha256sum", blob.path])
+    if "sha256:" + told.split()[0] != blob.digest:
+        sys.exit(f"sha256sum: {told}")
+    return wall, processor
+
+
+def hashed_by_library(blob):
+    """The least processor seconds that Python's library (OpenSSL's code, mostly) takes, which may use instructions that `sha256sum` doesn't."""
+    with open(blob.path, "rb") as file, mmap.mmap(file.fileno(), 0, prot=mmap.PROT_READ) as content:
+        taken = []
+        for _ in range(RUNS):
+            start = time.process_time()
+            hashlib.sha256(content)
+            taken.append(time.process_time() - start)
+    return min(taken)
+
+
+def beside_hashing(blob, wall, processor, plain):
+    """What uploads and pushes have in common, from their runs and those of `sha256sum`."""
+    plain_wall, plain_processor = (min(taken) for taken in zip(*plain))
+    return {
+        "bytes_a_second": blob.size / min(wall),
+        "of_sha256sum": plain_wall / min(wall),
+        "of_sha256sum_by_processor": plain_processor / min(processor),
+        "server_seconds": min(processor),
+        "sha256sum_seconds": plain_processor,
+    }
+
+
+def moved_bare(blob, room):
+    """Seconds that the blob takes over a connection to a process that only sends it."""
+
+    def send(listener):
+        sender, _ = listener.accept()
+        with sender, open(blob.path, "rb") as file:
+            sender.recv(1)
+            sender.sendfile(file)
+
+    with socket.create_server(("127.0.0.1", 0)) as listener:
+        process = FORK.Process(target=send, args=(listener,))
+        process.start()
+        with socket.create_connection(listener.getsockname()) as connection:
+            taken = seconds(lambda: (connection.sendall(b"x"), receive(connection, blob.size, room)))
+        process.join()
+    return taken
+
+
+def upload_row(server, blob, chunk):
+    """An upload, each run with a new server."""
+    wall, processor, plain, peaks = [], [], [], []
+    for _ in range(RUNS):
+        plain.append(hashed(blob))
+        with server, server.connect() as connection:
+            before = server.processor()
+            wall.append(seconds(lambda: upload(connection, "lib/a", blob, chunk)))
+            processor.append(server.processor() - before)
+            peaks.append(server.peak())
+    return {**beside_hashing(blob, wall, processor, plain), "peak_bytes_a_byte": max(peaks) / blob.size}
+
+
+def pull_row(server, blob):
+    room = bytearray(MIB)
+    wall, processor, bare = [], [], []
+    with server, server.connect() as connection:
+        upload(connection, "lib/a", blob, blob.size)
+        if not pulled_well(connection, "lib/a", blob, room):
+            sys.exit("what was pulled isn't what was stored")
+        for _ in range(RUNS):
+            bare.append(moved_bare(blob, room))
+            before = server.processor()
+            wall.append(seconds(lambda: pull(connection, "lib/a", blob, room)))
+            processor.append(server.processor() - before)
+        peak = server.peak()
+    return {
+        "bytes_a_second": blob.size / min(wall),
+        "of_bare_connection": min(bare) / min(wall),
+        "peak_bytes_a_byte": peak / blob.size,
+        "server_seconds": min(processor),
+        "bare_seconds": min(bare),
+    }
+
+
+def push_row(server, blob, chunk):
+    """A push, each run to a new server; the client's own processor time and memory beside it."""
+    wall, processor, client, plain, peaks = [], [], [], [], []
+    for _ in range(RUNS):
+        plain.append(hashed(blob))
+        with server:
+            before = server.processor()
+            told, taken, used, peak = ran([server.program, "push", "%s:%d" % server.place, "lib/a", blob.path, str(chunk)])
+            processor.append(server.processor() - before)
+            if told != f"pushed {blob.digest}\n":
+                sys.exit(f"a push ended with {told!r}")
+            wall.append(taken)
+            client.append(used)
+            peaks.append(peak)
+    figures = beside_hashing(blob, wall, processor, plain)
+    return {**figures, "client_seconds": min(client), "client_peak_bytes_a_byte": max(peaks) / blob.size}
+
+
+def has_push(program):
+    """A program without the command prints how it is used."""
+    ran = subprocess.run([program, "push", "127.0.0.1:1", "a", os.devnull, "1"], capture_output=True, timeout=PATIENCE, check=False)
+    return ran.returncode != 2
+
+
+def converse(place, request, ending, rounds, together, meeting, told):
+    """One client of several: the same request again and again, so many written together. A reply is told by its end."""
+    with Connection(place) as connection:
+        talk, batch = connection.socket, request * together
+
+        def round_trip(sent, due):
+            talk.sendall(sent)
+            heard = b""
+            while heard.count(ending) < due:
+                part = talk.recv(65536)
+                if not part:
+                    sys.exit(f"the server closed behind {heard!r}")
+                heard += part
+
+        round_trip(request, 1)
+        meeting.wait()
+        start = time.monotonic()
+        for _ in range(rounds):
+            round_trip(batch, together)
+        told.put((start, time.monotonic()))
+        meeting.wait()
+
+
+def run_clients(server, method, target, status, fields, count, at_once, together):
+    """How many requests were answered, in how much time by the clock, and in how much of the server's processor time."""
+    with server.connect() as first:
+        request = first.head(method, target, **fields)
+        ending = b"\r\n\r\n" + wanted(first.ask(method, target, **fields), status).body
+    meeting, told = FORK.Barrier(at_once + 1, timeout=PATIENCE), FORK.Queue()
+    rounds = count // together // at_once
+    words = (server.place, request, ending, rounds, together, meeting, told)
+    clients = [FORK.Process(target=converse, args=words) for _ in range(at_once)]
+    for client in clients:
+        client.start()
+    while meeting.n_waiting < at_once:
+        time.sleep(0.01)
+        if any(client.exitcode for client in clients):
+            sys.exit("a client failed")
+    before = server.processor()
+    meeting.wait()
+    spans = [told.get(timeout=PATIENCE) for _ in clients]
+    processor = server.processor() - before
+    meeting.wait()
+    for client in clients:
+        client.join()
+    return rounds * together * at_once, max(last for _, last in spans) - min(start for start, _ in spans), processor
+
+
+def small_row(server, method, target, status, fields, count, at_once, together):
+    wall, processor = [], []
+    for _ in range(RUNS):
+        with server:
+            answered, taken, used = run_clients(server, method, target, status, fields, count, at_once, together)
+            wall.append(taken)
+            processor.append(used)
+    return {
+        "requests": answered,
+        "requests_a_second": answered / min(wall),
+        "requests_a_server_second": answered / min(processor),
+    }
+
+
+def server_rows(server, blob):
+    """Every row that one server has: its kind, what was asked, and the figures."""
+    for what, chunk in (("one body", blob.size), *((f"chunks of {size} MiB", size * MIB) for size in (16, 4, 1))):
+        yield "upload", f"upload in {what}", upload_row(server, blob, chunk)
+    yield "pull", "pull", pull_row(server, blob)
+    small = {
+        "GET /v2/": ("GET", "/v2/", 200, {}, SMALL_REQUESTS),
+        "opening": ("POST", "/v2/lib/a/blobs/uploads/", 202, {"Content_Length": 0}, OPENINGS),
+    }
+    ways = {"one connection": (1, 1), "two at once": (2, 1), f"one connection, {PIPELINED} written together": (1, PIPELINED)}
+    for asked, words in small.items():
+        for way, (at_once, together) in ways.items():
+            yield "small", f"{asked}, {way}", small_row(server, *words, at_once, together)
+
+
+def push_rows(server, blob):
+    for what, chunk in (("one chunk", blob.size), ("chunks of 1 MiB", MIB)):
+        yield "push", f"push in {what}", push_row(server, blob, chunk)
+
+
+def mib(value):
+    return f"{value / MIB:.0f}"
+
+
+SPEED = {"MiB a second": ("bytes_a_second", mib)}
+SPENT = {"server's processor, s": ("server_seconds", "{:.3f}".format)}
+HASHING = {
+    "of sha256sum's speed": ("of_sha256sum", "{:.2f}".format),
+    "the same by processor time": ("of_sha256sum_by_processor", "{:.2f}".format),
+    "sha256sum's processor, s": ("sha256sum_seconds", "{:.3f}".format),
+}
+COLUMNS = {
+    "upload": {**SPEED, **HASHING, **SPENT, "server's peak memory a byte": ("peak_bytes_a_byte", "{:.3f}".format)},
+    "pull": {
+        **SPEED,
+        "of a bare connection's": ("of_bare_connection", "{:.2f}".format),
+        "bare connection, s": ("bare_seconds", "{:.3f}".format),
+        **SPENT,
+        "server's peak memory a byte": ("peak_bytes_a_byte", "{:.3f}".format),
+    },
+    "small": {
+        "requests a second by the clock": ("requests_a_second", "{:.0f}".format),
+        "requests a second of the server's processor": ("requests_a_server_second", "{:.0f}".format),
+    },
+    "push": {
+        **SPEED,
+        **HASHING,
+        **SPENT,
+        "client's processor, s": ("client_seconds", "{:.3f}".format),
+        "client's peak memory a byte": ("client_peak_bytes_a_byte", "{:.3f}".format),
+    },
+}
+
+
+def print_tables(rows):
+    """A table for each kind of row, in Markdown, where each server's row stands beside the others'."""
+    for kind, columns in COLUMNS.items():
+        chosen = [row for row in rows if row["kind"] == kind]
+        order = list(dict.fromkeys(row["what"] for row in chosen))
+        chosen.sort(key=lambda row: order.index(row["what"]))
+        lines = [[row["what"], row["server"], *(show(row[key]) for key, show in columns.values())] for row in chosen]
+        if lines:
+            heads = ["what", "server", *columns]
+            widths = [max(map(len, cells)) for cells in zip(heads, *lines)]
+            rules = ["-" * width if place < 2 else "-" * (width - 1) + ":" for place, width in enumerate(widths)]
+            print()
+            for line in (heads, rules, *lines):
+                texts = (text.ljust(width) if place < 2 else text.rjust(width) for place, (text, width) in enumerate(zip(line, widths)))
+                print(f"| {' | '.join(texts)} |")
+
+
+def machine():
+    with open("/proc/cpuinfo", encoding="utf-8") as told:
+        models = [line.split(":", 1)[1].strip() for line in told if line.startswith("model name")]
+    memory = os.sysconf("SC_PAGE_SIZE") * os.sysconf("SC_PHYS_PAGES")
+    return {"model": models[0] if models else os.uname().machine, "cores": os.cpu_count(), "memory_bytes": memory, "system": os.uname().release}
+
+
+def read_words():
+    words = argparse.ArgumentParser(description="figures of `blobd serve` and `blobd push` over loopback")
+    words.add_argument("program", metavar="PROGRAM")
+    words.add_argument("--json", metavar="FILE", help="write the figures there too")
+    words.add_argument("--mib", metavar="SIZE", type=int, default=256, help="the blob's size in MiB")
+    return words.parse_args()
+
+
+def measure(program, blob, folder):
+    """The rows of each server, and those of the client."""
+    blobd = Blobd(program)
+    measured = [(blobd, server_rows(blobd, blob))]
+    if has_push(program):
+        measured.append((blobd, push_rows(blobd, blob)))
+    else:
+        print("skipped: push, which this program doesn't have", flush=True)
+    if registry := shutil.which("docker-registry"):
+        registry = DockerRegistry(registry, folder)
+        measured.append((registry, server_rows(registry, blob)))
+    else:
+        print("skipped: docker-registry, which isn't installed", flush=True)
+    for server, rows in measured:
+        for kind, what, figures in rows:
+            print(f"measured: {server.name}: {what}", file=sys.stderr, flush=True)
+            yield {"kind": kind, "what": what, "server": server.name, **figures}
+
+
+def main():
+    words = read_words()
+    load = [os.getloadavg()[0]]
+    with tempfile.TemporaryDirectory(dir="/dev/shm") as folder:
+        blob = Blob(folder, words.mib * MIB)
+        library = hashed_by_library(blob)
+        rows = list(measure(os.path.abspath(words.program), blob, folder))
+    load.append(os.getloadavg()[0])
+    told = {"machine": machine(), "load": load, "blob_bytes": blob.size, "runs": RUNS, "hashlib_seconds": library, "rows": rows}
+    found = told["machine"]
+    print(f"{found['model']}, {found['cores']} cores, {found['memory_bytes'] / (1 << 30):.0f} GiB; Linux {found['system']}")
+    print(f"load {load[0]:.1f} before, {load[1]:.1f} after; a blob of {words.mib} MiB; the best of {RUNS} runs")
+    print(f"SHA-256 of the blob by Python's hashlib: {library:.3f} s of the processor")
+    print_tables(rows)
+    if words.json:
+        with open(words.json, "w", encoding="utf-8") as file:
+            json.dump(told, file, indent=2)
+            file.write("\n")
+
+
+if __name__ == "__main__":
+    main()
