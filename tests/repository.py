@@ -24,6 +24,9 @@ IMPL = re.compile(r"^impl(?:<.*?>)?\s+(?:[\w:<>', ]+\s+for\s+)?(\w+)")
 TEST_MODULE = re.compile(r"#\[cfg\(test\)\]\s*mod \w+ \{")
 # A law takes nothing and gives nothing: its contract is all that it has.
 LAW = re.compile(r"^\s*pub fn \w+\(\)\s*(\{\s*\})?$")
+# The page that names each must-fail edit, and how it sets a name.
+WRONG_BODIES = "docs/WRONG-BODIES.md"
+NAME = re.compile(r"`(\w+)`")
 
 
 # Functions that no edit can turn: their types leave no other body that compiles.
@@ -133,12 +136,36 @@ def unbroken(_):
     return found
 
 
+def named_edits():
+    """The crate and the name of each edit in the tables of the page of wrong bodies."""
+    named, crate = set(), None
+    for line in text_of(WRONG_BODIES).splitlines():
+        cells = [NAME.findall(cell) for cell in line.split("|")[1:-1]]
+        if line.startswith("## "):
+            crate = next(iter(NAME.findall(line)), None)
+        elif crate and cells:
+            named.update((crate, edit) for edit in cells[0])
+        elif len(cells) == 4:
+            named.update((crate, edit) for crate in cells[1] for edit in cells[2])
+    return named
+
+
+def unnamed(paths):
+    """Must-fail edits that the page of wrong bodies doesn't name, and names there of edits that aren't there."""
+    parts = [path.split("/") for path in paths if path.endswith(".edit")]
+    there = {(crate, name[: -len(".edit")]) for _, crate, _, name in parts}
+    named = named_edits()
+    found = [f"{WRONG_BODIES} doesn't name the edit {edit} of {crate}" for crate, edit in sorted(there - named)]
+    return found + [f"{WRONG_BODIES} names the edit {edit} of {crate}, which isn't there" for crate, edit in sorted(named - there)]
+
+
 CHECKS = [
     ("no line cites what the repository doesn't have", citations),
     ("no hole in a proof", holes),
     ("no output is committed", outputs),
     ("HANDLES is its one line", handles),
     ("every public function has a must-fail edit", unbroken),
+    ("every must-fail edit is named among the wrong bodies", unnamed),
 ]
 
 

@@ -1,8 +1,9 @@
 //! Two workers, which serve connections at once, and the keeper beside them.
-ghost use Rattle.std.specs.Prelude.{◌≤◌, IfOk};
+ghost use Rattle.std.specs.Prelude.{◌≡◌, ◌≤◌, ◌+◌, ◌⊎◌, min, IfOk};
 ghost use Rattle.upload_service.specs.Machine.{IsLawful, AreLawful};
 ghost use Rattle.upload_intake.specs.Seats.{IsSameSeat};
 ghost use Rattle.upload_intake.specs.Served.{ComesOf, AreOfOneCall};
+ghost use Rattle.upload_intake.specs.Settled.{count_limit};
 
 use crate::conns::Conns;
 use crate::desk::SeatDesk;
@@ -94,7 +95,9 @@ impl WorkerEnd {
     // Counts a connection that ended so.
     fn count(&mut self, end: ConnEnd)
         requires { self.old.clean ≤ self.old.conns }
-        ensures { self.new.clean ≤ self.new.conns }
+        ensures order { self.new.clean ≤ self.new.conns }
+        ensures conns { self.new.conns ≡ min (self.old.conns + 1) count_limit }
+        ensures clean { (self.new.clean ≡ self.old.clean) ⊎ (self.new.clean ≡ min (self.old.clean + 1) count_limit) }
     {
         self.conns = self.conns.saturating_add(1);
         if matches!(end, ConnEnd::Clean | ConnEnd::AfterClose) {

@@ -1,5 +1,5 @@
 //! Asks, written as requests.
-ghost use Rattle.std.specs.Prelude.{◌≡◌, ◌++◌, List, ℕ, IsTrue, Some, codes, flat_map};
+ghost use Rattle.std.specs.Prelude.{◌≡◌, ◌++◌, List, ℕ, IsTrue, OnOk, Some, codes, flat_map};
 ghost use Rattle.upload_wire.specs.Writing.{Wrote, sink};
 ghost use Rattle.upload_wire.specs.Gathering.{Puts};
 ghost use Rattle.upload_wire.specs.AskText.{CanBeWritten, IsAbsentOrGiven, ask_text, body_fields, digest_or_nothing, digest_query, host_text, is_host, look_method, message_of, query_text, range_fields, request_line, section_text};
@@ -20,8 +20,9 @@ use upload_service::{Ask, Extent};
 pub fn write_ask<W: ByteSink>(writer: &mut W, ask: &Ask, host: &[u8]) -> Result<(), WriteFault>
     requires writable { CanBeWritten ask.now }
     requires host { IsTrue (is_host host.now) }
-    ensures { Wrote (sink (W.contents writer.old) (W.failed_writes writer.old))
+    ensures wrote { Wrote (sink (W.contents writer.old) (W.failed_writes writer.old))
         (sink (W.contents writer.new) (W.failed_writes writer.new)) (ask_text ask.now host.now) result }
+    ensures flushed { OnOk result (IsTrue (W.is_flushed writer.new)) }
 {
     let mut head = Gather::new();
     put_request_line(&mut head, writer, ask);

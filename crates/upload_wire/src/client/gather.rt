@@ -1,5 +1,5 @@
 //! The head of a request, gathered so that it leaves in one write where it is short.
-ghost use Rattle.std.specs.Prelude.{◌≡◌, ◌++◌, ℕ, List, [], false, decimal};
+ghost use Rattle.std.specs.Prelude.{◌≡◌, ◌++◌, ℕ, List, [], false, decimal, IsTrue, OnOk};
 ghost use Rattle.upload_wire.specs.Writing.{Sink, Wrote, sink};
 ghost use Rattle.upload_wire.specs.Gathering.{Gathered, Puts};
 
@@ -64,9 +64,10 @@ impl Gather {
 
     /// Writes what it has and the body behind it, and flushes.
     pub(crate) fn finish<W: ByteSink>(self, writer: &mut W, body: &[u8]) -> Result<(), WriteFault>
-        ensures { (start : Sink) (before : List ℕ)
+        ensures wrote { (start : Sink) (before : List ℕ)
             → Gathered start (sink (W.contents writer.old) (W.failed_writes writer.old)) self before
             → Wrote start (sink (W.contents writer.new) (W.failed_writes writer.new)) (before ++ body.now) result }
+        ensures flushed { OnOk result (IsTrue (W.is_flushed writer.new)) }
     {
         if self.failed {
             return Err(WriteFault);

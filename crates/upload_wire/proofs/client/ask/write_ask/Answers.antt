@@ -5,11 +5,11 @@ use Rattle.upload_wire.proofs.WritingLemmas.{appends_none}
 use Rattle.upload_wire.proofs.AskTextLemmas.{whole_text}
 use Rattle.upload_wire.proofs.client.ask.write_ask.Goals as goal
 
-pub returns : goal.returns
-returns g c =
+pub returns-clause-wrote : goal.returns-clause-wrote
+returns-clause-wrote g c =
     let start = sink (g.W.ByteSink.contents c.args.writer.now) (g.W.ByteSink.failed_writes c.args.writer.now) in
     let new = sink (g.W.ByteSink.contents c.finish.new.writer) (g.W.ByteSink.failed_writes c.finish.new.writer) in
     let nothing : Gathered start start c.new-head.result [] =
     subst (λ h. Gathered start start h []) (sym c.new-head.ensures) ([], record { grown = appends_none start.contents; unfailed = refl }, refl) in
-    let wrote = c.finish.ensures start _ (c.put_section.ensures start _ (c.put_host.ensures start _ (c.put_request_line.ensures start [] nothing))) in
+    let wrote = c.finish.ensures.wrote start _ (c.put_section.ensures start _ (c.put_host.ensures start _ (c.put_request_line.ensures start [] nothing))) in
     subst (λ t. Wrote start new t c.finish.result) (whole_text c.args.ask.now c.args.host.now _ c.body_of.ensures) wrote

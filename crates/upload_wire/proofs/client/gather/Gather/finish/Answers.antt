@@ -5,13 +5,13 @@ use Rattle.upload_wire.specs.declared.writing.WriteFault.{WriteFault}
 use Rattle.upload_wire.proofs.GatherLemmas.{end_failed, write_held}
 use Rattle.upload_wire.proofs.client.gather.Gather.finish.Goals as goal
 
-pub returns-then-self : goal.returns-then-self
-returns-then-self g c = λ start before held.
+pub returns-then-self-clause-wrote : goal.returns-then-self-clause-wrote
+returns-then-self-clause-wrote g c = λ start before held.
     let failed = sym (ap (λ (h : Held). h.failed) c.self.view_is) ∙ c.if-self.true in
     end_failed start _ c.args.self before c.args.body.now (record {}) failed held
 
-pub returns : goal.returns
-returns g c = λ start before held.
+pub returns-clause-wrote : goal.returns-clause-wrote
+returns-clause-wrote g c = λ start before held.
     let failed = sym (ap (λ (h : Held). h.failed) c.self.view_is) ∙ c.if-self.false in
     let bytes = c.as_slice.ensures.value ∙ ap (λ (h : Held). h.bytes) c.self.view_is in
     let now = sink (g.W.ByteSink.contents c.args.writer.now) (g.W.ByteSink.failed_writes c.args.writer.now) in
