@@ -7,7 +7,7 @@ help:
 	@echo 'make test    everything that must hold: proofs from nothing, must-fail edits, tests, the repository'"'"'s own checks'
 	@echo 'make check   proves what changed since the last check (quick; make test is the judge)'
 	@echo 'make format  lays out the sources'
-	@echo 'make figures speed and memory of `blobd once`, as ratios in one run (after make once)'
+	@echo 'make figures speed and memory of `blobd once` and of the service alone, as ratios in one run (after make once)'
 
 once:
 	@cd crates/blobd && rt run -- once < stdin
@@ -23,3 +23,5 @@ format:
 
 figures:
 	@python3 bench/connection.py crates/blobd/out/blobd
+	@cd crates/bench_service && rt run
+	@python3 bench/service.py crates/bench_service/out/bench_service
