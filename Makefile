@@ -14,7 +14,7 @@ help:
 	@echo 'make check   proves what changed since the last check (quick; make test is the judge)'
 	@echo 'make format  lays out the sources'
 	@echo 'make fuzz    20,000 generated streams of requests through `blobd once` (after make once; make test runs 500)'
-	@echo 'make figures speed and memory of `blobd once`, as ratios in one run (after make once)'
+	@echo 'make figures speed and memory of `blobd once` and of the service alone, as ratios in one run (after make once)'
 	@echo 'make bench   the same of `blobd serve` and `blobd push`, over loopback (after make once; docs/PERFORMANCE.md)'
 
 once:
@@ -43,6 +43,8 @@ format:
 
 figures:
 	@python3 bench/connection.py crates/blobd/out/blobd
+	@cd crates/bench_service && rt run
+	@python3 bench/service.py crates/bench_service/out/bench_service
 
 bench:
 	@python3 bench/loopback.py crates/blobd/out/blobd $(if $(JSON),--json $(JSON))

@@ -3,6 +3,7 @@
 
 Prints a line for each check, and 'N passed, M failed' as the last. Exit status 1 where one failed.
 """
+import glob
 import os
 import re
 import subprocess
@@ -28,6 +29,9 @@ LAW = re.compile(r"^\s*pub fn \w+\(\)\s*(\{\s*\})?$")
 WRONG_BODIES = "docs/WRONG-BODIES.md"
 NAME = re.compile(r"`(\w+)`")
 
+LITERAL = re.compile(r'"((?:[^"\\]|\\.)*)"')
+# The tests of disturbed streams make these themselves.
+LONGEST_HEADS = {"head-of-16384-bytes", "head-of-16385-bytes"}
 
 # Functions that no edit can turn: their types leave no other body that compiles.
 NO_OTHER_BODY = {
@@ -46,6 +50,12 @@ def text_of(path):
             return file.read()
     except (UnicodeDecodeError, FileNotFoundError):
         return ""
+
+
+def content(path):
+    """A file as it is, byte for byte: its line ends stay."""
+    with open(os.path.join(TOP, path), encoding="ascii", newline="") as file:
+        return file.read()
 
 
 def citations(paths):
@@ -159,6 +169,29 @@ def unnamed(paths):
     return found + [f"{WRONG_BODIES} names the edit {edit} of {crate}, which isn't there" for crate, edit in sorted(named - there)]
 
 
+def text_of_literal(literal):
+    """The text of a string literal of the sources."""
+    return literal.replace("\\r", "\r").replace("\\n", "\n").replace('\\"', '"')
+
+
+def disturbed(_):
+    """Stored connections that the tests of disturbed streams don't hold as they are."""
+    source = text_of("crates/upload_wire/src/connection/stored.rt")
+    found = []
+    for path in sorted(glob.glob(os.path.join(TOP, "tests/connections/*.in"))):
+        name = os.path.basename(path)[: -len(".in")]
+        if name in LONGEST_HEADS:
+            continue
+        held = re.search(rf'\n        name: "{name}",\n(.*?)\n    \}}\n', source, re.DOTALL)
+        texts = [text_of_literal(literal) for literal in LITERAL.findall(held.group(1))] if held else [""]
+        # Requests and replies in turn, and then what is sent behind them.
+        sent, replies = "".join(texts[0:-1:2]) + texts[-1], "".join(texts[1::2])
+        stored = f"tests/connections/{name}"
+        if not held or len(texts) % 2 == 0 or (sent, replies) != (content(f"{stored}.in"), content(f"{stored}.out")):
+            found.append(f"{stored}.in isn't what crates/upload_wire/src/connection/stored.rt holds")
+    return found
+
+
 CHECKS = [
     ("no line cites what the repository doesn't have", citations),
     ("no hole in a proof", holes),
@@ -166,6 +199,7 @@ CHECKS = [
     ("HANDLES is its one line", handles),
     ("every public function has a must-fail edit", unbroken),
     ("every must-fail edit is named among the wrong bodies", unnamed),
+    ("every stored connection is disturbed", disturbed),
 ]
 
 

@@ -15,7 +15,11 @@ use std::alloc::Global;
 use upload_service::{Ask, Limits};
 
 #[cfg(test)]
+mod disturbed;
+#[cfg(test)]
 mod rows;
+#[cfg(test)]
+mod stored;
 #[cfg(test)]
 mod tests;
 

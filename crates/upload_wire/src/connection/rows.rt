@@ -1,46 +1,5 @@
 //! Connections and what they are answered, byte for byte.
 
-/// An upload: opened, asked for its status, three chunks of which the last is a repeat, closed, and three
-/// requests behind the close; each request with its reply.
-pub(super) const UPLOAD: [(&str, &str); 9] = [
-    (
-        "POST /v2/lib/a/blobs/uploads/ HTTP/1.1\r\nHost: h\r\nContent-Length: 0\r\n\r\n",
-        "HTTP/1.1 202 Accepted\r\nLocation: /v2/lib/a/blobs/uploads/00000001-0000-8000-8000-000000000000\r\nContent-Length: 0\r\n\r\n",
-    ),
-    (
-        "GET /v2/lib/a/blobs/uploads/00000001-0000-8000-8000-000000000000 HTTP/1.1\r\nHost: h\r\n\r\n",
-        "HTTP/1.1 204 No Content\r\nLocation: /v2/lib/a/blobs/uploads/00000001-0000-8000-8000-000000000000\r\n\r\n",
-    ),
-    (
-        "PATCH /v2/lib/a/blobs/uploads/00000001-0000-8000-8000-000000000000 HTTP/1.1\r\nHost: h\r\nContent-Range: 0-0\r\nContent-Length: 1\r\n\r\na",
-        "HTTP/1.1 202 Accepted\r\nLocation: /v2/lib/a/blobs/uploads/00000001-0000-8000-8000-000000000000\r\nRange: 0-0\r\nContent-Length: 0\r\n\r\n",
-    ),
-    (
-        "PATCH /v2/lib/a/blobs/uploads/00000001-0000-8000-8000-000000000000 HTTP/1.1\r\nHost: h\r\nContent-Range: 1-2\r\nContent-Length: 2\r\n\r\nbc",
-        "HTTP/1.1 202 Accepted\r\nLocation: /v2/lib/a/blobs/uploads/00000001-0000-8000-8000-000000000000\r\nRange: 0-2\r\nContent-Length: 0\r\n\r\n",
-    ),
-    (
-        "PATCH /v2/lib/a/blobs/uploads/00000001-0000-8000-8000-000000000000 HTTP/1.1\r\nHost: h\r\nContent-Range: 1-2\r\nContent-Length: 2\r\n\r\nbc",
-        "HTTP/1.1 416 Range Not Satisfiable\r\nLocation: /v2/lib/a/blobs/uploads/00000001-0000-8000-8000-000000000000\r\nRange: 0-2\r\nContent-Type: application/json\r\nContent-Length: 75\r\n\r\n{\"errors\":[{\"code\":\"BLOB_UPLOAD_INVALID\",\"message\":\"blob upload invalid\"}]}",
-    ),
-    (
-        "PUT /v2/lib/a/blobs/uploads/00000001-0000-8000-8000-000000000000?digest=sha256:ba7816bf8f01cfea414140de5dae2223b00361a396177a9cb410ff61f20015ad HTTP/1.1\r\nHost: h\r\n\r\n",
-        "HTTP/1.1 201 Created\r\nLocation: /v2/lib/a/blobs/sha256:ba7816bf8f01cfea414140de5dae2223b00361a396177a9cb410ff61f20015ad\r\nContent-Length: 0\r\n\r\n",
-    ),
-    (
-        "PATCH /v2/lib/a/blobs/uploads/00000001-0000-8000-8000-000000000000 HTTP/1.1\r\nHost: h\r\nContent-Range: 3-3\r\nContent-Length: 1\r\n\r\nx",
-        "HTTP/1.1 404 Not Found\r\nContent-Type: application/json\r\nContent-Length: 87\r\n\r\n{\"errors\":[{\"code\":\"BLOB_UPLOAD_UNKNOWN\",\"message\":\"blob upload unknown to registry\"}]}",
-    ),
-    (
-        "GET /v2/lib/a/blobs/uploads/00000001-0000-8000-8000-000000000000 HTTP/1.1\r\nHost: h\r\n\r\n",
-        "HTTP/1.1 404 Not Found\r\nContent-Type: application/json\r\nContent-Length: 87\r\n\r\n{\"errors\":[{\"code\":\"BLOB_UPLOAD_UNKNOWN\",\"message\":\"blob upload unknown to registry\"}]}",
-    ),
-    (
-        "PUT /v2/lib/a/blobs/uploads/00000001-0000-8000-8000-000000000000?digest=sha256:ba7816bf8f01cfea414140de5dae2223b00361a396177a9cb410ff61f20015ad HTTP/1.1\r\nHost: h\r\n\r\n",
-        "HTTP/1.1 404 Not Found\r\nContent-Type: application/json\r\nContent-Length: 87\r\n\r\n{\"errors\":[{\"code\":\"BLOB_UPLOAD_UNKNOWN\",\"message\":\"blob upload unknown to registry\"}]}",
-    ),
-];
-
 /// A chunk past the largest blob of 3 bytes.
 pub(super) const BLOB_LIMIT: (&str, &str) = (
     "POST /v2/lib/a/blobs/uploads/ HTTP/1.1\r\nHost: h\r\nContent-Length: 0\r\n\r\nPATCH /v2/lib/a/blobs/uploads/00000001-0000-8000-8000-000000000000 HTTP/1.1\r\nHost: h\r\nContent-Range: 0-2\r\nContent-Length: 3\r\n\r\nabcPATCH /v2/lib/a/blobs/uploads/00000001-0000-8000-8000-000000000000 HTTP/1.1\r\nHost: h\r\nContent-Range: 3-3\r\nContent-Length: 1\r\n\r\nxPATCH /v2/lib/a/blobs/uploads/00000001-0000-8000-8000-000000000000 HTTP/1.1\r\nHost: h\r\n\r\n",

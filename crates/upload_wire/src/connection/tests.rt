@@ -1,12 +1,12 @@
 //! Connections over memory, against bytes written by hand.
 use super::rows::{
     AFTER_NINE, BAD_LENGTH, BAD_VERSION, BLOB_LIMIT, BODY_LIMIT, CHUNKED, CHUNKED_LIMIT, CLOSED,
-    LAST_NUMBER, ONE_SESSION, UPLOAD,
+    LAST_NUMBER, ONE_SESSION,
 };
+use super::stored::whole_upload;
 use super::{ConnEnd, ConnFault, serve_connection};
-use crate::bytes::{ByteSink, ByteSource, Failed};
+use crate::bytes::{ByteSink, ByteSource};
 use crate::desk::{Desk, ServiceDesk};
-use crate::fault::WireFault;
 use crate::memory::{MemorySink, MemorySource};
 use std::alloc::Global;
 use std::process::Abort;
@@ -20,10 +20,6 @@ const LIMITS: Limits = Limits {
     max_idle: 3_600,
 };
 
-const READ: ConnEnd = ConnEnd::Fault(ConnFault::Wire(WireFault::Read));
-
-const TRUNCATED: ConnEnd = ConnEnd::Fault(ConnFault::Wire(WireFault::Truncated));
-
 /// Serves a connection over a service with the zero secret and at moment 0.
 fn serve<S: ByteSource, W: ByteSink>(
     rt: &impl Abort,
@@ -36,16 +32,6 @@ fn serve<S: ByteSource, W: ByteSink>(
     assert!(rt; limits.lawful());
     let mut desk = ServiceDesk::new(Service::after(alloc, limits, issued), [0; 12], 0);
     serve_connection(alloc, reader, writer, &mut desk, limits)
-}
-
-/// The requests of the upload one after another, or its replies.
-fn joined(alloc: Global, replies: bool) -> Result<Vec<u8>, Fail> {
-    let mut all = Vec::new(alloc);
-    for (request, reply) in UPLOAD {
-        let text = if replies { reply } else { request };
-        all.extend_from_slice(text.as_bytes())?;
-    }
-    Ok(all)
 }
 
 #[test]
@@ -87,115 +73,6 @@ fn connections_are_answered_as_written(rt: HostRuntime) -> Result<(), Fail> {
     Ok(())
 }
 
-/// Whether the first bytes of the upload's requests, so many, are whole requests, and the replies to those that
-/// are whole.
-fn replies_before(alloc: Global, count: usize) -> Result<(bool, Vec<u8>), Fail> {
-    let mut replies = Vec::new(alloc);
-    let mut end = 0usize;
-    for (request, reply) in UPLOAD {
-        if end.saturating_add(request.len()) > count {
-            break;
-        }
-        end = end.saturating_add(request.len());
-        replies.extend_from_slice(reply.as_bytes())?;
-    }
-    Ok((end == count, replies))
-}
-
-#[test]
-fn an_upload_is_cut_and_disturbed_after_each_byte(rt: HostRuntime) -> Result<(), Fail> {
-    let requests = joined(rt.alloc(), false)?;
-    for count in 0..=requests.len() {
-        let (whole, replies) = replies_before(rt.alloc(), count)?;
-        let cut = if whole { ConnEnd::Clean } else { TRUNCATED };
-        for (fails, end) in [(false, cut), (true, READ)] {
-            let mut reader = MemorySource::new(&requests[..count], 65_536, fails);
-            let mut writer = MemorySink::new(Vec::new(rt.alloc()), 65_536, 65_536);
-            let ended = serve(&rt, rt.alloc(), &mut reader, &mut writer, LIMITS, 0);
-            assert_eq!(rt; ended, end, "{count}");
-            assert_eq!(rt; writer.as_slice(), replies.as_slice(), "{count}");
-        }
-    }
-    Ok(())
-}
-
-#[test]
-fn an_upload_is_written_by_a_writer_that_fails_after_each_byte(
-    rt: HostRuntime,
-) -> Result<(), Fail> {
-    let requests = joined(rt.alloc(), false)?;
-    let replies = joined(rt.alloc(), true)?;
-    for room in 0..=replies.len() {
-        let mut reader = MemorySource::new(requests.as_slice(), 65_536, false);
-        let mut writer = MemorySink::new(Vec::new(rt.alloc()), 1, room);
-        let ended = serve(&rt, rt.alloc(), &mut reader, &mut writer, LIMITS, 0);
-        let end = if room < replies.len() {
-            ConnEnd::Fault(ConnFault::Write)
-        } else {
-            ConnEnd::Clean
-        };
-        assert_eq!(rt; ended, end, "{room}");
-        assert_eq!(rt; writer.as_slice(), &replies[..room], "{room}");
-    }
-    Ok(())
-}
-
-/// Takes all that it is given, and so many flushes.
-#[derive(Drop)]
-struct FailingFlush {
-    items: Vec<u8>,
-    flushes: u64,
-    failed: u64,
-}
-
-impl ByteSink for FailingFlush {
-    ghost use Rattle.std.specs.Prelude.{None, ◌^◌};
-
-    ghost contents = { λ _. None };
-
-    ghost writes = { λ _. 2 ^ 64 };
-
-    ghost failed_writes = { λ s. s.failed };
-
-    fn write(&mut self, buf: &[u8]) -> Result<usize, Failed> {
-        if self.items.extend_from_slice(buf).is_err() {
-            self.failed = self.failed.saturating_add(1);
-            return Err(Failed);
-        }
-        Ok(buf.len())
-    }
-
-    fn flush(&mut self) -> Result<(), Failed> {
-        if self.flushes == 0 {
-            self.failed = self.failed.saturating_add(1);
-            return Err(Failed);
-        }
-        self.flushes -= 1;
-        Ok(())
-    }
-}
-
-#[test]
-fn a_failed_flush_ends_the_connection(rt: HostRuntime) -> Result<(), Fail> {
-    let requests = joined(rt.alloc(), false)?;
-    let mut replies = Vec::new(rt.alloc());
-    let mut flushes = 0u64;
-    for (_, reply) in UPLOAD {
-        replies.extend_from_slice(reply.as_bytes())?;
-        let mut reader = MemorySource::new(requests.as_slice(), 65_536, false);
-        let mut writer = FailingFlush {
-            items: Vec::new(rt.alloc()),
-            flushes,
-            failed: 0,
-        };
-        let ended = serve(&rt, rt.alloc(), &mut reader, &mut writer, LIMITS, 0);
-        assert_eq!(rt; ended, ConnEnd::Fault(ConnFault::Write), "{flushes}");
-        assert_eq!(rt; writer.items.as_slice(), replies.as_slice(), "{flushes}");
-        flushes = flushes.saturating_add(1);
-    }
-    Ok(())
-}
-
 /// Answers so many asks, and is gone then.
 #[derive(Drop)]
 struct LeavingDesk {
@@ -219,7 +96,7 @@ impl Desk for LeavingDesk {
 #[test]
 fn a_desk_that_is_gone_gives_no_reply(rt: HostRuntime) -> Result<(), Fail> {
     assert!(rt; LIMITS.lawful());
-    let requests = joined(rt.alloc(), false)?;
+    let requests = whole_upload().sent(rt.alloc())?;
     let mut reader = MemorySource::new(requests.as_slice(), 65_536, false);
     let mut writer = MemorySink::new(Vec::new(rt.alloc()), 65_536, 65_536);
     let mut desk = LeavingDesk { left: 1, asked: 0 };
@@ -234,7 +111,7 @@ fn a_desk_that_is_gone_gives_no_reply(rt: HostRuntime) -> Result<(), Fail> {
 #[test]
 fn nothing_is_asked_behind_a_failed_write(rt: HostRuntime) -> Result<(), Fail> {
     assert!(rt; LIMITS.lawful());
-    let requests = joined(rt.alloc(), false)?;
+    let requests = whole_upload().sent(rt.alloc())?;
     let mut reader = MemorySource::new(requests.as_slice(), 65_536, false);
     let mut writer = MemorySink::new(Vec::new(rt.alloc()), 65_536, 40);
     let mut desk = LeavingDesk { left: 9, asked: 0 };
