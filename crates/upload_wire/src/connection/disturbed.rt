@@ -219,8 +219,13 @@ fn connections_27_to_30_are_cut(rt: HostRuntime) -> Result<(), Fail> {
 }
 
 #[test]
-fn connections_31_to_35_are_cut(rt: HostRuntime) -> Result<(), Fail> {
-    cut_all(&rt, rt.alloc(), 31, 36)
+fn connections_31_to_33_are_cut(rt: HostRuntime) -> Result<(), Fail> {
+    cut_all(&rt, rt.alloc(), 31, 34)
+}
+
+#[test]
+fn connections_34_to_35_are_cut(rt: HostRuntime) -> Result<(), Fail> {
+    cut_all(&rt, rt.alloc(), 34, 36)
 }
 
 #[test]
@@ -272,8 +277,13 @@ fn unwritten_all(rt: &impl Abort, alloc: Global, first: usize, behind: usize) ->
 }
 
 #[test]
-fn writes_fail_in_connections_0_to_13(rt: HostRuntime) -> Result<(), Fail> {
-    unwritten_all(&rt, rt.alloc(), 0, 14)
+fn writes_fail_in_connections_0_to_2(rt: HostRuntime) -> Result<(), Fail> {
+    unwritten_all(&rt, rt.alloc(), 0, 3)
+}
+
+#[test]
+fn writes_fail_in_connections_3_to_13(rt: HostRuntime) -> Result<(), Fail> {
+    unwritten_all(&rt, rt.alloc(), 3, 14)
 }
 
 #[test]
@@ -282,13 +292,23 @@ fn writes_fail_in_connections_14_to_21(rt: HostRuntime) -> Result<(), Fail> {
 }
 
 #[test]
-fn writes_fail_in_connections_22_to_30(rt: HostRuntime) -> Result<(), Fail> {
-    unwritten_all(&rt, rt.alloc(), 22, 31)
+fn writes_fail_in_connections_22_to_26(rt: HostRuntime) -> Result<(), Fail> {
+    unwritten_all(&rt, rt.alloc(), 22, 27)
 }
 
 #[test]
-fn writes_fail_in_connections_31_to_37(rt: HostRuntime) -> Result<(), Fail> {
-    unwritten_all(&rt, rt.alloc(), 31, COUNT)
+fn writes_fail_in_connections_27_to_30(rt: HostRuntime) -> Result<(), Fail> {
+    unwritten_all(&rt, rt.alloc(), 27, 31)
+}
+
+#[test]
+fn writes_fail_in_connections_31_to_35(rt: HostRuntime) -> Result<(), Fail> {
+    unwritten_all(&rt, rt.alloc(), 31, 36)
+}
+
+#[test]
+fn writes_fail_in_connections_36_to_37(rt: HostRuntime) -> Result<(), Fail> {
+    unwritten_all(&rt, rt.alloc(), 36, COUNT)
 }
 
 #[test]
