@@ -150,25 +150,32 @@ bad_body_next max old new held rest p framing number f framed b = record {
   })));
 }
 
+-- what came behind the head ends inside the body
+cut_next : (max : ℕ) (old new : Option (List ℕ)) (held : List ℕ) (p : ParsedHead) (framing : Framing) (f : IsHeadAtFront held p)
+    → Ok framing ≡ framing_of max p.spans.version (fields_of (take p.spans.len held) p)
+    → (b : CutsBody max framing old (drop p.spans.len held) new) → HasCutBody max (held ++ b.gave.0)
+cut_next max old new held p framing f framed b = record {
+  head = the_head f;
+  rest = b.text;
+  reads = subst (λ t. ReadsHead t (the_head f) b.text) (sym (whole_text held b.gave.0 b.text p.spans.len b.gave.2)) (head_then held b.text p f);
+  framing = framing;
+  framed = framing_same max held p (Ok framing) f framed;
+  short = b.cut;
+}
+
 pub fault_next : (max : ℕ) (old new : Option (List ℕ)) (held rest : List ℕ) (p : ParsedHead) (framing : Framing) (e : WireFault) (f : IsHeadAtFront held p)
     → Ok framing ≡ framing_of max p.spans.version (fields_of (take p.spans.len held) p)
     → FindsBody max framing old (drop p.spans.len held) new rest (Err e) → ReadsNext max held old rest new (Err e)
 fault_next max old new held rest p framing Fault.Truncated f framed b = record {
+  given = b.0.gave.0;
+  consumed = b.0.gave.1;
+  found = (inr (cut_next max old new held p framing f framed b.0), b.1);
+}
+fault_next max old new held rest p framing Fault.Read f framed b = record {
   given = b.gave.0;
   consumed = b.gave.1;
-  found = (
-    inr (record {
-      head = the_head f;
-      rest = b.text;
-      reads = subst (λ t. ReadsHead t (the_head f) b.text) (sym (whole_text held b.gave.0 b.text p.spans.len b.gave.2)) (head_then held b.text p f);
-      framing = framing;
-      framed = framing_same max held p (Ok framing) f framed;
-      short = b.cut;
-    }),
-    b.ended,
-  );
+  found = inr (inr (cut_next max old new held p framing f framed b));
 }
-fault_next max old new held rest p framing Fault.Read f framed b = record { given = b.gave.0; consumed = b.gave.1; found = tt }
 fault_next max old new held rest p framing Fault.NoMemory f framed b = record { given = b.gave.0; consumed = b.gave.1; found = tt }
 fault_next max old new held rest p framing Fault.Ended f framed b = absurd b
 
