@@ -101,7 +101,9 @@ body_found h text after body rest new p (Sized n) Fault.Truncated f r b =
 body_found h text after body rest new p ToEnd Fault.Truncated f r b = absurd b
 body_found h text after body rest new p (Sized n) Fault.TooLarge f r b = absurd b
 body_found h text after body rest new p ToEnd Fault.TooLarge f r b = inr (inr (record { head = the_head f; rest = after; framed = r; long = b }))
-body_found h text after body rest new p framing Fault.Read f r b = tt
+body_found h text after body rest new p (Sized n) Fault.Read f r b =
+    inr (inl (record { head = the_head f; rest = after; size = n; framed = r; cut = b }))
+body_found h text after body rest new p ToEnd Fault.Read f r b = inr (inr (record { head = the_head f; rest = after; framed = r; small = b }))
 body_found h text after body rest new p framing Fault.NoMemory f r b = tt
 body_found h text after body rest new p framing Fault.Unreadable f r b = absurd b
 body_found h text after body rest new p framing Fault.Ended f r b = absurd b
@@ -211,6 +213,6 @@ found_after h held text rest old new r gave found =
 -- a fault of the head
 pub head_fault : (h : Bool) (text rest : List ℕ) (new : Option (List ℕ)) (fault : WireFault) → FindsHead text new (Err fault) → FindsAnswer h text rest new (Err (fault_of fault))
 head_fault h text rest new Wire.Truncated b = (b.1, inl b.0)
-head_fault h text rest new Wire.Read b = tt
+head_fault h text rest new Wire.Read b = inl b
 head_fault h text rest new Wire.NoMemory b = absurd b
 head_fault h text rest new Wire.Ended b = absurd b

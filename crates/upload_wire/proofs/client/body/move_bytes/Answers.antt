@@ -33,4 +33,6 @@ returns-then-part-eq0-clause-found g c =
 
 pub returns-in-Err-clause-found : goal.returns-in-Err-clause-found
 returns-in-Err-clause-found g c =
+    let within = c.loop-left.invariant.within in
     part_fault _ _ _ _ _ _ _ _ _ (c.args.count - c.loop-left.left) c.loop-left.left c.args.count c.in-Err.fault c.loop-left.invariant.moved c.in-Err.ensures.found
+    (omega (arith, within))
