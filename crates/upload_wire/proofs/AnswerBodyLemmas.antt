@@ -1,8 +1,8 @@
 -- Parts of a body, one after another.
-use Rattle.std.proofs.Common.{◌≡◌, ◌≢◌, inl, inr, ℕ, ◌+◌, ◌-◌, ◌<◌, ◌≤◌, List, [], ◌∷◌, ◌++◌, length, take, drop, refl, sym, ap, ◌∙◌, subst, arith, append_assoc, length-append, length-take, min}
-use Rattle.std.specs.Prelude.{Option, Some, None, Result, Ok, Err, ⊤, ◌⊎◌}
+use Rattle.std.proofs.Common.{◌≡◌, ℕ, ◌+◌, ◌<◌, ◌≤◌, List, [], ◌∷◌, ◌++◌, length, take, refl, sym, ap, ◌∙◌, subst, arith, append_assoc, length-append, length-take}
+use Rattle.std.specs.Prelude.{Option, Result, Ok, Err, ⊤}
 use Rattle.std.proofs.lemmas.List.{append-nil, take-append-drop}
-use Rattle.std.specs.Io.KnownBytes.{Consumes, IsAtEnd}
+use Rattle.std.specs.Io.KnownBytes.{IsAtEnd}
 use Rattle.upload_wire.specs.Reading.{Gave}
 use Rattle.upload_wire.specs.BodyReading.{Moved, MovedNone}
 use Rattle.upload_wire.specs.declared.fault.WireFault.{WireFault}
@@ -11,7 +11,7 @@ use Rattle.upload_wire.specs.declared.client.framing.AnswerFraming.{AnswerFramin
 use Rattle.upload_wire.specs.declared.client.framing.AnswerFraming.TheVariants.{Sized, ToEnd}
 use Rattle.upload_wire.specs.declared.client.heard.HeardFault.{HeardFault}
 use Rattle.upload_wire.specs.declared.client.heard.HeardFault.TheVariants as Fault
-use Rattle.upload_wire.specs.AnswerReading.{MovesAll, MovesPart, MovesUpTo, Takes, FindsBody, FindsBodyIn, end_of, fault_of}
+use Rattle.upload_wire.specs.AnswerReading.{MovesAll, MovesPart, MovesUpTo, Takes, FindsBody, end_of, fault_of}
 use Rattle.upload_wire.proofs.GaveLemmas.{gave_none, gave_after}
 
 pub moved_nothing : (old : Option (List ℕ)) (held before : List ℕ) (n : ℕ) → n ≡ 0 → Moved old held before old held before n

@@ -1,15 +1,14 @@
 -- From the spans of a reply's head to what is heard.
-use Rattle.std.proofs.Common.{◌≡◌, ℕ, ◌+◌, ◌-◌, ◌<◌, ◌≤◌, List, [], ◌∷◌, ◌++◌, length, take, drop, map, refl, sym, ap, ◌∙◌, subst, arith, append_assoc, length-append, length-take, length-drop, inl, inr, Bool}
-use Rattle.std.specs.Prelude.{Option, Some, None, Result, Ok, Err, ⊤}
+use Rattle.std.proofs.Common.{◌≡◌, ℕ, ◌≤◌, List, [], ◌++◌, length, take, drop, sym, ap, ◌∙◌, subst, arith, append_assoc, length-append, length-take, inl, inr, Bool}
+use Rattle.std.specs.Prelude.{Option, Result, Ok, Err, ⊤}
 use Rattle.std.proofs.lemmas.List.{take-append-drop, append-nil, take-append-le, drop-append-le, length-map}
 use Rattle.std.proofs.Math.ListN.{drop_of_length-le}
-use Rattle.std.specs.Io.KnownBytes.{Consumes, IsAtEnd}
 use Rattle.httparse.specs.Grammar.{ResponseHead, print_response, status_code}
 use Rattle.httparse.specs.Spans.{header_bytes, name_and_value}
 use Rattle.upload_wire.specs.Reading.{Gave}
 use Rattle.upload_wire.specs.Fields.{Fields}
 use Rattle.upload_wire.specs.AnswerFronts.{ReadsHead}
-use Rattle.upload_wire.specs.AnswerText.{framing_of, head_fields, ReadsFramed, IsBody, IsHeard, IsWhole, IsMisplaced, FindsAnswer, ReadsAnswer}
+use Rattle.upload_wire.specs.AnswerText.{framing_of, head_fields, ReadsFramed, IsWhole, FindsAnswer, ReadsAnswer}
 use Rattle.upload_wire.specs.AnswerReading.{IsHeadOf, IsHeadAtFront, fields_of, FindsHead, FindsBody, FindsBodyIn, IsFramingFault, Says, fault_of}
 use Rattle.upload_wire.specs.declared.client.parsed.ParsedAnswer.{ParsedAnswer}
 use Rattle.upload_wire.specs.declared.client.framing.AnswerFraming.{AnswerFraming}

@@ -1,25 +1,21 @@
 -- From a chunk's parts to the chunk, and from chunks to the body.
-use Rattle.std.proofs.Common.{◌≡◌, ◌≢◌, ℕ, ◌+◌, ◌-◌, ◌<◌, ◌≤◌, List, [], ◌∷◌, ◌++◌, All, length, refl, arith, ◌∙◌, sym, ap, subst, append_assoc, length-append, inl, inr}
-use Rattle.std.specs.Prelude.{Option, Err, Ok, ◌⊎◌}
-use Rattle.std.specs.Io.KnownBytes.{IsAtEnd}
+use Rattle.std.proofs.Common.{◌≡◌, ℕ, ◌-◌, ◌<◌, ◌≤◌, List, [], ◌∷◌, ◌++◌, All, length, refl, arith, ◌∙◌, sym, ap, subst, append_assoc, length-append, inl, inr}
+use Rattle.std.specs.Prelude.{Option, Err, ◌⊎◌}
 use Rattle.std.proofs.lemmas.List.{append-nil}
 use Rattle.std.proofs.lemmas.Grind.{flat_map-append}
 use Rattle.std.proofs.lemmas.List.Elements.{All-append, All-cons, All-nil}
 use Rattle.std.specs.Str.Parse.{digits_value}
 use Rattle.upload_wire.specs.Reading.{Gave}
-use Rattle.upload_wire.specs.Body.{IsSize, Chunk, print_chunk, IsChunk, IsZero, chunks_text, chunks_data, IsChunked, NeverChunked, IsFrontOfChunked, IsOver, IsBroken, IsBadBody, IsCutBody, IsBodyText}
-use Rattle.upload_wire.specs.SizeLines.{IsLine}
-use Rattle.upload_wire.specs.BodyReading.{Moved, MovedNone, StopsBefore, ReadsBytes}
+use Rattle.upload_wire.specs.Body.{Chunk, print_chunk, IsChunk, chunks_text, chunks_data, NeverChunked, IsBadBody, IsCutBody}
+use Rattle.upload_wire.specs.BodyReading.{Moved, StopsBefore, ReadsBytes}
 use Rattle.upload_wire.specs.ChunkReading.{TakesLine, BreaksLine, CutsLine, FindsLine, BreaksEnd, CutsEnd, FindsEnd, TakesChunk, TakesLast, RefusesChunk, CutsChunk, FindsChunk}
 use Rattle.upload_wire.specs.ChunksRead.{AreTaken}
 use Rattle.upload_wire.specs.BodyFinding.{TakesBody, RefusesBodyText, CutsBody, FindsBody}
 use Rattle.upload_wire.specs.declared.framing.Framing.TheVariants.{Length, Chunked}
-use Rattle.upload_wire.specs.declared.chunked.ChunkRead.{ChunkRead}
-use Rattle.upload_wire.specs.declared.chunked.ChunkRead.TheVariants.{More, Last, Refused}
 use Rattle.upload_wire.specs.declared.fault.WireFault.{WireFault}
 use Rattle.upload_wire.specs.declared.fault.WireFault.TheVariants as Fault
-use Rattle.upload_wire.proofs.GaveLemmas.{gave_none, gave_both, gave_after}
-use Rattle.upload_wire.proofs.ChunkLemmas.{never_from_line, never_after, front_after, chunked_after, under_after, over_after, under_inside, never_end, empty_of}
+use Rattle.upload_wire.proofs.GaveLemmas.{gave_none, gave_after}
+use Rattle.upload_wire.proofs.ChunkLemmas.{never_from_line, never_after, front_after, under_after, over_after, under_inside, never_end, empty_of}
 use Rattle.upload_wire.proofs.FrontLemmas.{front_line, front_data, front_data_end, under_line}
 
 -- ---- one chunk

@@ -1,7 +1,6 @@
 -- A size line in the buffer.
-use Rattle.std.proofs.Common.{◌≡◌, ◌≢◌, ℕ, ◌+◌, ◌-◌, ◌^◌, ◌<◌, ◌≤◌, true, List, [], ◌∷◌, ◌++◌, All, length, take, drop, get_or, refl, arith, ◌∙◌, sym, ap, subst, append_assoc, length-append, length-drop, length-take, add-one, inl, inr}
-use Rattle.std.specs.Prelude.{Option, Err, Ok, ◌⊎◌}
-use Rattle.std.specs.Io.KnownBytes.{IsAtEnd}
+use Rattle.std.proofs.Common.{◌≡◌, ◌≢◌, ℕ, ◌+◌, ◌^◌, ◌<◌, ◌≤◌, true, List, [], ◌∷◌, ◌++◌, All, length, take, drop, get_or, refl, arith, ◌∙◌, sym, ap, subst, append_assoc, add-one}
+use Rattle.std.specs.Prelude.{Option, Err, ◌⊎◌}
 use Rattle.std.proofs.Math.Seq.{take-suc}
 use Rattle.std.proofs.Math.Nat.{pow-le-pow_right}
 use Rattle.std.proofs.lemmas.List.{take_all, take-append-drop, take-append-le}
@@ -11,8 +10,7 @@ use Rattle.std.proofs.lemmas.Int.Digits.{digits_value-lt}
 use Rattle.std.specs.Str.Parse.{digits_value, AllDigits}
 use Rattle.std.specs.Char.{is_ascii_hexdigit, digit_value}
 use Rattle.upload_wire.specs.Reading.{Gave}
-use Rattle.upload_wire.specs.SizeLines.{StandsAt, AreDigits, AreEnded, IsLine, StepSays, IsBounded, NeverLine}
-use Rattle.upload_wire.specs.BodyReading.{MovedNone}
+use Rattle.upload_wire.specs.SizeLines.{StandsAt, IsLine, IsBounded, NeverLine}
 use Rattle.upload_wire.specs.ChunkReading.{TakesLine, BreaksLine, CutsLine, FindsLine, NeverEnd, BreaksEnd, CutsEnd, FindsEnd}
 use Rattle.upload_wire.specs.declared.fault.WireFault.{WireFault}
 use Rattle.upload_wire.specs.declared.fault.WireFault.TheVariants as Fault

@@ -1,13 +1,12 @@
 -- Bytes of a body, moved a part at a time.
-use Rattle.std.proofs.Common.{◌≡◌, ℕ, ◌+◌, ◌-◌, ◌<◌, ◌≤◌, min, List, [], ◌++◌, length, take, drop, refl, sym, ap, ◌∙◌, arith, append_assoc, length-append, length-take, subst}
+use Rattle.std.proofs.Common.{◌≡◌, ℕ, ◌+◌, ◌≤◌, List, [], ◌++◌, length, take, drop, refl, sym, ap, ◌∙◌, arith, append_assoc, length-append, length-take, subst}
 use Rattle.std.specs.Prelude.{Option, Err}
-use Rattle.std.specs.Io.KnownBytes.{IsAtEnd}
 use Rattle.std.proofs.lemmas.List.{take-append-drop, append-nil}
 use Rattle.upload_wire.specs.Reading.{Gave}
 use Rattle.upload_wire.specs.declared.fault.WireFault.{WireFault}
 use Rattle.upload_wire.specs.declared.fault.WireFault.TheVariants as Fault
 use Rattle.upload_wire.specs.BodyReading.{Moved, MovedNone, StopsBefore, ReadsPart, ReadsBytes}
-use Rattle.upload_wire.proofs.GaveLemmas.{gave_none, gave_both, gave_after}
+use Rattle.upload_wire.proofs.GaveLemmas.{gave_none, gave_after}
 
 pub moved_part : (old new : Option (List ℕ)) (held buf before after : List ℕ) (count : ℕ) → Gave old new held buf
     → after ≡ before ++ take count buf → count ≤ length buf → Moved old held before new (drop count buf) after count

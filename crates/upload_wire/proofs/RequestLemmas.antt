@@ -1,32 +1,30 @@
 -- From the spans of a head, and the body behind it, to the request.
-use Rattle.std.proofs.Common.{◌≡◌, ℕ, ◌+◌, ◌-◌, ◌<◌, ◌≤◌, List, [], ◌∷◌, ◌++◌, length, take, drop, map, refl, sym, ap, ◌∙◌, subst, arith, append_assoc, length-append, length-take, length-drop, inl, inr}
+use Rattle.std.proofs.Common.{◌≡◌, ℕ, ◌≤◌, List, [], ◌++◌, length, take, drop, refl, sym, ap, ◌∙◌, subst, arith, append_assoc, length-take, inl, inr}
 use Rattle.std.specs.Prelude.{Option, Result, Ok, Err, bytes_eq, codes}
 use Rattle.std.proofs.lemmas.List.{take-append-drop, append-nil, length-map}
 use Rattle.std.proofs.Math.ListN.{drop_of_length-le}
-use Rattle.std.specs.Io.KnownBytes.{Consumes, IsAtEnd}
-use Rattle.httparse.specs.Grammar.{RequestHead, print_request, ReadsRequest}
+use Rattle.httparse.specs.Grammar.{RequestHead, print_request}
 use Rattle.httparse.specs.Spans.{span_bytes, header_bytes, name_and_value}
 use Rattle.upload_service.specs.declared.ask.Ask.{Ask}
 use Rattle.upload_service.specs.declared.ask.Extent.{Extent}
 use Rattle.upload_wire.specs.Fronts.{ReadsHead}
-use Rattle.upload_wire.specs.Fields.{Fields, head_fields, values_of, keeps_connection}
-use Rattle.upload_wire.specs.Body.{framing_of, head_framing, IsBodyText, IsBadBody, IsCutBody}
+use Rattle.upload_wire.specs.Fields.{head_fields, values_of, keeps_connection}
+use Rattle.upload_wire.specs.Body.{framing_of, head_framing}
 use Rattle.upload_wire.specs.Target.{Asks, AsksWhole, extent_of, head_range, with_body}
-use Rattle.upload_wire.specs.HeadReading.{IsHeadOf, IsHeadAtFront}
+use Rattle.upload_wire.specs.HeadReading.{IsHeadAtFront}
 use Rattle.upload_wire.specs.FieldReading.{fields_of}
 use Rattle.upload_wire.specs.Reading.{Gave}
-use Rattle.upload_wire.specs.BodyReading.{MovedNone}
 use Rattle.upload_wire.specs.BodyFinding.{TakesBody, RefusesBodyText, CutsBody, FindsBody}
 use Rattle.upload_wire.specs.RequestReading.{Describes}
-use Rattle.upload_wire.specs.RequestText.{style_of, IsRequest, RefusesFraming, RefusesBody, IsBad, HasCutBody, IsTruncated, ReadsOne, FindsNext, ReadsNext}
+use Rattle.upload_wire.specs.RequestText.{style_of, HasCutBody, FindsNext, ReadsNext}
 use Rattle.upload_wire.specs.declared.parsed.ParsedHead.{ParsedHead}
 use Rattle.upload_wire.specs.declared.framing.Framing.{Framing}
 use Rattle.upload_wire.specs.declared.fault.WireFault.{WireFault}
 use Rattle.upload_wire.specs.declared.fault.WireFault.TheVariants as Fault
 use Rattle.upload_wire.specs.declared.request.Style.{Style}
 use Rattle.upload_wire.specs.declared.request.Next.{Next}
-use Rattle.upload_wire.specs.declared.request.Next.TheVariants.{Request, Over, Bad}
-use Rattle.upload_wire.proofs.GaveLemmas.{gave_none, consumes_none, consumes_both}
+use Rattle.upload_wire.specs.declared.request.Next.TheVariants.{Request, Bad}
+use Rattle.upload_wire.proofs.GaveLemmas.{consumes_none, consumes_both}
 
 -- the head that the spans cover
 abbrev pub the_head : {text : List ℕ} {p : ParsedHead} → IsHeadAtFront text p → RequestHead

@@ -1,5 +1,5 @@
 -- What is found behind a head.
-use Rattle.std.specs.Prelude.{◌≡◌, ℕ, List, ◌++◌, Option, Result, Ok, Err}
+use Rattle.std.specs.Prelude.{ℕ, List, ◌++◌, Option, Result, Ok, Err}
 use Rattle.std.specs.Io.KnownBytes.{IsAtEnd}
 use Rattle.upload_wire.specs.Reading.{Gave}
 use Rattle.upload_wire.specs.BodyReading.{MovedNone}

@@ -1,10 +1,10 @@
 -- What the functions find that read a chunked body.
-use Rattle.std.specs.Prelude.{◌≡◌, ◌≢◌, ℕ, ◌+◌, ◌-◌, ◌<◌, ◌≤◌, ◌⊎◌, Bool, true, false, List, [], ◌∷◌, ◌++◌, length, Option, Result, Ok, Err}
+use Rattle.std.specs.Prelude.{◌≡◌, ◌≢◌, ℕ, ◌≤◌, ◌⊎◌, Bool, true, false, List, [], ◌∷◌, ◌++◌, length, Option, Result, Ok, Err}
 use Rattle.std.specs.Io.KnownBytes.{IsAtEnd}
 use Rattle.httparse.specs.Ascii.{crlf_bytes}
 use Rattle.upload_wire.specs.Reading.{Gave}
 use Rattle.upload_wire.specs.BodyReading.{MovedNone}
-use Rattle.upload_wire.specs.Body.{Chunk, IsChunk, print_chunk, IsZero, IsOver, IsFrontOfChunked, IsBadBody, IsCutBody}
+use Rattle.upload_wire.specs.Body.{Chunk, IsChunk, print_chunk, IsZero, IsBadBody, IsCutBody}
 use Rattle.upload_wire.specs.SizeLines.{StandsAt, IsLine, NeverLine}
 use Rattle.upload_wire.specs.declared.framing.Framing.TheVariants.{Chunked}
 use Rattle.upload_wire.specs.declared.chunked.LineState.{LineState}

@@ -1,5 +1,5 @@
 -- A request as a text: its head, its body, and what it asks (RFC 9112, sections 2 and 6).
-use Rattle.std.specs.Prelude.{◌≡◌, ℕ, ◌⊎◌, Bool, List, [], ◌++◌, codes, bytes_eq, Option, Result, Ok, Err, ⊤}
+use Rattle.std.specs.Prelude.{◌≡◌, ℕ, ◌⊎◌, List, [], ◌++◌, codes, bytes_eq, Option, Result, Ok, Err, ⊤}
 use Rattle.std.specs.Io.KnownBytes.{Consumes, IsAtEnd}
 use Rattle.httparse.specs.Grammar.{RequestHead}
 use Rattle.upload_service.specs.declared.ask.Ask.{Ask}

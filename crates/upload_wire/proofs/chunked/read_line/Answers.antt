@@ -1,4 +1,4 @@
-use Rattle.std.proofs.Common.{◌≡◌, ◌∙◌, sym, ap, subst, arith, ◌+◌, ◌<◌, ◌≤◌, ◌++◌, ◌∷◌, [], take, drop, length, get_or}
+use Rattle.std.proofs.Common.{◌≡◌, ◌∙◌, sym, ap, subst, arith, ◌+◌, ◌<◌, ◌++◌, ◌∷◌, [], take, length, get_or}
 use Rattle.upload_wire.specs.SizeLines.{StandsAt}
 use Rattle.upload_wire.specs.ChunkReading.{TakesLine}
 use Rattle.upload_wire.proofs.GaveLemmas.{gave_both}

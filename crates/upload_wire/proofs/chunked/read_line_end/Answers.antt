@@ -1,4 +1,4 @@
-use Rattle.std.proofs.Common.{◌≡◌, ◌≢◌, ◌∙◌, sym, ap, subst, arith, refl, ◌+◌, ◌<◌, ◌≤◌, ◌++◌, ◌∷◌, [], take, drop, length, get_or, inl, inr}
+use Rattle.std.proofs.Common.{◌≡◌, ◌∙◌, sym, ap, arith, refl, ◌+◌, ◌<◌, ◌++◌, ◌∷◌, [], take, drop, length, get_or, inl, inr}
 use Rattle.std.proofs.lemmas.List.{take-append-drop}
 use Rattle.upload_wire.proofs.GaveLemmas.{gave_both}
 use Rattle.upload_wire.proofs.HeadLemmas.{take-next}

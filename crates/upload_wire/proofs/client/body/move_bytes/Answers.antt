@@ -1,6 +1,4 @@
-use Rattle.std.proofs.Common.{◌≡◌, ◌-◌, ◌∙◌, arith, refl, sym, ap}
-use Rattle.std.specs.Prelude.{Err}
-use Rattle.upload_wire.specs.Counts.{CountsUp}
+use Rattle.std.proofs.Common.{◌-◌, ◌∙◌, arith, refl}
 use Rattle.upload_wire.proofs.AnswerBodyLemmas.{moved_nothing, moved_both, part_fault, part_end}
 use Rattle.upload_wire.proofs.client.body.move_bytes.Goals as goal
 

@@ -1,4 +1,4 @@
-use Rattle.std.proofs.Common.{◌≡◌, ◌∙◌, refl, ap, arith}
+use Rattle.std.proofs.Common.{refl, ap}
 use Rattle.std.specs.Prelude.{Err}
 use Rattle.upload_wire.proofs.AnswerBodyLemmas.{part_taken, part_none, held_none}
 use Rattle.upload_wire.proofs.client.body.move_part.Goals as goal
