@@ -1,8 +1,8 @@
 -- Parts of a body, one after another.
-use Rattle.std.proofs.Common.{◌≡◌, ◌≢◌, inl, inr, ℕ, ◌+◌, ◌-◌, ◌<◌, ◌≤◌, List, [], ◌∷◌, ◌++◌, length, take, drop, refl, sym, ap, ◌∙◌, subst, arith, append_assoc, length-append, length-take, min}
-use Rattle.std.specs.Prelude.{Option, Some, None, Result, Ok, Err, ⊤, ◌⊎◌}
+use Rattle.std.proofs.Common.{◌≡◌, ℕ, ◌+◌, ◌<◌, ◌≤◌, List, [], ◌∷◌, ◌++◌, length, take, refl, sym, ap, ◌∙◌, subst, arith, append_assoc, length-append, length-take}
+use Rattle.std.specs.Prelude.{Option, Result, Ok, Err, ⊤}
 use Rattle.std.proofs.lemmas.List.{append-nil, take-append-drop}
-use Rattle.std.specs.Io.KnownBytes.{Consumes, IsAtEnd}
+use Rattle.std.specs.Io.KnownBytes.{IsAtEnd}
 use Rattle.upload_wire.specs.Reading.{Gave}
 use Rattle.upload_wire.specs.BodyReading.{Moved, MovedNone}
 use Rattle.upload_wire.specs.declared.fault.WireFault.{WireFault}
@@ -11,7 +11,7 @@ use Rattle.upload_wire.specs.declared.client.framing.AnswerFraming.{AnswerFramin
 use Rattle.upload_wire.specs.declared.client.framing.AnswerFraming.TheVariants.{Sized, ToEnd}
 use Rattle.upload_wire.specs.declared.client.heard.HeardFault.{HeardFault}
 use Rattle.upload_wire.specs.declared.client.heard.HeardFault.TheVariants as Fault
-use Rattle.upload_wire.specs.AnswerReading.{MovesAll, MovesPart, MovesUpTo, Takes, FindsBody, FindsBodyIn, end_of, fault_of}
+use Rattle.upload_wire.specs.AnswerReading.{MovesAll, MovesPart, MovesUpTo, Takes, FindsBody, end_of, fault_of}
 use Rattle.upload_wire.proofs.GaveLemmas.{gave_none, gave_after}
 
 pub moved_nothing : (old : Option (List ℕ)) (held before : List ℕ) (n : ℕ) → n ≡ 0 → Moved old held before old held before n
@@ -41,26 +41,32 @@ moved_none_after a b c held mid before part m h k = record {
   gave = gave_after a b c held h.bytes mid k.text h.gave k.gave;
 }
 
+-- nothing more came behind the parts
+all_moved : (a b c : Option (List ℕ)) (held mid rest before part after : List ℕ) (m n count : ℕ) → Moved a held before b mid part m
+    → Moved b mid part c rest after n → n ≡ 0 → m < count → rest ≡ [] → MovesAll a held before c rest after count
+all_moved a b c held mid rest before part after m n count h k zero few none = record {
+  moved = m;
+  bytes = moved_both a b c held mid rest before part after m n m h k (omega (arith, zero));
+  few = few;
+  none_left = none;
+}
+
 -- a fault of a part, behind the parts before it
 pub part_fault : (a b c : Option (List ℕ)) (held mid rest before part after : List ℕ) (m left count : ℕ) (f : HeardFault) → Moved a held before b mid part m
-    → MovesPart b mid part c rest after left (Err f) → MovesUpTo a held before c rest after count (Err f)
-part_fault a b c held mid rest before part after m left count Fault.Truncated h k = absurd k
-part_fault a b c held mid rest before part after m left count Fault.Read h k = moved_none_after a b c held mid before part m h k
-part_fault a b c held mid rest before part after m left count Fault.NoMemory h k = moved_none_after a b c held mid before part m h k
-part_fault a b c held mid rest before part after m left count Fault.Unreadable h k = absurd k
-part_fault a b c held mid rest before part after m left count Fault.TooLarge h k = absurd k
-part_fault a b c held mid rest before part after m left count Fault.Ended h k = absurd k
+    → MovesPart b mid part c rest after left (Err f) → m < count → MovesUpTo a held before c rest after count (Err f)
+part_fault a b c held mid rest before part after m left count Fault.Truncated h k few = absurd k
+part_fault a b c held mid rest before part after m left count Fault.Read h k few =
+    all_moved a b c held mid rest before part after m 0 count h k.0 (omega arith) few k.1
+part_fault a b c held mid rest before part after m left count Fault.NoMemory h k few = moved_none_after a b c held mid before part m h k
+part_fault a b c held mid rest before part after m left count Fault.Unreadable h k few = absurd k
+part_fault a b c held mid rest before part after m left count Fault.TooLarge h k few = absurd k
+part_fault a b c held mid rest before part after m left count Fault.Ended h k few = absurd k
 
 -- the end, behind the parts before it
 pub part_end : (a b c : Option (List ℕ)) (held mid rest before part after : List ℕ) (m n left count : ℕ) → Moved a held before b mid part m
-    → MovesPart b mid part c rest after left (Ok n) → n ≡ 0 → m < count → MovesAll a held before c rest after count
-part_end a b c held mid rest before part after m n left count h k zero few = record {
-  moved = m;
-  bytes = moved_both a b c held mid rest before part after m n m h k.0 (omega arith);
-  few = few;
-  none_left = (k.2 zero).0;
-  ended = (k.2 zero).1;
-}
+    → MovesPart b mid part c rest after left (Ok n) → n ≡ 0 → m < count → MovesAll a held before c rest after count × IsAtEnd c
+part_end a b c held mid rest before part after m n left count h k zero few =
+    (all_moved a b c held mid rest before part after m n count h k.0 zero few (k.2 zero).0, (k.2 zero).1)
 
 -- a fault of a read is that of a read alone
 pub read_fault : (f : WireFault) → fault_of f ≡ Fault.Read → f ≡ Wire.Read
@@ -86,30 +92,36 @@ body_whole old new held before rest after n u none m =
     let same = body_is before m.bytes after none m.joined in
     record { text = m.bytes ++ rest; gave = m.gave; found = (ap (λ t. t ++ rest) (sym same), ap length same ∙ m.counted) }
 
-pub body_cut : (old new : Option (List ℕ)) (held before rest after : List ℕ) (n : ℕ) → MovesAll old held before new rest after n
-    → FindsBody (Sized n) held old after rest new (Err Fault.Truncated)
-body_cut old new held before rest after n m =
+-- fewer bytes came
+short_of : (old new : Option (List ℕ)) (held before rest after : List ℕ) (n : ℕ) → (m : MovesAll old held before new rest after n)
+    → length (m.bytes.bytes ++ rest) < n
+short_of old new held before rest after n m =
     let none = ap length m.none_left in
     let few = m.few in
     let counted = m.bytes.counted in
-    record {
-      text = m.bytes.bytes ++ rest;
-      gave = m.bytes.gave;
-      found = (omega (arith, none, few, counted, length-append m.bytes.bytes rest), m.ended);
-    }
+    omega (arith, none, few, counted, length-append m.bytes.bytes rest)
 
-pub body_fault : (framing : AnswerFraming) (old new : Option (List ℕ)) (held rest after : List ℕ) (e : HeardFault) → (e ≡ Fault.Read) ⊎ (e ≡ Fault.NoMemory)
-    → MovedNone old held new → FindsBody framing held old after rest new (Err e)
-body_fault framing old new held rest after e (inl is) m = record { text = m.text; gave = m.gave; found = subst (λ f. FindsBodyIn framing m.text after rest new (Err f)) (sym is) tt }
-body_fault framing old new held rest after e (inr is) m = record { text = m.text; gave = m.gave; found = subst (λ f. FindsBodyIn framing m.text after rest new (Err f)) (sym is) tt }
+body_cut : (old new : Option (List ℕ)) (held before rest after : List ℕ) (n : ℕ) → MovesAll old held before new rest after n → IsAtEnd new
+    → FindsBody (Sized n) held old after rest new (Err Fault.Truncated)
+body_cut old new held before rest after n m end =
+    record { text = m.bytes.bytes ++ rest; gave = m.bytes.gave; found = (short_of old new held before rest after n m, end) }
+
+body_unread : (old new : Option (List ℕ)) (held before rest after : List ℕ) (n : ℕ) → MovesAll old held before new rest after n
+    → FindsBody (Sized n) held old after rest new (Err Fault.Read)
+body_unread old new held before rest after n m =
+    record { text = m.bytes.bytes ++ rest; gave = m.bytes.gave; found = short_of old new held before rest after n m }
+
+body_unmoved : (framing : AnswerFraming) (old new : Option (List ℕ)) (held rest after : List ℕ) → MovedNone old held new
+    → FindsBody framing held old after rest new (Err Fault.NoMemory)
+body_unmoved framing old new held rest after m = record { text = m.text; gave = m.gave; found = tt }
 
 -- a body of a said length
 pub sized_body : (old new : Option (List ℕ)) (held before rest after : List ℕ) (n : ℕ) (r : Result ⊤ HeardFault) → before ≡ []
     → MovesUpTo old held before new rest after n r → FindsBody (Sized n) held old after rest new r
 sized_body old new held before rest after n (Ok u) none m = body_whole old new held before rest after n u none m
-sized_body old new held before rest after n (Err Fault.Truncated) none m = body_cut old new held before rest after n m
-sized_body old new held before rest after n (Err Fault.Read) none m = body_fault (Sized n) old new held rest after Fault.Read (inl refl) m
-sized_body old new held before rest after n (Err Fault.NoMemory) none m = body_fault (Sized n) old new held rest after Fault.NoMemory (inr refl) m
+sized_body old new held before rest after n (Err Fault.Truncated) none m = body_cut old new held before rest after n m.0 m.1
+sized_body old new held before rest after n (Err Fault.Read) none m = body_unread old new held before rest after n m
+sized_body old new held before rest after n (Err Fault.NoMemory) none m = body_unmoved (Sized n) old new held rest after m
 sized_body old new held before rest after n (Err Fault.Unreadable) none m = absurd m
 sized_body old new held before rest after n (Err Fault.TooLarge) none m = absurd m
 sized_body old new held before rest after n (Err Fault.Ended) none m = absurd m
@@ -122,8 +134,8 @@ long_body old new held before rest after m =
     record { text = m.bytes ++ rest; gave = m.gave; found = omega (arith, counted, length-append m.bytes rest) }
 
 pub ended_body : (old new : Option (List ℕ)) (held before rest after : List ℕ) (u : ⊤) → before ≡ [] → MovesAll old held before new rest after 65537
-    → FindsBody ToEnd held old after rest new (Ok u)
-ended_body old new held before rest after u none m =
+    → IsAtEnd new → FindsBody ToEnd held old after rest new (Ok u)
+ended_body old new held before rest after u none m end =
     let same = body_is before m.bytes.bytes after none m.bytes.joined in
     let lengths = ap length same in
     let few = m.few in
@@ -131,14 +143,20 @@ ended_body old new held before rest after u none m =
     record {
       text = m.bytes.bytes ++ rest;
       gave = m.bytes.gave;
-      found = (ap (λ t. t ++ rest) (sym same), (omega (arith, lengths, few, counted), m.none_left, m.ended));
+      found = (ap (λ t. t ++ rest) (sym same), (omega (arith, lengths, few, counted), m.none_left, end));
     }
+
+open_body : (old new : Option (List ℕ)) (held before rest after : List ℕ) → MovesAll old held before new rest after 65537
+    → FindsBody ToEnd held old after rest new (Err Fault.Read)
+open_body old new held before rest after m =
+    let short = short_of old new held before rest after 65537 m in
+    record { text = m.bytes.bytes ++ rest; gave = m.bytes.gave; found = omega (arith, short) }
 
 pub end_found : (old new : Option (List ℕ)) (held before rest after : List ℕ) (e : HeardFault) → before ≡ []
     → MovesUpTo old held before new rest after 65537 (Err e) → FindsBody ToEnd held old after rest new (end_of e)
-end_found old new held before rest after Fault.Truncated none m = ended_body old new held before rest after tt none m
-end_found old new held before rest after Fault.Read none m = body_fault ToEnd old new held rest after Fault.Read (inl refl) m
-end_found old new held before rest after Fault.NoMemory none m = body_fault ToEnd old new held rest after Fault.NoMemory (inr refl) m
+end_found old new held before rest after Fault.Truncated none m = ended_body old new held before rest after tt none m.0 m.1
+end_found old new held before rest after Fault.Read none m = open_body old new held before rest after m
+end_found old new held before rest after Fault.NoMemory none m = body_unmoved ToEnd old new held rest after m
 end_found old new held before rest after Fault.Unreadable none m = absurd m
 end_found old new held before rest after Fault.TooLarge none m = absurd m
 end_found old new held before rest after Fault.Ended none m = absurd m
@@ -176,8 +194,14 @@ nothing_left : (xs : List ℕ) → length xs ≡ 0 → xs ≡ []
 nothing_left [] h = refl
 nothing_left (x ∷ xs) h = absurd (omega arith)
 
+-- where nothing is held nothing is moved
+pub held_none : (old new : Option (List ℕ)) (held mid before : List ℕ) → Gave old new held mid → length mid ≡ 0
+    → Moved old held before new mid before 0 × (mid ≡ [])
+held_none old new held mid before gave none =
+    (record { bytes = []; gave = gave; joined = sym (append-nil before); counted = refl }, nothing_left mid none)
+
 -- the end of the input is no part
 pub part_none : (old new : Option (List ℕ)) (held mid before : List ℕ) (left : ℕ) → Gave old new held mid → length mid ≡ 0 → IsAtEnd new
     → MovesPart old held before new mid before left (Ok 0)
 part_none old new held mid before left gave none end =
-    (record { bytes = []; gave = gave; joined = sym (append-nil before); counted = refl }, omega arith, λ zero. (nothing_left mid none, end))
+    let unmoved = held_none old new held mid before gave none in (unmoved.0, omega arith, λ zero. (unmoved.1, end))

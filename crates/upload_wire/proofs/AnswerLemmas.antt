@@ -1,15 +1,14 @@
 -- From the spans of a reply's head to what is heard.
-use Rattle.std.proofs.Common.{◌≡◌, ℕ, ◌+◌, ◌-◌, ◌<◌, ◌≤◌, List, [], ◌∷◌, ◌++◌, length, take, drop, map, refl, sym, ap, ◌∙◌, subst, arith, append_assoc, length-append, length-take, length-drop, inl, inr, Bool}
-use Rattle.std.specs.Prelude.{Option, Some, None, Result, Ok, Err, ⊤}
+use Rattle.std.proofs.Common.{◌≡◌, ℕ, ◌≤◌, List, [], ◌++◌, length, take, drop, sym, ap, ◌∙◌, subst, arith, append_assoc, length-append, length-take, inl, inr, Bool}
+use Rattle.std.specs.Prelude.{Option, Result, Ok, Err, ⊤}
 use Rattle.std.proofs.lemmas.List.{take-append-drop, append-nil, take-append-le, drop-append-le, length-map}
 use Rattle.std.proofs.Math.ListN.{drop_of_length-le}
-use Rattle.std.specs.Io.KnownBytes.{Consumes, IsAtEnd}
 use Rattle.httparse.specs.Grammar.{ResponseHead, print_response, status_code}
 use Rattle.httparse.specs.Spans.{header_bytes, name_and_value}
 use Rattle.upload_wire.specs.Reading.{Gave}
 use Rattle.upload_wire.specs.Fields.{Fields}
 use Rattle.upload_wire.specs.AnswerFronts.{ReadsHead}
-use Rattle.upload_wire.specs.AnswerText.{framing_of, head_fields, ReadsFramed, IsBody, IsHeard, IsWhole, IsMisplaced, FindsAnswer, ReadsAnswer}
+use Rattle.upload_wire.specs.AnswerText.{framing_of, head_fields, ReadsFramed, IsWhole, FindsAnswer, ReadsAnswer}
 use Rattle.upload_wire.specs.AnswerReading.{IsHeadOf, IsHeadAtFront, fields_of, FindsHead, FindsBody, FindsBodyIn, IsFramingFault, Says, fault_of}
 use Rattle.upload_wire.specs.declared.client.parsed.ParsedAnswer.{ParsedAnswer}
 use Rattle.upload_wire.specs.declared.client.framing.AnswerFraming.{AnswerFraming}
@@ -101,7 +100,9 @@ body_found h text after body rest new p (Sized n) Fault.Truncated f r b =
 body_found h text after body rest new p ToEnd Fault.Truncated f r b = absurd b
 body_found h text after body rest new p (Sized n) Fault.TooLarge f r b = absurd b
 body_found h text after body rest new p ToEnd Fault.TooLarge f r b = inr (inr (record { head = the_head f; rest = after; framed = r; long = b }))
-body_found h text after body rest new p framing Fault.Read f r b = tt
+body_found h text after body rest new p (Sized n) Fault.Read f r b =
+    inr (inl (record { head = the_head f; rest = after; size = n; framed = r; cut = b }))
+body_found h text after body rest new p ToEnd Fault.Read f r b = inr (inr (record { head = the_head f; rest = after; framed = r; small = b }))
 body_found h text after body rest new p framing Fault.NoMemory f r b = tt
 body_found h text after body rest new p framing Fault.Unreadable f r b = absurd b
 body_found h text after body rest new p framing Fault.Ended f r b = absurd b
@@ -211,6 +212,6 @@ found_after h held text rest old new r gave found =
 -- a fault of the head
 pub head_fault : (h : Bool) (text rest : List ℕ) (new : Option (List ℕ)) (fault : WireFault) → FindsHead text new (Err fault) → FindsAnswer h text rest new (Err (fault_of fault))
 head_fault h text rest new Wire.Truncated b = (b.1, inl b.0)
-head_fault h text rest new Wire.Read b = tt
+head_fault h text rest new Wire.Read b = inl b
 head_fault h text rest new Wire.NoMemory b = absurd b
 head_fault h text rest new Wire.Ended b = absurd b

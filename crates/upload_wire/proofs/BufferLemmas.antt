@@ -1,5 +1,5 @@
 -- The window of a read buffer.
-use Rattle.std.proofs.Common.{◌≡◌, ℕ, ◌+◌, ◌-◌, ◌<◌, ◌≤◌, List, [], ◌++◌, length, take, drop, slice_range, refl, sym, ap, ◌∙◌, arith, length-append, length-take, length-drop}
+use Rattle.std.proofs.Common.{◌≡◌, ℕ, ◌+◌, ◌-◌, ◌≤◌, List, [], ◌++◌, length, take, drop, slice_range, sym, ap, ◌∙◌, arith, length-take, length-drop}
 use Rattle.std.specs.List.{copy_within}
 use Rattle.std.specs.Prelude.{Vec}
 use Rattle.std.specs.declared.alloc.Global.{Global}
@@ -83,3 +83,9 @@ window_grows x held new given n at more =
     let fits = at.fits in
     let whole = at.whole in
     grown x.bytes.items new given x.start x.end n at.order (omega (arith, fits, whole)) more ∙ ap (λ t. t ++ given) at.window
+
+-- the window where the first bytes stayed
+pub window_stays : (x : Inside) (held new : List ℕ) → IsWindow x held → take x.end new ≡ take x.end x.bytes.items
+    → slice_range new x.start x.end ≡ held
+window_stays x held new at same =
+    range_is new x.start x.end at.order ∙ ap (drop x.start) same ∙ sym (range_is x.bytes.items x.start x.end at.order) ∙ at.window

@@ -1,25 +1,21 @@
 -- From a chunk's parts to the chunk, and from chunks to the body.
-use Rattle.std.proofs.Common.{◌≡◌, ◌≢◌, ℕ, ◌+◌, ◌-◌, ◌<◌, ◌≤◌, List, [], ◌∷◌, ◌++◌, All, length, refl, arith, ◌∙◌, sym, ap, subst, append_assoc, length-append, inl, inr}
-use Rattle.std.specs.Prelude.{Option, Err, Ok, ◌⊎◌}
-use Rattle.std.specs.Io.KnownBytes.{IsAtEnd}
+use Rattle.std.proofs.Common.{◌≡◌, ℕ, ◌-◌, ◌<◌, ◌≤◌, List, [], ◌∷◌, ◌++◌, All, length, refl, arith, ◌∙◌, sym, ap, subst, append_assoc, length-append, inl, inr}
+use Rattle.std.specs.Prelude.{Option, Err, ◌⊎◌}
 use Rattle.std.proofs.lemmas.List.{append-nil}
 use Rattle.std.proofs.lemmas.Grind.{flat_map-append}
 use Rattle.std.proofs.lemmas.List.Elements.{All-append, All-cons, All-nil}
 use Rattle.std.specs.Str.Parse.{digits_value}
 use Rattle.upload_wire.specs.Reading.{Gave}
-use Rattle.upload_wire.specs.Body.{IsSize, Chunk, print_chunk, IsChunk, IsZero, chunks_text, chunks_data, IsChunked, NeverChunked, IsFrontOfChunked, IsOver, IsBroken, IsBadBody, IsCutBody, IsBodyText}
-use Rattle.upload_wire.specs.SizeLines.{IsLine}
-use Rattle.upload_wire.specs.BodyReading.{Moved, MovedNone, EndsBefore, ReadsBytes}
+use Rattle.upload_wire.specs.Body.{Chunk, print_chunk, IsChunk, chunks_text, chunks_data, NeverChunked, IsBadBody, IsCutBody}
+use Rattle.upload_wire.specs.BodyReading.{Moved, StopsBefore, ReadsBytes}
 use Rattle.upload_wire.specs.ChunkReading.{TakesLine, BreaksLine, CutsLine, FindsLine, BreaksEnd, CutsEnd, FindsEnd, TakesChunk, TakesLast, RefusesChunk, CutsChunk, FindsChunk}
 use Rattle.upload_wire.specs.ChunksRead.{AreTaken}
 use Rattle.upload_wire.specs.BodyFinding.{TakesBody, RefusesBodyText, CutsBody, FindsBody}
 use Rattle.upload_wire.specs.declared.framing.Framing.TheVariants.{Length, Chunked}
-use Rattle.upload_wire.specs.declared.chunked.ChunkRead.{ChunkRead}
-use Rattle.upload_wire.specs.declared.chunked.ChunkRead.TheVariants.{More, Last, Refused}
 use Rattle.upload_wire.specs.declared.fault.WireFault.{WireFault}
 use Rattle.upload_wire.specs.declared.fault.WireFault.TheVariants as Fault
-use Rattle.upload_wire.proofs.GaveLemmas.{gave_none, gave_both, gave_after}
-use Rattle.upload_wire.proofs.ChunkLemmas.{never_from_line, never_after, front_after, chunked_after, under_after, over_after, under_inside, never_end, empty_of}
+use Rattle.upload_wire.proofs.GaveLemmas.{gave_none, gave_after}
+use Rattle.upload_wire.proofs.ChunkLemmas.{never_from_line, never_after, front_after, under_after, over_after, under_inside, never_end, empty_of}
 use Rattle.upload_wire.proofs.FrontLemmas.{front_line, front_data, front_data_end, under_line}
 
 -- ---- one chunk
@@ -42,15 +38,17 @@ chunk_line_broken room a b held h = record {
   );
 }
 
-pub chunk_line_fault : (room : ℕ) (a b : Option (List ℕ)) (held rest x y : List ℕ) (e : WireFault) → FindsLine a held b rest (Err e)
-    → FindsChunk room a held x b rest y (Err e)
-chunk_line_fault room a b held rest x y Fault.Truncated h = record {
+chunk_line_cut : (room : ℕ) (a b : Option (List ℕ)) (held : List ℕ) → CutsLine a held b → CutsChunk room a held b
+chunk_line_cut room a b held h = record {
   text = h.text;
   gave = h.gave;
   cut = (front_line h.text h.state h.stands, under_line room h.text h.state h.stands);
-  ended = h.ended;
 }
-chunk_line_fault room a b held rest x y Fault.Read h = h
+
+pub chunk_line_fault : (room : ℕ) (a b : Option (List ℕ)) (held rest x y : List ℕ) (e : WireFault) → FindsLine a held b rest (Err e)
+    → FindsChunk room a held x b rest y (Err e)
+chunk_line_fault room a b held rest x y Fault.Truncated h = (chunk_line_cut room a b held h.0, h.1)
+chunk_line_fault room a b held rest x y Fault.Read h = chunk_line_cut room a b held h
 chunk_line_fault room a b held rest x y Fault.NoMemory h = absurd h
 chunk_line_fault room a b held rest x y Fault.Ended h = absurd h
 
@@ -79,9 +77,9 @@ chunk_over room a b held rest value h over =
 line_text : (line digits more : List ℕ) → line ≡ digits ++ (13 ∷ 10 ∷ []) → line ++ more ≡ digits ++ (13 ∷ 10 ∷ more)
 line_text line digits more cut = ap (λ t. t ++ more) cut ∙ append_assoc digits (13 ∷ 10 ∷ []) more
 
-pub chunk_data_fault : (room : ℕ) (a b c : Option (List ℕ)) (held mid rest x y : List ℕ) (value : ℕ) (e : WireFault)
-    → TakesLine a held b mid value → value ≤ room → ReadsBytes b mid x c rest y value (Err e) → FindsChunk room a held x c rest y (Err e)
-chunk_data_fault room a b c held mid rest x y value Fault.Truncated h fits end =
+chunk_data_cut : (room : ℕ) (a b c : Option (List ℕ)) (held mid : List ℕ) (value : ℕ)
+    → TakesLine a held b mid value → value ≤ room → StopsBefore b mid c value → CutsChunk room a held c
+chunk_data_cut room a b c held mid value h fits end =
     let l = h.is_line in
     let valued = l.value_is in
     let short = end.short in
@@ -92,10 +90,13 @@ chunk_data_fault room a b c held mid rest x y value Fault.Truncated h fits end =
         front_data l.digits end.text l.size (omega (arith, short, valued)),
         under_inside room l.digits end.text l.size (omega (arith, valued, fits)) (omega (arith, short, valued)),
       );
-      ended = end.ended;
     }
-chunk_data_fault room a b c held mid rest x y value Fault.Read h fits none =
-    record { text = h.line ++ none.text; gave = gave_after a b c held h.line mid none.text h.gave none.gave }
+
+pub chunk_data_fault : (room : ℕ) (a b c : Option (List ℕ)) (held mid rest x y : List ℕ) (value : ℕ) (e : WireFault)
+    → TakesLine a held b mid value → value ≤ room → ReadsBytes b mid x c rest y value (Err e) → FindsChunk room a held x c rest y (Err e)
+chunk_data_fault room a b c held mid rest x y value Fault.Truncated h fits end =
+    (chunk_data_cut room a b c held mid value h fits end.0, end.1)
+chunk_data_fault room a b c held mid rest x y value Fault.Read h fits stop = chunk_data_cut room a b c held mid value h fits stop
 chunk_data_fault room a b c held mid rest x y value Fault.NoMemory h fits none =
     record { text = h.line ++ none.text; gave = gave_after a b c held h.line mid none.text h.gave none.gave }
 chunk_data_fault room a b c held mid rest x y value Fault.Ended h fits none = absurd none
@@ -157,7 +158,6 @@ chunk_end_cut room a b c d held mid rest x y value h fits m e =
         under_inside room l.digits (m.bytes ++ e.text) l.size (omega (arith, valued, fits))
             (omega (arith, same, len, some, length-append m.bytes e.text, length-append e.text front.1)),
       );
-      ended = e.ended;
     }
   where
     front_of : (x : List ℕ) → (x ≡ []) ⊎ (x ≡ 13 ∷ []) → (u : ℕ) × (y : List ℕ) × (x ++ y ≡ 13 ∷ 10 ∷ []) × (0 < length y)
@@ -166,9 +166,9 @@ chunk_end_cut room a b c d held mid rest x y value h fits m e =
 
 pub chunk_end_fault : (room : ℕ) (a b c d : Option (List ℕ)) (held mid rest last x y : List ℕ) (value : ℕ) (e : WireFault)
     → TakesLine a held b mid value → value ≤ room → Moved b mid x c rest y value → FindsEnd c rest d last (Err e) → FindsChunk room a held x d last y (Err e)
-chunk_end_fault room a b c d held mid rest last x y value Fault.Truncated h fits m f = chunk_end_cut room a b c d held mid rest x y value h fits m f
-chunk_end_fault room a b c d held mid rest last x y value Fault.Read h fits m none =
-    record { text = h.line ++ (m.bytes ++ none.text); gave = gave_chunk a b c d held mid rest none.text x y value h m none.gave }
+chunk_end_fault room a b c d held mid rest last x y value Fault.Truncated h fits m f =
+    (chunk_end_cut room a b c d held mid rest x y value h fits m f.0, f.1)
+chunk_end_fault room a b c d held mid rest last x y value Fault.Read h fits m f = chunk_end_cut room a b c d held mid rest x y value h fits m f
 chunk_end_fault room a b c d held mid rest last x y value Fault.NoMemory h fits m f = absurd f
 chunk_end_fault room a b c d held mid rest last x y value Fault.Ended h fits m f = absurd f
 
@@ -295,9 +295,9 @@ body_refused max room a b c held mid x number left t h =
           (subst (λ n. IsBadBody n Chunked h.text number) (room_left max room x t.chunks left t.joined) h.bad);
     }
 
-pub body_fault : (max room : ℕ) (a b c : Option (List ℕ)) (held mid rest x y : List ℕ) (e : WireFault) → room ≡ max - length x → AreTaken max a held b mid x
-    → FindsChunk room b mid x c rest y (Err e) → FindsBody max Chunked a held c rest (Err e)
-body_fault max room a b c held mid rest x y Fault.Truncated left t h =
+body_cut : (max room : ℕ) (a b c : Option (List ℕ)) (held mid x : List ℕ) → room ≡ max - length x → AreTaken max a held b mid x
+    → CutsChunk room b mid c → CutsBody max Chunked a held c
+body_cut max room a b c held mid x left t h =
     let fits = t.fits in
     let same = ap length t.joined in
     let cut = subst (λ n. IsCutBody n Chunked h.text) (room_left max room x t.chunks left t.joined) h.cut in
@@ -305,10 +305,12 @@ body_fault max room a b c held mid rest x y Fault.Truncated left t h =
       text = chunks_text t.chunks ++ h.text;
       gave = gave_after a b c held (chunks_text t.chunks) mid h.text t.gave h.gave;
       cut = (front_after t.chunks h.text t.each cut.0, under_after max t.chunks h.text t.each (omega (arith, fits, same)) cut.1);
-      ended = h.ended;
     }
-body_fault max room a b c held mid rest x y Fault.Read left t h =
-    record { text = chunks_text t.chunks ++ h.text; gave = gave_after a b c held (chunks_text t.chunks) mid h.text t.gave h.gave }
+
+pub body_fault : (max room : ℕ) (a b c : Option (List ℕ)) (held mid rest x y : List ℕ) (e : WireFault) → room ≡ max - length x → AreTaken max a held b mid x
+    → FindsChunk room b mid x c rest y (Err e) → FindsBody max Chunked a held c rest (Err e)
+body_fault max room a b c held mid rest x y Fault.Truncated left t h = (body_cut max room a b c held mid x left t h.0, h.1)
+body_fault max room a b c held mid rest x y Fault.Read left t h = body_cut max room a b c held mid x left t h
 body_fault max room a b c held mid rest x y Fault.NoMemory left t h =
     record { text = chunks_text t.chunks ++ h.text; gave = gave_after a b c held (chunks_text t.chunks) mid h.text t.gave h.gave }
 body_fault max room a b c held mid rest x y Fault.Ended left t h = absurd h
@@ -320,7 +322,7 @@ length_whole max n a b held rest y m = record { text = m.bytes; gave = m.gave; w
 
 pub length_fault : (max n : ℕ) (a b : Option (List ℕ)) (held rest y : List ℕ) (e : WireFault) → ReadsBytes a held [] b rest y n (Err e)
     → FindsBody max (Length n) a held b rest (Err e)
-length_fault max n a b held rest y Fault.Truncated h = record { text = h.text; gave = h.gave; cut = h.short; ended = h.ended }
-length_fault max n a b held rest y Fault.Read h = h
+length_fault max n a b held rest y Fault.Truncated h = (record { text = h.0.text; gave = h.0.gave; cut = h.0.short }, h.1)
+length_fault max n a b held rest y Fault.Read h = record { text = h.text; gave = h.gave; cut = h.short }
 length_fault max n a b held rest y Fault.NoMemory h = h
 length_fault max n a b held rest y Fault.Ended h = absurd h

@@ -1,7 +1,6 @@
 -- A size line in the buffer.
-use Rattle.std.proofs.Common.{◌≡◌, ◌≢◌, ℕ, ◌+◌, ◌-◌, ◌^◌, ◌<◌, ◌≤◌, true, List, [], ◌∷◌, ◌++◌, All, length, take, drop, get_or, refl, arith, ◌∙◌, sym, ap, subst, append_assoc, length-append, length-drop, length-take, add-one, inl, inr}
-use Rattle.std.specs.Prelude.{Option, Err, Ok, ◌⊎◌}
-use Rattle.std.specs.Io.KnownBytes.{IsAtEnd}
+use Rattle.std.proofs.Common.{◌≡◌, ◌≢◌, ℕ, ◌+◌, ◌^◌, ◌<◌, ◌≤◌, true, List, [], ◌∷◌, ◌++◌, All, length, take, drop, get_or, refl, arith, ◌∙◌, sym, ap, subst, append_assoc, add-one}
+use Rattle.std.specs.Prelude.{Option, Err, ◌⊎◌}
 use Rattle.std.proofs.Math.Seq.{take-suc}
 use Rattle.std.proofs.Math.Nat.{pow-le-pow_right}
 use Rattle.std.proofs.lemmas.List.{take_all, take-append-drop, take-append-le}
@@ -11,8 +10,7 @@ use Rattle.std.proofs.lemmas.Int.Digits.{digits_value-lt}
 use Rattle.std.specs.Str.Parse.{digits_value, AllDigits}
 use Rattle.std.specs.Char.{is_ascii_hexdigit, digit_value}
 use Rattle.upload_wire.specs.Reading.{Gave}
-use Rattle.upload_wire.specs.SizeLines.{StandsAt, AreDigits, AreEnded, IsLine, StepSays, IsBounded, NeverLine}
-use Rattle.upload_wire.specs.BodyReading.{MovedNone}
+use Rattle.upload_wire.specs.SizeLines.{StandsAt, IsLine, IsBounded, NeverLine}
 use Rattle.upload_wire.specs.ChunkReading.{TakesLine, BreaksLine, CutsLine, FindsLine, NeverEnd, BreaksEnd, CutsEnd, FindsEnd}
 use Rattle.upload_wire.specs.declared.fault.WireFault.{WireFault}
 use Rattle.upload_wire.specs.declared.fault.WireFault.TheVariants as Fault
@@ -81,17 +79,16 @@ line_broken a b held text at byte state gave next stands never = record {
 }
 
 pub line_cut : (a b : Option (List ℕ)) (held text : List ℕ) (at : ℕ) (state : LineState) → Gave a b held text
-    → length text ≡ at → StandsAt (take at text) state → IsAtEnd b → CutsLine a held b
-line_cut a b held text at state gave len stands ended = record {
+    → length text ≡ at → StandsAt (take at text) state → CutsLine a held b
+line_cut a b held text at state gave len stands = record {
   text = text;
   gave = gave;
   state = state;
   stands = subst (λ t. StandsAt t state) (take_all at text (omega (arith, len))) stands;
-  ended = ended;
 }
 
-pub line_fault : (a b : Option (List ℕ)) (held text : List ℕ) (e : WireFault) → e ≡ Fault.Read → Gave a b held text → FindsLine a held b text (Err e)
-line_fault a b held text e is gave = subst (λ f. FindsLine a held b text (Err f)) (sym is) (record { text = text; gave = gave })
+pub line_fault : (a b : Option (List ℕ)) (held text : List ℕ) (e : WireFault) → e ≡ Fault.Read → CutsLine a held b → FindsLine a held b text (Err e)
+line_fault a b held text e is cut = subst (λ f. FindsLine a held b text (Err f)) (sym is) cut
 
 pub stands_empty : (text : List ℕ) → StandsAt (take 0 text) (Digits 0 0)
 stands_empty text = record { count_is = refl; few = omega arith; hex = none_hex; value_is = refl }
@@ -119,13 +116,12 @@ end_broken a b held text front at byte gave next which never = record {
 }
 
 pub end_cut : (a b : Option (List ℕ)) (held text front : List ℕ) (at : ℕ) → Gave a b held text → length text ≡ at
-    → take at text ≡ front → (front ≡ []) ⊎ (front ≡ 13 ∷ []) → IsAtEnd b → CutsEnd a held b
-end_cut a b held text front at gave len start which ended = record {
+    → take at text ≡ front → (front ≡ []) ⊎ (front ≡ 13 ∷ []) → CutsEnd a held b
+end_cut a b held text front at gave len start which = record {
   text = front;
   gave = (gave.0, gave.1, sym start ∙ take_all at text (omega (arith, len)) ∙ gave.2);
   front = which;
-  ended = ended;
 }
 
-pub end_fault : (a b : Option (List ℕ)) (held text : List ℕ) (e : WireFault) → e ≡ Fault.Read → Gave a b held text → FindsEnd a held b text (Err e)
-end_fault a b held text e is gave = subst (λ f. FindsEnd a held b text (Err f)) (sym is) (record { text = text; gave = gave })
+pub end_fault : (a b : Option (List ℕ)) (held text : List ℕ) (e : WireFault) → e ≡ Fault.Read → CutsEnd a held b → FindsEnd a held b text (Err e)
+end_fault a b held text e is cut = subst (λ f. FindsEnd a held b text (Err f)) (sym is) cut

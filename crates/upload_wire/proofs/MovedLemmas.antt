@@ -1,13 +1,12 @@
 -- Bytes of a body, moved a part at a time.
-use Rattle.std.proofs.Common.{◌≡◌, ℕ, ◌+◌, ◌-◌, ◌<◌, ◌≤◌, min, List, [], ◌++◌, length, take, drop, refl, sym, ap, ◌∙◌, arith, append_assoc, length-append, length-take, subst}
+use Rattle.std.proofs.Common.{◌≡◌, ℕ, ◌+◌, ◌≤◌, List, [], ◌++◌, length, take, drop, refl, sym, ap, ◌∙◌, arith, append_assoc, length-append, length-take, subst}
 use Rattle.std.specs.Prelude.{Option, Err}
-use Rattle.std.specs.Io.KnownBytes.{IsAtEnd}
 use Rattle.std.proofs.lemmas.List.{take-append-drop, append-nil}
 use Rattle.upload_wire.specs.Reading.{Gave}
 use Rattle.upload_wire.specs.declared.fault.WireFault.{WireFault}
 use Rattle.upload_wire.specs.declared.fault.WireFault.TheVariants as Fault
-use Rattle.upload_wire.specs.BodyReading.{Moved, MovedNone, EndsBefore, ReadsPart, ReadsBytes}
-use Rattle.upload_wire.proofs.GaveLemmas.{gave_none, gave_both, gave_after}
+use Rattle.upload_wire.specs.BodyReading.{Moved, MovedNone, StopsBefore, ReadsPart, ReadsBytes}
+use Rattle.upload_wire.proofs.GaveLemmas.{gave_none, gave_after}
 
 pub moved_part : (old new : Option (List ℕ)) (held buf before after : List ℕ) (count : ℕ) → Gave old new held buf
     → after ≡ before ++ take count buf → count ≤ length buf → Moved old held before new (drop count buf) after count
@@ -39,22 +38,21 @@ moved_both a b c held mid rest x y z n m first then =
       counted = omega (arith, counted, more, length-append first.bytes then.bytes);
     }
 
-pub ends_after : (a b c : Option (List ℕ)) (held mid x y : List ℕ) (n m : ℕ)
-    → Moved a held x b mid y n → EndsBefore b mid c m → EndsBefore a held c (n + m)
-ends_after a b c held mid x y n m first end =
+pub stops_after : (a b c : Option (List ℕ)) (held mid x y : List ℕ) (n m : ℕ)
+    → Moved a held x b mid y n → StopsBefore b mid c m → StopsBefore a held c (n + m)
+stops_after a b c held mid x y n m first end =
     let counted = first.counted in
     let short = end.short in
     record {
       text = first.bytes ++ end.text;
       gave = gave_after a b c held first.bytes mid end.text first.gave end.gave;
       short = omega (arith, counted, short, length-append first.bytes end.text);
-      ended = end.ended;
     }
 
-pub ends_sooner : (old new : Option (List ℕ)) (held : List ℕ) (n m : ℕ) → n ≤ m → EndsBefore old held new n → EndsBefore old held new m
-ends_sooner old new held n m le end =
+pub stops_sooner : (old new : Option (List ℕ)) (held : List ℕ) (n m : ℕ) → n ≤ m → StopsBefore old held new n → StopsBefore old held new m
+stops_sooner old new held n m le end =
     let short = end.short in
-    record { text = end.text; gave = end.gave; short = omega (arith, short, le); ended = end.ended }
+    record { text = end.text; gave = end.gave; short = omega (arith, short, le) }
 
 pub none_after : (a b c : Option (List ℕ)) (held mid x y : List ℕ) (n : ℕ)
     → Moved a held x b mid y n → MovedNone b mid c → MovedNone a held c
@@ -63,17 +61,18 @@ none_after a b c held mid x y n first none = record {
   gave = gave_after a b c held first.bytes mid none.text first.gave none.gave;
 }
 
--- the faults of a part
-pub part_fault : (a b : Option (List ℕ)) (held rest x y : List ℕ) (left : ℕ) (e : WireFault) → e ≡ Fault.Read → Gave a b held rest
+-- a read failed before a part
+pub part_fault : (a b : Option (List ℕ)) (held rest x y : List ℕ) (left : ℕ) (e : WireFault) → e ≡ Fault.Read → Gave a b held rest → length rest ≡ 0
     → ReadsPart a held x b rest y left (Err e)
-part_fault a b held rest x y left e is gave =
-    subst (λ f. ReadsPart a held x b rest y left (Err f)) (sym is) (record { text = rest; gave = gave })
+part_fault a b held rest x y left e is gave none =
+    subst (λ f. ReadsPart a held x b rest y left (Err f)) (sym is) (record { text = rest; gave = gave; short = omega (arith, none) })
 
 -- and of all parts
 pub bytes_fault : (a b c : Option (List ℕ)) (held mid rest x y z : List ℕ) (n left count : ℕ) (e : WireFault)
     → Moved a held x b mid y n → n + 1 ≤ count → ReadsPart b mid y c rest z left (Err e) → ReadsBytes a held x c rest z count (Err e)
 bytes_fault a b c held mid rest x y z n left count Fault.Truncated first fits end =
-    ends_sooner a c held (n + 1) count fits (ends_after a b c held mid x y n 1 first end)
-bytes_fault a b c held mid rest x y z n left count Fault.Read first fits none = none_after a b c held mid x y n first none
+    (stops_sooner a c held (n + 1) count fits (stops_after a b c held mid x y n 1 first end.0), end.1)
+bytes_fault a b c held mid rest x y z n left count Fault.Read first fits stop =
+    stops_sooner a c held (n + 1) count fits (stops_after a b c held mid x y n 1 first stop)
 bytes_fault a b c held mid rest x y z n left count Fault.NoMemory first fits none = none_after a b c held mid x y n first none
 bytes_fault a b c held mid rest x y z n left count Fault.Ended first fits none = absurd none

@@ -1,32 +1,30 @@
 -- From the spans of a head, and the body behind it, to the request.
-use Rattle.std.proofs.Common.{◌≡◌, ℕ, ◌+◌, ◌-◌, ◌<◌, ◌≤◌, List, [], ◌∷◌, ◌++◌, length, take, drop, map, refl, sym, ap, ◌∙◌, subst, arith, append_assoc, length-append, length-take, length-drop, inl, inr}
+use Rattle.std.proofs.Common.{◌≡◌, ℕ, ◌≤◌, List, [], ◌++◌, length, take, drop, refl, sym, ap, ◌∙◌, subst, arith, append_assoc, length-take, inl, inr}
 use Rattle.std.specs.Prelude.{Option, Result, Ok, Err, bytes_eq, codes}
 use Rattle.std.proofs.lemmas.List.{take-append-drop, append-nil, length-map}
 use Rattle.std.proofs.Math.ListN.{drop_of_length-le}
-use Rattle.std.specs.Io.KnownBytes.{Consumes, IsAtEnd}
-use Rattle.httparse.specs.Grammar.{RequestHead, print_request, ReadsRequest}
+use Rattle.httparse.specs.Grammar.{RequestHead, print_request}
 use Rattle.httparse.specs.Spans.{span_bytes, header_bytes, name_and_value}
 use Rattle.upload_service.specs.declared.ask.Ask.{Ask}
 use Rattle.upload_service.specs.declared.ask.Extent.{Extent}
 use Rattle.upload_wire.specs.Fronts.{ReadsHead}
-use Rattle.upload_wire.specs.Fields.{Fields, head_fields, values_of, keeps_connection}
-use Rattle.upload_wire.specs.Body.{framing_of, head_framing, IsBodyText, IsBadBody, IsCutBody}
+use Rattle.upload_wire.specs.Fields.{head_fields, values_of, keeps_connection}
+use Rattle.upload_wire.specs.Body.{framing_of, head_framing}
 use Rattle.upload_wire.specs.Target.{Asks, AsksWhole, extent_of, head_range, with_body}
-use Rattle.upload_wire.specs.HeadReading.{IsHeadOf, IsHeadAtFront}
+use Rattle.upload_wire.specs.HeadReading.{IsHeadAtFront}
 use Rattle.upload_wire.specs.FieldReading.{fields_of}
 use Rattle.upload_wire.specs.Reading.{Gave}
-use Rattle.upload_wire.specs.BodyReading.{MovedNone}
 use Rattle.upload_wire.specs.BodyFinding.{TakesBody, RefusesBodyText, CutsBody, FindsBody}
 use Rattle.upload_wire.specs.RequestReading.{Describes}
-use Rattle.upload_wire.specs.RequestText.{style_of, IsRequest, RefusesFraming, RefusesBody, IsBad, HasCutBody, IsTruncated, ReadsOne, FindsNext, ReadsNext}
+use Rattle.upload_wire.specs.RequestText.{style_of, HasCutBody, FindsNext, ReadsNext}
 use Rattle.upload_wire.specs.declared.parsed.ParsedHead.{ParsedHead}
 use Rattle.upload_wire.specs.declared.framing.Framing.{Framing}
 use Rattle.upload_wire.specs.declared.fault.WireFault.{WireFault}
 use Rattle.upload_wire.specs.declared.fault.WireFault.TheVariants as Fault
 use Rattle.upload_wire.specs.declared.request.Style.{Style}
 use Rattle.upload_wire.specs.declared.request.Next.{Next}
-use Rattle.upload_wire.specs.declared.request.Next.TheVariants.{Request, Over, Bad}
-use Rattle.upload_wire.proofs.GaveLemmas.{gave_none, consumes_none, consumes_both}
+use Rattle.upload_wire.specs.declared.request.Next.TheVariants.{Request, Bad}
+use Rattle.upload_wire.proofs.GaveLemmas.{consumes_none, consumes_both}
 
 -- the head that the spans cover
 abbrev pub the_head : {text : List ℕ} {p : ParsedHead} → IsHeadAtFront text p → RequestHead
@@ -150,25 +148,32 @@ bad_body_next max old new held rest p framing number f framed b = record {
   })));
 }
 
+-- what came behind the head ends inside the body
+cut_next : (max : ℕ) (old new : Option (List ℕ)) (held : List ℕ) (p : ParsedHead) (framing : Framing) (f : IsHeadAtFront held p)
+    → Ok framing ≡ framing_of max p.spans.version (fields_of (take p.spans.len held) p)
+    → (b : CutsBody max framing old (drop p.spans.len held) new) → HasCutBody max (held ++ b.gave.0)
+cut_next max old new held p framing f framed b = record {
+  head = the_head f;
+  rest = b.text;
+  reads = subst (λ t. ReadsHead t (the_head f) b.text) (sym (whole_text held b.gave.0 b.text p.spans.len b.gave.2)) (head_then held b.text p f);
+  framing = framing;
+  framed = framing_same max held p (Ok framing) f framed;
+  short = b.cut;
+}
+
 pub fault_next : (max : ℕ) (old new : Option (List ℕ)) (held rest : List ℕ) (p : ParsedHead) (framing : Framing) (e : WireFault) (f : IsHeadAtFront held p)
     → Ok framing ≡ framing_of max p.spans.version (fields_of (take p.spans.len held) p)
     → FindsBody max framing old (drop p.spans.len held) new rest (Err e) → ReadsNext max held old rest new (Err e)
 fault_next max old new held rest p framing Fault.Truncated f framed b = record {
+  given = b.0.gave.0;
+  consumed = b.0.gave.1;
+  found = (inr (cut_next max old new held p framing f framed b.0), b.1);
+}
+fault_next max old new held rest p framing Fault.Read f framed b = record {
   given = b.gave.0;
   consumed = b.gave.1;
-  found = (
-    inr (record {
-      head = the_head f;
-      rest = b.text;
-      reads = subst (λ t. ReadsHead t (the_head f) b.text) (sym (whole_text held b.gave.0 b.text p.spans.len b.gave.2)) (head_then held b.text p f);
-      framing = framing;
-      framed = framing_same max held p (Ok framing) f framed;
-      short = b.cut;
-    }),
-    b.ended,
-  );
+  found = inr (inr (cut_next max old new held p framing f framed b));
 }
-fault_next max old new held rest p framing Fault.Read f framed b = record { given = b.gave.0; consumed = b.gave.1; found = tt }
 fault_next max old new held rest p framing Fault.NoMemory f framed b = record { given = b.gave.0; consumed = b.gave.1; found = tt }
 fault_next max old new held rest p framing Fault.Ended f framed b = absurd b
 

@@ -1,5 +1,5 @@
 -- What the functions find that read a reply.
-use Rattle.std.specs.Prelude.{◌≡◌, ℕ, ◌+◌, ◌<◌, ◌≤◌, ◌⊎◌, List, [], ◌++◌, length, map, min, take, drop, Option, Some, None, Result, Ok, Err, ⊤}
+use Rattle.std.specs.Prelude.{◌≡◌, ℕ, ◌+◌, ◌<◌, ◌≤◌, List, [], ◌++◌, length, map, min, take, drop, Option, Result, Ok, Err, ⊤}
 use Rattle.std.specs.Io.KnownBytes.{IsAtEnd}
 use Rattle.httparse.specs.Grammar.{HasNoResponse}
 use Rattle.httparse.specs.Spans.{IsResponseWithin, IsResponseOf, header_bytes}
@@ -56,7 +56,7 @@ FindsHead text new (Ok Found.Refused) = IsRefused text
 FindsHead text new (Ok Found.TooLong) = IsTooLong text
 FindsHead text new (Ok (Found.Head p)) = IsHeadAtFront text p
 FindsHead text new (Err Wire.Truncated) = IsUnfinished text × IsAtEnd new
-FindsHead text new (Err Wire.Read) = ⊤
+FindsHead text new (Err Wire.Read) = IsUnfinished text
 FindsHead text new (Err Wire.NoMemory) = ⊥
 FindsHead text new (Err Wire.Ended) = ⊥
 
@@ -67,30 +67,29 @@ abbrev pub Takes : List ℕ → List ℕ → List ℕ → List ℕ → ℕ → R
 Takes held before rest after left (Ok count) = (count ≡ min left (length held)) × (rest ≡ drop count held) × (after ≡ before ++ take count held)
 Takes held before rest after left (Err fault) = (fault ≡ Fault.NoMemory) × (rest ≡ held)
 
--- a part of what is left of a body, or nothing at the end of the input
+-- a part of what is left of a body, or nothing at the end of the input and before a failed read
 abbrev pub MovesPart : Option (List ℕ) → List ℕ → List ℕ → Option (List ℕ) → List ℕ → List ℕ → ℕ → Result ℕ HeardFault → Type 0
 MovesPart old held before new rest after left (Ok count) =
     Moved old held before new rest after count × (count ≤ left) × (count ≡ 0 → (rest ≡ []) × IsAtEnd new)
-MovesPart old held before new rest after left (Err Fault.Read) = MovedNone old held new
+MovesPart old held before new rest after left (Err Fault.Read) = Moved old held before new rest after 0 × (rest ≡ [])
 MovesPart old held before new rest after left (Err Fault.NoMemory) = MovedNone old held new
 MovesPart old held before new rest after left (Err Fault.Truncated) = ⊥
 MovesPart old held before new rest after left (Err Fault.Unreadable) = ⊥
 MovesPart old held before new rest after left (Err Fault.TooLarge) = ⊥
 MovesPart old held before new rest after left (Err Fault.Ended) = ⊥
 
--- all up to the end of the input was moved, if it is fewer bytes than so many
+-- all that came was moved, and it is fewer bytes than so many
 pub record MovesAll (old : Option (List ℕ)) (held before : List ℕ) (new : Option (List ℕ)) (rest after : List ℕ) (count : ℕ) : Type 0 where
   pub moved : ℕ
   pub bytes : Moved old held before new rest after moved
   pub few : moved < count
   pub none_left : rest ≡ []
-  pub ended : IsAtEnd new
 
--- so many bytes were moved, or all of fewer
+-- so many bytes were moved, or all of fewer before the end of the input or a failed read
 abbrev pub MovesUpTo : Option (List ℕ) → List ℕ → List ℕ → Option (List ℕ) → List ℕ → List ℕ → ℕ → Result ⊤ HeardFault → Type 0
 MovesUpTo old held before new rest after count (Ok done) = Moved old held before new rest after count
-MovesUpTo old held before new rest after count (Err Fault.Truncated) = MovesAll old held before new rest after count
-MovesUpTo old held before new rest after count (Err Fault.Read) = MovedNone old held new
+MovesUpTo old held before new rest after count (Err Fault.Truncated) = MovesAll old held before new rest after count × IsAtEnd new
+MovesUpTo old held before new rest after count (Err Fault.Read) = MovesAll old held before new rest after count
 MovesUpTo old held before new rest after count (Err Fault.NoMemory) = MovedNone old held new
 MovesUpTo old held before new rest after count (Err Fault.Unreadable) = ⊥
 MovesUpTo old held before new rest after count (Err Fault.TooLarge) = ⊥
@@ -112,7 +111,8 @@ FindsBodyIn (Sized n) text body rest new (Err Fault.Truncated) = (length text < 
 FindsBodyIn ToEnd text body rest new (Err Fault.Truncated) = ⊥
 FindsBodyIn (Sized n) text body rest new (Err Fault.TooLarge) = ⊥
 FindsBodyIn ToEnd text body rest new (Err Fault.TooLarge) = max_answer < length text
-FindsBodyIn framing text body rest new (Err Fault.Read) = ⊤
+FindsBodyIn (Sized n) text body rest new (Err Fault.Read) = length text < n
+FindsBodyIn ToEnd text body rest new (Err Fault.Read) = length text ≤ max_answer
 FindsBodyIn framing text body rest new (Err Fault.NoMemory) = ⊤
 FindsBodyIn framing text body rest new (Err Fault.Unreadable) = ⊥
 FindsBodyIn framing text body rest new (Err Fault.Ended) = ⊥

@@ -1,5 +1,5 @@
 -- A reply as a text: its head, its body (RFC 9112, section 6.3), and what a client hears in them.
-use Rattle.std.specs.Prelude.{◌≡◌, ℕ, ◌+◌, ◌<◌, ◌≤◌, ◌⊎◌, Bool, true, false, ◌||◌, ◌==◌, nat_lt, List, [], ◌∷◌, ◌++◌, length, map, codes, Option, Some, None, option_and_then, if◌then◌else◌, Result, Ok, Err, is_err, ⊤}
+use Rattle.std.specs.Prelude.{◌≡◌, ℕ, ◌+◌, ◌<◌, ◌≤◌, ◌⊎◌, Bool, ◌||◌, ◌==◌, nat_lt, List, [], ◌∷◌, ◌++◌, length, map, codes, Option, Some, None, option_and_then, if◌then◌else◌, Result, Ok, Err, ⊤}
 use Rattle.std.specs.Str.{is_utf8}
 use Rattle.std.specs.Str.Parse.{digits_value}
 use Rattle.std.specs.Io.KnownBytes.{Consumes, IsAtEnd}
@@ -159,6 +159,17 @@ pub record HasCutBody (head_only : Bool) (text : List ℕ) : Type 0 where
   pub framed : ReadsFramed head_only text (Ok (Sized size)) head rest
   pub cut : length rest < size
 
+-- the text ends inside a body that goes to the end of the input, and is not over the limit
+pub record HasOpenBody (head_only : Bool) (text : List ℕ) : Type 0 where
+  pub head : ResponseHead
+  pub rest : List ℕ
+  pub framed : ReadsFramed head_only text (Ok ToEnd) head rest
+  pub small : length rest ≤ max_answer
+
+-- the text holds no whole reply: it has no head yet, or ends inside a body
+abbrev pub HoldsNone : Bool → List ℕ → Type 0
+HoldsNone head_only text = IsUnfinished text ⊎ (HasCutBody head_only text ⊎ HasOpenBody head_only text)
+
 -- what was found in the text, where the reader holds rest and the source is left as new
 abbrev pub FindsAnswer : Bool → List ℕ → List ℕ → Option (List ℕ) → Result Heard HeardFault → Type 0
 FindsAnswer head_only text rest new (Ok heard) = TellsHeard head_only text rest new heard
@@ -167,7 +178,7 @@ FindsAnswer head_only text rest new (Err Fault.Unreadable) =
 FindsAnswer head_only text rest new (Err Fault.TooLarge) =
     IsTooLong text ⊎ (HasFramingFault head_only text Fault.TooLarge ⊎ HasLongBody head_only text)
 FindsAnswer head_only text rest new (Err Fault.Truncated) = IsAtEnd new × (IsUnfinished text ⊎ HasCutBody head_only text)
-FindsAnswer head_only text rest new (Err Fault.Read) = ⊤
+FindsAnswer head_only text rest new (Err Fault.Read) = HoldsNone head_only text
 FindsAnswer head_only text rest new (Err Fault.NoMemory) = ⊤
 FindsAnswer head_only text rest new (Err Fault.Ended) = ⊥
 

@@ -1,5 +1,5 @@
 -- What is found behind a head.
-use Rattle.std.specs.Prelude.{◌≡◌, ℕ, List, ◌++◌, Option, Result, Ok, Err}
+use Rattle.std.specs.Prelude.{ℕ, List, ◌++◌, Option, Result, Ok, Err}
 use Rattle.std.specs.Io.KnownBytes.{IsAtEnd}
 use Rattle.upload_wire.specs.Reading.{Gave}
 use Rattle.upload_wire.specs.BodyReading.{MovedNone}
@@ -22,17 +22,16 @@ pub record RefusesBodyText (max_body : ℕ) (framing : Framing) (old : Option (L
   pub gave : Gave old new held text
   pub bad : IsBadBody max_body framing text number
 
--- the input ended inside a body
+-- what came is the front of a body
 pub record CutsBody (max_body : ℕ) (framing : Framing) (old : Option (List ℕ)) (held : List ℕ) (new : Option (List ℕ)) : Type 0 where
   pub text : List ℕ
   pub gave : Gave old new held text
   pub cut : IsCutBody max_body framing text
-  pub ended : IsAtEnd new
 
 abbrev pub FindsBody : ℕ → Framing → Option (List ℕ) → List ℕ → Option (List ℕ) → List ℕ → Result BodyRead WireFault → Type 0
 FindsBody max_body framing old held new rest (Ok (Whole body)) = TakesBody max_body framing old held new rest body.items
 FindsBody max_body framing old held new rest (Ok (Refused number)) = RefusesBodyText max_body framing old held new number
-FindsBody max_body framing old held new rest (Err Fault.Truncated) = CutsBody max_body framing old held new
-FindsBody max_body framing old held new rest (Err Fault.Read) = MovedNone old held new
+FindsBody max_body framing old held new rest (Err Fault.Truncated) = CutsBody max_body framing old held new × IsAtEnd new
+FindsBody max_body framing old held new rest (Err Fault.Read) = CutsBody max_body framing old held new
 FindsBody max_body framing old held new rest (Err Fault.NoMemory) = MovedNone old held new
 FindsBody max_body framing old held new rest (Err Fault.Ended) = ⊥

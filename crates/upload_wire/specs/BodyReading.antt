@@ -1,5 +1,5 @@
 -- What the functions find that read a body.
-use Rattle.std.specs.Prelude.{◌≡◌, ℕ, ◌+◌, ◌<◌, ◌≤◌, List, [], ◌++◌, length, Option, Result, Ok, Err, ⊤}
+use Rattle.std.specs.Prelude.{◌≡◌, ℕ, ◌<◌, ◌≤◌, List, ◌++◌, length, Option, Result, Ok, Err}
 use Rattle.std.specs.Io.KnownBytes.{IsAtEnd}
 use Rattle.upload_wire.specs.Reading.{Gave}
 use Rattle.upload_wire.specs.declared.fault.WireFault.{WireFault}
@@ -17,26 +17,25 @@ pub record MovedNone (old : Option (List ℕ)) (held : List ℕ) (new : Option (
   pub text : List ℕ
   pub gave : Gave old new held text
 
--- the input ended before so many bytes
-pub record EndsBefore (old : Option (List ℕ)) (held : List ℕ) (new : Option (List ℕ)) (count : ℕ) : Type 0 where
+-- fewer than so many bytes came
+pub record StopsBefore (old : Option (List ℕ)) (held : List ℕ) (new : Option (List ℕ)) (count : ℕ) : Type 0 where
   pub text : List ℕ
   pub gave : Gave old new held text
   pub short : length text < count
-  pub ended : IsAtEnd new
 
--- a part of what is left of a body, or the end before any of it
+-- a part of what is left of a body, or the end or a failed read before any of it
 abbrev pub ReadsPart : Option (List ℕ) → List ℕ → List ℕ → Option (List ℕ) → List ℕ → List ℕ → ℕ → Result ℕ WireFault → Type 0
 ReadsPart old held before new rest after left (Ok count) =
     Moved old held before new rest after count × (0 < count) × (count ≤ left)
-ReadsPart old held before new rest after left (Err Fault.Truncated) = EndsBefore old held new 1
-ReadsPart old held before new rest after left (Err Fault.Read) = MovedNone old held new
+ReadsPart old held before new rest after left (Err Fault.Truncated) = StopsBefore old held new 1 × IsAtEnd new
+ReadsPart old held before new rest after left (Err Fault.Read) = StopsBefore old held new 1
 ReadsPart old held before new rest after left (Err Fault.NoMemory) = MovedNone old held new
 ReadsPart old held before new rest after left (Err Fault.Ended) = ⊥
 
--- so many bytes of a body, or the end before them
+-- so many bytes of a body, or the end or a failed read before them
 abbrev pub ReadsBytes : Option (List ℕ) → List ℕ → List ℕ → Option (List ℕ) → List ℕ → List ℕ → ℕ → Result (Unit {0}) WireFault → Type 0
 ReadsBytes old held before new rest after count (Ok done) = Moved old held before new rest after count
-ReadsBytes old held before new rest after count (Err Fault.Truncated) = EndsBefore old held new count
-ReadsBytes old held before new rest after count (Err Fault.Read) = MovedNone old held new
+ReadsBytes old held before new rest after count (Err Fault.Truncated) = StopsBefore old held new count × IsAtEnd new
+ReadsBytes old held before new rest after count (Err Fault.Read) = StopsBefore old held new count
 ReadsBytes old held before new rest after count (Err Fault.NoMemory) = MovedNone old held new
 ReadsBytes old held before new rest after count (Err Fault.Ended) = ⊥

@@ -1,10 +1,10 @@
 -- What the functions find that read a chunked body.
-use Rattle.std.specs.Prelude.{◌≡◌, ◌≢◌, ℕ, ◌+◌, ◌-◌, ◌<◌, ◌≤◌, ◌⊎◌, Bool, true, false, List, [], ◌∷◌, ◌++◌, length, Option, Result, Ok, Err}
+use Rattle.std.specs.Prelude.{◌≡◌, ◌≢◌, ℕ, ◌≤◌, ◌⊎◌, Bool, true, false, List, [], ◌∷◌, ◌++◌, length, Option, Result, Ok, Err}
 use Rattle.std.specs.Io.KnownBytes.{IsAtEnd}
 use Rattle.httparse.specs.Ascii.{crlf_bytes}
 use Rattle.upload_wire.specs.Reading.{Gave}
 use Rattle.upload_wire.specs.BodyReading.{MovedNone}
-use Rattle.upload_wire.specs.Body.{Chunk, IsChunk, print_chunk, IsZero, IsOver, IsFrontOfChunked, IsBadBody, IsCutBody}
+use Rattle.upload_wire.specs.Body.{Chunk, IsChunk, print_chunk, IsZero, IsBadBody, IsCutBody}
 use Rattle.upload_wire.specs.SizeLines.{StandsAt, IsLine, NeverLine}
 use Rattle.upload_wire.specs.declared.framing.Framing.TheVariants.{Chunked}
 use Rattle.upload_wire.specs.declared.chunked.LineState.{LineState}
@@ -31,19 +31,18 @@ pub record BreaksLine (old : Option (List ℕ)) (held : List ℕ) (new : Option 
   pub stands : StandsAt before state
   pub never : NeverLine (before ++ byte ∷ [])
 
--- the input ended inside a size line
+-- what came is the front of a size line
 pub record CutsLine (old : Option (List ℕ)) (held : List ℕ) (new : Option (List ℕ)) : Type 0 where
   pub text : List ℕ
   pub gave : Gave old new held text
   pub state : LineState
   pub stands : StandsAt text state
-  pub ended : IsAtEnd new
 
 abbrev pub FindsLine : Option (List ℕ) → List ℕ → Option (List ℕ) → List ℕ → Result LineRead WireFault → Type 0
 FindsLine old held new rest (Ok (Size value)) = TakesLine old held new rest value
 FindsLine old held new rest (Ok Broken) = BreaksLine old held new
-FindsLine old held new rest (Err Fault.Truncated) = CutsLine old held new
-FindsLine old held new rest (Err Fault.Read) = MovedNone old held new
+FindsLine old held new rest (Err Fault.Truncated) = CutsLine old held new × IsAtEnd new
+FindsLine old held new rest (Err Fault.Read) = CutsLine old held new
 FindsLine old held new rest (Err Fault.NoMemory) = ⊥
 FindsLine old held new rest (Err Fault.Ended) = ⊥
 
@@ -60,18 +59,17 @@ pub record BreaksEnd (old : Option (List ℕ)) (held : List ℕ) (new : Option (
   pub front : (before ≡ []) ⊎ (before ≡ 13 ∷ [])
   pub never : NeverEnd (before ++ byte ∷ [])
 
--- the input ended inside CR LF
+-- what came is the front of CR LF
 pub record CutsEnd (old : Option (List ℕ)) (held : List ℕ) (new : Option (List ℕ)) : Type 0 where
   pub text : List ℕ
   pub gave : Gave old new held text
   pub front : (text ≡ []) ⊎ (text ≡ 13 ∷ [])
-  pub ended : IsAtEnd new
 
 abbrev pub FindsEnd : Option (List ℕ) → List ℕ → Option (List ℕ) → List ℕ → Result Bool WireFault → Type 0
 FindsEnd old held new rest (Ok true) = Gave old new held (crlf_bytes ++ rest)
 FindsEnd old held new rest (Ok false) = BreaksEnd old held new
-FindsEnd old held new rest (Err Fault.Truncated) = CutsEnd old held new
-FindsEnd old held new rest (Err Fault.Read) = MovedNone old held new
+FindsEnd old held new rest (Err Fault.Truncated) = CutsEnd old held new × IsAtEnd new
+FindsEnd old held new rest (Err Fault.Read) = CutsEnd old held new
 FindsEnd old held new rest (Err Fault.NoMemory) = ⊥
 FindsEnd old held new rest (Err Fault.Ended) = ⊥
 
@@ -96,18 +94,17 @@ pub record RefusesChunk (room : ℕ) (old : Option (List ℕ)) (held : List ℕ)
   pub gave : Gave old new held text
   pub bad : IsBadBody room Chunked text number
 
--- the input ended inside a chunked text of so many bytes
+-- what came is the front of a chunked text of so many bytes
 pub record CutsChunk (room : ℕ) (old : Option (List ℕ)) (held : List ℕ) (new : Option (List ℕ)) : Type 0 where
   pub text : List ℕ
   pub gave : Gave old new held text
   pub cut : IsCutBody room Chunked text
-  pub ended : IsAtEnd new
 
 abbrev pub FindsChunk : ℕ → Option (List ℕ) → List ℕ → List ℕ → Option (List ℕ) → List ℕ → List ℕ → Result ChunkRead WireFault → Type 0
 FindsChunk room old held before new rest after (Ok More) = TakesChunk room old held before new rest after
 FindsChunk room old held before new rest after (Ok Last) = TakesLast old held before new rest after
 FindsChunk room old held before new rest after (Ok (Refused number)) = RefusesChunk room old held new number
-FindsChunk room old held before new rest after (Err Fault.Truncated) = CutsChunk room old held new
-FindsChunk room old held before new rest after (Err Fault.Read) = MovedNone old held new
+FindsChunk room old held before new rest after (Err Fault.Truncated) = CutsChunk room old held new × IsAtEnd new
+FindsChunk room old held before new rest after (Err Fault.Read) = CutsChunk room old held new
 FindsChunk room old held before new rest after (Err Fault.NoMemory) = MovedNone old held new
 FindsChunk room old held before new rest after (Err Fault.Ended) = ⊥

@@ -6,7 +6,7 @@ use Rattle.std.specs.Io.KnownBytes.{Consumes, IsAtEnd}
 use Rattle.upload_service.specs.declared.ask.Ask.{Ask}
 use Rattle.upload_service.specs.declared.answer.Answer.{Answer}
 use Rattle.upload_wire.specs.Counts.{CountsUp}
-use Rattle.upload_wire.specs.RequestText.{IsRequest, IsBad, IsTruncated}
+use Rattle.upload_wire.specs.RequestText.{IsRequest, IsBad, IsTruncated, HoldsNone}
 use Rattle.upload_wire.specs.ReplyText.{reply, bad}
 use Rattle.upload_wire.specs.Writing.{Sink, TookAll, TookFront}
 use Rattle.upload_wire.specs.declared.fault.WireFault.{WireFault}
@@ -109,7 +109,7 @@ pub record IsQuiet {D : Type 0} (at new : D) (mid after : Sink) : Type 0 where
 -- why the reader gave no request: what the bytes say of it, and what the source does
 abbrev pub WireStops : ℕ → List ℕ → Option (List ℕ) → WireFault → Type 0
 WireStops max_body rest left Wire.Truncated = IsTruncated max_body rest × IsAtEnd left
-WireStops max_body rest left Wire.Read = ⊤
+WireStops max_body rest left Wire.Read = HoldsNone max_body rest
 WireStops max_body rest left Wire.NoMemory = ⊤
 WireStops max_body rest left Wire.Ended = ⊥
 

@@ -1,5 +1,5 @@
 -- What the functions find that read a head.
-use Rattle.std.specs.Prelude.{◌≡◌, ℕ, ◌+◌, ◌≤◌, List, [], length, take, Option, Result, Ok, Err, ⊤}
+use Rattle.std.specs.Prelude.{◌≡◌, ℕ, ◌+◌, ◌≤◌, ◌⊎◌, List, [], length, take, Option, Result, Ok, Err}
 use Rattle.std.specs.Io.KnownBytes.{IsAtEnd}
 use Rattle.httparse.specs.Grammar.{HasNoRequest}
 use Rattle.httparse.specs.Spans.{IsRequestWithin, IsRequestOf}
@@ -41,6 +41,6 @@ FindsHead text new (Ok Found.Refused) = IsRefused text
 FindsHead text new (Ok Found.TooLong) = IsTooLong text
 FindsHead text new (Ok (Found.Head p)) = IsHeadAtFront text p
 FindsHead text new (Err Fault.Truncated) = IsUnfinished text × IsAtEnd new
-FindsHead text new (Err Fault.Read) = ⊤
+FindsHead text new (Err Fault.Read) = (text ≡ []) ⊎ IsUnfinished text
 FindsHead text new (Err Fault.NoMemory) = ⊥
 FindsHead text new (Err Fault.Ended) = ⊥

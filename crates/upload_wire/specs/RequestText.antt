@@ -1,5 +1,5 @@
 -- A request as a text: its head, its body, and what it asks (RFC 9112, sections 2 and 6).
-use Rattle.std.specs.Prelude.{◌≡◌, ℕ, ◌⊎◌, Bool, List, [], ◌++◌, codes, bytes_eq, Option, Result, Ok, Err, ⊤}
+use Rattle.std.specs.Prelude.{◌≡◌, ℕ, ◌⊎◌, List, [], ◌++◌, codes, bytes_eq, Option, Result, Ok, Err, ⊤}
 use Rattle.std.specs.Io.KnownBytes.{Consumes, IsAtEnd}
 use Rattle.httparse.specs.Grammar.{RequestHead}
 use Rattle.upload_service.specs.declared.ask.Ask.{Ask}
@@ -68,6 +68,10 @@ pub record HasCutBody (max_body : ℕ) (text : List ℕ) : Type 0 where
 abbrev pub IsTruncated : ℕ → List ℕ → Type 0
 IsTruncated max_body text = IsUnfinished text ⊎ HasCutBody max_body text
 
+-- the text holds no request: it is empty, or ends inside one
+abbrev pub HoldsNone : ℕ → List ℕ → Type 0
+HoldsNone max_body text = (text ≡ []) ⊎ IsTruncated max_body text
+
 -- the text is a request, and then rest
 pub record ReadsOne (max_body : ℕ) (text rest : List ℕ) (ask : Ask) (style : Style) : Type 0 where
   pub message : List ℕ
@@ -80,7 +84,7 @@ FindsNext max_body text rest new (Ok (Request ask style)) = ReadsOne max_body te
 FindsNext max_body text rest new (Ok Over) = (text ≡ []) × (rest ≡ []) × IsAtEnd new
 FindsNext max_body text rest new (Ok (Bad number)) = IsBad max_body text number
 FindsNext max_body text rest new (Err Fault.Truncated) = IsTruncated max_body text × IsAtEnd new
-FindsNext max_body text rest new (Err Fault.Read) = ⊤
+FindsNext max_body text rest new (Err Fault.Read) = HoldsNone max_body text
 FindsNext max_body text rest new (Err Fault.NoMemory) = ⊤
 FindsNext max_body text rest new (Err Fault.Ended) = ⊥
 

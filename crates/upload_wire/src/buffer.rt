@@ -66,13 +66,14 @@ impl ReadBuffer {
         self.start += count;
     }
 
-    /// Reads once, behind what it holds. 0 is the end.
+    /// Reads once, behind what it holds. 0 is the end. A read that failed leaves what it holds.
     pub fn fill<S: ByteSource>(&mut self, source: &mut S) -> Result<usize, WireFault>
         requires { length self.old < CAPACITY }
         ensures gave { Gave (S.remaining source.old) (S.remaining source.new) self.old self.new }
         ensures count { IfOk result (λ n. length self.new ≡ length self.old + n) }
         ensures end { IfOk result (λ n. n ≡ 0 → IsAtEnd (S.remaining source.new)) }
         ensures error { IfErr result (λ e. e ≡ WireFault.Read) }
+        ensures kept { OnErr result (self.new ≡ self.old) }
         ensures reads { CountsAtMost (S.reads source.old) (S.reads source.new) 1 }
         ensures failed { result ≡ Err WireFault.Read
             → CountsUp (S.failed_reads source.old) (S.failed_reads source.new) }
@@ -106,6 +107,7 @@ fn read_behind<S: ByteSource>(
     ensures count { IfOk result (λ n. end + n ≤ length bytes.new) }
     ensures end { IfOk result (λ n. n ≡ 0 → IsAtEnd (S.remaining source.new)) }
     ensures error { IfErr result (λ e. e ≡ WireFault.Read) }
+    ensures kept { OnErr result (take end bytes.new ≡ take end bytes.old) }
     ensures reads { CountsAtMost (S.reads source.old) (S.reads source.new) 1 }
     ensures failed { result ≡ Err WireFault.Read
         → CountsUp (S.failed_reads source.old) (S.failed_reads source.new) }

@@ -1,5 +1,5 @@
 //! Heads of requests, read from a source of bytes.
-ghost use Rattle.std.specs.Prelude.{◌≡◌, ◌≢◌, ℕ, ◌+◌, ◌<◌, ◌≤◌, List, length, take, Ok, Err, IfOk, IfErr, IsTrue, IsFalse};
+ghost use Rattle.std.specs.Prelude.{◌≡◌, ◌≢◌, ℕ, ◌+◌, ◌<◌, ◌≤◌, List, length, take, Ok, Err, IfOk, IfErr, OnErr, IsTrue, IsFalse};
 ghost use Rattle.std.specs.Io.KnownBytes.{IsAtEnd};
 ghost use Rattle.httparse.specs.Grammar.{HasNoRequest};
 ghost use Rattle.upload_wire.specs.Counts.{CountsUp, CountsAtMost};
@@ -89,7 +89,8 @@ fn lines_after(text: &[u8], at: usize, lines: usize) -> usize
     if text[at] == b'\n' { lines + 1 } else { lines }
 }
 
-/// Reads until the buffer has a byte at this index. `false`: the input ended before it.
+/// Reads until the buffer has a byte at this index. `false`: the input ended before it. A read that
+/// failed leaves what the buffer holds.
 pub fn has_byte<S: ByteSource>(
     source: &mut S,
     buffer: &mut ReadBuffer,
@@ -102,6 +103,7 @@ pub fn has_byte<S: ByteSource>(
     ensures ended { IfOk result (λ b. IsFalse b → (length buffer.new ≡ at)
         × (buffer.new ≡ buffer.old) × IsAtEnd (S.remaining source.new)) }
     ensures error { IfErr result (λ e. e ≡ WireFault.Read) }
+    ensures kept { OnErr result ((length buffer.new ≡ at) × (buffer.new ≡ buffer.old)) }
     ensures reads { CountsAtMost (S.reads source.old) (S.reads source.new) 1 }
     ensures failed { result ≡ Err WireFault.Read
         → CountsUp (S.failed_reads source.old) (S.failed_reads source.new) }

@@ -331,7 +331,8 @@ impl<S: ByteSource> AnswerReader<S> {
     ///   length that goes on behind 65,536;
     /// - `Unreadable` for a Location that is no URI, and then for a Range that isn't one from 0.
     ///
-    /// `Read` comes only where a read failed in this call, and `NoMemory` where a growth was refused.
+    /// `Read` comes only where a read failed in this call, before the reply had come whole, and
+    /// `NoMemory` where a growth was refused.
     pub fn next_answer(&mut self, head: bool) -> Result<Heard, HeardFault>
         ensures ended { self.old.ended ≡ true → (result ≡ Err HeardFault.Ended) × (self.new ≡ self.old) }
         ensures found { self.old.ended ≡ false

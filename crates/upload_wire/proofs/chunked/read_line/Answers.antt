@@ -1,15 +1,20 @@
-use Rattle.std.proofs.Common.{◌≡◌, ◌∙◌, sym, ap, subst, arith, ◌+◌, ◌<◌, ◌≤◌, ◌++◌, ◌∷◌, [], take, drop, length, get_or}
+use Rattle.std.proofs.Common.{◌≡◌, ◌∙◌, sym, ap, subst, arith, ◌+◌, ◌<◌, ◌++◌, ◌∷◌, [], take, length, get_or}
 use Rattle.upload_wire.specs.SizeLines.{StandsAt}
 use Rattle.upload_wire.specs.ChunkReading.{TakesLine}
 use Rattle.upload_wire.proofs.GaveLemmas.{gave_both}
 use Rattle.upload_wire.proofs.HeadLemmas.{take-next}
-use Rattle.upload_wire.proofs.LineReadLemmas.{bounded, front_kept, line_taken, line_broken, line_fault}
+use Rattle.upload_wire.proofs.LineReadLemmas.{bounded, front_kept, line_taken, line_broken, line_cut, line_fault}
 use Rattle.upload_wire.proofs.chunked.read_line.Goals as goal
 
 pub returns-in-Err-clause-found : goal.returns-in-Err-clause-found
 returns-in-Err-clause-found g c =
-    line_fault _ _ c.args.buffer.now c.has_byte.new.buffer c.in-Err.fault c.in-Err.ensures.error
-    (gave_both _ _ _ _ _ _ c.loop-at.invariant.gave c.in-Err.ensures.gave)
+    let at = c.loop-at.at in
+    let text = c.has_byte.new.buffer in
+    let kept = front_kept _ _ c.loop-at.buffer text at c.has_byte.ensures.gave c.loop-at.invariant.within in
+    let stands : StandsAt (take at text) c.loop-at.state = subst (λ t. StandsAt t c.loop-at.state) (sym kept) c.loop-at.invariant.stands in
+    line_fault _ _ c.args.buffer.now text c.in-Err.fault c.in-Err.ensures.error
+    (line_cut _ _ c.args.buffer.now text at c.loop-at.state (gave_both _ _ _ _ _ _ c.loop-at.invariant.gave c.in-Err.ensures.gave)
+    c.in-Err.ensures.kept.0 stands)
 
 pub line_step-requires : goal.line_step-requires
 line_step-requires g c = bounded (take c.loop-at.at c.loop-at.buffer) c.loop-at.state c.loop-at.invariant.stands

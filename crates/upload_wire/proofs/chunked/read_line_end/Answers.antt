@@ -1,4 +1,4 @@
-use Rattle.std.proofs.Common.{◌≡◌, ◌≢◌, ◌∙◌, sym, ap, subst, arith, refl, ◌+◌, ◌<◌, ◌≤◌, ◌++◌, ◌∷◌, [], take, drop, length, get_or, inl, inr}
+use Rattle.std.proofs.Common.{◌≡◌, ◌∙◌, sym, ap, arith, refl, ◌+◌, ◌<◌, ◌++◌, ◌∷◌, [], take, drop, length, get_or, inl, inr}
 use Rattle.std.proofs.lemmas.List.{take-append-drop}
 use Rattle.upload_wire.proofs.GaveLemmas.{gave_both}
 use Rattle.upload_wire.proofs.HeadLemmas.{take-next}
@@ -7,7 +7,8 @@ use Rattle.upload_wire.proofs.chunked.read_line_end.Goals as goal
 
 pub returns-in-Err-clause-found : goal.returns-in-Err-clause-found
 returns-in-Err-clause-found g c =
-    end_fault _ _ c.args.buffer.now c.has_byte.new.buffer c.in-Err.fault c.in-Err.ensures.error c.in-Err.ensures.gave
+    end_fault _ _ c.args.buffer.now c.has_byte.new.buffer c.in-Err.fault c.in-Err.ensures.error
+    (end_cut _ _ c.args.buffer.now c.has_byte.new.buffer [] 0 c.in-Err.ensures.gave c.in-Err.ensures.kept.0 refl (inl refl))
 
 pub returns-then-as_slice-ne13-clause-found : goal.returns-then-as_slice-ne13-clause-found
 returns-then-as_slice-ne13-clause-found g c =
@@ -27,14 +28,23 @@ returns-in-Ok-false-has_byte-clause-found g c =
     let first : take 1 old ≡ 13 ∷ [] =
     take-next old 0 there ∙ ap (λ t. get_or t 0 0 ∷ []) (sym c.as_slice.ensures) ∙ ap (λ b. b ∷ []) c.if-as_slice-ne13.false in
     let kept = front_kept _ _ old text 1 c.has_byte-2.ensures.gave (omega (arith, there)) in
-    let ended = c.in-Ok-false-has_byte.ensures.ended c.in-Ok-false-has_byte.field-0-test in
-    end_cut _ _ c.args.buffer.now text (13 ∷ []) 1 (gave_both _ _ _ _ _ _ c.has_byte.ensures.gave c.has_byte-2.ensures.gave)
-    ended.0 (kept ∙ first) (inr refl) ended.2
+    let ended = c.in-Ok-false-has_byte.ensures.ended c.in-Ok-false-has_byte.field-0-test in (
+      end_cut _ _ c.args.buffer.now text (13 ∷ []) 1 (gave_both _ _ _ _ _ _ c.has_byte.ensures.gave c.has_byte-2.ensures.gave)
+          ended.0 (kept ∙ first) (inr refl),
+      ended.2,
+    )
 
 pub returns-in-Err-has_byte-clause-found : goal.returns-in-Err-has_byte-clause-found
 returns-in-Err-has_byte-clause-found g c =
-    end_fault _ _ c.args.buffer.now c.has_byte-2.new.buffer c.in-Err-has_byte.fault c.in-Err-has_byte.ensures.error
-    (gave_both _ _ _ _ _ _ c.has_byte.ensures.gave c.has_byte-2.ensures.gave)
+    let old = c.has_byte.new.buffer in
+    let text = c.has_byte-2.new.buffer in
+    let there : 0 < length old = c.in-Ok-true.ensures.there c.in-Ok-true.field-0-test in
+    let first : take 1 old ≡ 13 ∷ [] =
+    take-next old 0 there ∙ ap (λ t. get_or t 0 0 ∷ []) (sym c.as_slice.ensures) ∙ ap (λ b. b ∷ []) c.if-as_slice-ne13.false in
+    let kept = front_kept _ _ old text 1 c.has_byte-2.ensures.gave (omega (arith, there)) in
+    end_fault _ _ c.args.buffer.now text c.in-Err-has_byte.fault c.in-Err-has_byte.ensures.error
+    (end_cut _ _ c.args.buffer.now text (13 ∷ []) 1 (gave_both _ _ _ _ _ _ c.has_byte.ensures.gave c.has_byte-2.ensures.gave)
+    c.in-Err-has_byte.ensures.kept.0 (kept ∙ first) (inr refl))
 
 pub returns-then-as_slice-ne10-clause-found : goal.returns-then-as_slice-ne10-clause-found
 returns-then-as_slice-ne10-clause-found g c =

@@ -1,6 +1,4 @@
-use Rattle.std.proofs.Common.{◌≡◌, ◌-◌, ◌∙◌, arith, refl, sym, ap}
-use Rattle.std.specs.Prelude.{Err}
-use Rattle.upload_wire.specs.Counts.{CountsUp}
+use Rattle.std.proofs.Common.{◌-◌, ◌∙◌, arith, refl}
 use Rattle.upload_wire.proofs.AnswerBodyLemmas.{moved_nothing, moved_both, part_fault, part_end}
 use Rattle.upload_wire.proofs.client.body.move_bytes.Goals as goal
 
@@ -33,4 +31,6 @@ returns-then-part-eq0-clause-found g c =
 
 pub returns-in-Err-clause-found : goal.returns-in-Err-clause-found
 returns-in-Err-clause-found g c =
+    let within = c.loop-left.invariant.within in
     part_fault _ _ _ _ _ _ _ _ _ (c.args.count - c.loop-left.left) c.loop-left.left c.args.count c.in-Err.fault c.loop-left.invariant.moved c.in-Err.ensures.found
+    (omega (arith, within))

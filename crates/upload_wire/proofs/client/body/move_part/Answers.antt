@@ -1,6 +1,6 @@
-use Rattle.std.proofs.Common.{◌≡◌, ◌∙◌, refl, ap, arith}
+use Rattle.std.proofs.Common.{refl, ap}
 use Rattle.std.specs.Prelude.{Err}
-use Rattle.upload_wire.proofs.AnswerBodyLemmas.{part_taken, part_none}
+use Rattle.upload_wire.proofs.AnswerBodyLemmas.{part_taken, part_none, held_none}
 use Rattle.upload_wire.proofs.client.body.move_part.Goals as goal
 
 pub returns-then-there-clause-found : goal.returns-then-there-clause-found
@@ -14,7 +14,8 @@ returns-else-there-clause-found g c =
     part_none _ _ c.args.buffer.now c.has_byte.new.buffer c.args.body.now.items c.args.left c.in-Ok.ensures.gave ended.0 ended.2
 
 pub returns-in-Err-clause-found : goal.returns-in-Err-clause-found
-returns-in-Err-clause-found g c = record { text = c.has_byte.new.buffer; gave = c.in-Err.ensures.gave }
+returns-in-Err-clause-found g c =
+    held_none _ _ c.args.buffer.now c.has_byte.new.buffer c.args.body.now.items c.in-Err.ensures.gave c.in-Err.ensures.kept.0
 
 pub returns-in-Err-clause-failed : goal.returns-in-Err-clause-failed
 returns-in-Err-clause-failed g c = λ e. c.in-Err.ensures.failed (ap Err c.in-Err.ensures.error)
