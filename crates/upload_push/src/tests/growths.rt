@@ -1,5 +1,5 @@
 //! A push that is refused memory leaves what its asks did, and one that goes on ends well all the same. The test holds
-//! whichever one growth is refused: `refused_growths.sh` has each of them refused in turn.
+//! whichever one growth is refused: `tests/growths.py` has each of them refused in turn.
 
 use super::{Asked, End, LIMITS, end_of, events, kind_of, name, session};
 use crate::{Event, LossyWorld, push};
