@@ -14,6 +14,7 @@ A small library, loaded in front of the C library, refuses the Nth allocation of
 
 Prints a line for each run that fails, how many growths there were, and 'N passed, M failed' as the last. Without a C compiler nothing is run.
 """
+import collections
 import concurrent.futures
 import glob
 import os
@@ -115,7 +116,7 @@ def over_all_growths(library, name, command, sent, is_right):
         if not met and number == 1:
             wrong.append(f"FAILED: {name}: it met no growth")
         if not met or len(wrong) == 10:
-            return number - met, wrong
+            return number - (not met), wrong
     return number, [f"FAILED: {name}: no end of its growths"]
 
 
@@ -165,17 +166,19 @@ def patch(first, body):
 
 
 def right_ends(program, requests):
-    """What the program may write over these requests, each with the status that goes with it, whichever growth is refused."""
+    """What the program may write over these requests, each with the status that goes with it, whichever growth is refused; and the method of the
+    request that is then answered 503, if one is."""
     # no memory for the words of the command line, and none for the reader's buffer
-    ends = {connections.once(program, b"".join(requests)), (b"", 2), (b"", 3)}
+    ends = {connections.once(program, b"".join(requests)): None, (b"", 2): None, (b"", 3): None}
     for place, request in enumerate(requests):
         front, _ = connections.once(program, b"".join(requests[:place]))
         without, status = connections.once(program, b"".join(requests[:place] + requests[place + 1 :]))
+        ends[front, 3] = None
         if re.search(rb"(?i)\r\nConnection: *close\r\n", request):
             refused = (front + NO_MEMORY_AND_CLOSE, 0)
         else:
             refused = (front + NO_MEMORY + without[len(front) :], status)
-        ends |= {(front, 3), refused}
+        ends[refused] = request.split(b" ")[0].decode()
     return ends
 
 
@@ -193,17 +196,17 @@ def conversations():
 
 
 def serve(library, program, name, requests, wanted):
-    """Serves a connection, each growth refused in turn. Gives how many there were, and a line for each run that isn't right."""
-    ends, met = right_ends(program, requests), set()
+    """Serves a connection, each growth refused in turn. Gives how many there were, a line for each run that isn't right, and the methods answered 503."""
+    ends, met = right_ends(program, requests), []
 
     def is_right(*end):
-        met.add(end)
+        met.append(end)
         return end in ends
 
     growths, wrong = over_all_growths(library, name, [program, "once"], b"".join(requests), is_right)
     if wanted and wanted not in met:
         wrong.append(f"FAILED: {name}: no run ended with status {wanted[1]} and {wanted[0]!r}")
-    return growths, wrong
+    return growths, wrong, collections.Counter(filter(None, map(ends.get, met)))
 
 
 def main():
@@ -218,13 +221,18 @@ def main():
         served = [pool.submit(serve, library, program, *conversation) for conversation in conversations()]
         for name, made in tests:
             print(f"{made.result()[0]} growths: {name}")
-        print(f"{sum(made.result()[0] for made in served)} growths: the program over {len(served)} connections")
-        for growths, wrong in [made.result() for _, made in tests] + [made.result() for made in served]:
+        refused = sum((made.result()[2] for made in served), collections.Counter())
+        counts = ", ".join(f"{count} {method}" for method, count in sorted(refused.items()))
+        print(f"{sum(made.result()[0] for made in served)} growths: the program over {len(served)} connections; answered 503: {counts}")
+        for growths, wrong, *_ in [made.result() for _, made in tests] + [made.result() for made in served]:
             for line in wrong:
                 print(line)
             # the run that meets none counts too
             passed += max(growths + 1 - len(wrong), 0)
             failed += len(wrong)
+        if set(refused) != {"GET", "PATCH", "POST", "PUT"}:
+            print("FAILED: requests of the methods GET, PATCH, POST and PUT are answered 503, and of no others")
+            failed += 1
     print(f"{passed} passed, {failed} failed")
     return 1 if failed else 0
 

@@ -53,9 +53,10 @@ fn takes_memory(told: Told) -> bool {
 }
 
 /// Each ask that takes memory, and each that takes none: Base, Status, a HEAD of a blob and every refusal. Blobs have
-/// at most three bytes, and two uploads may be open.
-fn lines() -> [Line; 45] {
+/// at most nine bytes, and two uploads may be open.
+fn lines() -> [Line; 47] {
     let u1 = At(1, 0);
+    let u2 = At(2, 0);
     let no_upload = Told::Refused(Refusal::NoUpload);
     let too_many = Told::Refused(Refusal::TooMany);
     let refused = |refusal| row(Word::Refused(refusal), Told::Refused(refusal));
@@ -75,7 +76,7 @@ fn lines() -> [Line; 45] {
             Told::Refused(Refusal::WrongLength),
         ),
         row(
-            Word::Chunk(u1, Place::Absent, b"bcd"),
+            Word::Chunk(u1, Place::Absent, b"bcdefghij"),
             Told::Refused(Refusal::TooLarge),
         ),
         row(
@@ -91,7 +92,7 @@ fn lines() -> [Line; 45] {
             Told::Refused(Refusal::WrongLength),
         ),
         row(
-            Word::Close(u1, Place::Absent, ABC, b"bcd"),
+            Word::Close(u1, Place::Absent, ABC, b"bcdefghij"),
             Told::Refused(Refusal::TooLarge),
         ),
         row(
@@ -111,11 +112,25 @@ fn lines() -> [Line; 45] {
         row(Word::Chunk(u1, Place::Absent, b"a"), no_upload),
         row(Word::Close(u1, Place::Absent, ABC, b""), no_upload),
         row(Word::Single(NOTHING, b""), Told::Stored(NOTHING)),
-        row(Word::Single(ABC, b"abcd"), Told::Refused(Refusal::TooLarge)),
+        row(
+            Word::Single(ABC, b"abcdefghij"),
+            Told::Refused(Refusal::TooLarge),
+        ),
         row(Word::Single(b"x", b"abc"), Told::Refused(Refusal::NoDigest)),
         row(Word::Single(ABC, b"abd"), Told::Refused(Refusal::Mismatch)),
         under(b"lib/b", Word::Mount(ABC, b"lib/a"), Told::Stored(ABC)),
         under(b"lib/b", Word::Mount(ABC, b"lib/c"), Told::Begun(2)),
+        under(
+            b"lib/b",
+            Word::Chunk(u2, Place::From(0, 0), b"a"),
+            Told::Taken(u2, 1),
+        ),
+        // The first chunk was moved in. Behind it there is room for less than eight bytes.
+        under(
+            b"lib/b",
+            Word::Chunk(u2, Place::From(1, 8), b"bcdefghi"),
+            Told::Taken(u2, 9),
+        ),
         row(Word::Open, Told::Begun(3)),
         row(Word::Open, too_many),
         under(b"lib/d", Word::Mount(ABC, b"lib/c"), too_many),
@@ -147,7 +162,7 @@ fn a_refused_growth_changes_nothing(rt: HostRuntime) -> Result<(), Fail> {
     let a = name_for(alloc, b"lib/a")?;
     let b = name_for(alloc, b"lib/b")?;
     let digest = BlobDigest::of_sha256(b"abc");
-    let mut service = Service::new(alloc, limits(3, 2, 3_600));
+    let mut service = Service::new(alloc, limits(9, 2, 3_600));
     for (i, line) in lines().iter().enumerate() {
         let ask = ask_for(alloc, *line)?;
         let again = ask_for(alloc, *line)?;
@@ -199,7 +214,7 @@ fn a_refused_growth_in_a_list_is_of_one_request_or_of_all(rt: HostRuntime) -> Re
     let a = name_for(alloc, b"lib/a")?;
     let digest = BlobDigest::of_sha256(b"abc");
     let first = UploadRef::make(1, [0; 12]);
-    let mut service = Service::new(alloc, limits(3, 2, 3_600));
+    let mut service = Service::new(alloc, limits(9, 2, 3_600));
     let once = jobs_for(alloc)?;
     let again = jobs_for(alloc)?;
     let answers = match service.run_all(alloc, once) {
