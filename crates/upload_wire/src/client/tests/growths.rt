@@ -3,7 +3,7 @@
 
 use super::{Told, as_told};
 use crate::ToWrite;
-use crate::client::{AnswerReader, Heard, HeardFault, Transport, WireTransport, heard_of};
+use crate::client::{AnswerReader, HeardFault, Transport, WireTransport, heard_of};
 use crate::memory::MemorySource;
 use std::alloc::{AllocError, Global};
 use std::process::Abort;
