@@ -4,7 +4,7 @@ ADDR = 127.0.0.1:5000
 COUNT = 1000000
 FILE = README.md
 
-.PHONY: help once serve upload build test check format figures fuzz bench
+.PHONY: help once serve upload build test check format figures fuzz growths bench
 
 help:
 	@echo 'make once    a whole upload over one connection, through `blobd once`'
@@ -14,6 +14,7 @@ help:
 	@echo 'make check   proves what changed since the last check (quick; make test is the judge)'
 	@echo 'make format  lays out the sources'
 	@echo 'make fuzz    20,000 generated streams of requests through `blobd once` (after make once; make test runs 500)'
+	@echo 'make growths has each growth refused in turn, in the built tests and the built program (after make test, which does it too)'
 	@echo 'make figures speed and memory of `blobd once` and of the service alone, as ratios in one run (after make once)'
 	@echo 'make bench   the same of `blobd serve` and `blobd push`, over loopback (after make once; docs/PERFORMANCE.md)'
 
@@ -51,3 +52,6 @@ bench:
 
 fuzz:
 	@python3 tests/fuzz.py crates/blobd/out/blobd
+
+growths:
+	@python3 tests/growths.py crates/blobd/out/blobd

@@ -15,8 +15,9 @@ CLOSING = re.compile(r"^(\d+) passed, (\d+) failed$")
 PARTS = [
     ("the repository", [sys.executable, "tests/repository.py"]),
     ("the crates", ["rt", "ci"]),
-    # `rt ci` leaves the program that it built
+    # `rt ci` leaves the program that it built, and the tests
     ("whole connections", [sys.executable, "tests/connections.py", "crates/blobd/out/blobd"]),
+    ("each growth refused in turn", [sys.executable, "tests/growths.py", "crates/blobd/out/blobd"]),
     ("the program over loopback", [sys.executable, "tests/program.py", "crates/blobd/out/blobd"]),
     ("pushes", [sys.executable, "tests/pushes.py", "crates/blobd/out/blobd"]),
     ("streams that a generator makes", [sys.executable, "tests/fuzz.py", "crates/blobd/out/blobd", "500"]),

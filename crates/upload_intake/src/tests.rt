@@ -3,6 +3,8 @@ ghost use Rattle.std.specs.Prelude.{IfOk, ◌≤◌, ◌^◌};
 ghost use Rattle.upload_intake.specs.Seats.{IsSameSeat};
 ghost use Rattle.upload_intake.specs.Served.{AreOfOneCall};
 
+mod growths;
+
 use crate::gone::Gone;
 use crate::keeper::Keeper;
 use crate::moments::Moments;

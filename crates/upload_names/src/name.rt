@@ -186,4 +186,30 @@ mod tests {
         assert!(rt; !copy.same(&other));
         assert!(rt; copy < other);
     }
+
+    /// It holds whichever growth is refused: `tests/growths.py` has each refused in turn.
+    #[test]
+    fn a_refused_growth_gives_no_name(rt: HostRuntime) {
+        let name = match RepoName::read(rt.alloc(), b"lib/a") {
+            Ok(name) => name,
+            Err(fault) => {
+                assert_eq!(rt; fault, NameFault::NoMemory);
+                RepoName::read(rt.alloc(), b"lib/a").expect(&rt, "a name, with memory")
+            }
+        };
+        assert_eq!(rt; name.as_str(), "lib/a");
+        let copy = match name.copy(rt.alloc()) {
+            Ok(copy) => copy,
+            Err(AllocError) => {
+                assert_eq!(rt; name.as_str(), "lib/a");
+                name.copy(rt.alloc()).expect(&rt, "a copy, with memory")
+            }
+        };
+        assert_eq!(rt; copy.as_str(), "lib/a");
+        // what is no name is told so without memory
+        let fault = RepoName::read(rt.alloc(), b"lib//a").err();
+        assert_eq!(rt; fault, Some(NameFault::NotAName));
+        let fault = RepoName::read(rt.alloc(), &[b'a'; 256]).err();
+        assert_eq!(rt; fault, Some(NameFault::TooLong));
+    }
 }

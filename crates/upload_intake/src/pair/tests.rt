@@ -1,6 +1,8 @@
 //! Two workers that serve connections at once. Each test ends by itself, and prints the same whatever the schedule.
 ghost use Rattle.std.specs.Prelude.{None};
 
+mod growths;
+
 use crate::conns::Conns;
 use crate::gate::Gate;
 use crate::moments::Moments;

@@ -1,5 +1,5 @@
 //! A push that is refused memory leaves what its asks did, and one that goes on ends well all the same. The test holds
-//! whichever one growth is refused: `refused_growths.sh` has each of them refused in turn.
+//! whichever one growth is refused: `tests/growths.py` has each of them refused in turn.
 
 use super::{Asked, End, LIMITS, end_of, events, kind_of, name, session};
 use crate::{Event, LossyWorld, push};
@@ -67,7 +67,8 @@ fn push_over(rt: &impl Abort, alloc: Global, script: &[u8]) -> Result<(), Fail> 
     };
     let end = end_of(&push(alloc, &mut over, b"abcde", &name, 2, 5));
     let service = over.world.into_service();
-    let held = service.holds(&name, &BlobDigest::of_sha256(b"abcde"));
+    let digest = BlobDigest::of_sha256(b"abcde");
+    let held = service.holds(&name, &digest);
     match end {
         End::Pushed | End::Already => assert!(rt; held),
         End::NoMemory if script.is_empty() => {
@@ -75,6 +76,15 @@ fn push_over(rt: &impl Abort, alloc: Global, script: &[u8]) -> Result<(), Fail> 
             assert_eq!(rt; service.next_of(&session(1)), over.open);
         }
         _ => assert_eq!(rt; end, End::NoMemory),
+    }
+    if end == End::NoMemory {
+        // with memory the same push over the same service ends well
+        let mut world = LossyWorld::new(alloc, service, [0; 12], 0, Vec::new(alloc));
+        assert_eq!(rt;
+            end_of(&push(alloc, &mut world, b"abcde", &name, 2, 5)),
+            End::Pushed
+        );
+        assert!(rt; world.into_service().holds(&name, &digest));
     }
     Ok(())
 }

@@ -2,6 +2,8 @@
 ghost use Rattle.std.specs.Prelude.{IsTrue};
 ghost use Rattle.upload_wire.specs.AskText.{CanBeWritten};
 
+mod growths;
+
 use crate::client::{
     AnswerReader, Heard, HeardFault, Transport, WireTransport, heard_of, read_place, write_ask,
 };

@@ -1,4 +1,7 @@
 //! Connections over memory, against bytes written by hand.
+
+mod growths;
+
 use super::rows::{
     AFTER_NINE, BAD_LENGTH, BAD_VERSION, BLOB_LIMIT, BODY_LIMIT, CHUNKED, CHUNKED_LIMIT, CLOSED,
     LAST_NUMBER, ONE_SESSION,

@@ -1,6 +1,8 @@
 //! Requests read from memory, with readers that are slow, cut short or failing.
 ghost use Rattle.std.specs.Prelude.{◌≡◌, ◌<◌, ◌≤◌, ◌^◌};
 
+mod growths;
+
 use crate::memory::MemorySource;
 use crate::{Next, RequestReader, WireFault};
 use std::alloc::{AllocError, Global};
