@@ -7,6 +7,7 @@ use std::marker::Model;
 use std::snapshot::Snapshot;
 use std::sync::Wait;
 use std::thread;
+use upload_names::UploadRef;
 use upload_service::{Answer, Service, headline_holds};
 
 /// The way back to one seat. It is open until a reply was handed back, and done when the seat's finish was taken.
@@ -180,9 +181,14 @@ impl Keeper {
                 self.now = self.now.max(moments.now());
                 let answer = self.service.step(ask, secret, self.now);
                 self.count = self.count.saturating_add(1);
+                let taken = session_that_took(&answer);
                 match side {
                     Side::Left => self.left.reply(rt, answer),
                     Side::Right => self.right.reply(rt, answer),
+                }
+                // While the client sends its next chunk there is time to hash this one.
+                if let Some(at) = taken {
+                    self.service.catch_up(&at);
                 }
             }
             Message::Finish => match side {
@@ -226,5 +232,13 @@ impl Keeper {
             keeper.turn(rt, moments);
         }
         unreachable!()
+    }
+}
+
+// The session whose chunk was taken, where the answer says so.
+fn session_that_took(answer: &Answer) -> Option<UploadRef> {
+    match answer {
+        Answer::Taken { at, .. } => Some(*at),
+        _ => None,
     }
 }

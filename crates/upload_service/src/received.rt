@@ -2,7 +2,6 @@
 ghost use Rattle.std.specs.Prelude.{◌≡◌, ◌↔◌, ◌+◌, ◌<◌, ◌≤◌, ◌^◌, ◌++◌, [], ℕ, List, length, take, IsTrue, OnOk, OnErr};
 ghost use Rattle.sha2.specs.Sha256.{sha256};
 ghost use Rattle.sha2.specs.Sha512.{sha512};
-ghost use Rattle.sha2.specs.Hashers.{Holds512};
 ghost use Rattle.upload_names.specs.Digest.{HasDigest};
 ghost use Rattle.upload_service.specs.Kept.Parts.{joined, whole};
 
@@ -12,15 +11,18 @@ use std::alloc::{AllocError, Global};
 use std::marker::Model;
 use upload_names::{Algorithm, BlobDigest, Bytes};
 
-/// The bytes that a session received. The SHA-256 is kept up with them. The SHA-512 stands for a front of them:
-/// it catches up when a close asks for it, since both at once would cost each chunk twice.
+/// The bytes that a session received, and two hashes that each stand for a front of them. `catch_up` has the SHA-256
+/// take in what came since, so that a close has little left to hash. The SHA-512 catches up when a close asks for it:
+/// both at once would cost each chunk twice.
 #[derive(Drop)]
 pub struct Received {
     segments: Segments,
-    hash: Sha256,
-    late: Sha512,
-    /// How many of the segments that stay as they are the late hash holds.
-    caught: usize,
+    sha256: Sha256,
+    /// How many of the segments that stay as they are the SHA-256 holds.
+    in_sha256: usize,
+    sha512: Sha512,
+    /// How many of them the SHA-512 holds.
+    in_sha512: usize,
 }
 
 impl Model for Received {
@@ -36,7 +38,7 @@ impl Model for Received {
 
     ghost view = { λ a. whole a.segments };
 
-    ghost invariant = { λ a. IsRunning a.segments a.hash a.late a.caught };
+    ghost invariant = { λ a. IsRunning a.segments a.sha256 a.in_sha256 a.sha512 a.in_sha512 };
 }
 
 impl Received {
@@ -46,9 +48,10 @@ impl Received {
     {
         Received {
             segments: Segments::new(alloc),
-            hash: Sha256::new(),
-            late: Sha512::new(),
-            caught: 0,
+            sha256: Sha256::new(),
+            in_sha256: 0,
+            sha512: Sha512::new(),
+            in_sha512: 0,
         }
     }
 
@@ -59,19 +62,21 @@ impl Received {
         self.segments.total()
     }
 
-    /// Takes a body in behind the others. An `Err` changes nothing.
+    /// Takes a body in behind the others, and hashes nothing yet. An `Err` changes nothing.
     pub fn append(&mut self, body: Bytes) -> Result<(), AllocError>
         requires { length self.old + length body < 2 ^ 64 }
         ensures ok { OnOk result (self.new ≡ self.old ++ body) }
         ensures err { OnErr result (self.new ≡ self.old) }
     {
-        let Ok(mut hash) = self.hash.clone() else {
-            unreachable!();
-        };
-        hash.update(body.as_slice());
         self.segments.append(body)?;
-        self.hash = hash;
         Ok(())
+    }
+
+    /// Has the SHA-256 take in the segments that stay as they are. Nothing that is seen changes.
+    pub fn catch_up(&mut self)
+        ensures { self.new ≡ self.old }
+    {
+        take_in(&self.segments, &mut self.sha256, &mut self.in_sha256);
     }
 
     /// Whether what was received and a last body have a digest, by the algorithm of that digest. The body is
@@ -92,30 +97,29 @@ impl Received {
         }
     }
 
-    /// The SHA-256 of what was received and a last body.
-    fn sha256_with(&self, body: &[u8]) -> [u8; 32]
-        ensures { result ≡ sha256 (self.now ++ body.now) }
+    /// The SHA-256 of what was received and a last body. The hash takes in the segments that stay as they are; the
+    /// last one, which is small, goes into a copy with the body.
+    fn sha256_with(&mut self, body: &[u8]) -> [u8; 32]
+        ensures digest { result ≡ sha256 (self.old ++ body.now) }
+        ensures same { self.new ≡ self.old }
     {
-        let Ok(mut hash) = self.hash.clone() else {
+        take_in(&self.segments, &mut self.sha256, &mut self.in_sha256);
+        let Ok(hash) = self.sha256.clone() else {
             unreachable!();
         };
-        hash.update(body);
-        hash.finalize()
+        finish(hash, &self.segments, body)
     }
 
-    /// The SHA-512 of what was received and a last body. The late hash takes in the segments that stay as they
-    /// are; the last one, which is small, goes into the copy with the body.
+    /// The SHA-512 of the same, in the same way.
     fn sha512_with(&mut self, body: &[u8]) -> [u8; 64]
         ensures digest { result ≡ sha512 (self.old ++ body.now) }
         ensures same { self.new ≡ self.old }
     {
-        catch_up(&self.segments, &mut self.late, &mut self.caught);
-        let Ok(mut hash) = self.late.clone() else {
+        take_in(&self.segments, &mut self.sha512, &mut self.in_sha512);
+        let Ok(hash) = self.sha512.clone() else {
             unreachable!();
         };
-        hash.update(self.segments.tail());
-        hash.update(body);
-        hash.finalize()
+        finish(hash, &self.segments, body)
     }
 
     /// The segments alone.
@@ -126,16 +130,26 @@ impl Received {
     }
 }
 
-/// Has the hash take in the segments from `caught` on.
-fn catch_up(segments: &Segments, late: &mut Sha512, caught: &mut usize)
-    requires held { Holds512 late.old (joined (take caught.old segments.now.settled)) }
-    requires within { caught.old ≤ length segments.now.settled }
-    ensures held { Holds512 late.new (joined segments.now.settled) }
-    ensures caught { caught.new ≡ length segments.now.settled }
+/// Has a hash take in the segments from `held` on.
+fn take_in<H: Digest>(segments: &Segments, hash: &mut H, held: &mut usize)
+    requires front { H.holds hash.old (joined (take held.old segments.now.settled)) }
+    requires within { held.old ≤ length segments.now.settled }
+    ensures all { H.holds hash.new (joined segments.now.settled) }
+    ensures held { held.new ≡ length segments.now.settled }
 {
     let parts = segments.settled();
-    while *caught < parts.len() {
-        late.update(parts[*caught].as_slice());
-        *caught += 1;
+    while *held < parts.len() {
+        hash.update(parts[*held].as_slice());
+        *held += 1;
     }
+}
+
+/// The digest of the segments and a last body, by a hash that holds the segments that stay as they are.
+fn finish<H: Digest>(mut hash: H, segments: &Segments, body: &[u8]) -> H::Output
+    requires { H.holds hash (joined segments.now.settled) }
+    ensures { H.digest_of (whole segments.now ++ body.now) result }
+{
+    hash.update(segments.tail());
+    hash.update(body);
+    hash.finalize()
 }

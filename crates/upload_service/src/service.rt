@@ -86,6 +86,15 @@ impl Service {
         turn(self.alloc, self.limits, &mut self.tables, ask, secret, now)
     }
 
+    /// Has the SHA-256 of an open session take in what the session received since it last did. A step hashes no chunk, so
+    /// that its answer isn't kept waiting; a close hashes what was left to do. Between two requests this is the time
+    /// to do it. Nothing that is seen changes, and it takes no memory. A reference of no open session is no work.
+    pub fn catch_up(&mut self, at: &UploadRef)
+        ensures { self.new ≡ self.old }
+    {
+        self.tables.sessions.catch_up(at);
+    }
+
     /// How many bytes a session has received, or None where no such session is open. One that is idle counts
     /// as open until it leaves the table. It takes no memory.
     pub fn next_of(&self, at: &UploadRef) -> Option<u64>

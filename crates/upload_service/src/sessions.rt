@@ -151,6 +151,17 @@ impl Sessions {
         Ok(())
     }
 
+    /// Has the running hash of an open session catch up with what it received, where there is such a session. Nothing
+    /// that is seen changes.
+    pub fn catch_up(&mut self, at: &UploadRef)
+        ensures { self.new ≡ self.old }
+    {
+        let Some(session) = self.open.get_mut(at) else {
+            return;
+        };
+        session.received.catch_up();
+    }
+
     /// Whether what an open session received and a last body have a digest, by the algorithm of that digest.
     /// Nothing that is seen changes.
     pub fn has_digest(&mut self, at: &UploadRef, digest: &BlobDigest, body: &[u8]) -> bool
