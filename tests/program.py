@@ -421,6 +421,12 @@ def skopeo_copies(folder):
             check(f"skopeo's blob {digest}", isinstance(got, bytes) and sha256(got) == digest, (got, ran.stderr))
 
 
+def tell_results():
+    """Prints how many checks passed and failed, and gives the exit status."""
+    print(f"{RESULTS['passed']} passed, {RESULTS['failed']} failed")
+    return 1 if RESULTS["failed"] else 0
+
+
 def main():
     global PROGRAM
     PROGRAM = os.path.abspath(sys.argv[1])
@@ -435,8 +441,7 @@ def main():
     with tempfile.TemporaryDirectory() as folder:
         curl_uploads(folder)
         skopeo_copies(folder)
-    print(f"{RESULTS['passed']} passed, {RESULTS['failed']} failed")
-    return 1 if RESULTS["failed"] else 0
+    return tell_results()
 
 
 if __name__ == "__main__":

@@ -14,7 +14,7 @@ import tempfile
 import threading
 
 import program
-from program import MIB, RESULTS, Server, check, pull, run, sha256
+from program import MIB, Server, check, pull, run, sha256, tell_results
 
 CUT_PUSHES = 50
 
@@ -205,8 +205,7 @@ def main():
         a_lost_reply_to_the_close(folder)
         two_pushes_at_once(folder)
         pushes_over_cut_connections(folder)
-    print(f"{RESULTS['passed']} passed, {RESULTS['failed']} failed")
-    return 1 if RESULTS["failed"] else 0
+    return tell_results()
 
 
 if __name__ == "__main__":

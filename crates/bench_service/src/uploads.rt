@@ -70,7 +70,7 @@ pub(crate) fn open(service: &mut Service, alloc: Global) -> io::Result<UploadRef
     }
 }
 
-/// Sends the session its next chunk.
+/// Sends the session its next chunk, and has its hash catch up, as a keeper does.
 pub(crate) fn send(
     service: &mut Service,
     alloc: Global,
@@ -84,7 +84,10 @@ pub(crate) fn send(
         body,
     };
     match service.step(chunk, [0; 12], 0) {
-        Answer::Taken { .. } => Ok(()),
+        Answer::Taken { at, .. } => {
+            service.catch_up(&at);
+            Ok(())
+        }
         _ => Err(unexpected()),
     }
 }
