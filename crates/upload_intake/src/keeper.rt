@@ -167,13 +167,13 @@ impl Keeper {
         }
     }
 
-    // Takes one message, and does what it asks.
-    fn turn<R: Wait, M: Moments>(&mut self, rt: &R, moments: &mut M)
+    // Takes one message, does what it asks, and tells which session took a chunk.
+    fn turn<R: Wait, M: Moments>(&mut self, rt: &R, moments: &mut M) -> Option<UploadRef>
         ensures { IsSameKeeper self.old self.new }
     {
         let Some(item) = self.jobs.take(rt) else {
             thread::yield_now();
-            return;
+            return None;
         };
         let Item { side, what } = item;
         match what {
@@ -186,16 +186,23 @@ impl Keeper {
                     Side::Left => self.left.reply(rt, answer),
                     Side::Right => self.right.reply(rt, answer),
                 }
-                // While the client sends its next chunk there is time to hash this one.
-                if let Some(at) = taken {
-                    self.service.catch_up(&at);
-                }
+                taken
             }
-            Message::Finish => match side {
-                Side::Left => self.left.is_done = true,
-                Side::Right => self.right.is_done = true,
-            },
+            Message::Finish => {
+                match side {
+                    Side::Left => self.left.is_done = true,
+                    Side::Right => self.right.is_done = true,
+                }
+                None
+            }
         }
+    }
+
+    // Hashes the chunk that a session took, while its client sends the next one.
+    fn catch_up(&mut self, at: &UploadRef)
+        ensures { self.new ≡ self.old }
+    {
+        self.service.catch_up(at);
     }
 
     /// Serves requests until both seats have finished, each at the greater of the moment told and the moment before.
@@ -229,7 +236,9 @@ impl Keeper {
                     start,
                 };
             }
-            keeper.turn(rt, moments);
+            if let Some(at) = keeper.turn(rt, moments) {
+                keeper.catch_up(&at);
+            }
         }
         unreachable!()
     }
