@@ -4,6 +4,9 @@ ADDR = 127.0.0.1:5000
 COUNT = 1000000
 FILE = README.md
 
+# Bodies and blobs are long lists of bytes. Where glibc asks the system for huge pages, fresh memory costs them a third.
+HUGE_PAGES = GLIBC_TUNABLES=glibc.malloc.hugetlb=1
+
 .PHONY: help once serve upload build test check format figures fuzz growths bench
 
 help:
@@ -26,7 +29,7 @@ build:
 	@cd crates/blobd && rt run -- once < /dev/null
 
 serve: build
-	@crates/blobd/out/blobd serve $(ADDR) $(COUNT)
+	@$(HUGE_PAGES) crates/blobd/out/blobd serve $(ADDR) $(COUNT)
 
 upload:
 	@crates/blobd/out/blobd push $(ADDR) lib/demo '$(FILE)' 1048576

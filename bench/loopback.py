@@ -1,11 +1,12 @@
 #!/usr/bin/env python3
 """Figures of `blobd serve` and `blobd push` over loopback, as ratios in one run.
 
-    loopback.py PROGRAM [--json FILE] [--mib SIZE]
+    loopback.py PROGRAM [--json FILE] [--mib SIZE] [--small-pages]
 
 Each figure is the best of three, each upload's and each openings' on a server of its own. Beside an upload and a push stands `sha256sum` on the same
 bytes, timed before each of their runs; beside a pull the same bytes over a connection with no server behind it, sent in the same way. Where Debian's
-`docker-registry` is installed it has the same rows, with its files in memory too.
+`docker-registry` is installed it has the same rows, with its files in memory too. The server runs as `make serve` runs it, with the huge pages that
+the system gives on request; with --small-pages it doesn't ask for them.
 
 The client writes whole requests from memory to a raw socket, and still takes longer over a small request than the server does. So small requests
 are also counted by the seconds of processor time that the server spent, its own and the system's for it.
@@ -36,6 +37,8 @@ SMALL_REQUESTS = 9600
 OPENINGS = 960
 PIPELINED = 16
 PATIENCE = 120
+# What `make serve` sets (glibc's tunables): memory is asked for in huge pages.
+HUGE_PAGES = {"GLIBC_TUNABLES": "glibc.malloc.hugetlb=1"}
 
 Reply = collections.namedtuple("Reply", "status fields body")
 FORK = multiprocessing.get_context("fork")
@@ -89,11 +92,13 @@ class Server:
 class Blobd(Server):
     name = "blobd"
 
-    def __init__(self, program):
+    def __init__(self, program, settings):
         self.program = program
+        self.settings = settings
 
     def start(self):
-        self.process = subprocess.Popen([self.program, "serve", "127.0.0.1:0", "1000000"], stdout=subprocess.PIPE, text=True)
+        words = [self.program, "serve", "127.0.0.1:0", "1000000"]
+        self.process = subprocess.Popen(words, env=os.environ | self.settings, stdout=subprocess.PIPE, text=True)
         told = self.process.stdout.readline()
         if not told.startswith("listening "):
             sys.exit(f"{self.program} serve: {told.strip() or 'it says nothing'}")
@@ -512,12 +517,13 @@ def read_words():
     words.add_argument("program", metavar="PROGRAM")
     words.add_argument("--json", metavar="FILE", help="write the figures there too")
     words.add_argument("--mib", metavar="SIZE", type=int, default=256, help="the blob's size in MiB")
+    words.add_argument("--small-pages", action="store_true", help="the server doesn't ask the system for huge pages")
     return words.parse_args()
 
 
-def measure(program, blob, folder):
+def measure(program, settings, blob, folder):
     """The rows of each server, and those of the client."""
-    blobd = Blobd(program)
+    blobd = Blobd(program, settings)
     measured = [(blobd, server_rows(blobd, blob))]
     if has_push(program):
         measured.append((blobd, push_rows(blobd, blob)))
@@ -536,16 +542,17 @@ def measure(program, blob, folder):
 
 def main():
     words = read_words()
+    settings = {} if words.small_pages else HUGE_PAGES
     load = [os.getloadavg()[0]]
     with tempfile.TemporaryDirectory(dir="/dev/shm") as folder:
         blob = Blob(folder, words.mib * MIB)
         library = hashed_by_library(blob)
-        rows = list(measure(os.path.abspath(words.program), blob, folder))
+        rows = list(measure(os.path.abspath(words.program), settings, blob, folder))
     load.append(os.getloadavg()[0])
-    told = {"machine": machine(), "load": load, "blob_bytes": blob.size, "runs": RUNS, "hashlib_seconds": library, "rows": rows}
+    told = {"machine": machine(), "load": load, "blob_bytes": blob.size, "runs": RUNS, "settings": settings, "hashlib_seconds": library, "rows": rows}
     found = told["machine"]
     print(f"{found['model']}, {found['cores']} cores, {found['memory_bytes'] / (1 << 30):.0f} GiB; Linux {found['system']}")
-    print(f"load {load[0]:.1f} before, {load[1]:.1f} after; a blob of {words.mib} MiB; the best of {RUNS} runs")
+    print(f"load {load[0]:.1f} before, {load[1]:.1f} after; a blob of {words.mib} MiB; the best of {RUNS} runs; the server has {settings or 'no settings'}")
     print(f"SHA-256 of the blob by Python's hashlib: {library:.3f} s of the processor")
     print_tables(rows)
     if words.json:
