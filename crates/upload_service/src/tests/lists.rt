@@ -7,6 +7,7 @@ use crate::answer::{Answer, Refusal};
 use crate::ask::{Ask, Extent};
 use crate::service::Service;
 use std::alloc::{AllocError, Global};
+use std::process::Abort;
 use std::test::Fail;
 use upload_names::{Algorithm, BlobDigest, Bytes};
 
@@ -176,18 +177,22 @@ fn pattern(alloc: Global, size: usize) -> Result<Vec<u8>, AllocError> {
     Ok(bytes)
 }
 
-#[test]
-fn segments_of_many_sizes_are_one_blob(rt: HostRuntime) -> Result<(), Fail> {
-    let alloc = rt.alloc();
-    let content = pattern(alloc, 267_648)?;
+/// Uploads 267,648 bytes in chunks at and beside 65,536 bytes, up to where bodies are joined into one segment, with a
+/// refused close behind each, and pulls them back. The session's hash catches up behind each chunk, or only at the closes.
+fn upload_in_many_sizes(
+    rt: &impl Abort,
+    alloc: Global,
+    content: &[u8],
+    algorithm: Algorithm,
+    catches_up: bool,
+) -> Result<(), Fail> {
     let mut service = Service::new(alloc, limits(1_000_000, 1, 10));
     let opening = Ask::Opening {
         name: name(alloc, b"lib/a")?,
     };
     let _begun = service.step(opening, [0; 12], 0);
-    let wrong = BlobDigest::of(Algorithm::Sha512, b"another content");
-    let mut rest = content.as_slice();
-    // At and beside 65,536 bytes: up to there bodies are joined into one segment.
+    let wrong = BlobDigest::of(algorithm, b"another content");
+    let mut rest = content;
     for size in [1usize, 65_535, 1, 65_536, 65_537, 1, 1_000, 0, 70_000, 37] {
         assert!(rt; size <= rest.len());
         let (body, later) = rest.split_at(size);
@@ -200,6 +205,10 @@ fn segments_of_many_sizes_are_one_blob(rt: HostRuntime) -> Result<(), Fail> {
         };
         let taken = service.step(chunk, [0; 12], 0);
         assert!(rt; matches!(&taken, Answer::Taken { .. }), "{size}");
+        if catches_up {
+            service.catch_up(&reference(At(1, 0)));
+            service.catch_up(&reference(At(2, 0)));
+        }
         let refused = service.step(close(alloc, wrong)?, [0; 12], 0);
         assert!(rt;
             matches!(&refused, Answer::Refused(Refusal::Mismatch)),
@@ -207,7 +216,7 @@ fn segments_of_many_sizes_are_one_blob(rt: HostRuntime) -> Result<(), Fail> {
         );
     }
     assert!(rt; rest.is_empty());
-    let digest = BlobDigest::of(Algorithm::Sha512, content.as_slice());
+    let digest = BlobDigest::of(algorithm, content);
     let stored = service.step(close(alloc, digest)?, [0; 12], 0);
     assert!(rt; matches!(&stored, Answer::Stored { .. }));
     let get = Ask::Has {
@@ -218,9 +227,24 @@ fn segments_of_many_sizes_are_one_blob(rt: HostRuntime) -> Result<(), Fail> {
     match service.step(get, [0; 12], 0) {
         Answer::Blob { bytes, .. } => {
             let bytes = bytes.ok_or("no bytes")?;
-            assert!(rt; bytes.as_slice() == content.as_slice());
+            assert!(rt; bytes.as_slice() == content);
         }
         _ => return Err(Fail::from("no blob")),
+    }
+    Ok(())
+}
+
+#[test]
+fn segments_of_many_sizes_are_one_blob(rt: HostRuntime) -> Result<(), Fail> {
+    let alloc = rt.alloc();
+    let content = pattern(alloc, 267_648)?;
+    for (algorithm, catches_up) in [
+        (Algorithm::Sha256, true),
+        (Algorithm::Sha256, false),
+        (Algorithm::Sha512, true),
+        (Algorithm::Sha512, false),
+    ] {
+        upload_in_many_sizes(&rt, alloc, content.as_slice(), algorithm, catches_up)?;
     }
     Ok(())
 }
