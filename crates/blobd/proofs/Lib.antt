@@ -1,2 +1,4 @@
 pub mod OnceFacts
+pub mod PrintedTexts
+pub mod PushedLines
 pub mod ServedLines

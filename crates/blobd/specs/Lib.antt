@@ -1,4 +1,5 @@
 pub mod Halves
 pub mod Once
+pub mod Pushed
 pub mod Status
 pub mod Words

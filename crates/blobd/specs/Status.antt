@@ -21,11 +21,3 @@ served_lines addr = line (codes "listening " ++ socket_text addr) ++ line (codes
 abbrev pub IsServed : Option (List ℕ) → Option (List ℕ) → ℕ → Type 0
 IsServed before after status =
     ((status ≡ 0) × ((addr : SocketAddr) × Appends before after (served_lines addr))) ⊎ (status ≡ 3)
-
--- the status asked for, or that of a fault
-abbrev pub IsStatusOr : ℕ → ℕ → Type 0
-IsStatusOr status result = (result ≡ status) ⊎ (result ≡ 3)
-
--- a push is done, refused or at fault
-abbrev pub IsPushStatus : ℕ → Type 0
-IsPushStatus result = IsStatusOr 0 result ⊎ (result ≡ 1)

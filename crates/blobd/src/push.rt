@@ -1,9 +1,12 @@
 //! `blobd push`: a file goes up, over connections that are made anew after a fault.
-ghost use Rattle.std.specs.Prelude.{length, ◌≡◌, ◌≤◌, ◌^◌};
+ghost use Rattle.std.specs.Prelude.{length, ◌≡◌, ◌≤◌, ◌^◌, ◌++◌, codes, Some, unwrap_or};
 ghost use Rattle.std.specs.List.{list_all};
 ghost use Rattle.std.specs.Char.{is_ascii_graphic};
 ghost use Rattle.upload_wire.specs.AskText.{is_host};
-ghost use Rattle.blobd.specs.Status.{IsPushStatus, IsStatusOr};
+ghost use Rattle.upload_names.specs.Digest.{content_digest, digest_text};
+ghost use Rattle.upload_names.specs.declared.digest.Algorithm.{Algorithm};
+ghost use Rattle.blobd.specs.Status.{IsPrinted};
+ghost use Rattle.blobd.specs.Pushed.{IsPushed, digest_after, outcome_word, shown, why_text};
 
 use crate::sockets::{Reader, Writer, split};
 use crate::status::{DONE, FAULT, REFUSED, print_line};
@@ -32,6 +35,17 @@ fn is_host(text: &[u8]) -> bool
     !text.is_empty() && are_visible(text)
 }
 
+/// The digest that was asked for last, after one more ask.
+fn digest_after(ask: &Ask, before: Option<BlobDigest>) -> Option<BlobDigest>
+    ensures { result ≡ digest_after ask.now before }
+{
+    match ask {
+        Ask::Close { digest, .. } => *digest,
+        Ask::Has { digest, .. } => Some(*digest),
+        _ => before,
+    }
+}
+
 /// The asks of one push, over a connection to its server. After a fault the connection is closed, and the next ask
 /// makes another.
 #[derive(Drop)]
@@ -58,15 +72,11 @@ impl<'r, R: Net<Stream = TcpStream>> Dialer<'r, R> {
 }
 
 impl<'r, R: Net<Stream = TcpStream>> Transport for Dialer<'r, R> {
-    // Nothing is said of what a network delivers.
-    ghost asked = { λ _ _ _ _. Unit {0} };
+    // The digest that was asked for last is kept; nothing is said of what a network delivers.
+    ghost asked = { λ old ask heard new. new.digest ≡ digest_after ask old.digest };
 
     fn ask(&mut self, ask: Ask) -> Option<Heard> {
-        match &ask {
-            Ask::Close { digest, .. } => self.digest = *digest,
-            Ask::Has { digest, .. } => self.digest = Some(*digest),
-            _ => {}
-        }
+        self.digest = digest_after(&ask, self.digest);
         let mut wire = match self.wire.take() {
             Some(wire) => wire,
             None => self.dial()?,
@@ -79,7 +89,9 @@ impl<'r, R: Net<Stream = TcpStream>> Transport for Dialer<'r, R> {
 
 /// The code as it is printed: `-` where there is none, or where it isn't visible ASCII, since a server could else
 /// write more lines than one.
-fn printable(code: &Option<Bytes>) -> &str {
+fn printable(code: &Option<Bytes>) -> &str
+    ensures { result.now ≡ shown code.now }
+{
     match code {
         Some(code) if are_visible(code.as_slice()) => {
             str::from_utf8(code.as_slice()).unwrap_or("-")
@@ -90,7 +102,7 @@ fn printable(code: &Option<Bytes>) -> &str {
 
 /// Prints why a push was given up, and gives the exit status.
 fn print_why<W: Write>(out: &mut W, why: &Why) -> u8
-    ensures { IsStatusOr 1 result }
+    ensures { IsPrinted (Some (why_text why.now)) (W.contents out.old) (W.contents out.new) 1 result }
 {
     match why {
         Why::Refused(status, code) => {
@@ -102,9 +114,29 @@ fn print_why<W: Write>(out: &mut W, why: &Why) -> u8
     }
 }
 
-/// Prints a word and the digest of the file, and gives the exit status.
+/// The word for how a push ended well.
+fn outcome_word(outcome: Outcome) -> &'static str
+    ensures { result.now ≡ outcome_word outcome }
+{
+    match outcome {
+        Outcome::Pushed => "pushed",
+        Outcome::Already => "already",
+    }
+}
+
+/// The digest that was asked for, or that of the file where none was.
+fn asked_or_own(asked: Option<BlobDigest>, file: &[u8]) -> BlobDigest
+    ensures { result ≡ unwrap_or asked (content_digest Algorithm.Sha256 file.now) }
+{
+    match asked {
+        Some(digest) => digest,
+        None => BlobDigest::of_sha256(file),
+    }
+}
+
+/// Prints a word and a digest, and gives the exit status.
 fn print_digest<W: Write>(out: &mut W, word: &str, digest: BlobDigest) -> u8
-    ensures { IsStatusOr 0 result }
+    ensures { IsPrinted (Some (word.now ++ (codes " " ++ digest_text digest))) (W.contents out.old) (W.contents out.new) 0 result }
 {
     let text = digest.text();
     let text = str::from_utf8(text.as_bytes()).unwrap_or("-");
@@ -132,12 +164,13 @@ where
     W: Write,
     requires size { length file.now ≤ 2 ^ 40 }
     requires chunk { (1 ≤ chunk) × (chunk ≤ 2 ^ 31) }
-    ensures { IsPushStatus result }
+    ensures { IsPushed name.now file.now chunk (W.contents out.old) (W.contents out.new) result }
 {
     let name = match RepoName::read(rt.alloc(), name) {
         Ok(name) => name,
         Err(NameFault::NoMemory) => return print_line(out, "fault: memory", FAULT),
-        Err(_) => return print_line(out, "refused: name", REFUSED),
+        Err(NameFault::NotAName) => return print_line(out, "refused: name", REFUSED),
+        Err(NameFault::TooLong) => return print_line(out, "refused: name", REFUSED),
     };
     let Ok(host) = format!(in rt.alloc(); "{addr}") else {
         return print_line(out, "fault: memory", FAULT);
@@ -152,15 +185,8 @@ where
     };
     match push(rt.alloc(), &mut transport, file, &name, chunk, TRIES) {
         Ok(outcome) => {
-            let word = match outcome {
-                Outcome::Pushed => "pushed",
-                Outcome::Already => "already",
-            };
-            let digest = match transport.digest {
-                Some(digest) => digest,
-                None => BlobDigest::of_sha256(file),
-            };
-            print_digest(out, word, digest)
+            let digest = asked_or_own(transport.digest, file);
+            print_digest(out, outcome_word(outcome), digest)
         }
         Err(PushFault::NoMemory) => print_line(out, "fault: memory", FAULT),
         Err(PushFault::GaveUp(why)) => print_why(out, &why),
