@@ -26,3 +26,21 @@ pub(crate) fn micros(time: Duration) -> u64 {
 pub(crate) fn per_mille(one: u64, other: u64) -> u64 {
     one.saturating_mul(1_000) / other.max(1)
 }
+
+/// Prints a time that stands beside, the time that is measured, and the ratio of the second to the first.
+pub(crate) fn print_times(
+    rt: &HostRuntime,
+    beside: (&str, u64),
+    measured: (&str, u64),
+) -> io::Result<()> {
+    println!(rt; "{}: {} us", beside.0, beside.1)?;
+    println!(rt; "{}: {} us", measured.0, measured.1)?;
+    let ratio = per_mille(measured.1, beside.1);
+    println!(rt; "the second beside the first: {ratio} of 1,000")
+}
+
+/// Prints how much memory was kept for so many bytes.
+pub(crate) fn print_memory(rt: &HostRuntime, kept: u64, bytes: u64) -> io::Result<()> {
+    let ratio = per_mille(kept, bytes);
+    println!(rt; "memory kept: {ratio} for each 1,000 bytes")
+}

@@ -1,8 +1,8 @@
-//! The four measurements. Each prints the time of what stands beside, then the time of what is measured, and the ratio
-//! of the second to the first.
+//! The four measurements. Each prints the time of what stands beside, then the time of what is measured, their ratio,
+//! and what shows that the work was done.
 ghost use Rattle.std.specs.Prelude.{◌≤◌, ◌^◌};
 
-use crate::gauge::{micros, per_mille, resident};
+use crate::gauge::{micros, print_memory, print_times, resident};
 use crate::uploads::{
     bodies_of, body_of, close, digest_of, fill, hash_of, new_service, open, send, upload_number,
 };
@@ -28,17 +28,13 @@ pub(crate) fn measure_stream(rt: &HostRuntime) -> io::Result<()> {
     let stored = close(&mut service, alloc, at, digest)?;
     let took = micros(start.elapsed(rt)?);
     let kept = resident(rt)?.saturating_sub(before);
-    println!(rt; "the hash of 1 GiB alone: {alone} us")?;
-    println!(rt; "1 GiB in chunks of 1 MiB and its close: {took} us, stored: {stored}")?;
-    println!(rt;
-        "the upload's time beside the hash's: {} of 1,000",
-        per_mille(took, alone)
+    print_times(
+        rt,
+        ("the hash of 1 GiB alone", alone),
+        ("1 GiB in chunks of 1 MiB and its close", took),
     )?;
-    println!(rt;
-        "memory kept: {} for each 1,000 bytes",
-        per_mille(kept, 1 << 30)
-    )?;
-    Ok(())
+    println!(rt; "stored: {stored}")?;
+    print_memory(rt, kept, 1 << 30)
 }
 
 /// A close of 256 MiB that is refused, beside the hash of 256 MiB.
@@ -54,16 +50,12 @@ pub(crate) fn measure_refusal(rt: &HostRuntime) -> io::Result<()> {
     let start = Instant::now(rt)?;
     let stored = close(&mut service, alloc, at, BlobDigest::of_sha256(b"other"))?;
     let took = micros(start.elapsed(rt)?);
-    println!(rt;
-        "the hash of 256 MiB alone: {alone} us, first byte: {}",
-        hash[0]
+    print_times(
+        rt,
+        ("the hash of 256 MiB alone", alone),
+        ("a refused close of 256 MiB", took),
     )?;
-    println!(rt; "a refused close of 256 MiB: {took} us, stored: {stored}")?;
-    println!(rt;
-        "the close's time beside the hash's: {} of 1,000",
-        per_mille(took, alone)
-    )?;
-    Ok(())
+    println!(rt; "first byte of the hash: {}, stored: {stored}", hash[0])
 }
 
 /// Uploads a thousand numbers from `first` on, and gives the microseconds and how many were stored.
@@ -83,18 +75,17 @@ fn upload_thousand(rt: &HostRuntime, service: &mut Service, first: u32) -> io::R
 /// 100,000 small blobs: the last thousand beside the first.
 pub(crate) fn measure_closes(rt: &HostRuntime) -> io::Result<()> {
     let mut service = new_service(rt.alloc());
-    let (first, stored) = upload_thousand(rt, &mut service, 0)?;
-    println!(rt; "the first thousand: {first} us, stored: {stored}")?;
+    let (first, _) = upload_thousand(rt, &mut service, 0)?;
     for k in 1..99u32 {
         upload_thousand(rt, &mut service, k * 1_000)?;
     }
     let (last, stored) = upload_thousand(rt, &mut service, 99_000)?;
-    println!(rt; "the last thousand of 100,000 small blobs: {last} us, stored: {stored}")?;
-    println!(rt;
-        "the last beside the first: {} of 1,000",
-        per_mille(last, first)
+    print_times(
+        rt,
+        ("the first thousand", first),
+        ("the last thousand of 100,000 small blobs", last),
     )?;
-    Ok(())
+    println!(rt; "stored: {stored}")
 }
 
 /// 1,000,000 chunks of one byte: the last 100,000 beside the first, and the memory that is kept.
@@ -117,15 +108,11 @@ pub(crate) fn measure_drip(rt: &HostRuntime) -> io::Result<()> {
     }
     let kept = resident(rt)?.saturating_sub(before);
     let offset = service.next_of(&at).unwrap_or(0);
-    println!(rt; "the first 100,000: {first} us")?;
-    println!(rt; "the last 100,000 of 1,000,000 chunks of one byte: {last} us, offset: {offset}")?;
-    println!(rt;
-        "the last beside the first: {} of 1,000",
-        per_mille(last, first)
+    print_times(
+        rt,
+        ("the first 100,000", first),
+        ("the last 100,000 of 1,000,000 chunks of one byte", last),
     )?;
-    println!(rt;
-        "memory kept: {} for each 1,000 bytes",
-        per_mille(kept, 1_000_000)
-    )?;
-    Ok(())
+    println!(rt; "offset: {offset}")?;
+    print_memory(rt, kept, 1_000_000)
 }
