@@ -19,8 +19,6 @@ mod pair;
 mod seat;
 mod secrets;
 mod settlement;
-#[cfg(test)]
-mod tests;
 
 pub use conns::Conns;
 pub use desk::SeatDesk;

@@ -20,9 +20,6 @@ use std::thread::{Promise, Threads};
 use upload_service::{Answer, Ask, Limits, Service};
 use upload_wire::{ConnEnd, Desk, serve_connection};
 
-#[cfg(test)]
-mod tests;
-
 /// How many jobs of both workers wait at most.
 const CAPACITY: usize = 2;
 

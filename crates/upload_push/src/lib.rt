@@ -8,8 +8,6 @@
 mod laws;
 mod pusher;
 mod pushing;
-#[cfg(test)]
-mod tests;
 mod world;
 
 pub use laws::{every_push, push_promise, pushes_rule_out};

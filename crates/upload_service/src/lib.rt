@@ -22,6 +22,4 @@ mod received;
 mod segments;
 mod service;
 mod sessions;
-#[cfg(test)]
-mod tests;
 mod turn;

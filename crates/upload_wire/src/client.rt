@@ -9,8 +9,6 @@ mod head;
 mod heard;
 mod laws;
 mod parsed;
-#[cfg(test)]
-mod tests;
 mod transport;
 mod wire;
 

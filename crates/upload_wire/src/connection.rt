@@ -14,15 +14,6 @@ use crate::request::{Next, Style, read_next};
 use std::alloc::Global;
 use upload_service::{Ask, Limits};
 
-#[cfg(test)]
-mod disturbed;
-#[cfg(test)]
-mod rows;
-#[cfg(test)]
-mod stored;
-#[cfg(test)]
-mod tests;
-
 /// The most requests that are answered on one connection.
 const MAX_REQUESTS: usize = 10_000;
 

@@ -40,6 +40,3 @@ pub use reader::RequestReader;
 pub use reply::{write_bad, write_reply};
 pub use request::{Next, Style};
 pub use writing::WriteFault;
-
-#[cfg(test)]
-mod memory;

@@ -116,6 +116,3 @@ impl<S: ByteSource> RequestReader<S> {
         next
     }
 }
-
-#[cfg(test)]
-mod tests;

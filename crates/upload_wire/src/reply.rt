@@ -17,8 +17,6 @@ mod error;
 mod head;
 mod refusal;
 mod status;
-#[cfg(test)]
-mod tests;
 
 /// Writes the reply to an answer, and flushes it: its head in one write, with its body where that is short,
 /// and a longer body out of its own memory. It takes no memory. `Ok` comes only where all of it was written and

@@ -1,0 +1,249 @@
+//! Two workers that serve connections at once. Each test ends by itself, and prints the same whatever the schedule.
+ghost use Rattle.std.specs.Prelude.{None};
+
+mod growths;
+
+use std::alloc::{AllocError, Global};
+use std::sync::atomic::{AtomicU64, Ordering};
+use std::test::*;
+use std::{thread, vec};
+use upload_intake::{Conns, Gate, Moments, Worker, ZeroSecrets, serve_pair};
+use upload_names::{BlobDigest, RepoName};
+use upload_service::{Limits, Service};
+use upload_wire::{ByteSink, ByteSource, Failed};
+
+/// How often a gate yields before it gives up.
+const PATIENCE: u64 = 1_000_000;
+
+/// Bytes in memory, read one at a time.
+#[derive(Drop)]
+struct Text {
+    bytes: vec::IntoIter<u8>,
+    reads: u64,
+}
+
+impl ByteSource for Text {
+    ghost remaining = { λ s. None };
+
+    ghost reads = { λ s. s.reads };
+
+    ghost failed_reads = { λ s. 0 };
+
+    fn read(&mut self, buf: &mut [u8]) -> Result<usize, Failed> {
+        self.reads = self.reads.saturating_add(1);
+        let Some(byte) = self.bytes.next() else {
+            return Ok(0);
+        };
+        buf[0] = byte;
+        Ok(1)
+    }
+}
+
+/// Takes everything, and keeps nothing.
+#[derive(Drop)]
+struct Nowhere {
+    writes: u64,
+}
+
+impl ByteSink for Nowhere {
+    ghost contents = { λ s. None };
+
+    ghost writes = { λ s. s.writes };
+
+    ghost failed_writes = { λ s. 0 };
+
+    fn write(&mut self, buf: &[u8]) -> Result<usize, Failed> {
+        self.writes = self.writes.saturating_add(1);
+        Ok(buf.len())
+    }
+
+    fn flush(&mut self) -> Result<(), Failed> {
+        self.writes = self.writes.saturating_add(1);
+        Ok(())
+    }
+}
+
+/// A connection for each text.
+#[derive(Drop)]
+struct Texts {
+    texts: vec::IntoIter<Vec<u8>>,
+}
+
+impl Texts {
+    fn new(alloc: Global, texts: &[&[u8]]) -> Result<Texts, AllocError> {
+        let mut owned = Vec::new(alloc);
+        for text in texts {
+            owned.push(text.to_vec(alloc)?)?;
+        }
+        Ok(Texts {
+            texts: owned.into_iter(),
+        })
+    }
+}
+
+impl Conns for Texts {
+    type In = Text;
+
+    type Out = Nowhere;
+
+    fn next_conn(&mut self) -> Option<(Text, Nowhere)> {
+        let text = self.texts.next()?;
+        let source = Text {
+            bytes: text.into_iter(),
+            reads: 0,
+        };
+        Some((source, Nowhere { writes: 0 }))
+    }
+}
+
+/// Raises a flag before the first request, waits for two, and raises one after the first answer.
+#[derive(Drop)]
+struct Meeting<'a> {
+    called: &'a AtomicU64,
+    awaited: &'a AtomicU64,
+    then_awaited: &'a AtomicU64,
+    answered: &'a AtomicU64,
+    late: &'a AtomicU64,
+}
+
+impl<'a> Meeting<'a> {
+    fn wait_for(&self, flag: &AtomicU64) {
+        for _ in 0..PATIENCE {
+            if flag.load(Ordering::SeqCst) == 1 {
+                return;
+            }
+            thread::yield_now();
+        }
+        self.late.store(1, Ordering::SeqCst);
+    }
+}
+
+impl<'a> Gate for Meeting<'a> {
+    fn before_ask(&mut self, turn: u64) {
+        if turn == 1 {
+            self.called.store(1, Ordering::SeqCst);
+            self.wait_for(self.awaited);
+            self.wait_for(self.then_awaited);
+        }
+    }
+
+    fn after_answer(&mut self, turn: u64) {
+        if turn == 1 {
+            self.answered.store(1, Ordering::SeqCst);
+        }
+    }
+}
+
+/// Always the moment 0.
+#[derive(Drop)]
+struct Still;
+
+impl Moments for Still {
+    fn now(&mut self) -> u64 {
+        0
+    }
+}
+
+fn service(alloc: Global) -> Service {
+    Service::new(
+        alloc,
+        Limits {
+            max_blob: 1_048_576,
+            max_body: 1_048_576,
+            max_open: 4,
+            max_idle: 3_600,
+        },
+    )
+}
+
+const LEFT: &[u8] = b"POST /v2/lib/a/blobs/uploads/ HTTP/1.1\r\nContent-Length: 0\r\n\r\n\
+PATCH /v2/lib/a/blobs/uploads/00000001-0000-8000-8000-000000000000 HTTP/1.1\r\nContent-Range: 0-0\r\nContent-Length: 1\r\n\r\na\
+PATCH /v2/lib/a/blobs/uploads/00000001-0000-8000-8000-000000000000 HTTP/1.1\r\nContent-Range: 1-2\r\nContent-Length: 2\r\n\r\nbc\
+PUT /v2/lib/a/blobs/uploads/00000001-0000-8000-8000-000000000000?digest=sha256:ba7816bf8f01cfea414140de5dae2223b00361a396177a9cb410ff61f20015ad HTTP/1.1\r\n\r\n";
+
+const RIGHT: &[u8] = b"POST /v2/lib/b/blobs/uploads/ HTTP/1.1\r\nContent-Length: 0\r\n\r\n\
+PATCH /v2/lib/b/blobs/uploads/00000002-0000-8000-8000-000000000000 HTTP/1.1\r\nContent-Range: 0-1\r\nContent-Length: 2\r\n\r\nab\
+PATCH /v2/lib/b/blobs/uploads/00000002-0000-8000-8000-000000000000 HTTP/1.1\r\nContent-Range: 2-2\r\nContent-Length: 1\r\n\r\nc\
+PUT /v2/lib/b/blobs/uploads/00000002-0000-8000-8000-000000000000?digest=sha256:ba7816bf8f01cfea414140de5dae2223b00361a396177a9cb410ff61f20015ad HTTP/1.1\r\n\r\n";
+
+/// The right worker waits for the left one's first answer, so that its session is the second.
+#[test]
+fn serving_nothing_is_seen(rt: HostRuntime) -> Result<(), Fail> {
+    let alloc = rt.alloc();
+    let raised = AtomicU64::new(1);
+    let left_answered = AtomicU64::new(0);
+    let late = AtomicU64::new(0);
+    let (left_called, right_called, right_answered) = (
+        AtomicU64::new(0),
+        AtomicU64::new(0),
+        AtomicU64::new(0),
+    );
+    let left = Worker {
+        conns: Texts::new(alloc, &[LEFT])?,
+        secrets: ZeroSecrets,
+        gate: Meeting {
+            called: &left_called,
+            awaited: &raised,
+            then_awaited: &raised,
+            answered: &left_answered,
+            late: &late,
+        },
+    };
+    let right = Worker {
+        conns: Texts::new(alloc, &[RIGHT, b"x"])?,
+        secrets: ZeroSecrets,
+        gate: Meeting {
+            called: &right_called,
+            awaited: &left_answered,
+            then_awaited: &raised,
+            answered: &right_answered,
+            late: &late,
+        },
+    };
+    let pair = serve_pair(&rt, alloc, service(alloc), left, right, &mut Still)?;
+    assert_eq!(rt; late.load(Ordering::SeqCst), 0);
+    assert_eq!(rt; (pair.left.conns, pair.left.clean), (1, 1));
+    assert_eq!(rt; (pair.right.conns, pair.right.clean), (2, 1));
+    let digest = BlobDigest::of_sha256(b"abc");
+    for name in [b"lib/a", b"lib/b"] {
+        assert!(rt; pair.service.holds(&RepoName::read(alloc, name)?, &digest));
+    }
+    Ok(())
+}
+
+/// Each worker waits for the other's first request, and the left one for the right one's answer too.
+#[test]
+fn both_workers_run_at_once(rt: HostRuntime) -> Result<(), Fail> {
+    let alloc = rt.alloc();
+    let text: &[u8] = b"GET /v2/ HTTP/1.1\r\n\r\n";
+    let raised = AtomicU64::new(1);
+    let late = AtomicU64::new(0);
+    let (left_called, left_answered) = (AtomicU64::new(0), AtomicU64::new(0));
+    let (right_called, right_answered) = (AtomicU64::new(0), AtomicU64::new(0));
+    let left = Worker {
+        conns: Texts::new(alloc, &[text])?,
+        secrets: ZeroSecrets,
+        gate: Meeting {
+            called: &left_called,
+            awaited: &right_called,
+            then_awaited: &right_answered,
+            answered: &left_answered,
+            late: &late,
+        },
+    };
+    let right = Worker {
+        conns: Texts::new(alloc, &[text])?,
+        secrets: ZeroSecrets,
+        gate: Meeting {
+            called: &right_called,
+            awaited: &left_called,
+            then_awaited: &raised,
+            answered: &right_answered,
+            late: &late,
+        },
+    };
+    let pair = serve_pair(&rt, alloc, service(alloc), left, right, &mut Still)?;
+    assert_eq!(rt; late.load(Ordering::SeqCst), 0);
+    assert_eq!(rt; (pair.left.clean, pair.right.clean), (1, 1));
+    Ok(())
+}

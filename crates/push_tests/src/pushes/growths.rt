@@ -1,0 +1,97 @@
+//! A push that is refused memory leaves what its asks did, and one that goes on ends well all the same. The test holds
+//! whichever one growth is refused: `tests/growths.py` has each of them refused in turn.
+
+use super::{Asked, End, LIMITS, end_of, events, kind_of, name, session};
+use std::alloc::{AllocError, Global};
+use std::process::Abort;
+use std::test::Fail;
+use upload_names::{BlobDigest, RepoName};
+use upload_push::{Event, LossyWorld, push};
+use upload_service::{Ask, Service};
+use upload_wire::{Heard, Transport};
+
+/// A world, and how many bytes of its open upload were heard of.
+#[derive(Drop)]
+struct Follower {
+    world: LossyWorld,
+    open: Option<u64>,
+}
+
+/// How many bytes an upload has by a reply to this ask, or None where it isn't open.
+fn open_after(open: Option<u64>, kind: Asked, reply: &Heard) -> Option<u64> {
+    match (kind, reply.status) {
+        (Asked::Opening | Asked::Chunk(..), 202) | (Asked::Status, 204) => {
+            Some(reply.upto.map_or(0, |last| last.saturating_add(1)))
+        }
+        (Asked::Close, 201) => None,
+        _ => open,
+    }
+}
+
+impl Transport for Follower {
+    ghost asked = { λ s ask heard t. Unit {0} };
+
+    fn ask(&mut self, ask: Ask) -> Option<Heard> {
+        let kind = kind_of(&ask);
+        let heard = self.world.ask(ask);
+        if let Some(reply) = &heard {
+            self.open = open_after(self.open, kind, reply);
+        }
+        heard
+    }
+}
+
+/// The name of the push. One growth may be refused.
+fn name_for(alloc: Global) -> Result<RepoName, Fail> {
+    match RepoName::read(alloc, b"lib/a") {
+        Ok(name) => Ok(name),
+        Err(_) => name(alloc),
+    }
+}
+
+fn events_for(alloc: Global, script: &[u8]) -> Result<Vec<Event>, AllocError> {
+    match events(alloc, script) {
+        Ok(events) => Ok(events),
+        Err(_) => events(alloc, script),
+    }
+}
+
+/// Pushes over a script of events. What was asked is known from the replies where none was lost.
+fn push_over(rt: &impl Abort, alloc: Global, script: &[u8]) -> Result<(), Fail> {
+    let name = name_for(alloc)?;
+    let events = events_for(alloc, script)?;
+    let service = Service::new(alloc, LIMITS);
+    let mut over = Follower {
+        world: LossyWorld::new(alloc, service, [0; 12], 0, events),
+        open: None,
+    };
+    let end = end_of(&push(alloc, &mut over, b"abcde", &name, 2, 5));
+    let service = over.world.into_service();
+    let digest = BlobDigest::of_sha256(b"abcde");
+    let held = service.holds(&name, &digest);
+    match end {
+        End::Pushed | End::Already => assert!(rt; held),
+        End::NoMemory if script.is_empty() => {
+            assert!(rt; !held);
+            assert_eq!(rt; service.next_of(&session(1)), over.open);
+        }
+        _ => assert_eq!(rt; end, End::NoMemory),
+    }
+    if end == End::NoMemory {
+        // with memory the same push over the same service ends well
+        let mut world = LossyWorld::new(alloc, service, [0; 12], 0, Vec::new(alloc));
+        assert_eq!(rt;
+            end_of(&push(alloc, &mut world, b"abcde", &name, 2, 5)),
+            End::Pushed
+        );
+        assert!(rt; world.into_service().holds(&name, &digest));
+    }
+    Ok(())
+}
+
+#[test]
+fn a_refused_growth_leaves_what_was_asked(rt: HostRuntime) -> Result<(), Fail> {
+    push_over(&rt, rt.alloc(), b"")?;
+    push_over(&rt, rt.alloc(), b"ddl")?;
+    push_over(&rt, rt.alloc(), b"ddddl")
+}

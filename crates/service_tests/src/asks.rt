@@ -1,0 +1,219 @@
+//! Requests and answers as lines of a table.
+
+use std::alloc::{AllocError, Global};
+use upload_names::{BlobDigest, ByteRange, Bytes, NameFault, RepoName, UploadRef};
+use upload_service::{Answer, Ask, Extent, Refusal};
+
+/// Why a request can't be made of a line.
+#[derive(Clone, Copy, Debug)]
+pub enum Unmade {
+    NoName,
+    NoDigest,
+    NoMemory,
+}
+
+impl From<AllocError> for Unmade {
+    fn from(_: AllocError) -> Unmade {
+        Unmade::NoMemory
+    }
+}
+
+impl From<NameFault> for Unmade {
+    fn from(fault: NameFault) -> Unmade {
+        match fault {
+            NameFault::NoMemory => Unmade::NoMemory,
+            _ => Unmade::NoName,
+        }
+    }
+}
+
+/// A session's number and the last byte of its secret, whose other bytes are zero.
+#[derive(Clone, Copy)]
+pub struct At(pub u32, pub u8);
+
+/// A Content-Range.
+#[derive(Clone, Copy)]
+pub enum Place {
+    Absent,
+    Bad,
+    From(u64, u64),
+}
+
+/// What is asked. Digests are texts, and one that isn't a digest's is none.
+#[derive(Clone, Copy)]
+pub enum Word {
+    Base,
+    Get(&'static [u8]),
+    Head(&'static [u8]),
+    Open,
+    Single(&'static [u8], &'static [u8]),
+    Mount(&'static [u8], &'static [u8]),
+    Chunk(At, Place, &'static [u8]),
+    Status(At),
+    Close(At, Place, &'static [u8], &'static [u8]),
+    Refused(Refusal),
+}
+
+/// What is answered.
+#[derive(Clone, Copy)]
+pub enum Told {
+    Base,
+    Bytes(&'static [u8]),
+    Size(u64),
+    Begun(u32),
+    Stored(&'static [u8]),
+    Taken(At, u64),
+    Standing(At, u64),
+    Misplaced(At, u64),
+    Refused(Refusal),
+}
+
+/// A request under a name at a moment, and its answer.
+#[derive(Clone, Copy)]
+pub struct Line {
+    pub name: &'static [u8],
+    pub now: u64,
+    pub word: Word,
+    pub told: Told,
+}
+
+/// A line under `lib/a` at the moment 0.
+pub fn row(word: Word, told: Told) -> Line {
+    under(b"lib/a", word, told)
+}
+
+/// A line at the moment 0.
+pub fn under(name: &'static [u8], word: Word, told: Told) -> Line {
+    Line {
+        name,
+        now: 0,
+        word,
+        told,
+    }
+}
+
+/// A line under `lib/a`.
+pub fn then(now: u64, word: Word, told: Told) -> Line {
+    Line {
+        name: b"lib/a",
+        now,
+        word,
+        told,
+    }
+}
+
+pub fn reference(at: At) -> UploadRef {
+    UploadRef::make(at.0, [0, 0, 0, 0, 0, 0, 0, 0, 0, 0, 0, at.1])
+}
+
+/// A name that is known to be one.
+pub fn name(alloc: Global, text: &[u8]) -> Result<RepoName, Unmade> {
+    Ok(RepoName::read(alloc, text)?)
+}
+
+fn bytes(alloc: Global, text: &[u8]) -> Result<Bytes, AllocError> {
+    Ok(Bytes::of(text.to_vec(alloc)?))
+}
+
+fn extent(place: Place) -> Extent {
+    match place {
+        Place::Absent => Extent::Absent,
+        Place::Bad => Extent::Bad,
+        Place::From(first, last) => match range(first, last) {
+            Some(range) => Extent::Given(range),
+            None => Extent::Bad,
+        },
+    }
+}
+
+fn range(first: u64, last: u64) -> Option<ByteRange> {
+    if first > 1_000_000_000_000_000_000 || last > 1_000_000_000_000_000_000 {
+        return None;
+    }
+    Some(ByteRange { first, last })
+}
+
+/// The request of a line.
+pub fn ask_of(alloc: Global, line: Line) -> Result<Ask, Unmade> {
+    let name = name(alloc, line.name)?;
+    match line.word {
+        Word::Base => Ok(Ask::Base),
+        Word::Refused(refusal) => Ok(Ask::Refused(refusal)),
+        Word::Get(digest) => has(name, digest, false),
+        Word::Head(digest) => has(name, digest, true),
+        Word::Open => Ok(Ask::Opening { name }),
+        Word::Single(digest, body) => Ok(Ask::Single {
+            name,
+            digest: BlobDigest::read(digest),
+            body: bytes(alloc, body)?,
+        }),
+        Word::Mount(digest, source) => mount(alloc, name, digest, source),
+        Word::Chunk(at, place, body) => Ok(Ask::Chunk {
+            name,
+            at: reference(at),
+            range: extent(place),
+            body: bytes(alloc, body)?,
+        }),
+        Word::Status(at) => Ok(Ask::Status {
+            name,
+            at: reference(at),
+        }),
+        Word::Close(at, place, digest, body) => Ok(Ask::Close {
+            name,
+            at: reference(at),
+            range: extent(place),
+            digest: BlobDigest::read(digest),
+            body: bytes(alloc, body)?,
+        }),
+    }
+}
+
+fn has(name: RepoName, digest: &[u8], head: bool) -> Result<Ask, Unmade> {
+    let digest = BlobDigest::read(digest).ok_or(Unmade::NoDigest)?;
+    Ok(Ask::Has { name, digest, head })
+}
+
+fn mount(alloc: Global, target: RepoName, digest: &[u8], source: &[u8]) -> Result<Ask, Unmade> {
+    let digest = BlobDigest::read(digest).ok_or(Unmade::NoDigest)?;
+    let source = name(alloc, source)?;
+    Ok(Ask::Mount {
+        name: target,
+        digest,
+        source,
+    })
+}
+
+/// Whether an answer is what the line says, under the line's name.
+pub fn is_told(answer: &Answer, line: Line) -> bool {
+    match (line.told, answer) {
+        (Told::Base, Answer::Base) => true,
+        (Told::Bytes(text), Answer::Blob { size, bytes, .. }) => match bytes {
+            Some(bytes) => bytes.as_slice() == text && *size == text.len() as u64,
+            None => false,
+        },
+        (Told::Size(wanted), Answer::Blob { size, bytes, .. }) => {
+            bytes.is_none() && *size == wanted
+        }
+        (Told::Begun(number), Answer::Begun { name, at }) => {
+            is_named(name, line) && at.same(&reference(At(number, 0)))
+        }
+        (Told::Stored(text), Answer::Stored { name, digest }) => {
+            is_named(name, line) && BlobDigest::read(text) == Some(*digest)
+        }
+        (Told::Taken(wanted, upto), Answer::Taken { name, at, next }) => {
+            is_named(name, line) && at.same(&reference(wanted)) && *next == upto
+        }
+        (Told::Standing(wanted, upto), Answer::Standing { name, at, next }) => {
+            is_named(name, line) && at.same(&reference(wanted)) && *next == upto
+        }
+        (Told::Misplaced(wanted, upto), Answer::Misplaced { name, at, next }) => {
+            is_named(name, line) && at.same(&reference(wanted)) && *next == upto
+        }
+        (Told::Refused(wanted), Answer::Refused(refusal)) => wanted == *refusal,
+        _ => false,
+    }
+}
+
+fn is_named(name: &RepoName, line: Line) -> bool {
+    name.as_str().as_bytes() == line.name
+}

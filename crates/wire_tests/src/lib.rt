@@ -1,0 +1,14 @@
+//! Tests of `upload_wire`, in a crate of their own: the prover goes through a crate with tests twice, and its must-fail
+//! edits wait for both.
+#![tactic(auto)]
+
+#[cfg(test)]
+mod client;
+#[cfg(test)]
+mod connections;
+#[cfg(test)]
+mod memory;
+#[cfg(test)]
+mod reading;
+#[cfg(test)]
+mod replies;

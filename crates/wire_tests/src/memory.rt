@@ -1,0 +1,111 @@
+//! Ends over memory for the tests: slow ones, and ones that fail.
+ghost use Rattle.std.specs.Prelude.{◌<◌, Some};
+
+use upload_wire::{ByteSink, ByteSource, Failed};
+
+/// Bytes in memory, given at most `step` at a time. After them comes the end, or a failure.
+#[derive(Drop)]
+pub struct MemorySource<'a> {
+    left: &'a [u8],
+    step: usize,
+    fails: bool,
+    reads: u64,
+    failed_reads: u64,
+    ghost steps: { 0 < step },
+}
+
+impl<'a> MemorySource<'a> {
+    /// The bytes, given at most `step` at a time; where `fails`, each read after them fails.
+    pub fn new(left: &'a [u8], step: usize, fails: bool) -> MemorySource<'a>
+        requires { 0 < step }
+    {
+        MemorySource {
+            left,
+            step,
+            fails,
+            reads: 0,
+            failed_reads: 0,
+        }
+    }
+
+    /// How many reads there were.
+    pub fn reads(&self) -> u64 {
+        self.reads
+    }
+}
+
+impl ByteSource for MemorySource<'_> {
+    ghost remaining = { λ s. Some s.left.now };
+
+    ghost reads = { λ s. s.reads };
+
+    ghost failed_reads = { λ s. s.failed_reads };
+
+    fn read(&mut self, buf: &mut [u8]) -> Result<usize, Failed> {
+        self.reads = self.reads.saturating_add(1);
+        if self.left.is_empty() && self.fails {
+            self.failed_reads = self.failed_reads.saturating_add(1);
+            return Err(Failed);
+        }
+        let count = self.step.min(self.left.len()).min(buf.len());
+        let (front, back) = self.left.split_at(count);
+        buf[..count].copy_from_slice(front);
+        self.left = back;
+        Ok(count)
+    }
+}
+
+/// A `Vec` that takes at most `step` bytes at a time and `room` in all, and then fails.
+#[derive(Drop)]
+pub struct MemorySink {
+    items: Vec<u8>,
+    step: usize,
+    room: usize,
+    writes: u64,
+    failed_writes: u64,
+    ghost steps: { 0 < step },
+}
+
+impl MemorySink {
+    /// An end that adds to `items`.
+    pub fn new(items: Vec<u8>, step: usize, room: usize) -> MemorySink
+        requires { 0 < step }
+    {
+        MemorySink {
+            items,
+            step,
+            room,
+            writes: 0,
+            failed_writes: 0,
+        }
+    }
+
+    /// What it holds.
+    pub fn as_slice(&self) -> &[u8] {
+        self.items.as_slice()
+    }
+}
+
+impl ByteSink for MemorySink {
+    ghost contents = { λ s. Some s.items.items };
+
+    ghost writes = { λ s. s.writes };
+
+    ghost failed_writes = { λ s. s.failed_writes };
+
+    fn write(&mut self, buf: &[u8]) -> Result<usize, Failed> {
+        self.writes = self.writes.saturating_add(1);
+        let count = self.step.min(self.room).min(buf.len());
+        if (count > 0 || buf.is_empty()) && self.items.extend_from_slice(&buf[..count]).is_ok() {
+            self.room -= count;
+            return Ok(count);
+        }
+        self.failed_writes = self.failed_writes.saturating_add(1);
+        Err(Failed)
+    }
+
+    fn flush(&mut self) -> Result<(), Failed> {
+        self.writes = self.writes.saturating_add(1);
+        Ok(())
+    }
+}
