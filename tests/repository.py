@@ -32,6 +32,8 @@ NAME = re.compile(r"`(\w+)`")
 LITERAL = re.compile(r'"((?:[^"\\]|\\.)*)"')
 # The tests of disturbed streams make these themselves.
 LONGEST_HEADS = {"head-of-16384-bytes", "head-of-16385-bytes"}
+# the stored connections, request by request
+STORED = "crates/wire_tests/src/connections/stored.rt"
 
 # Functions that no edit can turn: their types leave no other body that compiles.
 NO_OTHER_BODY = {
@@ -176,7 +178,7 @@ def text_of_literal(literal):
 
 def disturbed(_):
     """Stored connections that the tests of disturbed streams don't hold as they are."""
-    source = text_of("crates/upload_wire/src/connection/stored.rt")
+    source = text_of(STORED)
     found = []
     for path in sorted(glob.glob(os.path.join(TOP, "tests/connections/*.in"))):
         name = os.path.basename(path)[: -len(".in")]
@@ -188,7 +190,7 @@ def disturbed(_):
         sent, replies = "".join(texts[0:-1:2]) + texts[-1], "".join(texts[1::2])
         stored = f"tests/connections/{name}"
         if not held or len(texts) % 2 == 0 or (sent, replies) != (content(f"{stored}.in"), content(f"{stored}.out")):
-            found.append(f"{stored}.in isn't what crates/upload_wire/src/connection/stored.rt holds")
+            found.append(f"{stored}.in isn't what {STORED} holds")
     return found
 
 

@@ -13,49 +13,48 @@ const ABC_512: &[u8] =
 const EMPTY_512: &[u8] =
     b"sha512:cf83e1357eefb8bdf1542850d66d8007d620e4050b5715dc83f4a921d36ce9ce47d0d13c5d85f2b0ff8318d2877eec2f63b931bd47417a81a538327af927da3e";
 
-#[test]
-fn digests_of_contents(rt: HostRuntime) {
-    let digests = [
-        (Algorithm::Sha256, b"abc".as_slice(), ABC_256),
-        (Algorithm::Sha256, b"".as_slice(), EMPTY_256),
-        (Algorithm::Sha512, b"abc".as_slice(), ABC_512),
-        (Algorithm::Sha512, b"".as_slice(), EMPTY_512),
-    ];
-    for (algorithm, content, text) in digests {
-        let digest = BlobDigest::of(algorithm, content);
-        assert_eq!(rt; digest.text().as_bytes(), text);
-        assert_eq!(rt; digest.algorithm(), algorithm);
-        let read = BlobDigest::read(text).expect(&rt, "a digest");
-        assert!(rt; read.same(&digest));
-    }
-    assert!(rt; BlobDigest::of_sha256(b"abc").same(&BlobDigest::of(Algorithm::Sha256, b"abc")));
-    assert!(rt; !BlobDigest::of(Algorithm::Sha512, b"abc").same(&BlobDigest::of_sha256(b"abc")));
+/// The bytes of contents, with the text of their digest.
+const DIGESTS: [(Algorithm, &[u8], &[u8]); 4] = [
+    (Algorithm::Sha256, b"abc", ABC_256),
+    (Algorithm::Sha256, b"", EMPTY_256),
+    (Algorithm::Sha512, b"abc", ABC_512),
+    (Algorithm::Sha512, b"", EMPTY_512),
+];
+
+/// Whether a digest has this text and this algorithm, and is read back from the text.
+fn is_spelled(digest: &BlobDigest, algorithm: Algorithm, text: &[u8]) -> bool {
+    let is_read_back = BlobDigest::read(text).is_some_and(|read| read.same(digest));
+    digest.text().as_bytes() == text && digest.algorithm() == algorithm && is_read_back
 }
 
 #[test]
+fn digests_of_contents(rt: HostRuntime) {
+    for (algorithm, content, text) in DIGESTS.iter() {
+        let digest = BlobDigest::of(*algorithm, content);
+        assert!(rt; is_spelled(&digest, *algorithm, text), "{text:?}");
+    }
+    let digest = BlobDigest::of_sha256(b"abc");
+    assert!(rt; is_spelled(&digest, Algorithm::Sha256, ABC_256));
+    assert!(rt; !digest.same(&BlobDigest::of(Algorithm::Sha512, b"abc")));
+}
+
+const OTHERS: [&[u8]; 8] = [
+    b"",
+    b"x",
+    b"sha256:",
+    b"sha1:da39a3ee5e6b4b0d3255bfef95601890afd80709",
+    // a digit less, and one more
+    b"sha256:ba7816bf8f01cfea414140de5dae2223b00361a396177a9cb410ff61f20015a",
+    b"sha256:ba7816bf8f01cfea414140de5dae2223b00361a396177a9cb410ff61f20015ad0",
+    // an upper case digit
+    b"sha256:Ba7816bf8f01cfea414140de5dae2223b00361a396177a9cb410ff61f20015ad",
+    // 64 digits of another algorithm
+    b"sha512:ba7816bf8f01cfea414140de5dae2223b00361a396177a9cb410ff61f20015ad",
+];
+
+#[test]
 fn other_texts_are_no_digests(rt: HostRuntime) {
-    let others: [&[u8]; 5] = [
-        b"",
-        b"x",
-        b"sha256:",
-        b"sha1:da39a3ee5e6b4b0d3255bfef95601890afd80709",
-        b"sha256:ba7816bf8f01cfea414140de5dae2223b00361a396177a9cb410ff61f20015a",
-    ];
-    for text in others {
+    for text in OTHERS.iter() {
         assert!(rt; BlobDigest::read(text).is_none(), "{text:?}");
     }
-    let mut text = [b'0'; 72];
-    text[..71].copy_from_slice(ABC_256);
-    assert!(rt; BlobDigest::read(&text).is_none(), "one digit more");
-    assert!(rt; BlobDigest::read(&text[..71]).is_some());
-    text[7] = b'B';
-    assert!(rt;
-        BlobDigest::read(&text[..71]).is_none(),
-        "an upper case digit"
-    );
-    text[..8].copy_from_slice(b"sha512:b");
-    assert!(rt;
-        BlobDigest::read(&text[..71]).is_none(),
-        "64 digits of another algorithm"
-    );
 }

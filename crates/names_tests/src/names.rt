@@ -1,75 +1,87 @@
 //! Names of repositories, and texts that are none.
 
+use std::alloc::{AllocError, Global};
 use upload_names::{NameFault, RepoName};
+
+const NAMES: [&[u8]; 9] = [
+    b"a", b"lib/a", b"a__b", b"a--b", b"a---b", b"a.b/c-d", b"a_b/0", b"0", b"a/b/c/d",
+];
+
+const OTHERS: [&[u8]; 15] = [
+    b"", b"A", b"a___b", b"a..b", b"a_-b", b"/a", b"a/", b"a//b", b"-a", b"a-", b"a.", b"a_",
+    b"a b", b"a%2fb", b"\xff",
+];
+
+/// Whether the name that a text spells is that text.
+fn spells_itself(alloc: Global, text: &[u8]) -> Result<bool, NameFault> {
+    let name = RepoName::read(alloc, text)?;
+    Ok(name.as_str().as_bytes() == text)
+}
 
 #[test]
 fn name_grammar(rt: HostRuntime) {
-    let names: [&[u8]; 9] = [
-        b"a", b"lib/a", b"a__b", b"a--b", b"a---b", b"a.b/c-d", b"a_b/0", b"0", b"a/b/c/d",
-    ];
-    for text in names {
-        let name = RepoName::read(rt.alloc(), text).expect(&rt, "a name");
-        assert_eq!(rt; name.as_str().as_bytes(), text);
+    for text in NAMES.iter() {
+        assert_eq!(rt; spells_itself(rt.alloc(), text), Ok(true), "{text:?}");
     }
-    let others: [&[u8]; 15] = [
-        b"", b"A", b"a___b", b"a..b", b"a_-b", b"/a", b"a/", b"a//b", b"-a", b"a-", b"a.", b"a_",
-        b"a b", b"a%2fb", b"\xff",
-    ];
-    for text in others {
-        let fault = RepoName::read(rt.alloc(), text).err();
-        assert_eq!(rt; fault, Some(NameFault::NotAName), "{text:?}");
+    for text in OTHERS.iter() {
+        let found = spells_itself(rt.alloc(), text);
+        assert_eq!(rt; found, Err(NameFault::NotAName), "{text:?}");
     }
 }
 
 #[test]
 fn longest_name(rt: HostRuntime) {
-    let text = [b'a'; 256];
-    let fault = RepoName::read(rt.alloc(), &text).err();
-    assert_eq!(rt; fault, Some(NameFault::TooLong));
-    let name = RepoName::read(rt.alloc(), &text[1..]).expect(&rt, "a name of 255 bytes");
-    assert_eq!(rt; name.as_str().len(), 255);
+    let mut text = [b'a'; 256];
+    assert_eq!(rt; spells_itself(rt.alloc(), &text[1..]), Ok(true));
+    let found = spells_itself(rt.alloc(), &text);
+    assert_eq!(rt; found, Err(NameFault::TooLong));
     // what is no name is never called too long
-    let mut other = [b'a'; 256];
-    other[255] = b'/';
-    assert_eq!(rt;
-        RepoName::read(rt.alloc(), &other).err(),
-        Some(NameFault::NotAName)
-    );
+    text[255] = b'/';
+    let found = spells_itself(rt.alloc(), &text);
+    assert_eq!(rt; found, Err(NameFault::NotAName));
+}
+
+/// How a copy of `lib/a` stands to a name: whether it is the same, and whether it is before it.
+fn copy_beside(alloc: Global, other: &[u8]) -> Result<(bool, bool), NameFault> {
+    let copy = RepoName::read(alloc, b"lib/a")?
+        .copy(alloc)
+        .map_err(|_| NameFault::NoMemory)?;
+    let other = RepoName::read(alloc, other)?;
+    Ok((copy.same(&other), copy < other))
 }
 
 #[test]
 fn copy_is_the_same_name(rt: HostRuntime) {
-    let name = RepoName::read(rt.alloc(), b"lib/a").expect(&rt, "a name");
-    let copy = name.copy(rt.alloc()).expect(&rt, "memory");
-    assert!(rt; copy.same(&name));
-    assert_eq!(rt; copy.as_str(), "lib/a");
-    let other = RepoName::read(rt.alloc(), b"lib/b").expect(&rt, "a name");
-    assert!(rt; !copy.same(&other));
-    assert!(rt; copy < other);
+    assert_eq!(rt; copy_beside(rt.alloc(), b"lib/a"), Ok((true, false)));
+    assert_eq!(rt; copy_beside(rt.alloc(), b"lib/b"), Ok((false, true)));
+}
+
+/// The name `lib/a`. One growth may be refused.
+fn name_for(alloc: Global) -> Result<RepoName, NameFault> {
+    match RepoName::read(alloc, b"lib/a") {
+        Err(NameFault::NoMemory) => RepoName::read(alloc, b"lib/a"),
+        found => found,
+    }
+}
+
+/// A copy of a name. One growth may be refused.
+fn copy_for(alloc: Global, name: &RepoName) -> Result<RepoName, AllocError> {
+    match name.copy(alloc) {
+        Err(AllocError) => name.copy(alloc),
+        found => found,
+    }
 }
 
 /// It holds whichever growth is refused: `tests/growths.py` has each refused in turn.
 #[test]
 fn a_refused_growth_gives_no_name(rt: HostRuntime) {
-    let name = match RepoName::read(rt.alloc(), b"lib/a") {
-        Ok(name) => name,
-        Err(fault) => {
-            assert_eq!(rt; fault, NameFault::NoMemory);
-            RepoName::read(rt.alloc(), b"lib/a").expect(&rt, "a name, with memory")
-        }
-    };
-    assert_eq!(rt; name.as_str(), "lib/a");
-    let copy = match name.copy(rt.alloc()) {
-        Ok(copy) => copy,
-        Err(AllocError) => {
-            assert_eq!(rt; name.as_str(), "lib/a");
-            name.copy(rt.alloc()).expect(&rt, "a copy, with memory")
-        }
-    };
-    assert_eq!(rt; copy.as_str(), "lib/a");
+    let alloc = rt.alloc();
+    let name = name_for(alloc).expect(&rt, "a name, with memory");
+    let copy = copy_for(alloc, &name).expect(&rt, "a copy, with memory");
+    assert!(rt; name.as_str() == "lib/a" && copy.as_str() == "lib/a");
     // what is no name is told so without memory
-    let fault = RepoName::read(rt.alloc(), b"lib//a").err();
-    assert_eq!(rt; fault, Some(NameFault::NotAName));
-    let fault = RepoName::read(rt.alloc(), &[b'a'; 256]).err();
-    assert_eq!(rt; fault, Some(NameFault::TooLong));
+    let found = spells_itself(alloc, b"lib//a");
+    assert_eq!(rt; found, Err(NameFault::NotAName));
+    let found = spells_itself(alloc, &[b'a'; 256]);
+    assert_eq!(rt; found, Err(NameFault::TooLong));
 }

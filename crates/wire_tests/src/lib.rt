@@ -3,9 +3,13 @@
 #![tactic(auto)]
 
 #[cfg(test)]
+mod answers;
+#[cfg(test)]
 mod client;
 #[cfg(test)]
 mod connections;
+#[cfg(test)]
+mod expect;
 #[cfg(test)]
 mod memory;
 #[cfg(test)]

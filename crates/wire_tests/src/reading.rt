@@ -3,8 +3,10 @@ ghost use Rattle.std.specs.Prelude.{◌≡◌, ◌<◌, ◌≤◌, ◌^◌};
 
 mod growths;
 
+use crate::expect::{holds, same};
 use crate::memory::MemorySource;
 use std::alloc::{AllocError, Global};
+use std::process::Abort;
 use std::test::Fail;
 use upload_service::{Ask, Extent, Form, Limits, Refusal};
 use upload_wire::{Next, RequestReader, WireFault};
@@ -102,255 +104,293 @@ const DIGEST: &str = "sha256:ba7816bf8f01cfea414140de5dae2223b00361a396177a9cb41
 
 const OPENING: &str = "POST /v2/lib/a/blobs/uploads/ HTTP/1.1\r\n";
 
+const UPLOAD: &str = "/v2/lib/a/blobs/uploads/00000001-0000-8000-8000-000000000000";
+
+/// An opening with a field whose value has so many bytes.
+fn with_a_value(alloc: Global, count: usize) -> Result<Vec<u8>, AllocError> {
+    let mut text = OPENING.as_bytes().to_vec(alloc)?;
+    text.extend_from_slice(b"X: ")?;
+    text.resize(text.len().saturating_add(count), b'a')?;
+    text.extend_from_slice(b"\r\n\r\n")?;
+    Ok(text)
+}
+
+/// An opening with so many fields.
+fn with_fields(alloc: Global, count: usize) -> Result<Vec<u8>, AllocError> {
+    let mut text = OPENING.as_bytes().to_vec(alloc)?;
+    for _ in 0..count {
+        text.extend_from_slice(b"A: b\r\n")?;
+    }
+    text.extend_from_slice(b"\r\n")?;
+    Ok(text)
+}
+
+const LONG_VALUES: [(usize, Kind); 2] = [(16_337, Kind::Opening), (16_338, Kind::Bad(2))];
+
+const MANY_FIELDS: [(usize, Kind); 2] = [(64, Kind::Opening), (65, Kind::Bad(1))];
+
 #[test]
 fn heads_keep_their_limits(rt: HostRuntime) -> Result<(), Fail> {
-    for (count, want) in [(16_337, Kind::Opening), (16_338, Kind::Bad(2))] {
-        let mut text = OPENING.as_bytes().to_vec(rt.alloc())?;
-        text.extend_from_slice(b"X: ")?;
-        text.extend_from_slice(&vec![in rt.alloc(); b'a'; count]?)?;
-        text.extend_from_slice(b"\r\n\r\n")?;
-        assert_eq!(rt;
-            first(rt.alloc(), &text, 1_000, false)?,
-            want,
-            "a value of {count}"
-        );
+    let alloc = rt.alloc();
+    for (count, want) in LONG_VALUES.iter() {
+        let found = first(alloc, &with_a_value(alloc, *count)?, 1_000, false)?;
+        same(&rt, found, *want, count);
     }
-    for (count, want) in [(64, Kind::Opening), (65, Kind::Bad(1))] {
-        let mut text = OPENING.as_bytes().to_vec(rt.alloc())?;
-        for _field in 0..count {
-            text.extend_from_slice(b"A: b\r\n")?;
-        }
-        text.extend_from_slice(b"\r\n")?;
-        assert_eq!(rt; first(rt.alloc(), &text, 7, false)?, want, "{count} fields");
+    for (count, want) in MANY_FIELDS.iter() {
+        let found = first(alloc, &with_fields(alloc, *count)?, 7, false)?;
+        same(&rt, found, *want, count);
     }
     Ok(())
 }
 
 #[test]
 fn hopeless_head_is_judged(rt: HostRuntime) -> Result<(), Fail> {
+    let alloc = rt.alloc();
     for text in ["GET /v2/ HTTP/9.9\n", "GET /v2/ HTTP/9.9\r\n"] {
-        assert_eq!(rt; first(rt.alloc(), text.as_bytes(), 64, true)?, Kind::Bad(1));
+        let found = first(alloc, text.as_bytes(), 64, true)?;
+        same(&rt, found, Kind::Bad(1), &text);
     }
     // More lines than a head has, each of them empty.
-    let lines = vec![in rt.alloc(); b'\n'; 66]?;
-    assert_eq!(rt; first(rt.alloc(), &lines, 64, true)?, Kind::Bad(1));
+    let lines = vec![in alloc; b'\n'; 66]?;
+    same(&rt, first(alloc, &lines, 64, true)?, Kind::Bad(1), &"lines");
     Ok(())
+}
+
+/// Method, target, body, and what is asked.
+const ASKS: [(&str, &str, &str, Kind); 27] = [
+    ("GET", "/v2/", "", Kind::Base),
+    ("HEAD", "/v2/", "", Kind::Base),
+    ("GET", "/v2/?x=1", "abc", Kind::Base),
+    (
+        "PUT",
+        "/v2/",
+        "",
+        Kind::Refused(Refusal::Method(Form::Base)),
+    ),
+    ("POST", "/v2/lib/a/blobs/uploads/", "", Kind::Opening),
+    (
+        "POST",
+        "http://h/v2/lib/a/blobs/uploads/",
+        "",
+        Kind::Opening,
+    ),
+    (
+        "POST",
+        "/v2/a/blobs/uploads/blobs/uploads/",
+        "",
+        Kind::Opening,
+    ),
+    (
+        "POST",
+        "/v2/lib/a/blobs/uploads/",
+        "x",
+        Kind::Refused(Refusal::HasBody),
+    ),
+    (
+        "post",
+        "/v2/lib/a/blobs/uploads/",
+        "",
+        Kind::Refused(Refusal::Method(Form::Uploads)),
+    ),
+    (
+        "GET",
+        "/v2/A/blobs/uploads/",
+        "x",
+        Kind::Refused(Refusal::BadName),
+    ),
+    (
+        "POST",
+        "/v2//blobs/uploads/",
+        "",
+        Kind::Refused(Refusal::BadName),
+    ),
+    (
+        "GET",
+        "/v2/blobs/uploads/",
+        "",
+        Kind::Refused(Refusal::NoForm),
+    ),
+    (
+        "GET",
+        "/v2/a/manifests/x",
+        "",
+        Kind::Refused(Refusal::NoForm),
+    ),
+    (
+        "POST",
+        "/v2/lib%2Fa/blobs/uploads/",
+        "",
+        Kind::Refused(Refusal::BadName),
+    ),
+    ("OPTIONS", "*", "", Kind::Refused(Refusal::NoForm)),
+    ("GET", UPLOAD, "x", Kind::Status),
+    ("HEAD", UPLOAD, "", Kind::Status),
+    ("PATCH", UPLOAD, "abc", Kind::Chunk(3)),
+    ("PUT", UPLOAD, "", Kind::Close(0)),
+    (
+        "DELETE",
+        UPLOAD,
+        "",
+        Kind::Refused(Refusal::Method(Form::Upload)),
+    ),
+    (
+        "PATCH",
+        "/v2/lib/a/blobs/uploads/x",
+        "",
+        Kind::Refused(Refusal::NoUpload),
+    ),
+    (
+        "GET",
+        "/v2/lib/a/blobs/x",
+        "",
+        Kind::Refused(Refusal::BadDigest),
+    ),
+    (
+        "POST",
+        "/v2/lib/a/blobs/uploads",
+        "",
+        Kind::Refused(Refusal::Method(Form::Blob)),
+    ),
+    (
+        "POST",
+        "/v2/lib/a/blobs/uploads/?digest=x",
+        "abc",
+        Kind::Single(3),
+    ),
+    (
+        "POST",
+        "/v2/lib/a/blobs/uploads/?digest=",
+        "",
+        Kind::Single(0),
+    ),
+    (
+        "POST",
+        "/v2/lib/a/blobs/uploads/?mount=x&digest=y",
+        "",
+        Kind::Opening,
+    ),
+    (
+        "POST",
+        "/v2/lib/a/blobs/uploads/?mount=x",
+        "a",
+        Kind::Refused(Refusal::HasBody),
+    ),
+];
+
+/// Targets of a GET, each with a digest behind it.
+const TARGETS: [(&str, Kind); 2] = [
+    ("blobs/", Kind::Has(false)),
+    (
+        "blobs/uploads/?from=lib/b&mount=",
+        Kind::Refused(Refusal::Method(Form::Uploads)),
+    ),
+];
+
+/// Queries of an opening, each with a digest behind it.
+const QUERIES: [(&str, Kind); 4] = [
+    ("blobs/uploads/?from=lib/b&mount=", Kind::Mount),
+    ("blobs/uploads/?from=A&from=lib/b&mount=", Kind::Opening),
+    ("blobs/uploads/?mount=", Kind::Opening),
+    ("blobs/uploads/?digest=x&digest=", Kind::Single(0)),
+];
+
+/// What is asked with a body of a known length.
+fn asked(alloc: Global, method: &str, target: &str, body: &str) -> Result<Kind, Fail> {
+    let text = format!(in alloc;
+        "{method} {target} HTTP/1.1\r\nContent-Length: {}\r\n\r\n{body}",
+        body.len()
+    )?;
+    Ok(first(alloc, text.as_bytes(), 11, false)?)
+}
+
+/// What is asked without a body, of a target that the digest ends.
+fn asked_of_digest(alloc: Global, method: &str, target: &str) -> Result<Kind, Fail> {
+    let text = format!(in alloc; "{method} /v2/lib/a/{target}{DIGEST} HTTP/1.1\r\n\r\n")?;
+    Ok(first(alloc, text.as_bytes(), 11, false)?)
 }
 
 #[test]
 fn asks_follow_the_table(rt: HostRuntime) -> Result<(), Fail> {
-    let upload = "/v2/lib/a/blobs/uploads/00000001-0000-8000-8000-000000000000";
-    for (method, target, body, want) in [
-        ("GET", "/v2/", "", Kind::Base),
-        ("HEAD", "/v2/", "", Kind::Base),
-        ("GET", "/v2/?x=1", "abc", Kind::Base),
-        (
-            "PUT",
-            "/v2/",
-            "",
-            Kind::Refused(Refusal::Method(Form::Base)),
-        ),
-        ("POST", "/v2/lib/a/blobs/uploads/", "", Kind::Opening),
-        (
-            "POST",
-            "http://h/v2/lib/a/blobs/uploads/",
-            "",
-            Kind::Opening,
-        ),
-        (
-            "POST",
-            "/v2/a/blobs/uploads/blobs/uploads/",
-            "",
-            Kind::Opening,
-        ),
-        (
-            "POST",
-            "/v2/lib/a/blobs/uploads/",
-            "x",
-            Kind::Refused(Refusal::HasBody),
-        ),
-        (
-            "post",
-            "/v2/lib/a/blobs/uploads/",
-            "",
-            Kind::Refused(Refusal::Method(Form::Uploads)),
-        ),
-        (
-            "GET",
-            "/v2/A/blobs/uploads/",
-            "x",
-            Kind::Refused(Refusal::BadName),
-        ),
-        (
-            "POST",
-            "/v2//blobs/uploads/",
-            "",
-            Kind::Refused(Refusal::BadName),
-        ),
-        (
-            "GET",
-            "/v2/blobs/uploads/",
-            "",
-            Kind::Refused(Refusal::NoForm),
-        ),
-        (
-            "GET",
-            "/v2/a/manifests/x",
-            "",
-            Kind::Refused(Refusal::NoForm),
-        ),
-        (
-            "POST",
-            "/v2/lib%2Fa/blobs/uploads/",
-            "",
-            Kind::Refused(Refusal::BadName),
-        ),
-        ("OPTIONS", "*", "", Kind::Refused(Refusal::NoForm)),
-        ("GET", upload, "x", Kind::Status),
-        ("HEAD", upload, "", Kind::Status),
-        ("PATCH", upload, "abc", Kind::Chunk(3)),
-        ("PUT", upload, "", Kind::Close(0)),
-        (
-            "DELETE",
-            upload,
-            "",
-            Kind::Refused(Refusal::Method(Form::Upload)),
-        ),
-        (
-            "PATCH",
-            "/v2/lib/a/blobs/uploads/x",
-            "",
-            Kind::Refused(Refusal::NoUpload),
-        ),
-        (
-            "GET",
-            "/v2/lib/a/blobs/x",
-            "",
-            Kind::Refused(Refusal::BadDigest),
-        ),
-        (
-            "POST",
-            "/v2/lib/a/blobs/uploads",
-            "",
-            Kind::Refused(Refusal::Method(Form::Blob)),
-        ),
-        (
-            "POST",
-            "/v2/lib/a/blobs/uploads/?digest=x",
-            "abc",
-            Kind::Single(3),
-        ),
-        (
-            "POST",
-            "/v2/lib/a/blobs/uploads/?digest=",
-            "",
-            Kind::Single(0),
-        ),
-        (
-            "POST",
-            "/v2/lib/a/blobs/uploads/?mount=x&digest=y",
-            "",
-            Kind::Opening,
-        ),
-        (
-            "POST",
-            "/v2/lib/a/blobs/uploads/?mount=x",
-            "a",
-            Kind::Refused(Refusal::HasBody),
-        ),
-    ] {
-        let text = format!(in rt.alloc();
-            "{method} {target} HTTP/1.1\r\nContent-Length: {}\r\n\r\n{body}",
-            body.len()
-        )?;
-        assert_eq!(rt;
-            first(rt.alloc(), text.as_bytes(), 11, false)?,
-            want,
-            "{method} {target}"
-        );
-    }
-    for (target, want) in [
-        ("blobs/", Kind::Has(false)),
-        (
-            "blobs/uploads/?from=lib/b&mount=",
-            Kind::Refused(Refusal::Method(Form::Uploads)),
-        ),
-    ] {
-        let text = format!(in rt.alloc(); "GET /v2/lib/a/{target}{DIGEST} HTTP/1.1\r\n\r\n")?;
-        assert_eq!(rt;
-            first(rt.alloc(), text.as_bytes(), 11, false)?,
-            want,
-            "{target}"
-        );
-    }
-    for (query, want) in [
-        ("from=lib/b&mount=", Kind::Mount),
-        ("from=A&from=lib/b&mount=", Kind::Opening),
-        ("mount=", Kind::Opening),
-        ("digest=x&digest=", Kind::Single(0)),
-    ] {
-        let text = format!(in rt.alloc();
-            "POST /v2/lib/a/blobs/uploads/?{query}{DIGEST} HTTP/1.1\r\n\r\n"
-        )?;
-        assert_eq!(rt;
-            first(rt.alloc(), text.as_bytes(), 11, false)?,
-            want,
-            "{query}"
-        );
+    for (method, target, body, want) in ASKS.iter() {
+        same(&rt, asked(rt.alloc(), method, target, body)?, *want, target);
     }
     Ok(())
 }
 
 #[test]
-fn bad_bodies_are_refused_in_their_order(rt: HostRuntime) -> Result<(), Fail> {
-    for (version, fields, want) in [
-        ("1.1", "Content-Length: 3x\r\n", Kind::Bad(3)),
-        (
-            "1.1",
-            "Content-Length: 3\r\ncontent-length: 3\r\n",
-            Kind::Bad(3),
-        ),
-        ("1.1", "Content-Length: \r\n", Kind::Bad(3)),
-        ("1.1", "Content-Length: 4\r\n", Kind::Bad(4)),
-        (
-            "1.1",
-            "Content-Length: 99999999999999999999999999999999\r\n",
-            Kind::Bad(4),
-        ),
-        (
-            "1.1",
-            "Transfer-Encoding: chunked\r\nContent-Length: 4\r\n",
-            Kind::Bad(3),
-        ),
-        (
-            "1.0",
-            "Transfer-Encoding: gzip\r\nContent-Length: x\r\n",
-            Kind::Bad(3),
-        ),
-        ("1.1", "Transfer-Encoding: gzip, chunked\r\n", Kind::Bad(5)),
-        (
-            "1.1",
-            "Transfer-Encoding: chunked\r\nTransfer-Encoding: chunked\r\n",
-            Kind::Bad(5),
-        ),
-        ("1.0", "Transfer-Encoding: chunked\r\n", Kind::Bad(5)),
-        (
-            "1.1",
-            "Content-Length: 3\r\n",
-            Kind::Fault(WireFault::Truncated),
-        ),
-        (
-            "1.1",
-            "Transfer-Encoding: Chunked\r\n",
-            Kind::Fault(WireFault::Truncated),
-        ),
-    ] {
-        let text = format!(in rt.alloc(); "PATCH /v2/ HTTP/{version}\r\n{fields}\r\n")?;
-        assert_eq!(rt;
-            first(rt.alloc(), text.as_bytes(), 5, false)?,
-            want,
-            "{version} {fields}"
+fn digests_end_targets(rt: HostRuntime) -> Result<(), Fail> {
+    for (target, want) in TARGETS.iter() {
+        same(
+            &rt,
+            asked_of_digest(rt.alloc(), "GET", target)?,
+            *want,
+            target,
         );
+    }
+    for (target, want) in QUERIES.iter() {
+        same(
+            &rt,
+            asked_of_digest(rt.alloc(), "POST", target)?,
+            *want,
+            target,
+        );
+    }
+    Ok(())
+}
+
+/// Version, fields, and what is read of a head with them and no body.
+const BODIES: [(&str, &str, Kind); 12] = [
+    ("1.1", "Content-Length: 3x\r\n", Kind::Bad(3)),
+    (
+        "1.1",
+        "Content-Length: 3\r\ncontent-length: 3\r\n",
+        Kind::Bad(3),
+    ),
+    ("1.1", "Content-Length: \r\n", Kind::Bad(3)),
+    ("1.1", "Content-Length: 4\r\n", Kind::Bad(4)),
+    (
+        "1.1",
+        "Content-Length: 99999999999999999999999999999999\r\n",
+        Kind::Bad(4),
+    ),
+    (
+        "1.1",
+        "Transfer-Encoding: chunked\r\nContent-Length: 4\r\n",
+        Kind::Bad(3),
+    ),
+    (
+        "1.0",
+        "Transfer-Encoding: gzip\r\nContent-Length: x\r\n",
+        Kind::Bad(3),
+    ),
+    ("1.1", "Transfer-Encoding: gzip, chunked\r\n", Kind::Bad(5)),
+    (
+        "1.1",
+        "Transfer-Encoding: chunked\r\nTransfer-Encoding: chunked\r\n",
+        Kind::Bad(5),
+    ),
+    ("1.0", "Transfer-Encoding: chunked\r\n", Kind::Bad(5)),
+    (
+        "1.1",
+        "Content-Length: 3\r\n",
+        Kind::Fault(WireFault::Truncated),
+    ),
+    (
+        "1.1",
+        "Transfer-Encoding: Chunked\r\n",
+        Kind::Fault(WireFault::Truncated),
+    ),
+];
+
+fn framed(alloc: Global, version: &str, fields: &str) -> Result<Kind, Fail> {
+    let text = format!(in alloc; "PATCH /v2/ HTTP/{version}\r\n{fields}\r\n")?;
+    Ok(first(alloc, text.as_bytes(), 5, false)?)
+}
+
+#[test]
+fn bad_bodies_are_refused_in_their_order(rt: HostRuntime) -> Result<(), Fail> {
+    for (version, fields, want) in BODIES.iter() {
+        same(&rt, framed(rt.alloc(), version, fields)?, *want, fields);
     }
     Ok(())
 }
@@ -358,103 +398,131 @@ fn bad_bodies_are_refused_in_their_order(rt: HostRuntime) -> Result<(), Fail> {
 const PATCH: &str =
     "PATCH /v2/lib/a/blobs/uploads/00000001-0000-8000-8000-000000000000 HTTP/1.1\r\nTransfer-Encoding: chunked\r\n\r\n";
 
-#[test]
-fn chunked_bodies(rt: HostRuntime) -> Result<(), Fail> {
-    for (body, want) in [
-        ("1\r\na\r\n2\r\nbc\r\n0\r\n\r\n", Kind::Chunk(3)),
-        ("0\r\n\r\n", Kind::Chunk(0)),
-        ("00000003\r\nabc\r\n00000000\r\n\r\n", Kind::Chunk(3)),
-        ("000000003\r\nabc\r\n0\r\n\r\n", Kind::Bad(6)),
-        ("3;x=1\r\nabc\r\n0\r\n\r\n", Kind::Bad(6)),
-        ("3\r\nabc\r\n0\r\nX: y\r\n\r\n", Kind::Bad(6)),
-        ("3\r\nabcd\r\n0\r\n\r\n", Kind::Bad(6)),
-        ("\r\n", Kind::Bad(6)),
-        ("3\nabc", Kind::Bad(6)),
-        ("2\r\nab\r\n2\r\n", Kind::Bad(4)),
-        ("FFFFFFFF\r\n", Kind::Bad(4)),
-        ("2\r\nb", Kind::Fault(WireFault::Truncated)),
-    ] {
-        let text = format!(in rt.alloc(); "{PATCH}{body}")?;
-        for step in [1, 2, 1_000] {
-            assert_eq!(rt;
-                first(rt.alloc(), text.as_bytes(), step, false)?,
-                want,
-                "{body} by {step}"
-            );
-        }
-        for cut in 1..text.len() {
-            let found = first(rt.alloc(), &text.as_bytes()[..cut], 3, false)?;
-            let fault = found == Kind::Fault(WireFault::Truncated);
-            assert!(rt; fault || found == want, "{body} cut at {cut}");
-            let failed = first(rt.alloc(), &text.as_bytes()[..cut], 3, true)?;
-            assert!(rt;
-                failed == Kind::Fault(WireFault::Read) || failed == want,
-                "{body} failed at {cut}"
-            );
+/// Chunked bodies, and what is read.
+const CHUNKED: [(&str, Kind); 12] = [
+    ("1\r\na\r\n2\r\nbc\r\n0\r\n\r\n", Kind::Chunk(3)),
+    ("0\r\n\r\n", Kind::Chunk(0)),
+    ("00000003\r\nabc\r\n00000000\r\n\r\n", Kind::Chunk(3)),
+    ("000000003\r\nabc\r\n0\r\n\r\n", Kind::Bad(6)),
+    ("3;x=1\r\nabc\r\n0\r\n\r\n", Kind::Bad(6)),
+    ("3\r\nabc\r\n0\r\nX: y\r\n\r\n", Kind::Bad(6)),
+    ("3\r\nabcd\r\n0\r\n\r\n", Kind::Bad(6)),
+    ("\r\n", Kind::Bad(6)),
+    ("3\nabc", Kind::Bad(6)),
+    ("2\r\nab\r\n2\r\n", Kind::Bad(4)),
+    ("FFFFFFFF\r\n", Kind::Bad(4)),
+    ("2\r\nb", Kind::Fault(WireFault::Truncated)),
+];
+
+/// Reads the text cut after each byte: where the input ends there, and where it fails.
+fn cut(rt: &impl Abort, alloc: Global, text: &[u8], want: Kind) -> Result<(), Fail> {
+    for count in 1..text.len() {
+        for (fails, fault) in [(false, WireFault::Truncated), (true, WireFault::Read)] {
+            let found = first(alloc, &text[..count], 3, fails)?;
+            let is_right = found == Kind::Fault(fault) || found == want;
+            holds(rt, is_right, &count);
         }
     }
     Ok(())
 }
 
-#[test]
-fn requests_one_after_another(rt: HostRuntime) -> Result<(), Fail> {
-    let text =
-        "PATCH /v2/a/blobs/uploads/00000001-0000-8000-8000-000000000000 HTTP/1.1\r\nContent-Length: 2\r\n\r\nabGET /v2/ HTTP/1.0\r\n\r\n";
-    for step in [1, 1_000] {
-        let mut reader = reader_of(rt.alloc(), text.as_bytes(), step, false)?;
-        for want in [Kind::Chunk(2), Kind::Base, Kind::Over, Kind::Over] {
-            assert_eq!(rt; kind_of(&reader.next_request()), want, "by {step}");
-        }
+/// Reads a chunked body at several paces, and cut.
+fn read_chunked(rt: &impl Abort, alloc: Global, body: &str, want: Kind) -> Result<(), Fail> {
+    let text = format!(in alloc; "{PATCH}{body}")?;
+    for step in [1, 2, 1_000] {
+        same(rt, first(alloc, text.as_bytes(), step, false)?, want, &body);
     }
-    let mut ended = reader_of(rt.alloc(), b"GET\n\nGET /v2/ HTTP/1.1\r\n\r\n", 4, false)?;
-    for want in [
-        Kind::Bad(1),
-        Kind::Fault(WireFault::Ended),
-        Kind::Fault(WireFault::Ended),
-    ] {
-        assert_eq!(rt; kind_of(&ended.next_request()), want);
+    cut(rt, alloc, text.as_bytes(), want)
+}
+
+#[test]
+fn chunked_bodies(rt: HostRuntime) -> Result<(), Fail> {
+    for (body, want) in CHUNKED.iter() {
+        read_chunked(&rt, rt.alloc(), body, *want)?;
     }
     Ok(())
+}
+
+/// Reads what is wanted, one after another.
+fn read_on(
+    rt: &impl Abort,
+    alloc: Global,
+    text: &str,
+    step: usize,
+    wanted: &[Kind],
+) -> Result<(), Fail>
+    requires { 0 < step }
+{
+    let mut reader = reader_of(alloc, text.as_bytes(), step, false)?;
+    for want in wanted {
+        same(rt, kind_of(&reader.next_request()), *want, &text);
+    }
+    Ok(())
+}
+
+const TWO: &str =
+    "PATCH /v2/a/blobs/uploads/00000001-0000-8000-8000-000000000000 HTTP/1.1\r\nContent-Length: 2\r\n\r\nabGET /v2/ HTTP/1.0\r\n\r\n";
+
+const TWO_KINDS: [Kind; 4] = [Kind::Chunk(2), Kind::Base, Kind::Over, Kind::Over];
+
+const ENDED: &str = "GET\n\nGET /v2/ HTTP/1.1\r\n\r\n";
+
+const ENDED_KINDS: [Kind; 3] = [
+    Kind::Bad(1),
+    Kind::Fault(WireFault::Ended),
+    Kind::Fault(WireFault::Ended),
+];
+
+#[test]
+fn requests_one_after_another(rt: HostRuntime) -> Result<(), Fail> {
+    read_on(&rt, rt.alloc(), TWO, 1, &TWO_KINDS)?;
+    read_on(&rt, rt.alloc(), TWO, 1_000, &TWO_KINDS)?;
+    read_on(&rt, rt.alloc(), ENDED, 4, &ENDED_KINDS)
+}
+
+/// A request, whether it is a HEAD, and whether the connection is kept.
+const STYLES: [(&str, bool, bool); 6] = [
+    ("GET /v2/ HTTP/1.1\r\n\r\n", false, true),
+    (
+        "HEAD /v2/ HTTP/1.1\r\nConnection: keep-alive\r\n\r\n",
+        true,
+        true,
+    ),
+    (
+        "GET /v2/ HTTP/1.1\r\nConnection: x ,\tCLOSE\r\n\r\n",
+        false,
+        false,
+    ),
+    (
+        "GET /v2/ HTTP/1.1\r\nConnection: a\r\nconnection: close\r\n\r\n",
+        false,
+        false,
+    ),
+    (
+        "GET /v2/ HTTP/1.1\r\nConnection: closed\r\n\r\n",
+        false,
+        true,
+    ),
+    (
+        "GET /v2/ HTTP/1.0\r\nConnection: keep-alive\r\n\r\n",
+        false,
+        false,
+    ),
+];
+
+/// Whether the first request is a HEAD, and whether its connection is kept.
+fn style_of(alloc: Global, text: &str) -> Result<Option<(bool, bool)>, AllocError> {
+    let mut reader = reader_of(alloc, text.as_bytes(), 9, false)?;
+    match reader.next_request() {
+        Ok(Next::Request { ask: _, style }) => Ok(Some((style.head, style.keep))),
+        _ => Ok(None),
+    }
 }
 
 #[test]
 fn styles(rt: HostRuntime) -> Result<(), Fail> {
-    for (text, head, keep) in [
-        ("GET /v2/ HTTP/1.1\r\n\r\n", false, true),
-        (
-            "HEAD /v2/ HTTP/1.1\r\nConnection: keep-alive\r\n\r\n",
-            true,
-            true,
-        ),
-        (
-            "GET /v2/ HTTP/1.1\r\nConnection: x ,\tCLOSE\r\n\r\n",
-            false,
-            false,
-        ),
-        (
-            "GET /v2/ HTTP/1.1\r\nConnection: a\r\nconnection: close\r\n\r\n",
-            false,
-            false,
-        ),
-        (
-            "GET /v2/ HTTP/1.1\r\nConnection: closed\r\n\r\n",
-            false,
-            true,
-        ),
-        (
-            "GET /v2/ HTTP/1.0\r\nConnection: keep-alive\r\n\r\n",
-            false,
-            false,
-        ),
-    ] {
-        let mut reader = reader_of(rt.alloc(), text.as_bytes(), 9, false)?;
-        match reader.next_request() {
-            Ok(Next::Request { ask: _, style }) => {
-                assert_eq!(rt; style.head, head, "{text}");
-                assert_eq!(rt; style.keep, keep, "{text}");
-            }
-            _ => assert!(rt; false, "{text}"),
-        }
+    for (text, head, keep) in STYLES.iter() {
+        same(&rt, style_of(rt.alloc(), text)?, Some((*head, *keep)), text);
     }
     Ok(())
 }

@@ -1,9 +1,12 @@
 //! The bytes of replies, against texts written by hand.
+
+use crate::answers::{Said, answer_of};
+use crate::expect::{same, same_bytes};
 use std::alloc::Global;
 use std::test::Fail;
-use upload_names::{Algorithm, BlobDigest, Bytes, RepoName, UploadRef};
+use upload_names::{Algorithm, BlobDigest, Bytes, UploadRef};
 use upload_service::{Answer, Form, Refusal};
-use upload_wire::{ByteSink, Failed, Style, ToWrite, write_bad, write_reply};
+use upload_wire::{ByteSink, Failed, Style, ToWrite, WriteFault, write_bad, write_reply};
 
 const KEPT: Style = Style {
     head: false,
@@ -20,225 +23,185 @@ const HEAD: Style = Style {
     keep: true,
 };
 
-/// What a writer holds after a reply.
-fn written(alloc: Global, answer: &Answer, style: Style) -> Result<Vec<u8>, Fail> {
+/// The reply to an answer.
+fn written(alloc: Global, said: Said, style: Style) -> Result<Vec<u8>, Fail> {
+    let answer = answer_of(alloc, said, UploadRef::make(1, [0; 12]))?;
     let mut writer = ToWrite::new(Vec::new(alloc));
-    write_reply(&mut writer, answer, style)?;
+    write_reply(&mut writer, &answer, style)?;
     Ok(writer.into_inner())
 }
 
-fn lib_a(alloc: Global) -> Result<RepoName, Fail> {
-    Ok(RepoName::read(alloc, b"lib/a")?)
-}
+const REPLIES: [(Said, Style, &str); 10] = [
+    (
+        Said::Base,
+        KEPT,
+        "HTTP/1.1 200 OK\r\nContent-Length: 0\r\n\r\n",
+    ),
+    (
+        Said::Blob(Algorithm::Sha256),
+        KEPT,
+        "HTTP/1.1 200 OK\r\nDocker-Content-Digest: sha256:ba7816bf8f01cfea414140de5dae2223b00361a396177a9cb410ff61f20015ad\r\nContent-Type: application/octet-stream\r\nContent-Length: 3\r\n\r\nabc",
+    ),
+    (
+        Said::Seen(Algorithm::Sha512),
+        HEAD,
+        "HTTP/1.1 200 OK\r\nDocker-Content-Digest: sha512:ddaf35a193617abacc417349ae20413112e6fa4e89a97ea20a9eeee64b55d39a2192992a274fc1a836ba3c23a3feebbd454d4423643ce80e2a9ac94fa54ca49f\r\nContent-Type: application/octet-stream\r\nContent-Length: 3\r\n\r\n",
+    ),
+    (
+        Said::Begun,
+        CLOSED,
+        "HTTP/1.1 202 Accepted\r\nLocation: /v2/lib/a/blobs/uploads/00000001-0000-8000-8000-000000000000\r\nContent-Length: 0\r\nConnection: close\r\n\r\n",
+    ),
+    (
+        Said::Stored(Algorithm::Sha256),
+        KEPT,
+        "HTTP/1.1 201 Created\r\nLocation: /v2/lib/a/blobs/sha256:ba7816bf8f01cfea414140de5dae2223b00361a396177a9cb410ff61f20015ad\r\nContent-Length: 0\r\n\r\n",
+    ),
+    (
+        Said::Taken(0),
+        KEPT,
+        "HTTP/1.1 202 Accepted\r\nLocation: /v2/lib/a/blobs/uploads/00000001-0000-8000-8000-000000000000\r\nContent-Length: 0\r\n\r\n",
+    ),
+    (
+        Said::Taken(3),
+        KEPT,
+        "HTTP/1.1 202 Accepted\r\nLocation: /v2/lib/a/blobs/uploads/00000001-0000-8000-8000-000000000000\r\nRange: 0-2\r\nContent-Length: 0\r\n\r\n",
+    ),
+    (
+        Said::Standing(1),
+        HEAD,
+        "HTTP/1.1 204 No Content\r\nLocation: /v2/lib/a/blobs/uploads/00000001-0000-8000-8000-000000000000\r\nRange: 0-0\r\n\r\n",
+    ),
+    (
+        Said::Misplaced(3),
+        KEPT,
+        "HTTP/1.1 416 Range Not Satisfiable\r\nLocation: /v2/lib/a/blobs/uploads/00000001-0000-8000-8000-000000000000\r\nRange: 0-2\r\nContent-Type: application/json\r\nContent-Length: 75\r\n\r\n{\"errors\":[{\"code\":\"BLOB_UPLOAD_INVALID\",\"message\":\"blob upload invalid\"}]}",
+    ),
+    (
+        Said::NoMemory,
+        KEPT,
+        "HTTP/1.1 503 Service Unavailable\r\nContent-Length: 0\r\n\r\n",
+    ),
+];
 
 #[test]
 fn replies_have_their_fields_in_order(rt: HostRuntime) -> Result<(), Fail> {
-    let alloc = rt.alloc();
-    let at = UploadRef::make(1, [0; 12]);
-    let digest = BlobDigest::of_sha256(b"abc");
-    let long = BlobDigest::of(Algorithm::Sha512, b"abc");
-    let begun = lib_a(alloc)?;
-    let stored = lib_a(alloc)?;
-    let first = lib_a(alloc)?;
-    let taken = lib_a(alloc)?;
-    let standing = lib_a(alloc)?;
-    let misplaced = lib_a(alloc)?;
-    let bytes = Bytes::of(b"abc".to_vec(alloc)?);
-    let table = [
-        (
-            Answer::Base,
-            KEPT,
-            "HTTP/1.1 200 OK\r\nContent-Length: 0\r\n\r\n",
-        ),
-        (
-            Answer::Blob {
-                digest,
-                size: 3,
-                bytes: Some(bytes),
-            },
-            KEPT,
-            "HTTP/1.1 200 OK\r\nDocker-Content-Digest: sha256:ba7816bf8f01cfea414140de5dae2223b00361a396177a9cb410ff61f20015ad\r\nContent-Type: application/octet-stream\r\nContent-Length: 3\r\n\r\nabc",
-        ),
-        (
-            Answer::Blob {
-                digest: long,
-                size: 3,
-                bytes: None,
-            },
-            HEAD,
-            "HTTP/1.1 200 OK\r\nDocker-Content-Digest: sha512:ddaf35a193617abacc417349ae20413112e6fa4e89a97ea20a9eeee64b55d39a2192992a274fc1a836ba3c23a3feebbd454d4423643ce80e2a9ac94fa54ca49f\r\nContent-Type: application/octet-stream\r\nContent-Length: 3\r\n\r\n",
-        ),
-        (
-            Answer::Begun { name: begun, at },
-            CLOSED,
-            "HTTP/1.1 202 Accepted\r\nLocation: /v2/lib/a/blobs/uploads/00000001-0000-8000-8000-000000000000\r\nContent-Length: 0\r\nConnection: close\r\n\r\n",
-        ),
-        (
-            Answer::Stored {
-                name: stored,
-                digest,
-            },
-            KEPT,
-            "HTTP/1.1 201 Created\r\nLocation: /v2/lib/a/blobs/sha256:ba7816bf8f01cfea414140de5dae2223b00361a396177a9cb410ff61f20015ad\r\nContent-Length: 0\r\n\r\n",
-        ),
-        (
-            Answer::Taken {
-                name: first,
-                at,
-                next: 0,
-            },
-            KEPT,
-            "HTTP/1.1 202 Accepted\r\nLocation: /v2/lib/a/blobs/uploads/00000001-0000-8000-8000-000000000000\r\nContent-Length: 0\r\n\r\n",
-        ),
-        (
-            Answer::Taken {
-                name: taken,
-                at,
-                next: 3,
-            },
-            KEPT,
-            "HTTP/1.1 202 Accepted\r\nLocation: /v2/lib/a/blobs/uploads/00000001-0000-8000-8000-000000000000\r\nRange: 0-2\r\nContent-Length: 0\r\n\r\n",
-        ),
-        (
-            Answer::Standing {
-                name: standing,
-                at,
-                next: 1,
-            },
-            HEAD,
-            "HTTP/1.1 204 No Content\r\nLocation: /v2/lib/a/blobs/uploads/00000001-0000-8000-8000-000000000000\r\nRange: 0-0\r\n\r\n",
-        ),
-        (
-            Answer::Misplaced {
-                name: misplaced,
-                at,
-                next: 3,
-            },
-            KEPT,
-            "HTTP/1.1 416 Range Not Satisfiable\r\nLocation: /v2/lib/a/blobs/uploads/00000001-0000-8000-8000-000000000000\r\nRange: 0-2\r\nContent-Type: application/json\r\nContent-Length: 75\r\n\r\n{\"errors\":[{\"code\":\"BLOB_UPLOAD_INVALID\",\"message\":\"blob upload invalid\"}]}",
-        ),
-        (
-            Answer::NoMemory,
-            KEPT,
-            "HTTP/1.1 503 Service Unavailable\r\nContent-Length: 0\r\n\r\n",
-        ),
-    ];
-    for (answer, style, text) in table {
-        let bytes = written(alloc, &answer, style)?;
-        assert_eq!(rt; bytes.as_slice(), text.as_bytes(), "{text}");
+    for (said, style, text) in REPLIES.iter() {
+        let found = written(rt.alloc(), *said, *style)?;
+        same_bytes(&rt, &found, text.as_bytes(), text);
     }
     Ok(())
 }
+
+const REFUSALS: [(Refusal, &str); 16] = [
+    (
+        Refusal::NoForm,
+        "HTTP/1.1 404 Not Found\r\nContent-Type: application/json\r\nContent-Length: 76\r\n\r\n{\"errors\":[{\"code\":\"UNSUPPORTED\",\"message\":\"the operation is unsupported\"}]}",
+    ),
+    (
+        Refusal::BadName,
+        "HTTP/1.1 404 Not Found\r\nContent-Type: application/json\r\nContent-Length: 72\r\n\r\n{\"errors\":[{\"code\":\"NAME_INVALID\",\"message\":\"invalid repository name\"}]}",
+    ),
+    (
+        Refusal::Method(Form::Base),
+        "HTTP/1.1 405 Method Not Allowed\r\nAllow: GET, HEAD\r\nContent-Type: application/json\r\nContent-Length: 76\r\n\r\n{\"errors\":[{\"code\":\"UNSUPPORTED\",\"message\":\"the operation is unsupported\"}]}",
+    ),
+    (
+        Refusal::Method(Form::Blob),
+        "HTTP/1.1 405 Method Not Allowed\r\nAllow: GET, HEAD\r\nContent-Type: application/json\r\nContent-Length: 76\r\n\r\n{\"errors\":[{\"code\":\"UNSUPPORTED\",\"message\":\"the operation is unsupported\"}]}",
+    ),
+    (
+        Refusal::Method(Form::Uploads),
+        "HTTP/1.1 405 Method Not Allowed\r\nAllow: POST\r\nContent-Type: application/json\r\nContent-Length: 76\r\n\r\n{\"errors\":[{\"code\":\"UNSUPPORTED\",\"message\":\"the operation is unsupported\"}]}",
+    ),
+    (
+        Refusal::Method(Form::Upload),
+        "HTTP/1.1 405 Method Not Allowed\r\nAllow: GET, HEAD, PATCH, PUT\r\nContent-Type: application/json\r\nContent-Length: 76\r\n\r\n{\"errors\":[{\"code\":\"UNSUPPORTED\",\"message\":\"the operation is unsupported\"}]}",
+    ),
+    (
+        Refusal::NoUpload,
+        "HTTP/1.1 404 Not Found\r\nContent-Type: application/json\r\nContent-Length: 87\r\n\r\n{\"errors\":[{\"code\":\"BLOB_UPLOAD_UNKNOWN\",\"message\":\"blob upload unknown to registry\"}]}",
+    ),
+    (
+        Refusal::BadRange,
+        "HTTP/1.1 400 Bad Request\r\nContent-Type: application/json\r\nContent-Length: 75\r\n\r\n{\"errors\":[{\"code\":\"BLOB_UPLOAD_INVALID\",\"message\":\"blob upload invalid\"}]}",
+    ),
+    (
+        Refusal::WrongLength,
+        "HTTP/1.1 400 Bad Request\r\nContent-Type: application/json\r\nContent-Length: 93\r\n\r\n{\"errors\":[{\"code\":\"SIZE_INVALID\",\"message\":\"provided length did not match content length\"}]}",
+    ),
+    (
+        Refusal::TooLarge,
+        "HTTP/1.1 413 Content Too Large\r\nContent-Type: application/json\r\nContent-Length: 93\r\n\r\n{\"errors\":[{\"code\":\"SIZE_INVALID\",\"message\":\"provided length did not match content length\"}]}",
+    ),
+    (
+        Refusal::NoDigest,
+        "HTTP/1.1 400 Bad Request\r\nContent-Type: application/json\r\nContent-Length: 97\r\n\r\n{\"errors\":[{\"code\":\"DIGEST_INVALID\",\"message\":\"provided digest did not match uploaded content\"}]}",
+    ),
+    (
+        Refusal::Mismatch,
+        "HTTP/1.1 400 Bad Request\r\nContent-Type: application/json\r\nContent-Length: 97\r\n\r\n{\"errors\":[{\"code\":\"DIGEST_INVALID\",\"message\":\"provided digest did not match uploaded content\"}]}",
+    ),
+    (
+        Refusal::HasBody,
+        "HTTP/1.1 400 Bad Request\r\nContent-Type: application/json\r\nContent-Length: 93\r\n\r\n{\"errors\":[{\"code\":\"SIZE_INVALID\",\"message\":\"provided length did not match content length\"}]}",
+    ),
+    (
+        Refusal::TooMany,
+        "HTTP/1.1 429 Too Many Requests\r\nContent-Type: application/json\r\nContent-Length: 69\r\n\r\n{\"errors\":[{\"code\":\"TOOMANYREQUESTS\",\"message\":\"too many requests\"}]}",
+    ),
+    (
+        Refusal::NoBlob,
+        "HTTP/1.1 404 Not Found\r\nContent-Type: application/json\r\nContent-Length: 73\r\n\r\n{\"errors\":[{\"code\":\"BLOB_UNKNOWN\",\"message\":\"blob unknown to registry\"}]}",
+    ),
+    (
+        Refusal::BadDigest,
+        "HTTP/1.1 400 Bad Request\r\nContent-Type: application/json\r\nContent-Length: 97\r\n\r\n{\"errors\":[{\"code\":\"DIGEST_INVALID\",\"message\":\"provided digest did not match uploaded content\"}]}",
+    ),
+];
 
 #[test]
 fn refusals_name_their_errors(rt: HostRuntime) -> Result<(), Fail> {
-    let alloc = rt.alloc();
-    let table = [
-        (
-            Refusal::NoForm,
-            "HTTP/1.1 404 Not Found\r\nContent-Type: application/json\r\nContent-Length: 76\r\n\r\n{\"errors\":[{\"code\":\"UNSUPPORTED\",\"message\":\"the operation is unsupported\"}]}",
-        ),
-        (
-            Refusal::BadName,
-            "HTTP/1.1 404 Not Found\r\nContent-Type: application/json\r\nContent-Length: 72\r\n\r\n{\"errors\":[{\"code\":\"NAME_INVALID\",\"message\":\"invalid repository name\"}]}",
-        ),
-        (
-            Refusal::Method(Form::Base),
-            "HTTP/1.1 405 Method Not Allowed\r\nAllow: GET, HEAD\r\nContent-Type: application/json\r\nContent-Length: 76\r\n\r\n{\"errors\":[{\"code\":\"UNSUPPORTED\",\"message\":\"the operation is unsupported\"}]}",
-        ),
-        (
-            Refusal::Method(Form::Blob),
-            "HTTP/1.1 405 Method Not Allowed\r\nAllow: GET, HEAD\r\nContent-Type: application/json\r\nContent-Length: 76\r\n\r\n{\"errors\":[{\"code\":\"UNSUPPORTED\",\"message\":\"the operation is unsupported\"}]}",
-        ),
-        (
-            Refusal::Method(Form::Uploads),
-            "HTTP/1.1 405 Method Not Allowed\r\nAllow: POST\r\nContent-Type: application/json\r\nContent-Length: 76\r\n\r\n{\"errors\":[{\"code\":\"UNSUPPORTED\",\"message\":\"the operation is unsupported\"}]}",
-        ),
-        (
-            Refusal::Method(Form::Upload),
-            "HTTP/1.1 405 Method Not Allowed\r\nAllow: GET, HEAD, PATCH, PUT\r\nContent-Type: application/json\r\nContent-Length: 76\r\n\r\n{\"errors\":[{\"code\":\"UNSUPPORTED\",\"message\":\"the operation is unsupported\"}]}",
-        ),
-        (
-            Refusal::NoUpload,
-            "HTTP/1.1 404 Not Found\r\nContent-Type: application/json\r\nContent-Length: 87\r\n\r\n{\"errors\":[{\"code\":\"BLOB_UPLOAD_UNKNOWN\",\"message\":\"blob upload unknown to registry\"}]}",
-        ),
-        (
-            Refusal::BadRange,
-            "HTTP/1.1 400 Bad Request\r\nContent-Type: application/json\r\nContent-Length: 75\r\n\r\n{\"errors\":[{\"code\":\"BLOB_UPLOAD_INVALID\",\"message\":\"blob upload invalid\"}]}",
-        ),
-        (
-            Refusal::WrongLength,
-            "HTTP/1.1 400 Bad Request\r\nContent-Type: application/json\r\nContent-Length: 93\r\n\r\n{\"errors\":[{\"code\":\"SIZE_INVALID\",\"message\":\"provided length did not match content length\"}]}",
-        ),
-        (
-            Refusal::TooLarge,
-            "HTTP/1.1 413 Content Too Large\r\nContent-Type: application/json\r\nContent-Length: 93\r\n\r\n{\"errors\":[{\"code\":\"SIZE_INVALID\",\"message\":\"provided length did not match content length\"}]}",
-        ),
-        (
-            Refusal::NoDigest,
-            "HTTP/1.1 400 Bad Request\r\nContent-Type: application/json\r\nContent-Length: 97\r\n\r\n{\"errors\":[{\"code\":\"DIGEST_INVALID\",\"message\":\"provided digest did not match uploaded content\"}]}",
-        ),
-        (
-            Refusal::Mismatch,
-            "HTTP/1.1 400 Bad Request\r\nContent-Type: application/json\r\nContent-Length: 97\r\n\r\n{\"errors\":[{\"code\":\"DIGEST_INVALID\",\"message\":\"provided digest did not match uploaded content\"}]}",
-        ),
-        (
-            Refusal::HasBody,
-            "HTTP/1.1 400 Bad Request\r\nContent-Type: application/json\r\nContent-Length: 93\r\n\r\n{\"errors\":[{\"code\":\"SIZE_INVALID\",\"message\":\"provided length did not match content length\"}]}",
-        ),
-        (
-            Refusal::TooMany,
-            "HTTP/1.1 429 Too Many Requests\r\nContent-Type: application/json\r\nContent-Length: 69\r\n\r\n{\"errors\":[{\"code\":\"TOOMANYREQUESTS\",\"message\":\"too many requests\"}]}",
-        ),
-        (
-            Refusal::NoBlob,
-            "HTTP/1.1 404 Not Found\r\nContent-Type: application/json\r\nContent-Length: 73\r\n\r\n{\"errors\":[{\"code\":\"BLOB_UNKNOWN\",\"message\":\"blob unknown to registry\"}]}",
-        ),
-        (
-            Refusal::BadDigest,
-            "HTTP/1.1 400 Bad Request\r\nContent-Type: application/json\r\nContent-Length: 97\r\n\r\n{\"errors\":[{\"code\":\"DIGEST_INVALID\",\"message\":\"provided digest did not match uploaded content\"}]}",
-        ),
-    ];
-    for (refusal, text) in table {
-        let answer = Answer::Refused(refusal);
-        let bytes = written(alloc, &answer, KEPT)?;
-        assert_eq!(rt; bytes.as_slice(), text.as_bytes(), "{text}");
+    for (refusal, text) in REFUSALS.iter() {
+        let found = written(rt.alloc(), Said::Refused(*refusal), KEPT)?;
+        same_bytes(&rt, &found, text.as_bytes(), text);
     }
     Ok(())
 }
 
+const BAD: [(u8, &str); 6] = [
+    (
+        1,
+        "HTTP/1.1 400 Bad Request\r\nContent-Length: 0\r\nConnection: close\r\n\r\n",
+    ),
+    (
+        2,
+        "HTTP/1.1 431 Request Header Fields Too Large\r\nContent-Length: 0\r\nConnection: close\r\n\r\n",
+    ),
+    (
+        3,
+        "HTTP/1.1 400 Bad Request\r\nContent-Length: 0\r\nConnection: close\r\n\r\n",
+    ),
+    (
+        4,
+        "HTTP/1.1 413 Content Too Large\r\nContent-Length: 0\r\nConnection: close\r\n\r\n",
+    ),
+    (
+        5,
+        "HTTP/1.1 411 Length Required\r\nContent-Length: 0\r\nConnection: close\r\n\r\n",
+    ),
+    (
+        6,
+        "HTTP/1.1 400 Bad Request\r\nContent-Length: 0\r\nConnection: close\r\n\r\n",
+    ),
+];
+
 #[test]
 fn bad_requests_have_their_statuses(rt: HostRuntime) -> Result<(), Fail> {
-    let table = [
-        (
-            1,
-            "HTTP/1.1 400 Bad Request\r\nContent-Length: 0\r\nConnection: close\r\n\r\n",
-        ),
-        (
-            2,
-            "HTTP/1.1 431 Request Header Fields Too Large\r\nContent-Length: 0\r\nConnection: close\r\n\r\n",
-        ),
-        (
-            3,
-            "HTTP/1.1 400 Bad Request\r\nContent-Length: 0\r\nConnection: close\r\n\r\n",
-        ),
-        (
-            4,
-            "HTTP/1.1 413 Content Too Large\r\nContent-Length: 0\r\nConnection: close\r\n\r\n",
-        ),
-        (
-            5,
-            "HTTP/1.1 411 Length Required\r\nContent-Length: 0\r\nConnection: close\r\n\r\n",
-        ),
-        (
-            6,
-            "HTTP/1.1 400 Bad Request\r\nContent-Length: 0\r\nConnection: close\r\n\r\n",
-        ),
-    ];
-    for (number, text) in table {
+    for (number, text) in BAD.iter() {
         let mut writer = ToWrite::new(Vec::new(rt.alloc()));
-        write_bad(&mut writer, number)?;
-        assert_eq!(rt; writer.into_inner().as_slice(), text.as_bytes(), "{number}");
+        write_bad(&mut writer, *number)?;
+        same_bytes(&rt, writer.into_inner().as_slice(), text.as_bytes(), number);
     }
     Ok(())
 }
@@ -270,23 +233,25 @@ impl ByteSink for Counting {
     }
 }
 
-#[test]
-fn a_head_and_a_short_body_leave_in_one_write(rt: HostRuntime) -> Result<(), Fail> {
-    let alloc = rt.alloc();
+/// How many writes and flushes a reply takes.
+fn counted(answer: &Answer) -> Result<(u64, u64), WriteFault> {
     let mut writer = Counting {
         writes: 0,
         flushes: 0,
     };
-    write_reply(&mut writer, &Answer::Refused(Refusal::NoBlob), KEPT)?;
-    assert_eq!(rt; (writer.writes, writer.flushes), (1, 1));
-    let bytes = Some(Bytes::of(vec![in alloc; 7u8; 2_000]?));
-    let digest = BlobDigest::of_sha256(b"");
+    write_reply(&mut writer, answer, KEPT)?;
+    Ok((writer.writes, writer.flushes))
+}
+
+#[test]
+fn a_head_and_a_short_body_leave_in_one_write(rt: HostRuntime) -> Result<(), Fail> {
+    let short = counted(&Answer::Refused(Refusal::NoBlob))?;
+    same(&rt, short, (1, 1), &"a short body");
     let blob = Answer::Blob {
-        digest,
+        digest: BlobDigest::of_sha256(b""),
         size: 2_000,
-        bytes,
+        bytes: Some(Bytes::of(vec![in rt.alloc(); 7u8; 2_000]?)),
     };
-    write_reply(&mut writer, &blob, KEPT)?;
-    assert_eq!(rt; (writer.writes, writer.flushes), (3, 2));
+    same(&rt, counted(&blob)?, (2, 1), &"a long body");
     Ok(())
 }

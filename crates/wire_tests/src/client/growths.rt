@@ -2,13 +2,15 @@
 //! whichever one growth is refused: `tests/growths.py` has each of them refused in turn.
 
 use super::{Told, as_told};
+use crate::answers::{Said, answer_of};
+use crate::expect::{holds, same, same_bytes};
 use crate::memory::MemorySource;
 use std::alloc::{AllocError, Global};
 use std::process::Abort;
 use std::test::Fail;
-use upload_names::{BlobDigest, NameFault, RepoName, UploadRef};
+use upload_names::{Algorithm, UploadRef};
 use upload_service::{Answer, Ask, Refusal};
-use upload_wire::{AnswerReader, HeardFault, ToWrite, Transport, WireTransport, heard_of};
+use upload_wire::{AnswerReader, Heard, HeardFault, ToWrite, Transport, WireTransport, heard_of};
 
 /// A reader of the text. One growth may be refused.
 fn reader_for<'a>(
@@ -21,39 +23,38 @@ fn reader_for<'a>(
     }
 }
 
-/// The name `lib/a`. One growth may be refused.
-fn name_for(alloc: Global) -> Result<RepoName, NameFault> {
-    match RepoName::read(alloc, b"lib/a") {
-        Ok(name) => Ok(name),
-        Err(_) => RepoName::read(alloc, b"lib/a"),
-    }
-}
-
 /// Hears one reply, which takes memory.
 fn hear(rt: &impl Abort, alloc: Global, text: &[u8], want: Told<'_>) -> Result<(), Fail> {
     let mut reader = reader_for(alloc, text)?;
-    let mut found = reader.next_answer(false);
-    if let Err(fault) = found {
-        assert_eq!(rt; fault, HeardFault::NoMemory);
-        assert_eq!(rt; reader.next_answer(false).err(), Some(HeardFault::Ended));
-        reader = reader_for(alloc, text)?;
-        found = reader.next_answer(false);
+    match reader.next_answer(false) {
+        Ok(heard) => {
+            same(rt, as_told(&heard), want, &"a reply");
+            Ok(())
+        }
+        Err(fault) => {
+            same(rt, fault, HeardFault::NoMemory, &"a fault");
+            let ended = reader.next_answer(false).err();
+            same(rt, ended, Some(HeardFault::Ended), &"behind it");
+            hear_again(rt, alloc, text, want)
+        }
     }
-    match found {
-        Ok(heard) => assert_eq!(rt; as_told(&heard), want),
-        Err(_) => assert!(rt; false, "no reply, with memory"),
-    }
+}
+
+/// Hears it with memory.
+fn hear_again(rt: &impl Abort, alloc: Global, text: &[u8], want: Told<'_>) -> Result<(), Fail> {
+    let Ok(heard) = reader_for(alloc, text)?.next_answer(false) else {
+        return Err(Fail::new("no reply, with memory"));
+    };
+    same(rt, as_told(&heard), want, &"a reply, with memory");
     Ok(())
 }
 
-/// Says what is heard of an answer, whose texts take memory.
-fn say(rt: &impl Abort, alloc: Global, answer: Answer, want: Told<'_>) -> Result<(), Fail> {
-    let heard = match heard_of(alloc, &answer) {
-        Ok(heard) => heard,
-        Err(AllocError) => heard_of(alloc, &answer)?,
-    };
-    assert_eq!(rt; as_told(&heard), want);
-    Ok(())
+/// What is heard of an answer, whose texts take memory. One growth may be refused.
+fn heard_for(alloc: Global, answer: &Answer) -> Result<Heard, AllocError> {
+    match heard_of(alloc, answer) {
+        Ok(heard) => Ok(heard),
+        Err(AllocError) => heard_of(alloc, answer),
+    }
 }
 
 const TAKEN: &[u8] =
@@ -100,28 +101,30 @@ fn a_refused_growth_ends_the_hearing(rt: HostRuntime) -> Result<(), Fail> {
     hear(&rt, rt.alloc(), MISPLACED, UPLOAD_MISPLACED)
 }
 
+/// An answer to an upload under `lib/a`. One growth may be refused.
+fn answer_for(alloc: Global, said: Said) -> Result<Answer, AllocError> {
+    let at = UploadRef::make(1, [0; 12]);
+    match answer_of(alloc, said, at) {
+        Ok(answer) => Ok(answer),
+        Err(AllocError) => answer_of(alloc, said, at),
+    }
+}
+
+const ANSWERS: [(Said, Told<'_>); 4] = [
+    (Said::Taken(1), UPLOAD_TAKEN),
+    (Said::Misplaced(1), UPLOAD_MISPLACED),
+    (Said::Stored(Algorithm::Sha256), STORED),
+    (Said::Refused(Refusal::NoUpload), NO_UPLOAD),
+];
+
 #[test]
 fn a_refused_growth_leaves_the_answer_to_be_heard_of(rt: HostRuntime) -> Result<(), Fail> {
-    let alloc = rt.alloc();
-    let at = UploadRef::make(1, [0; 12]);
-    let taken = Answer::Taken {
-        name: name_for(alloc)?,
-        at,
-        next: 1,
-    };
-    say(&rt, alloc, taken, UPLOAD_TAKEN)?;
-    let misplaced = Answer::Misplaced {
-        name: name_for(alloc)?,
-        at,
-        next: 1,
-    };
-    say(&rt, alloc, misplaced, UPLOAD_MISPLACED)?;
-    let stored = Answer::Stored {
-        name: name_for(alloc)?,
-        digest: BlobDigest::of_sha256(b"abc"),
-    };
-    say(&rt, alloc, stored, STORED)?;
-    say(&rt, alloc, Answer::Refused(Refusal::NoUpload), NO_UPLOAD)
+    for (said, want) in ANSWERS.iter() {
+        let answer = answer_for(rt.alloc(), *said)?;
+        let heard = heard_for(rt.alloc(), &answer)?;
+        same(&rt, as_told(&heard), *want, &"what is heard of an answer");
+    }
+    Ok(())
 }
 
 /// The same reply three times.
@@ -146,57 +149,52 @@ fn room(alloc: Global) -> Result<Vec<u8>, AllocError> {
 /// Asks three times, and says how many of them were heard: those in front of the first that wasn't.
 fn ask_thrice(rt: &impl Abort, transport: &mut impl Transport) -> usize {
     let mut heard = 0usize;
-    let mut silent = false;
+    let mut is_silent = false;
     for _ in 0..3 {
-        match transport.ask(Ask::Base) {
-            Some(reply) => {
-                assert!(rt; !silent);
-                assert_eq!(rt; as_told(&reply), UPLOAD_TAKEN);
-                heard = heard.saturating_add(1);
-            }
-            None => silent = true,
+        if let Some(reply) = transport.ask(Ask::Base) {
+            holds(rt, !is_silent, &"nothing is heard behind a fault");
+            same(rt, as_told(&reply), UPLOAD_TAKEN, &"a reply");
+            heard = heard.saturating_add(1);
+        } else {
+            is_silent = true;
         }
     }
     heard
 }
 
+/// Asks three times over a new transport, and says how many replies were heard, and what was written.
+fn asked(rt: &impl Abort, alloc: Global) -> Result<(usize, Vec<u8>), AllocError> {
+    let mut sent = room(alloc)?;
+    let source = MemorySource::new(REPLIES, 1_000, false);
+    let mut heard = 0;
+    if let Ok(transport) = WireTransport::new(alloc, source, ToWrite::new(&mut sent), b"h") {
+        let mut transport = transport;
+        heard = ask_thrice(rt, &mut transport);
+    }
+    Ok((heard, sent))
+}
+
 #[test]
 fn a_refused_growth_leaves_the_transport_silent(rt: HostRuntime) -> Result<(), Fail> {
     let alloc = rt.alloc();
-    let mut sent = room(alloc)?;
-    let mut sent_again = room(alloc)?;
-    let heard = match WireTransport::new(
-        alloc,
-        MemorySource::new(REPLIES, 1_000, false),
-        ToWrite::new(&mut sent),
-        b"h",
-    ) {
-        Ok(transport) => {
-            let mut transport = transport;
-            ask_thrice(&rt, &mut transport)
-        }
-        Err(AllocError) => 0,
-    };
+    let (heard, sent) = asked(&rt, alloc)?;
     // Behind the first ask that wasn't heard nothing was written.
-    let asked = if sent.is_empty() {
-        0
-    } else {
-        heard.saturating_add(1).min(3)
-    };
-    assert!(rt; heard <= asked);
-    assert_eq!(rt; sent.len(), asked * 30);
-    assert!(rt; REQUESTS.starts_with(sent.as_slice()));
-    if heard == 3 {
-        return Ok(());
+    let is_silent = sent.is_empty() && heard == 0;
+    let count = heard.saturating_add(1).min(3);
+    holds(
+        &rt,
+        is_silent || sent.len() == count * 30,
+        &"what was written",
+    );
+    holds(
+        &rt,
+        REQUESTS.starts_with(sent.as_slice()),
+        &"what was written",
+    );
+    if heard < 3 {
+        let (heard, sent) = asked(&rt, alloc)?;
+        same(&rt, heard, 3, &"with memory");
+        same_bytes(&rt, &sent, REQUESTS, &"with memory");
     }
-    let mut transport = WireTransport::new(
-        alloc,
-        MemorySource::new(REPLIES, 1_000, false),
-        ToWrite::new(&mut sent_again),
-        b"h",
-    )?;
-    assert_eq!(rt; ask_thrice(&rt, &mut transport), 3);
-    drop(transport);
-    assert!(rt; sent_again.as_slice() == REQUESTS);
     Ok(())
 }

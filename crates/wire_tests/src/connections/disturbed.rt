@@ -1,9 +1,10 @@
 //! Each stored connection, disturbed: cut, read and written byte by byte, and with reads, writes and flushes that fail.
-ghost use Rattle.std.specs.Prelude.{◌<◌};
+ghost use Rattle.std.specs.Prelude.{length, ◌<◌, ◌≤◌};
 
 use super::stored::{COUNT, Stored, connection};
+use crate::expect::holds;
 use crate::memory::{MemorySink, MemorySource};
-use std::alloc::Global;
+use std::alloc::{AllocError, Global};
 use std::process::Abort;
 use std::test::Fail;
 use upload_service::{Limits, Service};
@@ -45,28 +46,64 @@ fn serve<S: ByteSource, W: ByteSink>(
     serve_connection(alloc, reader, writer, &mut desk, LIMITS)
 }
 
-/// Serves the connection cut after each byte from so many bytes on: where the input ends there, and where each read
-/// behind it fails.
-fn cut(rt: &impl Abort, alloc: Global, stored: &Stored, from: usize) -> Result<(), Fail> {
+/// Serves a connection that is given and taken by so many bytes at a time, in all to an end with so much room, and says
+/// how it ended and what was written.
+fn served(
+    rt: &impl Abort,
+    alloc: Global,
+    mut reader: MemorySource<'_>,
+    step: usize,
+    room: usize,
+) -> (ConnEnd, MemorySink)
+    requires { 0 < step }
+{
+    let mut writer = MemorySink::new(Vec::new(alloc), step, room);
+    let ended = serve(rt, alloc, &mut reader, &mut writer);
+    (ended, writer)
+}
+
+/// Serves the connection cut after so many bytes: where the input ends there, and where each read behind it fails.
+fn cut_at(
+    rt: &impl Abort,
+    alloc: Global,
+    stored: &Stored,
+    all: &[u8],
+    count: usize,
+) -> Result<(), AllocError>
+    requires { count ≤ length all.now }
+{
+    let (whole, at_an_end) = stored.whole_requests(count);
+    let wanted = stored.replies(alloc, whole)?;
+    let over = whole == stored.turns.len() && stored.is_ended_by_the_service();
+    let quiet = if at_an_end { ConnEnd::Clean } else { TRUNCATED };
+    let front = &all[..count];
+    for (fails, disturbed) in [(false, quiet), (true, READ)] {
+        let reader = MemorySource::new(front, 65_536, fails);
+        let (ended, writer) = served(rt, alloc, reader, 65_536, 65_536);
+        let end = if over { stored.end } else { disturbed };
+        is_served(rt, stored, count, (ended, end), writer.as_slice(), &wanted);
+    }
+    Ok(())
+}
+
+/// How a disturbed connection ended, and what was written, are as wanted.
+fn is_served(
+    rt: &impl Abort,
+    stored: &Stored,
+    at: usize,
+    (ended, end): (ConnEnd, ConnEnd),
+    written: &[u8],
+    wanted: &[u8],
+) {
+    assert_eq!(rt; ended, end, "{} at {at}", stored.name);
+    assert_eq!(rt; written, wanted, "{} at {at}", stored.name);
+}
+
+/// Cuts the connection after each byte from so many bytes on.
+fn cut(rt: &impl Abort, alloc: Global, stored: &Stored, from: usize) -> Result<(), AllocError> {
     let all = stored.sent(alloc)?;
     for count in from..=all.len() {
-        let (whole, at_an_end) = stored.whole_requests(count);
-        let wanted = stored.replies(alloc, whole)?;
-        let over = whole == stored.turns.len() && stored.is_ended_by_the_service();
-        let quiet = if at_an_end { ConnEnd::Clean } else { TRUNCATED };
-        for (fails, disturbed) in [(false, quiet), (true, READ)] {
-            let mut reader = MemorySource::new(&all[..count], 65_536, fails);
-            let mut writer = MemorySink::new(Vec::new(alloc), 65_536, 65_536);
-            let ended = serve(rt, alloc, &mut reader, &mut writer);
-            let end = if over { stored.end } else { disturbed };
-            assert_eq!(rt; ended, end, "{} at {count}", stored.name);
-            assert_eq!(rt;
-                writer.as_slice(),
-                wanted.as_slice(),
-                "{} at {count}",
-                stored.name
-            );
-        }
+        cut_at(rt, alloc, stored, &all, count)?;
     }
     Ok(())
 }
@@ -78,39 +115,44 @@ fn paced(
     stored: &Stored,
     read: usize,
     written: usize,
-) -> Result<(), Fail>
+) -> Result<(), AllocError>
     requires read { 0 < read }
     requires written { 0 < written }
 {
     let all = stored.sent(alloc)?;
     let wanted = stored.replies(alloc, stored.turns.len())?;
-    let mut reader = MemorySource::new(&all, read, false);
-    let mut writer = MemorySink::new(Vec::new(alloc), written, 65_536);
-    let ended = serve(rt, alloc, &mut reader, &mut writer);
-    assert_eq!(rt; ended, stored.end, "{}", stored.name);
-    assert_eq!(rt; writer.as_slice(), wanted.as_slice(), "{}", stored.name);
+    let reader = MemorySource::new(&all, read, false);
+    let (ended, writer) = served(rt, alloc, reader, written, 65_536);
+    is_served(
+        rt,
+        stored,
+        read,
+        (ended, stored.end),
+        writer.as_slice(),
+        &wanted,
+    );
     Ok(())
 }
 
 /// Serves the connection to a writer that fails after each byte.
-fn unwritten(rt: &impl Abort, alloc: Global, stored: &Stored) -> Result<(), Fail> {
+fn unwritten(rt: &impl Abort, alloc: Global, stored: &Stored) -> Result<(), AllocError> {
     let all = stored.sent(alloc)?;
     let wanted = stored.replies(alloc, stored.turns.len())?;
     for room in 0..=wanted.len() {
-        let mut reader = MemorySource::new(&all, 65_536, false);
-        let mut writer = MemorySink::new(Vec::new(alloc), 1_000, room);
-        let ended = serve(rt, alloc, &mut reader, &mut writer);
+        let reader = MemorySource::new(&all, 65_536, false);
+        let (ended, writer) = served(rt, alloc, reader, 1_000, room);
         let end = if room < wanted.len() {
             WRITE
         } else {
             stored.end
         };
-        assert_eq!(rt; ended, end, "{} at {room}", stored.name);
-        assert_eq!(rt;
+        is_served(
+            rt,
+            stored,
+            room,
+            (ended, end),
             writer.as_slice(),
             &wanted[..room],
-            "{} at {room}",
-            stored.name
         );
     }
     Ok(())
@@ -151,36 +193,43 @@ impl ByteSink for FailingFlush {
     }
 }
 
+/// Serves the connection to a writer that takes so many flushes.
+fn unflushed_behind(
+    rt: &impl Abort,
+    alloc: Global,
+    stored: &Stored,
+    all: &[u8],
+    flushes: usize,
+) -> Result<(), AllocError> {
+    let wanted = stored.replies(alloc, flushes.saturating_add(1))?;
+    let mut writer = FailingFlush {
+        items: Vec::new(alloc),
+        flushes,
+        failed: 0,
+    };
+    let ended = serve(
+        rt,
+        alloc,
+        &mut MemorySource::new(all, 65_536, false),
+        &mut writer,
+    );
+    let is_disturbed = flushes < stored.turns.len();
+    let end = if is_disturbed { WRITE } else { stored.end };
+    is_served(rt, stored, flushes, (ended, end), &writer.items, &wanted);
+    Ok(())
+}
+
 /// Serves the connection to a writer whose flush fails, behind each reply.
-fn unflushed(rt: &impl Abort, alloc: Global, stored: &Stored) -> Result<(), Fail> {
+fn unflushed(rt: &impl Abort, alloc: Global, stored: &Stored) -> Result<(), AllocError> {
     let all = stored.sent(alloc)?;
     for flushes in 0..=stored.turns.len() {
-        let wanted = stored.replies(alloc, flushes.saturating_add(1))?;
-        let mut reader = MemorySource::new(&all, 65_536, false);
-        let mut writer = FailingFlush {
-            items: Vec::new(alloc),
-            flushes,
-            failed: 0,
-        };
-        let ended = serve(rt, alloc, &mut reader, &mut writer);
-        let end = if flushes < stored.turns.len() {
-            WRITE
-        } else {
-            stored.end
-        };
-        assert_eq!(rt; ended, end, "{} at {flushes}", stored.name);
-        assert_eq!(rt;
-            writer.items.as_slice(),
-            wanted.as_slice(),
-            "{} at {flushes}",
-            stored.name
-        );
+        unflushed_behind(rt, alloc, stored, &all, flushes)?;
     }
     Ok(())
 }
 
 /// Cuts the connections of these numbers. A test has a part of them, since it has a minute.
-fn cut_all(rt: &impl Abort, alloc: Global, first: usize, behind: usize) -> Result<(), Fail> {
+fn cut_all(rt: &impl Abort, alloc: Global, first: usize, behind: usize) -> Result<(), AllocError> {
     for number in first..behind {
         cut(rt, alloc, &connection(number), 0)?;
     }
@@ -188,77 +237,90 @@ fn cut_all(rt: &impl Abort, alloc: Global, first: usize, behind: usize) -> Resul
 }
 
 #[test]
-fn connections_0_to_2_are_cut(rt: HostRuntime) -> Result<(), Fail> {
+fn connections_0_to_2_are_cut(rt: HostRuntime) -> Result<(), AllocError> {
     cut_all(&rt, rt.alloc(), 0, 3)
 }
 
 #[test]
-fn connections_3_to_13_are_cut(rt: HostRuntime) -> Result<(), Fail> {
+fn connections_3_to_13_are_cut(rt: HostRuntime) -> Result<(), AllocError> {
     cut_all(&rt, rt.alloc(), 3, 14)
 }
 
 #[test]
-fn connections_14_to_19_are_cut(rt: HostRuntime) -> Result<(), Fail> {
+fn connections_14_to_19_are_cut(rt: HostRuntime) -> Result<(), AllocError> {
     cut_all(&rt, rt.alloc(), 14, 20)
 }
 
 #[test]
-fn connections_20_to_21_are_cut(rt: HostRuntime) -> Result<(), Fail> {
+fn connections_20_to_21_are_cut(rt: HostRuntime) -> Result<(), AllocError> {
     cut_all(&rt, rt.alloc(), 20, 22)
 }
 
 #[test]
-fn connections_22_to_26_are_cut(rt: HostRuntime) -> Result<(), Fail> {
+fn connections_22_to_26_are_cut(rt: HostRuntime) -> Result<(), AllocError> {
     cut_all(&rt, rt.alloc(), 22, 27)
 }
 
 #[test]
-fn connections_27_to_30_are_cut(rt: HostRuntime) -> Result<(), Fail> {
+fn connections_27_to_30_are_cut(rt: HostRuntime) -> Result<(), AllocError> {
     cut_all(&rt, rt.alloc(), 27, 31)
 }
 
 #[test]
-fn connections_31_to_33_are_cut(rt: HostRuntime) -> Result<(), Fail> {
+fn connections_31_to_33_are_cut(rt: HostRuntime) -> Result<(), AllocError> {
     cut_all(&rt, rt.alloc(), 31, 34)
 }
 
 #[test]
-fn connections_34_to_35_are_cut(rt: HostRuntime) -> Result<(), Fail> {
+fn connections_34_to_35_are_cut(rt: HostRuntime) -> Result<(), AllocError> {
     cut_all(&rt, rt.alloc(), 34, 36)
 }
 
 #[test]
-fn connections_36_to_37_are_cut(rt: HostRuntime) -> Result<(), Fail> {
+fn connections_36_to_37_are_cut(rt: HostRuntime) -> Result<(), AllocError> {
     cut_all(&rt, rt.alloc(), 36, COUNT)
 }
 
-/// Heads of 16,384 bytes and of one more: the second is judged at its 16,384th byte. They are cut after each of their
-/// last hundred bytes.
+/// An opening of 16,384 bytes, whose field has so many, and which ends so.
+fn longest_head(alloc: Global, count: usize, end: &str) -> Result<String, Fail> {
+    let value = String::from_utf8(vec![in alloc; b'a'; count]?)?;
+    let head = format!(in alloc; "POST /v2/lib/a/blobs/uploads/ HTTP/1.1\r\nX: {value}{end}")?;
+    Ok(head)
+}
+
+/// Serves the connection cut after each of the last hundred bytes of a longest head, and byte by byte.
+fn longest_head_is_cut(
+    rt: &impl Abort,
+    alloc: Global,
+    head: &str,
+    rest: &str,
+    reply: &str,
+    end: ConnEnd,
+) -> Result<(), AllocError> {
+    holds(rt, head.len() == 16_384, &head.len());
+    let stored = Stored {
+        name: "a longest head",
+        turns: &[(head, reply)],
+        rest,
+        end,
+    };
+    cut(rt, alloc, &stored, 16_284)?;
+    paced(rt, alloc, &stored, 1, 1)
+}
+
 #[test]
 fn longest_heads_are_cut(rt: HostRuntime) -> Result<(), Fail> {
-    for (count, end, rest, reply, ended) in [
-        (16_337, "\r\n\r\n", "", OPENED, ConnEnd::Clean),
-        (16_338, "\r\n\r", "\n", TOO_LONG, ConnEnd::AfterBad),
-    ] {
-        let value = String::from_utf8(vec![in rt.alloc(); b'a'; count]?)?;
-        let head = format!(in rt.alloc();
-            "POST /v2/lib/a/blobs/uploads/ HTTP/1.1\r\nX: {value}{end}"
-        )?;
-        assert_eq!(rt; head.len(), 16_384);
-        let stored = Stored {
-            name: "a longest head",
-            turns: &[(head.as_str(), reply)],
-            rest,
-            end: ended,
-        };
-        cut(&rt, rt.alloc(), &stored, 16_284)?;
-        paced(&rt, rt.alloc(), &stored, 1, 1)?;
-    }
+    let alloc = rt.alloc();
+    let head = longest_head(alloc, 16_337, "\r\n\r\n")?;
+    longest_head_is_cut(&rt, alloc, head.as_str(), "", OPENED, ConnEnd::Clean)?;
+    // the head of one byte more is judged at its 16,384th byte
+    let head = longest_head(alloc, 16_338, "\r\n\r")?;
+    longest_head_is_cut(&rt, alloc, head.as_str(), "\n", TOO_LONG, ConnEnd::AfterBad)?;
     Ok(())
 }
 
 #[test]
-fn connections_are_read_and_written_byte_by_byte(rt: HostRuntime) -> Result<(), Fail> {
+fn connections_are_read_and_written_byte_by_byte(rt: HostRuntime) -> Result<(), AllocError> {
     for number in 0..COUNT {
         for (read, written) in [(65_536, 65_536), (1, 65_536), (65_536, 1), (1, 1)] {
             paced(&rt, rt.alloc(), &connection(number), read, written)?;
@@ -268,7 +330,12 @@ fn connections_are_read_and_written_byte_by_byte(rt: HostRuntime) -> Result<(), 
 }
 
 /// Serves the connections of these numbers to writers that fail. A test has a part of them, since it has a minute.
-fn unwritten_all(rt: &impl Abort, alloc: Global, first: usize, behind: usize) -> Result<(), Fail> {
+fn unwritten_all(
+    rt: &impl Abort,
+    alloc: Global,
+    first: usize,
+    behind: usize,
+) -> Result<(), AllocError> {
     for number in first..behind {
         unwritten(rt, alloc, &connection(number))?;
     }
@@ -276,42 +343,42 @@ fn unwritten_all(rt: &impl Abort, alloc: Global, first: usize, behind: usize) ->
 }
 
 #[test]
-fn writes_fail_in_connections_0_to_2(rt: HostRuntime) -> Result<(), Fail> {
+fn writes_fail_in_connections_0_to_2(rt: HostRuntime) -> Result<(), AllocError> {
     unwritten_all(&rt, rt.alloc(), 0, 3)
 }
 
 #[test]
-fn writes_fail_in_connections_3_to_13(rt: HostRuntime) -> Result<(), Fail> {
+fn writes_fail_in_connections_3_to_13(rt: HostRuntime) -> Result<(), AllocError> {
     unwritten_all(&rt, rt.alloc(), 3, 14)
 }
 
 #[test]
-fn writes_fail_in_connections_14_to_21(rt: HostRuntime) -> Result<(), Fail> {
+fn writes_fail_in_connections_14_to_21(rt: HostRuntime) -> Result<(), AllocError> {
     unwritten_all(&rt, rt.alloc(), 14, 22)
 }
 
 #[test]
-fn writes_fail_in_connections_22_to_26(rt: HostRuntime) -> Result<(), Fail> {
+fn writes_fail_in_connections_22_to_26(rt: HostRuntime) -> Result<(), AllocError> {
     unwritten_all(&rt, rt.alloc(), 22, 27)
 }
 
 #[test]
-fn writes_fail_in_connections_27_to_30(rt: HostRuntime) -> Result<(), Fail> {
+fn writes_fail_in_connections_27_to_30(rt: HostRuntime) -> Result<(), AllocError> {
     unwritten_all(&rt, rt.alloc(), 27, 31)
 }
 
 #[test]
-fn writes_fail_in_connections_31_to_35(rt: HostRuntime) -> Result<(), Fail> {
+fn writes_fail_in_connections_31_to_35(rt: HostRuntime) -> Result<(), AllocError> {
     unwritten_all(&rt, rt.alloc(), 31, 36)
 }
 
 #[test]
-fn writes_fail_in_connections_36_to_37(rt: HostRuntime) -> Result<(), Fail> {
+fn writes_fail_in_connections_36_to_37(rt: HostRuntime) -> Result<(), AllocError> {
     unwritten_all(&rt, rt.alloc(), 36, COUNT)
 }
 
 #[test]
-fn flushes_fail_behind_each_reply(rt: HostRuntime) -> Result<(), Fail> {
+fn flushes_fail_behind_each_reply(rt: HostRuntime) -> Result<(), AllocError> {
     for number in 0..COUNT {
         unflushed(&rt, rt.alloc(), &connection(number))?;
     }

@@ -2,6 +2,7 @@
 //! reply. The test holds whichever one growth is refused: `tests/growths.py` has each of them refused in turn.
 
 use super::LIMITS;
+use crate::expect::{holds, same, same_bytes};
 use crate::memory::{MemorySink, MemorySource};
 use std::alloc::{AllocError, Global};
 use std::process::Abort;
@@ -55,6 +56,26 @@ fn behind(written: &[u8]) -> Option<(&'static [u8], Option<u64>)> {
     }
 }
 
+/// Serves the requests, and gives the connection's end, what was written, and the service.
+fn served(
+    rt: &impl Abort,
+    alloc: Global,
+    service: Service,
+    requests: &[u8],
+) -> Result<(ConnEnd, MemorySink, Service), AllocError> {
+    assert!(rt; LIMITS.lawful());
+    let mut writer = MemorySink::new(room(alloc)?, 2_000, 2_000);
+    let mut reader = MemorySource::new(requests, 2_000, false);
+    let mut desk = ServiceDesk::new(service, [0; 12], 0);
+    let end = serve_connection(alloc, &mut reader, &mut writer, &mut desk, LIMITS);
+    Ok((end, writer, desk.into_service()))
+}
+
+/// How far the first upload is.
+fn next_of(service: &Service) -> Option<u64> {
+    service.next_of(&UploadRef::make(1, [0; 12]))
+}
+
 /// The reader was refused memory behind these replies: they are as ever, and with memory so are the others.
 fn go_on(rt: &impl Abort, alloc: Global, service: Service, written: &[u8]) -> Result<(), Fail> {
     let Some(left) = REPLIES.strip_prefix(written) else {
@@ -63,37 +84,31 @@ fn go_on(rt: &impl Abort, alloc: Global, service: Service, written: &[u8]) -> Re
     let Some((requests, next)) = behind(written) else {
         return Err(Fail::new("a reply that was cut"));
     };
-    assert!(rt; LIMITS.lawful());
-    assert_eq!(rt; service.next_of(&UploadRef::make(1, [0; 12])), next);
-    let mut reader = MemorySource::new(requests, 2_000, false);
-    let mut writer = MemorySink::new(room(alloc)?, 2_000, 2_000);
-    let mut desk = ServiceDesk::new(service, [0; 12], 0);
-    let end = serve_connection(alloc, &mut reader, &mut writer, &mut desk, LIMITS);
-    assert_eq!(rt; end, ConnEnd::Clean);
-    assert!(rt; writer.as_slice() == left);
+    same(rt, next_of(&service), next, &"the offset");
+    let (end, writer, _) = served(rt, alloc, service, requests)?;
+    same(rt, end, ConnEnd::Clean, &"with memory");
+    same_bytes(rt, writer.as_slice(), left, &"with memory");
     Ok(())
+}
+
+/// Whether a connection that was served to its end was answered so, where the first upload is so far.
+fn is_answered(written: &[u8], next: Option<u64>) -> bool {
+    match next {
+        None => written == OPENING_REFUSED,
+        next => (written == REPLIES || written == PATCH_REFUSED) && next == Some(9),
+    }
 }
 
 #[test]
 fn a_refused_growth_is_answered_or_ends_the_connection(rt: HostRuntime) -> Result<(), Fail> {
     let alloc = rt.alloc();
-    assert!(rt; LIMITS.lawful());
-    let first = UploadRef::make(1, [0; 12]);
-    let mut reader = MemorySource::new(REQUESTS, 2_000, false);
-    let mut writer = MemorySink::new(room(alloc)?, 2_000, 2_000);
-    let mut desk = ServiceDesk::new(Service::new(alloc, LIMITS), [0; 12], 0);
-    let end = serve_connection(alloc, &mut reader, &mut writer, &mut desk, LIMITS);
-    let service = desk.into_service();
-    let written = writer.as_slice();
-    if end == ConnEnd::Clean {
-        if written == OPENING_REFUSED {
-            assert_eq!(rt; service.next_of(&first), None);
-        } else {
-            assert!(rt; written == REPLIES || written == PATCH_REFUSED);
-            assert_eq!(rt; service.next_of(&first), Some(9));
-        }
-        return Ok(());
+    let (end, writer, service) = served(&rt, alloc, Service::new(alloc, LIMITS), REQUESTS)?;
+    if end != ConnEnd::Clean {
+        let refused = ConnEnd::Fault(ConnFault::Wire(WireFault::NoMemory));
+        same(&rt, end, refused, &"its end");
+        return go_on(&rt, alloc, service, writer.as_slice());
     }
-    assert_eq!(rt; end, ConnEnd::Fault(ConnFault::Wire(WireFault::NoMemory)));
-    go_on(&rt, alloc, service, written)
+    let is_right = is_answered(writer.as_slice(), next_of(&service));
+    holds(&rt, is_right, &"what was written");
+    Ok(())
 }
