@@ -7,6 +7,7 @@ mod measures;
 mod uploads;
 
 use crate::measures::{measure_closes, measure_drip, measure_refusal, measure_stream};
+use crate::uploads::new_service;
 use std::{env, io};
 
 /// What is measured.
@@ -34,15 +35,20 @@ fn first_word(rt: &HostRuntime) -> io::Result<Option<Word>> {
     Ok(word.and_then(|word| read_word(word.as_str())))
 }
 
+/// Measures what the word names, on a new service.
+fn measure(rt: &HostRuntime, word: Word) -> io::Result<()> {
+    let mut service = new_service(rt.alloc());
+    match word {
+        Word::Stream => measure_stream(rt, &mut service),
+        Word::Refuse => measure_refusal(rt, &mut service),
+        Word::Commit => measure_closes(rt, &mut service),
+        Word::Drip => measure_drip(rt, &mut service),
+    }
+}
+
 fn main(rt: HostRuntime) -> io::Result<()> {
     match first_word(&rt)? {
-        Some(Word::Stream) => measure_stream(&rt),
-        Some(Word::Refuse) => measure_refusal(&rt),
-        Some(Word::Commit) => measure_closes(&rt),
-        Some(Word::Drip) => measure_drip(&rt),
-        None => {
-            println!(rt; "words: stream, refuse, commit, drip")?;
-            Ok(())
-        }
+        Some(word) => measure(&rt, word),
+        None => println!(rt; "words: stream, refuse, commit, drip"),
     }
 }
