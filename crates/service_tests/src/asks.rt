@@ -1,4 +1,4 @@
-//! Requests and answers as lines of a table.
+//! Requests and answers as lines of a table. Tables are statics: a constant's rows are made anew, and proved, wherever it is used.
 
 use std::alloc::{AllocError, Global};
 use upload_names::{BlobDigest, ByteRange, Bytes, NameFault, RepoName, UploadRef};
@@ -77,7 +77,7 @@ pub struct Line {
     pub told: Told,
 }
 
-/// A line under `lib/a` at the moment 0. A constant's value calls no function, and so a line of a table is written by a macro.
+/// A line under `lib/a` at the moment 0. A static's value calls no function, so a macro writes it.
 macro_rules! row {
     ($word:expr, $told:expr $(,)?) => {
         $crate::asks::Line {

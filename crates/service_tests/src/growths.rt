@@ -299,14 +299,18 @@ impl Watched {
         }
         Ok(())
     }
+
+    fn serve_all(&mut self, rt: &impl Abort, lines: &[Line]) -> Result<(), Unmade> {
+        let answers = self.serve_list(rt, lines)?;
+        assert!(rt; answers.len() == lines.len());
+        self.check_answers(rt, answers.as_slice(), lines)
+    }
 }
 
-/// What is seen when a list was served, with what was refused of it.
+/// What is seen when a list was served, and what was refused of it.
 fn seen_after(rt: &impl Abort, alloc: Global, lines: &[Line]) -> Result<Seen, Unmade> {
     let mut watched = Watched::new(alloc)?;
-    let answers = watched.serve_list(rt, lines)?;
-    assert!(rt; answers.len() == lines.len());
-    watched.check_answers(rt, answers.as_slice(), lines)?;
+    watched.serve_all(rt, lines)?;
     Ok(watched.look())
 }
 

@@ -323,6 +323,18 @@ impl Upload {
         assert!(rt; rest.is_empty());
         Ok(())
     }
+
+    fn close_and_pull(
+        &mut self,
+        rt: &impl Abort,
+        content: &[u8],
+        algorithm: Algorithm,
+    ) -> Result<(), Unmade> {
+        let digest = BlobDigest::of(algorithm, content);
+        assert!(rt; self.stores(digest)?);
+        assert!(rt; self.gives(digest, content)?);
+        Ok(())
+    }
 }
 
 /// Uploads 267,648 bytes in chunks at and beside 65,536 bytes, up to where bodies are joined into one segment, with a
@@ -334,12 +346,9 @@ fn upload_in_many_sizes(
     algorithm: Algorithm,
     catches_up: bool,
 ) -> Result<(), Unmade> {
-    let digest = BlobDigest::of(algorithm, content);
     let mut upload = Upload::begin(alloc, algorithm)?;
     upload.send(rt, content, catches_up)?;
-    assert!(rt; upload.stores(digest)?);
-    assert!(rt; upload.gives(digest, content)?);
-    Ok(())
+    upload.close_and_pull(rt, content, algorithm)
 }
 
 static WAYS: [(Algorithm, bool); 4] = [
