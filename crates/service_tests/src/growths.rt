@@ -92,6 +92,14 @@ impl Watched {
             Ok(Some("its answer"))
         }
     }
+
+    fn check_lines(&mut self, rt: &impl Abort, lines: &[Line]) -> Result<(), Unmade> {
+        for (i, line) in lines.iter().enumerate() {
+            let fault = self.fault(*line)?;
+            check(rt, fault.is_none(), i, fault.unwrap_or(""));
+        }
+        Ok(())
+    }
 }
 
 /// How a line's request is answered.
@@ -232,11 +240,7 @@ static LINES: [Line; 47] = [
 #[test]
 fn a_refused_growth_changes_nothing(rt: HostRuntime) -> Result<(), Fail> {
     let mut watched = Watched::new(rt.alloc())?;
-    for (i, line) in LINES.iter().enumerate() {
-        let fault = watched.fault(*line)?;
-        check(&rt, fault.is_none(), i, fault.unwrap_or(""));
-    }
-    Ok(())
+    Ok(watched.check_lines(&rt, &LINES)?)
 }
 
 /// Two requests, of which each is answered the same without the other.
@@ -283,16 +287,19 @@ impl Watched {
         }
     }
 
-    fn check_answers(
+    fn check_seen(&self, rt: &impl Abort, answers: &[Answer], lines: &[Line]) {
+        for (i, (answer, line)) in answers.iter().zip(lines.iter()).enumerate() {
+            let is_so = self.is_as_answered(answer, *line);
+            check(rt, is_so, i, "what is seen after it");
+        }
+    }
+
+    fn check_second_answers(
         &mut self,
         rt: &impl Abort,
         answers: &[Answer],
         lines: &[Line],
     ) -> Result<(), Unmade> {
-        for (i, (answer, line)) in answers.iter().zip(lines.iter()).enumerate() {
-            let is_so = self.is_as_answered(answer, *line);
-            check(rt, is_so, i, "what is seen after it");
-        }
         for (i, (answer, line)) in answers.iter().zip(lines.iter()).enumerate() {
             let is_right = self.is_made_up_for(answer, *line)?;
             check(rt, is_right, i, "its second answer");
@@ -303,7 +310,8 @@ impl Watched {
     fn serve_all(&mut self, rt: &impl Abort, lines: &[Line]) -> Result<(), Unmade> {
         let answers = self.serve_list(rt, lines)?;
         assert!(rt; answers.len() == lines.len());
-        self.check_answers(rt, answers.as_slice(), lines)
+        self.check_seen(rt, answers.as_slice(), lines);
+        self.check_second_answers(rt, answers.as_slice(), lines)
     }
 }
 
