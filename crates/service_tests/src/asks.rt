@@ -1,4 +1,4 @@
-//! Requests and answers as lines of a table.
+//! Requests and answers as lines of a table. Tables are statics: a constant's rows are made anew, and proved, wherever it is used.
 
 use std::alloc::{AllocError, Global};
 use upload_names::{BlobDigest, ByteRange, Bytes, NameFault, RepoName, UploadRef};
@@ -77,30 +77,45 @@ pub struct Line {
     pub told: Told,
 }
 
-/// A line under `lib/a` at the moment 0.
-pub fn row(word: Word, told: Told) -> Line {
-    under(b"lib/a", word, told)
+/// A line under `lib/a` at the moment 0. A static's value calls no function, so a macro writes it.
+macro_rules! row {
+    ($word:expr, $told:expr $(,)?) => {
+        $crate::asks::Line {
+            name: b"lib/a",
+            now: 0,
+            word: $word,
+            told: $told,
+        }
+    };
 }
 
 /// A line at the moment 0.
-pub fn under(name: &'static [u8], word: Word, told: Told) -> Line {
-    Line {
-        name,
-        now: 0,
-        word,
-        told,
-    }
+macro_rules! under {
+    ($name:expr, $word:expr, $told:expr $(,)?) => {
+        $crate::asks::Line {
+            name: $name,
+            now: 0,
+            word: $word,
+            told: $told,
+        }
+    };
 }
 
 /// A line under `lib/a`.
-pub fn then(now: u64, word: Word, told: Told) -> Line {
-    Line {
-        name: b"lib/a",
-        now,
-        word,
-        told,
-    }
+macro_rules! then {
+    ($now:expr, $word:expr, $told:expr $(,)?) => {
+        $crate::asks::Line {
+            name: b"lib/a",
+            now: $now,
+            word: $word,
+            told: $told,
+        }
+    };
 }
+
+pub(crate) use row;
+pub(crate) use then;
+pub(crate) use under;
 
 pub fn reference(at: At) -> UploadRef {
     UploadRef::make(at.0, [0, 0, 0, 0, 0, 0, 0, 0, 0, 0, 0, at.1])
@@ -142,30 +157,49 @@ pub fn ask_of(alloc: Global, line: Line) -> Result<Ask, Unmade> {
         Word::Get(digest) => has(name, digest, false),
         Word::Head(digest) => has(name, digest, true),
         Word::Open => Ok(Ask::Opening { name }),
-        Word::Single(digest, body) => Ok(Ask::Single {
-            name,
-            digest: BlobDigest::read(digest),
-            body: bytes(alloc, body)?,
-        }),
+        Word::Single(digest, body) => single(alloc, name, digest, body),
         Word::Mount(digest, source) => mount(alloc, name, digest, source),
-        Word::Chunk(at, place, body) => Ok(Ask::Chunk {
-            name,
-            at: reference(at),
-            range: extent(place),
-            body: bytes(alloc, body)?,
-        }),
+        Word::Chunk(at, place, body) => chunk(alloc, name, at, place, body),
         Word::Status(at) => Ok(Ask::Status {
             name,
             at: reference(at),
         }),
-        Word::Close(at, place, digest, body) => Ok(Ask::Close {
-            name,
-            at: reference(at),
-            range: extent(place),
-            digest: BlobDigest::read(digest),
-            body: bytes(alloc, body)?,
-        }),
+        Word::Close(at, place, digest, body) => close(alloc, name, at, place, digest, body),
     }
+}
+
+fn single(alloc: Global, name: RepoName, digest: &[u8], body: &[u8]) -> Result<Ask, Unmade> {
+    Ok(Ask::Single {
+        name,
+        digest: BlobDigest::read(digest),
+        body: bytes(alloc, body)?,
+    })
+}
+
+fn chunk(alloc: Global, name: RepoName, at: At, place: Place, body: &[u8]) -> Result<Ask, Unmade> {
+    Ok(Ask::Chunk {
+        name,
+        at: reference(at),
+        range: extent(place),
+        body: bytes(alloc, body)?,
+    })
+}
+
+fn close(
+    alloc: Global,
+    name: RepoName,
+    at: At,
+    place: Place,
+    digest: &[u8],
+    body: &[u8],
+) -> Result<Ask, Unmade> {
+    Ok(Ask::Close {
+        name,
+        at: reference(at),
+        range: extent(place),
+        digest: BlobDigest::read(digest),
+        body: bytes(alloc, body)?,
+    })
 }
 
 fn has(name: RepoName, digest: &[u8], head: bool) -> Result<Ask, Unmade> {

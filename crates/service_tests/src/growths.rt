@@ -3,8 +3,9 @@
 //! them refused in turn.
 
 use crate::asks::{At, Line, Place, Told, Unmade, Word, ask_of, is_told, name, row, under};
-use crate::serving::{ABC, ABC_512, NOTHING, limits};
-use std::alloc::{AllocError, Global};
+use crate::serving::{ABC, ABC_512, Job, NOTHING, check, jobs_of, limits};
+use std::alloc::Global;
+use std::process::Abort;
 use std::test::Fail;
 use upload_names::{BlobDigest, RepoName, UploadRef};
 use upload_service::{Answer, Ask, Form, Refusal, Service};
@@ -33,12 +34,87 @@ struct Seen {
     mounted: bool,
 }
 
-fn look(service: &Service, a: &RepoName, b: &RepoName, digest: &BlobDigest) -> Seen {
-    Seen {
-        first: service.next_of(&UploadRef::make(1, [0; 12])),
-        second: service.next_of(&UploadRef::make(2, [0; 12])),
-        held: service.holds(a, digest),
-        mounted: service.holds(b, digest),
+/// A service of which something is seen.
+#[derive(Drop)]
+struct Watched {
+    alloc: Global,
+    service: Service,
+    a: RepoName,
+    b: RepoName,
+    abc: BlobDigest,
+}
+
+impl Watched {
+    /// Blobs have at most nine bytes, and two uploads may be open.
+    fn new(alloc: Global) -> Result<Watched, Unmade> {
+        let a = name_for(alloc, b"lib/a")?;
+        let b = name_for(alloc, b"lib/b")?;
+        Ok(Watched {
+            alloc,
+            service: Service::new(alloc, limits(9, 2, 3_600)),
+            a,
+            b,
+            abc: BlobDigest::of_sha256(b"abc"),
+        })
+    }
+
+    fn look(&self) -> Seen {
+        Seen {
+            first: self.service.next_of(&UploadRef::make(1, [0; 12])),
+            second: self.service.next_of(&UploadRef::make(2, [0; 12])),
+            held: self.service.holds(&self.a, &self.abc),
+            mounted: self.service.holds(&self.b, &self.abc),
+        }
+    }
+
+    fn serve(&mut self, line: Line) -> Result<Outcome, Unmade> {
+        let ask = ask_for(self.alloc, line)?;
+        let answer = self.service.step(ask, [0; 12], 0);
+        Ok(outcome_of(&answer, line))
+    }
+
+    /// What is wrong with the answer to a line, if anything is. A request whose growth was refused is made once more.
+    fn fault(&mut self, line: Line) -> Result<Option<&'static str>, Unmade> {
+        let before = self.look();
+        let mut outcome = self.serve(line)?;
+        if outcome == Outcome::NoMemory {
+            if !takes_memory(line.told) {
+                return Ok(Some("it takes no memory"));
+            }
+            if self.look() != before {
+                return Ok(Some("it changed something"));
+            }
+            outcome = self.serve(line)?;
+        }
+        if outcome == Outcome::AsTold {
+            Ok(None)
+        } else {
+            Ok(Some("its answer"))
+        }
+    }
+
+    fn check_lines(&mut self, rt: &impl Abort, lines: &[Line]) -> Result<(), Unmade> {
+        for (i, line) in lines.iter().enumerate() {
+            let fault = self.fault(*line)?;
+            check(rt, fault.is_none(), i, fault.unwrap_or(""));
+        }
+        Ok(())
+    }
+}
+
+/// How a line's request is answered.
+#[derive(Clone, Copy, PartialEq, Eq)]
+enum Outcome {
+    AsTold,
+    NoMemory,
+    Otherwise,
+}
+
+fn outcome_of(answer: &Answer, line: Line) -> Outcome {
+    match answer {
+        Answer::NoMemory => Outcome::NoMemory,
+        _ if is_told(answer, line) => Outcome::AsTold,
+        _ => Outcome::Otherwise,
     }
 }
 
@@ -50,191 +126,205 @@ fn takes_memory(told: Told) -> bool {
     )
 }
 
-/// Each ask that takes memory, and each that takes none: Base, Status, a HEAD of a blob and every refusal. Blobs have
-/// at most nine bytes, and two uploads may be open.
-fn lines() -> [Line; 47] {
-    let u1 = At(1, 0);
-    let u2 = At(2, 0);
-    let no_upload = Told::Refused(Refusal::NoUpload);
-    let too_many = Told::Refused(Refusal::TooMany);
-    let refused = |refusal| row(Word::Refused(refusal), Told::Refused(refusal));
-    [
-        row(Word::Open, Told::Begun(1)),
-        row(Word::Chunk(u1, Place::From(0, 0), b"a"), Told::Taken(u1, 1)),
-        row(
-            Word::Chunk(u1, Place::From(0, 0), b"a"),
-            Told::Misplaced(u1, 1),
-        ),
-        row(
-            Word::Chunk(u1, Place::Bad, b"b"),
-            Told::Refused(Refusal::BadRange),
-        ),
-        row(
-            Word::Chunk(u1, Place::From(1, 0), b"b"),
-            Told::Refused(Refusal::WrongLength),
-        ),
-        row(
-            Word::Chunk(u1, Place::Absent, b"bcdefghij"),
-            Told::Refused(Refusal::TooLarge),
-        ),
-        row(
-            Word::Close(u1, Place::From(0, 0), ABC, b"b"),
-            Told::Misplaced(u1, 1),
-        ),
-        row(
-            Word::Close(u1, Place::Bad, ABC, b"bc"),
-            Told::Refused(Refusal::BadRange),
-        ),
-        row(
-            Word::Close(u1, Place::From(1, 1), ABC, b"bc"),
-            Told::Refused(Refusal::WrongLength),
-        ),
-        row(
-            Word::Close(u1, Place::Absent, ABC, b"bcdefghij"),
-            Told::Refused(Refusal::TooLarge),
-        ),
-        row(
-            Word::Close(u1, Place::Absent, b"x", b"bc"),
-            Told::Refused(Refusal::NoDigest),
-        ),
-        row(
-            Word::Close(u1, Place::Absent, ABC_512, b"b"),
-            Told::Refused(Refusal::Mismatch),
-        ),
-        row(Word::Status(u1), Told::Standing(u1, 1)),
-        row(
-            Word::Close(u1, Place::Absent, ABC, b"bc"),
-            Told::Stored(ABC),
-        ),
-        row(Word::Status(u1), no_upload),
-        row(Word::Chunk(u1, Place::Absent, b"a"), no_upload),
-        row(Word::Close(u1, Place::Absent, ABC, b""), no_upload),
-        row(Word::Single(NOTHING, b""), Told::Stored(NOTHING)),
-        row(
-            Word::Single(ABC, b"abcdefghij"),
-            Told::Refused(Refusal::TooLarge),
-        ),
-        row(Word::Single(b"x", b"abc"), Told::Refused(Refusal::NoDigest)),
-        row(Word::Single(ABC, b"abd"), Told::Refused(Refusal::Mismatch)),
-        under(b"lib/b", Word::Mount(ABC, b"lib/a"), Told::Stored(ABC)),
-        under(b"lib/b", Word::Mount(ABC, b"lib/c"), Told::Begun(2)),
-        under(
-            b"lib/b",
-            Word::Chunk(u2, Place::From(0, 0), b"a"),
-            Told::Taken(u2, 1),
-        ),
-        // The first chunk was moved in. Behind it there is room for less than eight bytes.
-        under(
-            b"lib/b",
-            Word::Chunk(u2, Place::From(1, 8), b"bcdefghi"),
-            Told::Taken(u2, 9),
-        ),
-        row(Word::Open, Told::Begun(3)),
-        row(Word::Open, too_many),
-        under(b"lib/d", Word::Mount(ABC, b"lib/c"), too_many),
-        row(Word::Get(ABC), Told::Bytes(b"abc")),
-        row(Word::Get(ABC_512), Told::Refused(Refusal::NoBlob)),
-        row(Word::Head(ABC), Told::Size(3)),
-        row(Word::Head(ABC_512), Told::Refused(Refusal::NoBlob)),
-        row(Word::Base, Told::Base),
-        refused(Refusal::NoForm),
-        refused(Refusal::BadName),
-        refused(Refusal::Method(Form::Base)),
-        refused(Refusal::NoUpload),
-        refused(Refusal::BadRange),
-        refused(Refusal::WrongLength),
-        refused(Refusal::TooLarge),
-        refused(Refusal::NoDigest),
-        refused(Refusal::Mismatch),
-        refused(Refusal::HasBody),
-        refused(Refusal::TooMany),
-        refused(Refusal::NoBlob),
-        refused(Refusal::BadDigest),
-        row(Word::Get(NOTHING), Told::Bytes(b"")),
-    ]
+const U1: At = At(1, 0);
+
+const U2: At = At(2, 0);
+
+const NO_UPLOAD: Told = Told::Refused(Refusal::NoUpload);
+
+const TOO_MANY: Told = Told::Refused(Refusal::TooMany);
+
+/// A line of a request that was refused before.
+macro_rules! refused {
+    ($refusal:expr) => {
+        row!(Word::Refused($refusal), Told::Refused($refusal))
+    };
 }
+
+/// Each ask that takes memory, and each that takes none: Base, Status, a HEAD of a blob and every refusal.
+static LINES: [Line; 47] = [
+    row!(Word::Open, Told::Begun(1)),
+    row!(Word::Chunk(U1, Place::From(0, 0), b"a"), Told::Taken(U1, 1)),
+    row!(
+        Word::Chunk(U1, Place::From(0, 0), b"a"),
+        Told::Misplaced(U1, 1),
+    ),
+    row!(
+        Word::Chunk(U1, Place::Bad, b"b"),
+        Told::Refused(Refusal::BadRange),
+    ),
+    row!(
+        Word::Chunk(U1, Place::From(1, 0), b"b"),
+        Told::Refused(Refusal::WrongLength),
+    ),
+    row!(
+        Word::Chunk(U1, Place::Absent, b"bcdefghij"),
+        Told::Refused(Refusal::TooLarge),
+    ),
+    row!(
+        Word::Close(U1, Place::From(0, 0), ABC, b"b"),
+        Told::Misplaced(U1, 1),
+    ),
+    row!(
+        Word::Close(U1, Place::Bad, ABC, b"bc"),
+        Told::Refused(Refusal::BadRange),
+    ),
+    row!(
+        Word::Close(U1, Place::From(1, 1), ABC, b"bc"),
+        Told::Refused(Refusal::WrongLength),
+    ),
+    row!(
+        Word::Close(U1, Place::Absent, ABC, b"bcdefghij"),
+        Told::Refused(Refusal::TooLarge),
+    ),
+    row!(
+        Word::Close(U1, Place::Absent, b"x", b"bc"),
+        Told::Refused(Refusal::NoDigest),
+    ),
+    row!(
+        Word::Close(U1, Place::Absent, ABC_512, b"b"),
+        Told::Refused(Refusal::Mismatch),
+    ),
+    row!(Word::Status(U1), Told::Standing(U1, 1)),
+    row!(
+        Word::Close(U1, Place::Absent, ABC, b"bc"),
+        Told::Stored(ABC),
+    ),
+    row!(Word::Status(U1), NO_UPLOAD),
+    row!(Word::Chunk(U1, Place::Absent, b"a"), NO_UPLOAD),
+    row!(Word::Close(U1, Place::Absent, ABC, b""), NO_UPLOAD),
+    row!(Word::Single(NOTHING, b""), Told::Stored(NOTHING)),
+    row!(
+        Word::Single(ABC, b"abcdefghij"),
+        Told::Refused(Refusal::TooLarge),
+    ),
+    row!(Word::Single(b"x", b"abc"), Told::Refused(Refusal::NoDigest)),
+    row!(Word::Single(ABC, b"abd"), Told::Refused(Refusal::Mismatch)),
+    under!(b"lib/b", Word::Mount(ABC, b"lib/a"), Told::Stored(ABC)),
+    under!(b"lib/b", Word::Mount(ABC, b"lib/c"), Told::Begun(2)),
+    under!(
+        b"lib/b",
+        Word::Chunk(U2, Place::From(0, 0), b"a"),
+        Told::Taken(U2, 1),
+    ),
+    // The first chunk was moved in. Behind it there is room for less than eight bytes.
+    under!(
+        b"lib/b",
+        Word::Chunk(U2, Place::From(1, 8), b"bcdefghi"),
+        Told::Taken(U2, 9),
+    ),
+    row!(Word::Open, Told::Begun(3)),
+    row!(Word::Open, TOO_MANY),
+    under!(b"lib/d", Word::Mount(ABC, b"lib/c"), TOO_MANY),
+    row!(Word::Get(ABC), Told::Bytes(b"abc")),
+    row!(Word::Get(ABC_512), Told::Refused(Refusal::NoBlob)),
+    row!(Word::Head(ABC), Told::Size(3)),
+    row!(Word::Head(ABC_512), Told::Refused(Refusal::NoBlob)),
+    row!(Word::Base, Told::Base),
+    refused!(Refusal::NoForm),
+    refused!(Refusal::BadName),
+    refused!(Refusal::Method(Form::Base)),
+    refused!(Refusal::NoUpload),
+    refused!(Refusal::BadRange),
+    refused!(Refusal::WrongLength),
+    refused!(Refusal::TooLarge),
+    refused!(Refusal::NoDigest),
+    refused!(Refusal::Mismatch),
+    refused!(Refusal::HasBody),
+    refused!(Refusal::TooMany),
+    refused!(Refusal::NoBlob),
+    refused!(Refusal::BadDigest),
+    row!(Word::Get(NOTHING), Told::Bytes(b"")),
+];
 
 #[test]
 fn a_refused_growth_changes_nothing(rt: HostRuntime) -> Result<(), Fail> {
-    let alloc = rt.alloc();
-    let a = name_for(alloc, b"lib/a")?;
-    let b = name_for(alloc, b"lib/b")?;
-    let digest = BlobDigest::of_sha256(b"abc");
-    let mut service = Service::new(alloc, limits(9, 2, 3_600));
-    for (i, line) in lines().iter().enumerate() {
-        let ask = ask_for(alloc, *line)?;
-        let again = ask_for(alloc, *line)?;
-        let before = look(&service, &a, &b, &digest);
-        let mut answer = service.step(ask, [0; 12], 0);
-        if let Answer::NoMemory = answer {
-            assert!(rt; takes_memory(line.told), "line {i}");
-            assert!(rt; look(&service, &a, &b, &digest) == before, "line {i}");
-            answer = service.step(again, [0; 12], 0);
-        }
-        assert!(rt; is_told(&answer, *line), "line {i}");
-    }
-    Ok(())
+    let mut watched = Watched::new(rt.alloc())?;
+    Ok(watched.check_lines(&rt, &LINES)?)
 }
-
-const SINGLE: Line = Line {
-    name: b"lib/a",
-    now: 0,
-    word: Word::Single(ABC, b"abc"),
-    told: Told::Stored(ABC),
-};
-
-const OPENING: Line = Line {
-    name: b"lib/a",
-    now: 0,
-    word: Word::Open,
-    told: Told::Begun(1),
-};
 
 /// Two requests, of which each is answered the same without the other.
-fn jobs(alloc: Global) -> Result<Vec<(Ask, [u8; 12], u64)>, Unmade> {
-    let single = ask_of(alloc, SINGLE)?;
-    let opening = ask_of(alloc, OPENING)?;
-    let mut jobs = Vec::with_capacity(alloc, 2)?;
-    jobs.extend([(single, [0; 12], 0), (opening, [0; 12], 0)])?;
-    Ok(jobs)
+static PAIR: [Line; 2] = [
+    row!(Word::Single(ABC, b"abc"), Told::Stored(ABC)),
+    row!(Word::Open, Told::Begun(1)),
+];
+
+fn jobs_for(alloc: Global, lines: &[Line]) -> Result<Vec<Job>, Unmade> {
+    match jobs_of(alloc, lines) {
+        Ok(jobs) => Ok(jobs),
+        Err(_) => jobs_of(alloc, lines),
+    }
 }
 
-fn jobs_for(alloc: Global) -> Result<Vec<(Ask, [u8; 12], u64)>, Unmade> {
-    match jobs(alloc) {
-        Ok(jobs) => Ok(jobs),
-        Err(_) => jobs(alloc),
+impl Watched {
+    /// The answers to a list. Where its growth is refused nothing may change, and it is served once more.
+    fn serve_list(&mut self, rt: &impl Abort, lines: &[Line]) -> Result<Vec<Answer>, Unmade> {
+        let before = self.look();
+        let once = jobs_for(self.alloc, lines)?;
+        if let Ok(answers) = self.service.run_all(self.alloc, once) {
+            return Ok(answers);
+        }
+        assert!(rt; self.look() == before);
+        let again = jobs_for(self.alloc, lines)?;
+        Ok(self.service.run_all(self.alloc, again)?)
     }
+
+    /// Whether the blob is stored, or the upload open, just where the answer tells it.
+    fn is_as_answered(&self, answer: &Answer, line: Line) -> bool {
+        let seen = self.look();
+        let is_done = match line.told {
+            Told::Stored(_) => seen.held,
+            _ => seen.first.is_some(),
+        };
+        is_done == is_told(answer, line)
+    }
+
+    /// Whether a request whose growth was refused is answered as its line says when it is made once more.
+    fn is_made_up_for(&mut self, answer: &Answer, line: Line) -> Result<bool, Unmade> {
+        match answer {
+            Answer::NoMemory => Ok(self.serve(line)? == Outcome::AsTold),
+            _ => Ok(true),
+        }
+    }
+
+    fn check_seen(&self, rt: &impl Abort, answers: &[Answer], lines: &[Line]) {
+        for (i, (answer, line)) in answers.iter().zip(lines.iter()).enumerate() {
+            let is_so = self.is_as_answered(answer, *line);
+            check(rt, is_so, i, "what is seen after it");
+        }
+    }
+
+    fn check_second_answers(
+        &mut self,
+        rt: &impl Abort,
+        answers: &[Answer],
+        lines: &[Line],
+    ) -> Result<(), Unmade> {
+        for (i, (answer, line)) in answers.iter().zip(lines.iter()).enumerate() {
+            let is_right = self.is_made_up_for(answer, *line)?;
+            check(rt, is_right, i, "its second answer");
+        }
+        Ok(())
+    }
+
+    fn serve_all(&mut self, rt: &impl Abort, lines: &[Line]) -> Result<(), Unmade> {
+        let answers = self.serve_list(rt, lines)?;
+        assert!(rt; answers.len() == lines.len());
+        self.check_seen(rt, answers.as_slice(), lines);
+        self.check_second_answers(rt, answers.as_slice(), lines)
+    }
+}
+
+/// What is seen when a list was served, and what was refused of it.
+fn seen_after(rt: &impl Abort, alloc: Global, lines: &[Line]) -> Result<Seen, Unmade> {
+    let mut watched = Watched::new(alloc)?;
+    watched.serve_all(rt, lines)?;
+    Ok(watched.look())
 }
 
 #[test]
 fn a_refused_growth_in_a_list_is_of_one_request_or_of_all(rt: HostRuntime) -> Result<(), Fail> {
-    let alloc = rt.alloc();
-    let a = name_for(alloc, b"lib/a")?;
-    let digest = BlobDigest::of_sha256(b"abc");
-    let first = UploadRef::make(1, [0; 12]);
-    let mut service = Service::new(alloc, limits(9, 2, 3_600));
-    let once = jobs_for(alloc)?;
-    let again = jobs_for(alloc)?;
-    let answers = match service.run_all(alloc, once) {
-        Ok(answers) => answers,
-        Err(AllocError) => {
-            assert!(rt; !service.holds(&a, &digest) && service.next_of(&first).is_none());
-            service.run_all(alloc, again)?
-        }
-    };
-    assert_eq!(rt; answers.len(), 2);
-    let (stored, begun) = (&answers[0], &answers[1]);
-    assert_eq!(rt; service.holds(&a, &digest), is_told(stored, SINGLE));
-    assert_eq!(rt; service.next_of(&first).is_some(), is_told(begun, OPENING));
-    if let Answer::NoMemory = stored {
-        let answer = service.step(ask_for(alloc, SINGLE)?, [0; 12], 0);
-        assert!(rt; is_told(&answer, SINGLE));
-    }
-    if let Answer::NoMemory = begun {
-        let answer = service.step(ask_for(alloc, OPENING)?, [0; 12], 0);
-        assert!(rt; is_told(&answer, OPENING));
-    }
-    assert!(rt; service.holds(&a, &digest));
-    assert_eq!(rt; service.next_of(&first), Some(0));
+    let seen = seen_after(&rt, rt.alloc(), &PAIR)?;
+    assert!(rt; seen.held && seen.first == Some(0));
     Ok(())
 }

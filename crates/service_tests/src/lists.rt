@@ -1,10 +1,11 @@
 //! Lists of requests that are made by a rule, served beside the model; and runs of one session alone.
 
-use crate::asks::{At, Line, Place, Told, Word, ask_of, name, reference, row, under};
+use crate::asks::{At, Line, Place, Told, Unmade, Word, ask_of, name, reference, row, under};
 use crate::model::{Model, alike};
-use crate::serving::{ABC, ABC_512, NOTHING, limits};
+use crate::serving::{ABC, ABC_512, NOTHING, answers_to, check, limits};
 use std::alloc::{AllocError, Global};
 use std::process::Abort;
+use std::slice::Iter;
 use std::test::Fail;
 use upload_names::{Algorithm, BlobDigest, Bytes};
 use upload_service::{Answer, Ask, Extent, Refusal, Service};
@@ -79,90 +80,140 @@ fn word(dice: &mut Dice, issued: u64) -> Word {
     }
 }
 
+/// For lines whose answers are compared with others: what they are told isn't read.
+const ANY: Told = Told::Base;
+
+/// A list that goes on by a rule, over the service and over the model.
+#[derive(Drop)]
+struct Play {
+    alloc: Global,
+    dice: Dice,
+    service: Service,
+    model: Model,
+    now: u64,
+    issued: u64,
+}
+
+impl Play {
+    fn new(alloc: Global, seed: u64) -> Play {
+        let small = limits(5, 2, 9);
+        Play {
+            alloc,
+            dice: Dice { state: seed },
+            service: Service::new(alloc, small),
+            model: Model::after(alloc, small, 0),
+            now: 0,
+            issued: 0,
+        }
+    }
+
+    fn line(&mut self) -> Line {
+        self.now = self.now.saturating_add(self.dice.roll(3));
+        Line {
+            name: repository(&mut self.dice),
+            now: self.now,
+            word: word(&mut self.dice, self.issued),
+            told: ANY,
+        }
+    }
+
+    /// Whether the service answers the next request as the model does.
+    fn is_alike(&mut self) -> Result<bool, Unmade> {
+        let line = self.line();
+        let ask = ask_of(self.alloc, line)?;
+        let wanted = self.model.step(&ask, [0; 12], line.now)?;
+        let answer = self.service.step(ask, [0; 12], line.now);
+        if let Answer::Begun { .. } = answer {
+            self.issued = self.issued.saturating_add(1);
+        }
+        Ok(alike(&answer, &wanted))
+    }
+}
+
+fn check_turn(rt: &impl Abort, is_alike: bool, turn: u64, seed: u64) {
+    assert!(rt; is_alike, "turn {turn} of {seed}");
+}
+
+/// Plays 200 requests, and gives how many uploads they began.
+fn uploads_begun(rt: &impl Abort, alloc: Global, seed: u64) -> Result<u64, Unmade> {
+    let mut play = Play::new(alloc, seed);
+    for turn in 0..200u64 {
+        check_turn(rt, play.is_alike()?, turn, seed);
+    }
+    Ok(play.issued)
+}
+
 #[test]
 fn lists_are_served_as_by_the_model(rt: HostRuntime) -> Result<(), Fail> {
-    let alloc = rt.alloc();
     for seed in 1..6u64 {
-        let mut dice = Dice { state: seed };
-        let mut service = Service::new(alloc, limits(5, 2, 9));
-        let mut model = Model::after(alloc, limits(5, 2, 9), 0);
-        let mut now = 0u64;
-        let mut issued = 0u64;
-        for turn in 0..200u64 {
-            now = now.saturating_add(dice.roll(3));
-            let name = repository(&mut dice);
-            let line = Line {
-                name,
-                now,
-                word: word(&mut dice, issued),
-                told: Told::Base,
-            };
-            let ask = ask_of(alloc, line)?;
-            let wanted = model.step(&ask, [0; 12], now)?;
-            let answer = service.step(ask, [0; 12], now);
-            assert!(rt; alike(&answer, &wanted), "turn {turn} of {seed}");
-            if let Answer::Begun { .. } = answer {
-                issued = issued.saturating_add(1);
-            }
-        }
-        assert!(rt; issued > 10);
+        let begun = uploads_begun(&rt, rt.alloc(), seed)?;
+        assert!(rt; begun > 10);
     }
     Ok(())
 }
 
-/// The answers to a list over a service whose numbers up to `issued` are used up.
-fn answers(alloc: Global, issued: u32, lines: &[Line]) -> Result<Vec<Answer>, Fail> {
-    let mut service = Service::after(alloc, limits(1_000, 10, 3_600), issued);
-    let mut jobs = Vec::new(alloc);
-    for line in lines {
-        jobs.push((ask_of(alloc, *line)?, [0; 12], line.now))?;
+const ONE: At = At(1, 0);
+
+const TWO: At = At(2, 0);
+
+/// Requests to two sessions, each under a name of its own.
+static BOTH: [Line; 8] = [
+    row!(Word::Open, ANY),
+    under!(b"lib/b", Word::Open, ANY),
+    row!(Word::Chunk(ONE, Place::From(0, 0), b"a"), ANY),
+    under!(b"lib/b", Word::Chunk(TWO, Place::From(0, 1), b"ab"), ANY),
+    row!(Word::Chunk(ONE, Place::From(1, 2), b"bc"), ANY),
+    under!(b"lib/b", Word::Chunk(TWO, Place::From(2, 2), b"c"), ANY),
+    under!(b"lib/b", Word::Close(TWO, Place::Absent, ABC, b""), ANY),
+    row!(Word::Close(ONE, Place::Absent, ABC, b""), ANY),
+];
+
+fn lines_under(alloc: Global, name: &[u8]) -> Result<Vec<Line>, AllocError> {
+    let mut lines = Vec::new(alloc);
+    for line in BOTH.iter() {
+        if line.name == name {
+            lines.push(*line)?;
+        }
     }
-    Ok(service.run_all(alloc, jobs)?)
+    Ok(lines)
+}
+
+/// Whether the next of the answers is like this one.
+fn is_next(answers: &mut Iter<Answer>, wanted: &Answer) -> bool {
+    match answers.next() {
+        Some(answer) => alike(answer, wanted),
+        None => false,
+    }
+}
+
+/// The answers to the lines under a name alone, over a service whose numbers up to `issued` are used up.
+fn answers_under(alloc: Global, name: &[u8], issued: u32) -> Result<Vec<Answer>, Unmade> {
+    let lines = lines_under(alloc, name)?;
+    let usual = limits(1_000, 10, 3_600);
+    answers_to(alloc, usual, issued, lines.as_slice())
+}
+
+/// Ends a test in which the requests under a name aren't answered among the others as they are alone.
+fn check_alone(rt: &impl Abort, together: &[Answer], alone: &[Answer], name: &[u8]) {
+    check(rt, alone.len() == 4, 0, "how many answers");
+    let mut rest = alone.iter();
+    for (i, (line, answer)) in BOTH.iter().zip(together.iter()).enumerate() {
+        let is_same = line.name != name || is_next(&mut rest, answer);
+        check(rt, is_same, i, "the answer alone");
+    }
+    check(rt, rest.next().is_none(), 8, "the answers left");
 }
 
 #[test]
 fn sessions_are_answered_as_if_alone(rt: HostRuntime) -> Result<(), Fail> {
     let alloc = rt.alloc();
-    let one = At(1, 0);
-    let two = At(2, 0);
-    let told = Told::Base;
-    let a = [
-        row(Word::Open, told),
-        row(Word::Chunk(one, Place::From(0, 0), b"a"), told),
-        row(Word::Chunk(one, Place::From(1, 2), b"bc"), told),
-        row(Word::Close(one, Place::Absent, ABC, b""), told),
-    ];
-    let b = [
-        under(b"lib/b", Word::Open, told),
-        under(b"lib/b", Word::Chunk(two, Place::From(0, 1), b"ab"), told),
-        under(b"lib/b", Word::Chunk(two, Place::From(2, 2), b"c"), told),
-        under(b"lib/b", Word::Close(two, Place::Absent, ABC, b""), told),
-    ];
-    let both = answers(alloc, 0, &[a[0], b[0], a[1], b[1], a[2], b[2], b[3], a[3]])?;
-    let first = answers(alloc, 0, &a)?;
-    let second = answers(alloc, 1, &b)?;
-    assert_eq!(rt; both.len(), 8);
-    assert_eq!(rt; first.len(), 4);
-    assert_eq!(rt; second.len(), 4);
-    for (together, alone) in [(0usize, 0usize), (2, 1), (4, 2), (7, 3)] {
-        assert!(rt; together < 8 && alone < 4);
-        assert!(rt; alike(&both[together], &first[alone]));
-    }
-    for (together, alone) in [(1usize, 0usize), (3, 1), (5, 2), (6, 3)] {
-        assert!(rt; together < 8 && alone < 4);
-        assert!(rt; alike(&both[together], &second[alone]));
-    }
+    let first = answers_under(alloc, b"lib/a", 0)?;
+    let second = answers_under(alloc, b"lib/b", 1)?;
+    let both = answers_to(alloc, limits(1_000, 10, 3_600), 0, &BOTH)?;
+    assert!(rt; both.len() == 8);
+    check_alone(&rt, both.as_slice(), first.as_slice(), b"lib/a");
+    check_alone(&rt, both.as_slice(), second.as_slice(), b"lib/b");
     Ok(())
-}
-
-fn close(alloc: Global, digest: BlobDigest) -> Result<Ask, Fail> {
-    Ok(Ask::Close {
-        name: name(alloc, b"lib/a")?,
-        at: reference(At(1, 0)),
-        range: Extent::Absent,
-        digest: Some(digest),
-        body: Bytes::of(Vec::new(alloc)),
-    })
 }
 
 /// So many bytes of a pattern.
@@ -175,6 +226,117 @@ fn pattern(alloc: Global, size: usize) -> Result<Vec<u8>, AllocError> {
     Ok(bytes)
 }
 
+/// A session of a new service, and a digest that none of its contents has.
+#[derive(Drop)]
+struct Upload {
+    alloc: Global,
+    service: Service,
+    wrong: BlobDigest,
+}
+
+impl Upload {
+    fn begin(alloc: Global, algorithm: Algorithm) -> Result<Upload, Unmade> {
+        let opening = Ask::Opening {
+            name: name(alloc, b"lib/a")?,
+        };
+        let mut service = Service::new(alloc, limits(1_000_000, 1, 10));
+        let _begun = service.step(opening, [0; 12], 0);
+        Ok(Upload {
+            alloc,
+            service,
+            wrong: BlobDigest::of(algorithm, b"another content"),
+        })
+    }
+
+    fn takes(&mut self, body: &[u8]) -> Result<bool, Unmade> {
+        let body = Bytes::of(body.to_vec(self.alloc)?);
+        let chunk = Ask::Chunk {
+            name: name(self.alloc, b"lib/a")?,
+            at: reference(ONE),
+            range: Extent::Absent,
+            body,
+        };
+        let answer = self.service.step(chunk, [0; 12], 0);
+        Ok(matches!(&answer, Answer::Taken { .. }))
+    }
+
+    fn catch_up(&mut self) {
+        self.service.catch_up(&reference(ONE));
+        self.service.catch_up(&reference(TWO));
+    }
+
+    fn close(&mut self, digest: BlobDigest) -> Result<Answer, Unmade> {
+        let close = Ask::Close {
+            name: name(self.alloc, b"lib/a")?,
+            at: reference(ONE),
+            range: Extent::Absent,
+            digest: Some(digest),
+            body: Bytes::of(Vec::new(self.alloc)),
+        };
+        Ok(self.service.step(close, [0; 12], 0))
+    }
+
+    fn refuses_another_content(&mut self) -> Result<bool, Unmade> {
+        let answer = self.close(self.wrong)?;
+        Ok(matches!(&answer, Answer::Refused(Refusal::Mismatch)))
+    }
+
+    fn stores(&mut self, digest: BlobDigest) -> Result<bool, Unmade> {
+        let answer = self.close(digest)?;
+        Ok(matches!(&answer, Answer::Stored { .. }))
+    }
+
+    fn gives(&mut self, digest: BlobDigest, content: &[u8]) -> Result<bool, Unmade> {
+        let get = Ask::Has {
+            name: name(self.alloc, b"lib/a")?,
+            digest,
+            head: false,
+        };
+        match self.service.step(get, [0; 12], 0) {
+            Answer::Blob {
+                bytes: Some(bytes),
+                ..
+            } => Ok(bytes.as_slice() == content),
+            _ => Ok(false),
+        }
+    }
+}
+
+static SIZES: [usize; 10] = [1, 65_535, 1, 65_536, 65_537, 1, 1_000, 0, 70_000, 37];
+
+impl Upload {
+    /// Sends a content in chunks of those sizes, with a refused close behind each.
+    fn send(&mut self, rt: &impl Abort, content: &[u8], catches_up: bool) -> Result<(), Unmade> {
+        let mut rest = content;
+        for (i, size) in SIZES.iter().enumerate() {
+            assert!(rt; *size <= rest.len());
+            let (body, later) = rest.split_at(*size);
+            rest = later;
+            let takes = self.takes(body)?;
+            check(rt, takes, i, "the chunk is taken");
+            if catches_up {
+                self.catch_up();
+            }
+            let refuses = self.refuses_another_content()?;
+            check(rt, refuses, i, "the close is refused");
+        }
+        assert!(rt; rest.is_empty());
+        Ok(())
+    }
+
+    fn close_and_pull(
+        &mut self,
+        rt: &impl Abort,
+        content: &[u8],
+        algorithm: Algorithm,
+    ) -> Result<(), Unmade> {
+        let digest = BlobDigest::of(algorithm, content);
+        assert!(rt; self.stores(digest)?);
+        assert!(rt; self.gives(digest, content)?);
+        Ok(())
+    }
+}
+
 /// Uploads 267,648 bytes in chunks at and beside 65,536 bytes, up to where bodies are joined into one segment, with a
 /// refused close behind each, and pulls them back. The session's hash catches up behind each chunk, or only at the closes.
 fn upload_in_many_sizes(
@@ -183,66 +345,25 @@ fn upload_in_many_sizes(
     content: &[u8],
     algorithm: Algorithm,
     catches_up: bool,
-) -> Result<(), Fail> {
-    let mut service = Service::new(alloc, limits(1_000_000, 1, 10));
-    let opening = Ask::Opening {
-        name: name(alloc, b"lib/a")?,
-    };
-    let _begun = service.step(opening, [0; 12], 0);
-    let wrong = BlobDigest::of(algorithm, b"another content");
-    let mut rest = content;
-    for size in [1usize, 65_535, 1, 65_536, 65_537, 1, 1_000, 0, 70_000, 37] {
-        assert!(rt; size <= rest.len());
-        let (body, later) = rest.split_at(size);
-        rest = later;
-        let chunk = Ask::Chunk {
-            name: name(alloc, b"lib/a")?,
-            at: reference(At(1, 0)),
-            range: Extent::Absent,
-            body: Bytes::of(body.to_vec(alloc)?),
-        };
-        let taken = service.step(chunk, [0; 12], 0);
-        assert!(rt; matches!(&taken, Answer::Taken { .. }), "{size}");
-        if catches_up {
-            service.catch_up(&reference(At(1, 0)));
-            service.catch_up(&reference(At(2, 0)));
-        }
-        let refused = service.step(close(alloc, wrong)?, [0; 12], 0);
-        assert!(rt;
-            matches!(&refused, Answer::Refused(Refusal::Mismatch)),
-            "{size}"
-        );
-    }
-    assert!(rt; rest.is_empty());
-    let digest = BlobDigest::of(algorithm, content);
-    let stored = service.step(close(alloc, digest)?, [0; 12], 0);
-    assert!(rt; matches!(&stored, Answer::Stored { .. }));
-    let get = Ask::Has {
-        name: name(alloc, b"lib/a")?,
-        digest,
-        head: false,
-    };
-    match service.step(get, [0; 12], 0) {
-        Answer::Blob { bytes, .. } => {
-            let bytes = bytes.ok_or("no bytes")?;
-            assert!(rt; bytes.as_slice() == content);
-        }
-        _ => return Err(Fail::from("no blob")),
-    }
-    Ok(())
+) -> Result<(), Unmade> {
+    let mut upload = Upload::begin(alloc, algorithm)?;
+    upload.send(rt, content, catches_up)?;
+    upload.close_and_pull(rt, content, algorithm)
 }
+
+static WAYS: [(Algorithm, bool); 4] = [
+    (Algorithm::Sha256, true),
+    (Algorithm::Sha256, false),
+    (Algorithm::Sha512, true),
+    (Algorithm::Sha512, false),
+];
 
 #[test]
 fn segments_of_many_sizes_are_one_blob(rt: HostRuntime) -> Result<(), Fail> {
     let alloc = rt.alloc();
     let content = pattern(alloc, 267_648)?;
-    for (algorithm, catches_up) in [
-        (Algorithm::Sha256, true),
-        (Algorithm::Sha256, false),
-        (Algorithm::Sha512, true),
-        (Algorithm::Sha512, false),
-    ] {
-        upload_in_many_sizes(&rt, alloc, content.as_slice(), algorithm, catches_up)?;
+    for (algorithm, catches_up) in WAYS.iter() {
+        upload_in_many_sizes(&rt, alloc, content.as_slice(), *algorithm, *catches_up)?;
     }
     Ok(())
 }

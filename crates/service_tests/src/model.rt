@@ -25,6 +25,14 @@ struct Pair {
     digest: BlobDigest,
 }
 
+/// Why a session doesn't take a body.
+#[derive(Clone, Copy)]
+enum Fault {
+    /// It stands at another offset.
+    Misplaced(u64),
+    Refused(Refusal),
+}
+
 #[derive(Drop)]
 pub struct Model {
     alloc: Global,
@@ -59,10 +67,11 @@ impl Model {
                 digest,
                 source,
             } => {
-                if !self.holds(source, digest) {
-                    return self.opening(name, secret, now);
+                if self.holds(source, digest) {
+                    self.note(name, *digest)
+                } else {
+                    self.opening(name, secret, now)
                 }
-                self.note(name, *digest)
             }
             Ask::Chunk {
                 name,
@@ -70,14 +79,7 @@ impl Model {
                 range,
                 body,
             } => self.chunk(name, at, *range, body.as_slice(), now),
-            Ask::Status { name, at } => match self.find(name, at, now) {
-                Some(i) => Ok(Answer::Standing {
-                    name: name.copy(self.alloc)?,
-                    at: *at,
-                    next: self.next(i),
-                }),
-                None => Ok(Answer::Refused(Refusal::NoUpload)),
-            },
+            Ask::Status { name, at } => self.status(name, at, now),
             Ask::Close {
                 name,
                 at,
@@ -85,6 +87,17 @@ impl Model {
                 digest,
                 body,
             } => self.close(name, at, *range, *digest, body.as_slice(), now),
+        }
+    }
+
+    fn status(&self, name: &RepoName, at: &UploadRef, now: u64) -> Result<Answer, AllocError> {
+        match self.find(name, at, now) {
+            Some(i) => Ok(Answer::Standing {
+                name: name.copy(self.alloc)?,
+                at: *at,
+                next: self.next(i),
+            }),
+            None => Ok(Answer::Refused(Refusal::NoUpload)),
         }
     }
 
@@ -199,34 +212,34 @@ impl Model {
     }
 
     /// Why a body isn't taken by the session at a place, if it isn't.
-    fn fault(
-        &self,
-        i: usize,
-        name: &RepoName,
-        at: &UploadRef,
-        range: Extent,
-        size: u64,
-    ) -> Result<Option<Answer>, AllocError> {
+    fn fault(&self, i: usize, range: Extent, size: u64) -> Option<Fault> {
         let next = self.next(i);
         if let Extent::Bad = range {
-            return Ok(Some(Answer::Refused(Refusal::BadRange)));
+            return Some(Fault::Refused(Refusal::BadRange));
         }
         if let Extent::Given(given) = range {
             if given.first != next {
-                return Ok(Some(Answer::Misplaced {
-                    name: name.copy(self.alloc)?,
-                    at: *at,
-                    next,
-                }));
+                return Some(Fault::Misplaced(next));
             }
             if given.last < given.first || given.last - given.first != size.wrapping_sub(1) {
-                return Ok(Some(Answer::Refused(Refusal::WrongLength)));
+                return Some(Fault::Refused(Refusal::WrongLength));
             }
         }
         if next.saturating_add(size) > self.limits.max_blob {
-            return Ok(Some(Answer::Refused(Refusal::TooLarge)));
+            return Some(Fault::Refused(Refusal::TooLarge));
         }
-        Ok(None)
+        None
+    }
+
+    fn refuse(&self, fault: Fault, name: &RepoName, at: &UploadRef) -> Result<Answer, AllocError> {
+        match fault {
+            Fault::Refused(refusal) => Ok(Answer::Refused(refusal)),
+            Fault::Misplaced(next) => Ok(Answer::Misplaced {
+                name: name.copy(self.alloc)?,
+                at: *at,
+                next,
+            }),
+        }
     }
 
     fn chunk(
@@ -240,8 +253,8 @@ impl Model {
         let Some(i) = self.find(name, at, now) else {
             return Ok(Answer::Refused(Refusal::NoUpload));
         };
-        if let Some(fault) = self.fault(i, name, at, range, body.len() as u64)? {
-            return Ok(fault);
+        if let Some(fault) = self.fault(i, range, body.len() as u64) {
+            return self.refuse(fault, name, at);
         }
         if let Some(open) = self.open.get_mut(i) {
             open.received.extend_from_slice(body)?;
@@ -266,23 +279,29 @@ impl Model {
         let Some(i) = self.find(name, at, now) else {
             return Ok(Answer::Refused(Refusal::NoUpload));
         };
-        if let Some(fault) = self.fault(i, name, at, range, body.len() as u64)? {
-            return Ok(fault);
+        if let Some(fault) = self.fault(i, range, body.len() as u64) {
+            return self.refuse(fault, name, at);
         }
         let Some(digest) = digest else {
             return Ok(Answer::Refused(Refusal::NoDigest));
         };
-        let mut content = Vec::new(self.alloc);
-        if let Some(open) = self.open.get(i) {
-            content.extend_from_slice(open.received.as_slice())?;
-        }
-        content.extend_from_slice(body)?;
+        let content = self.content(i, body)?;
         if !BlobDigest::of(digest.algorithm(), content.as_slice()).same(&digest) {
             return Ok(Answer::Refused(Refusal::Mismatch));
         }
         self.open.retain(|open| !open.at.same(at));
         self.store(digest, content)?;
         self.note(name, digest)
+    }
+
+    /// What the session at a place received, and a last body.
+    fn content(&self, i: usize, body: &[u8]) -> Result<Vec<u8>, AllocError> {
+        let mut content = Vec::new(self.alloc);
+        if let Some(open) = self.open.get(i) {
+            content.extend_from_slice(open.received.as_slice())?;
+        }
+        content.extend_from_slice(body)?;
+        Ok(content)
     }
 }
 
