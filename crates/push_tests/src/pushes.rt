@@ -156,14 +156,15 @@ fn chunk_of_one(alloc: Global, number: u32, at: u64, byte: u8) -> Result<Ask, Fa
     })
 }
 
-/// The bytes that the repository has under a digest, if it has it.
-fn held(alloc: Global, service: &mut Service, digest: BlobDigest) -> Result<Option<Vec<u8>>, Fail> {
+/// The bytes that the world's repository has under a digest, if it has it.
+fn held(alloc: Global, world: LossyWorld, digest: BlobDigest) -> Result<Option<Vec<u8>>, Fail> {
     let name = name(alloc)?;
     let ask = Ask::Has {
         name,
         digest,
         head: false,
     };
+    let mut service = world.into_service();
     match service.step(ask, [0; 12], 0) {
         Answer::Blob {
             bytes: Some(bytes),
@@ -173,30 +174,47 @@ fn held(alloc: Global, service: &mut Service, digest: BlobDigest) -> Result<Opti
     }
 }
 
-/// Whether the world's repository has a file under its digest.
-fn has_file(alloc: Global, world: LossyWorld, file: &[u8]) -> Result<bool, Fail> {
-    let mut service = world.into_service();
-    let bytes = held(alloc, &mut service, BlobDigest::of_sha256(file))?;
-    Ok(bytes.is_some_and(|bytes| bytes.as_slice() == file))
+/// Whether the world's repository has the file where a push of it ended well. Beside other clients it has bytes of the
+/// file's digest.
+fn is_as_promised(
+    alloc: Global,
+    end: End,
+    world: LossyWorld,
+    file: &[u8],
+    are_own: bool,
+) -> Result<bool, Fail> {
+    if !matches!(end, End::Pushed | End::Already) {
+        return Ok(true);
+    }
+    let digest = BlobDigest::of_sha256(file);
+    match held(alloc, world, digest)? {
+        Some(bytes) => {
+            let has_digest = BlobDigest::of_sha256(&bytes).same(&digest);
+            Ok(has_digest && (!are_own || bytes.as_slice() == file))
+        }
+        None => Ok(false),
+    }
 }
 
-/// Pushes a file, in chunks of two bytes, and answers how that ended and over what.
+/// Pushes a file, and answers how that ended and over what.
 fn pushed(
     alloc: Global,
-    name: &RepoName,
     events: Vec<Event>,
     file: &[u8],
+    chunk: u64,
     tries: u32,
-) -> (Result<Outcome, PushFault>, Recorder)
+) -> Result<(End, Recorder), Fail>
     requires file { length file.now ≤ 100 }
+    requires chunk { (1 ≤ chunk) × (chunk ≤ 100) }
     requires tries { tries ≤ 10 }
 {
+    let name = name(alloc)?;
     let mut over = new_recorder(alloc, events);
-    let result = push(alloc, &mut over, file, name, 2, tries);
-    (result, over)
+    let end = end_of(&push(alloc, &mut over, file, &name, chunk, tries));
+    Ok((end, over))
 }
 
-/// A push over the events of a script, what it asks, and how it ends.
+/// A push over the events of a script in chunks of two bytes, what it asks, and how it ends.
 struct Scripted {
     script: &'static str,
     file: &'static [u8],
@@ -210,16 +228,11 @@ fn goes_by_script(alloc: Global, row: &Scripted) -> Result<bool, Fail> {
     if row.file.len() > 100 || row.tries > 10 {
         return Ok(false);
     }
-    let name = name(alloc)?;
     let events = events(alloc, row.script.as_bytes())?;
-    let (result, over) = pushed(alloc, &name, events, row.file, row.tries);
-    if end_of(&result) != row.end || over.asked.as_slice() != row.asked {
-        return Ok(false);
-    }
-    match row.end {
-        End::Pushed | End::Already => has_file(alloc, over.world, row.file),
-        _ => Ok(true),
-    }
+    let (end, over) = pushed(alloc, events, row.file, 2, row.tries)?;
+    let is_told = end == row.end && over.asked.as_slice() == row.asked;
+    let is_promised = is_as_promised(alloc, end, over.world, row.file, true)?;
+    Ok(is_told && is_promised)
 }
 
 fn check_scripts(rt: &impl Abort, alloc: Global, rows: &[Scripted]) -> Result<(), Fail> {
@@ -357,15 +370,13 @@ struct BesideAnother {
 /// An opening that is served, and another client's byte in its session.
 fn events_with_byte(alloc: Global, byte: u8) -> Result<Vec<Event>, Fail> {
     let chunk = chunk_of_one(alloc, 1, 0, byte)?;
-    let mut events = events(alloc, b"d")?;
-    events.push(Event::Other(chunk))?;
-    Ok(events)
+    Ok(Vec::from_array(alloc, [Event::Delivered, Event::Other(chunk)])?)
 }
 
 fn goes_beside_another(alloc: Global, row: &BesideAnother) -> Result<bool, Fail> {
     let name = name(alloc)?;
-    let events = events_with_byte(alloc, row.byte)?;
-    let (result, over) = pushed(alloc, &name, events, b"abcde", 5);
+    let mut over = new_recorder(alloc, events_with_byte(alloc, row.byte)?);
+    let result = push(alloc, &mut over, b"abcde", &name, 2, 5);
     Ok(
         end_of(&result) == row.end
             && code_of(&result) == row.code
@@ -406,43 +417,52 @@ fn other_clients(rt: HostRuntime) -> Result<(), Fail> {
     Ok(())
 }
 
-/// How a push ends whose first opening is answered unheard, and its service.
-fn pushed_over_lost_opening(alloc: Global) -> Result<(End, Service), Fail> {
-    let name = name(alloc)?;
+/// How a push ends whose first opening is answered unheard, and how far the first two sessions are then.
+fn after_lost_opening(alloc: Global) -> Result<(End, Option<u64>, Option<u64>), Fail> {
     let events = events(alloc, b"l")?;
-    let (result, over) = pushed(alloc, &name, events, b"abcde", 5);
-    Ok((end_of(&result), over.world.into_service()))
+    let (end, over) = pushed(alloc, events, b"abcde", 2, 5)?;
+    let service = over.world.into_service();
+    Ok((
+        end,
+        service.next_of(&session(1)),
+        service.next_of(&session(2)),
+    ))
 }
 
 #[test]
 fn a_lost_opening_leaves_its_session(rt: HostRuntime) -> Result<(), Fail> {
-    let (end, service) = pushed_over_lost_opening(rt.alloc())?;
+    let (end, first, second) = after_lost_opening(rt.alloc())?;
     check(&rt, end == End::Pushed, "pushed");
-    check(&rt, service.next_of(&session(1)) == Some(0), "left");
-    check(&rt, service.next_of(&session(2)).is_none(), "closed");
+    check(&rt, first == Some(0), "the first session is left");
+    check(&rt, second.is_none(), "the second session is closed");
     Ok(())
-}
-
-/// How a push of `abc` under its sha512 ends, and its service.
-fn pushed_under_sha512(alloc: Global, name: &RepoName) -> (End, Service) {
-    let mut over = new_recorder(alloc, Vec::new(alloc));
-    let result = push_with(alloc, &mut over, b"abc", name, 2, 5, Algorithm::Sha512);
-    (end_of(&result), over.world.into_service())
 }
 
 /// The digest of `abc`.
 const SHA512: &[u8] =
     b"sha512:ddaf35a193617abacc417349ae20413112e6fa4e89a97ea20a9eeee64b55d39a2192992a274fc1a836ba3c23a3feebbd454d4423643ce80e2a9ac94fa54ca49f";
 
+/// How a push of `abc` under its sha512 ends, and whether it is there under its sha512 and under its sha256.
+fn after_push_under_sha512(alloc: Global) -> Result<(End, bool, bool), Fail> {
+    let name = name(alloc)?;
+    let mut over = new_recorder(alloc, Vec::new(alloc));
+    let result = push_with(alloc, &mut over, b"abc", &name, 2, 5, Algorithm::Sha512);
+    let end = end_of(&result);
+    let service = over.world.into_service();
+    let is_under_sha512 = match BlobDigest::read(SHA512) {
+        Some(digest) => service.holds(&name, &digest),
+        None => false,
+    };
+    let is_under_sha256 = service.holds(&name, &BlobDigest::of_sha256(b"abc"));
+    Ok((end, is_under_sha512, is_under_sha256))
+}
+
 #[test]
 fn pushes_under_sha512(rt: HostRuntime) -> Result<(), Fail> {
-    let name = name(rt.alloc())?;
-    let (end, service) = pushed_under_sha512(rt.alloc(), &name);
+    let (end, is_under_sha512, is_under_sha256) = after_push_under_sha512(rt.alloc())?;
     check(&rt, end == End::Pushed, "pushed");
-    let is_there = BlobDigest::read(SHA512).is_some_and(|digest| service.holds(&name, &digest));
-    check(&rt, is_there, "under its sha512");
-    let is_under_sha256 = service.holds(&name, &BlobDigest::of_sha256(b"abc"));
-    check(&rt, !is_under_sha256, "under its sha512 alone");
+    check(&rt, is_under_sha512, "under its sha512");
+    check(&rt, !is_under_sha256, "not under its sha256");
     Ok(())
 }
 

@@ -56,45 +56,50 @@ fn events_for(alloc: Global, script: &[u8]) -> Result<Vec<Event>, AllocError> {
     }
 }
 
-/// Pushes, and answers how that ended, how many bytes of its open upload were heard of, and the service.
-fn followed(alloc: Global, name: &RepoName, events: Vec<Event>) -> (End, Option<u64>, Service) {
+const FILE: &[u8] = b"abcde";
+
+fn has_file(service: &Service, name: &RepoName) -> bool {
+    service.holds(name, &BlobDigest::of_sha256(FILE))
+}
+
+/// Pushes, and answers how that ended, whether as much of its upload is open as was heard of, and the service.
+fn followed(alloc: Global, name: &RepoName, events: Vec<Event>) -> (End, bool, Service) {
     let mut over = Follower {
         world: new_world(alloc, events),
         open: None,
     };
-    let end = end_of(&push(alloc, &mut over, b"abcde", name, 2, 5));
-    (end, over.open, over.world.into_service())
+    let end = end_of(&push(alloc, &mut over, FILE, name, 2, 5));
+    let open = over.open;
+    let service = over.world.into_service();
+    let is_as_heard = service.next_of(&session(1)) == open;
+    (end, is_as_heard, service)
 }
 
-/// Whether a push over this service ends well, and leaves its blob there.
-fn ends_well(alloc: Global, name: &RepoName, service: Service) -> bool {
+/// Whether with memory the same push over the same service ends well, where it wanted memory.
+fn ends_well_again(alloc: Global, end: End, name: &RepoName, service: Service) -> bool {
+    if end != End::NoMemory {
+        return true;
+    }
     let mut world = LossyWorld::new(alloc, service, [0; 12], 0, Vec::new(alloc));
-    let end = end_of(&push(alloc, &mut world, b"abcde", name, 2, 5));
-    end == End::Pushed
-        && world
-            .into_service()
-            .holds(name, &BlobDigest::of_sha256(b"abcde"))
+    let again = end_of(&push(alloc, &mut world, FILE, name, 2, 5));
+    let is_held = has_file(&world.into_service(), name);
+    again == End::Pushed && is_held
 }
 
 /// Pushes over a script of events. What was asked is known from the replies where none was lost.
 fn push_over(rt: &impl Abort, alloc: Global, script: &str) -> Result<(), Fail> {
     let name = name_for(alloc)?;
     let events = events_for(alloc, script.as_bytes())?;
-    let (end, open, service) = followed(alloc, &name, events);
-    let is_held = service.holds(&name, &BlobDigest::of_sha256(b"abcde"));
-    let upto = service.next_of(&session(1));
-    let is_as_asked = match end {
+    let (end, is_as_heard, service) = followed(alloc, &name, events);
+    let is_held = has_file(&service, &name);
+    let is_left = match end {
         End::Pushed | End::Already => is_held,
-        End::NoMemory => !script.is_empty() || (!is_held && upto == open),
+        End::NoMemory => !script.is_empty() || (!is_held && is_as_heard),
         _ => false,
     };
-    check(rt, is_as_asked, script);
-    // with memory the same push over the same service ends well
-    check(
-        rt,
-        end != End::NoMemory || ends_well(alloc, &name, service),
-        script,
-    );
+    let is_well_again = ends_well_again(alloc, end, &name, service);
+    check(rt, is_left, script);
+    check(rt, is_well_again, script);
     Ok(())
 }
 

@@ -30,22 +30,19 @@ fn replies_to(alloc: Global, requests: &[u8]) -> (Vec<u8>, ConnEnd) {
     (writer.into_inner(), end)
 }
 
-/// How a push of `abc` ends that hears these replies, and what it writes.
-fn pushed_over_wire(alloc: Global, replies: &[u8]) -> Result<(End, Vec<u8>), Fail> {
+/// How a push of `abc` ends that hears these replies. What it writes is sent.
+fn pushed_over_wire(alloc: Global, replies: &[u8], sent: &mut Vec<u8>) -> Result<End, Fail> {
     let name = name(alloc)?;
-    let mut sent = Vec::new(alloc);
-    let end = {
-        let reader = FromRead::new(replies);
-        let mut transport = WireTransport::new(alloc, reader, ToWrite::new(&mut sent), b"h")?;
-        end_of(&push(alloc, &mut transport, b"abc", &name, 2, 5))
-    };
-    Ok((end, sent))
+    let reader = FromRead::new(replies);
+    let mut transport = WireTransport::new(alloc, reader, ToWrite::new(sent), b"h")?;
+    Ok(end_of(&push(alloc, &mut transport, b"abc", &name, 2, 5)))
 }
 
 #[test]
 fn a_push_over_a_wire_is_served(rt: HostRuntime) -> Result<(), Fail> {
     let alloc = rt.alloc();
-    let (end, sent) = pushed_over_wire(alloc, REPLIES.as_bytes())?;
+    let mut sent = Vec::new(alloc);
+    let end = pushed_over_wire(alloc, REPLIES.as_bytes(), &mut sent)?;
     check(&rt, end == End::Pushed, "pushed");
     check(&rt, sent.as_slice() == REQUESTS.as_bytes(), "requests");
     let (replies, conn_end) = replies_to(alloc, &sent);
@@ -56,7 +53,8 @@ fn a_push_over_a_wire_is_served(rt: HostRuntime) -> Result<(), Fail> {
 
 /// Whether a push that hears these replies is given up, behind a part of the requests.
 fn is_given_up(alloc: Global, replies: &[u8]) -> Result<bool, Fail> {
-    let (end, sent) = pushed_over_wire(alloc, replies)?;
+    let mut sent = Vec::new(alloc);
+    let end = pushed_over_wire(alloc, replies, &mut sent)?;
     let has_ended = matches!(end, End::Pushed | End::Already);
     Ok(!has_ended && REQUESTS.as_bytes().starts_with(&sent))
 }

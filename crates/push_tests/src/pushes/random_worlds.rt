@@ -1,12 +1,12 @@
 //! Pushes over lists of events that a seeded generator makes.
 ghost use Rattle.std.specs.Prelude.{◌<◌};
 
-use super::{End, check, chunk_of_one, end_of, held, name, new_recorder, session};
+use super::{End, check, chunk_of_one, is_as_promised, name, pushed, session};
 use std::alloc::Global;
 use std::process::Abort;
 use std::test::Fail;
 use upload_names::{BlobDigest, Bytes};
-use upload_push::{Event, LossyWorld, push};
+use upload_push::Event;
 use upload_service::{Ask, Extent};
 
 /// Numbers that look drawn, the same at each run.
@@ -69,38 +69,16 @@ fn any_events(alloc: Global, numbers: &mut Numbers) -> Result<Vec<Event>, Fail> 
     Ok(events)
 }
 
-/// Whether the repository has the file where a push says so. Beside other clients it has bytes of the file's digest.
-fn is_as_promised(
-    alloc: Global,
-    end: End,
-    world: LossyWorld,
-    file: &[u8],
-    are_own: bool,
-) -> Result<bool, Fail> {
-    if !matches!(end, End::Pushed | End::Already) {
-        return Ok(true);
-    }
-    let digest = BlobDigest::of_sha256(file);
-    let mut service = world.into_service();
-    let Some(bytes) = held(alloc, &mut service, digest)? else {
-        return Ok(false);
-    };
-    let has_digest = BlobDigest::of_sha256(bytes.as_slice()).same(&digest);
-    Ok(has_digest && (!are_own || bytes.as_slice() == file))
-}
-
 /// Pushes over a list of events. Answers how that ended, and whether what is left is as promised and the requests are no
 /// more than their bound.
 fn push_over_any_events(alloc: Global, numbers: &mut Numbers) -> Result<(End, bool), Fail> {
-    let name = name(alloc)?;
     let events = any_events(alloc, numbers)?;
     let are_own = !events.iter().any(|event| matches!(event, Event::Other(_)));
     let size = numbers.below(9) as usize;
     let file = &b"abcdefgh"[..size];
     let chunk = 1 + numbers.below(4);
     let tries = numbers.below(6) as u32;
-    let mut over = new_recorder(alloc, events);
-    let end = end_of(&push(alloc, &mut over, file, &name, chunk, tries));
+    let (end, over) = pushed(alloc, events, file, chunk, tries)?;
     let most = (tries as usize + 1) * (size.div_ceil(chunk as usize) + 2);
     let is_bounded = over.asked.len() <= most;
     let is_promised = is_as_promised(alloc, end, over.world, file, are_own)?;
@@ -125,7 +103,7 @@ fn pushes_over_200_lists_of_events(rt: HostRuntime) -> Result<(), Fail> {
         };
         ends[place] = ends[place].saturating_add(1);
     }
-    let is_each_twice = ends.iter().all(|count| *count > 1);
+    let is_each_twice = ends[0] > 1 && ends[1] > 1 && ends[2] > 1;
     check(
         &rt,
         is_each_twice,
