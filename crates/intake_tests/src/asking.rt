@@ -1,5 +1,5 @@
 //! Two seats asked from two threads. Each test ends by itself, and prints the same whatever the schedule.
-ghost use Rattle.std.specs.Prelude.{IfOk, ◌≤◌, ◌^◌};
+ghost use Rattle.std.specs.Prelude.{IfOk, ◌<◌, ◌≤◌, ◌^◌};
 ghost use Rattle.upload_intake.specs.Seats.{IsSameSeat};
 ghost use Rattle.upload_intake.specs.Served.{AreOfOneCall};
 
@@ -7,6 +7,7 @@ mod growths;
 
 use crate::checks::check;
 use std::alloc::{AllocError, Global};
+use std::process::Abort;
 use std::snapshot::Snapshot;
 use std::sync::Wait;
 use std::test::*;
@@ -142,9 +143,9 @@ enum Word {
     Status,
 }
 
-fn ask_of(alloc: Global, word: Word) -> Result<Ask, Fail> {
-    let name = RepoName::read(alloc, b"lib/a")?;
-    Ok(match word {
+fn ask_of(alloc: Global, word: Word) -> Option<Ask> {
+    let name = RepoName::read(alloc, b"lib/a").ok()?;
+    Some(match word {
         Word::Base => Ask::Base,
         Word::Opening => Ask::Opening { name },
         Word::Status => Ask::Status {
@@ -157,18 +158,16 @@ fn ask_of(alloc: Global, word: Word) -> Result<Ask, Fail> {
 /// Asks what it was given, and keeps what it heard.
 #[derive(Drop)]
 struct Listed {
-    asks: vec::IntoIter<Ask>,
+    alloc: Global,
+    words: vec::IntoIter<Word>,
     heard: Vec<Seen>,
 }
 
 impl Listed {
-    fn new(alloc: Global, words: &[Word]) -> Result<Listed, Fail> {
-        let mut asks = Vec::new(alloc);
-        for word in words {
-            asks.push(ask_of(alloc, *word)?)?;
-        }
+    fn new(alloc: Global, words: &[Word]) -> Result<Listed, AllocError> {
         Ok(Listed {
-            asks: asks.into_iter(),
+            alloc,
+            words: words.to_vec(alloc)?.into_iter(),
             heard: Vec::new(alloc),
         })
     }
@@ -176,7 +175,7 @@ impl Listed {
 
 impl Script for Listed {
     fn next_ask(&mut self) -> Option<Ask> {
-        self.asks.next()
+        ask_of(self.alloc, self.words.next()?)
     }
 
     fn heard(&mut self, answer: Answer) {
@@ -374,39 +373,51 @@ fn is_held(alloc: Global, service: &Service, name: &str, content: &[u8]) -> Resu
     Ok(service.holds(&name, &BlobDigest::of_sha256(content)))
 }
 
+fn check_held<R>(rt: &R, service: &Service, content: &[u8]) -> Result<(), Fail>
+where
+    R: Abort + AllocGlobal,
+{
+    for name in NAMES.iter() {
+        check(rt, is_held(rt.alloc(), service, name, content)?, name);
+    }
+    Ok(())
+}
+
 #[test]
 fn two_sessions_from_two_seats(rt: HostRuntime) -> Result<(), Fail> {
     let scripts = sessions(rt.alloc(), b"abc", (1, 2), (2, 1))?;
     let (left, right, end) = ran(&rt, scripts)?;
     check(&rt, left == (2, true), "left");
     check(&rt, right == (2, true), "right");
-    for name in NAMES.iter() {
-        check(&rt, is_held(rt.alloc(), &end.service, name, b"abc")?, name);
-    }
     check(&rt, end.log_length == 8, "taken");
-    Ok(())
+    check_held(&rt, &end.service, b"abc")
 }
 
-/// Whether an ask fails where the keeper never runs, and whether it comes back from the next.
-fn asks_without_keeper<R>(rt: &R) -> Result<(bool, bool), Fail>
-where
-    R: Wait + AllocGlobal,
+/// Two seats whose keeper never runs, over lines on which so many jobs may wait.
+fn seats_without_keeper(alloc: Global, capacity: usize) -> Result<(Seat, Seat), AllocError>
+    requires { 0 < capacity }
 {
-    let (keeper, mut seat, _other) = lines(rt.alloc(), service(rt.alloc()), 1)?;
+    let (keeper, left, right) = lines(alloc, service(alloc), capacity)?;
     drop(keeper);
-    let is_first_lost = seat.ask(rt, Ask::Base, [0; 12]).is_err();
-    let second = seat.ask(rt, Ask::Base, [0; 12]);
-    Ok((
-        is_first_lost,
-        matches!(&second, Err(Gone::NotSent(Ask::Base))),
-    ))
+    Ok((left, right))
+}
+
+fn is_base_lost<R: Wait>(rt: &R, seat: &mut Seat) -> bool {
+    seat.ask(rt, Ask::Base, [0; 12]).is_err()
+}
+
+fn is_base_not_sent<R: Wait>(rt: &R, seat: &mut Seat) -> bool {
+    matches!(
+        &seat.ask(rt, Ask::Base, [0; 12]),
+        Err(Gone::NotSent(Ask::Base))
+    )
 }
 
 #[test]
 fn a_keeper_that_never_runs(rt: HostRuntime) -> Result<(), Fail> {
-    let (is_first_lost, is_second_back) = asks_without_keeper(&rt)?;
-    check(&rt, is_first_lost, "the first ask");
-    check(&rt, is_second_back, "the second ask");
+    let (mut seat, _other) = seats_without_keeper(rt.alloc(), 1)?;
+    check(&rt, is_base_lost(&rt, &mut seat), "the first ask");
+    check(&rt, is_base_not_sent(&rt, &mut seat), "the second ask");
     Ok(())
 }
 
@@ -469,27 +480,29 @@ fn is_answered(
     }
 }
 
-#[test]
-fn ten_thousand_asks_from_each_seat(rt: HostRuntime) -> Result<(), Fail> {
-    let content = content_of(rt.alloc(), 9_998)?;
-    let scripts = sessions(rt.alloc(), &content, (1, 1), (1, 1))?;
-    let (left, right, end) = ran(&rt, scripts)?;
-    check(&rt, left == (9_998, true), "left");
-    check(&rt, right == (9_998, true), "right");
-    check(&rt, end.log_length == 20_000, "taken");
-    let mut service = end.service;
+fn check_answered<R>(rt: &R, service: &mut Service, content: &[u8]) -> Result<(), Fail>
+where
+    R: Abort + AllocGlobal,
+{
     for name in NAMES.iter() {
-        check(
-            &rt,
-            is_answered(rt.alloc(), &mut service, name, &content)?,
-            name,
-        );
+        check(rt, is_answered(rt.alloc(), service, name, content)?, name);
     }
     Ok(())
 }
 
 #[test]
+fn ten_thousand_asks_from_each_seat(rt: HostRuntime) -> Result<(), Fail> {
+    let content = content_of(rt.alloc(), 9_998)?;
+    let scripts = sessions(rt.alloc(), &content, (1, 1), (1, 1))?;
+    let (left, right, mut end) = ran(&rt, scripts)?;
+    check(&rt, left == (9_998, true), "left");
+    check(&rt, right == (9_998, true), "right");
+    check(&rt, end.log_length == 20_000, "taken");
+    check_answered(&rt, &mut end.service, &content)
+}
+
+#[test]
 fn lines_too_long_for_memory(rt: HostRuntime) {
-    let is_refused = lines(rt.alloc(), service(rt.alloc()), usize::MAX).is_err();
+    let is_refused = seats_without_keeper(rt.alloc(), usize::MAX).is_err();
     check(&rt, is_refused, "refused");
 }

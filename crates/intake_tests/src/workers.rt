@@ -5,6 +5,7 @@ mod growths;
 
 use crate::checks::check;
 use std::alloc::{AllocError, Global};
+use std::process::Abort;
 use std::sync::Wait;
 use std::sync::atomic::{AtomicU64, Ordering};
 use std::test::*;
@@ -256,6 +257,13 @@ fn has_blob(alloc: Global, service: &Service, name: &str) -> Result<bool, Fail> 
     Ok(service.holds(&name, &BlobDigest::of_sha256(b"abc")))
 }
 
+fn check_blobs<R: Abort + AllocGlobal>(rt: &R, service: &Service) -> Result<(), Fail> {
+    for name in ["lib/a", "lib/b"].iter() {
+        check(rt, has_blob(rt.alloc(), service, name)?, name);
+    }
+    Ok(())
+}
+
 /// The right worker waits for the left one's first answer, so that its session is the second.
 #[test]
 fn serving_nothing_is_seen(rt: HostRuntime) -> Result<(), Fail> {
@@ -267,10 +275,7 @@ fn serving_nothing_is_seen(rt: HostRuntime) -> Result<(), Fail> {
     check(&rt, !flags.is_late(), "in time");
     check(&rt, (pair.left.conns, pair.left.clean) == (1, 1), "left");
     check(&rt, (pair.right.conns, pair.right.clean) == (2, 1), "right");
-    for name in ["lib/a", "lib/b"].iter() {
-        check(&rt, has_blob(rt.alloc(), &pair.service, name)?, name);
-    }
-    Ok(())
+    check_blobs(&rt, &pair.service)
 }
 
 /// Each worker waits for the other's first request, and the left one for the right one's answer too.

@@ -59,34 +59,32 @@ fn name_for(alloc: Global, text: &[u8]) -> Result<RepoName, NameFault> {
     }
 }
 
-/// Each connection is served, and where it ends well its blob is held: one of its two requests had the memory.
-fn look(rt: &impl Abort, alloc: Global, pair: &Pair) -> Result<(), Fail> {
+/// Each connection is served, and where it ends well its blob is held: one of its two requests had the memory. At least so
+/// many of the two end well.
+fn look(rt: &impl Abort, alloc: Global, pair: &Pair, least_clean: u64) -> Result<(), Fail> {
     let left = name_for(alloc, b"lib/a")?;
     let right = name_for(alloc, b"lib/b")?;
     let digest = BlobDigest::of_sha256(b"abc");
     let has_left = pair.service.holds(&left, &digest);
     let has_right = pair.service.holds(&right, &digest);
+    let clean = pair.left.clean.saturating_add(pair.right.clean);
     check(rt, (pair.left.conns, pair.right.conns) == (1, 1), "served");
     check(rt, pair.left.clean == 0 || has_left, "the left blob");
     check(rt, pair.right.clean == 0 || has_right, "the right blob");
+    check(rt, clean >= least_clean, "ended well");
     Ok(())
 }
 
 #[test]
 fn a_refused_growth_is_of_one_worker_or_of_the_pair(rt: HostRuntime) -> Result<(), Fail> {
-    let first = served(&rt, rt.alloc(), workers(rt.alloc())?);
-    match first {
-        Ok(pair) => {
-            look(&rt, rt.alloc(), &pair)?;
-            let is_one_whole = pair.left.clean == 1 || pair.right.clean == 1;
-            check(&rt, is_one_whole, "at most one connection was cut short");
-        }
+    let alloc = rt.alloc();
+    match served(&rt, alloc, workers(alloc)?) {
+        // at most one connection was cut short
+        Ok(pair) => look(&rt, alloc, &pair, 1),
+        // the growth that was refused is behind
         Err(ServeFault::NoMemory | ServeFault::NoThread) => {
-            let pair = served(&rt, rt.alloc(), workers(rt.alloc())?)?;
-            look(&rt, rt.alloc(), &pair)?;
-            let are_whole = (pair.left.clean, pair.right.clean) == (1, 1);
-            check(&rt, are_whole, "with memory no connection is cut short");
+            let pair = served(&rt, alloc, workers(alloc)?)?;
+            look(&rt, alloc, &pair, 2)
         }
     }
-    Ok(())
 }
