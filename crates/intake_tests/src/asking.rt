@@ -1,11 +1,13 @@
 //! Two seats asked from two threads. Each test ends by itself, and prints the same whatever the schedule.
-ghost use Rattle.std.specs.Prelude.{IfOk, ◌≤◌, ◌^◌};
+ghost use Rattle.std.specs.Prelude.{IfOk, ◌<◌, ◌≤◌, ◌^◌};
 ghost use Rattle.upload_intake.specs.Seats.{IsSameSeat};
 ghost use Rattle.upload_intake.specs.Served.{AreOfOneCall};
 
 mod growths;
 
+use crate::checks::check;
 use std::alloc::{AllocError, Global};
+use std::process::Abort;
 use std::snapshot::Snapshot;
 use std::sync::Wait;
 use std::test::*;
@@ -108,7 +110,7 @@ where
 }
 
 /// What a test looks at in an answer.
-#[derive(Clone, Copy, Debug, PartialEq, Eq)]
+#[derive(Clone, Copy, PartialEq, Eq)]
 enum Seen {
     Base,
     Begun,
@@ -133,25 +135,47 @@ impl Seen {
     }
 }
 
+/// What a test asks. The upload is the first one.
+#[derive(Clone, Copy)]
+enum Word {
+    Base,
+    Opening,
+    Status,
+}
+
+fn ask_of(alloc: Global, word: Word) -> Option<Ask> {
+    let name = RepoName::read(alloc, b"lib/a").ok()?;
+    Some(match word {
+        Word::Base => Ask::Base,
+        Word::Opening => Ask::Opening { name },
+        Word::Status => Ask::Status {
+            name,
+            at: UploadRef::make(1, [0; 12]),
+        },
+    })
+}
+
 /// Asks what it was given, and keeps what it heard.
 #[derive(Drop)]
 struct Listed {
-    asks: vec::IntoIter<Ask>,
+    alloc: Global,
+    words: vec::IntoIter<Word>,
     heard: Vec<Seen>,
 }
 
 impl Listed {
-    fn new(alloc: Global, asks: Vec<Ask>) -> Listed {
-        Listed {
-            asks: asks.into_iter(),
+    fn new(alloc: Global, words: &[Word]) -> Result<Listed, AllocError> {
+        Ok(Listed {
+            alloc,
+            words: words.to_vec(alloc)?.into_iter(),
             heard: Vec::new(alloc),
-        }
+        })
     }
 }
 
 impl Script for Listed {
     fn next_ask(&mut self) -> Option<Ask> {
-        self.asks.next()
+        ask_of(self.alloc, self.words.next()?)
     }
 
     fn heard(&mut self, answer: Answer) {
@@ -287,108 +311,210 @@ fn service(alloc: Global) -> Service {
     )
 }
 
+/// What the left and the right seat heard of what each asked, and how many requests the keeper took.
+fn heard_by_both<R, M>(
+    rt: &R,
+    left: &[Word],
+    right: &[Word],
+    moments: &mut M,
+) -> Result<(Vec<Seen>, Vec<Seen>, u64), Fail>
+where
+    R: Threads + Wait + Sync + AllocGlobal,
+    M: Moments,
+{
+    let alloc = rt.alloc();
+    let scripts = (Listed::new(alloc, left)?, Listed::new(alloc, right)?);
+    let (end, left, right) = settled(rt, service(alloc), scripts, moments)?;
+    Ok((left.heard, right.heard, end.log_length))
+}
+
 #[test]
 fn each_seat_asks_base(rt: HostRuntime) -> Result<(), Fail> {
-    let alloc = rt.alloc();
-    let left = Listed::new(alloc, vec![in alloc; Ask::Base]?);
-    let right = Listed::new(alloc, vec![in alloc; Ask::Base]?);
-    let (end, left, right) = settled(&rt, service(alloc), (left, right), &mut Still)?;
-    assert_eq!(rt; left.heard.as_slice(), [Seen::Base].as_slice());
-    assert_eq!(rt; right.heard.as_slice(), [Seen::Base].as_slice());
-    assert_eq!(rt; end.log_length, 2);
+    let (left, right, taken) = heard_by_both(&rt, &[Word::Base], &[Word::Base], &mut Still)?;
+    check(&rt, left.as_slice() == [Seen::Base].as_slice(), "left");
+    check(&rt, right.as_slice() == [Seen::Base].as_slice(), "right");
+    check(&rt, taken == 2, "taken");
+    Ok(())
+}
+
+/// The names of the left and the right session.
+const NAMES: [&str; 2] = ["lib/a", "lib/b"];
+
+/// The sessions of a content from both seats, each with the size of its first chunk and of those after it.
+fn sessions(
+    alloc: Global,
+    content: &[u8],
+    left: (usize, usize),
+    right: (usize, usize),
+) -> Result<(Session, Session), Fail> {
+    let left = Session::new(alloc, NAMES[0].as_bytes(), content, left.0, left.1)?;
+    let right = Session::new(alloc, NAMES[1].as_bytes(), content, right.0, right.1)?;
+    Ok((left, right))
+}
+
+/// How many chunks of a session were taken, and whether its content was stored.
+type Done = (u64, bool);
+
+/// What came of the left and the right session, and what is left of their keeper.
+fn ran<R>(rt: &R, scripts: (Session, Session)) -> Result<(Done, Done, Settled), Fail>
+where
+    R: Threads + Wait + Sync + AllocGlobal,
+{
+    let (end, left, right) = settled(rt, service(rt.alloc()), scripts, &mut Still)?;
+    Ok((
+        (left.taken, left.is_stored),
+        (right.taken, right.is_stored),
+        end,
+    ))
+}
+
+fn is_held(alloc: Global, service: &Service, name: &str, content: &[u8]) -> Result<bool, Fail> {
+    let name = RepoName::read(alloc, name.as_bytes())?;
+    Ok(service.holds(&name, &BlobDigest::of_sha256(content)))
+}
+
+fn check_held<R>(rt: &R, service: &Service, content: &[u8]) -> Result<(), Fail>
+where
+    R: Abort + AllocGlobal,
+{
+    for name in NAMES.iter() {
+        check(rt, is_held(rt.alloc(), service, name, content)?, name);
+    }
     Ok(())
 }
 
 #[test]
 fn two_sessions_from_two_seats(rt: HostRuntime) -> Result<(), Fail> {
-    let alloc = rt.alloc();
-    let left = Session::new(alloc, b"lib/a", b"abc", 1, 2)?;
-    let right = Session::new(alloc, b"lib/b", b"abc", 2, 1)?;
-    let (end, left, right) = settled(&rt, service(alloc), (left, right), &mut Still)?;
-    assert_eq!(rt; (left.taken, left.is_stored), (2, true));
-    assert_eq!(rt; (right.taken, right.is_stored), (2, true));
-    let digest = BlobDigest::of_sha256(b"abc");
-    for name in [b"lib/a", b"lib/b"] {
-        assert!(rt; end.service.holds(&RepoName::read(alloc, name)?, &digest));
+    let scripts = sessions(rt.alloc(), b"abc", (1, 2), (2, 1))?;
+    let (left, right, end) = ran(&rt, scripts)?;
+    check(&rt, left == (2, true), "left");
+    check(&rt, right == (2, true), "right");
+    check(&rt, end.log_length == 8, "taken");
+    check_held(&rt, &end.service, b"abc")
+}
+
+/// Two seats whose keeper never runs, over lines on which so many jobs may wait.
+fn seats_without_keeper(alloc: Global, capacity: usize) -> Result<(Seat, Seat), AllocError>
+    requires { 0 < capacity }
+{
+    let (keeper, left, right) = lines(alloc, service(alloc), capacity)?;
+    drop(keeper);
+    Ok((left, right))
+}
+
+/// What came of an ask for the base path.
+#[derive(Clone, Copy, PartialEq, Eq)]
+enum Fate {
+    Answered,
+    GivenBack,
+    Lost,
+}
+
+fn fate_of(answer: &Result<Answer, Gone>) -> Fate {
+    match answer {
+        Ok(_) => Fate::Answered,
+        Err(Gone::NotSent(Ask::Base)) => Fate::GivenBack,
+        Err(_) => Fate::Lost,
     }
-    assert_eq!(rt; end.log_length, 8);
-    Ok(())
+}
+
+fn fate_of_base<R: Wait>(rt: &R, seat: &mut Seat) -> Fate {
+    let answer = seat.ask(rt, Ask::Base, [0; 12]);
+    fate_of(&answer)
 }
 
 #[test]
 fn a_keeper_that_never_runs(rt: HostRuntime) -> Result<(), Fail> {
-    let (keeper, mut seat, _other) = lines(rt.alloc(), service(rt.alloc()), 1)?;
-    drop(keeper);
-    let first = seat.ask(&rt, Ask::Base, [0; 12]);
-    assert!(rt; first.is_err());
-    let second = seat.ask(&rt, Ask::Base, [0; 12]);
-    assert!(rt; matches!(&second, Err(Gone::NotSent(Ask::Base))));
+    let (mut seat, _other) = seats_without_keeper(rt.alloc(), 1)?;
+    let first = fate_of_base(&rt, &mut seat);
+    let second = fate_of_base(&rt, &mut seat);
+    check(&rt, first != Fate::Answered, "the first ask");
+    check(&rt, second == Fate::GivenBack, "the second ask");
     Ok(())
 }
 
 #[test]
 fn idle_sessions_over_lines(rt: HostRuntime) -> Result<(), Fail> {
-    let alloc = rt.alloc();
-    let mut asks = Vec::new(alloc);
-    asks.push(Ask::Opening {
-        name: RepoName::read(alloc, b"lib/a")?,
-    })?;
-    for _ in 0..2 {
-        asks.push(Ask::Status {
-            name: RepoName::read(alloc, b"lib/a")?,
-            at: UploadRef::make(1, [0; 12]),
-        })?;
-    }
     let mut moments = Told {
-        moments: vec![in alloc; 5, 3, 9]?.into_iter(),
+        moments: vec![in rt.alloc(); 5, 3, 9]?.into_iter(),
         last: 0,
     };
-    let scripts = (
-        Listed::new(alloc, asks),
-        Listed::new(alloc, Vec::new(alloc)),
-    );
-    let (_, left, _) = settled(&rt, service(alloc), scripts, &mut moments)?;
+    let words = [Word::Opening, Word::Status, Word::Status];
+    let (left, _, _) = heard_by_both(&rt, &words, &[], &mut moments)?;
     let wanted = [
         Seen::Begun,
         Seen::Standing(0),
         Seen::Refused(Refusal::NoUpload),
     ];
-    assert_eq!(rt; left.heard.as_slice(), wanted.as_slice());
+    check(&rt, left.as_slice() == wanted.as_slice(), "what was heard");
+    Ok(())
+}
+
+fn content_of(alloc: Global, length: u64) -> Result<Vec<u8>, AllocError> {
+    let mut content = Vec::new(alloc);
+    for place in 0..length {
+        content.push((place % 251) as u8)?;
+    }
+    Ok(content)
+}
+
+/// The bytes that the repository answers with, if it has a content under its digest.
+fn held(
+    alloc: Global,
+    service: &mut Service,
+    name: &str,
+    content: &[u8],
+) -> Result<Option<Vec<u8>>, Fail> {
+    let name = RepoName::read(alloc, name.as_bytes())?;
+    let ask = Ask::Has {
+        name,
+        digest: BlobDigest::of_sha256(content),
+        head: false,
+    };
+    match service.step(ask, [0; 12], 0) {
+        Answer::Blob {
+            bytes: Some(bytes),
+            ..
+        } => Ok(Some(bytes.into_vec())),
+        _ => Ok(None),
+    }
+}
+
+fn is_answered(
+    alloc: Global,
+    service: &mut Service,
+    name: &str,
+    content: &[u8],
+) -> Result<bool, Fail> {
+    match held(alloc, service, name, content)? {
+        Some(bytes) => Ok(bytes.as_slice() == content),
+        None => Ok(false),
+    }
+}
+
+fn check_answered<R>(rt: &R, service: &mut Service, content: &[u8]) -> Result<(), Fail>
+where
+    R: Abort + AllocGlobal,
+{
+    for name in NAMES.iter() {
+        check(rt, is_answered(rt.alloc(), service, name, content)?, name);
+    }
     Ok(())
 }
 
 #[test]
 fn ten_thousand_asks_from_each_seat(rt: HostRuntime) -> Result<(), Fail> {
-    let alloc = rt.alloc();
-    let mut content = Vec::new(alloc);
-    for place in 0..9_998u64 {
-        content.push((place % 251) as u8)?;
-    }
-    let left = Session::new(alloc, b"lib/a", &content, 1, 1)?;
-    let right = Session::new(alloc, b"lib/b", &content, 1, 1)?;
-    let (mut end, left, right) = settled(&rt, service(alloc), (left, right), &mut Still)?;
-    assert_eq!(rt; (left.taken, left.is_stored), (9_998, true));
-    assert_eq!(rt; (right.taken, right.is_stored), (9_998, true));
-    assert_eq!(rt; end.log_length, 20_000);
-    for name in [b"lib/a", b"lib/b"] {
-        let ask = Ask::Has {
-            name: RepoName::read(alloc, name)?,
-            digest: BlobDigest::of_sha256(&content),
-            head: false,
-        };
-        let Answer::Blob {
-            bytes: Some(bytes),
-            ..
-        } = end.service.step(ask, [0; 12], 0)
-        else {
-            return Err(Fail::new("no blob"));
-        };
-        assert!(rt; bytes.as_slice() == content.as_slice());
-    }
-    Ok(())
+    let content = content_of(rt.alloc(), 9_998)?;
+    let scripts = sessions(rt.alloc(), &content, (1, 1), (1, 1))?;
+    let (left, right, mut end) = ran(&rt, scripts)?;
+    check(&rt, left == (9_998, true), "left");
+    check(&rt, right == (9_998, true), "right");
+    check(&rt, end.log_length == 20_000, "taken");
+    check_answered(&rt, &mut end.service, &content)
 }
 
 #[test]
 fn lines_too_long_for_memory(rt: HostRuntime) {
-    assert!(rt; lines(rt.alloc(), service(rt.alloc()), usize::MAX).is_err());
+    let is_refused = seats_without_keeper(rt.alloc(), usize::MAX).is_err();
+    check(&rt, is_refused, "refused");
 }

@@ -5,6 +5,8 @@
 #[cfg(test)]
 mod asking;
 #[cfg(test)]
+mod checks;
+#[cfg(test)]
 mod secrets;
 #[cfg(test)]
 mod workers;

@@ -3,11 +3,15 @@ ghost use Rattle.std.specs.Prelude.{None};
 
 mod growths;
 
+use crate::checks::check;
 use std::alloc::{AllocError, Global};
+use std::process::Abort;
+use std::sync::Wait;
 use std::sync::atomic::{AtomicU64, Ordering};
 use std::test::*;
+use std::thread::Threads;
 use std::{thread, vec};
-use upload_intake::{Conns, Gate, Moments, Worker, ZeroSecrets, serve_pair};
+use upload_intake::{Conns, Gate, Moments, Pair, ServeFault, Worker, ZeroSecrets, serve_pair};
 use upload_names::{BlobDigest, RepoName};
 use upload_service::{Limits, Service};
 use upload_wire::{ByteSink, ByteSource, Failed};
@@ -134,6 +138,56 @@ impl<'a> Gate for Meeting<'a> {
     }
 }
 
+/// The flags of two workers.
+#[derive(Drop)]
+struct Flags {
+    /// Up from the start.
+    raised: AtomicU64,
+    left_called: AtomicU64,
+    left_answered: AtomicU64,
+    right_called: AtomicU64,
+    right_answered: AtomicU64,
+    /// Up where a gate gave up.
+    late: AtomicU64,
+}
+
+impl Flags {
+    fn new() -> Flags {
+        Flags {
+            raised: AtomicU64::new(1),
+            left_called: AtomicU64::new(0),
+            left_answered: AtomicU64::new(0),
+            right_called: AtomicU64::new(0),
+            right_answered: AtomicU64::new(0),
+            late: AtomicU64::new(0),
+        }
+    }
+
+    fn left<'a>(&'a self, awaited: &'a AtomicU64, then_awaited: &'a AtomicU64) -> Meeting<'a> {
+        Meeting {
+            called: &self.left_called,
+            awaited,
+            then_awaited,
+            answered: &self.left_answered,
+            late: &self.late,
+        }
+    }
+
+    fn right<'a>(&'a self, awaited: &'a AtomicU64, then_awaited: &'a AtomicU64) -> Meeting<'a> {
+        Meeting {
+            called: &self.right_called,
+            awaited,
+            then_awaited,
+            answered: &self.right_answered,
+            late: &self.late,
+        }
+    }
+
+    fn is_late(&self) -> bool {
+        self.late.load(Ordering::SeqCst) != 0
+    }
+}
+
 /// Always the moment 0.
 #[derive(Drop)]
 struct Still;
@@ -166,84 +220,74 @@ PATCH /v2/lib/b/blobs/uploads/00000002-0000-8000-8000-000000000000 HTTP/1.1\r\nC
 PATCH /v2/lib/b/blobs/uploads/00000002-0000-8000-8000-000000000000 HTTP/1.1\r\nContent-Range: 2-2\r\nContent-Length: 1\r\n\r\nc\
 PUT /v2/lib/b/blobs/uploads/00000002-0000-8000-8000-000000000000?digest=sha256:ba7816bf8f01cfea414140de5dae2223b00361a396177a9cb410ff61f20015ad HTTP/1.1\r\n\r\n";
 
+/// The connections of the left and of the right worker.
+fn texts_of_both(
+    alloc: Global,
+    left: &[&[u8]],
+    right: &[&[u8]],
+) -> Result<(Texts, Texts), AllocError> {
+    let left = Texts::new(alloc, left)?;
+    let right = Texts::new(alloc, right)?;
+    Ok((left, right))
+}
+
+/// Serves the connections of a left and a right worker who meet at these gates.
+fn meet<'a, R: Threads + Wait + Sync>(
+    rt: &R,
+    alloc: Global,
+    texts: (Texts, Texts),
+    gates: (Meeting<'a>, Meeting<'a>),
+) -> Result<Pair, ServeFault> {
+    let left = Worker {
+        conns: texts.0,
+        secrets: ZeroSecrets,
+        gate: gates.0,
+    };
+    let right = Worker {
+        conns: texts.1,
+        secrets: ZeroSecrets,
+        gate: gates.1,
+    };
+    serve_pair(rt, alloc, service(alloc), left, right, &mut Still)
+}
+
+/// Whether the service has the blob `abc` under this name.
+fn has_blob(alloc: Global, service: &Service, name: &str) -> Result<bool, Fail> {
+    let name = RepoName::read(alloc, name.as_bytes())?;
+    Ok(service.holds(&name, &BlobDigest::of_sha256(b"abc")))
+}
+
+fn check_blobs<R: Abort + AllocGlobal>(rt: &R, service: &Service) -> Result<(), Fail> {
+    for name in ["lib/a", "lib/b"].iter() {
+        check(rt, has_blob(rt.alloc(), service, name)?, name);
+    }
+    Ok(())
+}
+
 /// The right worker waits for the left one's first answer, so that its session is the second.
 #[test]
 fn serving_nothing_is_seen(rt: HostRuntime) -> Result<(), Fail> {
-    let alloc = rt.alloc();
-    let raised = AtomicU64::new(1);
-    let left_answered = AtomicU64::new(0);
-    let late = AtomicU64::new(0);
-    let (left_called, right_called, right_answered) = (
-        AtomicU64::new(0),
-        AtomicU64::new(0),
-        AtomicU64::new(0),
-    );
-    let left = Worker {
-        conns: Texts::new(alloc, &[LEFT])?,
-        secrets: ZeroSecrets,
-        gate: Meeting {
-            called: &left_called,
-            awaited: &raised,
-            then_awaited: &raised,
-            answered: &left_answered,
-            late: &late,
-        },
-    };
-    let right = Worker {
-        conns: Texts::new(alloc, &[RIGHT, b"x"])?,
-        secrets: ZeroSecrets,
-        gate: Meeting {
-            called: &right_called,
-            awaited: &left_answered,
-            then_awaited: &raised,
-            answered: &right_answered,
-            late: &late,
-        },
-    };
-    let pair = serve_pair(&rt, alloc, service(alloc), left, right, &mut Still)?;
-    assert_eq!(rt; late.load(Ordering::SeqCst), 0);
-    assert_eq!(rt; (pair.left.conns, pair.left.clean), (1, 1));
-    assert_eq!(rt; (pair.right.conns, pair.right.clean), (2, 1));
-    let digest = BlobDigest::of_sha256(b"abc");
-    for name in [b"lib/a", b"lib/b"] {
-        assert!(rt; pair.service.holds(&RepoName::read(alloc, name)?, &digest));
-    }
-    Ok(())
+    let texts = texts_of_both(rt.alloc(), &[LEFT], &[RIGHT, b"x"])?;
+    let flags = Flags::new();
+    let left = flags.left(&flags.raised, &flags.raised);
+    let right = flags.right(&flags.left_answered, &flags.raised);
+    let pair = meet(&rt, rt.alloc(), texts, (left, right))?;
+    check(&rt, !flags.is_late(), "in time");
+    check(&rt, (pair.left.conns, pair.left.clean) == (1, 1), "left");
+    check(&rt, (pair.right.conns, pair.right.clean) == (2, 1), "right");
+    check_blobs(&rt, &pair.service)
 }
 
 /// Each worker waits for the other's first request, and the left one for the right one's answer too.
 #[test]
 fn both_workers_run_at_once(rt: HostRuntime) -> Result<(), Fail> {
-    let alloc = rt.alloc();
     let text: &[u8] = b"GET /v2/ HTTP/1.1\r\n\r\n";
-    let raised = AtomicU64::new(1);
-    let late = AtomicU64::new(0);
-    let (left_called, left_answered) = (AtomicU64::new(0), AtomicU64::new(0));
-    let (right_called, right_answered) = (AtomicU64::new(0), AtomicU64::new(0));
-    let left = Worker {
-        conns: Texts::new(alloc, &[text])?,
-        secrets: ZeroSecrets,
-        gate: Meeting {
-            called: &left_called,
-            awaited: &right_called,
-            then_awaited: &right_answered,
-            answered: &left_answered,
-            late: &late,
-        },
-    };
-    let right = Worker {
-        conns: Texts::new(alloc, &[text])?,
-        secrets: ZeroSecrets,
-        gate: Meeting {
-            called: &right_called,
-            awaited: &left_called,
-            then_awaited: &raised,
-            answered: &right_answered,
-            late: &late,
-        },
-    };
-    let pair = serve_pair(&rt, alloc, service(alloc), left, right, &mut Still)?;
-    assert_eq!(rt; late.load(Ordering::SeqCst), 0);
-    assert_eq!(rt; (pair.left.clean, pair.right.clean), (1, 1));
+    let texts = texts_of_both(rt.alloc(), &[text], &[text])?;
+    let flags = Flags::new();
+    let left = flags.left(&flags.right_called, &flags.right_answered);
+    let right = flags.right(&flags.left_called, &flags.raised);
+    let pair = meet(&rt, rt.alloc(), texts, (left, right))?;
+    check(&rt, !flags.is_late(), "in time");
+    check(&rt, (pair.left.clean, pair.right.clean) == (1, 1), "clean");
     Ok(())
 }

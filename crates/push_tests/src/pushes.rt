@@ -20,8 +20,13 @@ use upload_push::{
 use upload_service::{Answer, Ask, Extent, Limits, Service};
 use upload_wire::{Heard, Transport};
 
+/// Fails the test where a case doesn't hold. The macro's expansion is proved once, here.
+fn check(rt: &impl Abort, holds: bool, case: &str) {
+    assert!(rt; holds, "{case}");
+}
+
 /// What a push asked.
-#[derive(Clone, Copy, Debug, PartialEq, Eq)]
+#[derive(Clone, Copy, PartialEq, Eq)]
 enum Asked {
     Opening,
     Chunk(u64, u64),
@@ -46,7 +51,7 @@ fn kind_of(ask: &Ask) -> Asked {
 }
 
 /// How a push ended.
-#[derive(Clone, Copy, Debug, PartialEq, Eq)]
+#[derive(Clone, Copy, PartialEq, Eq)]
 enum End {
     Pushed,
     Already,
@@ -96,24 +101,35 @@ const LIMITS: Limits = Limits {
     max_idle: 3_600,
 };
 
-fn new_world(alloc: Global, events: Vec<Event>) -> Recorder {
-    let service = Service::new(alloc, LIMITS);
+/// A world with a new service.
+fn new_world(alloc: Global, events: Vec<Event>) -> LossyWorld
+    ensures { IsLawfulWorld result }
+{
+    LossyWorld::new(alloc, Service::new(alloc, LIMITS), [0; 12], 0, events)
+}
+
+fn new_recorder(alloc: Global, events: Vec<Event>) -> Recorder {
     Recorder {
-        world: LossyWorld::new(alloc, service, [0; 12], 0, events),
+        world: new_world(alloc, events),
         asked: Vec::new(alloc),
     }
 }
 
-/// Events by a letter each: d Delivered, l ReplyLost, n NotDelivered, and p an hour and a second that pass.
+/// The event of a letter: d Delivered, l ReplyLost, n NotDelivered, and p an hour and a second that pass.
+fn event_of(letter: u8) -> Event {
+    match letter {
+        b'd' => Event::Delivered,
+        b'l' => Event::ReplyLost,
+        b'n' => Event::NotDelivered,
+        _ => Event::Passes(3_601),
+    }
+}
+
+/// Events by a letter each.
 fn events(alloc: Global, script: &[u8]) -> Result<Vec<Event>, AllocError> {
     let mut events = Vec::new(alloc);
     for letter in script {
-        events.push(match *letter {
-            b'd' => Event::Delivered,
-            b'l' => Event::ReplyLost,
-            b'n' => Event::NotDelivered,
-            _ => Event::Passes(3_601),
-        })?;
+        events.push(event_of(*letter))?;
     }
     Ok(events)
 }
@@ -126,24 +142,29 @@ fn session(number: u32) -> UploadRef {
 fn chunk_of_one(alloc: Global, number: u32, at: u64, byte: u8) -> Result<Ask, Fail>
     requires { at ≤ 100 }
 {
+    let name = name(alloc)?;
+    let body = Bytes::of(Vec::from_slice(alloc, &[byte])?);
+    let place = ByteRange {
+        first: at,
+        last: at,
+    };
     Ok(Ask::Chunk {
-        name: name(alloc)?,
+        name,
         at: session(number),
-        range: Extent::Given(ByteRange {
-            first: at,
-            last: at,
-        }),
-        body: Bytes::of(Vec::from_slice(alloc, &[byte])?),
+        range: Extent::Given(place),
+        body,
     })
 }
 
-/// The bytes that the repository has under a digest, if it has it.
-fn held(alloc: Global, service: &mut Service, digest: BlobDigest) -> Result<Option<Vec<u8>>, Fail> {
+/// The bytes that the world's repository has under a digest, if it has it.
+fn held(alloc: Global, world: LossyWorld, digest: BlobDigest) -> Result<Option<Vec<u8>>, Fail> {
+    let name = name(alloc)?;
     let ask = Ask::Has {
-        name: name(alloc)?,
+        name,
         digest,
         head: false,
     };
+    let mut service = world.into_service();
     match service.step(ask, [0; 12], 0) {
         Answer::Blob {
             bytes: Some(bytes),
@@ -153,94 +174,180 @@ fn held(alloc: Global, service: &mut Service, digest: BlobDigest) -> Result<Opti
     }
 }
 
-/// Pushes over these events, and compares what was asked and how it ended.
-fn expect(
-    rt: &impl Abort,
+/// Whether the world's repository has the file where a push of it ended well. Beside other clients it has bytes of the
+/// file's digest.
+fn is_as_promised(
     alloc: Global,
-    script: &[u8],
-    file: &[u8],
-    tries: u32,
-    asked: &[Asked],
     end: End,
-) -> Result<(), Fail>
+    world: LossyWorld,
+    file: &[u8],
+    are_own: bool,
+) -> Result<bool, Fail> {
+    if !matches!(end, End::Pushed | End::Already) {
+        return Ok(true);
+    }
+    let digest = BlobDigest::of_sha256(file);
+    match held(alloc, world, digest)? {
+        Some(bytes) => {
+            let has_digest = BlobDigest::of_sha256(&bytes).same(&digest);
+            Ok(has_digest && (!are_own || bytes.as_slice() == file))
+        }
+        None => Ok(false),
+    }
+}
+
+/// Pushes a file, and answers how that ended and over what.
+fn pushed(
+    alloc: Global,
+    events: Vec<Event>,
+    file: &[u8],
+    chunk: u64,
+    tries: u32,
+) -> Result<(End, Recorder), Fail>
     requires file { length file.now ≤ 100 }
+    requires chunk { (1 ≤ chunk) × (chunk ≤ 100) }
     requires tries { tries ≤ 10 }
 {
-    let mut over = new_world(alloc, events(alloc, script)?);
-    let result = push(alloc, &mut over, file, &name(alloc)?, 2, tries);
-    assert_eq!(rt; end_of(&result), end);
-    assert_eq!(rt; over.asked.as_slice(), asked);
-    let mut service = over.world.into_service();
-    if end == End::Pushed || end == End::Already {
-        let bytes = held(alloc, &mut service, BlobDigest::of_sha256(file))?;
-        assert!(rt; bytes.is_some_and(|bytes| bytes.as_slice() == file));
+    let name = name(alloc)?;
+    let mut over = new_recorder(alloc, events);
+    let end = end_of(&push(alloc, &mut over, file, &name, chunk, tries));
+    Ok((end, over))
+}
+
+/// A push over the events of a script in chunks of two bytes, what it asks, and how it ends.
+struct Scripted {
+    script: &'static str,
+    file: &'static [u8],
+    tries: u32,
+    asked: &'static [Asked],
+    end: End,
+}
+
+/// Whether a push asks and ends as its row says, and its file is there where the push says so.
+fn goes_by_script(alloc: Global, row: &Scripted) -> Result<bool, Fail> {
+    if row.file.len() > 100 || row.tries > 10 {
+        return Ok(false);
+    }
+    let events = events(alloc, row.script.as_bytes())?;
+    let (end, over) = pushed(alloc, events, row.file, 2, row.tries)?;
+    let is_told = end == row.end && over.asked.as_slice() == row.asked;
+    let is_promised = is_as_promised(alloc, end, over.world, row.file, true)?;
+    Ok(is_told && is_promised)
+}
+
+fn check_scripts(rt: &impl Abort, alloc: Global, rows: &[Scripted]) -> Result<(), Fail> {
+    for row in rows {
+        check(rt, goes_by_script(alloc, row)?, row.script);
     }
     Ok(())
 }
 
+const LOST_REPLIES: [Scripted; 6] = [
+    Scripted {
+        script: "ddl",
+        file: b"abcde",
+        tries: 5,
+        asked: &[
+            Asked::Opening,
+            Asked::Chunk(0, 1),
+            Asked::Chunk(2, 3),
+            Asked::Status,
+            Asked::Chunk(4, 4),
+            Asked::Close,
+        ],
+        end: End::Pushed,
+    },
+    Scripted {
+        script: "ddddl",
+        file: b"abcde",
+        tries: 5,
+        asked: &[
+            Asked::Opening,
+            Asked::Chunk(0, 1),
+            Asked::Chunk(2, 3),
+            Asked::Chunk(4, 4),
+            Asked::Close,
+            Asked::Status,
+            Asked::Head,
+        ],
+        end: End::Already,
+    },
+    Scripted {
+        script: "ddddn",
+        file: b"abcde",
+        tries: 5,
+        asked: &[
+            Asked::Opening,
+            Asked::Chunk(0, 1),
+            Asked::Chunk(2, 3),
+            Asked::Chunk(4, 4),
+            Asked::Close,
+            Asked::Status,
+            Asked::Close,
+        ],
+        end: End::Pushed,
+    },
+    Scripted {
+        script: "l",
+        file: b"abcde",
+        tries: 5,
+        asked: &[
+            Asked::Opening,
+            Asked::Opening,
+            Asked::Chunk(0, 1),
+            Asked::Chunk(2, 3),
+            Asked::Chunk(4, 4),
+            Asked::Close,
+        ],
+        end: End::Pushed,
+    },
+    Scripted {
+        script: "",
+        file: b"",
+        tries: 5,
+        asked: &[Asked::Opening, Asked::Close],
+        end: End::Pushed,
+    },
+    Scripted {
+        script: "n",
+        file: b"abcde",
+        tries: 0,
+        asked: &[Asked::Opening],
+        end: End::OutOfTries,
+    },
+];
+
 #[test]
 fn pushes_over_lost_replies(rt: HostRuntime) -> Result<(), Fail> {
-    use Asked::{Chunk, Close, Head, Opening, Status};
-    let file = b"abcde";
-    let asked = [
-        Opening,
-        Chunk(0, 1),
-        Chunk(2, 3),
-        Status,
-        Chunk(4, 4),
-        Close,
-    ];
-    expect(&rt, rt.alloc(), b"ddl", file, 5, &asked, End::Pushed)?;
-    let asked = [
-        Opening,
-        Chunk(0, 1),
-        Chunk(2, 3),
-        Chunk(4, 4),
-        Close,
-        Status,
-        Head,
-    ];
-    expect(&rt, rt.alloc(), b"ddddl", file, 5, &asked, End::Already)?;
-    let asked = [
-        Opening,
-        Chunk(0, 1),
-        Chunk(2, 3),
-        Chunk(4, 4),
-        Close,
-        Status,
-        Close,
-    ];
-    expect(&rt, rt.alloc(), b"ddddn", file, 5, &asked, End::Pushed)?;
-    let asked = [
-        Opening,
-        Opening,
-        Chunk(0, 1),
-        Chunk(2, 3),
-        Chunk(4, 4),
-        Close,
-    ];
-    expect(&rt, rt.alloc(), b"l", file, 5, &asked, End::Pushed)?;
-    expect(&rt, rt.alloc(), b"", b"", 5, &[Opening, Close], End::Pushed)?;
-    expect(&rt, rt.alloc(), b"n", file, 0, &[Opening], End::OutOfTries)?;
-    Ok(())
+    check_scripts(&rt, rt.alloc(), &LOST_REPLIES)
 }
+
+const FALLEN_IDLE: [Scripted; 2] = [
+    Scripted {
+        script: "ddp",
+        file: b"abcde",
+        tries: 5,
+        asked: &[Asked::Opening, Asked::Chunk(0, 1), Asked::Chunk(2, 3)],
+        end: End::Refused(404),
+    },
+    Scripted {
+        script: "ddlp",
+        file: b"abcde",
+        tries: 5,
+        asked: &[
+            Asked::Opening,
+            Asked::Chunk(0, 1),
+            Asked::Chunk(2, 3),
+            Asked::Status,
+            Asked::Head,
+        ],
+        end: End::Refused(404),
+    },
+];
 
 #[test]
 fn a_session_that_fell_idle_is_no_way_to_pushed(rt: HostRuntime) -> Result<(), Fail> {
-    use Asked::{Chunk, Head, Opening, Status};
-    let file = b"abcde";
-    expect(
-        &rt,
-        rt.alloc(),
-        b"ddp",
-        file,
-        5,
-        &[Opening, Chunk(0, 1), Chunk(2, 3)],
-        End::Refused(404),
-    )?;
-    let asked = [Opening, Chunk(0, 1), Chunk(2, 3), Status, Head];
-    expect(&rt, rt.alloc(), b"ddlp", file, 5, &asked, End::Refused(404))?;
-    Ok(())
+    check_scripts(&rt, rt.alloc(), &FALLEN_IDLE)
 }
 
 /// The error code with which a push was refused.
@@ -252,57 +359,110 @@ fn code_of(end: &Result<Outcome, PushFault>) -> Option<&[u8]> {
 }
 
 /// A push whose opening is followed by another client's byte in its session.
-fn beside_another(
-    rt: &impl Abort,
-    alloc: Global,
+struct BesideAnother {
+    case: &'static str,
     byte: u8,
-    asked: &[Asked],
+    asked: &'static [Asked],
     end: End,
-    code: Option<&[u8]>,
-) -> Result<(), Fail> {
-    let mut events = events(alloc, b"d")?;
-    events.push(Event::Other(chunk_of_one(alloc, 1, 0, byte)?))?;
-    let mut over = new_world(alloc, events);
-    let result = push(alloc, &mut over, b"abcde", &name(alloc)?, 2, 5);
-    assert_eq!(rt; end_of(&result), end);
-    assert!(rt; code_of(&result) == code);
-    assert_eq!(rt; over.asked.as_slice(), asked);
-    Ok(())
+    code: Option<&'static [u8]>,
 }
+
+/// An opening that is served, and another client's byte in its session.
+fn events_with_byte(alloc: Global, byte: u8) -> Result<Vec<Event>, Fail> {
+    let chunk = chunk_of_one(alloc, 1, 0, byte)?;
+    Ok(Vec::from_array(alloc, [Event::Delivered, Event::Other(chunk)])?)
+}
+
+fn goes_beside_another(alloc: Global, row: &BesideAnother) -> Result<bool, Fail> {
+    let name = name(alloc)?;
+    let mut over = new_recorder(alloc, events_with_byte(alloc, row.byte)?);
+    let result = push(alloc, &mut over, b"abcde", &name, 2, 5);
+    Ok(
+        end_of(&result) == row.end
+            && code_of(&result) == row.code
+            && over.asked.as_slice() == row.asked,
+    )
+}
+
+const BYTES_OF_ANOTHER: [BesideAnother; 2] = [
+    BesideAnother {
+        case: "another byte than the file's",
+        byte: b'z',
+        asked: BESIDE_ANOTHER,
+        end: End::Refused(400),
+        code: Some(b"DIGEST_INVALID"),
+    },
+    BesideAnother {
+        case: "the file's byte",
+        byte: b'a',
+        asked: BESIDE_ANOTHER,
+        end: End::Pushed,
+        code: None,
+    },
+];
+
+const BESIDE_ANOTHER: &[Asked] = &[
+    Asked::Opening,
+    Asked::Chunk(0, 1),
+    Asked::Chunk(1, 2),
+    Asked::Chunk(3, 4),
+    Asked::Close,
+];
 
 #[test]
 fn other_clients(rt: HostRuntime) -> Result<(), Fail> {
-    use Asked::{Chunk, Close, Opening};
-    let asked = [Opening, Chunk(0, 1), Chunk(1, 2), Chunk(3, 4), Close];
-    let code = Some(b"DIGEST_INVALID".as_slice());
-    beside_another(&rt, rt.alloc(), b'z', &asked, End::Refused(400), code)?;
-    beside_another(&rt, rt.alloc(), b'a', &asked, End::Pushed, None)
+    for row in BYTES_OF_ANOTHER.iter() {
+        check(&rt, goes_beside_another(rt.alloc(), row)?, row.case);
+    }
+    Ok(())
+}
+
+/// How a push ends whose first opening is answered unheard, and how far the first two sessions are then.
+fn after_lost_opening(alloc: Global) -> Result<(End, Option<u64>, Option<u64>), Fail> {
+    let events = events(alloc, b"l")?;
+    let (end, over) = pushed(alloc, events, b"abcde", 2, 5)?;
+    let service = over.world.into_service();
+    Ok((
+        end,
+        service.next_of(&session(1)),
+        service.next_of(&session(2)),
+    ))
 }
 
 #[test]
 fn a_lost_opening_leaves_its_session(rt: HostRuntime) -> Result<(), Fail> {
-    let alloc = rt.alloc();
-    let mut over = new_world(alloc, events(alloc, b"l")?);
-    let result = push(alloc, &mut over, b"abcde", &name(alloc)?, 2, 5);
-    assert_eq!(rt; end_of(&result), End::Pushed);
-    let service = over.world.into_service();
-    assert_eq!(rt; service.next_of(&session(1)), Some(0));
-    assert_eq!(rt; service.next_of(&session(2)), None);
+    let (end, first, second) = after_lost_opening(rt.alloc())?;
+    check(&rt, end == End::Pushed, "pushed");
+    check(&rt, first == Some(0), "the first session is left");
+    check(&rt, second.is_none(), "the second session is closed");
     Ok(())
+}
+
+/// The digest of `abc`.
+const SHA512: &[u8] =
+    b"sha512:ddaf35a193617abacc417349ae20413112e6fa4e89a97ea20a9eeee64b55d39a2192992a274fc1a836ba3c23a3feebbd454d4423643ce80e2a9ac94fa54ca49f";
+
+/// How a push of `abc` under its sha512 ends, and whether it is there under its sha512 and under its sha256.
+fn after_push_under_sha512(alloc: Global) -> Result<(End, bool, bool), Fail> {
+    let name = name(alloc)?;
+    let mut over = new_recorder(alloc, Vec::new(alloc));
+    let result = push_with(alloc, &mut over, b"abc", &name, 2, 5, Algorithm::Sha512);
+    let end = end_of(&result);
+    let service = over.world.into_service();
+    let is_under_sha512 = match BlobDigest::read(SHA512) {
+        Some(digest) => service.holds(&name, &digest),
+        None => false,
+    };
+    let is_under_sha256 = service.holds(&name, &BlobDigest::of_sha256(b"abc"));
+    Ok((end, is_under_sha512, is_under_sha256))
 }
 
 #[test]
 fn pushes_under_sha512(rt: HostRuntime) -> Result<(), Fail> {
-    let alloc = rt.alloc();
-    let mut over = new_world(alloc, Vec::new(alloc));
-    let name = name(alloc)?;
-    let result = push_with(alloc, &mut over, b"abc", &name, 2, 5, Algorithm::Sha512);
-    assert_eq!(rt; end_of(&result), End::Pushed);
-    let digest =
-        b"sha512:ddaf35a193617abacc417349ae20413112e6fa4e89a97ea20a9eeee64b55d39a2192992a274fc1a836ba3c23a3feebbd454d4423643ce80e2a9ac94fa54ca49f";
-    let service = over.world.into_service();
-    assert!(rt; BlobDigest::read(digest).is_some_and(|digest| service.holds(&name, &digest)));
-    assert!(rt; !service.holds(&name, &BlobDigest::of_sha256(b"abc")));
+    let (end, is_under_sha512, is_under_sha256) = after_push_under_sha512(rt.alloc())?;
+    check(&rt, end == End::Pushed, "pushed");
+    check(&rt, is_under_sha512, "under its sha512");
+    check(&rt, !is_under_sha256, "not under its sha256");
     Ok(())
 }
 
@@ -312,56 +472,120 @@ fn pusher(alloc: Global, tries: u32) -> Result<Pusher, Fail>
     Ok(Pusher::new(name(alloc)?, BlobDigest::of_sha256(b"abcde"), 5, 2, tries))
 }
 
-fn status(status: u16) -> Heard {
-    Heard {
+/// What a pusher hears.
+#[derive(Clone, Copy)]
+enum Reply {
+    Lost,
+    /// A status, and nothing with it.
+    Bare(u16),
+    /// 202, with the place of an upload.
+    Begun,
+    /// 404, with its error code.
+    BlobUnknown,
+}
+
+const PLACE: &[u8] = b"/v2/lib/a/blobs/uploads/00000001-0000-8000-8000-000000000000";
+
+fn heard_with(status: u16, place: Option<Bytes>, code: Option<Bytes>) -> Option<Heard> {
+    Some(Heard {
         status,
-        place: None,
+        place,
         upto: None,
-        code: None,
+        code,
+    })
+}
+
+fn heard(alloc: Global, reply: Reply) -> Result<Option<Heard>, AllocError> {
+    Ok(match reply {
+        Reply::Lost => None,
+        Reply::Bare(status) => heard_with(status, None, None),
+        Reply::Begun => {
+            let place = Bytes::of(Vec::from_slice(alloc, PLACE)?);
+            heard_with(202, Some(place), None)
+        }
+        Reply::BlobUnknown => {
+            let code = Bytes::of(Vec::from_slice(alloc, b"BLOB_UNKNOWN")?);
+            heard_with(404, None, Some(code))
+        }
+    })
+}
+
+/// What a pusher does next.
+#[derive(Clone, Copy, PartialEq, Eq)]
+enum Next {
+    Chunk,
+    Status,
+    Head,
+    OutOfTries,
+    BadServer,
+    /// It was refused, without an error code.
+    Refused(u16),
+    RefusedBlobUnknown,
+    Other,
+}
+
+fn given_up(why: &Why) -> Next {
+    match why {
+        Why::OutOfTries => Next::OutOfTries,
+        Why::BadServer => Next::BadServer,
+        Why::Refused(status, None) => Next::Refused(*status),
+        Why::Refused(404, Some(code)) if code.as_slice() == b"BLOB_UNKNOWN".as_slice() => {
+            Next::RefusedBlobUnknown
+        }
+        Why::Refused(..) => Next::Other,
     }
 }
 
+fn next_of(pusher: &Pusher) -> Next {
+    match pusher.next() {
+        PushStep::Ask(PushAsk::Chunk { .. }) => Next::Chunk,
+        PushStep::Ask(PushAsk::Status { .. }) => Next::Status,
+        PushStep::Ask(PushAsk::Head) => Next::Head,
+        PushStep::GaveUp(why) => given_up(why),
+        _ => Next::Other,
+    }
+}
+
+/// What a new pusher without tries does next, by what it hears.
+fn next_at_once(alloc: Global, reply: Reply) -> Result<Next, Fail> {
+    let heard = heard(alloc, reply)?;
+    let mut pusher = pusher(alloc, 0)?;
+    pusher.heard(heard);
+    Ok(next_of(&pusher))
+}
+
+const GIVEN_UP: [(&str, Reply, Next); 4] = [
+    ("unheard", Reply::Lost, Next::OutOfTries),
+    ("busy", Reply::Bare(503), Next::OutOfTries),
+    ("without a place", Reply::Bare(202), Next::BadServer),
+    ("refused", Reply::Bare(500), Next::Refused(500)),
+];
+
 #[test]
 fn pusher_gives_up(rt: HostRuntime) -> Result<(), Fail> {
-    let alloc = rt.alloc();
-    let mut unheard = pusher(alloc, 0)?;
-    unheard.heard(None);
-    assert!(rt; matches!(unheard.next(), PushStep::GaveUp(Why::OutOfTries)));
-    let mut busy = pusher(alloc, 0)?;
-    busy.heard(Some(status(503)));
-    assert!(rt; matches!(busy.next(), PushStep::GaveUp(Why::OutOfTries)));
-    let mut without_place = pusher(alloc, 0)?;
-    without_place.heard(Some(status(202)));
-    assert!(rt; matches!(without_place.next(), PushStep::GaveUp(Why::BadServer)));
-    let mut refused = pusher(alloc, 0)?;
-    refused.heard(Some(status(500)));
-    assert!(rt; matches!(refused.next(), PushStep::GaveUp(Why::Refused(500, None))));
+    for (case, reply, next) in GIVEN_UP.iter() {
+        check(&rt, next_at_once(rt.alloc(), *reply)? == *next, case);
+    }
     Ok(())
 }
 
+const LOST_UPLOAD: [(&str, Reply, Next); 4] = [
+    ("begun", Reply::Begun, Next::Chunk),
+    ("a chunk's reply is lost", Reply::Lost, Next::Status),
+    ("the upload is gone", Reply::Bare(404), Next::Head),
+    (
+        "the blob isn't there",
+        Reply::BlobUnknown,
+        Next::RefusedBlobUnknown,
+    ),
+];
+
 #[test]
 fn pusher_looks_for_a_lost_upload(rt: HostRuntime) -> Result<(), Fail> {
-    let alloc = rt.alloc();
-    let mut pusher = pusher(alloc, 1)?;
-    let place = b"/v2/lib/a/blobs/uploads/00000001-0000-8000-8000-000000000000";
-    pusher.heard(Some(Heard {
-        place: Some(Bytes::of(Vec::from_slice(alloc, place)?)),
-        ..status(202)
-    }));
-    assert!(rt; matches!(pusher.next(), PushStep::Ask(PushAsk::Chunk { .. })));
-    pusher.heard(None);
-    assert!(rt; matches!(pusher.next(), PushStep::Ask(PushAsk::Status { .. })));
-    pusher.heard(Some(status(404)));
-    assert!(rt; matches!(pusher.next(), PushStep::Ask(PushAsk::Head)));
-    pusher.heard(Some(Heard {
-        code: Some(Bytes::of(Vec::from_slice(alloc, b"BLOB_UNKNOWN")?)),
-        ..status(404)
-    }));
-    match pusher.next() {
-        PushStep::GaveUp(Why::Refused(404, Some(code))) => {
-            assert_eq!(rt; code.as_slice(), b"BLOB_UNKNOWN".as_slice())
-        }
-        _ => assert!(rt; false, "refused with its code"),
+    let mut pusher = pusher(rt.alloc(), 1)?;
+    for (case, reply, next) in LOST_UPLOAD.iter() {
+        pusher.heard(heard(rt.alloc(), *reply)?);
+        check(&rt, next_of(&pusher) == *next, case);
     }
     Ok(())
 }
@@ -383,12 +607,14 @@ fn push_and_know(
     push(alloc, world, file, name, 2, 5)
 }
 
+fn known_end(alloc: Global) -> Result<End, Fail> {
+    let name = name(alloc)?;
+    let mut world = new_world(alloc, events(alloc, b"ddl")?);
+    Ok(end_of(&push_and_know(alloc, &mut world, b"abcde", &name)))
+}
+
 #[test]
 fn a_caller_knows_what_pushed_is_worth(rt: HostRuntime) -> Result<(), Fail> {
-    let alloc = rt.alloc();
-    let service = Service::new(alloc, LIMITS);
-    let mut world = LossyWorld::new(alloc, service, [0; 12], 0, events(alloc, b"ddl")?);
-    let end = push_and_know(alloc, &mut world, b"abcde", &name(alloc)?);
-    assert_eq!(rt; end_of(&end), End::Pushed);
+    check(&rt, known_end(rt.alloc())? == End::Pushed, "pushed");
     Ok(())
 }

@@ -4,6 +4,7 @@ ghost use Rattle.std.specs.Prelude.{IfOk};
 ghost use Rattle.upload_intake.specs.Served.{AreOfOneCall};
 
 use super::{Script, Still, ask_both, service};
+use crate::checks::check;
 use std::alloc::{AllocError, Global};
 use std::test::*;
 use upload_intake::{Keeper, Seat, lines};
@@ -55,8 +56,8 @@ fn a_refused_growth_makes_no_lines(rt: HostRuntime) -> Result<(), Fail> {
     let scripts = (OneAsk::new(), OneAsk::new());
     // None: it was a thread that was refused memory.
     if let Some((end, left, right)) = ask_both(&rt, keeper, left, right, scripts, &mut Still) {
-        assert!(rt; left.is_heard && right.is_heard);
-        assert_eq!(rt; end.log_length, 2);
+        check(&rt, left.is_heard && right.is_heard, "heard");
+        check(&rt, end.log_length == 2, "taken");
     }
     Ok(())
 }

@@ -2,9 +2,12 @@
 //! is refused: `tests/growths.py` has each of them refused in turn.
 
 use super::{Still, Texts, service};
+use crate::checks::check;
 use std::alloc::{AllocError, Global};
 use std::process::Abort;
+use std::sync::Wait;
 use std::test::*;
+use std::thread::Threads;
 use upload_intake::{NoGate, Pair, ServeFault, Worker, ZeroSecrets, serve_pair};
 use upload_names::{BlobDigest, NameFault, RepoName};
 
@@ -17,8 +20,10 @@ const RIGHT: &[u8] =
     b"POST /v2/lib/b/blobs/uploads/?digest=sha256:ba7816bf8f01cfea414140de5dae2223b00361a396177a9cb410ff61f20015ad HTTP/1.1\r\nContent-Length: 3\r\n\r\nabc\
 POST /v2/lib/b/blobs/uploads/?digest=sha256:ba7816bf8f01cfea414140de5dae2223b00361a396177a9cb410ff61f20015ad HTTP/1.1\r\nContent-Length: 3\r\n\r\nabc";
 
+type TextWorker = Worker<Texts, ZeroSecrets, NoGate>;
+
 /// A worker with one connection. One growth may be refused.
-fn worker(alloc: Global, text: &[u8]) -> Result<Worker<Texts, ZeroSecrets, NoGate>, AllocError> {
+fn worker(alloc: Global, text: &[u8]) -> Result<TextWorker, AllocError> {
     let conns = match Texts::new(alloc, &[text]) {
         Ok(conns) => conns,
         Err(AllocError) => Texts::new(alloc, &[text])?,
@@ -30,6 +35,22 @@ fn worker(alloc: Global, text: &[u8]) -> Result<Worker<Texts, ZeroSecrets, NoGat
     })
 }
 
+/// The left and the right worker. One growth may be refused.
+fn workers(alloc: Global) -> Result<(TextWorker, TextWorker), AllocError> {
+    let left = worker(alloc, LEFT)?;
+    let right = worker(alloc, RIGHT)?;
+    Ok((left, right))
+}
+
+fn served<R: Threads + Wait + Sync>(
+    rt: &R,
+    alloc: Global,
+    workers: (TextWorker, TextWorker),
+) -> Result<Pair, ServeFault> {
+    let (left, right) = workers;
+    serve_pair(rt, alloc, service(alloc), left, right, &mut Still)
+}
+
 /// A name. One growth may be refused.
 fn name_for(alloc: Global, text: &[u8]) -> Result<RepoName, NameFault> {
     match RepoName::read(alloc, text) {
@@ -38,41 +59,32 @@ fn name_for(alloc: Global, text: &[u8]) -> Result<RepoName, NameFault> {
     }
 }
 
-/// Each connection is served, and where it ends well its blob is held: one of its two requests had the memory.
-fn look(rt: &impl Abort, alloc: Global, pair: &Pair) -> Result<(), Fail> {
-    let digest = BlobDigest::of_sha256(b"abc");
+/// Each connection is served, and where it ends well its blob is held: one of its two requests had the memory. At least so
+/// many of the two end well.
+fn look(rt: &impl Abort, alloc: Global, pair: &Pair, least_clean: u64) -> Result<(), Fail> {
     let left = name_for(alloc, b"lib/a")?;
     let right = name_for(alloc, b"lib/b")?;
-    assert_eq!(rt; (pair.left.conns, pair.right.conns), (1, 1));
-    assert!(rt; pair.left.clean == 0 || pair.service.holds(&left, &digest));
-    assert!(rt; pair.right.clean == 0 || pair.service.holds(&right, &digest));
+    let digest = BlobDigest::of_sha256(b"abc");
+    let has_left = pair.service.holds(&left, &digest);
+    let has_right = pair.service.holds(&right, &digest);
+    let clean = pair.left.clean.saturating_add(pair.right.clean);
+    check(rt, (pair.left.conns, pair.right.conns) == (1, 1), "served");
+    check(rt, pair.left.clean == 0 || has_left, "the left blob");
+    check(rt, pair.right.clean == 0 || has_right, "the right blob");
+    check(rt, clean >= least_clean, "ended well");
     Ok(())
 }
 
 #[test]
 fn a_refused_growth_is_of_one_worker_or_of_the_pair(rt: HostRuntime) -> Result<(), Fail> {
     let alloc = rt.alloc();
-    let (left, right) = (worker(alloc, LEFT)?, worker(alloc, RIGHT)?);
-    let (left_again, right_again) = (worker(alloc, LEFT)?, worker(alloc, RIGHT)?);
-    match serve_pair(&rt, alloc, service(alloc), left, right, &mut Still) {
-        Ok(pair) => {
-            look(&rt, alloc, &pair)?;
-            // at most one connection was cut short
-            assert!(rt; pair.left.clean == 1 || pair.right.clean == 1);
-        }
-        Err(fault) => {
-            assert!(rt; matches!(fault, ServeFault::NoMemory | ServeFault::NoThread));
-            let pair = serve_pair(
-                &rt,
-                alloc,
-                service(alloc),
-                left_again,
-                right_again,
-                &mut Still,
-            )?;
-            look(&rt, alloc, &pair)?;
-            assert_eq!(rt; (pair.left.clean, pair.right.clean), (1, 1));
+    match served(&rt, alloc, workers(alloc)?) {
+        // at most one connection was cut short
+        Ok(pair) => look(&rt, alloc, &pair, 1),
+        // the growth that was refused is behind
+        Err(ServeFault::NoMemory | ServeFault::NoThread) => {
+            let pair = served(&rt, alloc, workers(alloc)?)?;
+            look(&rt, alloc, &pair, 2)
         }
     }
-    Ok(())
 }

@@ -1,7 +1,7 @@
 //! A push that is refused memory leaves what its asks did, and one that goes on ends well all the same. The test holds
 //! whichever one growth is refused: `tests/growths.py` has each of them refused in turn.
 
-use super::{Asked, End, LIMITS, end_of, events, kind_of, name, session};
+use super::{Asked, End, check, end_of, events, kind_of, name, new_world, session};
 use std::alloc::{AllocError, Global};
 use std::process::Abort;
 use std::test::Fail;
@@ -56,42 +56,57 @@ fn events_for(alloc: Global, script: &[u8]) -> Result<Vec<Event>, AllocError> {
     }
 }
 
-/// Pushes over a script of events. What was asked is known from the replies where none was lost.
-fn push_over(rt: &impl Abort, alloc: Global, script: &[u8]) -> Result<(), Fail> {
-    let name = name_for(alloc)?;
-    let events = events_for(alloc, script)?;
-    let service = Service::new(alloc, LIMITS);
+const FILE: &[u8] = b"abcde";
+
+fn has_file(service: &Service, name: &RepoName) -> bool {
+    service.holds(name, &BlobDigest::of_sha256(FILE))
+}
+
+/// Pushes, and answers how that ended, whether as much of its upload is open as was heard of, and the service.
+fn followed(alloc: Global, name: &RepoName, events: Vec<Event>) -> (End, bool, Service) {
     let mut over = Follower {
-        world: LossyWorld::new(alloc, service, [0; 12], 0, events),
+        world: new_world(alloc, events),
         open: None,
     };
-    let end = end_of(&push(alloc, &mut over, b"abcde", &name, 2, 5));
+    let end = end_of(&push(alloc, &mut over, FILE, name, 2, 5));
+    let open = over.open;
     let service = over.world.into_service();
-    let digest = BlobDigest::of_sha256(b"abcde");
-    let held = service.holds(&name, &digest);
-    match end {
-        End::Pushed | End::Already => assert!(rt; held),
-        End::NoMemory if script.is_empty() => {
-            assert!(rt; !held);
-            assert_eq!(rt; service.next_of(&session(1)), over.open);
-        }
-        _ => assert_eq!(rt; end, End::NoMemory),
+    let is_as_heard = service.next_of(&session(1)) == open;
+    (end, is_as_heard, service)
+}
+
+/// Whether with memory the same push over the same service ends well, where it wanted memory.
+fn ends_well_again(alloc: Global, end: End, name: &RepoName, service: Service) -> bool {
+    if end != End::NoMemory {
+        return true;
     }
-    if end == End::NoMemory {
-        // with memory the same push over the same service ends well
-        let mut world = LossyWorld::new(alloc, service, [0; 12], 0, Vec::new(alloc));
-        assert_eq!(rt;
-            end_of(&push(alloc, &mut world, b"abcde", &name, 2, 5)),
-            End::Pushed
-        );
-        assert!(rt; world.into_service().holds(&name, &digest));
-    }
+    let mut world = LossyWorld::new(alloc, service, [0; 12], 0, Vec::new(alloc));
+    let again = end_of(&push(alloc, &mut world, FILE, name, 2, 5));
+    let is_held = has_file(&world.into_service(), name);
+    again == End::Pushed && is_held
+}
+
+/// Pushes over a script of events. What was asked is known from the replies where none was lost.
+fn push_over(rt: &impl Abort, alloc: Global, script: &str) -> Result<(), Fail> {
+    let name = name_for(alloc)?;
+    let events = events_for(alloc, script.as_bytes())?;
+    let (end, is_as_heard, service) = followed(alloc, &name, events);
+    let is_held = has_file(&service, &name);
+    let is_left = match end {
+        End::Pushed | End::Already => is_held,
+        End::NoMemory => !script.is_empty() || (!is_held && is_as_heard),
+        _ => false,
+    };
+    let is_well_again = ends_well_again(alloc, end, &name, service);
+    check(rt, is_left, script);
+    check(rt, is_well_again, script);
     Ok(())
 }
 
 #[test]
 fn a_refused_growth_leaves_what_was_asked(rt: HostRuntime) -> Result<(), Fail> {
-    push_over(&rt, rt.alloc(), b"")?;
-    push_over(&rt, rt.alloc(), b"ddl")?;
-    push_over(&rt, rt.alloc(), b"ddddl")
+    for script in ["", "ddl", "ddddl"].iter() {
+        push_over(&rt, rt.alloc(), script)?;
+    }
+    Ok(())
 }

@@ -1,8 +1,9 @@
 //! A push over a wire: what it writes, given to a server, gets the replies that it heard, byte for byte.
+use super::{End, check, end_of, name};
 use std::alloc::Global;
+use std::process::Abort;
 use std::test::Fail;
-use upload_names::RepoName;
-use upload_push::{Outcome, push};
+use upload_push::push;
 use upload_service::{Limits, Service};
 use upload_wire::{ConnEnd, FromRead, ServiceDesk, ToWrite, WireTransport, serve_connection};
 
@@ -29,36 +30,45 @@ fn replies_to(alloc: Global, requests: &[u8]) -> (Vec<u8>, ConnEnd) {
     (writer.into_inner(), end)
 }
 
+/// How a push of `abc` ends that hears these replies. What it writes is sent.
+fn pushed_over_wire(alloc: Global, replies: &[u8], sent: &mut Vec<u8>) -> Result<End, Fail> {
+    let name = name(alloc)?;
+    let reader = FromRead::new(replies);
+    let mut transport = WireTransport::new(alloc, reader, ToWrite::new(sent), b"h")?;
+    Ok(end_of(&push(alloc, &mut transport, b"abc", &name, 2, 5)))
+}
+
 #[test]
 fn a_push_over_a_wire_is_served(rt: HostRuntime) -> Result<(), Fail> {
     let alloc = rt.alloc();
-    let name = RepoName::read(alloc, b"lib/a")?;
     let mut sent = Vec::new(alloc);
-    let reader = FromRead::new(REPLIES.as_bytes());
-    let mut transport = WireTransport::new(alloc, reader, ToWrite::new(&mut sent), b"h")?;
-    let outcome = push(alloc, &mut transport, b"abc", &name, 2, 5);
-    drop(transport);
-    assert_eq!(rt; matches!(outcome, Ok(Outcome::Pushed)), true);
-    assert_eq!(rt; sent.as_slice(), REQUESTS.as_bytes());
-    let (replies, end) = replies_to(alloc, &sent);
-    assert_eq!(rt; end, ConnEnd::Clean);
-    assert_eq!(rt; replies.as_slice(), REPLIES.as_bytes());
+    let end = pushed_over_wire(alloc, REPLIES.as_bytes(), &mut sent)?;
+    check(&rt, end == End::Pushed, "pushed");
+    check(&rt, sent.as_slice() == REQUESTS.as_bytes(), "requests");
+    let (replies, conn_end) = replies_to(alloc, &sent);
+    check(&rt, conn_end == ConnEnd::Clean, "the connection's end");
+    check(&rt, replies.as_slice() == REPLIES.as_bytes(), "replies");
     Ok(())
+}
+
+/// Whether a push that hears these replies is given up, behind a part of the requests.
+fn is_given_up(alloc: Global, replies: &[u8]) -> Result<bool, Fail> {
+    let mut sent = Vec::new(alloc);
+    let end = pushed_over_wire(alloc, replies, &mut sent)?;
+    let has_ended = matches!(end, End::Pushed | End::Already);
+    Ok(!has_ended && REQUESTS.as_bytes().starts_with(&sent))
+}
+
+fn check_cut(rt: &impl Abort, holds: bool, cut: usize) {
+    assert!(rt; holds, "{cut}");
 }
 
 /// A server whose replies break off: what was pushed isn't said to be.
 #[test]
 fn a_push_over_a_wire_that_breaks_is_given_up(rt: HostRuntime) -> Result<(), Fail> {
-    let alloc = rt.alloc();
-    let name = RepoName::read(alloc, b"lib/a")?;
     for cut in 0..REPLIES.len() {
-        let mut sent = Vec::new(alloc);
-        let reader = FromRead::new(&REPLIES.as_bytes()[..cut]);
-        let mut transport = WireTransport::new(alloc, reader, ToWrite::new(&mut sent), b"h")?;
-        let outcome = push(alloc, &mut transport, b"abc", &name, 2, 5);
-        drop(transport);
-        assert_eq!(rt; outcome.is_err(), true, "{cut}");
-        assert_eq!(rt; REQUESTS.as_bytes().starts_with(&sent), true, "{cut}");
+        let is_given_up = is_given_up(rt.alloc(), &REPLIES.as_bytes()[..cut])?;
+        check_cut(&rt, is_given_up, cut);
     }
     Ok(())
 }
