@@ -14,7 +14,7 @@ const EMPTY_512: &[u8] =
     b"sha512:cf83e1357eefb8bdf1542850d66d8007d620e4050b5715dc83f4a921d36ce9ce47d0d13c5d85f2b0ff8318d2877eec2f63b931bd47417a81a538327af927da3e";
 
 /// The bytes of contents, with the text of their digest.
-const DIGESTS: [(Algorithm, &[u8], &[u8]); 4] = [
+static DIGESTS: [(Algorithm, &[u8], &[u8]); 4] = [
     (Algorithm::Sha256, b"abc", ABC_256),
     (Algorithm::Sha256, b"", EMPTY_256),
     (Algorithm::Sha512, b"abc", ABC_512),
@@ -38,7 +38,7 @@ fn digests_of_contents(rt: HostRuntime) {
     assert!(rt; !digest.same(&BlobDigest::of(Algorithm::Sha512, b"abc")));
 }
 
-const OTHERS: [&[u8]; 8] = [
+static OTHERS: [&[u8]; 8] = [
     b"",
     b"x",
     b"sha256:",

@@ -3,11 +3,11 @@
 use std::alloc::{AllocError, Global};
 use upload_names::{NameFault, RepoName};
 
-const NAMES: [&[u8]; 9] = [
+static NAMES: [&[u8]; 9] = [
     b"a", b"lib/a", b"a__b", b"a--b", b"a---b", b"a.b/c-d", b"a_b/0", b"0", b"a/b/c/d",
 ];
 
-const OTHERS: [&[u8]; 15] = [
+static OTHERS: [&[u8]; 15] = [
     b"", b"A", b"a___b", b"a..b", b"a_-b", b"/a", b"a/", b"a//b", b"-a", b"a-", b"a.", b"a_",
     b"a b", b"a%2fb", b"\xff",
 ];

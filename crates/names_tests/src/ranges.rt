@@ -6,7 +6,7 @@ use upload_names::ByteRange;
 const MOST: u64 = 1_000_000_000_000_000_000;
 
 /// Texts of ranges, the first and the last byte of each, and how many bytes they are.
-const RANGES: [(&[u8], (u64, u64), Option<u64>); 7] = [
+static RANGES: [(&[u8], (u64, u64), Option<u64>); 7] = [
     (b"0-0", (0, 0), Some(1)),
     (b"000-002", (0, 2), Some(3)),
     (b"5-3", (5, 3), None),
@@ -32,7 +32,7 @@ const RANGES: [(&[u8], (u64, u64), Option<u64>); 7] = [
     ),
 ];
 
-const OTHERS: [&[u8]; 10] = [
+static OTHERS: [&[u8]; 10] = [
     b"",
     b"-",
     b"1-",

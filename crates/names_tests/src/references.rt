@@ -2,7 +2,7 @@
 
 use upload_names::UploadRef;
 
-const REFERENCES: [(u32, u8, &[u8; 36]); 3] = [
+static REFERENCES: [(u32, u8, &[u8; 36]); 3] = [
     (4660, 255, b"00001234-ffff-8fff-bfff-ffffffffffff"),
     (1, 0, b"00000001-0000-8000-8000-000000000000"),
     (u32::MAX, 0, b"ffffffff-0000-8000-8000-000000000000"),
@@ -18,7 +18,7 @@ fn layout_of_references(rt: HostRuntime) {
 }
 
 /// Texts of one reference.
-const SAME: [&[u8]; 6] = [
+static SAME: [&[u8]; 6] = [
     b"00abcdef-0707-8707-8707-070707070707",
     b"00ABCDEF-0707-8707-8707-070707070707",
     b"00abcdef070787078707070707070707",
@@ -27,7 +27,7 @@ const SAME: [&[u8]; 6] = [
     b"URN:UUID:00ABCDEF-0707-8707-8707-070707070707",
 ];
 
-const OTHERS: [&[u8]; 4] = [
+static OTHERS: [&[u8]; 4] = [
     b"",
     b"x",
     b"00abcdef-0707-8707-8707-07070707070",

@@ -242,7 +242,7 @@ fn check_scripts(rt: &impl Abort, alloc: Global, rows: &[Scripted]) -> Result<()
     Ok(())
 }
 
-const LOST_REPLIES: [Scripted; 6] = [
+static LOST_REPLIES: [Scripted; 6] = [
     Scripted {
         script: "ddl",
         file: b"abcde",
@@ -322,7 +322,7 @@ fn pushes_over_lost_replies(rt: HostRuntime) -> Result<(), Fail> {
     check_scripts(&rt, rt.alloc(), &LOST_REPLIES)
 }
 
-const FALLEN_IDLE: [Scripted; 2] = [
+static FALLEN_IDLE: [Scripted; 2] = [
     Scripted {
         script: "ddp",
         file: b"abcde",
@@ -384,7 +384,7 @@ fn goes_beside_another(alloc: Global, row: &BesideAnother) -> Result<bool, Fail>
     )
 }
 
-const BYTES_OF_ANOTHER: [BesideAnother; 2] = [
+static BYTES_OF_ANOTHER: [BesideAnother; 2] = [
     BesideAnother {
         case: "another byte than the file's",
         byte: b'z',
@@ -554,7 +554,7 @@ fn next_at_once(alloc: Global, reply: Reply) -> Result<Next, Fail> {
     Ok(next_of(&pusher))
 }
 
-const GIVEN_UP: [(&str, Reply, Next); 4] = [
+static GIVEN_UP: [(&str, Reply, Next); 4] = [
     ("unheard", Reply::Lost, Next::OutOfTries),
     ("busy", Reply::Bare(503), Next::OutOfTries),
     ("without a place", Reply::Bare(202), Next::BadServer),
@@ -569,7 +569,7 @@ fn pusher_gives_up(rt: HostRuntime) -> Result<(), Fail> {
     Ok(())
 }
 
-const LOST_UPLOAD: [(&str, Reply, Next); 4] = [
+static LOST_UPLOAD: [(&str, Reply, Next); 4] = [
     ("begun", Reply::Begun, Next::Chunk),
     ("a chunk's reply is lost", Reply::Lost, Next::Status),
     ("the upload is gone", Reply::Bare(404), Next::Head),

@@ -60,7 +60,7 @@ const WITH_A_PLACE: Told<'_> = Told {
 };
 
 /// Whether the request was a HEAD, what comes, and what it says.
-const REPLIES: [(bool, &str, Told<'_>); 8] = [
+static REPLIES: [(bool, &str, Told<'_>); 8] = [
     (
         false,
         "HTTP/1.1 416 Range Not Satisfiable\r\nLocation: /v2/lib/a/blobs/uploads/00000001-0000-8000-8000-000000000000\r\nRange: 0-2\r\nContent-Type: application/json\r\nContent-Length: 75\r\n\r\n{\"errors\":[{\"code\":\"BLOB_UPLOAD_INVALID\",\"message\":\"blob upload invalid\"}]}",
@@ -158,7 +158,7 @@ fn replies_are_heard(rt: HostRuntime) -> Result<(), Fail> {
 }
 
 /// What comes, and why it is no reply.
-const FAULTS: [(HeardFault, &str); 14] = [
+static FAULTS: [(HeardFault, &str); 14] = [
     (HeardFault::Unreadable, "HTTP/1.1 100 Continue\r\n\r\n"),
     (
         HeardFault::Unreadable,
@@ -239,7 +239,7 @@ fn faults_end_the_reading(rt: HostRuntime) -> Result<(), Fail> {
 }
 
 /// Where a reply begins, how many more bytes come, and why it can't be heard.
-const LARGE: [(&str, usize, Option<HeardFault>); 6] = [
+static LARGE: [(&str, usize, Option<HeardFault>); 6] = [
     (
         "HTTP/1.1 200 OK\r\nContent-Length: 65536\r\n\r\n",
         65_536,
@@ -307,7 +307,7 @@ fn replies_come_one_after_another(rt: HostRuntime) -> Result<(), Fail> {
 }
 
 /// One answer of each kind whose reply a client may read.
-const ANSWERS: [Said; 26] = [
+static ANSWERS: [Said; 26] = [
     Said::Base,
     Said::Seen(Algorithm::Sha256),
     Said::Seen(Algorithm::Sha512),
@@ -443,7 +443,7 @@ fn ask_of(alloc: Global, word: Word) -> Result<Ask, Fail>
     })
 }
 
-const REQUESTS: [(Word, &str); 8] = [
+static REQUESTS: [(Word, &str); 8] = [
     (Word::Base, "GET /v2/ HTTP/1.1\r\nHost: h\r\n\r\n"),
     (
         Word::Has,
@@ -524,7 +524,7 @@ fn hears(
     Ok(())
 }
 
-const SILENT: [(Word, Option<u16>); 2] = [(Word::Base, None), (Word::Base, None)];
+static SILENT: [(Word, Option<u16>); 2] = [(Word::Base, None), (Word::Base, None)];
 
 #[test]
 fn a_transport_is_silent_after_a_fault(rt: HostRuntime) -> Result<(), Fail> {
@@ -543,7 +543,7 @@ fn a_transport_is_silent_after_a_fault(rt: HostRuntime) -> Result<(), Fail> {
 const HEARD: &[u8] =
     b"HTTP/1.1 200 OK\r\nContent-Length: 0\r\n\r\nHTTP/1.1 404 Not Found\r\nContent-Length: 9\r\n\r\nHTTP/1.1 200 OK\r\n\r\n";
 
-const STATUSES: [(Word, Option<u16>); 4] = [
+static STATUSES: [(Word, Option<u16>); 4] = [
     (Word::Base, Some(200)),
     (Word::Has, Some(404)),
     (Word::Base, Some(200)),

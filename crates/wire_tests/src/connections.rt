@@ -56,7 +56,7 @@ fn serve<S: ByteSource, W: ByteSink>(
 }
 
 /// What is sent and what comes back, under which limits, behind how many used numbers, and how it ends.
-const CONNECTIONS: [((&str, &str), Limits, u32, ConnEnd); 11] = [
+static CONNECTIONS: [((&str, &str), Limits, u32, ConnEnd); 11] = [
     (("", ""), LIMITS, 0, ConnEnd::Clean),
     (CHUNKED, LIMITS, 0, ConnEnd::Clean),
     (BLOB_LIMIT, SMALL_BLOBS, 0, ConnEnd::Clean),

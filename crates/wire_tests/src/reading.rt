@@ -125,9 +125,9 @@ fn with_fields(alloc: Global, count: usize) -> Result<Vec<u8>, AllocError> {
     Ok(text)
 }
 
-const LONG_VALUES: [(usize, Kind); 2] = [(16_337, Kind::Opening), (16_338, Kind::Bad(2))];
+static LONG_VALUES: [(usize, Kind); 2] = [(16_337, Kind::Opening), (16_338, Kind::Bad(2))];
 
-const MANY_FIELDS: [(usize, Kind); 2] = [(64, Kind::Opening), (65, Kind::Bad(1))];
+static MANY_FIELDS: [(usize, Kind); 2] = [(64, Kind::Opening), (65, Kind::Bad(1))];
 
 #[test]
 fn heads_keep_their_limits(rt: HostRuntime) -> Result<(), Fail> {
@@ -157,7 +157,7 @@ fn hopeless_head_is_judged(rt: HostRuntime) -> Result<(), Fail> {
 }
 
 /// Method, target, body, and what is asked.
-const ASKS: [(&str, &str, &str, Kind); 27] = [
+static ASKS: [(&str, &str, &str, Kind); 27] = [
     ("GET", "/v2/", "", Kind::Base),
     ("HEAD", "/v2/", "", Kind::Base),
     ("GET", "/v2/?x=1", "abc", Kind::Base),
@@ -278,7 +278,7 @@ const ASKS: [(&str, &str, &str, Kind); 27] = [
 ];
 
 /// Targets of a GET, each with a digest behind it.
-const TARGETS: [(&str, Kind); 2] = [
+static TARGETS: [(&str, Kind); 2] = [
     ("blobs/", Kind::Has(false)),
     (
         "blobs/uploads/?from=lib/b&mount=",
@@ -287,7 +287,7 @@ const TARGETS: [(&str, Kind); 2] = [
 ];
 
 /// Queries of an opening, each with a digest behind it.
-const QUERIES: [(&str, Kind); 4] = [
+static QUERIES: [(&str, Kind); 4] = [
     ("blobs/uploads/?from=lib/b&mount=", Kind::Mount),
     ("blobs/uploads/?from=A&from=lib/b&mount=", Kind::Opening),
     ("blobs/uploads/?mount=", Kind::Opening),
@@ -339,7 +339,7 @@ fn digests_end_targets(rt: HostRuntime) -> Result<(), Fail> {
 }
 
 /// Version, fields, and what is read of a head with them and no body.
-const BODIES: [(&str, &str, Kind); 12] = [
+static BODIES: [(&str, &str, Kind); 12] = [
     ("1.1", "Content-Length: 3x\r\n", Kind::Bad(3)),
     (
         "1.1",
@@ -399,7 +399,7 @@ const PATCH: &str =
     "PATCH /v2/lib/a/blobs/uploads/00000001-0000-8000-8000-000000000000 HTTP/1.1\r\nTransfer-Encoding: chunked\r\n\r\n";
 
 /// Chunked bodies, and what is read.
-const CHUNKED: [(&str, Kind); 12] = [
+static CHUNKED: [(&str, Kind); 12] = [
     ("1\r\na\r\n2\r\nbc\r\n0\r\n\r\n", Kind::Chunk(3)),
     ("0\r\n\r\n", Kind::Chunk(0)),
     ("00000003\r\nabc\r\n00000000\r\n\r\n", Kind::Chunk(3)),
@@ -463,11 +463,11 @@ fn read_on(
 const TWO: &str =
     "PATCH /v2/a/blobs/uploads/00000001-0000-8000-8000-000000000000 HTTP/1.1\r\nContent-Length: 2\r\n\r\nabGET /v2/ HTTP/1.0\r\n\r\n";
 
-const TWO_KINDS: [Kind; 4] = [Kind::Chunk(2), Kind::Base, Kind::Over, Kind::Over];
+static TWO_KINDS: [Kind; 4] = [Kind::Chunk(2), Kind::Base, Kind::Over, Kind::Over];
 
 const ENDED: &str = "GET\n\nGET /v2/ HTTP/1.1\r\n\r\n";
 
-const ENDED_KINDS: [Kind; 3] = [
+static ENDED_KINDS: [Kind; 3] = [
     Kind::Bad(1),
     Kind::Fault(WireFault::Ended),
     Kind::Fault(WireFault::Ended),
@@ -481,7 +481,7 @@ fn requests_one_after_another(rt: HostRuntime) -> Result<(), Fail> {
 }
 
 /// A request, whether it is a HEAD, and whether the connection is kept.
-const STYLES: [(&str, bool, bool); 6] = [
+static STYLES: [(&str, bool, bool); 6] = [
     ("GET /v2/ HTTP/1.1\r\n\r\n", false, true),
     (
         "HEAD /v2/ HTTP/1.1\r\nConnection: keep-alive\r\n\r\n",

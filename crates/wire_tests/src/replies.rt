@@ -31,7 +31,7 @@ fn written(alloc: Global, said: Said, style: Style) -> Result<Vec<u8>, Fail> {
     Ok(writer.into_inner())
 }
 
-const REPLIES: [(Said, Style, &str); 10] = [
+static REPLIES: [(Said, Style, &str); 10] = [
     (
         Said::Base,
         KEPT,
@@ -93,7 +93,7 @@ fn replies_have_their_fields_in_order(rt: HostRuntime) -> Result<(), Fail> {
     Ok(())
 }
 
-const REFUSALS: [(Refusal, &str); 16] = [
+static REFUSALS: [(Refusal, &str); 16] = [
     (
         Refusal::NoForm,
         "HTTP/1.1 404 Not Found\r\nContent-Type: application/json\r\nContent-Length: 76\r\n\r\n{\"errors\":[{\"code\":\"UNSUPPORTED\",\"message\":\"the operation is unsupported\"}]}",
@@ -169,7 +169,7 @@ fn refusals_name_their_errors(rt: HostRuntime) -> Result<(), Fail> {
     Ok(())
 }
 
-const BAD: [(u8, &str); 6] = [
+static BAD: [(u8, &str); 6] = [
     (
         1,
         "HTTP/1.1 400 Bad Request\r\nContent-Length: 0\r\nConnection: close\r\n\r\n",

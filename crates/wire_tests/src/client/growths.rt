@@ -110,7 +110,7 @@ fn answer_for(alloc: Global, said: Said) -> Result<Answer, AllocError> {
     }
 }
 
-const ANSWERS: [(Said, Told<'_>); 4] = [
+static ANSWERS: [(Said, Told<'_>); 4] = [
     (Said::Taken(1), UPLOAD_TAKEN),
     (Said::Misplaced(1), UPLOAD_MISPLACED),
     (Said::Stored(Algorithm::Sha256), STORED),

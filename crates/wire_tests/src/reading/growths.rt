@@ -49,7 +49,7 @@ fn read_again(rt: &impl Abort, alloc: Global, text: &str, want: Kind) -> Result<
 }
 
 /// Requests that take memory, and what they ask.
-const REQUESTS: [(&str, Kind); 10] = [
+static REQUESTS: [(&str, Kind); 10] = [
     (
         "GET /v2/lib/a/blobs/sha256:ba7816bf8f01cfea414140de5dae2223b00361a396177a9cb410ff61f20015ad HTTP/1.1\r\n\r\n",
         Kind::Has(false),
