@@ -358,14 +358,22 @@ fn code_of(end: &Result<Outcome, PushFault>) -> Option<&[u8]> {
     }
 }
 
-/// A push whose opening is followed by another client's byte in its session.
+/// A push whose opening is followed by another client's byte in its session, and how it ends.
 struct BesideAnother {
     case: &'static str,
     byte: u8,
-    asked: &'static [Asked],
     end: End,
     code: Option<&'static [u8]>,
 }
+
+/// What a push asks beside another client, whose byte is its first.
+const ASKED_BESIDE_ANOTHER: &[Asked] = &[
+    Asked::Opening,
+    Asked::Chunk(0, 1),
+    Asked::Chunk(1, 2),
+    Asked::Chunk(3, 4),
+    Asked::Close,
+];
 
 /// An opening that is served, and another client's byte in its session.
 fn events_with_byte(alloc: Global, byte: u8) -> Result<Vec<Event>, Fail> {
@@ -377,36 +385,25 @@ fn goes_beside_another(alloc: Global, row: &BesideAnother) -> Result<bool, Fail>
     let name = name(alloc)?;
     let mut over = new_recorder(alloc, events_with_byte(alloc, row.byte)?);
     let result = push(alloc, &mut over, b"abcde", &name, 2, 5);
-    Ok(
-        end_of(&result) == row.end
-            && code_of(&result) == row.code
-            && over.asked.as_slice() == row.asked,
-    )
+    let is_end = end_of(&result) == row.end;
+    let is_code = code_of(&result) == row.code;
+    let is_asked = over.asked.as_slice() == ASKED_BESIDE_ANOTHER;
+    Ok(is_end && is_code && is_asked)
 }
 
 static BYTES_OF_ANOTHER: [BesideAnother; 2] = [
     BesideAnother {
         case: "another byte than the file's",
         byte: b'z',
-        asked: BESIDE_ANOTHER,
         end: End::Refused(400),
         code: Some(b"DIGEST_INVALID"),
     },
     BesideAnother {
         case: "the file's byte",
         byte: b'a',
-        asked: BESIDE_ANOTHER,
         end: End::Pushed,
         code: None,
     },
-];
-
-const BESIDE_ANOTHER: &[Asked] = &[
-    Asked::Opening,
-    Asked::Chunk(0, 1),
-    Asked::Chunk(1, 2),
-    Asked::Chunk(3, 4),
-    Asked::Close,
 ];
 
 #[test]
