@@ -1,20 +1,15 @@
 -- The head of a reply ends in a line feed and has one for each line, so none ends anywhere else.
 use Rattle.std.proofs.Common.{◌≡◌, ◌≢◌, ℕ, ◌+◌, ◌<◌, ◌≤◌, List, [], ◌∷◌, ◌++◌, length, refl, sym, ap, ◌∙◌, subst, arith, append_assoc, length-append, inl, inr}
-use Rattle.std.specs.Prelude.{◌⊎◌, ◌==◌}
-use Rattle.std.specs.List.{flat_map, count_by}
-use Rattle.std.proofs.Math.Seq.{append_snoc}
+use Rattle.std.specs.List.{flat_map}
 use Rattle.std.proofs.lemmas.List.{append-nil}
-use Rattle.std.proofs.lemmas.List.Sums.{sum_by-append}
-use Rattle.std.proofs.lemmas.List.Concat.{flat_map-cons}
 use Rattle.httparse.specs.Ascii.{line_feed}
-use Rattle.httparse.specs.Grammar.{LineEnd, crlf, lf, print_end, print_blank, print_version, print_reason, Field, print_field, print_section, ResponseHead, print_response, ReadsResponse, HasNoResponse}
+use Rattle.httparse.specs.Grammar.{print_end, print_blank, print_version, print_reason, print_field, print_section, ResponseHead, print_response, ReadsResponse, HasNoResponse}
 use Rattle.httparse.specs.Spans.{ResponseOverflows, ResponseExceeds}
 use Rattle.httparse.proofs.GrammarLemmas.{ReadsResponse-append}
 use Rattle.httparse.specs.Grammar.{NeverHasResponse}
 use Rattle.httparse.specs.declared.Error.{Error}
 use Rattle.httparse.specs.declared.Error.TheVariants.{HeaderName, HeaderValue, NewLine, Status, Token, TooManyHeaders, Version}
-use Rattle.std.proofs.Common.{add-one, get_or, take, drop, length-take, length-drop}
-use Rattle.std.proofs.Math.Seq.{take-suc}
+use Rattle.std.proofs.Common.{get_or, take, drop, length-take, length-drop}
 use Rattle.std.proofs.lemmas.List.{take-append-drop}
 use Rattle.upload_wire.specs.declared.client.parsed.ParsedAnswer.{ParsedAnswer}
 use Rattle.upload_wire.specs.declared.client.head.Verdict.{Verdict}
@@ -22,7 +17,7 @@ use Rattle.upload_wire.specs.declared.client.head.Verdict.TheVariants.{Complete,
 use Rattle.upload_wire.proofs.HeadLemmas.{snoc_cases, snoc_inj, end_is_line_feed, line_feeds-append, line_feeds-end, line_feeds-fields, take-next}
 use Rattle.upload_wire.specs.Fronts.{line_feeds, max_fields}
 use Rattle.upload_wire.specs.AnswerReading.{IsHeadOf, IsHeadAtFront, Judges, JudgesAt}
-use Rattle.upload_wire.specs.AnswerFronts.{IsRefused, IsTooLong, HasOnlyLongHeads, MayBeRefused}
+use Rattle.upload_wire.specs.AnswerFronts.{IsRefused, IsTooLong, MayBeRefused}
 
 -- ---- the end of a head
 

@@ -1,16 +1,16 @@
 -- The texts of requests, from the pieces that are written.
-use Rattle.std.proofs.Common.{◌≡◌, ℕ, List, [], ◌++◌, ◌∷◌, refl, sym, ap, ◌∙◌, append_assoc, length}
-use Rattle.std.specs.Prelude.{Option, Some, None, codes, decimal, flat_map}
+use Rattle.std.proofs.Common.{◌≡◌, ℕ, List, [], ◌++◌, append_assoc}
+use Rattle.std.specs.Prelude.{Option, Some, codes, decimal, flat_map}
 use Rattle.std.proofs.lemmas.List.{append-nil}
 use Rattle.std.proofs.lemmas.Grind.{flat_map-append}
-use Rattle.upload_names.specs.Digest.{Digest, digest_text}
+use Rattle.upload_names.specs.Digest.{Digest}
 use Rattle.upload_names.specs.ByteRange.{Span}
 use Rattle.upload_names.specs.Reference.{reference_text}
 use Rattle.upload_service.specs.declared.ask.Ask.{Ask}
-use Rattle.upload_service.specs.declared.ask.Ask.TheVariants.{Single, Mount, Chunk, Status, Close, Opening}
+use Rattle.upload_service.specs.declared.ask.Ask.TheVariants.{Single, Mount, Chunk, Status, Close}
 use Rattle.upload_service.specs.declared.ask.Extent.{Extent}
 use Rattle.upload_service.specs.declared.ask.Extent.TheVariants.{Given}
-use Rattle.upload_wire.specs.AskText.{Message, message_of, request_line, query_text, digest_or_nothing, digest_query, section_text, range_fields, body_fields, ask_text, host_text}
+use Rattle.upload_wire.specs.AskText.{message_of, request_line, query_text, digest_or_nothing, digest_query, section_text, range_fields, body_fields, ask_text, host_text}
 use Rattle.upload_wire.specs.ReplyText.{print_field}
 
 pub single_line : (name : List ℕ) (digest : Option Digest) (body : List ℕ)

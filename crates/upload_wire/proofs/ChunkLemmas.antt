@@ -1,9 +1,8 @@
 -- A chunked text is read in one way.
-use Rattle.std.proofs.Common.{◌≡◌, ◌≢◌, ℕ, ◌+◌, ◌-◌, ◌<◌, ◌≤◌, Bool, true, false, List, [], ◌∷◌, ◌++◌, All, length, refl, arith, ◌∙◌, sym, ap, subst, append-nil, append_assoc, length-append}
-use Rattle.std.proofs.lemmas.List.Elements.{All-head, All-tail, All-cons, All-nil, All-append}
+use Rattle.std.proofs.Common.{◌≡◌, ◌≢◌, ℕ, ◌+◌, ◌-◌, ◌<◌, ◌≤◌, List, [], ◌∷◌, ◌++◌, All, length, refl, arith, ◌∙◌, sym, ap, subst, append_assoc, length-append}
+use Rattle.std.proofs.lemmas.List.Elements.{All-head, All-tail, All-cons, All-append}
 use Rattle.std.proofs.lemmas.Grind.{flat_map-append}
 use Rattle.std.specs.Str.Parse.{digits_value}
-use Rattle.std.specs.List.{flat_map}
 use Rattle.upload_wire.specs.Body.{IsSize, Chunk, print_chunk, IsChunk, IsZero, chunks_text, chunks_data, IsChunked, NeverChunked, IsFrontOfChunked, IsOver}
 use Rattle.upload_wire.specs.SizeLines.{NeverLine}
 use Rattle.upload_wire.proofs.LineLemmas.{stops_at}

@@ -1,6 +1,6 @@
 -- The code of a body.
-use Rattle.std.proofs.Common.{◌≡◌, ◌≢◌, ℕ, Bool, true, false, List, [], ◌∷◌, ◌++◌, map, refl, sym, ap, ◌∙◌, subst, inl, inr}
-use Rattle.std.specs.Prelude.{IsUtf8, Option, Some, None, bytes_eq}
+use Rattle.std.proofs.Common.{◌≡◌, ℕ, true, false, List, [], ◌∷◌, ◌++◌, refl, sym, ap, ◌∙◌, inl, inr}
+use Rattle.std.specs.Prelude.{IsUtf8, Option, Some, None}
 use Rattle.std.specs.Str.{is_utf8}
 use Rattle.std.proofs.lemmas.Str.{IsUtf8-from_is_utf8, is_utf8-from_IsUtf8}
 use Rattle.std.proofs.lemmas.Bool.{cases_Bool}
@@ -9,7 +9,6 @@ use Rattle.serde_json.specs.Read.{read}
 use Rattle.upload_wire.specs.AnswerText.{code_in, code_of, first_of}
 use Rattle.upload_wire.specs.Fields.{Fields, values_of, same_word}
 use Rattle.upload_wire.proofs.FieldLemmas.{values_of-same, values_of-differs}
-use Rattle.std.proofs.lemmas.Slice.Eq.{bytes_eq-Decides}
 
 pub code_none : (body : List ℕ) → (IsUtf8 body → read body ≡ None) → None ≡ code_of body
 code_none body none = elim (cases_Bool (is_utf8 body)) [

@@ -1,12 +1,12 @@
 -- How a front of a chunked text can go on.
-use Rattle.std.proofs.Common.{◌≡◌, ◌≢◌, ℕ, zero, suc, ◌+◌, ◌-◌, ◌<◌, ◌≤◌, Bool, true, false, List, [], ◌∷◌, ◌++◌, All, length, refl, arith, ◌∙◌, sym, ap, subst, append-nil, append_assoc, length-append, inl, inr}
-use Rattle.std.proofs.lemmas.List.Elements.{All-head, All-tail, All-cons, All-nil}
+use Rattle.std.proofs.Common.{◌≡◌, ℕ, zero, suc, ◌-◌, ◌<◌, ◌≤◌, List, [], ◌∷◌, ◌++◌, length, refl, arith, ◌∙◌, sym, ap, subst, append-nil, append_assoc, length-append, inl, inr}
+use Rattle.std.proofs.lemmas.List.Elements.{All-nil}
 use Rattle.std.proofs.lemmas.Bool.{cases_lt}
 use Rattle.std.proofs.lemmas.List.Sums.{AllPass-from_list_all}
 use Rattle.std.specs.Str.Parse.{digits_value}
 use Rattle.std.specs.Char.{is_ascii_hexdigit}
-use Rattle.upload_wire.specs.Body.{IsSize, Chunk, print_chunk, IsChunk, IsZero, chunks_text, chunks_data, IsChunked, NeverChunked, IsFrontOfChunked, IsOver}
-use Rattle.upload_wire.specs.SizeLines.{StandsAt, AreDigits}
+use Rattle.upload_wire.specs.Body.{IsSize, Chunk, IsChunk, IsChunked, IsFrontOfChunked, IsOver}
+use Rattle.upload_wire.specs.SizeLines.{StandsAt}
 use Rattle.upload_wire.specs.declared.chunked.LineState.{LineState}
 use Rattle.upload_wire.specs.declared.chunked.LineState.TheVariants.{Digits, Ended}
 use Rattle.upload_wire.proofs.ChunkLemmas.{chunk_more, chunk_flat, empty_of, over_has_line}

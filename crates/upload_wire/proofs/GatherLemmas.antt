@@ -1,11 +1,11 @@
 -- A text that is gathered before it is written.
-use Rattle.std.proofs.Common.{◌≡◌, ℕ, Bool, true, false, List, [], ◌++◌, refl, sym, ap, ◌∙◌, subst, append_assoc}
+use Rattle.std.proofs.Common.{◌≡◌, ℕ, Bool, true, false, List, [], ◌++◌, sym, ap, ◌∙◌, subst, append_assoc}
 use Rattle.std.specs.Prelude.{Result, Ok, Err, ⊤, is_ok, is_err, OnOk, OnErr}
 use Rattle.std.proofs.lemmas.List.{append-nil}
 use Rattle.upload_wire.specs.declared.writing.WriteFault.{WriteFault}
-use Rattle.upload_wire.specs.Writing.{Sink, TookAll, TookFront, Wrote}
+use Rattle.upload_wire.specs.Writing.{Sink, TookFront, Wrote}
 use Rattle.upload_wire.specs.Gathering.{Held, GatheredUnless, Gathered}
-use Rattle.upload_wire.proofs.WritingLemmas.{took_both, took_more, wrote_more}
+use Rattle.upload_wire.proofs.WritingLemmas.{wrote_more}
 
 pub took_less : (a b : Sink) (text more : List ℕ) → TookFront a b text → TookFront a b (text ++ more)
 took_less a b text more f = record {

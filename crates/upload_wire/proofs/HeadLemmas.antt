@@ -1,7 +1,7 @@
 -- A head ends in a line feed and has one for each line, so no head ends anywhere else.
 use Rattle.std.proofs.Common.{◌≡◌, ◌≢◌, ℕ, ◌+◌, ◌<◌, ◌≤◌, List, [], ◌∷◌, ◌++◌, length, refl, sym, ap, ◌∙◌, subst, arith, append_assoc, length-append, inl, inr}
-use Rattle.std.specs.Prelude.{◌⊎◌, ◌==◌}
-use Rattle.std.specs.List.{flat_map, count_by}
+use Rattle.std.specs.Prelude.{◌⊎◌}
+use Rattle.std.specs.List.{flat_map}
 use Rattle.std.proofs.Math.Seq.{append_snoc}
 use Rattle.std.proofs.lemmas.List.{append-nil}
 use Rattle.std.proofs.lemmas.List.Sums.{sum_by-append}
@@ -20,7 +20,7 @@ use Rattle.upload_wire.specs.declared.parsed.ParsedHead.{ParsedHead}
 use Rattle.upload_wire.specs.declared.head.Verdict.{Verdict}
 use Rattle.upload_wire.specs.declared.head.Verdict.TheVariants.{Complete, Refused, Open}
 use Rattle.upload_wire.specs.HeadReading.{IsHeadOf, IsHeadAtFront, Judges, JudgesAt}
-use Rattle.upload_wire.specs.Fronts.{IsRefused, IsTooLong, line_feeds, max_fields, HasOnlyLongHeads, MayBeRefused}
+use Rattle.upload_wire.specs.Fronts.{IsRefused, IsTooLong, line_feeds, max_fields, MayBeRefused}
 
 -- ---- lists
 

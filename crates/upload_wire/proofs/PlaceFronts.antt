@@ -1,5 +1,5 @@
 -- What stands behind a front of a text.
-use Rattle.std.proofs.Common.{◌≡◌, ◌≢◌, ℕ, ◌+◌, Bool, true, false, List, [], ◌∷◌, ◌++◌, length, take, drop, refl, sym, ap, ◌∙◌, subst, append_assoc, Bor, if◌then◌else◌}
+use Rattle.std.proofs.Common.{◌≡◌, ◌≢◌, ℕ, ◌+◌, Bool, true, false, List, ◌++◌, length, take, drop, refl, sym, ap, ◌∙◌, append_assoc, Bor, if◌then◌else◌}
 use Rattle.std.specs.Prelude.{Option, Some, None, option_and_then, nat_eq, MatchOption}
 use Rattle.std.specs.Option.{option_copied}
 use Rattle.std.specs.List.{starts_with}

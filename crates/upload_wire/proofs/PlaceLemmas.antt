@@ -1,5 +1,5 @@
 -- The reference in a path, part by part.
-use Rattle.std.proofs.Common.{◌≡◌, ℕ, List, [], ◌++◌, codes, refl, sym, ap, ◌∙◌, subst, append_assoc}
+use Rattle.std.proofs.Common.{◌≡◌, ℕ, List, [], ◌++◌, codes, refl, sym, ap, ◌∙◌, append_assoc}
 use Rattle.std.specs.Prelude.{Option, Some, None, option_and_then}
 use Rattle.std.proofs.lemmas.List.{append-nil}
 use Rattle.upload_names.specs.Reference.{reference_of, reference_text}

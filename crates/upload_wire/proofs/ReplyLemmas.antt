@@ -1,9 +1,9 @@
 -- Texts put into a buffer, and the heads that they make.
-use Rattle.std.proofs.Common.{◌≡◌, ℕ, zero, suc, ◌+◌, ◌≤◌, List, [], ◌++◌, ◌∷◌, length, take, min, refl, sym, ap, ◌∙◌, subst, append_assoc, arith, length-append, length-take, ◌-◌, zero-le}
+use Rattle.std.proofs.Common.{◌≡◌, ℕ, zero, suc, ◌+◌, ◌≤◌, List, [], ◌++◌, ◌∷◌, length, take, refl, sym, ap, ◌∙◌, subst, append_assoc, arith, length-append, length-take, ◌-◌, zero-le}
 use Rattle.std.proofs.lemmas.Bool.{ne_eqb}
 use Rattle.std.proofs.lemmas.Grind.{flat_map-append}
 use Rattle.std.specs.Prelude.{Bool, true, false, ◌==◌, if◌then◌else◌, codes, decimal, flat_map, Result, Ok, Err, IsOk, OnOk}
-use Rattle.std.proofs.lemmas.List.{take_min, take_all, append-nil}
+use Rattle.std.proofs.lemmas.List.{take_all, append-nil}
 use Rattle.httparse.specs.Ascii.{crlf_bytes}
 use Rattle.upload_wire.specs.ReplyBuffer.{Puts, capacity}
 use Rattle.upload_wire.specs.Target.{blob_path, upload_path}

@@ -1,16 +1,14 @@
 -- Texts cut at their last slash.
-use Rattle.std.proofs.Common.{◌≡◌, ◌≢◌, ℕ, ◌+◌, ◌-◌, ◌<◌, ◌≤◌, List, [], ◌∷◌, ◌++◌, length, get_or, take, drop, refl, sym, ap, ◌∙◌, subst, arith, append_assoc, length-append, drop-cons, length-drop, add-one, get_or-drop}
-use Rattle.std.proofs.lemmas.List.{take-append-drop, get_or-append_right}
+use Rattle.std.proofs.Common.{◌≡◌, ◌≢◌, ℕ, ◌+◌, ◌-◌, ◌<◌, ◌≤◌, List, [], ◌∷◌, ◌++◌, length, get_or, take, drop, refl, sym, ap, ◌∙◌, arith, append_assoc, length-append, drop-cons, length-drop, add-one, get_or-drop}
+use Rattle.std.proofs.lemmas.List.{take-append-drop}
 use Rattle.std.proofs.Math.Seq.{take-append_seam, drop-append_seam}
-use Rattle.std.proofs.Common.{inl, inr}
 use Rattle.std.specs.Borrow.{Bor}
 use Rattle.std.proofs.lemmas.Slice.Eq.{bytes_eq-Decides}
 use Rattle.upload_wire.proofs.FieldLemmas.{not_both}
 use Rattle.std.proofs.Common.{true, false}
-use Rattle.std.specs.Prelude.{Option, Some, None, MatchOption, bytes_eq, Result, Ok, Err, IfOk}
-use Rattle.upload_wire.specs.declared.target.PathForm.{PathForm}
+use Rattle.std.specs.Prelude.{Option, Some, None, MatchOption, bytes_eq}
 use Rattle.upload_wire.specs.declared.target.PathForm.TheVariants.{NoForm}
-use Rattle.upload_wire.specs.Target.{HasNoSlash, IsFormOf, blob_path, upload_path}
+use Rattle.upload_wire.specs.Target.{HasNoSlash, IsFormOf}
 
 -- the text, cut at an index
 drop-next : (t : List ℕ) (k : ℕ) → k < length t → drop k t ≡ get_or t k 0 ∷ drop (k + 1) t

@@ -1,6 +1,6 @@
 -- One ask of a transport over a wire, from what its two halves say.
 use Rattle.std.proofs.Common.{◌≡◌, List, ℕ, Bool, subst, sym, inl, ◌∙◌}
-use Rattle.std.specs.Prelude.{◌≢◌, Option, Result, Ok, Err, ⊤, true, false, is_err}
+use Rattle.std.specs.Prelude.{◌≢◌, Option, Result, Ok, Err, ⊤, false, is_err}
 use Rattle.std.specs.Result.{result_ok}
 use Rattle.std.proofs.lemmas.Bool.{true≢false}
 use Rattle.upload_service.specs.declared.ask.Ask.{Ask}
@@ -8,7 +8,7 @@ use Rattle.upload_wire.specs.Counts.{CountsUp, CountsAtMost}
 use Rattle.upload_wire.specs.Writing.{Sink, TookAll, Wrote}
 use Rattle.upload_wire.specs.AskText.{ask_text, wants_head}
 use Rattle.upload_wire.specs.AnswerText.{ReadsAnswer, most_answer_reads}
-use Rattle.upload_wire.specs.TransportText.{AsksOverWire, AsksWhere, Hears, WireState}
+use Rattle.upload_wire.specs.TransportText.{AsksOverWire, AsksWhere, WireState}
 use Rattle.upload_wire.specs.declared.client.heard.Heard.{Heard}
 use Rattle.upload_wire.specs.declared.client.heard.HeardFault.{HeardFault}
 use Rattle.upload_wire.specs.declared.client.heard.HeardFault.TheVariants as Fault

@@ -4,7 +4,6 @@ use Rattle.upload_wire.specs.declared.fault.WireFault.{WireFault}
 use Rattle.upload_wire.specs.declared.request.Next.{Next}
 use Rattle.upload_wire.specs.declared.request.Next.TheVariants.{Request, Over, Bad}
 use Rattle.upload_wire.specs.declared.reader.Phase.{Phase}
-use Rattle.upload_wire.specs.declared.reader.Phase.TheVariants as Phase
 
 -- the phase after an answer
 abbrev pub phase_after : Result Next WireFault → Phase

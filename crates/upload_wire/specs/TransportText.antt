@@ -1,5 +1,5 @@
 -- One ask over a wire: a request is written, and one reply is heard.
-use Rattle.std.specs.Prelude.{◌≡◌, ◌≢◌, ℕ, Bool, true, false, List, Option, None, Result, Ok, Err, is_err, ◌⊎◌}
+use Rattle.std.specs.Prelude.{◌≡◌, ◌≢◌, ℕ, Bool, true, false, List, Option, None, Result, Err, is_err, ◌⊎◌}
 use Rattle.std.specs.Result.{result_ok}
 use Rattle.upload_service.specs.declared.ask.Ask.{Ask}
 use Rattle.upload_wire.specs.Writing.{Sink, TookAll, TookFront}

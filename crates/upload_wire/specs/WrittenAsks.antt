@@ -1,5 +1,5 @@
 -- What a client writes is read as what it asked.
-use Rattle.std.specs.Prelude.{◌≡◌, ℕ, ◌<◌, ◌≤◌, ◌^◌, Bool, true, false, List, ◌++◌, length, All, IfSome, IsTrue, ⊤}
+use Rattle.std.specs.Prelude.{◌≡◌, ℕ, ◌<◌, ◌≤◌, ◌^◌, true, List, ◌++◌, length, All, IfSome, IsTrue, ⊤}
 use Rattle.upload_names.specs.NamePass.{is_name}
 use Rattle.upload_names.specs.Digest.{IsDigest}
 use Rattle.upload_names.specs.ByteRange.{IsSpan}

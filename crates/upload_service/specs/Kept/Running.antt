@@ -1,5 +1,5 @@
 -- Which messages the hashes of a session hold.
-use Rattle.std.specs.Prelude.{ℕ, ◌≤◌, List, length, take}
+use Rattle.std.specs.Prelude.{ℕ, ◌≤◌, length, take}
 use Rattle.sha2.specs.declared.Sha256.{Sha256}
 use Rattle.sha2.specs.declared.Sha512.{Sha512}
 use Rattle.sha2.specs.Hashers.{Holds256, Holds512}

@@ -1,4 +1,4 @@
-use Rattle.std.proofs.Common.{◌≤◌, ◌<◌, arith, ap, ◌∙◌}
+use Rattle.std.proofs.Common.{arith, ap, ◌∙◌}
 use Rattle.std.specs.Prelude.{Err}
 use Rattle.upload_wire.proofs.AskLemmas.{named_none}
 use Rattle.upload_wire.proofs.asks.name_of.Goals as goal

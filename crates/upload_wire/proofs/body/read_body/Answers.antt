@@ -1,5 +1,5 @@
 use Rattle.std.proofs.Common.{sym, subst}
-use Rattle.std.specs.Prelude.{Ok, Err}
+use Rattle.std.specs.Prelude.{Err}
 use Rattle.upload_wire.specs.BodyReading.{Moved, ReadsBytes}
 use Rattle.upload_wire.specs.BodyFinding.{TakesBody, FindsBody}
 use Rattle.upload_wire.proofs.ChunkReadLemmas.{length_whole, length_fault}

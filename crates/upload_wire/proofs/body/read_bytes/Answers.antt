@@ -1,6 +1,6 @@
-use Rattle.std.proofs.Common.{◌≡◌, ◌-◌, ◌+◌, arith, subst, refl, ◌∙◌}
+use Rattle.std.proofs.Common.{◌≡◌, ◌-◌, ◌+◌, arith, subst, ◌∙◌}
 use Rattle.upload_wire.specs.BodyReading.{Moved}
-use Rattle.upload_wire.proofs.MovedLemmas.{moved_nothing, moved_both, bytes_fault}
+use Rattle.upload_wire.proofs.MovedLemmas.{moved_both, bytes_fault}
 use Rattle.upload_wire.proofs.body.read_bytes.Goals as goal
 
 pub loop-left-preserved : goal.loop-left-preserved

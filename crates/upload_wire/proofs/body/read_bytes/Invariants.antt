@@ -1,4 +1,4 @@
-use Rattle.std.proofs.Common.{◌≡◌, ℕ, ◌-◌, ◌≤◌}
+use Rattle.std.proofs.Common.{◌≡◌, ◌-◌, ◌≤◌}
 use Rattle.upload_wire.specs.Counts.{CountsAtMost}
 use Rattle.upload_wire.specs.BodyReading.{Moved}
 use Rattle.upload_wire.proofs.body.read_bytes.Given as goal

@@ -1,4 +1,4 @@
-use Rattle.std.proofs.Common.{[], take, arith, ◌<◌, length}
+use Rattle.std.proofs.Common.{[], take, arith}
 use Rattle.upload_wire.proofs.BufferLemmas.{read_on, read_nothing}
 use Rattle.upload_wire.proofs.GaveLemmas.{consumes_kept}
 use Rattle.upload_wire.proofs.buffer.read_behind.Goals as goal

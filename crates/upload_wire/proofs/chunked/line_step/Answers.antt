@@ -1,7 +1,6 @@
-use Rattle.std.proofs.Common.{sym, ◌∙◌, ap, subst, ◌≡◌, ◌++◌, ◌∷◌, [], arith, ◌<◌, ◌+◌, ◌*◌}
-use Rattle.std.specs.Char.{is_ascii_hexdigit, digit_value}
+use Rattle.std.proofs.Common.{sym, subst, ◌++◌, ◌∷◌, [], arith, ◌<◌, ◌+◌, ◌*◌}
 use Rattle.upload_wire.specs.SizeLines.{StandsAt, AreDigits}
-use Rattle.upload_wire.proofs.LineLemmas.{never_cr, never_ninth, never_other, never_empty, one_digit}
+use Rattle.upload_wire.proofs.LineLemmas.{never_cr, never_ninth, never_other, one_digit}
 use Rattle.upload_wire.proofs.chunked.line_step.Goals as goal
 
 pub returns-else-byte-eq10 : goal.returns-else-byte-eq10

@@ -1,4 +1,4 @@
-use Rattle.std.proofs.Common.{◌≡◌, ◌<◌, ◌≤◌, arith, subst, sym, true, false}
+use Rattle.std.proofs.Common.{◌<◌, arith, subst}
 use Rattle.std.specs.Prelude.{Ok}
 use Rattle.upload_wire.specs.ChunkReading.{FindsLine, FindsEnd}
 use Rattle.upload_wire.proofs.ChunkReadLemmas.{chunk_line_broken, chunk_line_fault, chunk_over, chunk_data_fault, chunk_end_broken, chunk_end_fault, chunk_taken, chunk_last}

@@ -1,4 +1,4 @@
-use Rattle.std.proofs.Common.{◌≡◌, ◌∙◌, arith, ◌-◌, ◌+◌, ◌*◌, ◌<◌, ◌≤◌, length, ap, sym, subst, refl, length-append}
+use Rattle.std.proofs.Common.{◌≡◌, ◌∙◌, arith, ◌-◌, ◌+◌, length, ap, sym, subst, refl, length-append}
 use Rattle.std.specs.Prelude.{Ok}
 use Rattle.upload_wire.specs.ChunkReading.{FindsChunk, TakesChunk}
 use Rattle.upload_wire.specs.ChunksRead.{AreTaken}

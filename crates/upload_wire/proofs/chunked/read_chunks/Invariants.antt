@@ -1,4 +1,4 @@
-use Rattle.std.proofs.Common.{◌≡◌, ◌*◌, ◌≤◌, ◌++◌, length}
+use Rattle.std.proofs.Common.{◌≡◌, ◌*◌, ◌≤◌, length}
 use Rattle.upload_wire.specs.Counts.{CountsAtMost}
 use Rattle.upload_wire.specs.ChunksRead.{AreTaken}
 use Rattle.upload_wire.proofs.chunked.read_chunks.Given as goal

@@ -1,7 +1,7 @@
 use Rattle.std.proofs.Common.{refl}
 use Rattle.upload_wire.specs.Conversation.{source}
 use Rattle.upload_wire.specs.Writing.{sink}
-use Rattle.upload_wire.proofs.ConversationLemmas.{ends, ends_at_once, goes_on, starts}
+use Rattle.upload_wire.proofs.ConversationLemmas.{ends, ends_at_once, goes_on}
 use Rattle.upload_wire.proofs.connection.serve_connection.Goals as goal
 
 pub returns-in_default : goal.returns-in_default

@@ -1,4 +1,4 @@
-use Rattle.std.proofs.Common.{◌≡◌, ◌∙◌, sym, ap, refl, true, false}
+use Rattle.std.proofs.Common.{◌≡◌, ◌∙◌, sym, ap, true, false}
 use Rattle.std.specs.Prelude.{codes, ◌||◌}
 use Rattle.httparse.specs.Spans.{header_bytes}
 use Rattle.upload_wire.specs.Fields.{same_word, lists_close}

@@ -1,4 +1,4 @@
-use Rattle.std.proofs.Common.{◌≡◌, ◌∙◌, ap, sym, subst, take, drop}
+use Rattle.std.proofs.Common.{◌≡◌, ◌∙◌, ap, sym, subst, take}
 use Rattle.std.specs.Prelude.{Ok, Err}
 use Rattle.upload_wire.specs.Body.{framing_of}
 use Rattle.upload_wire.specs.FieldReading.{fields_of}

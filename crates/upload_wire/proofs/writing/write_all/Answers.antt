@@ -1,4 +1,4 @@
-use Rattle.std.proofs.Common.{arith, ◌∙◌, sym, subst, ◌≤◌, ◌+◌, ◌-◌, length, take, drop, length-drop, length-take}
+use Rattle.std.proofs.Common.{arith, ◌∙◌, sym, subst, ◌-◌, length, take, drop, length-drop, length-take}
 use Rattle.std.proofs.lemmas.List.{take-append-drop}
 use Rattle.std.specs.Io.KnownBytes.{Appends}
 use Rattle.upload_wire.specs.Counts.{CountsUp}

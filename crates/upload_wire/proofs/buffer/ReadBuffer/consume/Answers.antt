@@ -1,4 +1,4 @@
-use Rattle.std.proofs.Common.{◌∙◌, ap, drop, arith, length, ◌≡◌, ◌-◌, ◌≤◌, ◌+◌, sym, length-take, length-drop}
+use Rattle.std.proofs.Common.{◌∙◌, ap, drop, arith, length, ◌≡◌, ◌-◌, sym}
 use Rattle.upload_wire.proofs.BufferLemmas.{consumed, window_length}
 use Rattle.upload_wire.proofs.buffer.ReadBuffer.consume.Goals as goal
 

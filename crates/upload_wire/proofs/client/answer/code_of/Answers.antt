@@ -1,4 +1,4 @@
-use Rattle.std.proofs.Common.{refl, sym, ◌∙◌, ap}
+use Rattle.std.proofs.Common.{sym, ◌∙◌, ap}
 use Rattle.std.specs.Prelude.{Some}
 use Rattle.upload_wire.proofs.FieldLemmas.{not_both}
 use Rattle.upload_wire.proofs.CodeLemmas.{code_none, code_some}

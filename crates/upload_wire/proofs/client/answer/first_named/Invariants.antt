@@ -1,4 +1,4 @@
-use Rattle.std.proofs.Common.{take, map, ◌≡◌, []}
+use Rattle.std.proofs.Common.{take, map, ◌≡◌}
 use Rattle.std.specs.Prelude.{option_map}
 use Rattle.httparse.specs.Spans.{header_bytes}
 use Rattle.upload_wire.specs.Fields.{values_of}

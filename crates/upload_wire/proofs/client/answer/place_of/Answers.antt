@@ -1,6 +1,5 @@
-use Rattle.std.proofs.Common.{◌∙◌, ap, sym, subst}
-use Rattle.std.specs.Prelude.{Some, Ok, option_map}
-use Rattle.upload_wire.specs.AnswerText.{IsPlaceOf}
+use Rattle.std.proofs.Common.{◌∙◌, ap}
+use Rattle.std.specs.Prelude.{Some}
 use Rattle.upload_wire.proofs.client.answer.place_of.Goals as goal
 
 pub returns-in-Ok-from_slice : goal.returns-in-Ok-from_slice

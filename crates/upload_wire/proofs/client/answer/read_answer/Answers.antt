@@ -1,6 +1,5 @@
-use Rattle.std.proofs.Common.{◌≡◌, ◌∙◌, ap, subst, sym, inl, inr}
-use Rattle.std.specs.Prelude.{Ok, Err}
-use Rattle.upload_wire.specs.AnswerText.{FindsAnswer}
+use Rattle.std.proofs.Common.{◌∙◌, ap, sym, inl}
+use Rattle.std.specs.Prelude.{Err}
 use Rattle.upload_wire.specs.AnswerReading.{fault_of}
 use Rattle.upload_wire.specs.declared.client.heard.HeardFault.TheVariants as Fault
 use Rattle.upload_wire.proofs.AnswerLemmas.{reads_after, found_after, head_fault}

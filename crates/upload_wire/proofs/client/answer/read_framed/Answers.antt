@@ -1,4 +1,3 @@
-use Rattle.std.specs.Prelude.{Ok, Err}
 use Rattle.upload_wire.proofs.AnswerLemmas.{framing_refused, fault_behind, reply_behind, says_unread}
 use Rattle.upload_wire.proofs.client.answer.read_framed.Goals as goal
 

@@ -1,5 +1,5 @@
-use Rattle.std.proofs.Common.{◌≡◌, ◌∙◌, sym, ap, ◌++◌, ◌∷◌, [], true, false}
-use Rattle.std.specs.Prelude.{Some, None, option_map}
+use Rattle.std.proofs.Common.{◌≡◌, ◌∙◌, sym, ap, true, false}
+use Rattle.std.specs.Prelude.{Some, None}
 use Rattle.httparse.specs.Spans.{header_bytes}
 use Rattle.upload_wire.specs.Fields.{same_word}
 use Rattle.upload_wire.proofs.CodeLemmas.{first-match, first-other, first-kept}

@@ -1,4 +1,4 @@
-use Rattle.std.proofs.Common.{◌≡◌, ◌∙◌, sym, ap, subst, List, ℕ, ◌++◌, append_assoc}
+use Rattle.std.proofs.Common.{◌∙◌, subst, append_assoc}
 use Rattle.upload_wire.specs.Writing.{sink}
 use Rattle.upload_wire.specs.Gathering.{Gathered}
 use Rattle.upload_wire.proofs.client.ask.put_mount.Goals as goal

@@ -1,4 +1,4 @@
-use Rattle.std.proofs.Common.{◌≡◌, ◌∙◌, sym, ap, subst, List, ℕ, ◌++◌}
+use Rattle.std.proofs.Common.{◌∙◌, sym, ap, subst, ◌++◌}
 use Rattle.std.specs.Prelude.{flat_map}
 use Rattle.upload_names.specs.ByteRange.{Span}
 use Rattle.upload_wire.specs.Writing.{sink}

@@ -1,4 +1,4 @@
-use Rattle.std.proofs.Common.{◌≡◌, ◌∙◌, sym, ap, subst, List, ℕ, ◌++◌}
+use Rattle.std.proofs.Common.{◌∙◌, sym, ap, subst, ◌++◌}
 use Rattle.upload_wire.specs.Writing.{sink}
 use Rattle.upload_wire.specs.Gathering.{Gathered}
 use Rattle.upload_wire.specs.AskText.{request_line, message_of}

@@ -1,8 +1,7 @@
-use Rattle.std.proofs.Common.{◌≡◌, ◌∙◌, sym, ap, subst, List, ℕ, ◌++◌, inl, inr}
+use Rattle.std.proofs.Common.{sym, ap, subst, ◌++◌, inl, inr}
 use Rattle.upload_wire.specs.Writing.{sink}
 use Rattle.upload_wire.specs.Gathering.{Gathered}
 use Rattle.upload_wire.specs.AskText.{message_of, section_text}
-use Rattle.upload_wire.proofs.AskTextLemmas.{upload_section}
 use Rattle.upload_wire.proofs.client.ask.put_section.Goals as goal
 
 pub returns-in-Opening : goal.returns-in-Opening

@@ -1,4 +1,4 @@
-use Rattle.std.proofs.Common.{subst, List, ℕ, ◌++◌}
+use Rattle.std.proofs.Common.{subst}
 use Rattle.upload_wire.specs.Writing.{sink}
 use Rattle.upload_wire.specs.Gathering.{Gathered}
 use Rattle.upload_wire.proofs.AskTextLemmas.{upload_section}

@@ -1,4 +1,4 @@
-use Rattle.std.proofs.Common.{◌≡◌, ◌∙◌, sym, ap, subst, List, ℕ, [], ◌++◌, refl}
+use Rattle.std.proofs.Common.{sym, subst, [], refl}
 use Rattle.upload_wire.specs.Writing.{sink, Wrote}
 use Rattle.upload_wire.specs.Gathering.{Gathered}
 use Rattle.upload_wire.proofs.WritingLemmas.{appends_none}

@@ -1,4 +1,3 @@
-use Rattle.upload_wire.specs.AnswerReading.{FindsBody}
 use Rattle.upload_wire.proofs.AnswerBodyLemmas.{sized_body}
 use Rattle.upload_wire.proofs.client.body.read_body.Goals as goal
 

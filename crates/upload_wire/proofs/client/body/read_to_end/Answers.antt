@@ -1,4 +1,4 @@
-use Rattle.std.proofs.Common.{◌≡◌, ◌∙◌, sym, ap}
+use Rattle.std.proofs.Common.{◌∙◌, sym, ap}
 use Rattle.std.specs.Prelude.{Err}
 use Rattle.upload_wire.specs.AnswerReading.{end_of}
 use Rattle.upload_wire.proofs.AnswerBodyLemmas.{long_body, end_found, end_read, err_same}

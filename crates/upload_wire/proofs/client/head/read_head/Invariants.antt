@@ -1,4 +1,4 @@
-use Rattle.std.proofs.Common.{◌≡◌, ℕ, ◌≤◌, length, take}
+use Rattle.std.proofs.Common.{◌≡◌, ◌≤◌, length, take}
 use Rattle.httparse.specs.Grammar.{HasNoResponse}
 use Rattle.upload_wire.specs.Reading.{Gave}
 use Rattle.upload_wire.specs.Counts.{CountsAtMost}

@@ -1,6 +1,5 @@
-use Rattle.std.proofs.Common.{◌≡◌, ◌∙◌, sym, ap, refl, codes}
-use Rattle.std.specs.Prelude.{Some, None, option_and_then}
-use Rattle.upload_names.specs.Reference.{reference_of}
+use Rattle.std.proofs.Common.{◌∙◌, ap, refl}
+use Rattle.std.specs.Prelude.{Some, None}
 use Rattle.upload_wire.specs.Heard.{after_front}
 use Rattle.upload_wire.proofs.PlaceLemmas.{read_steps}
 use Rattle.upload_wire.proofs.client.heard.read_place.Goals as goal

@@ -1,4 +1,4 @@
-use Rattle.std.proofs.Common.{◌∙◌, append_assoc, arith}
+use Rattle.std.proofs.Common.{append_assoc, arith}
 use Rattle.upload_wire.proofs.ReplyLemmas.{puts_as, puts_both}
 use Rattle.upload_wire.proofs.reply.head.put_field.Goals as goal
 

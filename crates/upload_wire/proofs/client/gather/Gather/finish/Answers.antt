@@ -1,7 +1,6 @@
-use Rattle.std.proofs.Common.{◌≡◌, ◌∙◌, sym, ap, subst, List, ℕ, ◌++◌}
+use Rattle.std.proofs.Common.{◌∙◌, sym, ap, subst, ◌++◌}
 use Rattle.upload_wire.specs.Writing.{sink, Wrote}
 use Rattle.upload_wire.specs.Gathering.{Held}
-use Rattle.upload_wire.specs.declared.writing.WriteFault.{WriteFault}
 use Rattle.upload_wire.proofs.GatherLemmas.{end_failed, write_held}
 use Rattle.upload_wire.proofs.client.gather.Gather.finish.Goals as goal
 

@@ -1,7 +1,6 @@
-use Rattle.std.proofs.Common.{◌≡◌, ◌∙◌, sym, ap, subst, List, ℕ, ◌++◌}
-use Rattle.std.specs.Prelude.{is_err}
+use Rattle.std.proofs.Common.{◌∙◌, sym, ap, subst, ◌++◌}
 use Rattle.upload_wire.specs.Writing.{sink, Wrote}
-use Rattle.upload_wire.specs.Gathering.{Held, GatheredUnless}
+use Rattle.upload_wire.specs.Gathering.{Held}
 use Rattle.upload_wire.proofs.GatherLemmas.{put_failed, put_held, write_held, gathered_after, given_ok, given_err}
 use Rattle.upload_wire.proofs.client.gather.Gather.put.Goals as goal
 

@@ -1,6 +1,6 @@
-use Rattle.std.proofs.Common.{◌≡◌, ◌+◌, ◌-◌, ◌≤◌, ◌++◌, ◌∙◌, ap, subst, take, min, length, length-take, arith}
+use Rattle.std.proofs.Common.{◌≡◌, ◌+◌, ◌-◌, ◌≤◌, ◌++◌, ◌∙◌, ap, take, length, length-take, arith}
 use Rattle.std.proofs.lemmas.List.{take_min}
-use Rattle.upload_wire.specs.ReplyBuffer.{Puts, capacity}
+use Rattle.upload_wire.specs.ReplyBuffer.{capacity}
 use Rattle.upload_wire.proofs.ReplyLemmas.{of_ok}
 use Rattle.upload_wire.proofs.reply.buffer.ReplyBuffer.put.Goals as goal
 
