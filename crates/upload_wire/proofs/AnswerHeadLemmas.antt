@@ -14,7 +14,7 @@ use Rattle.std.proofs.lemmas.List.{take-append-drop}
 use Rattle.upload_wire.specs.declared.client.parsed.ParsedAnswer.{ParsedAnswer}
 use Rattle.upload_wire.specs.declared.client.head.Verdict.{Verdict}
 use Rattle.upload_wire.specs.declared.client.head.Verdict.TheVariants.{Complete, Refused, Open}
-use Rattle.upload_wire.proofs.HeadLemmas.{snoc_cases, snoc_inj, end_is_line_feed, line_feeds-append, line_feeds-end, line_feeds-fields, take-next}
+use Rattle.upload_wire.proofs.HeadLemmas.{snoc_cases, snoc_inj, end_is_line_feed, line_feeds-append, line_feeds-end, line_feeds-fields, line_feeds-next, take-next}
 use Rattle.upload_wire.specs.Fronts.{line_feeds, max_fields}
 use Rattle.upload_wire.specs.AnswerReading.{IsHeadOf, IsHeadAtFront, Judges, JudgesAt}
 use Rattle.upload_wire.specs.AnswerFronts.{IsRefused, IsTooLong, MayBeRefused}
@@ -171,3 +171,12 @@ too_long text long none = record {
   full = omega (arith, long, length-take 16384 text);
   none = none;
 }
+
+-- more lines than a head has, and no head
+pub given_up : (text : List ℕ) (at lines : ℕ) → at < length text → at < 16384 → lines ≡ line_feeds (take at text)
+    → HasNoResponse (take at text) → get_or text at 0 ≡ line_feed → 64 < lines → HasNoResponse (take (at + 1) text)
+    → IsRefused text
+given_up text at lines lt short counted none same many none_at =
+    let more = line_feeds-next text at lt same in
+    refused_at text at lt short none same
+    (inr (omega (arith, more, counted, many), λ h rest x. absurd (none_at h rest x)))

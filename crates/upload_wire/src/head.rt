@@ -80,7 +80,7 @@ fn judge_at(text: &[u8], at: usize, lines: usize) -> Verdict
 }
 
 /// How many lines ended up to a byte, where so many ended before it.
-fn lines_after(text: &[u8], at: usize, lines: usize) -> usize
+pub fn lines_after(text: &[u8], at: usize, lines: usize) -> usize
     requires in_range { at < length text.now }
     requires short { at < MAX_HEAD }
     requires counted { lines ≡ line_feeds (take at text.now) }

@@ -2,6 +2,7 @@
 ghost use Rattle.std.specs.Prelude.{◌≡◌, ◌≢◌, ℕ, ◌+◌, ◌<◌, ◌≤◌, length, take, Ok, Err};
 ghost use Rattle.httparse.specs.Grammar.{HasNoResponse};
 ghost use Rattle.upload_wire.specs.Counts.{CountsUp, CountsAtMost};
+ghost use Rattle.upload_wire.specs.Fronts.{line_feeds};
 ghost use Rattle.upload_wire.specs.Reading.{Gave};
 ghost use Rattle.upload_wire.specs.AnswerReading.{Judges, JudgesAt, FindsHead};
 
@@ -9,7 +10,7 @@ use crate::buffer::ReadBuffer;
 use crate::bytes::ByteSource;
 use crate::client::parsed::ParsedAnswer;
 use crate::fault::WireFault;
-use crate::head::{MAX_FIELDS, MAX_HEAD, has_byte};
+use crate::head::{MAX_FIELDS, MAX_HEAD, has_byte, lines_after};
 use httparse::Status;
 use httparse::spans::{EMPTY_HEADER_SPAN, parse_response};
 
@@ -47,17 +48,26 @@ fn judge(front: &[u8]) -> Verdict
     }
 }
 
-/// The verdict on the front that ends at a byte. A head ends in a line feed.
-fn judge_at(text: &[u8], at: usize) -> Verdict
+/// The verdict on the front that ends at a byte, where so many lines ended before it. As with the head of a
+/// request, a front with more lines than a head of 64 fields has is given up.
+fn judge_at(text: &[u8], at: usize, lines: usize) -> Verdict
     requires in_range { at < length text.now }
     requires short { at < MAX_HEAD }
+    requires counted { lines ≡ line_feeds (take at text.now) }
     requires none_before { HasNoResponse (take at text.now) }
     ensures { JudgesAt text.now at result }
 {
     if text[at] != b'\n' {
         return Verdict::Open;
     }
-    judge(&text[..at + 1])
+    let verdict = judge(&text[..at + 1]);
+    if lines <= MAX_FIELDS {
+        return verdict;
+    }
+    match verdict {
+        Verdict::Open => Verdict::Refused,
+        verdict => verdict,
+    }
 }
 
 /// Reads the head of a reply, behind what the buffer holds of it.
@@ -73,15 +83,17 @@ pub fn read_head<S: ByteSource>(
     ensures unfailed { result ≢ Err WireFault.Read
         → S.failed_reads source.new ≡ S.failed_reads source.old }
 {
+    let mut lines = 0;
     for at in 0..MAX_HEAD {
         if !has_byte(source, buffer, at)? {
             return Err(WireFault::Truncated);
         }
-        match judge_at(buffer.as_slice(), at) {
+        match judge_at(buffer.as_slice(), at, lines) {
             Verdict::Complete(parsed) => return Ok(AnswerHead::Head(parsed)),
             Verdict::Refused => return Ok(AnswerHead::Refused),
             Verdict::Open => {}
         }
+        lines = lines_after(buffer.as_slice(), at, lines);
     }
     Ok(AnswerHead::TooLong)
 }

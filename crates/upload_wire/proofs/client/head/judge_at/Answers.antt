@@ -1,11 +1,21 @@
-use Rattle.upload_wire.proofs.AnswerHeadLemmas.{none_at_next, judged_at}
+use Rattle.upload_wire.proofs.AnswerHeadLemmas.{none_at_next, judged_at, given_up}
 use Rattle.upload_wire.proofs.client.head.judge_at.Goals as goal
 
 pub returns-then-text-at-ne10 : goal.returns-then-text-at-ne10
 returns-then-text-at-ne10 c =
     none_at_next c.args.text.now c.args.at c.requires.in_range c.requires.none_before c.if-text-at-ne10.true
 
-pub returns : goal.returns
-returns c =
-    judged_at c.args.text.now c.args.at c.judge.result c.requires.in_range c.requires.short c.requires.none_before
-    c.if-text-at-ne10.false c.judge.ensures
+pub returns-then-lines-le-MAX_FIELDS : goal.returns-then-lines-le-MAX_FIELDS
+returns-then-lines-le-MAX_FIELDS c =
+    judged_at c.args.text.now c.args.at c.judge-verdict.result c.requires.in_range c.requires.short c.requires.none_before
+    c.if-text-at-ne10.false c.judge-verdict.ensures
+
+pub returns-in-Open : goal.returns-in-Open
+returns-in-Open c =
+    given_up c.args.text.now c.args.at c.args.lines c.requires.in_range c.requires.short c.requires.counted c.requires.none_before
+    c.if-text-at-ne10.false c.if-lines-le-MAX_FIELDS.false c.in-Open.ensures
+
+pub returns-in_default : goal.returns-in_default
+returns-in_default c =
+    judged_at c.args.text.now c.args.at c.judge-verdict.result c.requires.in_range c.requires.short c.requires.none_before
+    c.if-text-at-ne10.false c.judge-verdict.ensures

@@ -5,15 +5,21 @@ use Rattle.upload_wire.proofs.GaveLemmas.{gave_none, gave_both}
 use Rattle.upload_wire.proofs.client.head.read_head.Goals as goal
 
 pub loop-at-init : goal.loop-at-init
-loop-at-init g c =
-    (omega arith, none_at_start, gave_none _ _, λ _. omega arith, refl)
+loop-at-init g c = record {
+  within = omega arith;
+  counted = refl;
+  none = none_at_start;
+  gave = gave_none _ _;
+  reads = λ _. omega arith;
+  unfailed = refl;
+}
 
 pub returns-in-Complete-clause-gave : goal.returns-in-Complete-clause-gave
 returns-in-Complete-clause-gave g c =
-    gave_both _ _ _ _ _ _ c.loop-at.invariant.2 c.has_byte.ensures.gave
+    gave_both _ _ _ _ _ _ c.loop-at.invariant.gave c.has_byte.ensures.gave
 
 pub returns-clause-found : goal.returns-clause-found
 returns-clause-found g c =
     let same : c.loop-at.at ≡ 16384 = omega (arith, c.loop-at.auto.at-end, c.loop-at-test.false) in
-    too_long c.loop-at.buffer (omega (arith, same, c.loop-at.invariant.0))
-    (subst (λ n. HasNoResponse (take n c.loop-at.buffer)) same c.loop-at.invariant.1)
+    too_long c.loop-at.buffer (omega (arith, same, c.loop-at.invariant.within))
+    (subst (λ n. HasNoResponse (take n c.loop-at.buffer)) same c.loop-at.invariant.none)

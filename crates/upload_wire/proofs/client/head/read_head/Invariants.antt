@@ -1,13 +1,16 @@
 use Rattle.std.proofs.Common.{◌≡◌, ◌≤◌, length, take}
 use Rattle.httparse.specs.Grammar.{HasNoResponse}
-use Rattle.upload_wire.specs.Reading.{Gave}
 use Rattle.upload_wire.specs.Counts.{CountsAtMost}
+use Rattle.upload_wire.specs.Fronts.{line_feeds}
+use Rattle.upload_wire.specs.Reading.{Gave}
 use Rattle.upload_wire.proofs.client.head.read_head.Given as goal
 
 abbrev pub invariant-loop-at : goal.invariant-loop-at
-invariant-loop-at g l =
-    (l.at ≤ length l.buffer)
-    × HasNoResponse (take l.at l.buffer)
-    × Gave (g.S.ByteSource.remaining l.initial.source) (g.S.ByteSource.remaining l.source) l.initial.buffer l.buffer
-    × CountsAtMost (g.S.ByteSource.reads l.initial.source) (g.S.ByteSource.reads l.source) l.at
-    × (g.S.ByteSource.failed_reads l.source ≡ g.S.ByteSource.failed_reads l.initial.source)
+invariant-loop-at g l = record {
+  within : l.at ≤ length l.buffer;
+  counted : l.lines ≡ line_feeds (take l.at l.buffer);
+  none : HasNoResponse (take l.at l.buffer);
+  gave : Gave (g.S.ByteSource.remaining l.initial.source) (g.S.ByteSource.remaining l.source) l.initial.buffer l.buffer;
+  reads : CountsAtMost (g.S.ByteSource.reads l.initial.source) (g.S.ByteSource.reads l.source) l.at;
+  unfailed : g.S.ByteSource.failed_reads l.source ≡ g.S.ByteSource.failed_reads l.initial.source;
+}
