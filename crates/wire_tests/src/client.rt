@@ -291,6 +291,18 @@ fn failed_reads_are_told(rt: HostRuntime) -> Result<(), Fail> {
 }
 
 #[test]
+fn hopeless_reply_is_judged(rt: HostRuntime) -> Result<(), Fail> {
+    let alloc = rt.alloc();
+    // More lines than a head has, each of them empty.
+    let lines = vec![in alloc; b'\n'; 66]?;
+    for text in [b"HTTP/9.9 200 OK\n".as_slice(), &lines] {
+        let source = MemorySource::new(text, 64, true);
+        fails(&rt, alloc, source, HeardFault::Unreadable, &text.len())?;
+    }
+    Ok(())
+}
+
+#[test]
 fn replies_come_one_after_another(rt: HostRuntime) -> Result<(), Fail> {
     let text =
         b"HTTP/1.1 202 Accepted\r\nContent-Length: 3\r\n\r\nabcHTTP/1.1 204 No Content\r\n\r\nHTTP/1.1 200 OK\r\n\r\nrest";
