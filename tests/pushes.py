@@ -170,6 +170,14 @@ def a_lost_reply_to_the_close(folder):
         check("what it left", pull(server, "lib/a", sha256(content)) == content)
 
 
+def more_chunks_than_six_connections_take(folder):
+    """The server closes a connection behind its 10,000th reply, and a push has five tries."""
+    content = random.Random(6).randbytes(61_000)
+    with Server(100) as server:
+        ended = push(server.addr, "lib/a", written(folder, content), 1)
+        check("more chunks than six connections take", ended == pushed(content), ended)
+
+
 def pushes_over_cut_connections(folder):
     counts = {"pushed": 0, "already": 0, "refused": 0}
     with Server(1000) as server:
@@ -203,6 +211,7 @@ def main():
         pushes_and_their_lines(folder)
         strange_servers(folder)
         a_lost_reply_to_the_close(folder)
+        more_chunks_than_six_connections_take(folder)
         two_pushes_at_once(folder)
         pushes_over_cut_connections(folder)
     return tell_results()

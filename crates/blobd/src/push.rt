@@ -46,8 +46,8 @@ fn digest_after(ask: &Ask, before: Option<BlobDigest>) -> Option<BlobDigest>
     }
 }
 
-/// The asks of one push, over a connection to its server. After a fault the connection is closed, and the next ask
-/// makes another.
+/// The asks of one push, over a connection to its server. After a fault, and behind a reply that ends it, the connection is
+/// closed, and the next ask makes another.
 #[derive(Drop)]
 struct Dialer<'r, R> {
     rt: &'r R,
@@ -81,9 +81,11 @@ impl<'r, R: Net<Stream = TcpStream>> Transport for Dialer<'r, R> {
             Some(wire) => wire,
             None => self.dial()?,
         };
-        let heard = wire.ask(ask)?;
-        self.wire = Some(wire);
-        Some(heard)
+        let heard = wire.ask(ask);
+        if wire.stays_open() {
+            self.wire = Some(wire);
+        }
+        heard
     }
 }
 

@@ -8,7 +8,7 @@ use Rattle.httparse.specs.Spans.{header_bytes, name_and_value}
 use Rattle.upload_wire.specs.Reading.{Gave}
 use Rattle.upload_wire.specs.Fields.{Fields}
 use Rattle.upload_wire.specs.AnswerFronts.{ReadsHead}
-use Rattle.upload_wire.specs.AnswerText.{framing_of, head_fields, ReadsFramed, IsWhole, FindsAnswer, ReadsAnswer}
+use Rattle.upload_wire.specs.AnswerText.{framing_of, head_fields, keeps_on, ReadsFramed, IsWhole, FindsAnswer, ReadsAnswer}
 use Rattle.upload_wire.specs.AnswerReading.{IsHeadOf, IsHeadAtFront, fields_of, FindsHead, FindsBody, FindsBodyIn, IsFramingFault, Says, fault_of}
 use Rattle.upload_wire.specs.declared.client.parsed.ParsedAnswer.{ParsedAnswer}
 use Rattle.upload_wire.specs.declared.client.framing.AnswerFraming.{AnswerFraming}
@@ -74,51 +74,54 @@ framed h text p r f e = record {
 }
 
 -- a refused framing
-unframed : (h : Bool) (text rest : List ℕ) (new : Option (List ℕ)) (p : ParsedAnswer) (e : HeardFault) → IsHeadAtFront text p
-    → framing_of h p.spans.code (fields_of (take p.spans.len text) p) ≡ Err e → IsFramingFault e → FindsAnswer h text rest new (Err e)
-unframed h text rest new p Fault.Unreadable f e is =
+unframed : (h : Bool) (text rest : List ℕ) (new : Option (List ℕ)) (keep : Bool) (p : ParsedAnswer) (e : HeardFault) → IsHeadAtFront text p
+    → framing_of h p.spans.code (fields_of (take p.spans.len text) p) ≡ Err e → IsFramingFault e → FindsAnswer h text rest new (Err e) keep
+unframed h text rest new keep p Fault.Unreadable f e is =
     inr (inl (record { head = the_head f; rest = drop p.spans.len text; framed = framed h text p (Err Fault.Unreadable) f e }))
-unframed h text rest new p Fault.TooLarge f e is =
+unframed h text rest new keep p Fault.TooLarge f e is =
     inr (inl (record { head = the_head f; rest = drop p.spans.len text; framed = framed h text p (Err Fault.TooLarge) f e }))
-unframed h text rest new p Fault.Truncated f e is = absurd is
-unframed h text rest new p Fault.Read f e is = absurd is
-unframed h text rest new p Fault.NoMemory f e is = absurd is
-unframed h text rest new p Fault.Ended f e is = absurd is
+unframed h text rest new keep p Fault.Truncated f e is = absurd is
+unframed h text rest new keep p Fault.Read f e is = absurd is
+unframed h text rest new keep p Fault.NoMemory f e is = absurd is
+unframed h text rest new keep p Fault.Ended f e is = absurd is
 
-pub found_at_once : (h : Bool) (held rest : List ℕ) (known : Option (List ℕ)) (r : Result Heard HeardFault) → FindsAnswer h held rest known r → ReadsAnswer h held known rest known r
-found_at_once h held rest known r found = record {
+pub found_at_once : (h : Bool) (held rest : List ℕ) (known : Option (List ℕ)) (r : Result Heard HeardFault) (keep : Bool)
+    → FindsAnswer h held rest known r keep → ReadsAnswer h held known rest known r keep
+found_at_once h held rest known r keep found = record {
   given = [];
   consumed = consumes_none known;
-  found = subst (λ t. FindsAnswer h t rest known r) (sym (append-nil held)) found;
+  found = subst (λ t. FindsAnswer h t rest known r keep) (sym (append-nil held)) found;
 }
 
 -- what the body is, behind the head
-body_found : (h : Bool) (text after body rest : List ℕ) (new : Option (List ℕ)) (p : ParsedAnswer) (framing : AnswerFraming) (e : HeardFault) (f : IsHeadAtFront text p)
-    → ReadsFramed h text (Ok framing) (the_head f) after → FindsBodyIn framing after body rest new (Err e) → FindsAnswer h text rest new (Err e)
-body_found h text after body rest new p (Sized n) Fault.Truncated f r b =
+body_found : (h : Bool) (text after body rest : List ℕ) (new : Option (List ℕ)) (keep : Bool) (p : ParsedAnswer) (framing : AnswerFraming) (e : HeardFault) (f : IsHeadAtFront text p)
+    → ReadsFramed h text (Ok framing) (the_head f) after → FindsBodyIn framing after body rest new (Err e) → FindsAnswer h text rest new (Err e) keep
+body_found h text after body rest new keep p (Sized n) Fault.Truncated f r b =
     (b.1, inr (record { head = the_head f; rest = after; size = n; framed = r; cut = b.0 }))
-body_found h text after body rest new p ToEnd Fault.Truncated f r b = absurd b
-body_found h text after body rest new p (Sized n) Fault.TooLarge f r b = absurd b
-body_found h text after body rest new p ToEnd Fault.TooLarge f r b = inr (inr (record { head = the_head f; rest = after; framed = r; long = b }))
-body_found h text after body rest new p (Sized n) Fault.Read f r b =
+body_found h text after body rest new keep p ToEnd Fault.Truncated f r b = absurd b
+body_found h text after body rest new keep p (Sized n) Fault.TooLarge f r b = absurd b
+body_found h text after body rest new keep p ToEnd Fault.TooLarge f r b = inr (inr (record { head = the_head f; rest = after; framed = r; long = b }))
+body_found h text after body rest new keep p (Sized n) Fault.Read f r b =
     inr (inl (record { head = the_head f; rest = after; size = n; framed = r; cut = b }))
-body_found h text after body rest new p ToEnd Fault.Read f r b = inr (inr (record { head = the_head f; rest = after; framed = r; small = b }))
-body_found h text after body rest new p framing Fault.NoMemory f r b = tt
-body_found h text after body rest new p framing Fault.Unreadable f r b = absurd b
-body_found h text after body rest new p framing Fault.Ended f r b = absurd b
+body_found h text after body rest new keep p ToEnd Fault.Read f r b = inr (inr (record { head = the_head f; rest = after; framed = r; small = b }))
+body_found h text after body rest new keep p framing Fault.NoMemory f r b = tt
+body_found h text after body rest new keep p framing Fault.Unreadable f r b = absurd b
+body_found h text after body rest new keep p framing Fault.Ended f r b = absurd b
 
 -- what a whole reply says
-says_found : (h : Bool) (text rest : List ℕ) (new : Option (List ℕ)) (head : ResponseHead) (body : List ℕ) (r : Result Heard HeardFault)
-    → IsWhole h text rest new head body → Says (status_code head) (head_fields head) body r → FindsAnswer h text rest new r
-says_found h text rest new head body (Ok heard) whole says = record { head = head; body = body; whole = whole; says = says }
-says_found h text rest new head body (Err Fault.Unreadable) whole says = inr (inr (record { head = head; body = body; whole = whole; misplaced = says }))
-says_found h text rest new head body (Err Fault.NoMemory) whole says = tt
-says_found h text rest new head body (Err Fault.Truncated) whole says = absurd says
-says_found h text rest new head body (Err Fault.Read) whole says = absurd says
-says_found h text rest new head body (Err Fault.TooLarge) whole says = absurd says
-says_found h text rest new head body (Err Fault.Ended) whole says = absurd says
+says_found : (h : Bool) (text rest : List ℕ) (new : Option (List ℕ)) (head : ResponseHead) (body : List ℕ) (r : Result Heard HeardFault) (keep : Bool)
+    (whole : IsWhole h text rest new head body) → Says (status_code head) (head_fields head) body r
+    → keep ≡ keeps_on head.minor (head_fields head) whole.framing → FindsAnswer h text rest new r keep
+says_found h text rest new head body (Ok heard) keep whole says keeps =
+    record { head = head; body = body; whole = whole; says = says; keeps = keeps }
+says_found h text rest new head body (Err Fault.Unreadable) keep whole says keeps = inr (inr (record { head = head; body = body; whole = whole; misplaced = says }))
+says_found h text rest new head body (Err Fault.NoMemory) keep whole says keeps = tt
+says_found h text rest new head body (Err Fault.Truncated) keep whole says keeps = absurd says
+says_found h text rest new head body (Err Fault.Read) keep whole says keeps = absurd says
+says_found h text rest new head body (Err Fault.TooLarge) keep whole says keeps = absurd says
+says_found h text rest new head body (Err Fault.Ended) keep whole says keeps = absurd says
 
-module _ (h : Bool) (held rest body : List ℕ) (old new : Option (List ℕ)) (p : ParsedAnswer) (framing : AnswerFraming) (f : IsHeadAtFront held p)
+module _ (h : Bool) (held rest body : List ℕ) (old new : Option (List ℕ)) (keep : Bool) (p : ParsedAnswer) (framing : AnswerFraming) (f : IsHeadAtFront held p)
     (is : Ok framing ≡ framing_of h p.spans.code (fields_of (take p.spans.len held) p)) where
   same_front : (given : List ℕ) → take p.spans.len (held ++ given) ≡ take p.spans.len held
   same_front given = take-append-le p.spans.len held given f.in_range
@@ -131,31 +134,34 @@ module _ (h : Bool) (held rest body : List ℕ) (old new : Option (List ℕ)) (p
       subst (ReadsFramed h (held ++ given) (Ok framing) (the_head (head_kept held given p f))) behind
       (framed h (held ++ given) p (Ok framing) (head_kept held given p f) at)
 
-  pub body_fault_found : (e : HeardFault) → FindsBody framing (drop p.spans.len held) old body rest new (Err e) → ReadsAnswer h held old rest new (Err e)
+  pub body_fault_found : (e : HeardFault) → FindsBody framing (drop p.spans.len held) old body rest new (Err e) → ReadsAnswer h held old rest new (Err e) keep
   body_fault_found e b = record {
     given = b.gave.0;
     consumed = b.gave.1;
-    found = body_found h (held ++ b.gave.0) b.text body rest new p framing e (head_kept held b.gave.0 p f) (framed_on b.gave.0 b.text b.gave.2) b.found;
+    found = body_found h (held ++ b.gave.0) b.text body rest new keep p framing e (head_kept held b.gave.0 p f) (framed_on b.gave.0 b.text b.gave.2) b.found;
   }
 
   pub reply_found : (u : ⊤) (r : Result Heard HeardFault) → FindsBody framing (drop p.spans.len held) old body rest new (Ok u)
-      → Says p.spans.code (fields_of (take p.spans.len held) p) body r → ReadsAnswer h held old rest new r
-  reply_found u r b says =
+      → Says p.spans.code (fields_of (take p.spans.len held) p) body r
+      → keep ≡ keeps_on p.spans.version (fields_of (take p.spans.len held) p) framing → ReadsAnswer h held old rest new r keep
+  reply_found u r b says keeps =
       let given = b.gave.0 in
       let text = held ++ given in
       let k = head_kept held given p f in
       let at_code = subst (λ s. Says s (fields_of (take p.spans.len held) p) body r) k.head.1.1.code says in
       let fields : fields_of (take p.spans.len held) p ≡ head_fields (the_head k) = ap (λ t. fields_of t p) (sym (same_front given)) ∙ fields_same text p k in
       let said = subst (λ t. Says (status_code (the_head k)) t body r) fields at_code in
+      let at_version = keeps ∙ ap (λ v. keeps_on v (fields_of (take p.spans.len held) p) framing) k.head.1.1.version in
+      let kept = at_version ∙ ap (λ t. keeps_on (the_head k).minor t framing) fields in
       record {
         given = given;
         consumed = b.gave.1;
-        found = says_found h text rest new (the_head k) body r
+        found = says_found h text rest new (the_head k) body r keep
             (record {
               framing = framing;
               framed = subst (ReadsFramed h text (Ok framing) (the_head k)) b.found.0 (framed_on given b.text b.gave.2);
               is_body = b.found.1;
-            }) said;
+            }) said kept;
       }
 
 -- ---- the same, where the head was sliced and then taken out of the buffer
@@ -166,52 +172,55 @@ framing_at : (h : Bool) (held slice : List ℕ) (p : ParsedAnswer) (r : Result A
 framing_at h held slice p r slice_is is = subst (λ t. r ≡ framing_of h p.spans.code (fields_of (take p.spans.len t) p)) slice_is is
 
 -- a refused framing of the head
-pub framing_refused : (h : Bool) (held slice rest : List ℕ) (known : Option (List ℕ)) (p : ParsedAnswer) (e : HeardFault) → IsHeadAtFront held p → slice ≡ held
-    → Err e ≡ framing_of h p.spans.code (fields_of (take p.spans.len slice) p) → IsFramingFault e → ReadsAnswer h held known rest known (Err e)
-framing_refused h held slice rest known p e f slice_is is fault =
-    found_at_once h held rest known (Err e) (unframed h held rest known p e f (sym (framing_at h held slice p (Err e) slice_is is)) fault)
+pub framing_refused : (h : Bool) (held slice rest : List ℕ) (known : Option (List ℕ)) (keep : Bool) (p : ParsedAnswer) (e : HeardFault) → IsHeadAtFront held p → slice ≡ held
+    → Err e ≡ framing_of h p.spans.code (fields_of (take p.spans.len slice) p) → IsFramingFault e → ReadsAnswer h held known rest known (Err e) keep
+framing_refused h held slice rest known keep p e f slice_is is fault =
+    found_at_once h held rest known (Err e) keep (unframed h held rest known keep p e f (sym (framing_at h held slice p (Err e) slice_is is)) fault)
 
 -- a fault of the body behind the head
-pub fault_behind : (h : Bool) (held slice front body rest : List ℕ) (old new : Option (List ℕ)) (p : ParsedAnswer) (framing : AnswerFraming) (e : HeardFault)
+pub fault_behind : (h : Bool) (held slice front body rest : List ℕ) (old new : Option (List ℕ)) (keep : Bool) (p : ParsedAnswer) (framing : AnswerFraming) (e : HeardFault)
     → IsHeadAtFront held p → slice ≡ held → Ok framing ≡ framing_of h p.spans.code (fields_of (take p.spans.len slice) p)
-    → front ≡ drop p.spans.len held → FindsBody framing front old body rest new (Err e) → ReadsAnswer h held old rest new (Err e)
-fault_behind h held slice front body rest old new p framing e f slice_is is front_is b =
-    body_fault_found h held rest body old new p framing f (framing_at h held slice p (Ok framing) slice_is is) e
+    → front ≡ drop p.spans.len held → FindsBody framing front old body rest new (Err e) → ReadsAnswer h held old rest new (Err e) keep
+fault_behind h held slice front body rest old new keep p framing e f slice_is is front_is b =
+    body_fault_found h held rest body old new keep p framing f (framing_at h held slice p (Ok framing) slice_is is) e
     (subst (λ t. FindsBody framing t old body rest new (Err e)) front_is b)
 
 -- a body behind the head
-pub reply_behind : (h : Bool) (held slice front body seen rest : List ℕ) (old new : Option (List ℕ)) (p : ParsedAnswer) (framing : AnswerFraming) (u : ⊤)
+pub reply_behind : (h : Bool) (held slice front body seen rest : List ℕ) (old new : Option (List ℕ)) (keep : Bool) (p : ParsedAnswer) (framing : AnswerFraming) (u : ⊤)
     (r : Result Heard HeardFault)
     → IsHeadAtFront held p → slice ≡ held → Ok framing ≡ framing_of h p.spans.code (fields_of (take p.spans.len slice) p)
     → front ≡ drop p.spans.len held → FindsBody framing front old body rest new (Ok u) → seen ≡ body
-    → Says p.spans.code (fields_of (take p.spans.len slice) p) seen r → ReadsAnswer h held old rest new r
-reply_behind h held slice front body seen rest old new p framing u r f slice_is is front_is b seen_is says =
+    → Says p.spans.code (fields_of (take p.spans.len slice) p) seen r
+    → keep ≡ keeps_on p.spans.version (fields_of (take p.spans.len slice) p) framing → ReadsAnswer h held old rest new r keep
+reply_behind h held slice front body seen rest old new keep p framing u r f slice_is is front_is b seen_is says keeps =
     let at_slice = subst (λ t. Says p.spans.code (fields_of (take p.spans.len t) p) seen r) slice_is says in
-    reply_found h held rest body old new p framing f (framing_at h held slice p (Ok framing) slice_is is) u r
+    reply_found h held rest body old new keep p framing f (framing_at h held slice p (Ok framing) slice_is is) u r
     (subst (λ t. FindsBody framing t old body rest new (Ok u)) front_is b)
     (subst (λ t. Says p.spans.code (fields_of (take p.spans.len held) p) t r) seen_is at_slice)
+    (subst (λ t. keep ≡ keeps_on p.spans.version (fields_of (take p.spans.len t) p) framing) slice_is keeps)
 
 -- what is said is no failed read
 pub says_unread : (status : ℕ) (fields : Fields) (body : List ℕ) (r : Result Heard HeardFault) → Says status fields body r → r ≡ Err Fault.Read → ⊥
 says_unread status fields body r says is = subst (Says status fields body) is says
 
 -- reads before it
-pub reads_after : (h : Bool) (held text rest : List ℕ) (old mid new : Option (List ℕ)) (r : Result Heard HeardFault)
-    → Gave old mid held text → ReadsAnswer h text mid rest new r → ReadsAnswer h held old rest new r
-reads_after h held text rest old mid new r gave next = record {
+pub reads_after : (h : Bool) (held text rest : List ℕ) (old mid new : Option (List ℕ)) (r : Result Heard HeardFault) (keep : Bool)
+    → Gave old mid held text → ReadsAnswer h text mid rest new r keep → ReadsAnswer h held old rest new r keep
+reads_after h held text rest old mid new r keep gave next = record {
   given = gave.0 ++ next.given;
   consumed = consumes_both old mid new gave.0 next.given gave.1 next.consumed;
-  found = subst (λ t. FindsAnswer h t rest new r) (ap (λ t. t ++ next.given) gave.2 ∙ append_assoc held gave.0 next.given) next.found;
+  found = subst (λ t. FindsAnswer h t rest new r keep) (ap (λ t. t ++ next.given) gave.2 ∙ append_assoc held gave.0 next.given) next.found;
 }
 
-pub found_after : (h : Bool) (held text rest : List ℕ) (old new : Option (List ℕ)) (r : Result Heard HeardFault)
-    → Gave old new held text → FindsAnswer h text rest new r → ReadsAnswer h held old rest new r
-found_after h held text rest old new r gave found =
-    record { given = gave.0; consumed = gave.1; found = subst (λ t. FindsAnswer h t rest new r) gave.2 found }
+pub found_after : (h : Bool) (held text rest : List ℕ) (old new : Option (List ℕ)) (r : Result Heard HeardFault) (keep : Bool)
+    → Gave old new held text → FindsAnswer h text rest new r keep → ReadsAnswer h held old rest new r keep
+found_after h held text rest old new r keep gave found =
+    record { given = gave.0; consumed = gave.1; found = subst (λ t. FindsAnswer h t rest new r keep) gave.2 found }
 
 -- a fault of the head
-pub head_fault : (h : Bool) (text rest : List ℕ) (new : Option (List ℕ)) (fault : WireFault) → FindsHead text new (Err fault) → FindsAnswer h text rest new (Err (fault_of fault))
-head_fault h text rest new Wire.Truncated b = (b.1, inl b.0)
-head_fault h text rest new Wire.Read b = inl b
-head_fault h text rest new Wire.NoMemory b = absurd b
-head_fault h text rest new Wire.Ended b = absurd b
+pub head_fault : (h : Bool) (text rest : List ℕ) (new : Option (List ℕ)) (keep : Bool) (fault : WireFault) → FindsHead text new (Err fault)
+    → FindsAnswer h text rest new (Err (fault_of fault)) keep
+head_fault h text rest new keep Wire.Truncated b = (b.1, inl b.0)
+head_fault h text rest new keep Wire.Read b = inl b
+head_fault h text rest new keep Wire.NoMemory b = absurd b
+head_fault h text rest new keep Wire.Ended b = absurd b

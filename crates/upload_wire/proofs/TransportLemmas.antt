@@ -25,7 +25,7 @@ pub hears : (old mid new : WireState) (ask : Ask) (host : List ℕ) (head failed
     → mid ≡ old → mid.broken ≡ false → host ≡ mid.host → new.host ≡ mid.host
     → Wrote mid.writer new.writer (ask_text ask host) wrote → failed ≡ is_err wrote → failed ≡ false
     → head ≡ wants_head ask
-    → ReadsAnswer head mid.reader.held mid.reader.remaining new.reader.held new.reader.remaining reply
+    → ReadsAnswer head mid.reader.held mid.reader.remaining new.reader.held new.reader.remaining reply new.reader.keep
     → CountsAtMost mid.reader.reads new.reader.reads most_answer_reads
     → (reply ≡ Err Fault.Read → CountsUp mid.reader.failed_reads new.reader.failed_reads)
     → (reply ≢ Err Fault.Read → new.reader.failed_reads ≡ mid.reader.failed_reads)
@@ -37,7 +37,7 @@ hears old mid new ask host head failed wrote reply heard old_is unbroken host_is
       inl (record {
         wrote = wrote_all mid.writer new.writer (ask_text ask mid.host) wrote text (sym failed_is ∙ ok);
         reply = reply;
-        read = subst (λ h. ReadsAnswer h mid.reader.held mid.reader.remaining new.reader.held new.reader.remaining reply) head_is read;
+        read = subst (λ h. ReadsAnswer h mid.reader.held mid.reader.remaining new.reader.held new.reader.remaining reply new.reader.keep) head_is read;
         reads = reads;
         failed = up;
         unfailed = same;

@@ -1,5 +1,5 @@
 -- A reply as a text: its head, its body (RFC 9112, section 6.3), and what a client hears in them.
-use Rattle.std.specs.Prelude.{◌≡◌, ℕ, ◌+◌, ◌<◌, ◌≤◌, ◌⊎◌, Bool, ◌||◌, ◌==◌, nat_lt, List, [], ◌∷◌, ◌++◌, length, map, codes, Option, Some, None, option_and_then, if◌then◌else◌, Result, Ok, Err, ⊤}
+use Rattle.std.specs.Prelude.{◌≡◌, ℕ, ◌+◌, ◌<◌, ◌≤◌, ◌⊎◌, Bool, false, ◌||◌, ◌==◌, nat_lt, List, [], ◌∷◌, ◌++◌, length, map, codes, Option, Some, None, option_and_then, if◌then◌else◌, Result, Ok, Err, ⊤}
 use Rattle.std.specs.Str.{is_utf8}
 use Rattle.std.specs.Str.Parse.{digits_value}
 use Rattle.std.specs.Io.KnownBytes.{Consumes, IsAtEnd}
@@ -11,7 +11,7 @@ use Rattle.serde_json.specs.Data.{Data}
 use Rattle.serde_json.specs.Read.{read}
 use Rattle.serde_json.specs.Find.{get, at, as_str}
 use Rattle.upload_names.specs.ByteRange.{Span, range_of}
-use Rattle.upload_wire.specs.Fields.{Fields, values_of}
+use Rattle.upload_wire.specs.Fields.{Fields, values_of, keeps_connection}
 use Rattle.upload_wire.specs.Body.{is_number}
 use Rattle.upload_wire.specs.AnswerFronts.{ReadsHead, IsRefused, IsTooLong, IsUnfinished}
 use Rattle.upload_wire.specs.declared.client.framing.AnswerFraming.{AnswerFraming}
@@ -52,6 +52,12 @@ framing_of head status fields =
     if nat_lt status 200 then Err Fault.Unreadable
     else framing_without_coding (values_of (codes "transfer-encoding") fields)
     (framing_by_length (is_empty head status) (values_of (codes "content-length") fields))
+
+-- whether the connection stays behind the reply (RFC 9112, sections 6.3 and 9.3): its version and its fields keep it, and its body doesn't
+-- go to the end of the input
+abbrev pub keeps_on : ℕ → Fields → AnswerFraming → Bool
+keeps_on minor fields (Sized n) = keeps_connection minor fields
+keeps_on minor fields ToEnd = false
 
 -- ---- what is heard
 
@@ -124,12 +130,13 @@ pub record IsWhole (head_only : Bool) (text rest : List ℕ) (new : Option (List
   pub framed : ReadsFramed head_only text (Ok framing) head (body ++ rest)
   pub is_body : IsBody framing body rest new
 
--- a reply of which this is heard
-pub record TellsHeard (head_only : Bool) (text rest : List ℕ) (new : Option (List ℕ)) (heard : Heard) : Type 0 where
+-- a reply of which this is heard, and which keeps the connection or doesn't
+pub record TellsHeard (head_only : Bool) (text rest : List ℕ) (new : Option (List ℕ)) (heard : Heard) (keep : Bool) : Type 0 where
   pub head : ResponseHead
   pub body : List ℕ
   pub whole : IsWhole head_only text rest new head body
   pub says : IsHeard (status_code head) (head_fields head) body heard
+  pub keeps : keep ≡ keeps_on head.minor (head_fields head) whole.framing
 
 -- a reply whose Location or Range is unreadable
 pub record TellsMisplaced (head_only : Bool) (text rest : List ℕ) (new : Option (List ℕ)) : Type 0 where
@@ -170,34 +177,36 @@ pub record HasOpenBody (head_only : Bool) (text : List ℕ) : Type 0 where
 abbrev pub HoldsNone : Bool → List ℕ → Type 0
 HoldsNone head_only text = IsUnfinished text ⊎ (HasCutBody head_only text ⊎ HasOpenBody head_only text)
 
--- what was found in the text, where the reader holds rest and the source is left as new
-abbrev pub FindsAnswer : Bool → List ℕ → List ℕ → Option (List ℕ) → Result Heard HeardFault → Type 0
-FindsAnswer head_only text rest new (Ok heard) = TellsHeard head_only text rest new heard
-FindsAnswer head_only text rest new (Err Fault.Unreadable) =
+-- What was found in the text, where the reader holds rest and the source is left as new. Behind a fault nothing is said of whether the
+-- connection stays.
+abbrev pub FindsAnswer : Bool → List ℕ → List ℕ → Option (List ℕ) → Result Heard HeardFault → Bool → Type 0
+FindsAnswer head_only text rest new (Ok heard) keep = TellsHeard head_only text rest new heard keep
+FindsAnswer head_only text rest new (Err Fault.Unreadable) keep =
     IsRefused text ⊎ (HasFramingFault head_only text Fault.Unreadable ⊎ TellsMisplaced head_only text rest new)
-FindsAnswer head_only text rest new (Err Fault.TooLarge) =
+FindsAnswer head_only text rest new (Err Fault.TooLarge) keep =
     IsTooLong text ⊎ (HasFramingFault head_only text Fault.TooLarge ⊎ HasLongBody head_only text)
-FindsAnswer head_only text rest new (Err Fault.Truncated) = IsAtEnd new × (IsUnfinished text ⊎ HasCutBody head_only text)
-FindsAnswer head_only text rest new (Err Fault.Read) = HoldsNone head_only text
-FindsAnswer head_only text rest new (Err Fault.NoMemory) = ⊤
-FindsAnswer head_only text rest new (Err Fault.Ended) = ⊥
+FindsAnswer head_only text rest new (Err Fault.Truncated) keep = IsAtEnd new × (IsUnfinished text ⊎ HasCutBody head_only text)
+FindsAnswer head_only text rest new (Err Fault.Read) keep = HoldsNone head_only text
+FindsAnswer head_only text rest new (Err Fault.NoMemory) keep = ⊤
+FindsAnswer head_only text rest new (Err Fault.Ended) keep = ⊥
 
 -- so many bytes were read, and this was found in what was held and read
 pub record ReadsAnswer
-    (head_only : Bool) (held : List ℕ) (old : Option (List ℕ)) (rest : List ℕ) (new : Option (List ℕ)) (r : Result Heard HeardFault)
+    (head_only : Bool) (held : List ℕ) (old : Option (List ℕ)) (rest : List ℕ) (new : Option (List ℕ)) (r : Result Heard HeardFault) (keep : Bool)
     : Type 0 where
   pub given : List ℕ
   pub consumed : Consumes old new given
-  pub found : FindsAnswer head_only (held ++ given) rest new r
+  pub found : FindsAnswer head_only (held ++ given) rest new r keep
 
 -- what contracts see of a reader of replies: the bytes that were read and not taken, what is known of the source, its
--- counts, and whether a fault ended the reading
+-- counts, whether a fault ended the reading, and whether the connection stays behind the reply that was read last
 pub record AnswerReaderState : Type 0 where
   pub held : List ℕ
   pub remaining : Option (List ℕ)
   pub reads : ℕ
   pub failed_reads : ℕ
   pub ended : Bool
+  pub keep : Bool
 
 -- the most reads of one reply: its head and its body, one byte each
 abbrev pub most_answer_reads : ℕ

@@ -1,5 +1,5 @@
 -- One ask over a wire: a request is written, and one reply is heard.
-use Rattle.std.specs.Prelude.{◌≡◌, ◌≢◌, ℕ, Bool, true, false, List, Option, None, Result, Err, is_err, ◌⊎◌}
+use Rattle.std.specs.Prelude.{◌≡◌, ◌≢◌, ℕ, Bool, true, false, not, ◌&&◌, List, Option, None, Result, Err, is_err, ◌⊎◌}
 use Rattle.std.specs.Result.{result_ok}
 use Rattle.upload_service.specs.declared.ask.Ask.{Ask}
 use Rattle.upload_wire.specs.Writing.{Sink, TookAll, TookFront}
@@ -22,11 +22,15 @@ abbrev pub GoesOn : Bool → AnswerReaderState → Type 0
 GoesOn true reader = Unit {0}
 GoesOn false reader = reader.ended ≡ false
 
+-- whether more can be asked: no fault broke the transport, and the reply that was heard last keeps the connection
+abbrev pub stays_open : WireState → Bool
+stays_open wire = not wire.broken && wire.reader.keep
+
 -- the request was written whole, and one reply read; a failed read is Read, and nothing else is
 pub record Hears (old : WireState) (ask : Ask) (heard : Option Heard) (new : WireState) : Type 0 where
   pub wrote : TookAll old.writer new.writer (ask_text ask old.host)
   pub reply : Result Heard HeardFault
-  pub read : ReadsAnswer (wants_head ask) old.reader.held old.reader.remaining new.reader.held new.reader.remaining reply
+  pub read : ReadsAnswer (wants_head ask) old.reader.held old.reader.remaining new.reader.held new.reader.remaining reply new.reader.keep
   pub reads : CountsAtMost old.reader.reads new.reader.reads most_answer_reads
   pub failed : reply ≡ Err Fault.Read → CountsUp old.reader.failed_reads new.reader.failed_reads
   pub unfailed : reply ≢ Err Fault.Read → new.reader.failed_reads ≡ old.reader.failed_reads

@@ -96,7 +96,7 @@ fn closes_after(found: bool, head: &[u8], header: HeaderSpan) -> bool
 }
 
 /// Whether a field `Connection` lists `close`.
-fn lists_close(head: &[u8], headers: &[HeaderSpan]) -> bool
+pub fn lists_close(head: &[u8], headers: &[HeaderSpan]) -> bool
     requires { All (IsHeaderWithin (length head.now)) headers.now }
     ensures { result ≡ list_any lists_close (values_of (codes "connection") (map (header_bytes head.now) headers.now)) }
 {

@@ -536,6 +536,47 @@ fn hears(
     Ok(())
 }
 
+/// A reply, and whether the connection stays behind it.
+static KEPT: [(&str, bool); 7] = [
+    ("HTTP/1.1 200 OK\r\nContent-Length: 2\r\n\r\nok", true),
+    ("HTTP/1.1 204 No Content\r\n\r\n", true),
+    (
+        "HTTP/1.1 200 OK\r\nConnection: keep-alive\r\nContent-Length: 0\r\n\r\n",
+        true,
+    ),
+    (
+        "HTTP/1.1 200 OK\r\nConnection: close\r\nContent-Length: 2\r\n\r\nok",
+        false,
+    ),
+    (
+        "HTTP/1.1 202 Accepted\r\ncONNECTION: a, Close\r\nContent-Length: 0\r\n\r\n",
+        false,
+    ),
+    ("HTTP/1.0 200 OK\r\nContent-Length: 0\r\n\r\n", false),
+    ("HTTP/1.1 200 OK\r\n\r\nup to the end", false),
+];
+
+/// Whether a transport is open before, behind its first reply, and behind the fault of the second ask.
+fn stays_open(rt: &impl Abort, alloc: Global, text: &str, keep: bool) -> Result<(), Fail> {
+    let mut sent = Vec::new(alloc);
+    let source = MemorySource::new(text.as_bytes(), 7, false);
+    let mut transport = WireTransport::new(alloc, source, ToWrite::new(&mut sent), b"h")?;
+    same(rt, transport.stays_open(), true, &text);
+    same(rt, transport.ask(Ask::Base).is_some(), true, &text);
+    same(rt, transport.stays_open(), keep, &text);
+    same(rt, transport.ask(Ask::Base).is_some(), false, &text);
+    same(rt, transport.stays_open(), false, &text);
+    Ok(())
+}
+
+#[test]
+fn a_transport_says_whether_it_stays_open(rt: HostRuntime) -> Result<(), Fail> {
+    for (text, keep) in KEPT.iter() {
+        stays_open(&rt, rt.alloc(), text, *keep)?;
+    }
+    Ok(())
+}
+
 static SILENT: [(Word, Option<u16>); 2] = [(Word::Base, None), (Word::Base, None)];
 
 #[test]

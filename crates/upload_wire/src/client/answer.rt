@@ -6,7 +6,7 @@ ghost use Rattle.httparse.specs.Spans.{IsHeaderWithin, header_bytes};
 ghost use Rattle.serde_json.specs.View.{view};
 ghost use Rattle.upload_wire.specs.Counts.{CountsUp, CountsAtMost};
 ghost use Rattle.upload_wire.specs.Fields.{Fields, values_of};
-ghost use Rattle.upload_wire.specs.AnswerText.{ReadsAnswer, code_in, code_of, first_of, framing_of, framing_by_length, most_answer_reads, upto_of};
+ghost use Rattle.upload_wire.specs.AnswerText.{ReadsAnswer, code_in, code_of, first_of, framing_of, framing_by_length, keeps_on, most_answer_reads, upto_of};
 ghost use Rattle.upload_wire.specs.AnswerReading.{IsHeadAtFront, IsHeadOf, IsSmall, IsFramingFault, PlaceUnlessNoMemory, Says, SaysBare, fields_of};
 
 use crate::buffer::ReadBuffer;
@@ -16,7 +16,7 @@ use crate::client::framing::AnswerFraming;
 use crate::client::head::{AnswerHead, read_head};
 use crate::client::heard::{Heard, HeardFault};
 use crate::client::parsed::ParsedAnswer;
-use crate::fields::{Occurrence, field_among, is_same_word};
+use crate::fields::{Occurrence, field_among, is_same_word, lists_close};
 use crate::framing::length_of;
 use http_uri::{Uri, UriError};
 use httparse::spans::HeaderSpan;
@@ -145,6 +145,20 @@ fn framing_of(
     }
 }
 
+/// Whether the connection stays behind a reply (RFC 9112, sections 6.3 and 9.3).
+fn keeps_on(head: &[u8], parsed: &ParsedAnswer, framing: AnswerFraming) -> bool
+    requires { IsHeadOf head.now parsed.now }
+    ensures { result ≡ keeps_on parsed.now.spans.version (fields_of head.now parsed.now) framing }
+{
+    match framing {
+        AnswerFraming::Sized(_) => {
+            let headers = &parsed.headers[..parsed.spans.headers];
+            parsed.spans.version == 1 && !lists_close(head, headers)
+        }
+        AnswerFraming::ToEnd => false,
+    }
+}
+
 /// The path of a Location.
 fn place_of(alloc: Global, value: Option<&[u8]>) -> Result<Option<Bytes>, HeardFault>
     ensures { PlaceUnlessNoMemory (option_map (λ v. v.now) value.entry) result }
@@ -222,16 +236,17 @@ fn with_code(
     }
 }
 
-/// Reads the body behind a head, and takes the reply out of the buffer.
+/// Reads the body behind a head, takes the reply out of the buffer, and notes whether it keeps the connection.
 fn read_framed<S: ByteSource>(
     alloc: Global,
     source: &mut S,
     buffer: &mut ReadBuffer,
     parsed: &ParsedAnswer,
     head_only: bool,
+    keep: &mut bool,
 ) -> Result<Heard, HeardFault>
     requires { IsHeadAtFront buffer.old parsed.now }
-    ensures found { ReadsAnswer head_only buffer.old (S.remaining source.old) buffer.new (S.remaining source.new) result }
+    ensures found { ReadsAnswer head_only buffer.old (S.remaining source.old) buffer.new (S.remaining source.new) result keep.new }
     ensures reads { CountsAtMost (S.reads source.old) (S.reads source.new) 65537 }
     ensures failed { result ≡ Err HeardFault.Read
         → CountsUp (S.failed_reads source.old) (S.failed_reads source.new) }
@@ -245,6 +260,7 @@ fn read_framed<S: ByteSource>(
     };
     // What the head says is heard once the body is there.
     let said = said_of(alloc, head, parsed);
+    *keep = keeps_on(head, parsed, framing);
     buffer.consume(parsed.spans.len);
     let mut body = Vec::new(alloc);
     match read_body(source, buffer, &mut body, framing) {
@@ -253,14 +269,15 @@ fn read_framed<S: ByteSource>(
     }
 }
 
-/// Reads the next reply, behind what the buffer holds of it.
+/// Reads the next reply, behind what the buffer holds of it, and notes whether it keeps the connection.
 fn read_answer<S: ByteSource>(
     alloc: Global,
     source: &mut S,
     buffer: &mut ReadBuffer,
     head_only: bool,
+    keep: &mut bool,
 ) -> Result<Heard, HeardFault>
-    ensures found { ReadsAnswer head_only buffer.old (S.remaining source.old) buffer.new (S.remaining source.new) result }
+    ensures found { ReadsAnswer head_only buffer.old (S.remaining source.old) buffer.new (S.remaining source.new) result keep.new }
     ensures reads { CountsAtMost (S.reads source.old) (S.reads source.new) most_answer_reads }
     ensures failed { result ≡ Err HeardFault.Read
         → CountsUp (S.failed_reads source.old) (S.failed_reads source.new) }
@@ -268,7 +285,9 @@ fn read_answer<S: ByteSource>(
         → S.failed_reads source.new ≡ S.failed_reads source.old }
 {
     match read_head(source, buffer) {
-        Ok(AnswerHead::Head(parsed)) => read_framed(alloc, source, buffer, &parsed, head_only),
+        Ok(AnswerHead::Head(parsed)) => {
+            read_framed(alloc, source, buffer, &parsed, head_only, keep)
+        }
         Ok(AnswerHead::Refused) => Err(HeardFault::Unreadable),
         Ok(AnswerHead::TooLong) => Err(HeardFault::TooLarge),
         Err(fault) => Err(fault_of(fault)),
@@ -282,6 +301,7 @@ pub struct AnswerReader<S: ByteSource> {
     source: S,
     buffer: ReadBuffer,
     ended: bool,
+    keep: bool,
 }
 
 impl<S: ByteSource> Model for AnswerReader<S> {
@@ -295,6 +315,7 @@ impl<S: ByteSource> Model for AnswerReader<S> {
       reads = S.reads r.source;
       failed_reads = S.failed_reads r.source;
       ended = r.ended;
+      keep = r.keep;
     } };
 }
 
@@ -309,6 +330,7 @@ impl<S: ByteSource> AnswerReader<S> {
           reads = S.reads source;
           failed_reads = S.failed_reads source;
           ended = false;
+          keep = true;
         }) }
     {
         let buffer = ReadBuffer::new(alloc)?;
@@ -317,6 +339,7 @@ impl<S: ByteSource> AnswerReader<S> {
             source,
             buffer,
             ended: false,
+            keep: true,
         })
     }
 
@@ -336,7 +359,7 @@ impl<S: ByteSource> AnswerReader<S> {
     pub fn next_answer(&mut self, head: bool) -> Result<Heard, HeardFault>
         ensures ended { self.old.ended ≡ true → (result ≡ Err HeardFault.Ended) × (self.new ≡ self.old) }
         ensures found { self.old.ended ≡ false
-            → ReadsAnswer head self.old.held self.old.remaining self.new.held self.new.remaining result }
+            → ReadsAnswer head self.old.held self.old.remaining self.new.held self.new.remaining result self.new.keep }
         ensures ends { self.new.ended ≡ is_err result }
         ensures reads { CountsAtMost self.old.reads self.new.reads most_answer_reads }
         ensures failed { result ≡ Err HeardFault.Read → CountsUp self.old.failed_reads self.new.failed_reads }
@@ -345,8 +368,23 @@ impl<S: ByteSource> AnswerReader<S> {
         if self.ended {
             return Err(HeardFault::Ended);
         }
-        let heard = read_answer(self.alloc, &mut self.source, &mut self.buffer, head);
+        let heard = read_answer(
+            self.alloc,
+            &mut self.source,
+            &mut self.buffer,
+            head,
+            &mut self.keep,
+        );
         self.ended = heard.is_err();
         heard
+    }
+
+    /// Whether the connection stays behind the reply that was read last: its version is HTTP/1.1, no `Connection` field lists
+    /// `close`, and its body doesn't go to the end of the input (RFC 9112, sections 6.3 and 9.3). `true` before the first
+    /// reply; behind a fault it says nothing.
+    pub fn keeps_connection(&self) -> bool
+        ensures { result ≡ self.now.keep }
+    {
+        self.keep
     }
 }

@@ -1,9 +1,9 @@
 //! A transport over a reader and a writer of bytes.
-ghost use Rattle.std.specs.Prelude.{◌≡◌, IfOk, IsTrue, [], false};
+ghost use Rattle.std.specs.Prelude.{◌≡◌, IfOk, IsTrue, [], false, true};
 ghost use Rattle.upload_service.specs.declared.ask.Ask.{Ask as AskModel};
 ghost use Rattle.upload_wire.specs.Writing.{sink};
 ghost use Rattle.upload_wire.specs.AskText.{CanBeWritten, is_host, wants_head};
-ghost use Rattle.upload_wire.specs.TransportText.{AsksOverWire};
+ghost use Rattle.upload_wire.specs.TransportText.{AsksOverWire, stays_open};
 
 use crate::bytes::{ByteSink, ByteSource};
 use crate::client::answer::AnswerReader;
@@ -62,6 +62,7 @@ impl<S: ByteSource, W: ByteSink> WireTransport<S, W> {
             reads = S.reads source;
             failed_reads = S.failed_reads source;
             ended = false;
+            keep = true;
           };
           writer = sink (W.contents writer) (W.failed_writes writer);
           host = host.now;
@@ -76,6 +77,14 @@ impl<S: ByteSource, W: ByteSink> WireTransport<S, W> {
             host,
             broken: false,
         })
+    }
+
+    /// Whether more can be asked: no fault broke the transport, and the reply that was heard last keeps the connection. Behind one
+    /// that doesn't the server closes it, and a client sends nothing more (RFC 9112, section 9.6).
+    pub fn stays_open(&self) -> bool
+        ensures { result ≡ stays_open self.now }
+    {
+        !self.broken && self.reader.keeps_connection()
     }
 }
 

@@ -8,23 +8,23 @@ use Rattle.upload_wire.proofs.client.answer.read_answer.Goals as goal
 
 pub returns-in-Ok-Head-clause-found : goal.returns-in-Ok-Head-clause-found
 returns-in-Ok-Head-clause-found g c =
-    reads_after c.args.head_only c.args.buffer.now c.read_head.new.buffer c.read_framed.new.buffer _ _ _ c.read_framed.result
+    reads_after c.args.head_only c.args.buffer.now c.read_head.new.buffer c.read_framed.new.buffer _ _ _ c.read_framed.result _
     c.in-Ok-Head.ensures.gave c.read_framed.ensures.found
 
 pub returns-in-Ok-Refused-clause-found : goal.returns-in-Ok-Refused-clause-found
 returns-in-Ok-Refused-clause-found g c =
-    found_after c.args.head_only c.args.buffer.now c.read_head.new.buffer c.read_head.new.buffer _ _ (Err Fault.Unreadable) c.in-Ok-Refused.ensures.gave
+    found_after c.args.head_only c.args.buffer.now c.read_head.new.buffer c.read_head.new.buffer _ _ (Err Fault.Unreadable) _ c.in-Ok-Refused.ensures.gave
     (inl (rw c.in-Ok-Refused.field-0-is at c.in-Ok-Refused.ensures.found))
 
 pub returns-in-Ok-TooLong-clause-found : goal.returns-in-Ok-TooLong-clause-found
 returns-in-Ok-TooLong-clause-found g c =
-    found_after c.args.head_only c.args.buffer.now c.read_head.new.buffer c.read_head.new.buffer _ _ (Err Fault.TooLarge) c.in-Ok-TooLong.ensures.gave
+    found_after c.args.head_only c.args.buffer.now c.read_head.new.buffer c.read_head.new.buffer _ _ (Err Fault.TooLarge) _ c.in-Ok-TooLong.ensures.gave
     (inl (rw c.in-Ok-TooLong.field-0-is at c.in-Ok-TooLong.ensures.found))
 
 pub returns-in-Err-clause-found : goal.returns-in-Err-clause-found
 returns-in-Err-clause-found g c =
-    found_after c.args.head_only c.args.buffer.now c.read_head.new.buffer c.read_head.new.buffer _ _ _ c.in-Err.ensures.gave
-    (rw c.fault_of.ensures (head_fault c.args.head_only c.read_head.new.buffer c.read_head.new.buffer _ c.in-Err.fault c.in-Err.ensures.found))
+    found_after c.args.head_only c.args.buffer.now c.read_head.new.buffer c.read_head.new.buffer _ _ _ _ c.in-Err.ensures.gave
+    (rw c.fault_of.ensures (head_fault c.args.head_only c.read_head.new.buffer c.read_head.new.buffer _ _ c.in-Err.fault c.in-Err.ensures.found))
 
 pub returns-in-Err-clause-failed : goal.returns-in-Err-clause-failed
 returns-in-Err-clause-failed g c = λ e.
