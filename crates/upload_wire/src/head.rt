@@ -57,8 +57,8 @@ fn judge(front: &[u8]) -> Verdict
 }
 
 /// The verdict on the front that ends at a byte, where so many lines ended before it. A head ends in a line
-/// feed, and one of 64 fields has 66 of them: a front with more that is no head is given up, so that a
-/// hostile head costs at most 66 verdicts.
+/// feed, and one of 64 fields has 66 of them where no empty line stands in front of it: a front with as many
+/// that is no head is given up, so that a hostile head costs at most 66 verdicts.
 fn judge_at(text: &[u8], at: usize, lines: usize) -> Verdict
     requires in_range { at < length text.now }
     requires short { at < MAX_HEAD }

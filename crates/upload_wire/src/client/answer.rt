@@ -202,14 +202,8 @@ fn said_of(alloc: Global, head: &[u8], parsed: &ParsedAnswer) -> Result<Heard, H
     ensures { SaysBare parsed.now.spans.code (fields_of head.now parsed.now) result }
 {
     let headers = &parsed.headers[..parsed.spans.headers];
-    let place = match place_of(alloc, first_named(head, headers, b"location")) {
-        Ok(place) => place,
-        Err(fault) => return Err(fault),
-    };
-    let upto = match upto_of(first_named(head, headers, b"range")) {
-        Ok(upto) => upto,
-        Err(fault) => return Err(fault),
-    };
+    let place = place_of(alloc, first_named(head, headers, b"location"))?;
+    let upto = upto_of(first_named(head, headers, b"range"))?;
     Ok(Heard {
         status: parsed.spans.code,
         place,
@@ -226,10 +220,7 @@ fn with_code(
 ) -> Result<Heard, HeardFault>
     ensures { (status : ℕ) (fields : Fields) → SaysBare status fields said → Says status fields body.now result }
 {
-    let said = match said {
-        Ok(said) => said,
-        Err(fault) => return Err(fault),
-    };
+    let said = said?;
     match code_of(alloc, body) {
         Ok(code) => Ok(Heard { code, ..said }),
         Err(_) => Err(HeardFault::NoMemory),
