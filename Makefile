@@ -43,7 +43,7 @@ check:
 	rt all check
 
 format:
-	for crate in crates/*/; do (cd "$$crate" && rt fmt); done
+	for crate in crates/*/; do (cd "$$crate" && rt fmt) || exit 1; done
 
 figures:
 	@python3 bench/connection.py crates/blobd/out/blobd

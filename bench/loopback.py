@@ -70,6 +70,11 @@ class Server:
         self.process.kill()
         self.process.wait()
 
+    def give_up(self, why):
+        """Ends a server that didn't start as it must, and this program."""
+        self.__exit__()
+        sys.exit(why)
+
     def connect(self):
         return Connection(self.place)
 
@@ -101,7 +106,7 @@ class Blobd(Server):
         self.process = subprocess.Popen(words, env=os.environ | self.settings, stdout=subprocess.PIPE, text=True)
         told = self.process.stdout.readline()
         if not told.startswith("listening "):
-            sys.exit(f"{self.program} serve: {told.strip() or 'it says nothing'}")
+            self.give_up(f"{self.program} serve: {told.strip() or 'it says nothing'}")
         host, port = told.removeprefix("listening ").strip().rsplit(":", 1)
         self.place = host, int(port)
 
@@ -132,7 +137,7 @@ class DockerRegistry(Server):
             with contextlib.suppress(OSError), self.connect():
                 return
             time.sleep(0.05)
-        sys.exit(f"{self.program} serve: nobody listens on {self.place}")
+        self.give_up(f"{self.program} serve: nobody listens on {self.place}")
 
     def __exit__(self, *words):
         super().__exit__(*words)
@@ -171,12 +176,15 @@ class Connection:
         while sent < length:
             sent += os.sendfile(self.socket.fileno(), file.fileno(), first + sent, length - sent)
 
+    def read_more(self):
+        part = self.socket.recv(65536)
+        if not part:
+            sys.exit(f"the server closed behind {self.unread!r}")
+        self.unread += part
+
     def reply_head(self):
         while b"\r\n\r\n" not in self.unread:
-            part = self.socket.recv(65536)
-            if not part:
-                sys.exit(f"the server closed behind {self.unread!r}")
-            self.unread += part
+            self.read_more()
         head, self.unread = self.unread.split(b"\r\n\r\n", 1)
         lines = head.decode().split("\r\n")
         pairs = (line.split(":", 1) for line in lines[1:])
@@ -186,7 +194,7 @@ class Connection:
         status, fields = self.reply_head()
         length = int(fields.get("content-length", 0))
         while len(self.unread) < length:
-            self.unread += self.socket.recv(65536)
+            self.read_more()
         body, self.unread = self.unread[:length], self.unread[length:]
         return Reply(status, fields, body)
 
@@ -366,12 +374,6 @@ def push_row(server, blob, chunk):
     return {**figures, "client_seconds": min(client), "client_peak_bytes_a_byte": max(peaks) / blob.size}
 
 
-def has_push(program):
-    """A program without the command prints how it is used."""
-    ran = subprocess.run([program, "push", "127.0.0.1:1", "a", os.devnull, "1"], capture_output=True, timeout=PATIENCE, check=False)
-    return ran.returncode != 2
-
-
 def converse(place, request, ending, rounds, together, meeting, told):
     """One client of several: the same request again and again, so many written together. A reply is told by its end."""
     with Connection(place) as connection:
@@ -524,11 +526,7 @@ def read_words():
 def measure(program, settings, blob, folder):
     """The rows of each server, and those of the client."""
     blobd = Blobd(program, settings)
-    measured = [(blobd, server_rows(blobd, blob))]
-    if has_push(program):
-        measured.append((blobd, push_rows(blobd, blob)))
-    else:
-        print("skipped: push, which this program doesn't have", flush=True)
+    measured = [(blobd, server_rows(blobd, blob)), (blobd, push_rows(blobd, blob))]
     if registry := shutil.which("docker-registry"):
         registry = DockerRegistry(registry, folder)
         measured.append((registry, server_rows(registry, blob)))

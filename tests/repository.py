@@ -12,8 +12,8 @@ import sys
 TOP = os.path.dirname(os.path.dirname(os.path.abspath(__file__)))
 HANDLES = "Handles allowed: Threads, Wait, Net.\n"
 
-# The repository stands alone: its reader has none of the texts that it grew from, so a numbered citation of one
-# says nothing. A letter with a number is a citation unless it is a type parameter.
+# A letter with a number, as a citation, names nothing that a reader of this repository could look up. It is one unless
+# it is a type parameter.
 CITATION = re.compile(
     r"(^|[^A-Za-z0-9_])(D(1[0-7]|[1-9])|T[1-5][a-e]?|W(1[0-9]|2[0-3]|[1-9])|R(1[0-6]|[1-9]))([^A-Za-z0-9_]|$)"
     r"|\brow [0-9]+"
