@@ -294,6 +294,20 @@ def words():
         check(f"the words {refused}", run(*refused) == ("", 2, USAGE + "\n"), run(*refused))
 
 
+def one_worker_alone():
+    """A worker without another has nobody to ask, and stops behind the first request that found that out."""
+    with Server(1000, preexec_fn=limited(STACK=3 << 30, AS=4 << 30)) as server:
+        with server.connect() as connection:
+            connection.sendall(b"GET /v2/ HTTP/1.1\r\n\r\n")
+            reply = rest_of(connection)
+            check("no reply of a worker alone", reply == b"", reply)
+        try:
+            ended = server.process.wait(timeout=10), server.process.stdout.read()
+        except subprocess.TimeoutExpired:
+            ended = "it goes on"
+        check("a worker alone stops", ended == (3, "fault: workers\n"), ended)
+
+
 def faults():
     with socket.socket() as taken:
         taken.bind(("127.0.0.1", 0))
@@ -310,6 +324,7 @@ def faults():
     else:
         with Server(1, preexec_fn=limited(STACK=8 << 30, AS=4 << 30)) as server:
             check("no memory for a worker", server.end() == ("fault: workers\n", 3))
+        one_worker_alone()
     with open("/dev/full", "w", encoding="utf-8") as full:
         ended = subprocess.run([PROGRAM, "serve", "127.0.0.1:0", "1"], stdout=full, timeout=20, check=False)
         check("a line that can't be printed", ended.returncode == 3, ended.returncode)

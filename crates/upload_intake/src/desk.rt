@@ -17,6 +17,7 @@ impl<'a, R: Wait, S: Secrets + Drop> SeatDesk<'a, R, S> {
     ghost use Rattle.std.specs.Prelude.{◌≡◌};
     ghost use Rattle.upload_intake.specs.Desks.{seat_of, secrets_of};
 
+    /// A desk that asks over this seat. It takes no memory.
     pub fn new(rt: &'a R, seat: Seat, secrets: S) -> SeatDesk<'a, R, S>
         ensures seat { seat_of result ≡ seat }
         ensures secrets { secrets_of result ≡ secrets }

@@ -26,8 +26,11 @@ const CAPACITY: usize = 2;
 /// What a worker serves, with which secrets, and what is told of it.
 #[derive(Drop)]
 pub struct Worker<C, S, G> {
+    /// What it serves.
     pub conns: C,
+    /// Of the sessions that its requests open.
     pub secrets: S,
+    /// What is told of each request.
     pub gate: G,
 }
 
@@ -43,8 +46,11 @@ pub struct WorkerEnd {
 /// What is left of a pair.
 #[derive(Drop)]
 pub struct Pair {
+    /// The service as the last request left it.
     pub service: Service,
+    /// What the left worker did.
     pub left: WorkerEnd,
+    /// What the right one did.
     pub right: WorkerEnd,
 }
 
@@ -103,7 +109,7 @@ impl WorkerEnd {
     }
 }
 
-// Serves a worker's connections one after the other, and finishes its seat.
+// Serves a worker's connections one after the other, none behind one that ended `DeskGone`, and finishes its seat.
 fn serve_all<R: Wait, C: Conns + Drop, S: Secrets + Drop, G: Gate + Drop>(
     rt: &R,
     alloc: Global,
@@ -130,14 +136,24 @@ fn serve_all<R: Wait, C: Conns + Drop, S: Secrets + Drop, G: Gate + Drop>(
         let Some((mut source, mut sink)) = conns.next_conn() else {
             break;
         };
-        end.count(serve_connection(alloc, &mut source, &mut sink, &mut desk, limits));
+        let ended = serve_connection(alloc, &mut source, &mut sink, &mut desk, limits);
+        end.count(ended);
+        // A desk that is gone stays gone: the next client would get no reply.
+        if matches!(ended, ConnEnd::DeskGone) {
+            break;
+        }
     }
     let GatedDesk { desk, .. } = desk;
     (desk.into_seat().finish(rt), end)
 }
 
 /// Serves the connections of two workers, both at once, each worker's one after the other until no more come. Both
-/// workers are started before the keeper runs on this thread, and every thread is joined.
+/// workers are started before the keeper runs on this thread, and every thread is joined. `moments` is asked once for
+/// each request.
+///
+/// `NoMemory` comes where the lines found no memory: no worker was started. `NoThread` comes where a worker couldn't be
+/// started, once one that was started has ended. That one may wait for a connection: the first that asks something ends
+/// `DeskGone`, and it takes no more. After either the service is dropped.
 pub fn serve_pair<R, M, LC, LS, LG, RC, RS, RG>(
     rt: &R,
     alloc: Global,

@@ -36,6 +36,7 @@ pub struct DrawnSecrets<G> {
 impl<G: Rng> DrawnSecrets<G> {
     ghost use Rattle.upload_intake.specs.Generators.{generator_of};
 
+    /// Secrets of this generator's stream, from where it stands.
     pub fn new(generator: G) -> DrawnSecrets<G>
         ensures { generator_of result ≡ generator }
     {

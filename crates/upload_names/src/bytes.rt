@@ -25,6 +25,7 @@ impl Bytes {
         Bytes { bytes }
     }
 
+    /// The bytes, in place.
     pub fn as_slice(&self) -> &[u8]
         ensures { result.now ≡ self.now }
     {

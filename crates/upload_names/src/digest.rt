@@ -162,12 +162,14 @@ impl BlobDigest {
         BlobDigest { sum }
     }
 
+    /// The SHA-256 digest of a content.
     pub fn of_sha256(content: &[u8]) -> BlobDigest
         ensures { result ≡ content_digest Algorithm.Sha256 content.now }
     {
         BlobDigest::of(Algorithm::Sha256, content)
     }
 
+    /// By what it was computed.
     pub fn algorithm(&self) -> Algorithm
         ensures { result ≡ self.now.algorithm }
     {
@@ -249,6 +251,7 @@ impl Model for DigestText {
 }
 
 impl DigestText {
+    /// The text: `sha256:` or `sha512:`, and lower case digits.
     pub fn as_bytes(&self) -> &[u8]
         ensures { result.now ≡ self.now }
     {

@@ -107,6 +107,7 @@ impl RepoName {
         }
     }
 
+    /// The name's text, 1 to 255 bytes of ASCII.
     pub fn as_str(&self) -> &str
         ensures text { result.now ≡ self.now }
         ensures named { IsName self.now }

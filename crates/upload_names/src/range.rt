@@ -11,7 +11,9 @@ const CAP: u64 = 1_000_000_000_000_000_000;
 /// chunks", `Content-Range`). Its numbers are at most 10^18, above every limit of the service.
 #[derive(Clone, Copy)]
 pub struct ByteRange {
+    /// The position of the first byte, counted from 0; at most 10^18.
     pub first: u64,
+    /// The position of the last byte, counted from 0; at most 10^18.
     pub last: u64,
 }
 

@@ -69,20 +69,15 @@ impl Blobs {
         };
         match entry {
             Entry::Occupied(mut place) => {
-                let Ok(()) = pairs.put(name, digest) else {
-                    return Err(AllocError);
-                };
+                pairs.put(name, digest)?;
                 place.insert(blob);
-                return Ok(());
             }
             Entry::Vacant(place) => {
-                let Ok(()) = pairs.put(name, digest) else {
-                    return Err(AllocError);
-                };
+                pairs.put(name, digest)?;
                 place.insert(blob);
-                Ok(())
             }
         }
+        Ok(())
     }
 
     /// Closes an open session, stores what it received and a last body, and notes the pair.
@@ -107,20 +102,15 @@ impl Blobs {
         };
         match entry {
             Entry::Occupied(mut place) => {
-                let Ok(()) = pairs.put(name, digest) else {
-                    return Err(AllocError);
-                };
+                pairs.put(name, digest)?;
                 place.insert(blob_of(sessions, at, body));
-                return Ok(());
             }
             Entry::Vacant(place) => {
-                let Ok(()) = pairs.put(name, digest) else {
-                    return Err(AllocError);
-                };
+                pairs.put(name, digest)?;
                 place.insert(blob_of(sessions, at, body));
-                Ok(())
             }
         }
+        Ok(())
     }
 }
 

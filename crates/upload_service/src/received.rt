@@ -68,8 +68,7 @@ impl Received {
         ensures ok { OnOk result (self.new ≡ self.old ++ body) }
         ensures err { OnErr result (self.new ≡ self.old) }
     {
-        self.segments.append(body)?;
-        Ok(())
+        self.segments.append(body)
     }
 
     /// Has the SHA-256 take in the segments that stay as they are. Nothing that is seen changes.

@@ -128,8 +128,7 @@ impl Service {
     {
         // Opens the service: that it is lawful is what the headline starts from.
         let _ = &self.limits;
-        let answers = self.run_each(alloc, jobs)?;
-        Ok(answers)
+        self.run_each(alloc, jobs)
     }
 
     fn run_each(

@@ -83,9 +83,7 @@ impl Sessions {
         ensures named { IfSome result (λ session. session.now.name ≡ name.now) }
         ensures none { IfNone result ((session : Session) → unless_idle max_idle now (map.get self.now at.now) ≡ Some session → session.name ≢ name.now) }
     {
-        let Some(session) = self.find(at) else {
-            return None;
-        };
+        let session = self.find(at)?;
         if session.is_idle(max_idle, now) {
             return None;
         }

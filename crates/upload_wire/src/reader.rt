@@ -66,9 +66,7 @@ impl<S: ByteSource + Drop> RequestReader<S> {
           phase = Phase.Ready;
         }) }
     {
-        let Ok(buffer) = ReadBuffer::new(alloc) else {
-            return Err(AllocError);
-        };
+        let buffer = ReadBuffer::new(alloc)?;
         Ok(RequestReader {
             alloc,
             source,
