@@ -127,8 +127,9 @@ where
 ///
 /// A fault is printed in place of the line that would come next, and has status 3: `fault: listen` where the local
 /// address can't be told, `fault: random` where a generator of secrets can't be made, `fault: workers` where the workers
-/// couldn't be started, and `fault: accept` where a connection couldn't be accepted or split, once the other worker has
-/// ended too. A line that can't be printed ends the program with status 3.
+/// couldn't be started (once a worker that was started has ended, which it does behind the first request that comes to it),
+/// and `fault: accept` where a connection couldn't be accepted or split, once the other worker has ended too. A line that
+/// can't be printed ends the program with status 3.
 pub fn run_serve<R, W>(rt: &R, listener: &TcpListener, count: u64, out: &mut W) -> u8
 where
     R: Threads + Wait + Sync + AllocGlobal + Clock + RandomSource,
