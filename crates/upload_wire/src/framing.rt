@@ -53,10 +53,9 @@ pub fn framing_of(head: &[u8], parsed: &ParsedHead, max_body: u64) -> Result<Fra
     let length = field_named(head, parsed, b"content-length");
     match (coding, length) {
         (Occurrence::Absent, Occurrence::Absent) => Ok(Framing::Length(0)),
-        (Occurrence::Absent, Occurrence::Once(value)) => match length_of(value, max_body) {
-            Ok(length) => Ok(Framing::Length(length)),
-            Err(number) => Err(number),
-        },
+        (Occurrence::Absent, Occurrence::Once(value)) => {
+            Ok(Framing::Length(length_of(value, max_body)?))
+        }
         (Occurrence::Absent, Occurrence::Repeated) => Err(3),
         (Occurrence::Once(coding), Occurrence::Absent)
             if parsed.spans.version == 1 && is_same_word(coding, b"chunked") => {

@@ -104,18 +104,14 @@ fn read_request<S: ByteSource>(
         Ok(framing) => framing,
         Err(number) => return Ok(Next::Bad(number)),
     };
-    let Described { ask, style } = match describe(alloc, head, parsed) {
-        Ok(described) => described,
-        Err(fault) => return Err(fault),
-    };
+    let Described { ask, style } = describe(alloc, head, parsed)?;
     buffer.consume(parsed.spans.len);
-    match read_body(alloc, source, buffer, framing, max_body) {
-        Ok(BodyRead::Whole(body)) => Ok(Next::Request {
+    match read_body(alloc, source, buffer, framing, max_body)? {
+        BodyRead::Whole(body) => Ok(Next::Request {
             ask: with_body(ask, body),
             style,
         }),
-        Ok(BodyRead::Refused(number)) => Ok(Next::Bad(number)),
-        Err(fault) => Err(fault),
+        BodyRead::Refused(number) => Ok(Next::Bad(number)),
     }
 }
 
@@ -135,11 +131,10 @@ pub fn read_next<S: ByteSource>(
     ensures unfailed { result ≢ Err WireFault.Read
         → S.failed_reads source.new ≡ S.failed_reads source.old }
 {
-    match read_head(source, buffer) {
-        Ok(HeadRead::Head(parsed)) => read_request(alloc, source, buffer, &parsed, max_body),
-        Ok(HeadRead::Over) => Ok(Next::Over),
-        Ok(HeadRead::Refused) => Ok(Next::Bad(1)),
-        Ok(HeadRead::TooLong) => Ok(Next::Bad(2)),
-        Err(fault) => Err(fault),
+    match read_head(source, buffer)? {
+        HeadRead::Head(parsed) => read_request(alloc, source, buffer, &parsed, max_body),
+        HeadRead::Over => Ok(Next::Over),
+        HeadRead::Refused => Ok(Next::Bad(1)),
+        HeadRead::TooLong => Ok(Next::Bad(2)),
     }
 }
