@@ -37,7 +37,11 @@ pub enum Next {
     Request { ask: Ask, style: Style },
     /// The input ended behind the last request.
     Over,
-    /// What came is no request, and is answered by the reply of this number, 1 to 6. Nothing more is read.
+    /// What came is no request, and is answered by the reply of this number; nothing more is read.
+    /// 1: the head isn't one (400; RFC 9112, sections 2 to 5). 2: it has over 16,384 bytes (431).
+    /// 3: its Content-Length is unreadable, said twice, or beside a Transfer-Encoding (400). 4: the body is over
+    /// the limit (413). 5: a coding other than one `chunked` in HTTP/1.1 (411). 6: the chunked body isn't of its
+    /// form (400; RFC 9112, section 7.1).
     Bad(u8),
 }
 
