@@ -10,7 +10,7 @@ ghost use Rattle.upload_wire.specs.BodyFinding.{FindsBody};
 use crate::body::{BodyRead, read_bytes};
 use crate::buffer::ReadBuffer;
 use crate::bytes::ByteSource;
-use crate::fault::WireFault;
+use crate::fault::{BAD_CHUNKS, LARGE_BODY, WireFault};
 use crate::framing::Framing;
 use crate::head::has_byte;
 use std::alloc::Global;
@@ -47,7 +47,8 @@ pub enum ChunkRead {
     More,
     /// The end.
     Last,
-    /// Neither, with its Bad number: 4 where its size takes the body over the limit, and else 6.
+    /// Neither, with its Bad number: `LARGE_BODY` where its size takes the body over the limit, and else
+    /// `BAD_CHUNKS`.
     Refused(u8),
 }
 
@@ -166,14 +167,14 @@ fn read_chunk<S: ByteSource>(
         → S.failed_reads source.new ≡ S.failed_reads source.old }
 {
     let LineRead::Size(size) = read_line(source, buffer)? else {
-        return Ok(ChunkRead::Refused(6));
+        return Ok(ChunkRead::Refused(BAD_CHUNKS));
     };
     if size > room {
-        return Ok(ChunkRead::Refused(4));
+        return Ok(ChunkRead::Refused(LARGE_BODY));
     }
     read_bytes(source, buffer, body, size as usize)?;
     if !read_line_end(source, buffer)? {
-        return Ok(ChunkRead::Refused(6));
+        return Ok(ChunkRead::Refused(BAD_CHUNKS));
     }
     if size == 0 {
         Ok(ChunkRead::Last)

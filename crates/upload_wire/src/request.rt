@@ -12,7 +12,7 @@ use crate::asks::{ask_of, with_body};
 use crate::body::{BodyRead, read_body};
 use crate::buffer::ReadBuffer;
 use crate::bytes::ByteSource;
-use crate::fault::WireFault;
+use crate::fault::{BAD_HEAD, LONG_HEAD, WireFault};
 use crate::fields::{Occurrence, field_named, keeps_connection};
 use crate::framing::framing_of;
 use crate::head::{HeadRead, read_head};
@@ -138,7 +138,7 @@ pub fn read_next<S: ByteSource>(
     match read_head(source, buffer)? {
         HeadRead::Head(parsed) => read_request(alloc, source, buffer, &parsed, max_body),
         HeadRead::Over => Ok(Next::Over),
-        HeadRead::Refused => Ok(Next::Bad(1)),
-        HeadRead::TooLong => Ok(Next::Bad(2)),
+        HeadRead::Refused => Ok(Next::Bad(BAD_HEAD)),
+        HeadRead::TooLong => Ok(Next::Bad(LONG_HEAD)),
     }
 }
