@@ -45,10 +45,8 @@ fn base_ask(method: &[u8]) -> Ask
 fn blob_ask(alloc: Global, method: &[u8], name: &[u8], tail: &[u8]) -> Result<Ask, AllocError>
     ensures { IfOk result (λ ask. (p : Parts) → p.method ≡ method.now → ask ≡ blob_ask (named name.now) tail.now p) }
 {
-    let name = match name_of(alloc, name) {
-        Ok(Some(name)) => name,
-        Ok(None) => return Ok(Ask::Refused(Refusal::BadName)),
-        Err(error) => return Err(error),
+    let Some(name) = name_of(alloc, name)? else {
+        return Ok(Ask::Refused(Refusal::BadName));
     };
     if !is_get_or_head(method) {
         return Ok(Ask::Refused(Refusal::Method(Form::Blob)));
@@ -64,10 +62,9 @@ fn blob_ask(alloc: Global, method: &[u8], name: &[u8], tail: &[u8]) -> Result<As
 fn digest_named(alloc: Global, query: &[u8]) -> Result<Option<BlobDigest>, AllocError>
     ensures { IfOk result (λ o. o ≡ option_and_then digest_of (parameter (codes "digest") query.now)) }
 {
-    match parameter(alloc, query, "digest") {
-        Ok(Some(text)) => Ok(BlobDigest::read(text.as_str().as_bytes())),
-        Ok(None) => Ok(None),
-        Err(error) => Err(error),
+    match parameter(alloc, query, "digest")? {
+        Some(text) => Ok(BlobDigest::read(text.as_str().as_bytes())),
+        None => Ok(None),
     }
 }
 
@@ -75,10 +72,9 @@ fn digest_named(alloc: Global, query: &[u8]) -> Result<Option<BlobDigest>, Alloc
 fn source_named(alloc: Global, query: &[u8]) -> Result<Option<RepoName>, AllocError>
     ensures { IfOk result (λ o. o ≡ option_and_then named (parameter (codes "from") query.now)) }
 {
-    match parameter(alloc, query, "from") {
-        Ok(Some(text)) => name_of(alloc, text.as_str().as_bytes()),
-        Ok(None) => Ok(None),
-        Err(error) => Err(error),
+    match parameter(alloc, query, "from")? {
+        Some(text) => name_of(alloc, text.as_str().as_bytes()),
+        None => Ok(None),
     }
 }
 
@@ -94,14 +90,13 @@ fn mount_ask(
     let Some(digest) = digest else {
         return Ok(Ask::Opening { name });
     };
-    match source_named(alloc, query) {
-        Ok(Some(source)) => Ok(Ask::Mount {
+    match source_named(alloc, query)? {
+        Some(source) => Ok(Ask::Mount {
             name,
             digest,
             source,
         }),
-        Ok(None) => Ok(Ask::Opening { name }),
-        Err(error) => Err(error),
+        None => Ok(Ask::Opening { name }),
     }
 }
 
@@ -109,14 +104,13 @@ fn mount_ask(
 fn single_ask(alloc: Global, name: RepoName, query: &[u8]) -> Result<Ask, AllocError>
     ensures { IfOk result (λ ask. ask ≡ single_ask name (parameter (codes "digest") query.now)) }
 {
-    match parameter(alloc, query, "digest") {
-        Ok(Some(text)) => Ok(Ask::Single {
+    match parameter(alloc, query, "digest")? {
+        Some(text) => Ok(Ask::Single {
             name,
             digest: BlobDigest::read(text.as_str().as_bytes()),
             body: Bytes::of(Vec::new(alloc)),
         }),
-        Ok(None) => Ok(Ask::Opening { name }),
-        Err(error) => Err(error),
+        None => Ok(Ask::Opening { name }),
     }
 }
 
@@ -124,13 +118,12 @@ fn single_ask(alloc: Global, name: RepoName, query: &[u8]) -> Result<Ask, AllocE
 fn post_ask(alloc: Global, name: RepoName, query: &[u8]) -> Result<Ask, AllocError>
     ensures { IfOk result (λ ask. ask ≡ post_ask name query.now (parameter (codes "mount") query.now)) }
 {
-    match parameter(alloc, query, "mount") {
-        Ok(Some(text)) => {
+    match parameter(alloc, query, "mount")? {
+        Some(text) => {
             let digest = BlobDigest::read(text.as_str().as_bytes());
             mount_ask(alloc, name, digest, query)
         }
-        Ok(None) => single_ask(alloc, name, query),
-        Err(error) => Err(error),
+        None => single_ask(alloc, name, query),
     }
 }
 
@@ -138,10 +131,8 @@ fn post_ask(alloc: Global, name: RepoName, query: &[u8]) -> Result<Ask, AllocErr
 fn uploads_ask(alloc: Global, method: &[u8], name: &[u8], query: &[u8]) -> Result<Ask, AllocError>
     ensures { IfOk result (λ ask. (p : Parts) → p.method ≡ method.now → p.query ≡ query.now → ask ≡ uploads_ask (named name.now) p) }
 {
-    let name = match name_of(alloc, name) {
-        Ok(Some(name)) => name,
-        Ok(None) => return Ok(Ask::Refused(Refusal::BadName)),
-        Err(error) => return Err(error),
+    let Some(name) = name_of(alloc, name)? else {
+        return Ok(Ask::Refused(Refusal::BadName));
     };
     if method != b"POST".as_slice() {
         return Ok(Ask::Refused(Refusal::Method(Form::Uploads)));
@@ -176,16 +167,14 @@ fn session_ask(
             body,
         });
     }
-    match digest_named(alloc, query) {
-        Ok(digest) => Ok(Ask::Close {
-            name,
-            at,
-            range,
-            digest,
-            body,
-        }),
-        Err(error) => Err(error),
-    }
+    let digest = digest_named(alloc, query)?;
+    Ok(Ask::Close {
+        name,
+        at,
+        range,
+        digest,
+        body,
+    })
 }
 
 /// A request for an upload.
@@ -200,10 +189,8 @@ fn upload_ask(
     ensures { IfOk result (λ ask. (p : Parts) → p.method ≡ method.now → p.query ≡ query.now → p.range ≡ range
         → ask ≡ upload_ask (named name.now) tail.now p) }
 {
-    let name = match name_of(alloc, name) {
-        Ok(Some(name)) => name,
-        Ok(None) => return Ok(Ask::Refused(Refusal::BadName)),
-        Err(error) => return Err(error),
+    let Some(name) = name_of(alloc, name)? else {
+        return Ok(Ask::Refused(Refusal::BadName));
     };
     if is_get_or_head(method) || method == b"PATCH".as_slice() || method == b"PUT".as_slice() {
         session_ask(alloc, method, name, tail, query, range)

@@ -38,10 +38,8 @@ fn read_part<S: ByteSource>(
     ensures unfailed { result ≢ Err WireFault.Read
         → S.failed_reads source.new ≡ S.failed_reads source.old }
 {
-    match has_byte(source, buffer, 0) {
-        Ok(true) => {}
-        Ok(false) => return Err(WireFault::Truncated),
-        Err(fault) => return Err(fault),
+    if !has_byte(source, buffer, 0)? {
+        return Err(WireFault::Truncated);
     }
     let count = left.min(buffer.len());
     if body.extend_from_slice(&buffer.as_slice()[..count]).is_err() {
@@ -68,10 +66,7 @@ pub fn read_bytes<S: ByteSource>(
 {
     let mut left = count;
     while left > 0 {
-        match read_part(source, buffer, body, left) {
-            Ok(part) => left -= part,
-            Err(fault) => return Err(fault),
-        }
+        left -= read_part(source, buffer, body, left)?;
     }
     Ok(())
 }
@@ -99,8 +94,6 @@ pub fn read_body<S: ByteSource>(
         Framing::Chunked => return read_chunks(alloc, source, buffer, max_body),
     };
     let mut body = Vec::new(alloc);
-    match read_bytes(source, buffer, &mut body, length) {
-        Ok(()) => Ok(BodyRead::Whole(body)),
-        Err(fault) => Err(fault),
-    }
+    read_bytes(source, buffer, &mut body, length)?;
+    Ok(BodyRead::Whole(body))
 }

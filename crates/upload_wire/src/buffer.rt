@@ -85,13 +85,9 @@ impl ReadBuffer {
             self.end -= self.start;
             self.start = 0;
         }
-        match read_behind(source, &mut self.bytes, self.end) {
-            Ok(count) => {
-                self.end += count;
-                Ok(count)
-            }
-            Err(fault) => Err(fault),
-        }
+        let count = read_behind(source, &mut self.bytes, self.end)?;
+        self.end += count;
+        Ok(count)
     }
 }
 

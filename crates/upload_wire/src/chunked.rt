@@ -10,7 +10,7 @@ ghost use Rattle.upload_wire.specs.BodyFinding.{FindsBody};
 use crate::body::{BodyRead, read_bytes};
 use crate::buffer::ReadBuffer;
 use crate::bytes::ByteSource;
-use crate::fault::WireFault;
+use crate::fault::{BAD_CHUNKS, LARGE_BODY, WireFault};
 use crate::framing::Framing;
 use crate::head::has_byte;
 use std::alloc::Global;
@@ -47,7 +47,8 @@ pub enum ChunkRead {
     More,
     /// The end.
     Last,
-    /// Neither, with its Bad number: 4 where its size takes the body over the limit, and else 6.
+    /// Neither, with its Bad number: `LARGE_BODY` where its size takes the body over the limit, and else
+    /// `BAD_CHUNKS`.
     Refused(u8),
 }
 
@@ -107,10 +108,8 @@ fn read_line<S: ByteSource>(source: &mut S, buffer: &mut ReadBuffer) -> Result<L
 {
     let mut state = LineState::Digits(0, 0);
     for at in 0..10usize {
-        match has_byte(source, buffer, at) {
-            Ok(true) => {}
-            Ok(false) => return Err(WireFault::Truncated),
-            Err(fault) => return Err(fault),
+        if !has_byte(source, buffer, at)? {
+            return Err(WireFault::Truncated);
         }
         match line_step(state, buffer.as_slice()[at]) {
             LineStep::More(next) => state = next,
@@ -133,18 +132,14 @@ fn read_line_end<S: ByteSource>(source: &mut S, buffer: &mut ReadBuffer) -> Resu
     ensures unfailed { result ≢ Err WireFault.Read
         → S.failed_reads source.new ≡ S.failed_reads source.old }
 {
-    match has_byte(source, buffer, 0) {
-        Ok(true) => {}
-        Ok(false) => return Err(WireFault::Truncated),
-        Err(fault) => return Err(fault),
+    if !has_byte(source, buffer, 0)? {
+        return Err(WireFault::Truncated);
     }
     if buffer.as_slice()[0] != b'\r' {
         return Ok(false);
     }
-    match has_byte(source, buffer, 1) {
-        Ok(true) => {}
-        Ok(false) => return Err(WireFault::Truncated),
-        Err(fault) => return Err(fault),
+    if !has_byte(source, buffer, 1)? {
+        return Err(WireFault::Truncated);
     }
     if buffer.as_slice()[1] != b'\n' {
         return Ok(false);
@@ -171,22 +166,15 @@ fn read_chunk<S: ByteSource>(
     ensures unfailed { result ≢ Err WireFault.Read
         → S.failed_reads source.new ≡ S.failed_reads source.old }
 {
-    let size = match read_line(source, buffer) {
-        Ok(LineRead::Size(size)) => size,
-        Ok(LineRead::Broken) => return Ok(ChunkRead::Refused(6)),
-        Err(fault) => return Err(fault),
+    let LineRead::Size(size) = read_line(source, buffer)? else {
+        return Ok(ChunkRead::Refused(BAD_CHUNKS));
     };
     if size > room {
-        return Ok(ChunkRead::Refused(4));
+        return Ok(ChunkRead::Refused(LARGE_BODY));
     }
-    match read_bytes(source, buffer, body, size as usize) {
-        Ok(()) => {}
-        Err(fault) => return Err(fault),
-    }
-    match read_line_end(source, buffer) {
-        Ok(true) => {}
-        Ok(false) => return Ok(ChunkRead::Refused(6)),
-        Err(fault) => return Err(fault),
+    read_bytes(source, buffer, body, size as usize)?;
+    if !read_line_end(source, buffer)? {
+        return Ok(ChunkRead::Refused(BAD_CHUNKS));
     }
     if size == 0 {
         Ok(ChunkRead::Last)
@@ -215,11 +203,10 @@ pub fn read_chunks<S: ByteSource>(
     // Each chunk but the last has a byte, so there are at most one more than the most bytes of a body.
     for _chunk in 0..max_body + 1 {
         let room = max_body - body.len() as u64;
-        match read_chunk(source, buffer, &mut body, room) {
-            Ok(ChunkRead::More) => {}
-            Ok(ChunkRead::Last) => return Ok(BodyRead::Whole(body)),
-            Ok(ChunkRead::Refused(number)) => return Ok(BodyRead::Refused(number)),
-            Err(fault) => return Err(fault),
+        match read_chunk(source, buffer, &mut body, room)? {
+            ChunkRead::More => {}
+            ChunkRead::Last => return Ok(BodyRead::Whole(body)),
+            ChunkRead::Refused(number) => return Ok(BodyRead::Refused(number)),
         }
     }
     unreachable!()

@@ -4,6 +4,7 @@ ghost use Rattle.upload_wire.specs.Body.{length_of, framing_of, IsFraming};
 ghost use Rattle.upload_wire.specs.HeadReading.{IsHeadOf};
 ghost use Rattle.upload_wire.specs.FieldReading.{fields_of};
 
+use crate::fault::{BAD_CODING, BAD_LENGTH, LARGE_BODY};
 use crate::fields::{Occurrence, field_named, is_same_word};
 use crate::parsed::ParsedHead;
 
@@ -23,26 +24,26 @@ pub fn length_of(value: &[u8], max_body: u64) -> Result<u64, u8>
     ensures kept { IfOk result (λ n. n ≤ max_body) }
 {
     if value.is_empty() {
-        return Err(3);
+        return Err(BAD_LENGTH);
     }
     let mut total: u64 = 0;
     for b in value {
         if !b.is_ascii_digit() {
-            return Err(3);
+            return Err(BAD_LENGTH);
         }
         if total <= max_body {
             total = total * 10 + u64::from(*b - b'0');
         }
     }
     if total > max_body {
-        return Err(4);
+        return Err(LARGE_BODY);
     }
     Ok(total)
 }
 
-/// How the body behind a head is written, or a Bad number: 3 where its length is unreadable or said twice,
-/// or where it has a coding too; 4 where its length is over the limit; 5 for a coding other than one
-/// `chunked` in HTTP/1.1.
+/// How the body behind a head is written, or a Bad number: `BAD_LENGTH` where its length is unreadable or said
+/// twice, or where it has a coding too; `LARGE_BODY` where its length is over the limit; `BAD_CODING` for a
+/// coding other than one `chunked` in HTTP/1.1.
 pub fn framing_of(head: &[u8], parsed: &ParsedHead, max_body: u64) -> Result<Framing, u8>
     requires limit { max_body ≤ 2 ^ 31 }
     requires head { IsHeadOf head.now parsed.now }
@@ -53,16 +54,15 @@ pub fn framing_of(head: &[u8], parsed: &ParsedHead, max_body: u64) -> Result<Fra
     let length = field_named(head, parsed, b"content-length");
     match (coding, length) {
         (Occurrence::Absent, Occurrence::Absent) => Ok(Framing::Length(0)),
-        (Occurrence::Absent, Occurrence::Once(value)) => match length_of(value, max_body) {
-            Ok(length) => Ok(Framing::Length(length)),
-            Err(number) => Err(number),
-        },
-        (Occurrence::Absent, Occurrence::Repeated) => Err(3),
+        (Occurrence::Absent, Occurrence::Once(value)) => {
+            Ok(Framing::Length(length_of(value, max_body)?))
+        }
+        (Occurrence::Absent, Occurrence::Repeated) => Err(BAD_LENGTH),
         (Occurrence::Once(coding), Occurrence::Absent)
             if parsed.spans.version == 1 && is_same_word(coding, b"chunked") => {
             Ok(Framing::Chunked)
         }
-        (_, Occurrence::Absent) => Err(5),
-        (_, _) => Err(3),
+        (_, Occurrence::Absent) => Err(BAD_CODING),
+        (_, _) => Err(BAD_LENGTH),
     }
 }

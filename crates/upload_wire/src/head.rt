@@ -113,10 +113,7 @@ pub fn has_byte<S: ByteSource>(
     if at < buffer.len() {
         return Ok(true);
     }
-    match buffer.fill(source) {
-        Ok(count) => Ok(count > 0),
-        Err(fault) => Err(fault),
-    }
+    Ok(buffer.fill(source)? > 0)
 }
 
 /// Reads the head of a request, behind what the buffer holds of it.

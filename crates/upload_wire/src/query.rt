@@ -15,13 +15,9 @@ pub fn parameter<'q>(
     ensures { IfOk result (λ o. option_map cow_str_bytes o ≡ parameter name.now query.now) }
 {
     for pair in form_urlencoded::parse(alloc, query) {
-        match pair {
-            Ok((key, value)) => {
-                if key.as_str() == name {
-                    return Ok(Some(value));
-                }
-            }
-            Err(error) => return Err(error),
+        let (key, value) = pair?;
+        if key.as_str() == name {
+            return Ok(Some(value));
         }
     }
     Ok(None)

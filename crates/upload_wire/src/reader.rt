@@ -80,7 +80,8 @@ impl<S: ByteSource + Drop> RequestReader<S> {
 impl<S: ByteSource> RequestReader<S> {
     /// What comes next in the input: a request, read whole; the end of the input, which is answered again
     /// when asked again; or a Bad number. After a Bad number or a fault it answers `Ended` and reads nothing.
-    /// `Read` comes only where a read failed in this call, before a request had come whole.
+    /// `Read` comes only where a read failed in this call, before a request had come whole. `Truncated` comes
+    /// where the input ended inside a request, `NoMemory` where a growth was refused.
     pub fn next_request(&mut self) -> Result<Next, WireFault>
         ensures ready { self.old.phase ≡ Phase.Ready → ReadsNext self.old.max_body self.old.held
             self.old.remaining self.new.held self.new.remaining result }

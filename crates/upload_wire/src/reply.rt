@@ -7,9 +7,7 @@ use crate::bytes::ByteSink;
 use crate::request::Style;
 use crate::writing::{WriteFault, then_flush, then_write, write_all};
 use buffer::ReplyBuffer;
-use error::ErrorCode;
 use head::{bad_head, reply_head};
-use refusal::refusal_code;
 use upload_service::Answer;
 
 mod buffer;
@@ -17,6 +15,9 @@ mod error;
 mod head;
 mod refusal;
 mod status;
+
+pub(crate) use error::ErrorCode;
+pub(crate) use refusal::{refusal_code, refusal_status};
 
 /// Writes the reply to an answer, and flushes it: its head in one write, with its body where that is short,
 /// and a longer body out of its own memory. It takes no memory. `Ok` comes only where all of it was written and

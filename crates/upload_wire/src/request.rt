@@ -12,7 +12,7 @@ use crate::asks::{ask_of, with_body};
 use crate::body::{BodyRead, read_body};
 use crate::buffer::ReadBuffer;
 use crate::bytes::ByteSource;
-use crate::fault::WireFault;
+use crate::fault::{BAD_HEAD, LONG_HEAD, WireFault};
 use crate::fields::{Occurrence, field_named, keeps_connection};
 use crate::framing::framing_of;
 use crate::head::{HeadRead, read_head};
@@ -37,7 +37,11 @@ pub enum Next {
     Request { ask: Ask, style: Style },
     /// The input ended behind the last request.
     Over,
-    /// What came is no request, and is answered by the reply of this number, 1 to 6. Nothing more is read.
+    /// What came is no request, and is answered by the reply of this number; nothing more is read.
+    /// 1: the head isn't one (400; RFC 9112, sections 2 to 5). 2: it has over 16,384 bytes (431).
+    /// 3: its Content-Length is unreadable, said twice, or beside a Transfer-Encoding (400). 4: the body is over
+    /// the limit (413). 5: a coding other than one `chunked` in HTTP/1.1 (411). 6: the chunked body isn't of its
+    /// form (400; RFC 9112, section 7.1).
     Bad(u8),
 }
 
@@ -104,18 +108,14 @@ fn read_request<S: ByteSource>(
         Ok(framing) => framing,
         Err(number) => return Ok(Next::Bad(number)),
     };
-    let Described { ask, style } = match describe(alloc, head, parsed) {
-        Ok(described) => described,
-        Err(fault) => return Err(fault),
-    };
+    let Described { ask, style } = describe(alloc, head, parsed)?;
     buffer.consume(parsed.spans.len);
-    match read_body(alloc, source, buffer, framing, max_body) {
-        Ok(BodyRead::Whole(body)) => Ok(Next::Request {
+    match read_body(alloc, source, buffer, framing, max_body)? {
+        BodyRead::Whole(body) => Ok(Next::Request {
             ask: with_body(ask, body),
             style,
         }),
-        Ok(BodyRead::Refused(number)) => Ok(Next::Bad(number)),
-        Err(fault) => Err(fault),
+        BodyRead::Refused(number) => Ok(Next::Bad(number)),
     }
 }
 
@@ -135,11 +135,10 @@ pub fn read_next<S: ByteSource>(
     ensures unfailed { result ≢ Err WireFault.Read
         → S.failed_reads source.new ≡ S.failed_reads source.old }
 {
-    match read_head(source, buffer) {
-        Ok(HeadRead::Head(parsed)) => read_request(alloc, source, buffer, &parsed, max_body),
-        Ok(HeadRead::Over) => Ok(Next::Over),
-        Ok(HeadRead::Refused) => Ok(Next::Bad(1)),
-        Ok(HeadRead::TooLong) => Ok(Next::Bad(2)),
-        Err(fault) => Err(fault),
+    match read_head(source, buffer)? {
+        HeadRead::Head(parsed) => read_request(alloc, source, buffer, &parsed, max_body),
+        HeadRead::Over => Ok(Next::Over),
+        HeadRead::Refused => Ok(Next::Bad(BAD_HEAD)),
+        HeadRead::TooLong => Ok(Next::Bad(LONG_HEAD)),
     }
 }

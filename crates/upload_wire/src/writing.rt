@@ -47,11 +47,9 @@ pub(crate) fn then_flush<W: ByteSink>(
         → Wrote start (sink (W.contents writer.new) (W.failed_writes writer.new)) text result }
     ensures flushed { OnOk result (IsTrue (W.is_flushed writer.new)) }
 {
-    match done {
-        Ok(()) => match writer.flush() {
-            Ok(()) => Ok(()),
-            Err(_) => Err(WriteFault),
-        },
-        Err(fault) => Err(fault),
+    done?;
+    match writer.flush() {
+        Ok(()) => Ok(()),
+        Err(_) => Err(WriteFault),
     }
 }

@@ -87,10 +87,7 @@ fn move_bytes<S: ByteSource>(
 {
     let mut left = count;
     while left > 0 {
-        let part = match move_part(source, buffer, body, left) {
-            Ok(part) => part,
-            Err(fault) => return Err(fault),
-        };
+        let part = move_part(source, buffer, body, left)?;
         if part == 0 {
             return Err(HeardFault::Truncated);
         }

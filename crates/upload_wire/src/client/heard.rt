@@ -1,12 +1,12 @@
 //! What a client hears in a reply.
 ghost use Rattle.std.specs.Prelude.{◌≡◌, ◌++◌, IfOk, codes};
 ghost use Rattle.std.specs.Option.{option_copied};
-ghost use Rattle.upload_wire.specs.ReplyText.{refusal_status, refusal_code, code_text};
-ghost use Rattle.upload_wire.specs.Heard.{reply_heard, of_upload, bare, last_below, status_number, after_front, place_in};
+ghost use Rattle.upload_wire.specs.Heard.{reply_heard, of_upload, bare, last_below, after_front, place_in};
 
+use crate::reply::{ErrorCode, refusal_code, refusal_status};
 use std::alloc::{AllocError, Global};
 use upload_names::{BlobDigest, Bytes, RepoName, UploadRef};
-use upload_service::{Answer, Refusal};
+use upload_service::Answer;
 
 /// What a reply says to a client.
 #[derive(Drop)]
@@ -51,7 +51,7 @@ pub fn heard_of(alloc: Global, answer: &Answer) -> Result<Heard, AllocError>
         Answer::Standing { name, at, next } => Ok(of_upload(alloc, 204, name, at, *next)?),
         Answer::Misplaced { name, at, next } => {
             let heard = of_upload(alloc, 416, name, at, *next)?;
-            let code = copied(alloc, b"BLOB_UPLOAD_INVALID")?;
+            let code = copied(alloc, ErrorCode::BlobUploadInvalid.text())?;
             Ok(Heard {
                 code: Some(code),
                 ..heard
@@ -65,10 +65,10 @@ pub fn heard_of(alloc: Global, answer: &Answer) -> Result<Heard, AllocError>
             })
         }
         Answer::Refused(refusal) => {
-            let code = copied(alloc, refusal_code(*refusal))?;
+            let code = copied(alloc, refusal_code(*refusal).text())?;
             Ok(Heard {
                 code: Some(code),
-                ..bare(refusal_status(*refusal))
+                ..bare(refusal_status(*refusal).number())
             })
         }
     }
@@ -128,40 +128,6 @@ fn copied(alloc: Global, text: &[u8]) -> Result<Bytes, AllocError>
     ensures { IfOk result (λ copy. copy ≡ text.now) }
 {
     Ok(Bytes::of(Vec::from_slice(alloc, text)?))
-}
-
-/// The status of a refusal.
-fn refusal_status(refusal: Refusal) -> u16
-    ensures { result ≡ status_number (refusal_status refusal) }
-{
-    match refusal {
-        Refusal::NoForm | Refusal::BadName | Refusal::NoUpload | Refusal::NoBlob => 404,
-        Refusal::Method(_) => 405,
-        Refusal::TooLarge => 413,
-        Refusal::TooMany => 429,
-        Refusal::BadRange
-        | Refusal::WrongLength
-        | Refusal::NoDigest
-        | Refusal::Mismatch
-        | Refusal::HasBody
-        | Refusal::BadDigest => 400,
-    }
-}
-
-/// The error code of a refusal.
-fn refusal_code(refusal: Refusal) -> &'static [u8]
-    ensures { result.now ≡ code_text (refusal_code refusal) }
-{
-    match refusal {
-        Refusal::NoForm | Refusal::Method(_) => b"UNSUPPORTED",
-        Refusal::BadName => b"NAME_INVALID",
-        Refusal::NoUpload => b"BLOB_UPLOAD_UNKNOWN",
-        Refusal::BadRange => b"BLOB_UPLOAD_INVALID",
-        Refusal::WrongLength | Refusal::TooLarge | Refusal::HasBody => b"SIZE_INVALID",
-        Refusal::NoDigest | Refusal::Mismatch | Refusal::BadDigest => b"DIGEST_INVALID",
-        Refusal::TooMany => b"TOOMANYREQUESTS",
-        Refusal::NoBlob => b"BLOB_UNKNOWN",
-    }
 }
 
 /// The reference in a path of the form `/v2/<name>/blobs/uploads/<reference>`, where the name is this

@@ -15,7 +15,23 @@ pub(crate) enum ErrorCode {
 }
 
 impl ErrorCode {
-    ghost use Rattle.upload_wire.specs.ReplyText.{error_body};
+    ghost use Rattle.upload_wire.specs.ReplyText.{code_text, error_body};
+
+    /// The code's name.
+    pub(crate) fn text(self) -> &'static [u8]
+        ensures { result.now ≡ code_text self }
+    {
+        match self {
+            ErrorCode::BlobUnknown => b"BLOB_UNKNOWN",
+            ErrorCode::BlobUploadInvalid => b"BLOB_UPLOAD_INVALID",
+            ErrorCode::BlobUploadUnknown => b"BLOB_UPLOAD_UNKNOWN",
+            ErrorCode::DigestInvalid => b"DIGEST_INVALID",
+            ErrorCode::NameInvalid => b"NAME_INVALID",
+            ErrorCode::SizeInvalid => b"SIZE_INVALID",
+            ErrorCode::Unsupported => b"UNSUPPORTED",
+            ErrorCode::TooManyRequests => b"TOOMANYREQUESTS",
+        }
+    }
 
     /// The body of a reply that names this error.
     pub(crate) fn body(self) -> &'static str

@@ -8,6 +8,7 @@ use super::buffer::ReplyBuffer;
 use super::error::ErrorCode;
 use super::refusal::{methods, refusal_code, refusal_status};
 use super::status::Status;
+use crate::fault::{BAD_CODING, LARGE_BODY, LONG_HEAD};
 use upload_names::{BlobDigest, RepoName, UploadRef};
 use upload_service::{Answer, Refusal};
 
@@ -165,9 +166,9 @@ fn bad_status(number: u8) -> Status
     ensures { result ≡ bad_status number }
 {
     match number {
-        2 => Status::HeaderFieldsTooLarge,
-        4 => Status::ContentTooLarge,
-        5 => Status::LengthRequired,
+        LONG_HEAD => Status::HeaderFieldsTooLarge,
+        LARGE_BODY => Status::ContentTooLarge,
+        BAD_CODING => Status::LengthRequired,
         _ => Status::BadRequest,
     }
 }

@@ -7,7 +7,7 @@ use super::status::Status;
 use upload_service::{Form, Refusal};
 
 /// The status of the reply to a refused request.
-pub(super) fn refusal_status(refusal: Refusal) -> Status
+pub(crate) fn refusal_status(refusal: Refusal) -> Status
     ensures { result ≡ refusal_status refusal }
 {
     match refusal {
@@ -26,7 +26,7 @@ pub(super) fn refusal_status(refusal: Refusal) -> Status
 }
 
 /// The error that the reply to a refused request names.
-pub(super) fn refusal_code(refusal: Refusal) -> ErrorCode
+pub(crate) fn refusal_code(refusal: Refusal) -> ErrorCode
     ensures { result ≡ refusal_code refusal }
 {
     match refusal {

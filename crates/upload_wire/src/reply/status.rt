@@ -21,6 +21,28 @@ pub(crate) enum Status {
 
 impl Status {
     ghost use Rattle.upload_wire.specs.ReplyText.{status_line};
+    ghost use Rattle.upload_wire.specs.Heard.{status_number};
+
+    /// Its number.
+    pub(crate) fn number(self) -> u16
+        ensures { result ≡ status_number self }
+    {
+        match self {
+            Status::Ok => 200,
+            Status::Created => 201,
+            Status::Accepted => 202,
+            Status::NoContent => 204,
+            Status::BadRequest => 400,
+            Status::NotFound => 404,
+            Status::MethodNotAllowed => 405,
+            Status::LengthRequired => 411,
+            Status::ContentTooLarge => 413,
+            Status::RangeNotSatisfiable => 416,
+            Status::TooManyRequests => 429,
+            Status::HeaderFieldsTooLarge => 431,
+            Status::ServiceUnavailable => 503,
+        }
+    }
 
     /// The first line of a reply.
     pub(crate) fn line(self) -> &'static str

@@ -1,23 +1,26 @@
 use Rattle.std.proofs.Common.{sym, subst}
 use Rattle.std.specs.Prelude.{Err}
+use Rattle.std.proofs.lemmas.Result.{err_from_is_err_and}
 use Rattle.upload_wire.specs.BodyReading.{Moved, ReadsBytes}
 use Rattle.upload_wire.specs.BodyFinding.{TakesBody, FindsBody}
 use Rattle.upload_wire.proofs.ChunkReadLemmas.{length_whole, length_fault}
 use Rattle.upload_wire.proofs.body.read_body.Goals as goal
 
-pub returns-in-Ok-clause-found : goal.returns-in-Ok-clause-found
-returns-in-Ok-clause-found g c =
+pub returns-clause-found : goal.returns-clause-found
+returns-clause-found g c =
     let moved = subst (λ body. Moved (g.S.ByteSource.remaining c.args.source.now) c.args.buffer.now body
-    (g.S.ByteSource.remaining c.read_bytes.new.source) c.read_bytes.new.buffer c.read_bytes.new.body.items c.in-Length.length) c.new-body.ensures.items c.in-Ok.ensures.found in
+    (g.S.ByteSource.remaining c.read_bytes.new.source) c.read_bytes.new.buffer c.read_bytes.new.body.items c.in-Length.length) c.new-body.ensures.items c.in_ok-read_bytes.ensures.found in
     subst (λ f. TakesBody c.args.max_body f (g.S.ByteSource.remaining c.args.source.now) c.args.buffer.now
     (g.S.ByteSource.remaining c.read_bytes.new.source) c.read_bytes.new.buffer c.read_bytes.new.body.items) (sym c.in-Length.is)
     (length_whole c.args.max_body c.in-Length.length _ _ c.args.buffer.now c.read_bytes.new.buffer c.read_bytes.new.body.items moved)
 
-pub returns-in-Err-clause-found : goal.returns-in-Err-clause-found
-returns-in-Err-clause-found g c =
+pub returns-in_err-read_bytes-clause-found : goal.returns-in_err-read_bytes-clause-found
+returns-in_err-read_bytes-clause-found g c =
+    let p = err_from_is_err_and c.from_residual.result c.from_residual.ensures.1 in
     let found = subst (λ body. ReadsBytes (g.S.ByteSource.remaining c.args.source.now) c.args.buffer.now body
-    (g.S.ByteSource.remaining c.read_bytes.new.source) c.read_bytes.new.buffer c.read_bytes.new.body.items c.in-Length.length (Err c.in-Err.fault))
-    c.new-body.ensures.items c.in-Err.ensures.found in
-    subst (λ f. FindsBody c.args.max_body f (g.S.ByteSource.remaining c.args.source.now) c.args.buffer.now
-    (g.S.ByteSource.remaining c.read_bytes.new.source) c.read_bytes.new.buffer (Err c.in-Err.fault)) (sym c.in-Length.is)
-    (length_fault c.args.max_body c.in-Length.length _ _ c.args.buffer.now c.read_bytes.new.buffer c.read_bytes.new.body.items c.in-Err.fault found)
+    (g.S.ByteSource.remaining c.read_bytes.new.source) c.read_bytes.new.buffer c.read_bytes.new.body.items c.in-Length.length (Err c.in_err-read_bytes.field-0.0))
+    c.new-body.ensures.items c.in_err-read_bytes.ensures.found in
+    rw (p.1, p.2)
+    (subst (λ f. FindsBody c.args.max_body f (g.S.ByteSource.remaining c.args.source.now) c.args.buffer.now
+    (g.S.ByteSource.remaining c.read_bytes.new.source) c.read_bytes.new.buffer (Err c.in_err-read_bytes.field-0.0)) (sym c.in-Length.is)
+    (length_fault c.args.max_body c.in-Length.length _ _ c.args.buffer.now c.read_bytes.new.buffer c.read_bytes.new.body.items c.in_err-read_bytes.field-0.0 found))

@@ -1,4 +1,5 @@
 use Rattle.std.proofs.Common.{◌≡◌, ◌-◌, ◌+◌, arith, subst, ◌∙◌}
+use Rattle.std.proofs.lemmas.Result.{err_from_is_err_and}
 use Rattle.upload_wire.specs.BodyReading.{Moved}
 use Rattle.upload_wire.proofs.MovedLemmas.{moved_both, bytes_fault}
 use Rattle.upload_wire.proofs.body.read_bytes.Goals as goal
@@ -7,8 +8,8 @@ pub loop-left-preserved : goal.loop-left-preserved
 loop-left-preserved g c =
     let count = c.args.count in
     let left = c.loop-left.left in
-    let part = c.in-Ok.part in
-    let found = c.in-Ok.ensures.found in
+    let part = c.in_ok-left.field-0 in
+    let found = c.in_ok-left.ensures.found in
     let some = found.1 in
     let few = found.2 in
     let within = c.loop-left.invariant.within in
@@ -20,12 +21,14 @@ loop-left-preserved g c =
           (moved_both _ _ _ _ _ _ _ _ _ (count - left) part c.loop-left.invariant.moved found.0);
       reads = λ low. let before = c.loop-left.invariant.reads (omega (arith, low, done)) in
           let one = c.read_part.ensures.reads (omega (arith, low, before, done, some)) in omega (arith, one, before, done, some);
-      unfailed = c.in-Ok.ensures.unfailed (λ e. cc) ∙ c.loop-left.invariant.unfailed;
+      unfailed = c.in_ok-left.ensures.unfailed (λ e. cc) ∙ c.loop-left.invariant.unfailed;
     }
 
-pub returns-in-Err-clause-found : goal.returns-in-Err-clause-found
-returns-in-Err-clause-found g c =
+pub returns-in_err-left-clause-found : goal.returns-in_err-left-clause-found
+returns-in_err-left-clause-found g c =
     let within = c.loop-left.invariant.within in
     let some = c.loop-left-test.true in
-    bytes_fault _ _ _ _ _ c.read_part.new.buffer _ _ c.read_part.new.body.items (c.args.count - c.loop-left.left) c.loop-left.left c.args.count c.in-Err.fault
-    c.loop-left.invariant.moved (omega (arith, within, some)) c.in-Err.ensures.found
+    let p = err_from_is_err_and c.from_residual.result c.from_residual.ensures.1 in
+    rw (p.1, p.2)
+    (bytes_fault _ _ _ _ _ c.read_part.new.buffer _ _ c.read_part.new.body.items (c.args.count - c.loop-left.left) c.loop-left.left c.args.count
+    c.in_err-left.field-0.0 c.loop-left.invariant.moved (omega (arith, within, some)) c.in_err-left.ensures.found)

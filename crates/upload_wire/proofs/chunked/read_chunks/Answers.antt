@@ -1,5 +1,6 @@
 use Rattle.std.proofs.Common.{◌≡◌, ◌∙◌, arith, ◌-◌, ◌+◌, length, ap, sym, subst, refl, length-append}
 use Rattle.std.specs.Prelude.{Ok}
+use Rattle.std.proofs.lemmas.Result.{err_from_is_err_and}
 use Rattle.upload_wire.specs.ChunkReading.{FindsChunk, TakesChunk}
 use Rattle.upload_wire.specs.ChunksRead.{AreTaken}
 use Rattle.upload_wire.proofs.ChunkReadLemmas.{taken_nothing, taken_more, body_whole, body_refused, body_fault}
@@ -19,7 +20,7 @@ loop-chunk-preserved g c =
     let h : TakesChunk (c.args.max_body - c.len.result) (g.S.ByteSource.remaining c.loop-chunk.source) c.loop-chunk.buffer c.loop-chunk.body.items
     (g.S.ByteSource.remaining c.read_chunk.new.source) c.read_chunk.new.buffer c.read_chunk.new.body.items = subst (λ r. FindsChunk (c.args.max_body - c.len.result) (g.S.ByteSource.remaining c.loop-chunk.source) c.loop-chunk.buffer c.loop-chunk.body.items
     (g.S.ByteSource.remaining c.read_chunk.new.source) c.read_chunk.new.buffer c.read_chunk.new.body.items (Ok r))
-    c.in-Ok-More.field-0-is c.in-Ok-More.ensures.found in
+    c.in-More.is c.in_ok-read_chunk.ensures.found in
     let taken = c.loop-chunk.invariant.taken in
     let filled = c.loop-chunk.invariant.filled in
     let some = h.is_chunk.some in
@@ -30,27 +31,29 @@ loop-chunk-preserved g c =
           (omega arith) taken h;
       filled = omega (arith, filled, some, grown);
       reads = λ low. let before = c.loop-chunk.invariant.reads (omega (arith, low, grown)) in
-          let one = c.in-Ok-More.ensures.few (ap Ok c.in-Ok-More.field-0-is) (omega (arith, low, before, grown, some)) in omega (arith, one, before, grown, some);
-      unfailed = c.in-Ok-More.ensures.unfailed (λ e. cc) ∙ c.loop-chunk.invariant.unfailed;
+          let one = c.in_ok-read_chunk.ensures.few (ap Ok c.in-More.is) (omega (arith, low, before, grown, some)) in omega (arith, one, before, grown, some);
+      unfailed = c.in_ok-read_chunk.ensures.unfailed (λ e. cc) ∙ c.loop-chunk.invariant.unfailed;
     }
 
-pub returns-in-Ok-Last-clause-found : goal.returns-in-Ok-Last-clause-found
-returns-in-Ok-Last-clause-found g c =
+pub returns-in-Last-clause-found : goal.returns-in-Last-clause-found
+returns-in-Last-clause-found g c =
     let found = subst (λ r. FindsChunk (c.args.max_body - c.len.result) (g.S.ByteSource.remaining c.loop-chunk.source) c.loop-chunk.buffer c.loop-chunk.body.items
     (g.S.ByteSource.remaining c.read_chunk.new.source) c.read_chunk.new.buffer c.read_chunk.new.body.items (Ok r))
-    c.in-Ok-Last.field-0-is c.in-Ok-Last.ensures.found in
+    c.in-Last.is c.in_ok-read_chunk.ensures.found in
     body_whole c.args.max_body _ _ _ c.args.buffer.now c.loop-chunk.buffer c.read_chunk.new.buffer c.loop-chunk.body.items c.read_chunk.new.body.items
     c.loop-chunk.invariant.taken found
 
-pub returns-in-Ok-Refused-clause-found : goal.returns-in-Ok-Refused-clause-found
-returns-in-Ok-Refused-clause-found g c =
+pub returns-in-Refused-clause-found : goal.returns-in-Refused-clause-found
+returns-in-Refused-clause-found g c =
     let found = subst (λ r. FindsChunk (c.args.max_body - c.len.result) (g.S.ByteSource.remaining c.loop-chunk.source) c.loop-chunk.buffer c.loop-chunk.body.items
     (g.S.ByteSource.remaining c.read_chunk.new.source) c.read_chunk.new.buffer c.read_chunk.new.body.items (Ok r))
-    c.in-Ok-Refused.field-0-is c.in-Ok-Refused.ensures.found in
-    body_refused c.args.max_body _ _ _ _ c.args.buffer.now c.loop-chunk.buffer c.loop-chunk.body.items c.in-Ok-Refused.number
+    c.in-Refused.is c.in_ok-read_chunk.ensures.found in
+    body_refused c.args.max_body _ _ _ _ c.args.buffer.now c.loop-chunk.buffer c.loop-chunk.body.items c.in-Refused.number
     (omega arith) c.loop-chunk.invariant.taken found
 
-pub returns-in-Err-clause-found : goal.returns-in-Err-clause-found
-returns-in-Err-clause-found g c =
-    body_fault c.args.max_body _ _ _ _ c.args.buffer.now c.loop-chunk.buffer c.read_chunk.new.buffer c.loop-chunk.body.items c.read_chunk.new.body.items
-    c.in-Err.fault (omega arith) c.loop-chunk.invariant.taken c.in-Err.ensures.found
+pub returns-in_err-read_chunk-clause-found : goal.returns-in_err-read_chunk-clause-found
+returns-in_err-read_chunk-clause-found g c =
+    let p = err_from_is_err_and c.from_residual.result c.from_residual.ensures.1 in
+    rw (p.1, p.2)
+    (body_fault c.args.max_body _ _ _ _ c.args.buffer.now c.loop-chunk.buffer c.read_chunk.new.buffer c.loop-chunk.body.items c.read_chunk.new.body.items
+    c.in_err-read_chunk.field-0.0 (omega arith) c.loop-chunk.invariant.taken c.in_err-read_chunk.ensures.found)

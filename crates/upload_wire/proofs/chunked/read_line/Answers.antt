@@ -1,4 +1,5 @@
 use Rattle.std.proofs.Common.{◌≡◌, ◌∙◌, sym, ap, subst, arith, ◌+◌, ◌<◌, ◌++◌, ◌∷◌, [], take, length, get_or}
+use Rattle.std.proofs.lemmas.Result.{err_from_is_err_and}
 use Rattle.upload_wire.specs.SizeLines.{StandsAt}
 use Rattle.upload_wire.specs.ChunkReading.{TakesLine}
 use Rattle.upload_wire.proofs.GaveLemmas.{gave_both}
@@ -6,15 +7,17 @@ use Rattle.upload_wire.proofs.HeadLemmas.{take-next}
 use Rattle.upload_wire.proofs.LineReadLemmas.{bounded, front_kept, line_taken, line_broken, line_cut, line_fault}
 use Rattle.upload_wire.proofs.chunked.read_line.Goals as goal
 
-pub returns-in-Err-clause-found : goal.returns-in-Err-clause-found
-returns-in-Err-clause-found g c =
+pub returns-in_err-has_byte-clause-found : goal.returns-in_err-has_byte-clause-found
+returns-in_err-has_byte-clause-found g c =
     let at = c.loop-at.at in
     let text = c.has_byte.new.buffer in
     let kept = front_kept _ _ c.loop-at.buffer text at c.has_byte.ensures.gave c.loop-at.invariant.within in
     let stands : StandsAt (take at text) c.loop-at.state = subst (λ t. StandsAt t c.loop-at.state) (sym kept) c.loop-at.invariant.stands in
-    line_fault _ _ c.args.buffer.now text c.in-Err.fault c.in-Err.ensures.error
-    (line_cut _ _ c.args.buffer.now text at c.loop-at.state (gave_both _ _ _ _ _ _ c.loop-at.invariant.gave c.in-Err.ensures.gave)
-    c.in-Err.ensures.kept.0 stands)
+    let p = err_from_is_err_and c.from_residual.result c.from_residual.ensures.1 in
+    rw (p.1, p.2)
+    (line_fault _ _ c.args.buffer.now text c.in_err-has_byte.field-0.0 c.in_err-has_byte.ensures.error
+    (line_cut _ _ c.args.buffer.now text at c.loop-at.state (gave_both _ _ _ _ _ _ c.loop-at.invariant.gave c.in_err-has_byte.ensures.gave)
+    c.in_err-has_byte.ensures.kept.0 stands))
 
 pub line_step-requires : goal.line_step-requires
 line_step-requires g c = bounded (take c.loop-at.at c.loop-at.buffer) c.loop-at.state c.loop-at.invariant.stands
@@ -23,7 +26,7 @@ pub returns-in-Whole-clause-found : goal.returns-in-Whole-clause-found
 returns-in-Whole-clause-found g c =
     let at = c.loop-at.at in
     let text = c.has_byte.new.buffer in
-    let there : at < length text = c.in-Ok-true.ensures.there c.in-Ok-true.field-0-test in
+    let there : at < length text = c.in_ok-has_byte.ensures.there c.if-not-branch.false in
     let kept = front_kept _ _ c.loop-at.buffer text at c.has_byte.ensures.gave c.loop-at.invariant.within in
     let stands : StandsAt (take at text) c.loop-at.state = subst (λ t. StandsAt t c.loop-at.state) (sym kept) c.loop-at.invariant.stands in
     let byte = get_or c.as_slice.result.now at 0 in
@@ -38,7 +41,7 @@ pub returns-in-Broken-clause-found : goal.returns-in-Broken-clause-found
 returns-in-Broken-clause-found g c =
     let at = c.loop-at.at in
     let text = c.has_byte.new.buffer in
-    let there : at < length text = c.in-Ok-true.ensures.there c.in-Ok-true.field-0-test in
+    let there : at < length text = c.in_ok-has_byte.ensures.there c.if-not-branch.false in
     let kept = front_kept _ _ c.loop-at.buffer text at c.has_byte.ensures.gave c.loop-at.invariant.within in
     let stands : StandsAt (take at text) c.loop-at.state = subst (λ t. StandsAt t c.loop-at.state) (sym kept) c.loop-at.invariant.stands in
     let byte = get_or c.as_slice.result.now at 0 in
@@ -51,7 +54,7 @@ pub loop-at-preserved : goal.loop-at-preserved
 loop-at-preserved g c =
     let at = c.loop-at.at in
     let text = c.has_byte.new.buffer in
-    let there : at < length text = c.in-Ok-true.ensures.there c.in-Ok-true.field-0-test in
+    let there : at < length text = c.in_ok-has_byte.ensures.there c.if-not-branch.false in
     let kept = front_kept _ _ c.loop-at.buffer text at c.has_byte.ensures.gave c.loop-at.invariant.within in
     let stands : StandsAt (take at text) c.loop-at.state = subst (λ t. StandsAt t c.loop-at.state) (sym kept) c.loop-at.invariant.stands in
     let byte = get_or c.as_slice.result.now at 0 in
@@ -63,5 +66,5 @@ loop-at-preserved g c =
       stands = subst (λ t. StandsAt t c.in-More.next) (sym next) (c.in-More.ensures (take at text) stands);
       reads = λ low. let before = c.loop-at.invariant.reads (omega (arith, low)) in
           let one = c.has_byte.ensures.reads (omega (arith, low, before)) in omega (arith, one, before);
-      unfailed = c.in-Ok-true.ensures.unfailed (λ e. cc) ∙ c.loop-at.invariant.unfailed;
+      unfailed = c.in_ok-has_byte.ensures.unfailed (λ e. cc) ∙ c.loop-at.invariant.unfailed;
     }

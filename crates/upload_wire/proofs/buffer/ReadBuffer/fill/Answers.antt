@@ -1,12 +1,13 @@
 use Rattle.std.proofs.Common.{◌≡◌, ◌++◌, ◌+◌, take, arith, slice_range, sym, ◌∙◌, ap, subst}
 use Rattle.std.specs.Vec.{with_items}
 use Rattle.std.proofs.lemmas.List.{with_items_is}
+use Rattle.std.proofs.lemmas.Result.{err_from_is_err_and}
 use Rattle.upload_wire.proofs.BufferLemmas.{IsWindow, moved_window, window_grows, window_stays}
 use Rattle.upload_wire.proofs.buffer.ReadBuffer.fill.Goals as goal
 use Rattle.upload_wire.proofs.buffer.ReadBuffer.fill.Goals.{then-self-eq-CAPACITY, else-self-eq-CAPACITY}
 
-pub returns-in-Ok-clause-gave : goal.returns-in-Ok-clause-gave
-returns-in-Ok-clause-gave g c =
+pub returns-clause-gave : goal.returns-clause-gave
+returns-clause-gave g c =
     let x = c.if-self-eq-CAPACITY.self-inside in
     let at : IsWindow x c.args.self.now =
     elim c.if-self-eq-CAPACITY.branch [
@@ -20,15 +21,15 @@ returns-in-Ok-clause-gave g c =
     let value : c.deref_mut.result.now ≡ x.bytes.items = c.deref_mut.ensures.value in
     let items : (with_items x.bytes c.read_behind.new.bytes).items ≡ c.read_behind.new.bytes =
     with_items_is x.bytes c.read_behind.new.bytes (omega (arith, c.deref_mut.ensures.len, c.read_behind.auto.bytes)) in
-    let gave = c.in-Ok.ensures.gave in (
+    let gave = c.in_ok-count.ensures.gave in (
       gave.0,
       gave.1,
-      ap (λ t. slice_range t x.start (x.end + c.in-Ok.count)) items
-          ∙ window_grows x c.args.self.now c.read_behind.new.bytes gave.0 c.in-Ok.count at (gave.2 ∙ ap (λ t. take x.end t ++ gave.0) value),
+      ap (λ t. slice_range t x.start (x.end + c.in_ok-count.count)) items
+          ∙ window_grows x c.args.self.now c.read_behind.new.bytes gave.0 c.in_ok-count.count at (gave.2 ∙ ap (λ t. take x.end t ++ gave.0) value),
     )
 
-pub returns-in-Err-clause-gave : goal.returns-in-Err-clause-gave
-returns-in-Err-clause-gave g c =
+pub returns-in_err-count-clause-gave : goal.returns-in_err-count-clause-gave
+returns-in_err-count-clause-gave g c =
     let x = c.if-self-eq-CAPACITY.self-inside in
     let at : IsWindow x c.args.self.now =
     elim c.if-self-eq-CAPACITY.branch [
@@ -42,15 +43,15 @@ returns-in-Err-clause-gave g c =
     let value : c.deref_mut.result.now ≡ x.bytes.items = c.deref_mut.ensures.value in
     let items : (with_items x.bytes c.read_behind.new.bytes).items ≡ c.read_behind.new.bytes =
     with_items_is x.bytes c.read_behind.new.bytes (omega (arith, c.deref_mut.ensures.len, c.read_behind.auto.bytes)) in
-    let gave = c.in-Err.ensures.gave in (
+    let gave = c.in_err-count.ensures.gave in (
       gave.0,
       gave.1,
       ap (λ t. slice_range t x.start x.end) items ∙ ap (λ n. slice_range c.read_behind.new.bytes x.start n) (omega arith)
           ∙ window_grows x c.args.self.now c.read_behind.new.bytes gave.0 0 at (gave.2 ∙ ap (λ t. take x.end t ++ gave.0) value),
     )
 
-pub returns-in-Err-clause-kept : goal.returns-in-Err-clause-kept
-returns-in-Err-clause-kept g c =
+pub returns-in_err-count-clause-kept : goal.returns-in_err-count-clause-kept
+returns-in_err-count-clause-kept g c =
     let x = c.if-self-eq-CAPACITY.self-inside in
     let at : IsWindow x c.args.self.now =
     elim c.if-self-eq-CAPACITY.branch [
@@ -64,5 +65,7 @@ returns-in-Err-clause-kept g c =
     let value : c.deref_mut.result.now ≡ x.bytes.items = c.deref_mut.ensures.value in
     let items : (with_items x.bytes c.read_behind.new.bytes).items ≡ c.read_behind.new.bytes =
     with_items_is x.bytes c.read_behind.new.bytes (omega (arith, c.deref_mut.ensures.len, c.read_behind.auto.bytes)) in
-    ap (λ t. slice_range t x.start x.end) items
-    ∙ window_stays x c.args.self.now c.read_behind.new.bytes at (c.in-Err.ensures.kept ∙ ap (take x.end) value)
+    let p = err_from_is_err_and c.from_residual.result c.from_residual.ensures.1 in
+    rw p.1
+    (ap (λ t. slice_range t x.start x.end) items
+    ∙ window_stays x c.args.self.now c.read_behind.new.bytes at (c.in_err-count.ensures.kept ∙ ap (take x.end) value))

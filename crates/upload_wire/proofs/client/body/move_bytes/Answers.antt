@@ -1,4 +1,5 @@
 use Rattle.std.proofs.Common.{◌-◌, ◌∙◌, arith, refl}
+use Rattle.std.proofs.lemmas.Result.{err_from_is_err_and}
 use Rattle.upload_wire.proofs.AnswerBodyLemmas.{moved_nothing, moved_both, part_fault, part_end}
 use Rattle.upload_wire.proofs.client.body.move_bytes.Goals as goal
 
@@ -13,24 +14,26 @@ loop-left-init g c = record {
 pub loop-left-preserved : goal.loop-left-preserved
 loop-left-preserved g c =
     let within = c.loop-left.invariant.within in
-    let few = c.in-Ok.ensures.found.1 in
+    let few = c.in_ok-part.ensures.found.1 in
     let before = c.loop-left.invariant.reads in
-    let step = c.in-Ok.ensures.reads in
+    let step = c.in_ok-part.ensures.reads in
     record {
       within = omega (arith, within);
-      moved = moved_both _ _ _ _ _ _ _ _ _ _ _ _ c.loop-left.invariant.moved c.in-Ok.ensures.found.0 (omega (arith, within, few));
+      moved = moved_both _ _ _ _ _ _ _ _ _ _ _ _ c.loop-left.invariant.moved c.in_ok-part.ensures.found.0 (omega (arith, within, few));
       reads = λ small. omega (arith, within, few, before, step, small);
-      unfailed = c.in-Ok.ensures.unfailed (λ e. cc) ∙ c.loop-left.invariant.unfailed;
+      unfailed = c.in_ok-part.ensures.unfailed (λ e. cc) ∙ c.loop-left.invariant.unfailed;
     }
 
 pub returns-then-part-eq0-clause-found : goal.returns-then-part-eq0-clause-found
 returns-then-part-eq0-clause-found g c =
     let within = c.loop-left.invariant.within in
-    part_end _ _ _ _ _ _ _ _ _ (c.args.count - c.loop-left.left) c.in-Ok.part c.loop-left.left c.args.count c.loop-left.invariant.moved c.in-Ok.ensures.found
+    part_end _ _ _ _ _ _ _ _ _ (c.args.count - c.loop-left.left) c.in_ok-part.part c.loop-left.left c.args.count c.loop-left.invariant.moved c.in_ok-part.ensures.found
     (omega arith) (omega (arith, within))
 
-pub returns-in-Err-clause-found : goal.returns-in-Err-clause-found
-returns-in-Err-clause-found g c =
+pub returns-in_err-part-clause-found : goal.returns-in_err-part-clause-found
+returns-in_err-part-clause-found g c =
     let within = c.loop-left.invariant.within in
-    part_fault _ _ _ _ _ _ _ _ _ (c.args.count - c.loop-left.left) c.loop-left.left c.args.count c.in-Err.fault c.loop-left.invariant.moved c.in-Err.ensures.found
-    (omega (arith, within))
+    let p = err_from_is_err_and c.from_residual.result c.from_residual.ensures.1 in
+    rw (p.1, p.2)
+    (part_fault _ _ _ _ _ _ _ _ _ (c.args.count - c.loop-left.left) c.loop-left.left c.args.count c.in_err-part.field-0.0 c.loop-left.invariant.moved
+    c.in_err-part.ensures.found (omega (arith, within)))
