@@ -16,6 +16,7 @@ use crate::client::framing::AnswerFraming;
 use crate::client::head::{AnswerHead, read_head};
 use crate::client::heard::{Heard, HeardFault};
 use crate::client::parsed::ParsedAnswer;
+use crate::fault::BAD_LENGTH;
 use crate::fields::{Occurrence, field_among, is_same_word, lists_close};
 use crate::framing::length_of;
 use http_uri::{Uri, UriError};
@@ -101,7 +102,7 @@ fn sized(value: &[u8], empty: bool) -> Result<AnswerFraming, HeardFault>
 {
     match length_of(value, MAX_ANSWER as u64) {
         Ok(length) => Ok(AnswerFraming::Sized(if empty { 0 } else { length })),
-        Err(3) => Err(HeardFault::Unreadable),
+        Err(BAD_LENGTH) => Err(HeardFault::Unreadable),
         Err(_) => {
             if empty {
                 Ok(AnswerFraming::Sized(0))
