@@ -5,7 +5,7 @@ ghost use Rattle.upload_wire.specs.Heard.{reply_heard, of_upload, bare, last_bel
 
 use crate::reply::{ErrorCode, refusal_code, refusal_status};
 use std::alloc::{AllocError, Global};
-use upload_names::{BlobDigest, Bytes, RepoName, UploadRef};
+use upload_names::{Bytes, RepoName, UploadRef};
 use upload_service::Answer;
 
 /// What a reply says to a client.
