@@ -7,13 +7,14 @@ FILE = README.md
 # Bodies and blobs are long lists of bytes. Where glibc asks the system for huge pages, fresh memory costs them a third.
 HUGE_PAGES = GLIBC_TUNABLES=glibc.malloc.hugetlb=1
 
-.PHONY: help once serve upload build test check format figures fuzz growths bench
+.PHONY: help once serve upload build test edits check format figures fuzz growths bench
 
 help:
 	@echo 'make once    a whole upload over one connection, through `blobd once`'
 	@echo 'make serve   the service at $(ADDR) (make serve ADDR=.. COUNT=.. takes others), for $(COUNT) connections to each of its two workers'
 	@echo 'make upload  pushes $(FILE) to that service (FILE=.. takes another), pulls it back and compares, in another shell'
 	@echo 'make test    everything that must hold: proofs from nothing, must-fail edits, tests, the repository'"'"'s own checks'
+	@echo 'make edits   the further must-fail edits, which make test leaves out (tens of minutes)'
 	@echo 'make check   proves what changed since the last check (quick; make test is the judge)'
 	@echo 'make format  lays out the sources'
 	@echo 'make fuzz    20,000 generated streams of requests through `blobd once` (after make once; make test runs 500)'
@@ -38,6 +39,9 @@ upload:
 
 test:
 	@python3 tests/gate.py
+
+edits:
+	@python3 tests/edits.py
 
 check:
 	rt all check

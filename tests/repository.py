@@ -162,6 +162,28 @@ def named_edits():
     return named
 
 
+def edited_once(path):
+    """Whether each old text of an edit stands once in its file, where the texts before it were replaced."""
+    texts, target, old = {}, None, None
+    for line in text_of(path).splitlines():
+        word, _, text = line.partition(": ")
+        if word == "file":
+            target = f"{path.split('/further-edits/')[0]}/{text.strip()}"
+        elif word == "old":
+            old = text
+        elif word == "new":
+            before = texts.get(target, text_of(target))
+            if before.count(old) != 1:
+                return False
+            texts[target] = before.replace(old, text)
+    return bool(texts)
+
+
+def unapplied(paths):
+    """Further edits, which the gate doesn't try, that the sources have left behind."""
+    return [path for path in paths if "/further-edits/" in path and not edited_once(path)]
+
+
 def unnamed(paths):
     """Must-fail edits that the page of wrong bodies doesn't name, and names there of edits that aren't there."""
     parts = [path.split("/") for path in paths if path.endswith(".edit")]
@@ -201,6 +223,7 @@ CHECKS = [
     ("HANDLES is its one line", handles),
     ("every public function has a must-fail edit", unbroken),
     ("every must-fail edit is named among the wrong bodies", unnamed),
+    ("every further edit applies", unapplied),
     ("every stored connection is disturbed", disturbed),
 ]
 
