@@ -61,3 +61,9 @@ pub(crate) fn print_memory(rt: &HostRuntime, kept: u64, bytes: u64) -> io::Resul
     let ratio = per_mille(kept, bytes);
     println!(rt; "memory kept: {ratio} for each 1,000 bytes")
 }
+
+/// Prints how much memory was kept for each of so many blobs.
+pub(crate) fn print_blob_memory(rt: &HostRuntime, kept: u64, blobs: u64) -> io::Result<()> {
+    let each = kept / blobs.max(1);
+    println!(rt; "memory kept: {each} bytes for each blob")
+}

@@ -2,7 +2,7 @@
 //! measured, their ratio, and what shows that the work was done.
 ghost use Rattle.std.specs.Prelude.{◌≤◌, ◌^◌};
 
-use crate::gauge::{micros_since, print_memory, print_times, resident};
+use crate::gauge::{micros_since, print_blob_memory, print_memory, print_times, resident};
 use crate::uploads::{
     bodies_of, body_of, close, digest_of, fill, hash_of, open, send, upload_number,
 };
@@ -112,19 +112,22 @@ fn time_thousand(rt: &HostRuntime, service: &mut Service, first: u32) -> io::Res
     Ok((micros_since(rt, start)?, stored))
 }
 
-/// 100,000 small blobs: the last thousand beside the first.
+/// 100,000 small blobs: the last thousand beside the first; and the memory that is kept.
 pub(crate) fn measure_closes(rt: &HostRuntime, service: &mut Service) -> io::Result<()> {
+    let before = resident(rt)?;
     let (first, _) = time_thousand(rt, service, 0)?;
     for k in 1..99u32 {
         upload_thousand(rt, service, k * 1_000)?;
     }
     let (last, stored) = time_thousand(rt, service, 99_000)?;
+    let kept = resident(rt)?.saturating_sub(before);
     print_times(
         rt,
         ("the first thousand", first),
         ("the last thousand of 100,000 small blobs", last),
     )?;
-    println!(rt; "stored: {stored}")
+    println!(rt; "stored: {stored}")?;
+    print_blob_memory(rt, kept, 100_000)
 }
 
 /// Sends the session 100,000 chunks of one byte, and gives the microseconds.

@@ -3,14 +3,16 @@
 use upload_names::{Algorithm, BlobDigest};
 
 // The digests of `abc` and of nothing are the examples of FIPS 180-4's validation lists.
-const ABC_256: &[u8] = b"sha256:ba7816bf8f01cfea414140de5dae2223b00361a396177a9cb410ff61f20015ad";
+pub const ABC_256: &[u8] =
+    b"sha256:ba7816bf8f01cfea414140de5dae2223b00361a396177a9cb410ff61f20015ad";
 
-const EMPTY_256: &[u8] = b"sha256:e3b0c44298fc1c149afbf4c8996fb92427ae41e4649b934ca495991b7852b855";
+pub const EMPTY_256: &[u8] =
+    b"sha256:e3b0c44298fc1c149afbf4c8996fb92427ae41e4649b934ca495991b7852b855";
 
-const ABC_512: &[u8] =
+pub const ABC_512: &[u8] =
     b"sha512:ddaf35a193617abacc417349ae20413112e6fa4e89a97ea20a9eeee64b55d39a2192992a274fc1a836ba3c23a3feebbd454d4423643ce80e2a9ac94fa54ca49f";
 
-const EMPTY_512: &[u8] =
+pub const EMPTY_512: &[u8] =
     b"sha512:cf83e1357eefb8bdf1542850d66d8007d620e4050b5715dc83f4a921d36ce9ce47d0d13c5d85f2b0ff8318d2877eec2f63b931bd47417a81a538327af927da3e";
 
 /// The bytes of contents, with the text of their digest.

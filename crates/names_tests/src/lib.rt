@@ -3,6 +3,8 @@
 #![tactic(auto)]
 
 #[cfg(test)]
+mod bodies;
+#[cfg(test)]
 mod digests;
 #[cfg(test)]
 mod names;

@@ -1,8 +1,8 @@
 //! Requests and answers as lines of a table. Tables are statics: a constant's rows are made anew, and proved, wherever it is used.
 
 use std::alloc::{AllocError, Global};
-use upload_names::{BlobDigest, ByteRange, Bytes, NameFault, RepoName, UploadRef};
-use upload_service::{Answer, Ask, Extent, Refusal};
+use upload_names::{Algorithm, BlobDigest, ByteRange, Bytes, NameFault, RepoName, UploadRef};
+use upload_service::{Answer, Ask, BlobBytes, Extent, Refusal};
 
 /// Why a request can't be made of a line.
 #[derive(Clone, Copy, Debug)]
@@ -126,8 +126,29 @@ pub fn name(alloc: Global, text: &[u8]) -> Result<RepoName, Unmade> {
     Ok(RepoName::read(alloc, text)?)
 }
 
-fn bytes(alloc: Global, text: &[u8]) -> Result<Bytes, AllocError> {
-    Ok(Bytes::of(text.to_vec(alloc)?))
+/// By what a body may be hashed as it comes.
+pub type Hashed = Option<Algorithm>;
+
+/// Each of them.
+pub static HASHES: [Hashed; 3] = [None, Some(Algorithm::Sha256), Some(Algorithm::Sha512)];
+
+/// A body that carries this hash.
+pub fn body_of(alloc: Global, hashed: Hashed, content: &[u8]) -> Result<Bytes, AllocError> {
+    let mut body = Bytes::begin(alloc, hashed);
+    body.extend(content)?;
+    Ok(body)
+}
+
+/// Whether the parts of a blob, one behind another, are this content.
+pub fn is_content(bytes: &BlobBytes, content: &[u8]) -> bool {
+    let mut rest = content;
+    for part in bytes.parts() {
+        match rest.strip_prefix(part.as_slice()) {
+            Some(later) => rest = later,
+            None => return false,
+        }
+    }
+    rest.is_empty()
 }
 
 fn extent(place: Place) -> Extent {
@@ -148,8 +169,8 @@ fn range(first: u64, last: u64) -> Option<ByteRange> {
     Some(ByteRange { first, last })
 }
 
-/// The request of a line.
-pub fn ask_of(alloc: Global, line: Line) -> Result<Ask, Unmade> {
+/// The request of a line. Its body, where it has one, carries a hash of that algorithm.
+pub fn ask_of(alloc: Global, hashed: Hashed, line: Line) -> Result<Ask, Unmade> {
     let name = name(alloc, line.name)?;
     match line.word {
         Word::Base => Ok(Ask::Base),
@@ -157,48 +178,43 @@ pub fn ask_of(alloc: Global, line: Line) -> Result<Ask, Unmade> {
         Word::Get(digest) => has(name, digest, false),
         Word::Head(digest) => has(name, digest, true),
         Word::Open => Ok(Ask::Opening { name }),
-        Word::Single(digest, body) => single(alloc, name, digest, body),
+        Word::Single(digest, body) => single(name, digest, body_of(alloc, hashed, body)?),
         Word::Mount(digest, source) => mount(alloc, name, digest, source),
-        Word::Chunk(at, place, body) => chunk(alloc, name, at, place, body),
+        Word::Chunk(at, place, body) => chunk(name, at, place, body_of(alloc, hashed, body)?),
         Word::Status(at) => Ok(Ask::Status {
             name,
             at: reference(at),
         }),
-        Word::Close(at, place, digest, body) => close(alloc, name, at, place, digest, body),
+        Word::Close(at, place, digest, body) => {
+            close(name, at, place, digest, body_of(alloc, hashed, body)?)
+        }
     }
 }
 
-fn single(alloc: Global, name: RepoName, digest: &[u8], body: &[u8]) -> Result<Ask, Unmade> {
+fn single(name: RepoName, digest: &[u8], body: Bytes) -> Result<Ask, Unmade> {
     Ok(Ask::Single {
         name,
         digest: BlobDigest::read(digest),
-        body: bytes(alloc, body)?,
+        body,
     })
 }
 
-fn chunk(alloc: Global, name: RepoName, at: At, place: Place, body: &[u8]) -> Result<Ask, Unmade> {
+fn chunk(name: RepoName, at: At, place: Place, body: Bytes) -> Result<Ask, Unmade> {
     Ok(Ask::Chunk {
         name,
         at: reference(at),
         range: extent(place),
-        body: bytes(alloc, body)?,
+        body,
     })
 }
 
-fn close(
-    alloc: Global,
-    name: RepoName,
-    at: At,
-    place: Place,
-    digest: &[u8],
-    body: &[u8],
-) -> Result<Ask, Unmade> {
+fn close(name: RepoName, at: At, place: Place, digest: &[u8], body: Bytes) -> Result<Ask, Unmade> {
     Ok(Ask::Close {
         name,
         at: reference(at),
         range: extent(place),
         digest: BlobDigest::read(digest),
-        body: bytes(alloc, body)?,
+        body,
     })
 }
 
@@ -222,7 +238,7 @@ pub fn is_told(answer: &Answer, line: Line) -> bool {
     match (line.told, answer) {
         (Told::Base, Answer::Base) => true,
         (Told::Bytes(text), Answer::Blob { size, bytes, .. }) => match bytes {
-            Some(bytes) => bytes.as_slice() == text && *size == text.len() as u64,
+            Some(bytes) => is_content(bytes, text) && *size == text.len() as u64,
             None => false,
         },
         (Told::Size(wanted), Answer::Blob { size, bytes, .. }) => {

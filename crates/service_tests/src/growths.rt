@@ -2,19 +2,22 @@
 //! takes no memory meets no growth. Each test holds whichever one growth is refused: `tests/growths.py` has each of
 //! them refused in turn.
 
+ghost use Rattle.upload_service.specs.Machine.{AreLawful};
+
 use crate::asks::{At, Line, Place, Told, Unmade, Word, ask_of, is_told, name, row, under};
 use crate::serving::{ABC, ABC_512, Job, NOTHING, check, jobs_of, limits};
 use std::alloc::Global;
 use std::process::Abort;
 use std::test::Fail;
-use upload_names::{BlobDigest, RepoName, UploadRef};
-use upload_service::{Answer, Ask, Form, Refusal, Service};
+use upload_names::{Algorithm, BlobDigest, RepoName, UploadRef};
+use upload_service::{Answer, Ask, Form, Limits, Refusal, Service};
 
 /// The request of a line. One growth may be refused.
 fn ask_for(alloc: Global, line: Line) -> Result<Ask, Unmade> {
-    match ask_of(alloc, line) {
+    let hashed = Some(Algorithm::Sha256);
+    match ask_of(alloc, hashed, line) {
         Ok(ask) => Ok(ask),
-        Err(_) => ask_of(alloc, line),
+        Err(_) => ask_of(alloc, hashed, line),
     }
 }
 
@@ -34,27 +37,29 @@ struct Seen {
     mounted: bool,
 }
 
-/// A service of which something is seen.
+/// A service of which something is seen: among others whether its repositories have a blob.
 #[derive(Drop)]
 struct Watched {
     alloc: Global,
     service: Service,
     a: RepoName,
     b: RepoName,
-    abc: BlobDigest,
+    digest: BlobDigest,
 }
 
 impl Watched {
-    /// Blobs have at most nine bytes, and two uploads may be open.
-    fn new(alloc: Global) -> Result<Watched, Unmade> {
+    /// A new service with these limits, and the blob that is looked for.
+    fn new(alloc: Global, limits: Limits, content: &[u8]) -> Result<Watched, Unmade>
+        requires { AreLawful limits }
+    {
         let a = name_for(alloc, b"lib/a")?;
         let b = name_for(alloc, b"lib/b")?;
         Ok(Watched {
             alloc,
-            service: Service::new(alloc, limits(9, 2, 3_600)),
+            service: Service::new(alloc, limits),
             a,
             b,
-            abc: BlobDigest::of_sha256(b"abc"),
+            digest: BlobDigest::of_sha256(content),
         })
     }
 
@@ -62,8 +67,8 @@ impl Watched {
         Seen {
             first: self.service.next_of(&UploadRef::make(1, [0; 12])),
             second: self.service.next_of(&UploadRef::make(2, [0; 12])),
-            held: self.service.holds(&self.a, &self.abc),
-            mounted: self.service.holds(&self.b, &self.abc),
+            held: self.service.holds(&self.a, &self.digest),
+            mounted: self.service.holds(&self.b, &self.digest),
         }
     }
 
@@ -237,10 +242,60 @@ static LINES: [Line; 47] = [
     row!(Word::Get(NOTHING), Told::Bytes(b"")),
 ];
 
+/// Limits for the small lists: blobs have at most nine bytes, and two uploads may be open.
+fn small() -> Limits
+    ensures { AreLawful result }
+{
+    limits(9, 2, 3_600)
+}
+
 #[test]
 fn a_refused_growth_changes_nothing(rt: HostRuntime) -> Result<(), Fail> {
-    let mut watched = Watched::new(rt.alloc())?;
+    let mut watched = Watched::new(rt.alloc(), small(), b"abc")?;
     Ok(watched.check_lines(&rt, &LINES)?)
+}
+
+/// A body that stays as it is, since it is large.
+const LARGE: &[u8] = &[b'x'; 70_000];
+
+/// The same with a byte before it and one behind it.
+const LARGER: &[u8] = &[b'x'; 70_002];
+
+const LARGE_256: &[u8] = b"sha256:bca09f4a757d5571c7d9f3341d4301f3c391c090826acc1a3013c6bcb7c01722";
+
+const LARGER_256: &[u8] =
+    b"sha256:7e231f6c6279afd5c9eafa8c0013a99c02707ca008d403e3cfedca6fd3389c71";
+
+/// Large bodies, alone, and before and behind small ones.
+static LARGE_LINES: [Line; 10] = [
+    row!(Word::Open, Told::Begun(1)),
+    row!(Word::Chunk(U1, Place::Absent, b"x"), Told::Taken(U1, 1)),
+    row!(
+        Word::Chunk(U1, Place::Absent, LARGE),
+        Told::Taken(U1, 70_001)
+    ),
+    row!(
+        Word::Close(U1, Place::Absent, LARGER_256, b"x"),
+        Told::Stored(LARGER_256),
+    ),
+    row!(Word::Get(LARGER_256), Told::Bytes(LARGER)),
+    row!(Word::Open, Told::Begun(2)),
+    row!(
+        Word::Chunk(U2, Place::Absent, LARGE),
+        Told::Taken(U2, 70_000)
+    ),
+    row!(
+        Word::Close(U2, Place::Absent, LARGE_256, b""),
+        Told::Stored(LARGE_256),
+    ),
+    row!(Word::Single(LARGE_256, LARGE), Told::Stored(LARGE_256)),
+    row!(Word::Get(LARGE_256), Told::Bytes(LARGE)),
+];
+
+#[test]
+fn a_refused_growth_for_a_large_body_changes_nothing(rt: HostRuntime) -> Result<(), Fail> {
+    let mut watched = Watched::new(rt.alloc(), limits(100_000, 2, 3_600), LARGER)?;
+    Ok(watched.check_lines(&rt, &LARGE_LINES)?)
 }
 
 /// Two requests, of which each is answered the same without the other.
@@ -250,9 +305,9 @@ static PAIR: [Line; 2] = [
 ];
 
 fn jobs_for(alloc: Global, lines: &[Line]) -> Result<Vec<Job>, Unmade> {
-    match jobs_of(alloc, lines) {
+    match jobs_of(alloc, None, lines) {
         Ok(jobs) => Ok(jobs),
-        Err(_) => jobs_of(alloc, lines),
+        Err(_) => jobs_of(alloc, None, lines),
     }
 }
 
@@ -317,7 +372,7 @@ impl Watched {
 
 /// What is seen when a list was served, and what was refused of it.
 fn seen_after(rt: &impl Abort, alloc: Global, lines: &[Line]) -> Result<Seen, Unmade> {
-    let mut watched = Watched::new(alloc)?;
+    let mut watched = Watched::new(alloc, small(), b"abc")?;
     watched.serve_all(rt, lines)?;
     Ok(watched.look())
 }

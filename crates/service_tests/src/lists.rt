@@ -1,13 +1,16 @@
 //! Lists of requests that are made by a rule, served beside the model; and runs of one session alone.
 
-use crate::asks::{At, Line, Place, Told, Unmade, Word, ask_of, name, reference, row, under};
+use crate::asks::{
+    At, Hashed, Line, Place, Told, Unmade, Word, ask_of, body_of, is_content, name, reference, row,
+    under,
+};
 use crate::model::{Model, alike};
 use crate::serving::{ABC, ABC_512, NOTHING, answers_to, check, limits};
 use std::alloc::{AllocError, Global};
 use std::process::Abort;
 use std::slice::Iter;
 use std::test::Fail;
-use upload_names::{Algorithm, BlobDigest, Bytes};
+use upload_names::{Algorithm, BlobDigest};
 use upload_service::{Answer, Ask, Extent, Refusal, Service};
 
 /// A source of numbers that looks random and is the same in each run.
@@ -58,6 +61,14 @@ fn repository(dice: &mut Dice) -> &'static [u8] {
     match dice.roll(3) {
         0 => b"lib/b",
         _ => b"lib/a",
+    }
+}
+
+fn hashed(dice: &mut Dice) -> Hashed {
+    match dice.roll(3) {
+        0 => None,
+        1 => Some(Algorithm::Sha256),
+        _ => Some(Algorithm::Sha512),
     }
 }
 
@@ -120,7 +131,7 @@ impl Play {
     /// Whether the service answers the next request as the model does.
     fn is_alike(&mut self) -> Result<bool, Unmade> {
         let line = self.line();
-        let ask = ask_of(self.alloc, line)?;
+        let ask = ask_of(self.alloc, hashed(&mut self.dice), line)?;
         let wanted = self.model.step(&ask, [0; 12], line.now)?;
         let answer = self.service.step(ask, [0; 12], line.now);
         if let Answer::Begun { .. } = answer {
@@ -190,7 +201,7 @@ fn is_next(answers: &mut Iter<Answer>, wanted: &Answer) -> bool {
 fn answers_under(alloc: Global, name: &[u8], issued: u32) -> Result<Vec<Answer>, Unmade> {
     let lines = lines_under(alloc, name)?;
     let usual = limits(1_000, 10, 3_600);
-    answers_to(alloc, usual, issued, lines.as_slice())
+    answers_to(alloc, usual, issued, None, lines.as_slice())
 }
 
 /// Ends a test in which the requests under a name aren't answered among the others as they are alone.
@@ -209,7 +220,7 @@ fn sessions_are_answered_as_if_alone(rt: HostRuntime) -> Result<(), Fail> {
     let alloc = rt.alloc();
     let first = answers_under(alloc, b"lib/a", 0)?;
     let second = answers_under(alloc, b"lib/b", 1)?;
-    let both = answers_to(alloc, limits(1_000, 10, 3_600), 0, &BOTH)?;
+    let both = answers_to(alloc, limits(1_000, 10, 3_600), 0, None, &BOTH)?;
     assert!(rt; both.len() == 8);
     check_alone(&rt, both.as_slice(), first.as_slice(), b"lib/a");
     check_alone(&rt, both.as_slice(), second.as_slice(), b"lib/b");
@@ -226,16 +237,16 @@ fn pattern(alloc: Global, size: usize) -> Result<Vec<u8>, AllocError> {
     Ok(bytes)
 }
 
-/// A session of a new service, and a digest that none of its contents has.
+/// A session of a new service.
 #[derive(Drop)]
 struct Upload {
     alloc: Global,
     service: Service,
-    wrong: BlobDigest,
+    way: Way,
 }
 
 impl Upload {
-    fn begin(alloc: Global, algorithm: Algorithm) -> Result<Upload, Unmade> {
+    fn begin(alloc: Global, way: Way) -> Result<Upload, Unmade> {
         let opening = Ask::Opening {
             name: name(alloc, b"lib/a")?,
         };
@@ -244,17 +255,16 @@ impl Upload {
         Ok(Upload {
             alloc,
             service,
-            wrong: BlobDigest::of(algorithm, b"another content"),
+            way,
         })
     }
 
     fn takes(&mut self, body: &[u8]) -> Result<bool, Unmade> {
-        let body = Bytes::of(body.to_vec(self.alloc)?);
         let chunk = Ask::Chunk {
             name: name(self.alloc, b"lib/a")?,
             at: reference(ONE),
             range: Extent::Absent,
-            body,
+            body: body_of(self.alloc, self.way.hashed, body)?,
         };
         let answer = self.service.step(chunk, [0; 12], 0);
         Ok(matches!(&answer, Answer::Taken { .. }))
@@ -265,24 +275,25 @@ impl Upload {
         self.service.catch_up(&reference(TWO));
     }
 
-    fn close(&mut self, digest: BlobDigest) -> Result<Answer, Unmade> {
+    fn close(&mut self, digest: BlobDigest, body: &[u8]) -> Result<Answer, Unmade> {
         let close = Ask::Close {
             name: name(self.alloc, b"lib/a")?,
             at: reference(ONE),
             range: Extent::Absent,
             digest: Some(digest),
-            body: Bytes::of(Vec::new(self.alloc)),
+            body: body_of(self.alloc, self.way.hashed, body)?,
         };
         Ok(self.service.step(close, [0; 12], 0))
     }
 
-    fn refuses_another_content(&mut self) -> Result<bool, Unmade> {
-        let answer = self.close(self.wrong)?;
+    fn refuses_another_content(&mut self, body: &[u8]) -> Result<bool, Unmade> {
+        let wrong = BlobDigest::of(self.way.algorithm, b"another content");
+        let answer = self.close(wrong, body)?;
         Ok(matches!(&answer, Answer::Refused(Refusal::Mismatch)))
     }
 
-    fn stores(&mut self, digest: BlobDigest) -> Result<bool, Unmade> {
-        let answer = self.close(digest)?;
+    fn stores(&mut self, digest: BlobDigest, body: &[u8]) -> Result<bool, Unmade> {
+        let answer = self.close(digest, body)?;
         Ok(matches!(&answer, Answer::Stored { .. }))
     }
 
@@ -296,74 +307,115 @@ impl Upload {
             Answer::Blob {
                 bytes: Some(bytes),
                 ..
-            } => Ok(bytes.as_slice() == content),
+            } => Ok(is_content(&bytes, content)),
             _ => Ok(false),
         }
     }
 }
 
-static SIZES: [usize; 10] = [1, 65_535, 1, 65_536, 65_537, 1, 1_000, 0, 70_000, 37];
-
 impl Upload {
-    /// Sends a content in chunks of those sizes, with a refused close behind each.
-    fn send(&mut self, rt: &impl Abort, content: &[u8], catches_up: bool) -> Result<(), Unmade> {
+    /// Sends a content in chunks of those sizes, with a refused close of the same bytes before each. Gives what is left.
+    fn send<'c>(
+        &mut self,
+        rt: &impl Abort,
+        content: &'c [u8],
+        sizes: &[usize],
+    ) -> Result<&'c [u8], Unmade> {
         let mut rest = content;
-        for (i, size) in SIZES.iter().enumerate() {
+        for (i, size) in sizes.iter().enumerate() {
             assert!(rt; *size <= rest.len());
             let (body, later) = rest.split_at(*size);
             rest = later;
+            let refuses = self.refuses_another_content(body)?;
+            check(rt, refuses, i, "the close is refused");
             let takes = self.takes(body)?;
             check(rt, takes, i, "the chunk is taken");
-            if catches_up {
+            if self.way.catches_up {
                 self.catch_up();
             }
-            let refuses = self.refuses_another_content()?;
-            check(rt, refuses, i, "the close is refused");
         }
-        assert!(rt; rest.is_empty());
-        Ok(())
+        Ok(rest)
     }
 
+    /// Closes the upload of a content with what is left of it, behind a close that is refused, and pulls it back.
     fn close_and_pull(
         &mut self,
         rt: &impl Abort,
         content: &[u8],
-        algorithm: Algorithm,
+        left: &[u8],
     ) -> Result<(), Unmade> {
-        let digest = BlobDigest::of(algorithm, content);
-        assert!(rt; self.stores(digest)?);
+        let digest = BlobDigest::of(self.way.algorithm, content);
+        assert!(rt; self.refuses_another_content(left)?);
+        assert!(rt; self.stores(digest, left)?);
         assert!(rt; self.gives(digest, content)?);
         Ok(())
     }
 }
 
-/// Uploads 267,648 bytes in chunks at and beside 65,536 bytes, up to where bodies are joined into one segment, with a
-/// refused close behind each, and pulls them back. The session's hash catches up behind each chunk, or only at the closes.
+/// The sizes of the chunks of an upload, whose close has the rest.
+static SIZES: [&[usize]; 5] = [
+    // the close alone
+    &[],
+    // one chunk
+    &[140_000],
+    // a large first chunk, of which the hash is taken over, and others behind it
+    &[70_000, 65_537, 1],
+    &[0, 70_000],
+    // at and beside 65,536 bytes, up to where bodies are joined into one segment
+    &[1, 65_535, 1, 65_536, 0, 37],
+];
+
+/// How an upload is made.
+#[derive(Clone, Copy)]
+struct Way {
+    /// By what its digest is.
+    algorithm: Algorithm,
+    /// The hash that its bodies carry.
+    hashed: Hashed,
+    /// Whether the session's hash catches up behind each chunk, or only at the closes.
+    catches_up: bool,
+}
+
+/// An upload whose bodies carry the hash of its own algorithm, another, or none.
+macro_rules! way {
+    ($algorithm:ident, $hashed:expr, $catches_up:expr) => {
+        Way {
+            algorithm: Algorithm::$algorithm,
+            hashed: $hashed,
+            catches_up: $catches_up,
+        }
+    };
+}
+
+static WAYS: [Way; 5] = [
+    way!(Sha256, None, true),
+    way!(Sha256, None, false),
+    way!(Sha256, Some(Algorithm::Sha256), true),
+    way!(Sha512, Some(Algorithm::Sha256), false),
+    way!(Sha512, Some(Algorithm::Sha512), true),
+];
+
+/// Uploads a content in pieces of many sizes, and pulls it back.
 fn upload_in_many_sizes(
     rt: &impl Abort,
     alloc: Global,
     content: &[u8],
-    algorithm: Algorithm,
-    catches_up: bool,
+    way: Way,
 ) -> Result<(), Unmade> {
-    let mut upload = Upload::begin(alloc, algorithm)?;
-    upload.send(rt, content, catches_up)?;
-    upload.close_and_pull(rt, content, algorithm)
+    for sizes in SIZES.iter() {
+        let mut upload = Upload::begin(alloc, way)?;
+        let left = upload.send(rt, content, sizes)?;
+        upload.close_and_pull(rt, content, left)?;
+    }
+    Ok(())
 }
 
-static WAYS: [(Algorithm, bool); 4] = [
-    (Algorithm::Sha256, true),
-    (Algorithm::Sha256, false),
-    (Algorithm::Sha512, true),
-    (Algorithm::Sha512, false),
-];
-
 #[test]
-fn segments_of_many_sizes_are_one_blob(rt: HostRuntime) -> Result<(), Fail> {
+fn pieces_of_many_sizes_are_one_blob(rt: HostRuntime) -> Result<(), Fail> {
     let alloc = rt.alloc();
-    let content = pattern(alloc, 267_648)?;
-    for (algorithm, catches_up) in WAYS.iter() {
-        upload_in_many_sizes(&rt, alloc, content.as_slice(), *algorithm, *catches_up)?;
+    let content = pattern(alloc, 140_000)?;
+    for way in WAYS.iter() {
+        upload_in_many_sizes(&rt, alloc, content.as_slice(), *way)?;
     }
     Ok(())
 }

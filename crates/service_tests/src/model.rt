@@ -3,7 +3,7 @@
 
 use std::alloc::{AllocError, Global};
 use upload_names::{BlobDigest, Bytes, RepoName, UploadRef};
-use upload_service::{Answer, Ask, Extent, Limits, Refusal};
+use upload_service::{Answer, Ask, BlobBytes, Extent, Limits, Refusal};
 
 #[derive(Drop)]
 struct Open {
@@ -144,7 +144,8 @@ impl Model {
                 let bytes = if head {
                     None
                 } else {
-                    Some(Bytes::of(stored.bytes.as_slice().to_vec(self.alloc)?))
+                    let copy = Bytes::of(stored.bytes.as_slice().to_vec(self.alloc)?);
+                    Some(BlobBytes::of(self.alloc, copy)?)
                 };
                 return Ok(Answer::Blob {
                     digest: *digest,
@@ -369,10 +370,16 @@ pub fn alike(one: &Answer, other: &Answer) -> bool {
     }
 }
 
-fn same_bytes(one: &Option<Bytes>, other: &Option<Bytes>) -> bool {
+fn same_bytes(one: &Option<BlobBytes>, other: &Option<BlobBytes>) -> bool {
     match (one, other) {
         (None, None) => true,
-        (Some(one), Some(other)) => one.as_slice() == other.as_slice(),
+        (Some(one), Some(other)) => same_content(one, other),
         _ => false,
     }
+}
+
+fn same_content(one: &BlobBytes, other: &BlobBytes) -> bool {
+    let mine = one.parts().iter().flat_map(|part| part.as_slice());
+    let theirs = other.parts().iter().flat_map(|part| part.as_slice());
+    mine.eq(theirs)
 }

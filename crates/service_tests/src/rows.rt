@@ -286,3 +286,18 @@ fn idle_sessions_lapse_and_leave_a_full_table(rt: HostRuntime) -> Result<(), Fai
     ];
     serve(&rt, rt.alloc(), limits(1_000, 1, 10), 0, &LINES)
 }
+
+// The answers are looked at when their service is gone.
+#[test]
+fn a_blob_that_was_handed_out_outlives_its_replacement(rt: HostRuntime) -> Result<(), Fail> {
+    static LINES: [Line; 7] = [
+        row!(Word::Single(ABC, b"abc"), Told::Stored(ABC)),
+        row!(Word::Get(ABC), Told::Bytes(b"abc")),
+        row!(Word::Single(ABC, b"abc"), Told::Stored(ABC)),
+        row!(Word::Open, Told::Begun(1)),
+        row!(Word::Chunk(U1, Place::Absent, b"ab"), Told::Taken(U1, 2)),
+        row!(Word::Close(U1, Place::Absent, ABC, b"c"), Told::Stored(ABC)),
+        row!(Word::Get(ABC), Told::Bytes(b"abc")),
+    ];
+    serve(&rt, rt.alloc(), usual(), 0, &LINES)
+}

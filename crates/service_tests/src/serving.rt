@@ -3,7 +3,9 @@
 ghost use Rattle.std.specs.Prelude.{◌≡◌, ◌≤◌, ◌^◌};
 ghost use Rattle.upload_service.specs.Machine.{AreLawful};
 
-use crate::asks::{self, At, Line, Place, Told, Unmade, Word, ask_of, is_told, row};
+use crate::asks::{
+    self, At, HASHES, Hashed, Line, Place, Told, Unmade, Word, ask_of, is_told, row,
+};
 use crate::model::{Model, alike};
 use std::alloc::{AllocError, Global};
 use std::process::Abort;
@@ -42,11 +44,11 @@ pub fn limits(max_blob: u64, max_open: u32, max_idle: u64) -> Limits
 /// A request with its secret and its moment.
 pub type Job = (Ask, [u8; 12], u64);
 
-/// The requests of lines.
-pub fn jobs_of(alloc: Global, lines: &[Line]) -> Result<Vec<Job>, Unmade> {
+/// The requests of lines. Their bodies carry a hash of that algorithm.
+pub fn jobs_of(alloc: Global, hashed: Hashed, lines: &[Line]) -> Result<Vec<Job>, Unmade> {
     let mut jobs = Vec::new(alloc);
     for line in lines {
-        add(&mut jobs, ask_of(alloc, *line)?, line.now)?;
+        add(&mut jobs, ask_of(alloc, hashed, *line)?, line.now)?;
     }
     Ok(jobs)
 }
@@ -61,11 +63,12 @@ pub fn answers_to(
     alloc: Global,
     limits: Limits,
     issued: u32,
+    hashed: Hashed,
     lines: &[Line],
 ) -> Result<Vec<Answer>, Unmade>
     requires { AreLawful limits }
 {
-    let jobs = jobs_of(alloc, lines)?;
+    let jobs = jobs_of(alloc, hashed, lines)?;
     let mut service = Service::after(alloc, limits, issued);
     Ok(service.run_all(alloc, jobs)?)
 }
@@ -75,7 +78,8 @@ pub fn check(rt: &impl Abort, holds: bool, line: usize, what: &str) {
     assert!(rt; holds, "line {line}: {what}");
 }
 
-/// Serves a list over a new service whose numbers up to `issued` are used up, and over the model.
+/// Serves a list over new services whose numbers up to `issued` are used up, and over the model: once with bodies that
+/// carry no hash, and once for each hash that they may carry.
 pub fn serve(
     rt: &impl Abort,
     alloc: Global,
@@ -85,10 +89,13 @@ pub fn serve(
 ) -> Result<(), Fail>
     requires { AreLawful limits }
 {
-    let answers = answers_to(alloc, limits, issued, lines)?;
-    assert!(rt; answers.len() == lines.len());
-    let mut model = Model::after(alloc, limits, issued);
-    Ok(judge(rt, alloc, &mut model, answers.as_slice(), lines)?)
+    for hashed in HASHES.iter() {
+        let answers = answers_to(alloc, limits, issued, *hashed, lines)?;
+        assert!(rt; answers.len() == lines.len());
+        let mut model = Model::after(alloc, limits, issued);
+        judge(rt, alloc, &mut model, answers.as_slice(), lines)?;
+    }
+    Ok(())
 }
 
 /// Ends a test whose lines are answered otherwise than they say, or than the model says.
@@ -113,7 +120,7 @@ fn is_by_model(
     answer: &Answer,
     line: Line,
 ) -> Result<bool, Unmade> {
-    let wanted = model_answer(model, ask_of(alloc, line)?, line.now)?;
+    let wanted = model_answer(model, ask_of(alloc, None, line)?, line.now)?;
     Ok(alike(answer, &wanted))
 }
 
@@ -186,7 +193,7 @@ fn check_offsets(
     name: &RepoName,
 ) -> Result<(), Unmade> {
     for (i, (line, received, held)) in OFFSETS.iter().enumerate() {
-        let ask = ask_of(alloc, *line)?;
+        let ask = ask_of(alloc, None, *line)?;
         let answer = service.step(ask, [0; 12], 0);
         check(rt, is_told(&answer, *line), i, "the answer");
         let is_seen = is_seen(service, name, *received, *held);

@@ -5,3 +5,4 @@ pub mod Digest
 pub mod Sum
 pub mod ByteRange
 pub mod Reference
+pub mod Running

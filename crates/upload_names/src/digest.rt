@@ -5,6 +5,7 @@ ghost use Rattle.std.specs.List.{list_all};
 ghost use Rattle.hex.specs.Hex.{encode_lower};
 ghost use Rattle.upload_names.specs.Digest.{Digest as DigestModel, IsDigest, SpellsDigest, content_digest, digest_of, digest_text, digits_read, is_lower_digit, hash_size};
 
+use crate::bytes::Bytes;
 use sha2::{Digest, Sha256, Sha512};
 use std::cmp::Ordering;
 use std::marker::Model;
@@ -160,6 +161,29 @@ impl BlobDigest {
             Algorithm::Sha512 => Sum::Sha512(Sha512::digest(content)),
         };
         BlobDigest { sum }
+    }
+
+    /// The digest of a body by an algorithm. A body that carries its hash isn't hashed again.
+    pub fn of_body(algorithm: Algorithm, body: &Bytes) -> BlobDigest
+        ensures { result ≡ content_digest algorithm body.now }
+    {
+        match algorithm {
+            Algorithm::Sha256 => {
+                if let Some(hash) = body.sha256() {
+                    return BlobDigest {
+                        sum: Sum::Sha256(hash.finalize()),
+                    };
+                }
+            }
+            Algorithm::Sha512 => {
+                if let Some(hash) = body.sha512() {
+                    return BlobDigest {
+                        sum: Sum::Sha512(hash.finalize()),
+                    };
+                }
+            }
+        }
+        BlobDigest::of(algorithm, body.as_slice())
     }
 
     /// The SHA-256 digest of a content.

@@ -2,6 +2,7 @@
 use Rattle.std.proofs.Common.{◌≡◌, ℕ, zero, suc, ◌+◌, ◌<◌, ◌≤◌, List, [], ◌∷◌, ◌++◌, length, take, drop, get_or, refl, sym, ◌∙◌, ap, arith, length-append}
 use Rattle.std.proofs.lemmas.List.{append-nil, append_assoc, take-append-le, take-append-drop}
 use Rattle.std.proofs.Math.Seq.{take-length, take-append_seam}
+use Rattle.std.specs.List.{concat}
 use Rattle.upload_service.specs.Kept.Parts.{joined, with_part}
 
 pub joined-append : (xs ys : List (List ℕ)) → joined (xs ++ ys) ≡ joined xs ++ joined ys
@@ -47,3 +48,20 @@ joined-take_next (x ∷ xs) (suc i) d lt =
 pub with_part-nonempty : (xs : List (List ℕ)) (x : List ℕ) → 0 < length x → with_part xs x ≡ xs ++ x ∷ []
 with_part-nonempty xs [] lt = absurd (omega arith)
 with_part-nonempty xs (b ∷ x) lt = refl
+
+-- joined as the standard library joins lists
+pub joined-concat : (xs : List (List ℕ)) → joined xs ≡ concat xs
+joined-concat [] = refl
+joined-concat (x ∷ xs) = ap (λ r. x ++ r) (joined-concat xs)
+
+pub take_next : (xs : List (List ℕ)) (i : ℕ) (d : List ℕ) → i < length xs → take (i + 1) xs ≡ take i xs ++ get_or xs i d ∷ []
+take_next [] i d lt = absurd (omega arith)
+take_next (x ∷ xs) zero d lt = refl
+take_next (x ∷ xs) (suc i) d lt =
+    let e : suc i + 1 ≡ suc (i + 1) = omega arith in
+    ap (λ n. take n (x ∷ xs)) e ∙ ap (λ r. x ∷ r) (take_next xs i d (omega arith))
+
+-- parts and two more, as the standard library joins lists
+pub concat-two : (xs : List (List ℕ)) (x y : List ℕ) → concat ((xs ++ x ∷ []) ++ y ∷ []) ≡ (joined xs ++ x) ++ y
+concat-two xs x y =
+    sym (joined-concat ((xs ++ x ∷ []) ++ y ∷ [])) ∙ joined-push (xs ++ x ∷ []) y ∙ ap (λ r. r ++ y) (joined-push xs x)

@@ -1,6 +1,7 @@
 //! What a request is answered.
 
-use upload_names::{BlobDigest, Bytes, RepoName, UploadRef};
+use crate::shared::BlobBytes;
+use upload_names::{BlobDigest, RepoName, UploadRef};
 
 /// The forms of a request's path.
 #[derive(Clone, Copy, Debug, PartialEq, Eq)]
@@ -57,7 +58,7 @@ pub enum Answer {
         /// How many bytes the blob has.
         size: u64,
         /// The blob's bytes, or None where the size alone was asked for.
-        bytes: Option<Bytes>,
+        bytes: Option<BlobBytes>,
     },
     /// A session was opened.
     Begun {

@@ -3,6 +3,7 @@ ghost use Rattle.std.specs.Prelude.{◌≡◌, ◌+◌, ◌<◌, ◌^◌, ◌++�
 ghost use Rattle.upload_service.specs.Kept.Parts.{whole};
 
 use crate::segments::Segments;
+use crate::shared::{BlobBytes, Part};
 use std::alloc::{AllocError, Global};
 use std::marker::Model;
 use upload_names::Bytes;
@@ -11,7 +12,7 @@ use upload_names::Bytes;
 #[derive(Drop)]
 pub struct Blob {
     segments: Segments,
-    last: Bytes,
+    last: Part,
 }
 
 impl Model for Blob {
@@ -31,22 +32,25 @@ impl Model for Blob {
 
 impl Blob {
     /// What was received and a last body. It takes no memory.
-    pub fn of_parts(segments: Segments, last: Bytes) -> Blob
+    pub fn of_parts(segments: Segments, last: Part) -> Blob
         requires { length (whole segments) + length last < 2 ^ 64 }
         ensures { result ≡ whole segments ++ last }
     {
         Blob { segments, last }
     }
 
-    /// A blob of one body. It takes no memory.
-    pub fn of(alloc: Global, body: Bytes) -> Blob
-        ensures { result ≡ body }
+    /// A blob of one body, which is moved and not copied.
+    pub fn of(alloc: Global, body: Bytes) -> Result<Blob, AllocError>
+        ensures { IfOk result (λ blob. blob ≡ body) }
     {
-        let _size = body.as_slice().len();
-        Blob {
+        let Ok(last) = Part::of(alloc, body.into_vec()) else {
+            return Err(AllocError);
+        };
+        let _size = last.as_slice().len();
+        Ok(Blob {
             segments: Segments::new(alloc),
-            last: body,
-        }
+            last,
+        })
     }
 
     /// How many bytes it has.
@@ -56,14 +60,21 @@ impl Blob {
         self.segments.total() + self.last.as_slice().len() as u64
     }
 
-    /// Its bytes in one.
-    pub fn to_bytes(&self, alloc: Global) -> Result<Bytes, AllocError>
+    /// Its bytes, in the parts that it is kept in, which are shared and not copied. Of the last segment of a session,
+    /// which is small, they are a copy.
+    pub fn share(&self, alloc: Global) -> Result<BlobBytes, AllocError>
         ensures { IfOk result (λ bytes. bytes ≡ self.now) }
     {
-        let size = self.segments.total() + self.last.as_slice().len() as u64;
-        let mut bytes = Vec::with_capacity(alloc, size as usize)?;
-        self.segments.copy_into(&mut bytes)?;
-        bytes.extend_from_slice(self.last.as_slice())?;
-        Ok(Bytes::of(bytes))
+        let settled = self.segments.settled();
+        let mut parts = Vec::with_capacity(alloc, settled.len() + 2)?;
+        for part in settled {
+            parts.push(part.share()?)?;
+        }
+        let Ok(tail) = Part::of(alloc, Vec::from_slice(alloc, self.segments.tail())?) else {
+            return Err(AllocError);
+        };
+        parts.push(tail)?;
+        parts.push(self.last.share()?)?;
+        Ok(BlobBytes::of_parts(parts))
     }
 }

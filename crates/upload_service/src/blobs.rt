@@ -8,6 +8,7 @@ ghost use Rattle.upload_service.specs.Machine.{Session};
 use crate::blob::Blob;
 use crate::pairs::Pairs;
 use crate::sessions::Sessions;
+use crate::shared::Part;
 use std::alloc::{AllocError, Global};
 use std::collections::BTreeMap;
 use std::collections::btree_map::Entry;
@@ -83,6 +84,7 @@ impl Blobs {
     /// Closes an open session, stores what it received and a last body, and notes the pair.
     pub fn commit(
         &mut self,
+        alloc: Global,
         pairs: &mut Pairs,
         sessions: &mut Sessions,
         name: &RepoName,
@@ -97,17 +99,20 @@ impl Blobs {
         ensures pairs { OnOk result (pairs.new ≡ set.insert pairs.old (name.now, digest)) }
         ensures err { OnErr result ((self.new ≡ self.old) × (pairs.new ≡ pairs.old) × (sessions.new ≡ sessions.old)) }
     {
+        let Ok(last) = Part::of(alloc, body.into_vec()) else {
+            return Err(AllocError);
+        };
         let Ok(entry) = self.stored.entry(digest) else {
             return Err(AllocError);
         };
         match entry {
             Entry::Occupied(mut place) => {
                 pairs.put(name, digest)?;
-                place.insert(blob_of(sessions, at, body));
+                place.insert(blob_of(sessions, at, last));
             }
             Entry::Vacant(place) => {
                 pairs.put(name, digest)?;
-                place.insert(blob_of(sessions, at, body));
+                place.insert(blob_of(sessions, at, last));
             }
         }
         Ok(())
@@ -115,15 +120,15 @@ impl Blobs {
 }
 
 /// Closes an open session, and makes a blob of what it received and a last body. It takes no memory.
-fn blob_of(sessions: &mut Sessions, at: &UploadRef, body: Bytes) -> Blob
+fn blob_of(sessions: &mut Sessions, at: &UploadRef, last: Part) -> Blob
     requires open { IsSome (map.get sessions.old at.now) }
-    requires fits { (session : Session) → map.get sessions.old at.now ≡ Some session → length session.received + length body < 2 ^ 64 }
-    ensures blob { (session : Session) → map.get sessions.old at.now ≡ Some session → result ≡ session.received ++ body }
+    requires fits { (session : Session) → map.get sessions.old at.now ≡ Some session → length session.received + length last < 2 ^ 64 }
+    ensures blob { (session : Session) → map.get sessions.old at.now ≡ Some session → result ≡ session.received ++ last }
     ensures closed { sessions.new ≡ map.remove sessions.old at.now }
 {
     let Some(session) = sessions.close(at) else {
         unreachable!();
     };
     let segments = session.received.into_segments();
-    Blob::of_parts(segments, body)
+    Blob::of_parts(segments, last)
 }

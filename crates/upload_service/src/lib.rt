@@ -10,6 +10,7 @@ pub use laws::{
 };
 pub use limits::Limits;
 pub use service::Service;
+pub use shared::{BlobBytes, Part};
 
 mod answer;
 mod ask;
@@ -22,4 +23,5 @@ mod received;
 mod segments;
 mod service;
 mod sessions;
+mod shared;
 mod turn;

@@ -62,13 +62,23 @@ impl Received {
         self.segments.total()
     }
 
-    /// Takes a body in behind the others, and hashes nothing yet. An `Err` changes nothing.
+    /// Takes a body in behind the others, and hashes nothing yet: of a first body it takes over the hash that the
+    /// body carries. An `Err` changes nothing.
     pub fn append(&mut self, body: Bytes) -> Result<(), AllocError>
         requires { length self.old + length body < 2 ^ 64 }
         ensures ok { OnOk result (self.new ≡ self.old ++ body) }
         ensures err { OnErr result (self.new ≡ self.old) }
     {
-        self.segments.append(body)
+        let first = self.segments.total() == 0;
+        let carried = body.sha256();
+        self.segments.append(body)?;
+        if let Some(hash) = carried {
+            if first && self.segments.tail().is_empty() {
+                self.sha256 = hash;
+                self.in_sha256 = self.segments.settled().len();
+            }
+        }
+        Ok(())
     }
 
     /// Has the SHA-256 take in the segments that stay as they are. Nothing that is seen changes.
@@ -80,7 +90,7 @@ impl Received {
 
     /// Whether what was received and a last body have a digest, by the algorithm of that digest. The body is
     /// hashed into a copy, so nothing that is seen changes.
-    pub fn has_digest(&mut self, digest: &BlobDigest, body: &[u8]) -> bool
+    pub fn has_digest(&mut self, digest: &BlobDigest, body: &Bytes) -> bool
         ensures is { IsTrue result ↔ HasDigest (self.old ++ body.now) digest.now }
         ensures same { self.new ≡ self.old }
     {
@@ -97,28 +107,39 @@ impl Received {
     }
 
     /// The SHA-256 of what was received and a last body. The hash takes in the segments that stay as they are; the
-    /// last one, which is small, goes into a copy with the body.
-    fn sha256_with(&mut self, body: &[u8]) -> [u8; 32]
+    /// last one, which is small, goes into a copy with the body. Where the body is all, and carries its hash, nothing
+    /// is hashed again.
+    fn sha256_with(&mut self, body: &Bytes) -> [u8; 32]
         ensures digest { result ≡ sha256 (self.old ++ body.now) }
         ensures same { self.new ≡ self.old }
     {
+        if self.segments.total() == 0 {
+            if let Some(hash) = body.sha256() {
+                return hash.finalize();
+            }
+        }
         take_in(&self.segments, &mut self.sha256, &mut self.in_sha256);
         let Ok(hash) = self.sha256.clone() else {
             unreachable!();
         };
-        finish(hash, &self.segments, body)
+        finish(hash, &self.segments, body.as_slice())
     }
 
     /// The SHA-512 of the same, in the same way.
-    fn sha512_with(&mut self, body: &[u8]) -> [u8; 64]
+    fn sha512_with(&mut self, body: &Bytes) -> [u8; 64]
         ensures digest { result ≡ sha512 (self.old ++ body.now) }
         ensures same { self.new ≡ self.old }
     {
+        if self.segments.total() == 0 {
+            if let Some(hash) = body.sha512() {
+                return hash.finalize();
+            }
+        }
         take_in(&self.segments, &mut self.sha512, &mut self.in_sha512);
         let Ok(hash) = self.sha512.clone() else {
             unreachable!();
         };
-        finish(hash, &self.segments, body)
+        finish(hash, &self.segments, body.as_slice())
     }
 
     /// The segments alone.

@@ -3,6 +3,7 @@
 ghost use Rattle.std.specs.Prelude.{◌≡◌, ◌+◌, ◌<◌, ◌≤◌, ◌^◌, ◌++◌, ◌∷◌, [], ℕ, List, length, take, vec_len, vec_capacity, IfOk, OnOk, OnErr};
 ghost use Rattle.upload_service.specs.Kept.Parts.{joined, with_part, whole};
 
+use crate::shared::Part;
 use std::alloc::{AllocError, Global};
 use std::marker::Model;
 use std::mem;
@@ -16,7 +17,7 @@ const JOINED_SIZE: usize = 65_536;
 pub struct Segments {
     alloc: Global,
     /// The segments that stay as they are.
-    settled: Vec<Bytes>,
+    settled: Vec<Part>,
     /// The last segment, which small bodies are joined to. It is empty where there is none.
     tail: Vec<u8>,
     /// How many bytes there are in all.
@@ -55,7 +56,7 @@ impl Segments {
     }
 
     /// The segments that stay as they are, in their order.
-    pub fn settled(&self) -> &[Bytes]
+    pub fn settled(&self) -> &[Part]
         ensures { result.now ≡ self.now.settled }
     {
         self.settled.as_slice()
@@ -79,22 +80,11 @@ impl Segments {
         let size = body.as_slice().len();
         if size > JOINED_SIZE || self.tail.len() > JOINED_SIZE - size {
             self.settled.reserve(2)?;
-            roll_over(self.alloc, &mut self.settled, &mut self.tail, body);
+            roll_over(self.alloc, &mut self.settled, &mut self.tail, body)?;
         } else {
             join(&mut self.tail, body)?;
         }
         self.total += size as u64;
-        Ok(())
-    }
-
-    /// Copies the bytes of all segments behind those that are there.
-    pub fn copy_into(&self, bytes: &mut Vec<u8>) -> Result<(), AllocError>
-        ensures { OnOk result (bytes.new.items ≡ bytes.old.items ++ whole self.now) }
-    {
-        for part in self.settled.as_slice() {
-            bytes.extend_from_slice(part.as_slice())?;
-        }
-        bytes.extend_from_slice(self.tail.as_slice())?;
         Ok(())
     }
 }
@@ -112,33 +102,65 @@ fn join(tail: &mut Vec<u8>, body: Bytes) -> Result<(), AllocError>
     Ok(())
 }
 
-/// Settles the last segment and moves a body in behind it: as the last segment where it is small.
-fn roll_over(alloc: Global, settled: &mut Vec<Bytes>, tail: &mut Vec<u8>, body: Bytes)
+/// Settles the last segment and moves a body in behind it: as the last segment where it is small. An `Err` changes
+/// nothing.
+fn roll_over(
+    alloc: Global,
+    settled: &mut Vec<Part>,
+    tail: &mut Vec<u8>,
+    body: Bytes,
+) -> Result<(), AllocError>
     requires { vec_len settled.old + 2 ≤ vec_capacity settled.old }
-    ensures more { joined settled.new.items ++ tail.new.items ≡ joined settled.old.items ++ tail.old.items ++ body }
-    ensures front { take (length settled.old.items) settled.new.items ≡ settled.old.items }
-    ensures longer { length settled.old.items ≤ length settled.new.items }
+    ensures more { OnOk result (joined settled.new.items ++ tail.new.items ≡ joined settled.old.items ++ tail.old.items ++ body) }
+    ensures front { OnOk result (take (length settled.old.items) settled.new.items ≡ settled.old.items) }
+    ensures longer { OnOk result (length settled.old.items ≤ length settled.new.items) }
+    ensures err { OnErr result ((settled.new.items ≡ settled.old.items) × (tail.new.items ≡ tail.old.items)) }
 {
-    let last = mem::replace(tail, Vec::new(alloc));
-    settle(settled, Bytes::of(last));
     if body.as_slice().len() > JOINED_SIZE {
-        settle(settled, body);
+        let Ok(part) = Part::of(alloc, body.into_vec()) else {
+            return Err(AllocError);
+        };
+        settle_tail(alloc, settled, tail)?;
+        settle(settled, part);
     } else {
+        settle_tail(alloc, settled, tail)?;
         *tail = body.into_vec();
+    }
+    Ok(())
+}
+
+/// Makes the last segment one that stays as it is. An `Err` changes nothing.
+fn settle_tail(alloc: Global, settled: &mut Vec<Part>, tail: &mut Vec<u8>) -> Result<(), AllocError>
+    requires { vec_len settled.old + 1 ≤ vec_capacity settled.old }
+    ensures items { OnOk result (settled.new.items ≡ with_part settled.old.items tail.old.items) }
+    ensures none { OnOk result (tail.new.items ≡ []) }
+    ensures one { OnOk result (vec_len settled.new ≤ vec_len settled.old + 1) }
+    ensures room { OnOk result (vec_capacity settled.old ≤ vec_capacity settled.new) }
+    ensures err { OnErr result ((settled.new.items ≡ settled.old.items) × (tail.new.items ≡ tail.old.items)) }
+{
+    match Part::of(alloc, mem::replace(tail, Vec::new(alloc))) {
+        Ok(part) => {
+            settle(settled, part);
+            Ok(())
+        }
+        Err(back) => {
+            *tail = back;
+            Err(AllocError)
+        }
     }
 }
 
-/// Makes a body a segment that stays as it is, where it isn't empty.
-fn settle(settled: &mut Vec<Bytes>, body: Bytes)
+/// Makes a part a segment that stays as it is, where it isn't empty.
+fn settle(settled: &mut Vec<Part>, part: Part)
     requires { vec_len settled.old + 1 ≤ vec_capacity settled.old }
-    ensures items { settled.new.items ≡ with_part settled.old.items body }
+    ensures items { settled.new.items ≡ with_part settled.old.items part }
     ensures one { vec_len settled.new ≤ vec_len settled.old + 1 }
     ensures room { vec_capacity settled.old ≤ vec_capacity settled.new }
 {
-    if body.as_slice().is_empty() {
+    if part.as_slice().is_empty() {
         return;
     }
-    match settled.push(body) {
+    match settled.push(part) {
         Ok(()) => {}
         Err(_) => unreachable!(),
     }

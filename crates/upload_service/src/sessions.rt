@@ -162,7 +162,7 @@ impl Sessions {
 
     /// Whether what an open session received and a last body have a digest, by the algorithm of that digest.
     /// Nothing that is seen changes.
-    pub fn has_digest(&mut self, at: &UploadRef, digest: &BlobDigest, body: &[u8]) -> bool
+    pub fn has_digest(&mut self, at: &UploadRef, digest: &BlobDigest, body: &Bytes) -> bool
         requires { IsSome (map.get self.old at.now) }
         ensures is { (session : Session) → map.get self.old at.now ≡ Some session → (IsTrue result ↔ HasDigest (session.received ++ body.now) digest.now) }
         ensures same { self.new ≡ self.old }

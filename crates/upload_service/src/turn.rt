@@ -101,6 +101,7 @@ fn chunk(
 
 /// Closes a session: what it received and a last body are stored where they have the digest.
 fn close(
+    alloc: Global,
     limits: Limits,
     tables: &mut Tables,
     name: RepoName,
@@ -126,14 +127,15 @@ fn close(
     let Some(digest) = digest else {
         return Answer::Refused(Refusal::NoDigest);
     };
-    if !tables.sessions.has_digest(&at, &digest, body.as_slice()) {
+    if !tables.sessions.has_digest(&at, &digest, &body) {
         return Answer::Refused(Refusal::Mismatch);
     }
-    commit(tables, name, at, digest, body)
+    commit(alloc, tables, name, at, digest, body)
 }
 
 /// Closes an open session, stores what it received and a last body, and notes the pair.
 fn commit(
+    alloc: Global,
     tables: &mut Tables,
     name: RepoName,
     at: UploadRef,
@@ -146,6 +148,7 @@ fn commit(
         Comes (state_of limits tables.old) now (Commits name at digest (session.received ++ body)) result (state_of limits tables.new) }
 {
     let Ok(()) = tables.blobs.commit(
+        alloc,
         &mut tables.pairs,
         &mut tables.sessions,
         &name,
@@ -212,7 +215,7 @@ fn has(
             bytes: None,
         };
     }
-    match blob.to_bytes(alloc) {
+    match blob.share(alloc) {
         Ok(bytes) => Answer::Blob {
             digest,
             size,
@@ -240,11 +243,13 @@ fn single(
     let Some(digest) = digest else {
         return Answer::Refused(Refusal::NoDigest);
     };
-    let content = BlobDigest::of(digest.algorithm(), body.as_slice());
+    let content = BlobDigest::of_body(digest.algorithm(), &body);
     if !content.same(&digest) {
         return Answer::Refused(Refusal::Mismatch);
     }
-    let blob = Blob::of(alloc, body);
+    let Ok(blob) = Blob::of(alloc, body) else {
+        return Answer::NoMemory;
+    };
     let Ok(()) = tables.blobs.store(&mut tables.pairs, &name, digest, blob) else {
         return Answer::NoMemory;
     };
@@ -310,6 +315,6 @@ pub fn turn(
             range,
             digest,
             body,
-        } => close(limits, tables, name, at, range, digest, body, now),
+        } => close(alloc, limits, tables, name, at, range, digest, body, now),
     }
 }

@@ -2,7 +2,7 @@ use Rattle.std.proofs.Common.{◌≡◌, ◌≢◌, ◌+◌, ◌<◌, ◌^◌, �
 use Rattle.std.specs.Prelude.{is_some}
 use Rattle.std.specs.FinMap as map
 use Rattle.std.proofs.lemmas.Bool.{true≢false}
-use Rattle.upload_names.specs.Digest.{Digest, HasDigest, content_digest}
+use Rattle.upload_names.specs.Digest.{Digest, content_digest}
 use Rattle.upload_service.specs.Machine.{Comes, Replies, Commits, refused, checked, Outcome, Session, Table}
 use Rattle.upload_service.specs.Kept.Tables.{state_of}
 use Rattle.upload_service.specs.Kept.Entries.{session_of}
@@ -47,7 +47,7 @@ returns-then-not-has_digest c =
     let session : Session = session_of c.in-Some.session.now in
     let done : Digest → Outcome = λ q. Commits c.args.name c.args.at q (session.received ++ c.args.body) in
     let other : content_digest c.in-Some-digest.digest.algorithm (session.received ++ c.args.body) ≢ c.in-Some-digest.digest = λ own.
-    true≢false (sym ((c.has_digest.ensures.is session c.in-Some.ensures.found).1 (subst (λ b. HasDigest (session.received ++ b) c.in-Some-digest.digest) (sym c.as_slice-2.ensures) own)) ∙ c.if-not-has_digest.true) in
+    true≢false (sym ((c.has_digest.ensures.is session c.in-Some.ensures.found).1 own) ∙ c.if-not-has_digest.true) in
     does _ _ _ (refused refusals.Mismatch) _ _
     (close_fits c.args.limits.max_blob _ session c.args.name c.args.at c.args.range c.args.digest c.args.body c.len-next.result
     c.in-Some.ensures.awake c.in-Some.ensures.named c.len-next.ensures (c.in-Fits.ensures.verdict c.args.name c.args.at c.args.body (ap length (sym c.as_slice.ensures)))
@@ -71,7 +71,7 @@ returns c =
     let session : Session = session_of c.in-Some.session.now in
     let done : Digest → Outcome = λ q. Commits c.args.name c.args.at q (session.received ++ c.args.body) in
     let own : content_digest c.in-Some-digest.digest.algorithm (session.received ++ c.args.body) ≡ c.in-Some-digest.digest =
-    subst (λ b. HasDigest (session.received ++ b) c.in-Some-digest.digest) c.as_slice-2.ensures ((c.has_digest.ensures.is session c.in-Some.ensures.found).0 c.if-not-has_digest.false) in
+    (c.has_digest.ensures.is session c.in-Some.ensures.found).0 c.if-not-has_digest.false in
     comes_by _ _ _ _ _ _
     (close_fits c.args.limits.max_blob _ session c.args.name c.args.at c.args.range c.args.digest c.args.body c.len-next.result
     c.in-Some.ensures.awake c.in-Some.ensures.named c.len-next.ensures (c.in-Fits.ensures.verdict c.args.name c.args.at c.args.body (ap length (sym c.as_slice.ensures)))

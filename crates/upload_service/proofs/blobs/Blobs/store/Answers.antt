@@ -1,7 +1,7 @@
 use Rattle.std.specs.FinMap.{FinMap}
 use Rattle.upload_names.specs.Digest.{digest_cmp}
 use Rattle.upload_service.proofs.Tables.{digests_total, digests_exact}
-use Rattle.std.proofs.Common.{◌≡◌, ◌++◌, ℕ, List, Some, ◌∙◌, ap, subst, cond, rules}
+use Rattle.std.proofs.Common.{◌≡◌, ℕ, List, Some, ◌∙◌, ap, subst, cond, rules}
 use Rattle.std.specs.FinMap as map
 use Rattle.std.specs.Map.{lookup}
 use Rattle.std.specs.BTreeMap.{Updates}
