@@ -3,16 +3,16 @@ use Rattle.std.proofs.Common.{◌≡◌, ℕ, ◌+◌, ◌<◌, ◌≤◌, List,
 use Rattle.std.specs.Prelude.{Option, Result, Ok, Err, ⊤}
 use Rattle.std.proofs.lemmas.List.{append-nil, take-append-drop}
 use Rattle.std.specs.Io.KnownBytes.{IsAtEnd}
-use Rattle.upload_wire.specs.Reading.{Gave}
-use Rattle.upload_wire.specs.BodyReading.{Moved, MovedNone}
-use Rattle.upload_wire.specs.declared.fault.WireFault.{WireFault}
-use Rattle.upload_wire.specs.declared.fault.WireFault.TheVariants as Wire
+use Rattle.http_wire.specs.Reading.{Gave}
+use Rattle.http_wire.specs.BodyReading.{Moved, MovedNone}
+use Rattle.http_wire.specs.declared.fault.WireFault.{WireFault}
+use Rattle.http_wire.specs.declared.fault.WireFault.TheVariants as Wire
 use Rattle.upload_wire.specs.declared.client.framing.AnswerFraming.{AnswerFraming}
 use Rattle.upload_wire.specs.declared.client.framing.AnswerFraming.TheVariants.{Sized, ToEnd}
 use Rattle.upload_wire.specs.declared.client.heard.HeardFault.{HeardFault}
 use Rattle.upload_wire.specs.declared.client.heard.HeardFault.TheVariants as Fault
 use Rattle.upload_wire.specs.AnswerReading.{MovesAll, MovesPart, MovesUpTo, Takes, FindsBody, end_of, fault_of}
-use Rattle.upload_wire.proofs.GaveLemmas.{gave_none, gave_after}
+use Rattle.http_wire.proofs.GaveLemmas.{gave_none, gave_after}
 
 pub moved_nothing : (old : Option (List ℕ)) (held before : List ℕ) (n : ℕ) → n ≡ 0 → Moved old held before old held before n
 moved_nothing old held before n zero = record {

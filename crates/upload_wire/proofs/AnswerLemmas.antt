@@ -1,40 +1,46 @@
 -- From the spans of a reply's head to what is heard.
-use Rattle.std.proofs.Common.{◌≡◌, ℕ, ◌≤◌, List, [], ◌++◌, length, take, drop, sym, ap, ◌∙◌, subst, arith, append_assoc, length-append, length-take, inl, inr, Bool}
-use Rattle.std.specs.Prelude.{Option, Result, Ok, Err, ⊤}
+use Rattle.std.proofs.Common.{◌≡◌, ℕ, ◌<◌, ◌≤◌, List, [], ◌++◌, length, take, drop, sym, ap, ◌∙◌, subst, arith, append_assoc, length-append, length-take, inl, inr, Bool}
+use Rattle.std.specs.Prelude.{◌⊎◌, Option, Result, Ok, Err, ⊤}
 use Rattle.std.proofs.lemmas.List.{take-append-drop, append-nil, take-append-le, drop-append-le, length-map}
 use Rattle.std.proofs.Math.ListN.{drop_of_length-le}
 use Rattle.httparse.specs.Grammar.{ResponseHead, print_response, status_code}
 use Rattle.httparse.specs.Spans.{header_bytes, name_and_value}
-use Rattle.upload_wire.specs.Reading.{Gave}
-use Rattle.upload_wire.specs.Fields.{Fields}
-use Rattle.upload_wire.specs.AnswerFronts.{ReadsHead}
+use Rattle.http_wire.specs.Reading.{Gave}
+use Rattle.http_wire.specs.Fields.{Fields}
+use Rattle.std.specs.Io.KnownBytes.{IsAtEnd}
+use Rattle.http_wire.specs.Fronts.{HasNone}
+use Rattle.http_wire.specs.ResponseFronts.{responses, IsUnfinished, ReadsHead}
+use Rattle.http_wire.proofs.HeadLemmas.{none_at_start}
+use Rattle.http_wire.proofs.ResponseLaws.{head_ends}
 use Rattle.upload_wire.specs.AnswerText.{framing_of, head_fields, keeps_on, ReadsFramed, IsWhole, FindsAnswer, ReadsAnswer}
-use Rattle.upload_wire.specs.AnswerReading.{IsHeadOf, IsHeadAtFront, fields_of, FindsHead, FindsBody, FindsBodyIn, IsFramingFault, Says, fault_of}
-use Rattle.upload_wire.specs.declared.client.parsed.ParsedAnswer.{ParsedAnswer}
+use Rattle.http_wire.specs.ResponseSpans.{IsHeadOf, IsHeadAtFront, response_spans}
+use Rattle.http_wire.specs.HeadReading.{FindsHead}
+use Rattle.upload_wire.specs.AnswerReading.{fields_of, FindsBody, FindsBodyIn, IsFramingFault, Says, fault_of}
+use Rattle.http_wire.specs.declared.responses.parsed.ParsedResponse.{ParsedResponse}
 use Rattle.upload_wire.specs.declared.client.framing.AnswerFraming.{AnswerFraming}
 use Rattle.upload_wire.specs.declared.client.framing.AnswerFraming.TheVariants.{Sized, ToEnd}
 use Rattle.upload_wire.specs.declared.client.heard.Heard.{Heard}
 use Rattle.upload_wire.specs.declared.client.heard.HeardFault.{HeardFault}
 use Rattle.upload_wire.specs.declared.client.heard.HeardFault.TheVariants as Fault
-use Rattle.upload_wire.specs.declared.fault.WireFault.{WireFault}
-use Rattle.upload_wire.specs.declared.fault.WireFault.TheVariants as Wire
-use Rattle.upload_wire.proofs.GaveLemmas.{consumes_both, consumes_none}
+use Rattle.http_wire.specs.declared.fault.WireFault.{WireFault}
+use Rattle.http_wire.specs.declared.fault.WireFault.TheVariants as Wire
+use Rattle.http_wire.proofs.GaveLemmas.{consumes_both, consumes_none}
 
 -- the head that the spans cover
-abbrev pub the_head : {text : List ℕ} {p : ParsedAnswer} → IsHeadAtFront text p → ResponseHead
+abbrev pub the_head : {text : List ℕ} {p : ParsedResponse} → IsHeadAtFront text p → ResponseHead
 the_head f = f.head.1.0
 
 drop_all : (n : ℕ) (text : List ℕ) → n ≤ length text → drop n (take n text) ≡ []
 drop_all n text le = drop_of_length-le (take n text) (omega (arith, length-take n text))
 
-front_printed : (text : List ℕ) (p : ParsedAnswer) (f : IsHeadAtFront text p) → take p.spans.len text ≡ print_response (the_head f)
+front_printed : (text : List ℕ) (p : ParsedResponse) (f : IsHeadAtFront text p) → take p.spans.len text ≡ print_response (the_head f)
 front_printed text p f =
     f.head.1.1.reads.1 ∙ ap (λ t. print_response (the_head f) ++ t) (drop_all p.spans.len text f.in_range) ∙ append-nil (print_response (the_head f))
 
-fields_same : (text : List ℕ) (p : ParsedAnswer) (f : IsHeadAtFront text p) → fields_of (take p.spans.len text) p ≡ head_fields (the_head f)
+fields_same : (text : List ℕ) (p : ParsedResponse) (f : IsHeadAtFront text p) → fields_of (take p.spans.len text) p ≡ head_fields (the_head f)
 fields_same text p f = f.head.1.1.fields
 
-head_reads : (text : List ℕ) (p : ParsedAnswer) (f : IsHeadAtFront text p) → ReadsHead text (the_head f) (drop p.spans.len text)
+head_reads : (text : List ℕ) (p : ParsedResponse) (f : IsHeadAtFront text p) → ReadsHead text (the_head f) (drop p.spans.len text)
 head_reads text p f =
     let printed = front_printed text p f in
     let len = f.head.1.1.len in
@@ -55,7 +61,7 @@ head_reads text p f =
     }
 
 -- a head at the front is there when more comes
-head_kept : (text more : List ℕ) (p : ParsedAnswer) → IsHeadAtFront text p → IsHeadAtFront (text ++ more) p
+head_kept : (text more : List ℕ) (p : ParsedResponse) → IsHeadAtFront text p → IsHeadAtFront (text ++ more) p
 head_kept text more p f =
     let fits = f.in_range in
     record {
@@ -65,7 +71,7 @@ head_kept text more p f =
     }
 
 -- the framing of the head at the front
-framed : (h : Bool) (text : List ℕ) (p : ParsedAnswer) (r : Result AnswerFraming HeardFault) (f : IsHeadAtFront text p)
+framed : (h : Bool) (text : List ℕ) (p : ParsedResponse) (r : Result AnswerFraming HeardFault) (f : IsHeadAtFront text p)
     → framing_of h p.spans.code (fields_of (take p.spans.len text) p) ≡ r → ReadsFramed h text r (the_head f) (drop p.spans.len text)
 framed h text p r f e = record {
   reads = head_reads text p f;
@@ -74,7 +80,7 @@ framed h text p r f e = record {
 }
 
 -- a refused framing
-unframed : (h : Bool) (text rest : List ℕ) (new : Option (List ℕ)) (keep : Bool) (p : ParsedAnswer) (e : HeardFault) → IsHeadAtFront text p
+unframed : (h : Bool) (text rest : List ℕ) (new : Option (List ℕ)) (keep : Bool) (p : ParsedResponse) (e : HeardFault) → IsHeadAtFront text p
     → framing_of h p.spans.code (fields_of (take p.spans.len text) p) ≡ Err e → IsFramingFault e → FindsAnswer h text rest new (Err e) keep
 unframed h text rest new keep p Fault.Unreadable f e is =
     inr (inl (record { head = the_head f; rest = drop p.spans.len text; framed = framed h text p (Err Fault.Unreadable) f e }))
@@ -94,7 +100,7 @@ found_at_once h held rest known r keep found = record {
 }
 
 -- what the body is, behind the head
-body_found : (h : Bool) (text after body rest : List ℕ) (new : Option (List ℕ)) (keep : Bool) (p : ParsedAnswer) (framing : AnswerFraming) (e : HeardFault) (f : IsHeadAtFront text p)
+body_found : (h : Bool) (text after body rest : List ℕ) (new : Option (List ℕ)) (keep : Bool) (p : ParsedResponse) (framing : AnswerFraming) (e : HeardFault) (f : IsHeadAtFront text p)
     → ReadsFramed h text (Ok framing) (the_head f) after → FindsBodyIn framing after body rest new (Err e) → FindsAnswer h text rest new (Err e) keep
 body_found h text after body rest new keep p (Sized n) Fault.Truncated f r b =
     (b.1, inr (record { head = the_head f; rest = after; size = n; framed = r; cut = b.0 }))
@@ -121,7 +127,7 @@ says_found h text rest new head body (Err Fault.Read) keep whole says keeps = ab
 says_found h text rest new head body (Err Fault.TooLarge) keep whole says keeps = absurd says
 says_found h text rest new head body (Err Fault.Ended) keep whole says keeps = absurd says
 
-module _ (h : Bool) (held rest body : List ℕ) (old new : Option (List ℕ)) (keep : Bool) (p : ParsedAnswer) (framing : AnswerFraming) (f : IsHeadAtFront held p)
+module _ (h : Bool) (held rest body : List ℕ) (old new : Option (List ℕ)) (keep : Bool) (p : ParsedResponse) (framing : AnswerFraming) (f : IsHeadAtFront held p)
     (is : Ok framing ≡ framing_of h p.spans.code (fields_of (take p.spans.len held) p)) where
   same_front : (given : List ℕ) → take p.spans.len (held ++ given) ≡ take p.spans.len held
   same_front given = take-append-le p.spans.len held given f.in_range
@@ -167,18 +173,18 @@ module _ (h : Bool) (held rest body : List ℕ) (old new : Option (List ℕ)) (k
 -- ---- the same, where the head was sliced and then taken out of the buffer
 
 -- where the framing of the sliced head is that of the head at the front
-framing_at : (h : Bool) (held slice : List ℕ) (p : ParsedAnswer) (r : Result AnswerFraming HeardFault) → slice ≡ held
+framing_at : (h : Bool) (held slice : List ℕ) (p : ParsedResponse) (r : Result AnswerFraming HeardFault) → slice ≡ held
     → r ≡ framing_of h p.spans.code (fields_of (take p.spans.len slice) p) → r ≡ framing_of h p.spans.code (fields_of (take p.spans.len held) p)
 framing_at h held slice p r slice_is is = subst (λ t. r ≡ framing_of h p.spans.code (fields_of (take p.spans.len t) p)) slice_is is
 
 -- a refused framing of the head
-pub framing_refused : (h : Bool) (held slice rest : List ℕ) (known : Option (List ℕ)) (keep : Bool) (p : ParsedAnswer) (e : HeardFault) → IsHeadAtFront held p → slice ≡ held
+pub framing_refused : (h : Bool) (held slice rest : List ℕ) (known : Option (List ℕ)) (keep : Bool) (p : ParsedResponse) (e : HeardFault) → IsHeadAtFront held p → slice ≡ held
     → Err e ≡ framing_of h p.spans.code (fields_of (take p.spans.len slice) p) → IsFramingFault e → ReadsAnswer h held known rest known (Err e) keep
 framing_refused h held slice rest known keep p e f slice_is is fault =
     found_at_once h held rest known (Err e) keep (unframed h held rest known keep p e f (sym (framing_at h held slice p (Err e) slice_is is)) fault)
 
 -- a fault of the body behind the head
-pub fault_behind : (h : Bool) (held slice front body rest : List ℕ) (old new : Option (List ℕ)) (keep : Bool) (p : ParsedAnswer) (framing : AnswerFraming) (e : HeardFault)
+pub fault_behind : (h : Bool) (held slice front body rest : List ℕ) (old new : Option (List ℕ)) (keep : Bool) (p : ParsedResponse) (framing : AnswerFraming) (e : HeardFault)
     → IsHeadAtFront held p → slice ≡ held → Ok framing ≡ framing_of h p.spans.code (fields_of (take p.spans.len slice) p)
     → front ≡ drop p.spans.len held → FindsBody framing front old body rest new (Err e) → ReadsAnswer h held old rest new (Err e) keep
 fault_behind h held slice front body rest old new keep p framing e f slice_is is front_is b =
@@ -186,7 +192,7 @@ fault_behind h held slice front body rest old new keep p framing e f slice_is is
     (subst (λ t. FindsBody framing t old body rest new (Err e)) front_is b)
 
 -- a body behind the head
-pub reply_behind : (h : Bool) (held slice front body seen rest : List ℕ) (old new : Option (List ℕ)) (keep : Bool) (p : ParsedAnswer) (framing : AnswerFraming) (u : ⊤)
+pub reply_behind : (h : Bool) (held slice front body seen rest : List ℕ) (old new : Option (List ℕ)) (keep : Bool) (p : ParsedResponse) (framing : AnswerFraming) (u : ⊤)
     (r : Result Heard HeardFault)
     → IsHeadAtFront held p → slice ≡ held → Ok framing ≡ framing_of h p.spans.code (fields_of (take p.spans.len slice) p)
     → front ≡ drop p.spans.len held → FindsBody framing front old body rest new (Ok u) → seen ≡ body
@@ -218,9 +224,21 @@ found_after h held text rest old new r keep gave found =
     record { given = gave.0; consumed = gave.1; found = subst (λ t. FindsAnswer h t rest new r keep) gave.2 found }
 
 -- a fault of the head
-pub head_fault : (h : Bool) (text rest : List ℕ) (new : Option (List ℕ)) (keep : Bool) (fault : WireFault) → FindsHead text new (Err fault)
+-- there is no head in no byte
+pub unfinished : (text : List ℕ) → (text ≡ []) ⊎ ((0 < length text) × IsUnfinished text) → IsUnfinished text
+unfinished text (inl e) = record {
+  short = let l = ap length e in omega (arith, l);
+  none = subst (HasNone responses) (sym e) (none_at_start responses head_ends);
+}
+unfinished text (inr u) = u.1
+
+pub head_over : (h : Bool) (text rest : List ℕ) (new : Option (List ℕ)) (keep : Bool) → (text ≡ []) × IsAtEnd new
+    → FindsAnswer h text rest new (Err Fault.Truncated) keep
+head_over h text rest new keep b = (b.1, inl (unfinished text (inl b.0)))
+
+pub head_fault : (h : Bool) (text rest : List ℕ) (new : Option (List ℕ)) (keep : Bool) (fault : WireFault) → FindsHead response_spans text new (Err fault)
     → FindsAnswer h text rest new (Err (fault_of fault)) keep
-head_fault h text rest new keep Wire.Truncated b = (b.1, inl b.0)
-head_fault h text rest new keep Wire.Read b = inl b
+head_fault h text rest new keep Wire.Truncated b = (b.1, inl b.0.1)
+head_fault h text rest new keep Wire.Read b = inl (unfinished text b)
 head_fault h text rest new keep Wire.NoMemory b = absurd b
 head_fault h text rest new keep Wire.Ended b = absurd b

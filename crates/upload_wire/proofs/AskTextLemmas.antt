@@ -1,5 +1,5 @@
 -- The texts of requests, from the pieces that are written.
-use Rattle.std.proofs.Common.{◌≡◌, ℕ, List, [], ◌++◌, append_assoc}
+use Rattle.std.proofs.Common.{◌≡◌, ℕ, List, [], ◌++◌, append_assoc, ap, refl, ◌∙◌}
 use Rattle.std.specs.Prelude.{Option, Some, codes, decimal, flat_map}
 use Rattle.std.proofs.lemmas.List.{append-nil}
 use Rattle.std.proofs.lemmas.Grind.{flat_map-append}
@@ -49,3 +49,12 @@ upload_section before range body = simp (append_assoc, flat_map-append)
 pub whole_text : (ask : Ask) (host body : List ℕ) → body ≡ (message_of ask).body
     → (([] ++ request_line (message_of ask)) ++ host_text host) ++ section_text (message_of ask).fields ++ body ≡ ask_text ask host
 whole_text ask host body e = rw e (simp append_assoc)
+
+pub whole_chunk : (name at : List ℕ) (range : Extent) (body host text : List ℕ) → text ≡ reference_text at
+    → (([] ++ (codes "PATCH" ++ (codes " /v2/" ++ (name ++ (codes "/blobs/uploads/" ++ text))))) ++ host_text host)
+    ++ section_text (range_fields range ++ body_fields body) ++ body
+    ≡ ask_text (Chunk name at range body) host
+whole_chunk name at range body host text e =
+    ap (λ (line : List ℕ). (([] ++ line) ++ host_text host) ++ section_text (range_fields range ++ body_fields body) ++ body)
+    (chunk_line name at range body text e)
+    ∙ whole_text (Chunk name at range body) host body refl

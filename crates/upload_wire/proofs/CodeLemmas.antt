@@ -7,8 +7,8 @@ use Rattle.std.proofs.lemmas.Bool.{cases_Bool}
 use Rattle.serde_json.specs.Data.{Data}
 use Rattle.serde_json.specs.Read.{read}
 use Rattle.upload_wire.specs.AnswerText.{code_in, code_of, first_of}
-use Rattle.upload_wire.specs.Fields.{Fields, values_of, same_word}
-use Rattle.upload_wire.proofs.FieldLemmas.{values_of-same, values_of-differs}
+use Rattle.http_wire.specs.Fields.{Fields, values_of, same_word}
+use Rattle.http_wire.proofs.FieldLemmas.{values_of-same, values_of-differs}
 
 pub code_none : (body : List ℕ) → (IsUtf8 body → read body ≡ None) → None ≡ code_of body
 code_none body none = elim (cases_Bool (is_utf8 body)) [

@@ -6,7 +6,7 @@ use Rattle.std.proofs.lemmas.List.{append-nil}
 use Rattle.std.proofs.lemmas.Grind.{flat_map-append}
 use Rattle.std.specs.Io.KnownBytes.{Consumes}
 use Rattle.upload_service.specs.declared.ask.Ask.{Ask}
-use Rattle.upload_wire.specs.declared.fault.WireFault.TheVariants as Wire
+use Rattle.http_wire.specs.declared.fault.WireFault.TheVariants as Wire
 use Rattle.upload_wire.specs.declared.request.Style.{Style}
 use Rattle.upload_wire.specs.declared.request.Next.TheVariants.{Request}
 use Rattle.upload_wire.specs.declared.connection.ConnEnd.{ConnEnd}
@@ -14,11 +14,11 @@ use Rattle.upload_wire.specs.declared.connection.ConnEnd.TheVariants.{Clean, Aft
 use Rattle.upload_wire.specs.declared.connection.ConnFault.TheVariants as Conn
 use Rattle.upload_wire.specs.RequestText.{ReadsNext}
 use Rattle.upload_wire.specs.ReplyText.{reply}
-use Rattle.upload_wire.specs.Writing.{Sink, TookAll}
+use Rattle.http_wire.specs.Writing.{Sink, TookAll}
 use Rattle.upload_wire.specs.Conversation.{Moves, Exchange, Source, IsKept, messages, replies, Answers, Serves, EndsWith, ReadsFail, IsConversation}
 use Rattle.upload_wire.specs.ConversationSteps.{AnswersOne, GoesOn, Stops}
-use Rattle.upload_wire.proofs.GaveLemmas.{consumes_none, consumes_both}
-use Rattle.upload_wire.proofs.WritingLemmas.{appends_none, took_both}
+use Rattle.http_wire.proofs.GaveLemmas.{consumes_none, consumes_both}
+use Rattle.http_wire.proofs.WritingLemmas.{appends_none, took_both}
 
 pub took_none : (a : Sink) → TookAll a a []
 took_none a = record { grown = appends_none a.contents; unfailed = refl }

@@ -7,41 +7,43 @@ use Rattle.httparse.specs.Grammar.{RequestHead, print_request}
 use Rattle.httparse.specs.Spans.{span_bytes, header_bytes, name_and_value}
 use Rattle.upload_service.specs.declared.ask.Ask.{Ask}
 use Rattle.upload_service.specs.declared.ask.Extent.{Extent}
-use Rattle.upload_wire.specs.Fronts.{ReadsHead}
-use Rattle.upload_wire.specs.Fields.{head_fields, values_of, keeps_connection}
-use Rattle.upload_wire.specs.Body.{framing_of, head_framing}
+use Rattle.http_wire.specs.RequestFronts.{ReadsHead}
+use Rattle.http_wire.specs.Fields.{head_fields, values_of, keeps_connection}
+use Rattle.http_wire.specs.Body.{framing_of, head_framing}
 use Rattle.upload_wire.specs.Target.{Asks, AsksWhole, extent_of, head_range, with_body}
-use Rattle.upload_wire.specs.HeadReading.{IsHeadAtFront}
-use Rattle.upload_wire.specs.FieldReading.{fields_of}
-use Rattle.upload_wire.specs.Reading.{Gave}
-use Rattle.upload_wire.specs.BodyFinding.{TakesBody, RefusesBodyText, CutsBody, FindsBody}
+use Rattle.http_wire.specs.RequestSpans.{IsHeadAtFront}
+use Rattle.http_wire.specs.FieldReading.{fields_of}
+use Rattle.http_wire.specs.Reading.{Gave}
+use Rattle.http_wire.specs.BodyFinding.{TakesBody, RefusesBodyText, CutsBody, FindsBody}
 use Rattle.upload_wire.specs.RequestReading.{Describes}
 use Rattle.upload_wire.specs.RequestText.{style_of, HasCutBody, FindsNext, ReadsNext}
-use Rattle.upload_wire.specs.declared.parsed.ParsedHead.{ParsedHead}
-use Rattle.upload_wire.specs.declared.framing.Framing.{Framing}
-use Rattle.upload_wire.specs.declared.fault.WireFault.{WireFault}
-use Rattle.upload_wire.specs.declared.fault.WireFault.TheVariants as Fault
+use Rattle.http_wire.specs.declared.requests.parsed.ParsedRequest.{ParsedRequest}
+use Rattle.http_wire.specs.declared.framing.Framing.{Framing}
+use Rattle.http_wire.specs.declared.fault.Bad.{Bad}
+use Rattle.http_wire.specs.declared.fault.WireFault.{WireFault}
+use Rattle.http_wire.specs.declared.fault.WireFault.TheVariants as Fault
 use Rattle.upload_wire.specs.declared.request.Style.{Style}
 use Rattle.upload_wire.specs.declared.request.Next.{Next}
-use Rattle.upload_wire.specs.declared.request.Next.TheVariants.{Request, Bad}
-use Rattle.upload_wire.proofs.GaveLemmas.{consumes_none, consumes_both}
+use Rattle.upload_wire.specs.declared.request.Next.TheVariants.{Request}
+use Rattle.upload_wire.specs.declared.request.Next.TheVariants as nexts
+use Rattle.http_wire.proofs.GaveLemmas.{consumes_none, consumes_both}
 
 -- the head that the spans cover
-abbrev pub the_head : {text : List ℕ} {p : ParsedHead} → IsHeadAtFront text p → RequestHead
+abbrev pub the_head : {text : List ℕ} {p : ParsedRequest} → IsHeadAtFront text p → RequestHead
 the_head f = f.head.1.0
 
 drop_all : (n : ℕ) (text : List ℕ) → n ≤ length text → drop n (take n text) ≡ []
 drop_all n text le = drop_of_length-le (take n text) (omega (arith, length-take n text))
 
-front_printed : (text : List ℕ) (p : ParsedHead) (f : IsHeadAtFront text p) → take p.spans.len text ≡ print_request (the_head f)
+front_printed : (text : List ℕ) (p : ParsedRequest) (f : IsHeadAtFront text p) → take p.spans.len text ≡ print_request (the_head f)
 front_printed text p f =
     f.head.1.1.reads.1 ∙ ap (λ t. print_request (the_head f) ++ t) (drop_all p.spans.len text f.in_range) ∙ append-nil (print_request (the_head f))
 
-fields_same : (text : List ℕ) (p : ParsedHead) (f : IsHeadAtFront text p) → fields_of (take p.spans.len text) p ≡ head_fields (the_head f)
+fields_same : (text : List ℕ) (p : ParsedRequest) (f : IsHeadAtFront text p) → fields_of (take p.spans.len text) p ≡ head_fields (the_head f)
 fields_same text p f = f.head.1.1.fields
 
 -- the head, and then any text
-pub head_then : (text more : List ℕ) (p : ParsedHead) (f : IsHeadAtFront text p) → ReadsHead (take p.spans.len text ++ more) (the_head f) more
+pub head_then : (text more : List ℕ) (p : ParsedRequest) (f : IsHeadAtFront text p) → ReadsHead (take p.spans.len text ++ more) (the_head f) more
 head_then text more p f =
     let len = f.head.1.1.len in
     let short = f.short in
@@ -61,7 +63,7 @@ head_then text more p f =
     }
 
 -- what the fields of the spans frame, the head frames
-framing_same : (max : ℕ) (text : List ℕ) (p : ParsedHead) (r : Result Framing ℕ) (f : IsHeadAtFront text p)
+framing_same : (max : ℕ) (text : List ℕ) (p : ParsedRequest) (r : Result Framing Bad) (f : IsHeadAtFront text p)
     → r ≡ framing_of max p.spans.version (fields_of (take p.spans.len text) p) → head_framing max (the_head f) ≡ r
 framing_same max text p r f framed =
     ap (λ n. framing_of max n (head_fields (the_head f))) (sym f.head.1.1.version)
@@ -72,7 +74,7 @@ whole_text : (text given more : List ℕ) (n : ℕ) → more ≡ drop n text ++ 
 whole_text text given more n same =
     ap (λ t. t ++ given) (sym (take-append-drop n text)) ∙ append_assoc (take n text) (drop n text) given ∙ ap (λ t. take n text ++ t) (sym same)
 
-asks_same : (text body : List ℕ) (p : ParsedHead) (ask : Ask) (style : Style) (f : IsHeadAtFront text p)
+asks_same : (text body : List ℕ) (p : ParsedRequest) (ask : Ask) (style : Style) (f : IsHeadAtFront text p)
     → Describes (take p.spans.len text) p ask style → AsksWhole (the_head f) body (with_body ask body)
 asks_same text body p ask style f d =
     let h = the_head f in
@@ -85,7 +87,7 @@ asks_same text body p ask style f d =
     subst (λ t. Asks (span_bytes front p.spans.method) t (head_range h) ask) f.head.1.1.path by_range in
     (ask, subst (λ m. Asks m h.target (head_range h) ask) f.head.1.1.method by_target, refl)
 
-style_same : (text : List ℕ) (p : ParsedHead) (ask : Ask) (style : Style) (f : IsHeadAtFront text p)
+style_same : (text : List ℕ) (p : ParsedRequest) (ask : Ask) (style : Style) (f : IsHeadAtFront text p)
     → Describes (take p.spans.len text) p ask style → style ≡ style_of (the_head f)
 style_same text p ask style f d =
     let h = the_head f in
@@ -95,7 +97,7 @@ style_same text p ask style f d =
     ∙ ap (keeps_connection h.minor) (fields_same text p f) in
     (λ i. record { head = is_head i; keep = keeps i })
 
-pub request_next : (max : ℕ) (old new : Option (List ℕ)) (held rest body : List ℕ) (p : ParsedHead) (framing : Framing) (ask : Ask) (style : Style)
+pub request_next : (max : ℕ) (old new : Option (List ℕ)) (held rest body : List ℕ) (p : ParsedRequest) (framing : Framing) (ask : Ask) (style : Style)
     (f : IsHeadAtFront held p) → Ok framing ≡ framing_of max p.spans.version (fields_of (take p.spans.len held) p)
     → Describes (take p.spans.len held) p ask style → TakesBody max framing old (drop p.spans.len held) new rest body
     → ReadsNext max held old rest new (Ok (Request (with_body ask body) style))
@@ -119,23 +121,23 @@ request_next max old new held rest body p framing ask style f framed d b = recor
   };
 }
 
-pub bad_framing_next : (max : ℕ) (old : Option (List ℕ)) (held : List ℕ) (p : ParsedHead) (number : ℕ) (f : IsHeadAtFront held p)
-    → Err number ≡ framing_of max p.spans.version (fields_of (take p.spans.len held) p) → ReadsNext max held old held old (Ok (Bad number))
-bad_framing_next max old held p number f refused = record {
+pub bad_framing_next : (max : ℕ) (old : Option (List ℕ)) (held : List ℕ) (p : ParsedRequest) (why : Bad) (f : IsHeadAtFront held p)
+    → Err why ≡ framing_of max p.spans.version (fields_of (take p.spans.len held) p) → ReadsNext max held old held old (Ok (nexts.Bad why))
+bad_framing_next max old held p why f refused = record {
   given = [];
   consumed = consumes_none old;
   found = inr (inr (inl (record {
     head = the_head f;
     rest = drop p.spans.len held;
     reads = subst (λ t. ReadsHead t (the_head f) (drop p.spans.len held)) (take-append-drop p.spans.len held ∙ sym (append-nil held)) (head_then held (drop p.spans.len held) p f);
-    refused = framing_same max held p (Err number) f refused;
+    refused = framing_same max held p (Err why) f refused;
   })));
 }
 
-pub bad_body_next : (max : ℕ) (old new : Option (List ℕ)) (held rest : List ℕ) (p : ParsedHead) (framing : Framing) (number : ℕ) (f : IsHeadAtFront held p)
+pub bad_body_next : (max : ℕ) (old new : Option (List ℕ)) (held rest : List ℕ) (p : ParsedRequest) (framing : Framing) (why : Bad) (f : IsHeadAtFront held p)
     → Ok framing ≡ framing_of max p.spans.version (fields_of (take p.spans.len held) p)
-    → RefusesBodyText max framing old (drop p.spans.len held) new number → ReadsNext max held old rest new (Ok (Bad number))
-bad_body_next max old new held rest p framing number f framed b = record {
+    → RefusesBodyText max framing old (drop p.spans.len held) new why → ReadsNext max held old rest new (Ok (nexts.Bad why))
+bad_body_next max old new held rest p framing why f framed b = record {
   given = b.gave.0;
   consumed = b.gave.1;
   found = inr (inr (inr (record {
@@ -149,7 +151,7 @@ bad_body_next max old new held rest p framing number f framed b = record {
 }
 
 -- what came behind the head ends inside the body
-cut_next : (max : ℕ) (old new : Option (List ℕ)) (held : List ℕ) (p : ParsedHead) (framing : Framing) (f : IsHeadAtFront held p)
+cut_next : (max : ℕ) (old new : Option (List ℕ)) (held : List ℕ) (p : ParsedRequest) (framing : Framing) (f : IsHeadAtFront held p)
     → Ok framing ≡ framing_of max p.spans.version (fields_of (take p.spans.len held) p)
     → (b : CutsBody max framing old (drop p.spans.len held) new) → HasCutBody max (held ++ b.gave.0)
 cut_next max old new held p framing f framed b = record {
@@ -161,21 +163,21 @@ cut_next max old new held p framing f framed b = record {
   short = b.cut;
 }
 
-pub fault_next : (max : ℕ) (old new : Option (List ℕ)) (held rest : List ℕ) (p : ParsedHead) (framing : Framing) (e : WireFault) (f : IsHeadAtFront held p)
+pub fault_next : (max : ℕ) (old new : Option (List ℕ)) (held rest body : List ℕ) (p : ParsedRequest) (framing : Framing) (e : WireFault) (f : IsHeadAtFront held p)
     → Ok framing ≡ framing_of max p.spans.version (fields_of (take p.spans.len held) p)
-    → FindsBody max framing old (drop p.spans.len held) new rest (Err e) → ReadsNext max held old rest new (Err e)
-fault_next max old new held rest p framing Fault.Truncated f framed b = record {
+    → FindsBody max framing old (drop p.spans.len held) new rest body (Err e) → ReadsNext max held old rest new (Err e)
+fault_next max old new held rest body p framing Fault.Truncated f framed b = record {
   given = b.0.gave.0;
   consumed = b.0.gave.1;
   found = (inr (cut_next max old new held p framing f framed b.0), b.1);
 }
-fault_next max old new held rest p framing Fault.Read f framed b = record {
+fault_next max old new held rest body p framing Fault.Read f framed b = record {
   given = b.gave.0;
   consumed = b.gave.1;
   found = inr (inr (cut_next max old new held p framing f framed b));
 }
-fault_next max old new held rest p framing Fault.NoMemory f framed b = record { given = b.gave.0; consumed = b.gave.1; found = tt }
-fault_next max old new held rest p framing Fault.Ended f framed b = absurd b
+fault_next max old new held rest body p framing Fault.NoMemory f framed b = record { given = b.gave.0; consumed = b.gave.1; found = tt }
+fault_next max old new held rest body p framing Fault.Ended f framed b = absurd b
 
 pub no_memory_next : (max : ℕ) (old : Option (List ℕ)) (held : List ℕ) (e : WireFault) → e ≡ Fault.NoMemory → ReadsNext max held old held old (Err e)
 no_memory_next max old held e is =
@@ -190,7 +192,7 @@ reads_after max held text rest old mid new r gave next = record {
   found = subst (λ t. FindsNext max t rest new r) (ap (λ t. t ++ next.given) gave.2 ∙ append_assoc held gave.0 next.given) next.found;
 }
 
-pub described : (front : List ℕ) (p : ParsedHead) (ask : Ask) (style : Style) (method target : List ℕ) (range : Extent)
+pub described : (front : List ℕ) (p : ParsedRequest) (ask : Ask) (style : Style) (method target : List ℕ) (range : Extent)
     → method ≡ span_bytes front p.spans.method → target ≡ span_bytes front p.spans.path
     → range ≡ extent_of (values_of (codes "content-range") (fields_of front p)) → Asks method target range ask
     → style.head ≡ bytes_eq method (codes "HEAD") → style.keep ≡ keeps_connection p.spans.version (fields_of front p)

@@ -1,5 +1,5 @@
 -- The steps of a desk over a service, as a run of the service's machine.
-use Rattle.std.proofs.Common.{◌≡◌, ℕ, ◌≤◌, List, [], ◌∷◌, ◌++◌, length, sym, ap, ◌∙◌, subst, inl, inr, lit≤}
+use Rattle.std.proofs.Common.{◌≡◌, ℕ, List, [], ◌∷◌, ◌++◌, length, sym, ap, ◌∙◌, subst, inl, inr, ⊎_elim}
 use Rattle.std.specs.Prelude.{Option, Some, None, map}
 use Rattle.std.proofs.lemmas.List.{append-nil}
 use Rattle.upload_service.specs.Machine.{Turn}
@@ -8,10 +8,10 @@ use Rattle.upload_wire.specs.declared.connection.ConnEnd.{ConnEnd}
 use Rattle.upload_wire.specs.declared.connection.ConnEnd.TheVariants.{Clean, AfterClose, AfterBad, TooMany, DeskGone, Fault}
 use Rattle.upload_wire.specs.declared.connection.ConnFault.TheVariants as Conn
 use Rattle.upload_wire.specs.declared.desk.ServiceDesk.{ServiceDesk}
-use Rattle.upload_wire.specs.Writing.{Sink}
+use Rattle.http_wire.specs.Writing.{Sink}
 use Rattle.upload_wire.specs.Conversation.{Exchange, Source, Answers, EndsWith, IsConversation}
 use Rattle.upload_wire.specs.ServiceTurns.{StepsService}
-use Rattle.upload_wire.specs.ConnectionRuns.{service_exchange, IsRunOfService}
+use Rattle.upload_wire.specs.ConnectionRuns.{service_exchange, answered_last, answered, IsRunOfService}
 use Rattle.upload_wire.proofs.ConversationLemmas.{answers_more}
 
 same_said : {A : Type 0} (said answer : A) → ◌≡◌ {A = Option A} (Some answer) (Some said) → said ≡ answer
@@ -52,25 +52,25 @@ ran old new (x ∷ xs) h =
       same_moment = more.same_moment ∙ step.same_moment;
     }
 
-run_of : (old new : ServiceDesk) (xs last : List Exchange) (end : ConnEnd) → length last ≤ 1 → (end ≡ DeskGone → ⊥)
-    → Answers StepsService old (xs ++ last) new → IsRunOfService old new xs end
-run_of old new xs last end few there answers =
-    let all = ran old new (xs ++ last) answers in
-    record { last = last; few = few; run = all.run; same_secret = all.same_secret; same_moment = all.same_moment; never_gone = there }
+run_of : (old new : ServiceDesk) (xs : List Exchange) (end : ConnEnd) → (end ≡ DeskGone → ⊥) → Answers StepsService old xs new → IsRunOfService old new xs end
+run_of old new xs end there answers =
+    let all = ran old new xs answers in
+    record { run = all.run; same_secret = all.same_secret; same_moment = all.same_moment; never_gone = there }
 
 module _ (max_body count : ℕ) (old at new : ServiceDesk) (rest : List ℕ) (left : Option (List ℕ)) (mid after : Sink) (xs : List Exchange)
     (answers : Answers StepsService old xs at) where
   -- nothing more was asked
-  none_more : (end : ConnEnd) → (end ≡ DeskGone → ⊥) → new ≡ at → IsRunOfService old new xs end
+  none_more : (end : ConnEnd) → (end ≡ DeskGone → ⊥) → new ≡ at → IsRunOfService old new (xs ++ []) end
   none_more end there same =
-      run_of old new xs [] end (lit≤ tt) there
+      run_of old new (xs ++ []) end there
       (subst (λ ys. Answers StepsService old ys new) (sym (append-nil xs)) (subst (λ d. Answers StepsService old xs d) (sym same) answers))
 
-  one_more : (end : ConnEnd) (x : Exchange) → (end ≡ DeskGone → ⊥) → StepsService at x.ask (Some x.answer) new → IsRunOfService old new xs end
+  one_more : (end : ConnEnd) (x : Exchange) → (end ≡ DeskGone → ⊥) → StepsService at x.ask (Some x.answer) new → IsRunOfService old new (xs ++ x ∷ []) end
   one_more end x there step =
-      run_of old new xs (x ∷ []) end (lit≤ tt) there (answers_more StepsService old at new xs x answers step)
+      run_of old new (xs ++ x ∷ []) end there (answers_more StepsService old at new xs x answers step)
 
-  ended : (end : ConnEnd) → EndsWith StepsService max_body count at new rest left mid after end → IsRunOfService old new xs end
+  ended : (end : ConnEnd) (e : EndsWith StepsService max_body count at new rest left mid after end)
+      → IsRunOfService old new (xs ++ answered_last StepsService max_body count at new rest left mid after end e) end
   ended Clean e = none_more Clean (λ same. cc) e.2.unasked
   ended AfterClose e = one_more AfterClose e.0 (λ same. cc) e.1.answered
   ended AfterBad e = none_more AfterBad (λ same. cc) e.1.unasked
@@ -78,12 +78,13 @@ module _ (max_body count : ℕ) (old at new : ServiceDesk) (rest : List ℕ) (le
   ended DeskGone e = absurd (never_none e.0.gone.said e.0.gone.answered)
   ended (Fault (Conn.Wire fault)) e = none_more (Fault (Conn.Wire fault)) (λ same. cc) e.1.unasked
   ended (Fault Conn.Write) e =
-      elim e [
+      elim e as (λ e. IsRunOfService old new (xs ++ ⊎_elim (λ s. s.0 ∷ []) (λ s. []) e) (Fault Conn.Write)) [
         | inl h ↦ one_more (Fault Conn.Write) h.0 (λ same. cc) h.1.answered
         | inr h ↦ none_more (Fault Conn.Write) (λ same. cc) h.1.unasked
       ]
 
 pub run_of_conversation : (max_body : ℕ) (first left : Source) (old new : ServiceDesk) (before after : Sink) (end : ConnEnd)
-    → (c : IsConversation StepsService max_body first left old new before after end) → IsRunOfService old new c.exchanges end
+    → (c : IsConversation StepsService max_body first left old new before after end)
+    → IsRunOfService old new (answered StepsService max_body first left old new before after end c) end
 run_of_conversation max_body first left old new before after end c =
     ended max_body (length c.exchanges) old c.at new c.rest left.remaining c.mid after c.exchanges c.served.answered end c.ended

@@ -14,9 +14,9 @@ use Rattle.upload_names.specs.ByteRange.{Span, IsSpan, IsNumeral, capped_value, 
 use Rattle.upload_names.proofs.RangeFacts.{range_of-spelled}
 use Rattle.upload_service.specs.declared.ask.Extent.{Extent}
 use Rattle.upload_service.specs.declared.ask.Extent.TheVariants.{Absent, Bad, Given}
-use Rattle.upload_wire.specs.Fields.{Fields, values_of, keeps_connection}
-use Rattle.upload_wire.specs.Body.{framing_of, is_number, length_of}
-use Rattle.upload_wire.specs.declared.framing.Framing.TheVariants.{Length}
+use Rattle.http_wire.specs.Fields.{Fields, values_of, keeps_connection}
+use Rattle.http_wire.specs.Body.{framing_of, is_number, length_of}
+use Rattle.http_wire.specs.declared.framing.Framing.TheVariants.{Length}
 use Rattle.upload_wire.specs.Target.{extent_of, given_range}
 use Rattle.upload_wire.specs.AskText.{is_host, range_text, range_fields, body_fields, IsAbsentOrGiven}
 use Rattle.upload_wire.specs.ReplyText.{length_field}

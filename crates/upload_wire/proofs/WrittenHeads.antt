@@ -10,8 +10,9 @@ use Rattle.httparse.specs.Grammar.{AllPass, IsToken, IsField, Field, RequestHead
 use Rattle.httparse.specs.Ascii.{crlf_bytes}
 use Rattle.httparse.specs.Spans.{name_and_value}
 use Rattle.httparse.proofs.TrimLemmas.{trim_ows_space, AllPass-reverse}
-use Rattle.upload_wire.specs.Fronts.{ReadsHead, max_head, max_fields}
-use Rattle.upload_wire.specs.Fields.{Fields}
+use Rattle.http_wire.specs.Fronts.{max_head, max_fields}
+use Rattle.http_wire.specs.RequestFronts.{ReadsHead}
+use Rattle.http_wire.specs.Fields.{Fields}
 use Rattle.upload_wire.specs.AskText.{Message, print_message, target_of, request_line, host_text, section_text}
 use Rattle.upload_wire.specs.ReplyText as written
 use Rattle.upload_wire.proofs.PlainTexts.{AllPass-cons, AllPass-weaker}

@@ -20,11 +20,11 @@ use Rattle.upload_service.specs.declared.ask.Extent.{Extent}
 use Rattle.upload_service.specs.declared.ask.Extent.TheVariants.{Absent}
 use Rattle.upload_wire.specs.declared.target.PathForm.{PathForm}
 use Rattle.upload_wire.specs.declared.target.PathForm.TheVariants as Path
-use Rattle.upload_wire.specs.declared.framing.Framing.TheVariants.{Length}
-use Rattle.upload_wire.specs.Fronts.{max_head}
+use Rattle.http_wire.specs.declared.framing.Framing.TheVariants.{Length}
+use Rattle.http_wire.specs.Fronts.{max_head}
 use Rattle.upload_wire.specs.Query.{parameter}
-use Rattle.upload_wire.specs.Fields.{values_of, keeps_connection, head_fields}
-use Rattle.upload_wire.specs.Body.{framing_of}
+use Rattle.http_wire.specs.Fields.{values_of, keeps_connection, head_fields}
+use Rattle.http_wire.specs.Body.{framing_of}
 use Rattle.upload_wire.specs.RequestText.{IsRequest}
 use Rattle.upload_wire.specs.Target.{IsFormOf, ask_of_form, with_body, extent_of, upload_path, Asks}
 use Rattle.upload_wire.specs.AskText.{Message, message_of, print_message, target_of, query_text, is_host, look_method, digest_query, digest_or_nothing, IsAbsentOrGiven, CanBeWritten, ask_text}

@@ -1,64 +1,25 @@
 -- What the functions find that read a reply.
-use Rattle.std.specs.Prelude.{◌≡◌, ℕ, ◌+◌, ◌<◌, ◌≤◌, List, [], ◌++◌, length, map, min, take, drop, Option, Result, Ok, Err, ⊤}
+use Rattle.std.specs.Prelude.{◌≡◌, ℕ, ◌<◌, ◌≤◌, List, [], ◌++◌, length, map, min, take, drop, Option, Result, Ok, Err, ⊤}
 use Rattle.std.specs.Io.KnownBytes.{IsAtEnd}
-use Rattle.httparse.specs.Grammar.{HasNoResponse}
-use Rattle.httparse.specs.Spans.{IsResponseWithin, IsResponseOf, header_bytes}
-use Rattle.upload_wire.specs.Fronts.{max_head}
-use Rattle.upload_wire.specs.AnswerFronts.{IsRefused, IsTooLong, IsUnfinished, MayBeRefused}
-use Rattle.upload_wire.specs.Fields.{Fields}
-use Rattle.upload_wire.specs.Reading.{Gave}
-use Rattle.upload_wire.specs.BodyReading.{Moved, MovedNone}
+use Rattle.httparse.specs.Spans.{header_bytes}
+use Rattle.http_wire.specs.Fields.{Fields}
+use Rattle.http_wire.specs.Reading.{Gave}
+use Rattle.http_wire.specs.BodyReading.{Moved, MovedNone}
 use Rattle.upload_wire.specs.AnswerText.{IsBody, IsHeard, IsMisplaced, IsPlaceOf, location, max_answer, range, upto_of}
-use Rattle.upload_wire.specs.declared.client.parsed.ParsedAnswer.{ParsedAnswer}
-use Rattle.upload_wire.specs.declared.client.head.Verdict.{Verdict}
-use Rattle.upload_wire.specs.declared.client.head.Verdict.TheVariants.{Complete, Refused, Open}
-use Rattle.upload_wire.specs.declared.client.head.AnswerHead.{AnswerHead}
-use Rattle.upload_wire.specs.declared.client.head.AnswerHead.TheVariants as Found
+use Rattle.http_wire.specs.declared.responses.parsed.ParsedResponse.{ParsedResponse}
 use Rattle.upload_wire.specs.declared.client.framing.AnswerFraming.{AnswerFraming}
 use Rattle.upload_wire.specs.declared.client.framing.AnswerFraming.TheVariants.{Sized, ToEnd}
 use Rattle.upload_wire.specs.declared.client.heard.Heard.{Heard}
 use Rattle.upload_wire.specs.declared.client.heard.HeardFault.{HeardFault}
 use Rattle.upload_wire.specs.declared.client.heard.HeardFault.TheVariants as Fault
-use Rattle.upload_wire.specs.declared.fault.WireFault.{WireFault}
-use Rattle.upload_wire.specs.declared.fault.WireFault.TheVariants as Wire
+use Rattle.http_wire.specs.declared.fault.WireFault.{WireFault}
+use Rattle.http_wire.specs.declared.fault.WireFault.TheVariants as Wire
 
 -- ---- the head
 
--- the spans are those of a head that begins the text
-abbrev pub IsHeadOf : List ℕ → ParsedAnswer → Type 0
-IsHeadOf text p = IsResponseWithin text p.headers p.spans × IsResponseOf text p.headers p.spans
-
 -- the fields that the spans of a head cover
-abbrev pub fields_of : List ℕ → ParsedAnswer → Fields
+abbrev pub fields_of : List ℕ → ParsedResponse → Fields
 fields_of head p = map (header_bytes head) (take p.spans.headers p.headers)
-
--- what the verdict says of a front
-abbrev pub Judges : List ℕ → Verdict → Type 0
-Judges front (Complete p) = IsHeadOf front p
-Judges front Refused = MayBeRefused front
-Judges front Open = HasNoResponse front
-
--- the head is the first p.spans.len bytes of the text
-pub record IsHeadAtFront (text : List ℕ) (p : ParsedAnswer) : Type 0 where
-  pub short : p.spans.len ≤ max_head
-  pub in_range : p.spans.len ≤ length text
-  pub head : IsHeadOf (take p.spans.len text) p
-
--- what the verdict on the front that ends at an index says of the text
-abbrev pub JudgesAt : List ℕ → ℕ → Verdict → Type 0
-JudgesAt text at (Complete p) = IsHeadAtFront text p
-JudgesAt text at Refused = IsRefused text
-JudgesAt text at Open = HasNoResponse (take (at + 1) text)
-
--- what a read of a head found in the text that was read, where the source is left as new
-abbrev pub FindsHead : List ℕ → Option (List ℕ) → Result AnswerHead WireFault → Type 0
-FindsHead text new (Ok Found.Refused) = IsRefused text
-FindsHead text new (Ok Found.TooLong) = IsTooLong text
-FindsHead text new (Ok (Found.Head p)) = IsHeadAtFront text p
-FindsHead text new (Err Wire.Truncated) = IsUnfinished text × IsAtEnd new
-FindsHead text new (Err Wire.Read) = IsUnfinished text
-FindsHead text new (Err Wire.NoMemory) = ⊥
-FindsHead text new (Err Wire.Ended) = ⊥
 
 -- ---- the body
 

@@ -11,9 +11,9 @@ use Rattle.serde_json.specs.Data.{Data}
 use Rattle.serde_json.specs.Read.{read}
 use Rattle.serde_json.specs.Find.{get, at, as_str}
 use Rattle.upload_names.specs.ByteRange.{Span, range_of}
-use Rattle.upload_wire.specs.Fields.{Fields, values_of, keeps_connection}
-use Rattle.upload_wire.specs.Body.{is_number}
-use Rattle.upload_wire.specs.AnswerFronts.{ReadsHead, IsRefused, IsTooLong, IsUnfinished}
+use Rattle.http_wire.specs.Fields.{Fields, values_of, keeps_connection}
+use Rattle.http_wire.specs.Body.{is_number}
+use Rattle.http_wire.specs.ResponseFronts.{ReadsHead, IsRefused, IsTooLong, IsUnfinished}
 use Rattle.upload_wire.specs.declared.client.framing.AnswerFraming.{AnswerFraming}
 use Rattle.upload_wire.specs.declared.client.framing.AnswerFraming.TheVariants.{Sized, ToEnd}
 use Rattle.upload_wire.specs.declared.client.heard.Heard.{Heard}

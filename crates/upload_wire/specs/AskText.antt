@@ -10,6 +10,7 @@ use Rattle.upload_service.specs.declared.ask.Ask.{Ask}
 use Rattle.upload_service.specs.declared.ask.Ask.TheVariants.{Base, Has, Opening, Single, Mount, Chunk, Status, Close, Refused}
 use Rattle.upload_service.specs.declared.ask.Extent.{Extent}
 use Rattle.upload_service.specs.declared.ask.Extent.TheVariants.{Absent, Bad, Given}
+use Rattle.upload_wire.specs.declared.client.transport.LentChunk.{LentChunk}
 use Rattle.upload_wire.specs.Target.{blob_path, upload_path}
 use Rattle.upload_wire.specs.ReplyText.{ReplyField, print_field, length_field}
 
@@ -93,6 +94,10 @@ message_of (Chunk name at range body) = record { method = codes "PATCH"; path = 
 message_of (Status name at) = bare_message (codes "GET") (upload_path name (reference_text at))
 message_of (Close name at range digest body) = record { method = codes "PUT"; path = upload_path name (reference_text at); query = digest_query digest; fields = range_fields range ++ body_fields body; body = body }
 message_of (Refused refusal) = bare_message [] []
+
+-- the ask of a chunk that is lent
+abbrev pub ask_of_chunk : LentChunk → Ask
+ask_of_chunk chunk = Chunk chunk.name.now chunk.at chunk.range chunk.body.now
 
 -- the method is HEAD, whose reply has no body
 abbrev pub wants_head : Ask → Bool

@@ -1,24 +1,62 @@
--- A connection over a service: its exchanges are a run of the service's machine.
-use Rattle.std.specs.Prelude.{◌≡◌, ℕ, ◌≤◌, List, ◌++◌, length, map}
+-- What a conversation asked of its desk; and over a service: its exchanges are a run of the service's machine.
+use Rattle.std.specs.Prelude.{◌≡◌, ℕ, List, [], ◌∷◌, ◌++◌, length, map, Option}
+use Rattle.upload_service.specs.declared.ask.Ask.{Ask}
 use Rattle.upload_service.specs.Run.{Run}
 use Rattle.upload_service.specs.Run as service
-use Rattle.upload_wire.specs.Writing.{Sink}
-use Rattle.upload_wire.specs.Conversation.{Exchange, Source, IsConversation}
+use Rattle.http_wire.specs.Writing.{Sink}
+use Rattle.upload_wire.specs.Conversation.{Moves, Exchange, Source, EndsWith, IsConversation}
 use Rattle.upload_wire.specs.ServiceTurns.{StepsService}
 use Rattle.upload_wire.specs.declared.connection.ConnEnd.{ConnEnd}
-use Rattle.upload_wire.specs.declared.connection.ConnEnd.TheVariants.{DeskGone}
+use Rattle.upload_wire.specs.declared.connection.ConnEnd.TheVariants.{Clean, AfterClose, AfterBad, TooMany, DeskGone, Fault}
+use Rattle.upload_wire.specs.declared.connection.ConnFault.TheVariants as Conn
 use Rattle.upload_wire.specs.declared.desk.ServiceDesk.{ServiceDesk}
+use mathlib.Core.Logic.{⊎_elim}
+
+-- ---- what a conversation asked
+
+module _ {D : Type 0} (step : Moves D) (max_body count : ℕ) (at new : D) (rest : List ℕ) (left : Option (List ℕ)) (mid after : Sink) where
+  -- the exchange inside an end: the request behind all others, where it was answered
+  abbrev pub answered_last : (end : ConnEnd) → EndsWith step max_body count at new rest left mid after end → List Exchange
+  answered_last Clean e = []
+  answered_last AfterClose e = e.0 ∷ []
+  answered_last AfterBad e = []
+  answered_last TooMany e = e.0 ∷ []
+  answered_last DeskGone e = []
+  answered_last (Fault (Conn.Wire fault)) e = []
+  answered_last (Fault Conn.Write) e = ⊎_elim (λ s. s.0 ∷ []) (λ s. []) e
+
+  -- the request at which the desk was gone
+  abbrev pub unanswered_last : (end : ConnEnd) → EndsWith step max_body count at new rest left mid after end → List Ask
+  unanswered_last Clean e = []
+  unanswered_last AfterClose e = []
+  unanswered_last AfterBad e = []
+  unanswered_last TooMany e = []
+  unanswered_last DeskGone e = e.0.ask ∷ []
+  unanswered_last (Fault (Conn.Wire fault)) e = []
+  unanswered_last (Fault Conn.Write) e = []
+
+module _ {D : Type 0} (step : Moves D) (max_body : ℕ) (first left : Source) (old new : D) (before after : Sink) (end : ConnEnd)
+    (c : IsConversation step max_body first left old new before after end) where
+  -- all requests that the desk answered, in their order, and the one that it didn't
+  abbrev pub answered : List Exchange
+  answered = c.exchanges ++ answered_last step max_body (length c.exchanges) c.at new c.rest left.remaining c.mid after end c.ended
+
+  abbrev pub unanswered : List Ask
+  unanswered = unanswered_last step max_body (length c.exchanges) c.at new c.rest left.remaining c.mid after end c.ended
+
+-- ---- over a service
 
 -- an exchange of a connection as one of the service, with this secret and at this moment
 abbrev pub service_exchange : List ℕ → ℕ → Exchange → service.Exchange
 service_exchange secret now x = record { ask = x.ask; secret = secret; now = now; answer = x.answer }
 
--- The exchanges, and then the last if one ended the conversation, took the service from old to new, by one turn for each,
--- all with the desk's secret and at its moment, and the desk was not gone.
+abbrev pub service_exchanges : ServiceDesk → List Exchange → List service.Exchange
+service_exchanges desk xs = map (service_exchange desk.secret desk.now) xs
+
+-- The requests that were answered took the service from old to new, by one turn for each, all with the desk's secret and at
+-- its moment, and the desk was not gone.
 pub record IsRunOfService (old new : ServiceDesk) (exchanges : List Exchange) (end : ConnEnd) : Type 0 where
-  pub last : List Exchange
-  pub few : length last ≤ 1
-  pub run : Run old.service (map (service_exchange old.secret old.now) (exchanges ++ last)) new.service
+  pub run : Run old.service (service_exchanges old exchanges) new.service
   pub same_secret : new.secret ≡ old.secret
   pub same_moment : new.now ≡ old.now
   pub never_gone : ¬ (end ≡ DeskGone)
@@ -27,4 +65,5 @@ pub record IsRunOfService (old new : ServiceDesk) (exchanges : List Exchange) (e
 abbrev pub ConversationsRunTheService : Type 0
 ConversationsRunTheService =
     (max_body : ℕ) (first left : Source) (old new : ServiceDesk) (before after : Sink) (end : ConnEnd)
-    → (c : IsConversation StepsService max_body first left old new before after end) → IsRunOfService old new c.exchanges end
+    → (c : IsConversation StepsService max_body first left old new before after end)
+    → IsRunOfService old new (answered StepsService max_body first left old new before after end c) end

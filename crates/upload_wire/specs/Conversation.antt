@@ -5,12 +5,13 @@ use Rattle.std.specs.List.{AllByRecursion}
 use Rattle.std.specs.Io.KnownBytes.{Consumes, IsAtEnd}
 use Rattle.upload_service.specs.declared.ask.Ask.{Ask}
 use Rattle.upload_service.specs.declared.answer.Answer.{Answer}
-use Rattle.upload_wire.specs.Counts.{CountsUp}
+use Rattle.http_wire.specs.Counts.{CountsUp}
 use Rattle.upload_wire.specs.RequestText.{IsRequest, IsBad, IsTruncated, HoldsNone}
 use Rattle.upload_wire.specs.ReplyText.{reply, bad}
-use Rattle.upload_wire.specs.Writing.{Sink, TookAll, TookFront}
-use Rattle.upload_wire.specs.declared.fault.WireFault.{WireFault}
-use Rattle.upload_wire.specs.declared.fault.WireFault.TheVariants as Wire
+use Rattle.http_wire.specs.Writing.{Sink, TookAll, TookFront}
+use Rattle.http_wire.specs.declared.fault.Bad.{Bad}
+use Rattle.http_wire.specs.declared.fault.WireFault.{WireFault}
+use Rattle.http_wire.specs.declared.fault.WireFault.TheVariants as Wire
 use Rattle.upload_wire.specs.declared.request.Style.{Style}
 use Rattle.upload_wire.specs.declared.connection.ConnEnd.{ConnEnd}
 use Rattle.upload_wire.specs.declared.connection.ConnEnd.TheVariants.{Clean, AfterClose, AfterBad, TooMany, DeskGone, Fault}
@@ -97,8 +98,8 @@ pub record FindsNoDesk {D : Type 0} (step : Moves D) (max_body : ℕ) (at new : 
   pub gone : step at ask None new
 
 -- rest is refused as a request, and the desk wasn't asked
-pub record Refuses {D : Type 0} (max_body : ℕ) (at new : D) (rest : List ℕ) (number : ℕ) : Type 0 where
-  pub bad : IsBad max_body rest number
+pub record Refuses {D : Type 0} (max_body : ℕ) (at new : D) (rest : List ℕ) (why : Bad) : Type 0 where
+  pub bad : IsBad max_body rest why
   pub unasked : new ≡ at
 
 -- the desk wasn't asked, and nothing was written
@@ -120,14 +121,14 @@ EndsWith step max_body count at new rest left mid after Clean = (rest ≡ []) ×
 EndsWith step max_body count at new rest left mid after AfterClose =
     (x : Exchange) × AnswersNext step max_body at new rest x × (x.style.keep ≡ false) × TookAll mid after (last_reply count x)
 EndsWith step max_body count at new rest left mid after AfterBad =
-    (number : ℕ) × Refuses max_body at new rest number × TookAll mid after (bad number)
+    (why : Bad) × Refuses max_body at new rest why × TookAll mid after (bad why)
 EndsWith step max_body count at new rest left mid after TooMany =
     (x : Exchange) × AnswersNext step max_body at new rest x × (x.style.keep ≡ true) × (count + 1 ≡ max_requests) × TookAll mid after (last_reply count x)
 EndsWith step max_body count at new rest left mid after DeskGone = FindsNoDesk step max_body at new rest × TookAll mid after []
 EndsWith step max_body count at new rest left mid after (Fault (Conn.Wire fault)) = WireStops max_body rest left fault × IsQuiet at new mid after
 EndsWith step max_body count at new rest left mid after (Fault Conn.Write) =
     ((x : Exchange) × AnswersNext step max_body at new rest x × TookFront mid after (last_reply count x))
-    ⊎ ((number : ℕ) × Refuses max_body at new rest number × TookFront mid after (bad number))
+    ⊎ ((why : Bad) × Refuses max_body at new rest why × TookFront mid after (bad why))
 
 -- a read failed where the end says so, and nowhere else
 abbrev pub ReadsFail : ConnEnd → ℕ → ℕ → Type 0

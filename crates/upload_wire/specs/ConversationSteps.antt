@@ -4,7 +4,7 @@ use Rattle.std.specs.Io.KnownBytes.{Consumes}
 use Rattle.upload_service.specs.declared.ask.Ask.{Ask}
 use Rattle.upload_service.specs.declared.answer.Answer.{Answer}
 use Rattle.upload_wire.specs.ReplyText.{reply}
-use Rattle.upload_wire.specs.Writing.{Sink, TookAll, TookFront}
+use Rattle.http_wire.specs.Writing.{Sink, TookAll, TookFront}
 use Rattle.upload_wire.specs.Conversation.{Moves, Exchange, IsKept, Source, EndsWith, ReadsFail, max_requests, last_style}
 use Rattle.upload_wire.specs.declared.request.Style.{Style}
 use Rattle.upload_wire.specs.declared.connection.ConnEnd.{ConnEnd}

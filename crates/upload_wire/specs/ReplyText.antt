@@ -10,6 +10,8 @@ use Rattle.upload_service.specs.declared.answer.Form.{Form}
 use Rattle.upload_service.specs.declared.answer.Form.TheVariants as forms
 use Rattle.upload_service.specs.declared.answer.Refusal.{Refusal}
 use Rattle.upload_service.specs.declared.answer.Refusal.TheVariants as refusals
+use Rattle.http_wire.specs.declared.fault.Bad.{Bad}
+use Rattle.http_wire.specs.declared.fault.Bad.TheVariants as bads
 use Rattle.upload_wire.specs.declared.request.Style.{Style}
 use Rattle.upload_wire.specs.Target.{blob_path, upload_path}
 use Rattle.upload_wire.specs.declared.reply.status.Status.{Status}
@@ -57,17 +59,18 @@ print_head status fields keep = status_line status ++ (flat_map print_field (fie
 abbrev pub length_field : ℕ → ReplyField
 length_field count = (codes "Content-Length", decimal count)
 
--- the status of the reply to a request that could not be read, by its number
-abbrev pub bad_status : ℕ → Status
-bad_status number =
-    if number == 2 then statuses.HeaderFieldsTooLarge
-    else if number == 4 then statuses.ContentTooLarge
-    else if number == 5 then statuses.LengthRequired
-    else statuses.BadRequest
+-- the status of the reply to what is no request, by what is bad in it
+abbrev pub bad_status : Bad → Status
+bad_status bads.Head = statuses.BadRequest
+bad_status bads.LongHead = statuses.HeaderFieldsTooLarge
+bad_status bads.Length = statuses.BadRequest
+bad_status bads.TooLarge = statuses.ContentTooLarge
+bad_status bads.Coding = statuses.LengthRequired
+bad_status bads.Chunks = statuses.BadRequest
 
--- the reply to a request that could not be read
-abbrev pub bad : ℕ → List ℕ
-bad number = print_head (bad_status number) (length_field 0 ∷ []) false
+-- the reply to what is no request
+abbrev pub bad : Bad → List ℕ
+bad why = print_head (bad_status why) (length_field 0 ∷ []) false
 
 -- a code of the OCI Distribution Specification
 abbrev pub code_text : ErrorCode → List ℕ

@@ -3,16 +3,19 @@ use Rattle.std.specs.Prelude.{◌≡◌, ℕ, ◌⊎◌, List, [], ◌++◌, cod
 use Rattle.std.specs.Io.KnownBytes.{Consumes, IsAtEnd}
 use Rattle.httparse.specs.Grammar.{RequestHead}
 use Rattle.upload_service.specs.declared.ask.Ask.{Ask}
-use Rattle.upload_wire.specs.Fronts.{ReadsHead, IsRefused, IsTooLong, IsUnfinished}
-use Rattle.upload_wire.specs.Fields.{head_fields, keeps_connection}
-use Rattle.upload_wire.specs.Body.{head_framing, IsBodyText, IsBadBody, IsCutBody}
+use Rattle.http_wire.specs.RequestFronts.{ReadsHead, IsRefused, IsTooLong, IsUnfinished}
+use Rattle.http_wire.specs.Fields.{head_fields, keeps_connection}
+use Rattle.http_wire.specs.Body.{head_framing, IsBodyText, IsBadBody, IsCutBody}
 use Rattle.upload_wire.specs.Target.{AsksWhole}
-use Rattle.upload_wire.specs.declared.framing.Framing.{Framing}
-use Rattle.upload_wire.specs.declared.fault.WireFault.{WireFault}
-use Rattle.upload_wire.specs.declared.fault.WireFault.TheVariants as Fault
+use Rattle.http_wire.specs.declared.framing.Framing.{Framing}
+use Rattle.http_wire.specs.declared.fault.Bad.{Bad}
+use Rattle.http_wire.specs.declared.fault.Bad.TheVariants as bads
+use Rattle.http_wire.specs.declared.fault.WireFault.{WireFault}
+use Rattle.http_wire.specs.declared.fault.WireFault.TheVariants as Fault
 use Rattle.upload_wire.specs.declared.request.Style.{Style}
 use Rattle.upload_wire.specs.declared.request.Next.{Next}
-use Rattle.upload_wire.specs.declared.request.Next.TheVariants.{Request, Over, Bad}
+use Rattle.upload_wire.specs.declared.request.Next.TheVariants.{Request, Over}
+use Rattle.upload_wire.specs.declared.request.Next.TheVariants as nexts
 
 -- how a request wants its reply
 abbrev pub style_of : RequestHead → Style
@@ -34,26 +37,26 @@ pub record IsRequest (max_body : ℕ) (text : List ℕ) (ask : Ask) (style : Sty
   pub styled : style ≡ style_of head
 
 -- the text begins with a head that announces no body that may be read
-pub record RefusesFraming (max_body : ℕ) (text : List ℕ) (number : ℕ) : Type 0 where
+pub record RefusesFraming (max_body : ℕ) (text : List ℕ) (why : Bad) : Type 0 where
   pub head : RequestHead
   pub rest : List ℕ
   pub reads : ReadsHead text head rest
-  pub refused : head_framing max_body head ≡ Err number
+  pub refused : head_framing max_body head ≡ Err why
 
 -- the text begins with a head, and what follows is refused as its body
-pub record RefusesBody (max_body : ℕ) (text : List ℕ) (number : ℕ) : Type 0 where
+pub record RefusesBody (max_body : ℕ) (text : List ℕ) (why : Bad) : Type 0 where
   pub head : RequestHead
   pub rest : List ℕ
   pub reads : ReadsHead text head rest
   pub framing : Framing
   pub framed : head_framing max_body head ≡ Ok framing
-  pub refused : IsBadBody max_body framing rest number
+  pub refused : IsBadBody max_body framing rest why
 
--- the input that begins with the text is refused with this number
-abbrev pub IsBad : ℕ → List ℕ → ℕ → Type 0
-IsBad max_body text number =
-    ((number ≡ 1) × IsRefused text) ⊎ (((number ≡ 2) × IsTooLong text)
-    ⊎ (RefusesFraming max_body text number ⊎ RefusesBody max_body text number))
+-- the input that begins with the text is no request, and this is bad in it
+abbrev pub IsBad : ℕ → List ℕ → Bad → Type 0
+IsBad max_body text why =
+    ((why ≡ bads.Head) × IsRefused text) ⊎ (((why ≡ bads.LongHead) × IsTooLong text)
+    ⊎ (RefusesFraming max_body text why ⊎ RefusesBody max_body text why))
 
 -- the text has a head, and ends inside its body
 pub record HasCutBody (max_body : ℕ) (text : List ℕ) : Type 0 where
@@ -82,7 +85,7 @@ pub record ReadsOne (max_body : ℕ) (text rest : List ℕ) (ask : Ask) (style :
 abbrev pub FindsNext : ℕ → List ℕ → List ℕ → Option (List ℕ) → Result Next WireFault → Type 0
 FindsNext max_body text rest new (Ok (Request ask style)) = ReadsOne max_body text rest ask style
 FindsNext max_body text rest new (Ok Over) = (text ≡ []) × (rest ≡ []) × IsAtEnd new
-FindsNext max_body text rest new (Ok (Bad number)) = IsBad max_body text number
+FindsNext max_body text rest new (Ok (nexts.Bad why)) = IsBad max_body text why
 FindsNext max_body text rest new (Err Fault.Truncated) = IsTruncated max_body text × IsAtEnd new
 FindsNext max_body text rest new (Err Fault.Read) = HoldsNone max_body text
 FindsNext max_body text rest new (Err Fault.NoMemory) = ⊤

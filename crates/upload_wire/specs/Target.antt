@@ -14,7 +14,7 @@ use Rattle.upload_service.specs.declared.ask.Extent.{Extent}
 use Rattle.upload_service.specs.declared.ask.Extent.TheVariants.{Absent, Bad, Given}
 use Rattle.upload_service.specs.declared.answer.Refusal.TheVariants as Refusal
 use Rattle.upload_service.specs.declared.answer.Form.TheVariants as Form
-use Rattle.upload_wire.specs.Fields.{head_fields, values_of}
+use Rattle.http_wire.specs.Fields.{head_fields, values_of}
 use Rattle.upload_wire.specs.Query.{parameter}
 use Rattle.upload_wire.specs.declared.target.PathForm.{PathForm}
 use Rattle.upload_wire.specs.declared.target.PathForm.TheVariants as Path

@@ -1,11 +1,12 @@
 -- One ask over a wire: a request is written, and one reply is heard.
-use Rattle.std.specs.Prelude.{◌≡◌, ◌≢◌, ℕ, Bool, true, false, not, ◌&&◌, List, Option, None, Result, Err, is_err, ◌⊎◌}
+use Rattle.std.specs.Prelude.{◌≡◌, ◌≢◌, ℕ, Bool, true, false, not, ◌&&◌, ◌==◌, nat_lt, nat_le, List, length, Option, Some, None, Result, Ok, Err, is_err, ⊤, if◌then◌else◌}
 use Rattle.std.specs.Result.{result_ok}
 use Rattle.upload_service.specs.declared.ask.Ask.{Ask}
-use Rattle.upload_wire.specs.Writing.{Sink, TookAll, TookFront}
-use Rattle.upload_wire.specs.AskText.{ask_text, wants_head}
+use Rattle.http_wire.specs.Writing.{Sink, Wrote}
+use Rattle.upload_wire.specs.AskText.{ask_text, message_of, wants_head}
 use Rattle.upload_wire.specs.AnswerText.{AnswerReaderState, ReadsAnswer, most_answer_reads}
-use Rattle.upload_wire.specs.Counts.{CountsUp, CountsAtMost}
+use Rattle.http_wire.specs.Counts.{CountsUp, CountsAtMost}
+use Rattle.http_wire.specs.declared.writing.WriteFault.{WriteFault}
 use Rattle.upload_wire.specs.declared.client.heard.Heard.{Heard}
 use Rattle.upload_wire.specs.declared.client.heard.HeardFault.{HeardFault}
 use Rattle.upload_wire.specs.declared.client.heard.HeardFault.TheVariants as Fault
@@ -22,32 +23,57 @@ abbrev pub GoesOn : Bool → AnswerReaderState → Type 0
 GoesOn true reader = Unit {0}
 GoesOn false reader = reader.ended ≡ false
 
--- whether more can be asked: no fault broke the transport, and the reply that was heard last keeps the connection
+-- Whether more can be asked: no fault broke the transport, the reply that was heard last keeps the connection, and the reader holds
+-- no byte behind it. One that it holds came before the next request was written, and is no reply to that (RFC 9112, section 9.2).
 abbrev pub stays_open : WireState → Bool
-stays_open wire = not wire.broken && wire.reader.keep
+stays_open wire = not wire.broken && (wire.reader.keep && (length wire.reader.held == 0))
 
--- the request was written whole, and one reply read; a failed read is Read, and nothing else is
-pub record Hears (old : WireState) (ask : Ask) (heard : Option Heard) (new : WireState) : Type 0 where
-  pub wrote : TookAll old.writer new.writer (ask_text ask old.host)
-  pub reply : Result Heard HeardFault
-  pub read : ReadsAnswer (wants_head ask) old.reader.held old.reader.remaining new.reader.held new.reader.remaining reply new.reader.keep
-  pub reads : CountsAtMost old.reader.reads new.reader.reads most_answer_reads
-  pub failed : reply ≡ Err Fault.Read → CountsUp old.reader.failed_reads new.reader.failed_reads
-  pub unfailed : reply ≢ Err Fault.Read → new.reader.failed_reads ≡ old.reader.failed_reads
-  pub same : heard ≡ result_ok reply
-  pub broken : new.broken ≡ is_err reply
+-- the request has a body of at least one byte
+abbrev pub has_body : Ask → Bool
+has_body ask = not (length (message_of ask).body == 0)
 
--- a write failed: a front of the request was written, and nothing is read
-pub record FailsToWrite (old : WireState) (ask : Ask) (heard : Option Heard) (new : WireState) : Type 0 where
-  pub wrote : TookFront old.writer new.writer (ask_text ask old.host)
-  pub reader : new.reader ≡ old.reader
-  pub unheard : heard ≡ None
-  pub broken : new.broken ≡ true
+-- A status that refuses a request as it is, whatever the rest of it: 4xx. Not 408, which says that the request came too slowly and may
+-- be sent again, and not 416, which leads on.
+abbrev pub is_refusal : ℕ → Bool
+is_refusal status = (nat_le 400 status && nat_lt status 500) && (not (status == 408) && not (status == 416))
 
--- after a fault nothing is written, read or heard
+-- what is heard of the reply to a request that wasn't written whole: its refusal, and nothing else
+abbrev pub refusal_in : Result Heard HeardFault → Option Heard
+refusal_in (Ok heard) = if is_refusal heard.status then Some heard else None
+refusal_in (Err fault) = None
+
+-- one reply was read; a failed read is Read, and nothing else is
+pub record ReadsReply (head_only : Bool) (old : AnswerReaderState) (reply : Result Heard HeardFault) (new : AnswerReaderState) : Type 0 where
+  pub read : ReadsAnswer head_only old.held old.remaining new.held new.remaining reply new.keep
+  pub reads : CountsAtMost old.reads new.reads most_answer_reads
+  pub failed : reply ≡ Err Fault.Read → CountsUp old.failed_reads new.failed_reads
+  pub unfailed : reply ≢ Err Fault.Read → new.failed_reads ≡ old.failed_reads
+
+-- What is heard behind a request, by whether it was written whole and whether it has a body. Where it was, one reply is read and heard, and
+-- a fault of it breaks the transport. Where a write failed the transport is broken in any case; behind a request with a body one reply
+-- is read all the same, which the server may have sent before it closed, and a refusal is heard and nothing else.
+abbrev pub HearsBehind : Result ⊤ WriteFault → Bool → Bool → AnswerReaderState → Option Heard → AnswerReaderState → Bool → Type 0
+HearsBehind (Ok u) body head_only old heard new broken =
+    (reply : Result Heard HeardFault) × ReadsReply head_only old reply new × (heard ≡ result_ok reply) × (broken ≡ is_err reply)
+HearsBehind (Err fault) true head_only old heard new broken =
+    (reply : Result Heard HeardFault) × ReadsReply head_only old reply new × (heard ≡ refusal_in reply) × (broken ≡ true)
+HearsBehind (Err fault) false head_only old heard new broken = (heard ≡ None) × (new ≡ old) × (broken ≡ true)
+
+-- the request was written, or a front of it where a write failed, and this was heard behind it
+pub record Exchanges (old : WireState) (ask : Ask) (heard : Option Heard) (new : WireState) : Type 0 where
+  pub written : Result ⊤ WriteFault
+  pub wrote : Wrote old.writer new.writer (ask_text ask old.host) written
+  pub hears : HearsBehind written (has_body ask) (wants_head ask) old.reader heard new.reader new.broken
+  pub same_host : new.host ≡ old.host
+
+-- the same transport, broken
+abbrev pub broken_of : WireState → WireState
+broken_of wire = record { reader = wire.reader; writer = wire.writer; host = wire.host; broken = true }
+
+-- where more can't be asked nothing is written, read or heard, and the transport is broken
 abbrev pub AsksWhere : Bool → WireState → Ask → Option Heard → WireState → Type 0
-AsksWhere true old ask heard new = (heard ≡ None) × (new ≡ old)
-AsksWhere false old ask heard new = (new.host ≡ old.host) × (Hears old ask heard new ⊎ FailsToWrite old ask heard new)
+AsksWhere true old ask heard new = Exchanges old ask heard new
+AsksWhere false old ask heard new = (heard ≡ None) × (new ≡ broken_of old)
 
 abbrev pub AsksOverWire : WireState → Ask → Option Heard → WireState → Type 0
-AsksOverWire old ask heard new = AsksWhere old.broken old ask heard new
+AsksOverWire old ask heard new = AsksWhere (stays_open old) old ask heard new

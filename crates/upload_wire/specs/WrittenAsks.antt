@@ -7,7 +7,7 @@ use Rattle.upload_service.specs.declared.ask.Ask.{Ask}
 use Rattle.upload_service.specs.declared.ask.Ask.TheVariants.{Base, Has, Opening, Single, Mount, Chunk, Status, Close, Refused}
 use Rattle.upload_service.specs.declared.ask.Extent.{Extent}
 use Rattle.upload_service.specs.declared.ask.Extent.TheVariants.{Absent, Bad, Given}
-use Rattle.upload_wire.specs.Fronts.{max_head}
+use Rattle.http_wire.specs.Fronts.{max_head}
 use Rattle.upload_wire.specs.RequestText.{IsRequest}
 use Rattle.upload_wire.specs.AskText.{CanBeWritten, ask_text, host_text, is_host, message_of, request_line, section_text, wants_head}
 use Rattle.upload_wire.specs.declared.request.Style.{Style}

@@ -8,8 +8,9 @@ ghost use Rattle.upload_wire.specs.Target.{Parts, named, base_ask, blob_ask, mou
 use crate::query::parameter;
 use crate::target::{PathForm, form_of};
 use http_uri::{Uri, UriError};
+use http_wire::Framing;
 use std::alloc::{AllocError, Global};
-use upload_names::{BlobDigest, Bytes, NameFault, RepoName, UploadRef};
+use upload_names::{Algorithm, BlobDigest, Bytes, NameFault, RepoName, UploadRef};
 use upload_service::{Ask, Extent, Form, Refusal};
 
 /// The name that a text is, if it is one.
@@ -251,12 +252,46 @@ fn if_bodiless(ask: Ask, body: &[u8]) -> Ask
     }
 }
 
+/// By what the body of an ask is hashed as it comes: where it is large, and the service may want the hash of just its
+/// bytes. A small body, and one that comes behind others, the service hashes with what is around it. What a chunk will
+/// be asked for, its close says; most say SHA-256.
+pub fn hash_wanted(ask: &Ask, framing: Framing) -> Option<Algorithm> {
+    if let Framing::Length(length) = framing {
+        if length <= 65_536 {
+            return None;
+        }
+    }
+    match ask {
+        Ask::Single { digest, .. } => algorithm_of(*digest),
+        Ask::Chunk { range, .. } if may_be_first(*range) => Some(Algorithm::Sha256),
+        Ask::Close { range, digest, .. } if may_be_first(*range) => algorithm_of(*digest),
+        _ => None,
+    }
+}
+
+/// The algorithm of a digest that is there.
+fn algorithm_of(digest: Option<BlobDigest>) -> Option<Algorithm> {
+    match digest {
+        Some(digest) => Some(digest.algorithm()),
+        None => None,
+    }
+}
+
+/// Whether a body of this range may be the first of its upload.
+fn may_be_first(range: Extent) -> bool {
+    match range {
+        Extent::Absent => true,
+        Extent::Bad => false,
+        Extent::Given(range) => range.first == 0,
+    }
+}
+
 /// The ask with its body. An ask that carries none drops it, and an opening and a mount refuse it.
-pub fn with_body(ask: Ask, body: Vec<u8>) -> Ask
-    ensures { result ≡ with_body ask body.items }
+pub fn with_body(ask: Ask, body: Bytes) -> Ask
+    ensures { result ≡ with_body ask body }
 {
     match ask {
-        Ask::Opening { name } => if_bodiless(Ask::Opening { name }, &body),
+        Ask::Opening { name } => if_bodiless(Ask::Opening { name }, body.as_slice()),
         Ask::Mount {
             name,
             digest,
@@ -267,17 +302,13 @@ pub fn with_body(ask: Ask, body: Vec<u8>) -> Ask
                 digest,
                 source,
             },
-            &body,
+            body.as_slice(),
         ),
         Ask::Single {
             name,
             digest,
             body: _,
-        } => Ask::Single {
-            name,
-            digest,
-            body: Bytes::of(body),
-        },
+        } => Ask::Single { name, digest, body },
         Ask::Chunk {
             name,
             at,
@@ -287,7 +318,7 @@ pub fn with_body(ask: Ask, body: Vec<u8>) -> Ask
             name,
             at,
             range,
-            body: Bytes::of(body),
+            body,
         },
         Ask::Close {
             name,
@@ -300,7 +331,7 @@ pub fn with_body(ask: Ask, body: Vec<u8>) -> Ask
             at,
             range,
             digest,
-            body: Bytes::of(body),
+            body,
         },
         other => other,
     }

@@ -4,11 +4,8 @@ mod answer;
 mod ask;
 mod body;
 mod framing;
-mod gather;
-mod head;
 mod heard;
 mod laws;
-mod parsed;
 mod transport;
 mod wire;
 
@@ -16,5 +13,5 @@ pub use answer::AnswerReader;
 pub use ask::write_ask;
 pub use heard::{Heard, HeardFault, heard_of, read_place};
 pub use laws::{written_asks_are_read, written_places_are_read};
-pub use transport::Transport;
+pub use transport::{LentChunk, Transport};
 pub use wire::WireTransport;

@@ -1,16 +1,14 @@
 //! A connection, served: requests are read, asked of a desk and replied to, in turn.
 ghost use Rattle.std.specs.Prelude.{◌≡◌, ◌≤◌, ◌<◌, ◌^◌, None, IfSome};
 ghost use Rattle.upload_service.specs.Machine.{AreLawful};
-ghost use Rattle.upload_wire.specs.Writing.{sink};
+ghost use Rattle.http_wire.specs.Writing.{sink};
 ghost use Rattle.upload_wire.specs.Conversation.{IsConversation, last_style, source};
 ghost use Rattle.upload_wire.specs.ConversationSteps.{AnswersOne, GoesOn, Stops};
 
-use crate::buffer::ReadBuffer;
-use crate::bytes::{ByteSink, ByteSource};
 use crate::desk::Desk;
-use crate::fault::WireFault;
 use crate::reply::{write_bad, write_reply};
 use crate::request::{Next, Style, read_next};
+use http_wire::{ByteSink, ByteSource, ReadBuffer, WireFault};
 use std::alloc::Global;
 use upload_service::{Ask, Limits};
 
@@ -105,7 +103,7 @@ fn serve_next<S: ByteSource, W: ByteSink, D: Desk>(
     match read_next(alloc, reader, buffer, max_body) {
         Ok(Next::Request { ask, style }) => answer_one(writer, desk, ask, style, count),
         Ok(Next::Over) => Some(ConnEnd::Clean),
-        Ok(Next::Bad(number)) => match write_bad(writer, number) {
+        Ok(Next::Bad(why)) => match write_bad(writer, why) {
             Ok(()) => Some(ConnEnd::AfterBad),
             Err(_) => Some(ConnEnd::Fault(ConnFault::Write)),
         },

@@ -1,14 +1,12 @@
 //! A reader of requests.
 ghost use Rattle.std.specs.Prelude.{◌≡◌, ◌≢◌, [], Ok, Err, IfOk};
 ghost use Rattle.upload_service.specs.Machine.{AreLawful};
-ghost use Rattle.upload_wire.specs.Counts.{CountsUp, CountsAtMost};
+ghost use Rattle.http_wire.specs.Counts.{CountsUp, CountsAtMost};
 ghost use Rattle.upload_wire.specs.RequestText.{ReadsNext};
 ghost use Rattle.upload_wire.specs.Phases.{phase_after, most_reads};
 
-use crate::buffer::ReadBuffer;
-use crate::bytes::ByteSource;
-use crate::fault::WireFault;
 use crate::request::{Next, read_next};
+use http_wire::{ByteSource, ReadBuffer, WireFault};
 use std::alloc::{AllocError, Global};
 use std::marker::Model;
 use upload_service::Limits;
@@ -79,7 +77,7 @@ impl<S: ByteSource + Drop> RequestReader<S> {
 
 impl<S: ByteSource> RequestReader<S> {
     /// What comes next in the input: a request, read whole; the end of the input, which is answered again
-    /// when asked again; or a Bad number. After a Bad number or a fault it answers `Ended` and reads nothing.
+    /// when asked again; or what is bad in it. After that or a fault it answers `Ended` and reads nothing.
     /// `Read` comes only where a read failed in this call, before a request had come whole. `Truncated` comes
     /// where the input ended inside a request, `NoMemory` where a growth was refused.
     pub fn next_request(&mut self) -> Result<Next, WireFault>

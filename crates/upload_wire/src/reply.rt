@@ -1,16 +1,15 @@
 //! Replies (RFC 9112, section 4; OCI Distribution Specification 1.1, sections "Push" and "Error Codes").
-ghost use Rattle.std.specs.Prelude.{◌≡◌, ◌++◌, IsTrue, OnOk};
-ghost use Rattle.upload_wire.specs.Writing.{Wrote, sink};
-ghost use Rattle.upload_wire.specs.ReplyText.{bad, reply, reply_body};
+ghost use Rattle.std.specs.Prelude.{◌≡◌, IsTrue, OnOk};
+ghost use Rattle.std.specs.List.{concat};
+ghost use Rattle.http_wire.specs.Writing.{Wrote, sink};
+ghost use Rattle.http_wire.specs.Gathering.{Puts};
+ghost use Rattle.upload_wire.specs.ReplyText.{bad, reply, reply_of};
 
-use crate::bytes::ByteSink;
 use crate::request::Style;
-use crate::writing::{WriteFault, then_flush, then_write, write_all};
-use buffer::ReplyBuffer;
-use head::{bad_head, reply_head};
-use upload_service::Answer;
+use head::{put_bad_head, put_reply_head};
+use http_wire::{Bad, ByteSink, Gather, WriteFault};
+use upload_service::{Answer, Part};
 
-mod buffer;
 mod error;
 mod head;
 mod refusal;
@@ -31,62 +30,51 @@ pub fn write_reply<W: ByteSink>(
         (sink (W.contents writer.new) (W.failed_writes writer.new)) (reply answer.now style) result }
     ensures flushed { OnOk result (IsTrue (W.is_flushed writer.new)) }
 {
-    let head = reply_head(answer, style.keep);
-    send(writer, head, reply_body(answer, style.head))
+    let mut head = Gather::new();
+    put_reply_head(&mut head, writer, answer, style.keep);
+    if style.head {
+        return head.finish(writer, b"");
+    }
+    put_body(&mut head, writer, answer);
+    head.finish(writer, b"")
 }
 
-/// Writes the reply to a request that could not be read, by its number from 1 to 6, and flushes it; another
-/// number is written as 1. It takes no memory. `Ok` comes only where all of it was written and handed on, and no
-/// call of the writer failed; else a front of it was written.
-pub fn write_bad<W: ByteSink>(writer: &mut W, number: u8) -> Result<(), WriteFault>
+/// Writes the reply to what is no request, by what is bad in it, and flushes it. It takes no memory. `Ok` comes
+/// only where all of it was written and handed on, and no call of the writer failed; else a front of it was written.
+pub fn write_bad<W: ByteSink>(writer: &mut W, why: Bad) -> Result<(), WriteFault>
     ensures wrote { Wrote (sink (W.contents writer.old) (W.failed_writes writer.old))
-        (sink (W.contents writer.new) (W.failed_writes writer.new)) (bad number) result }
+        (sink (W.contents writer.new) (W.failed_writes writer.new)) (bad why) result }
     ensures flushed { OnOk result (IsTrue (W.is_flushed writer.new)) }
 {
-    send(writer, bad_head(number), b"")
+    let mut head = Gather::new();
+    put_bad_head(&mut head, writer, why);
+    head.finish(writer, b"")
 }
 
-/// The body of a reply; a HEAD gets none.
-fn reply_body(answer: &Answer, head: bool) -> &[u8]
-    ensures { result.now ≡ reply_body answer.now head }
+/// Puts the body of a reply behind its head. What fits leaves in the same write.
+fn put_body<W: ByteSink>(head: &mut Gather, writer: &mut W, answer: &Answer)
+    ensures { Puts (sink (W.contents writer.old) (W.failed_writes writer.old)) head.old
+        (sink (W.contents writer.new) (W.failed_writes writer.new)) head.new (reply_of answer.now).body }
 {
-    if head {
-        return b"";
-    }
     match answer {
         Answer::Blob {
             bytes: Some(bytes),
             ..
-        } => bytes.as_slice(),
-        Answer::Misplaced { .. } => ErrorCode::BlobUploadInvalid.body().as_bytes(),
-        Answer::Refused(refusal) => refusal_code(*refusal).body().as_bytes(),
-        _ => b"",
+        } => put_parts(head, writer, bytes.parts()),
+        Answer::Misplaced { .. } => {
+            head.put(writer, ErrorCode::BlobUploadInvalid.body().as_bytes())
+        }
+        Answer::Refused(refusal) => { head.put(writer, refusal_code(*refusal).body().as_bytes()) }
+        _ => head.put(writer, b""),
     }
 }
 
-/// Writes a head and a body, and flushes them. A body that fits behind the head leaves in the same write.
-fn send<W: ByteSink>(writer: &mut W, head: ReplyBuffer, body: &[u8]) -> Result<(), WriteFault>
-    ensures wrote { Wrote (sink (W.contents writer.old) (W.failed_writes writer.old))
-        (sink (W.contents writer.new) (W.failed_writes writer.new)) (head ++ body.now) result }
-    ensures flushed { OnOk result (IsTrue (W.is_flushed writer.new)) }
+/// Puts the parts of a blob, one after another.
+fn put_parts<W: ByteSink>(head: &mut Gather, writer: &mut W, parts: &[Part])
+    ensures { Puts (sink (W.contents writer.old) (W.failed_writes writer.old)) head.old
+        (sink (W.contents writer.new) (W.failed_writes writer.new)) head.new (concat parts.now) }
 {
-    let done = write_both(writer, head, body);
-    then_flush(done, writer)
-}
-
-/// Writes a head and a body.
-fn write_both<W: ByteSink>(
-    writer: &mut W,
-    mut head: ReplyBuffer,
-    body: &[u8],
-) -> Result<(), WriteFault>
-    ensures { Wrote (sink (W.contents writer.old) (W.failed_writes writer.old))
-        (sink (W.contents writer.new) (W.failed_writes writer.new)) (head ++ body.now) result }
-{
-    if body.len() <= head.room() {
-        head.put(body);
-        return write_all(writer, head.as_slice());
+    for part in parts {
+        head.put(writer, part.as_slice());
     }
-    let done = write_all(writer, head.as_slice());
-    then_write(done, writer, body)
 }

@@ -1,22 +1,19 @@
 //! Requests, one after another.
 ghost use Rattle.std.specs.Prelude.{◌≡◌, ◌≢◌, ◌+◌, ◌*◌, ◌^◌, ◌≤◌, Ok, Err, IfOk, IfErr, codes};
-ghost use Rattle.upload_wire.specs.Counts.{CountsUp, CountsAtMost};
-ghost use Rattle.upload_wire.specs.Fields.{values_of};
+ghost use Rattle.http_wire.specs.Counts.{CountsUp, CountsAtMost};
+ghost use Rattle.http_wire.specs.Fields.{values_of};
 ghost use Rattle.upload_wire.specs.Target.{extent_of};
-ghost use Rattle.upload_wire.specs.HeadReading.{IsHeadOf, IsHeadAtFront};
-ghost use Rattle.upload_wire.specs.FieldReading.{fields_of};
+ghost use Rattle.http_wire.specs.RequestSpans.{IsHeadOf, IsHeadAtFront};
+ghost use Rattle.http_wire.specs.FieldReading.{fields_of};
 ghost use Rattle.upload_wire.specs.RequestText.{ReadsNext};
 ghost use Rattle.upload_wire.specs.RequestReading.{Describes};
 
-use crate::asks::{ask_of, with_body};
-use crate::body::{BodyRead, read_body};
-use crate::buffer::ReadBuffer;
-use crate::bytes::ByteSource;
-use crate::fault::{BAD_HEAD, LONG_HEAD, WireFault};
-use crate::fields::{Occurrence, field_named, keeps_connection};
-use crate::framing::framing_of;
-use crate::head::{HeadRead, read_head};
-use crate::parsed::ParsedHead;
+use crate::asks::{ask_of, hash_wanted, with_body};
+use crate::body::Body;
+use http_wire::{
+    Bad, BodyEnd, ByteSource, HeadRead, Occurrence, ParsedRequest, ReadBuffer, Requests, WireFault,
+    field_named, framing_of, keeps_connection, read_body, read_head,
+};
 use std::alloc::Global;
 use upload_names::ByteRange;
 use upload_service::{Ask, Extent};
@@ -37,12 +34,9 @@ pub enum Next {
     Request { ask: Ask, style: Style },
     /// The input ended behind the last request.
     Over,
-    /// What came is no request, and is answered by the reply of this number; nothing more is read.
-    /// 1: the head isn't one (400; RFC 9112, sections 2 to 5). 2: it has over 16,384 bytes (431).
-    /// 3: its Content-Length is unreadable, said twice, or beside a Transfer-Encoding (400). 4: the body is over
-    /// the limit (413). 5: a coding other than one `chunked` in HTTP/1.1 (411). 6: the chunked body isn't of its
-    /// form (400; RFC 9112, section 7.1).
-    Bad(u8),
+    /// What came is no request, and is answered so: a bad head, length or chunks by 400, a long head by 431, a body
+    /// that is too large by 413, a bad coding by 411. Nothing more is read.
+    Bad(Bad),
 }
 
 /// What a head asks, with no body yet, and how it wants its reply.
@@ -53,7 +47,7 @@ struct Described {
 }
 
 /// The range that a head gives.
-fn range_of(head: &[u8], parsed: &ParsedHead) -> Extent
+fn range_of(head: &[u8], parsed: &ParsedRequest) -> Extent
     requires { IsHeadOf head.now parsed.now }
     ensures { result ≡ extent_of (values_of (codes "content-range") (fields_of head.now parsed.now)) }
 {
@@ -68,7 +62,7 @@ fn range_of(head: &[u8], parsed: &ParsedHead) -> Extent
 }
 
 /// What a head asks. The error is a want of memory.
-fn describe(alloc: Global, head: &[u8], parsed: &ParsedHead) -> Result<Described, WireFault>
+fn describe(alloc: Global, head: &[u8], parsed: &ParsedRequest) -> Result<Described, WireFault>
     requires { IsHeadOf head.now parsed.now }
     ensures found { IfOk result (λ d. Describes head.now parsed.now d.ask d.style) }
     ensures error { IfErr result (λ e. e ≡ WireFault.NoMemory) }
@@ -90,7 +84,7 @@ fn read_request<S: ByteSource>(
     alloc: Global,
     source: &mut S,
     buffer: &mut ReadBuffer,
-    parsed: &ParsedHead,
+    parsed: &ParsedRequest,
     max_body: u64,
 ) -> Result<Next, WireFault>
     requires limit { max_body ≤ 2 ^ 31 }
@@ -106,16 +100,21 @@ fn read_request<S: ByteSource>(
     let head = &buffer.as_slice()[..parsed.spans.len];
     let framing = match framing_of(head, parsed, max_body) {
         Ok(framing) => framing,
-        Err(number) => return Ok(Next::Bad(number)),
+        Err(bad) => return Ok(Next::Bad(bad)),
     };
     let Described { ask, style } = describe(alloc, head, parsed)?;
     buffer.consume(parsed.spans.len);
-    match read_body(alloc, source, buffer, framing, max_body)? {
-        BodyRead::Whole(body) => Ok(Next::Request {
-            ask: with_body(ask, body),
-            style,
-        }),
-        BodyRead::Refused(number) => Ok(Next::Bad(number)),
+    let mut body = Body::begin(alloc, hash_wanted(&ask, framing));
+    match read_body(source, buffer, &mut body, framing, max_body)? {
+        BodyEnd::Whole => {
+            // It may stay as long as its blob does, so the room that it grew by in advance goes.
+            body.bytes.shrink_to_fit();
+            Ok(Next::Request {
+                ask: with_body(ask, body.bytes),
+                style,
+            })
+        }
+        BodyEnd::Refused(bad) => Ok(Next::Bad(bad)),
     }
 }
 
@@ -135,10 +134,10 @@ pub fn read_next<S: ByteSource>(
     ensures unfailed { result ≢ Err WireFault.Read
         → S.failed_reads source.new ≡ S.failed_reads source.old }
 {
-    match read_head(source, buffer)? {
+    match read_head::<Requests, S>(source, buffer)? {
         HeadRead::Head(parsed) => read_request(alloc, source, buffer, &parsed, max_body),
         HeadRead::Over => Ok(Next::Over),
-        HeadRead::Refused => Ok(Next::Bad(BAD_HEAD)),
-        HeadRead::TooLong => Ok(Next::Bad(LONG_HEAD)),
+        HeadRead::Refused => Ok(Next::Bad(Bad::Head)),
+        HeadRead::TooLong => Ok(Next::Bad(Bad::LongHead)),
     }
 }

@@ -2,7 +2,7 @@
 
 use std::alloc::{AllocError, Global};
 use upload_names::{Algorithm, BlobDigest, Bytes, RepoName, UploadRef};
-use upload_service::{Answer, Refusal};
+use upload_service::{Answer, BlobBytes, Refusal};
 
 /// What is answered, under `lib/a` and of the blob `abc`.
 #[derive(Clone, Copy)]
@@ -34,7 +34,7 @@ pub fn answer_of(alloc: Global, said: Said, at: UploadRef) -> Result<Answer, All
         Said::Blob(algorithm) => Answer::Blob {
             digest: BlobDigest::of(algorithm, b"abc"),
             size: 3,
-            bytes: Some(Bytes::of(b"abc".to_vec(alloc)?)),
+            bytes: Some(BlobBytes::of(alloc, Bytes::of(b"abc".to_vec(alloc)?))?),
         },
         Said::Seen(algorithm) => Answer::Blob {
             digest: BlobDigest::of(algorithm, b"abc"),

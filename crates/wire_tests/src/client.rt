@@ -606,7 +606,7 @@ static STATUSES: [(Word, Option<u16>); 4] = [
 #[test]
 fn a_transport_asks_and_hears(rt: HostRuntime) -> Result<(), Fail> {
     let mut sent = Vec::new(rt.alloc());
-    let source = MemorySource::new(HEARD, 4, false);
+    let source = MemorySource::new(HEARD, 1, false);
     let sink = ToWrite::new(&mut sent);
     let mut transport = WireTransport::new(rt.alloc(), source, sink, b"h")?;
     hears(&rt, &mut transport, rt.alloc(), &STATUSES)

@@ -3,6 +3,7 @@ ghost use Rattle.std.specs.Prelude.{◌<◌};
 
 mod disturbed;
 mod growths;
+mod hashed;
 mod rows;
 mod stored;
 

@@ -9,6 +9,8 @@ mod client;
 #[cfg(test)]
 mod connections;
 #[cfg(test)]
+mod content;
+#[cfg(test)]
 mod expect;
 #[cfg(test)]
 mod memory;

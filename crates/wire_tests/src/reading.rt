@@ -2,6 +2,7 @@
 ghost use Rattle.std.specs.Prelude.{◌≡◌, ◌<◌, ◌≤◌, ◌^◌};
 
 mod growths;
+mod hashed;
 
 use crate::expect::{holds, same};
 use crate::memory::MemorySource;
@@ -9,7 +10,7 @@ use std::alloc::{AllocError, Global};
 use std::process::Abort;
 use std::test::Fail;
 use upload_service::{Ask, Extent, Form, Limits, Refusal};
-use upload_wire::{Next, RequestReader, WireFault};
+use upload_wire::{Bad, Next, RequestReader, WireFault};
 
 /// What a call of `next_request` gave, as far as a test looks at it: a body by its length.
 #[derive(Clone, Copy, Debug, PartialEq, Eq)]
@@ -24,7 +25,7 @@ enum Kind {
     Close(usize),
     Refused(Refusal),
     Over,
-    Bad(u8),
+    Bad(Bad),
     Fault(WireFault),
 }
 
@@ -69,7 +70,7 @@ fn kind_of(next: &Result<Next, WireFault>) -> Kind {
     match next {
         Ok(Next::Request { ask, style: _ }) => ask_kind(ask),
         Ok(Next::Over) => Kind::Over,
-        Ok(Next::Bad(number)) => Kind::Bad(*number),
+        Ok(Next::Bad(why)) => Kind::Bad(*why),
         Err(fault) => Kind::Fault(*fault),
     }
 }
@@ -125,9 +126,12 @@ fn with_fields(alloc: Global, count: usize) -> Result<Vec<u8>, AllocError> {
     Ok(text)
 }
 
-static LONG_VALUES: [(usize, Kind); 2] = [(16_337, Kind::Opening), (16_338, Kind::Bad(2))];
+static LONG_VALUES: [(usize, Kind); 2] = [
+    (16_337, Kind::Opening),
+    (16_338, Kind::Bad(Bad::LongHead)),
+];
 
-static MANY_FIELDS: [(usize, Kind); 2] = [(64, Kind::Opening), (65, Kind::Bad(1))];
+static MANY_FIELDS: [(usize, Kind); 2] = [(64, Kind::Opening), (65, Kind::Bad(Bad::Head))];
 
 #[test]
 fn heads_keep_their_limits(rt: HostRuntime) -> Result<(), Fail> {
@@ -148,11 +152,16 @@ fn hopeless_head_is_judged(rt: HostRuntime) -> Result<(), Fail> {
     let alloc = rt.alloc();
     for text in ["GET /v2/ HTTP/9.9\n", "GET /v2/ HTTP/9.9\r\n"] {
         let found = first(alloc, text.as_bytes(), 64, true)?;
-        same(&rt, found, Kind::Bad(1), &text);
+        same(&rt, found, Kind::Bad(Bad::Head), &text);
     }
     // More lines than a head has, each of them empty.
     let lines = vec![in alloc; b'\n'; 66]?;
-    same(&rt, first(alloc, &lines, 64, true)?, Kind::Bad(1), &"lines");
+    same(
+        &rt,
+        first(alloc, &lines, 64, true)?,
+        Kind::Bad(Bad::Head),
+        &"lines",
+    );
     Ok(())
 }
 
@@ -340,36 +349,44 @@ fn digests_end_targets(rt: HostRuntime) -> Result<(), Fail> {
 
 /// Version, fields, and what is read of a head with them and no body.
 static BODIES: [(&str, &str, Kind); 12] = [
-    ("1.1", "Content-Length: 3x\r\n", Kind::Bad(3)),
+    ("1.1", "Content-Length: 3x\r\n", Kind::Bad(Bad::Length)),
     (
         "1.1",
         "Content-Length: 3\r\ncontent-length: 3\r\n",
-        Kind::Bad(3),
+        Kind::Bad(Bad::Length),
     ),
-    ("1.1", "Content-Length: \r\n", Kind::Bad(3)),
-    ("1.1", "Content-Length: 4\r\n", Kind::Bad(4)),
+    ("1.1", "Content-Length: \r\n", Kind::Bad(Bad::Length)),
+    ("1.1", "Content-Length: 4\r\n", Kind::Bad(Bad::TooLarge)),
     (
         "1.1",
         "Content-Length: 99999999999999999999999999999999\r\n",
-        Kind::Bad(4),
+        Kind::Bad(Bad::TooLarge),
     ),
     (
         "1.1",
         "Transfer-Encoding: chunked\r\nContent-Length: 4\r\n",
-        Kind::Bad(3),
+        Kind::Bad(Bad::Length),
     ),
     (
         "1.0",
         "Transfer-Encoding: gzip\r\nContent-Length: x\r\n",
-        Kind::Bad(3),
+        Kind::Bad(Bad::Length),
     ),
-    ("1.1", "Transfer-Encoding: gzip, chunked\r\n", Kind::Bad(5)),
+    (
+        "1.1",
+        "Transfer-Encoding: gzip, chunked\r\n",
+        Kind::Bad(Bad::Coding),
+    ),
     (
         "1.1",
         "Transfer-Encoding: chunked\r\nTransfer-Encoding: chunked\r\n",
-        Kind::Bad(5),
+        Kind::Bad(Bad::Coding),
     ),
-    ("1.0", "Transfer-Encoding: chunked\r\n", Kind::Bad(5)),
+    (
+        "1.0",
+        "Transfer-Encoding: chunked\r\n",
+        Kind::Bad(Bad::Coding),
+    ),
     (
         "1.1",
         "Content-Length: 3\r\n",
@@ -403,14 +420,14 @@ static CHUNKED: [(&str, Kind); 12] = [
     ("1\r\na\r\n2\r\nbc\r\n0\r\n\r\n", Kind::Chunk(3)),
     ("0\r\n\r\n", Kind::Chunk(0)),
     ("00000003\r\nabc\r\n00000000\r\n\r\n", Kind::Chunk(3)),
-    ("000000003\r\nabc\r\n0\r\n\r\n", Kind::Bad(6)),
-    ("3;x=1\r\nabc\r\n0\r\n\r\n", Kind::Bad(6)),
-    ("3\r\nabc\r\n0\r\nX: y\r\n\r\n", Kind::Bad(6)),
-    ("3\r\nabcd\r\n0\r\n\r\n", Kind::Bad(6)),
-    ("\r\n", Kind::Bad(6)),
-    ("3\nabc", Kind::Bad(6)),
-    ("2\r\nab\r\n2\r\n", Kind::Bad(4)),
-    ("FFFFFFFF\r\n", Kind::Bad(4)),
+    ("000000003\r\nabc\r\n0\r\n\r\n", Kind::Bad(Bad::Chunks)),
+    ("3;x=1\r\nabc\r\n0\r\n\r\n", Kind::Bad(Bad::Chunks)),
+    ("3\r\nabc\r\n0\r\nX: y\r\n\r\n", Kind::Bad(Bad::Chunks)),
+    ("3\r\nabcd\r\n0\r\n\r\n", Kind::Bad(Bad::Chunks)),
+    ("\r\n", Kind::Bad(Bad::Chunks)),
+    ("3\nabc", Kind::Bad(Bad::Chunks)),
+    ("2\r\nab\r\n2\r\n", Kind::Bad(Bad::TooLarge)),
+    ("FFFFFFFF\r\n", Kind::Bad(Bad::TooLarge)),
     ("2\r\nb", Kind::Fault(WireFault::Truncated)),
 ];
 
@@ -468,7 +485,7 @@ static TWO_KINDS: [Kind; 4] = [Kind::Chunk(2), Kind::Base, Kind::Over, Kind::Ove
 const ENDED: &str = "GET\n\nGET /v2/ HTTP/1.1\r\n\r\n";
 
 static ENDED_KINDS: [Kind; 3] = [
-    Kind::Bad(1),
+    Kind::Bad(Bad::Head),
     Kind::Fault(WireFault::Ended),
     Kind::Fault(WireFault::Ended),
 ];

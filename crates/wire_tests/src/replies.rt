@@ -1,12 +1,14 @@
 //! The bytes of replies, against texts written by hand.
 
+mod parts;
+
 use crate::answers::{Said, answer_of};
 use crate::expect::{same, same_bytes};
 use std::alloc::Global;
 use std::test::Fail;
 use upload_names::{Algorithm, BlobDigest, Bytes, UploadRef};
-use upload_service::{Answer, Form, Refusal};
-use upload_wire::{ByteSink, Failed, Style, ToWrite, WriteFault, write_bad, write_reply};
+use upload_service::{Answer, BlobBytes, Form, Refusal};
+use upload_wire::{Bad, ByteSink, Failed, Style, ToWrite, WriteFault, write_bad, write_reply};
 
 const KEPT: Style = Style {
     head: false,
@@ -169,39 +171,39 @@ fn refusals_name_their_errors(rt: HostRuntime) -> Result<(), Fail> {
     Ok(())
 }
 
-static BAD: [(u8, &str); 6] = [
+static BAD: [(Bad, &str); 6] = [
     (
-        1,
+        Bad::Head,
         "HTTP/1.1 400 Bad Request\r\nContent-Length: 0\r\nConnection: close\r\n\r\n",
     ),
     (
-        2,
+        Bad::LongHead,
         "HTTP/1.1 431 Request Header Fields Too Large\r\nContent-Length: 0\r\nConnection: close\r\n\r\n",
     ),
     (
-        3,
+        Bad::Length,
         "HTTP/1.1 400 Bad Request\r\nContent-Length: 0\r\nConnection: close\r\n\r\n",
     ),
     (
-        4,
+        Bad::TooLarge,
         "HTTP/1.1 413 Content Too Large\r\nContent-Length: 0\r\nConnection: close\r\n\r\n",
     ),
     (
-        5,
+        Bad::Coding,
         "HTTP/1.1 411 Length Required\r\nContent-Length: 0\r\nConnection: close\r\n\r\n",
     ),
     (
-        6,
+        Bad::Chunks,
         "HTTP/1.1 400 Bad Request\r\nContent-Length: 0\r\nConnection: close\r\n\r\n",
     ),
 ];
 
 #[test]
 fn bad_requests_have_their_statuses(rt: HostRuntime) -> Result<(), Fail> {
-    for (number, text) in BAD.iter() {
+    for (why, text) in BAD.iter() {
         let mut writer = ToWrite::new(Vec::new(rt.alloc()));
-        write_bad(&mut writer, *number)?;
-        same_bytes(&rt, writer.into_inner().as_slice(), text.as_bytes(), number);
+        write_bad(&mut writer, *why)?;
+        same_bytes(&rt, writer.into_inner().as_slice(), text.as_bytes(), text);
     }
     Ok(())
 }
@@ -247,10 +249,11 @@ fn counted(answer: &Answer) -> Result<(u64, u64), WriteFault> {
 fn a_head_and_a_short_body_leave_in_one_write(rt: HostRuntime) -> Result<(), Fail> {
     let short = counted(&Answer::Refused(Refusal::NoBlob))?;
     same(&rt, short, (1, 1), &"a short body");
+    let bytes = Bytes::of(vec![in rt.alloc(); 7u8; 2_000]?);
     let blob = Answer::Blob {
         digest: BlobDigest::of_sha256(b""),
         size: 2_000,
-        bytes: Some(Bytes::of(vec![in rt.alloc(); 7u8; 2_000]?)),
+        bytes: Some(BlobBytes::of(rt.alloc(), bytes)?),
     };
     same(&rt, counted(&blob)?, (2, 1), &"a long body");
     Ok(())

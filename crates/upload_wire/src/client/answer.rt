@@ -1,25 +1,23 @@
 //! Replies, read from a source of bytes.
-ghost use Rattle.std.specs.Prelude.{◌≡◌, ◌≢◌, ℕ, ◌+◌, ◌<◌, ◌≤◌, List, [], ◌∷◌, ◌++◌, length, drop, take, map, All, Option, Some, None, option_map, Ok, Err, IfOk, IfErr, false, true, is_err};
+ghost use Rattle.std.specs.Prelude.{◌≡◌, ◌≢◌, ℕ, ◌+◌, ◌<◌, ◌≤◌, ◌==◌, List, [], ◌∷◌, ◌++◌, length, drop, take, map, All, Option, Some, None, option_map, Ok, Err, IfOk, IfErr, false, true, is_err};
 ghost use Rattle.std.specs.Option.{option_copied};
 ghost use Rattle.std.specs.Io.KnownBytes.{IsAtEnd};
 ghost use Rattle.httparse.specs.Spans.{IsHeaderWithin, header_bytes};
 ghost use Rattle.serde_json.specs.View.{view};
-ghost use Rattle.upload_wire.specs.Counts.{CountsUp, CountsAtMost};
-ghost use Rattle.upload_wire.specs.Fields.{Fields, values_of};
+ghost use Rattle.http_wire.specs.Counts.{CountsUp, CountsAtMost};
+ghost use Rattle.http_wire.specs.Fields.{Fields, values_of};
 ghost use Rattle.upload_wire.specs.AnswerText.{ReadsAnswer, code_in, code_of, first_of, framing_of, framing_by_length, keeps_on, most_answer_reads, upto_of};
-ghost use Rattle.upload_wire.specs.AnswerReading.{IsHeadAtFront, IsHeadOf, IsSmall, IsFramingFault, PlaceUnlessNoMemory, Says, SaysBare, fields_of};
+ghost use Rattle.http_wire.specs.ResponseSpans.{IsHeadAtFront, IsHeadOf};
+ghost use Rattle.upload_wire.specs.AnswerReading.{IsSmall, IsFramingFault, PlaceUnlessNoMemory, Says, SaysBare, fields_of};
 
-use crate::buffer::ReadBuffer;
-use crate::bytes::ByteSource;
 use crate::client::body::{MAX_ANSWER, fault_of, read_body};
 use crate::client::framing::AnswerFraming;
-use crate::client::head::{AnswerHead, read_head};
 use crate::client::heard::{Heard, HeardFault};
-use crate::client::parsed::ParsedAnswer;
-use crate::fault::BAD_LENGTH;
-use crate::fields::{Occurrence, field_among, is_same_word, lists_close};
-use crate::framing::length_of;
 use http_uri::{Uri, UriError};
+use http_wire::{
+    Bad, ByteSource, HeadRead, Occurrence, ParsedResponse, ReadBuffer, Responses, field_among,
+    is_same_word, length_of, lists_close, read_head,
+};
 use httparse::spans::HeaderSpan;
 use serde_json::Value;
 use std::alloc::{AllocError, Global};
@@ -102,7 +100,7 @@ fn sized(value: &[u8], empty: bool) -> Result<AnswerFraming, HeardFault>
 {
     match length_of(value, MAX_ANSWER as u64) {
         Ok(length) => Ok(AnswerFraming::Sized(if empty { 0 } else { length })),
-        Err(BAD_LENGTH) => Err(HeardFault::Unreadable),
+        Err(Bad::Length) => Err(HeardFault::Unreadable),
         Err(_) => {
             if empty {
                 Ok(AnswerFraming::Sized(0))
@@ -118,7 +116,7 @@ fn sized(value: &[u8], empty: bool) -> Result<AnswerFraming, HeardFault>
 fn framing_of(
     head_only: bool,
     head: &[u8],
-    parsed: &ParsedAnswer,
+    parsed: &ParsedResponse,
 ) -> Result<AnswerFraming, HeardFault>
     requires { IsHeadOf head.now parsed.now }
     ensures framing { result ≡ framing_of head_only parsed.now.spans.code (fields_of head.now parsed.now) }
@@ -147,7 +145,7 @@ fn framing_of(
 }
 
 /// Whether the connection stays behind a reply (RFC 9112, sections 6.3 and 9.3).
-fn keeps_on(head: &[u8], parsed: &ParsedAnswer, framing: AnswerFraming) -> bool
+fn keeps_on(head: &[u8], parsed: &ParsedResponse, framing: AnswerFraming) -> bool
     requires { IsHeadOf head.now parsed.now }
     ensures { result ≡ keeps_on parsed.now.spans.version (fields_of head.now parsed.now) framing }
 {
@@ -198,7 +196,7 @@ fn upto_of(value: Option<&[u8]>) -> Result<Option<u64>, HeardFault>
 }
 
 /// What a head says, with no code yet.
-fn said_of(alloc: Global, head: &[u8], parsed: &ParsedAnswer) -> Result<Heard, HeardFault>
+fn said_of(alloc: Global, head: &[u8], parsed: &ParsedResponse) -> Result<Heard, HeardFault>
     requires { IsHeadOf head.now parsed.now }
     ensures { SaysBare parsed.now.spans.code (fields_of head.now parsed.now) result }
 {
@@ -233,7 +231,7 @@ fn read_framed<S: ByteSource>(
     alloc: Global,
     source: &mut S,
     buffer: &mut ReadBuffer,
-    parsed: &ParsedAnswer,
+    parsed: &ParsedResponse,
     head_only: bool,
     keep: &mut bool,
 ) -> Result<Heard, HeardFault>
@@ -276,12 +274,13 @@ fn read_answer<S: ByteSource>(
     ensures unfailed { result ≢ Err HeardFault.Read
         → S.failed_reads source.new ≡ S.failed_reads source.old }
 {
-    match read_head(source, buffer) {
-        Ok(AnswerHead::Head(parsed)) => {
+    match read_head::<Responses, S>(source, buffer) {
+        Ok(HeadRead::Head(parsed)) => {
             read_framed(alloc, source, buffer, &parsed, head_only, keep)
         }
-        Ok(AnswerHead::Refused) => Err(HeardFault::Unreadable),
-        Ok(AnswerHead::TooLong) => Err(HeardFault::TooLarge),
+        Ok(HeadRead::Over) => Err(HeardFault::Truncated),
+        Ok(HeadRead::Refused) => Err(HeardFault::Unreadable),
+        Ok(HeadRead::TooLong) => Err(HeardFault::TooLarge),
         Err(fault) => Err(fault_of(fault)),
     }
 }
@@ -378,5 +377,12 @@ impl<S: ByteSource> AnswerReader<S> {
         ensures { result ≡ self.now.keep }
     {
         self.keep
+    }
+
+    /// Whether nothing was read behind that reply.
+    pub(crate) fn holds_none(&self) -> bool
+        ensures { result ≡ (length self.now.held == 0) }
+    {
+        self.buffer.len() == 0
     }
 }

@@ -1,13 +1,12 @@
 //! Asks, written as requests.
 ghost use Rattle.std.specs.Prelude.{◌≡◌, ◌++◌, List, ℕ, IsTrue, OnOk, Some, codes, flat_map};
-ghost use Rattle.upload_wire.specs.Writing.{Wrote, sink};
-ghost use Rattle.upload_wire.specs.Gathering.{Puts};
-ghost use Rattle.upload_wire.specs.AskText.{CanBeWritten, IsAbsentOrGiven, ask_text, body_fields, digest_or_nothing, digest_query, host_text, is_host, look_method, message_of, query_text, range_fields, request_line, section_text};
+ghost use Rattle.http_wire.specs.Writing.{Wrote, sink};
+ghost use Rattle.http_wire.specs.Gathering.{Puts};
+ghost use Rattle.upload_wire.specs.AskText.{CanBeWritten, IsAbsentOrGiven, ask_of_chunk, ask_text, body_fields, digest_or_nothing, digest_query, host_text, is_host, look_method, message_of, query_text, range_fields, request_line, section_text};
 ghost use Rattle.upload_wire.specs.ReplyText.{print_field};
 
-use crate::bytes::ByteSink;
-use crate::client::gather::Gather;
-use crate::writing::WriteFault;
+use crate::client::transport::LentChunk;
+use http_wire::{ByteSink, Gather, WriteFault};
 use upload_names::{BlobDigest, RepoName};
 use upload_service::{Ask, Extent};
 
@@ -31,8 +30,34 @@ pub fn write_ask<W: ByteSink>(writer: &mut W, ask: &Ask, host: &[u8]) -> Result<
     head.finish(writer, body_of(ask))
 }
 
+/// Writes the ask of a chunk as `write_ask` does, from the bytes that are lent.
+pub(crate) fn write_chunk<W: ByteSink>(
+    writer: &mut W,
+    chunk: &LentChunk<'_>,
+    host: &[u8],
+) -> Result<(), WriteFault>
+    requires writable { CanBeWritten (ask_of_chunk chunk.now) }
+    requires host { IsTrue (is_host host.now) }
+    ensures wrote { Wrote (sink (W.contents writer.old) (W.failed_writes writer.old))
+        (sink (W.contents writer.new) (W.failed_writes writer.new)) (ask_text (ask_of_chunk chunk.now) host.now) result }
+    ensures flushed { OnOk result (IsTrue (W.is_flushed writer.new)) }
+{
+    let mut head = Gather::new();
+    put_path(
+        &mut head,
+        writer,
+        b"PATCH",
+        chunk.name,
+        b"/blobs/uploads/",
+        &chunk.at.text(),
+    );
+    put_host(&mut head, writer, host);
+    put_upload_section(&mut head, writer, &chunk.range, chunk.body);
+    head.finish(writer, chunk.body)
+}
+
 /// The bytes that follow the head.
-fn body_of(ask: &Ask) -> &[u8]
+pub(crate) fn body_of(ask: &Ask) -> &[u8]
     ensures { result.now ≡ (message_of ask.now).body }
 {
     match ask {

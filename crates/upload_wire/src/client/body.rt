@@ -1,14 +1,11 @@
 //! The body of a reply, read behind its head.
 ghost use Rattle.std.specs.Prelude.{◌≡◌, ◌≢◌, ◌<◌, [], Err};
-ghost use Rattle.upload_wire.specs.Counts.{CountsUp, CountsAtMost};
+ghost use Rattle.http_wire.specs.Counts.{CountsUp, CountsAtMost};
 ghost use Rattle.upload_wire.specs.AnswerReading.{FindsBody, IsSmall, MovesPart, MovesUpTo, Takes, end_of, fault_of};
 
-use crate::buffer::ReadBuffer;
-use crate::bytes::ByteSource;
 use crate::client::framing::AnswerFraming;
 use crate::client::heard::HeardFault;
-use crate::fault::WireFault;
-use crate::head::has_byte;
+use http_wire::{ByteSource, ReadBuffer, WireFault, has_byte};
 
 /// The most bytes of a reply's body.
 pub const MAX_ANSWER: usize = 65_536;

@@ -1,103 +1,128 @@
 //! The head of a reply, gathered line by line.
-ghost use Rattle.std.specs.Prelude.{◌≡◌, ◌++◌, ◌+◌, ◌≤◌, length, codes, flat_map};
+ghost use Rattle.std.specs.Prelude.{◌≡◌, ◌++◌, codes, flat_map};
 ghost use Rattle.httparse.specs.Ascii.{crlf_bytes};
-ghost use Rattle.upload_wire.specs.ReplyBuffer.{Puts};
+ghost use Rattle.http_wire.specs.Gathering.{Puts};
+ghost use Rattle.http_wire.specs.Writing.{sink};
 ghost use Rattle.upload_wire.specs.ReplyText.{allow_fields, bad, bad_status, blob_location, closing_fields, error_fields, length_field, print_field, range_fields, reply_head, reply_of, upload_fields, upload_location};
 
-use super::buffer::ReplyBuffer;
 use super::error::ErrorCode;
 use super::refusal::{methods, refusal_code, refusal_status};
 use super::status::Status;
-use crate::fault::{BAD_CODING, LARGE_BODY, LONG_HEAD};
+use http_wire::{Bad, ByteSink, Gather};
 use upload_names::{BlobDigest, RepoName, UploadRef};
 use upload_service::{Answer, Refusal};
 
 /// Adds a field.
-fn put_field(head: &mut ReplyBuffer, name: &[u8], value: &[u8])
-    ensures { Puts head.old head.new (print_field (name.now, value.now)) (length name.now + length value.now + 4) }
+fn put_field<W: ByteSink>(head: &mut Gather, writer: &mut W, name: &[u8], value: &[u8])
+    ensures { Puts (sink (W.contents writer.old) (W.failed_writes writer.old)) head.old
+        (sink (W.contents writer.new) (W.failed_writes writer.new)) head.new (print_field (name.now, value.now)) }
 {
-    head.put(name);
-    head.put(b": ");
-    head.put(value);
-    head.put(b"\r\n");
+    head.put(writer, name);
+    head.put(writer, b": ");
+    head.put(writer, value);
+    head.put(writer, b"\r\n");
 }
 
 /// Adds the length of the body.
-fn put_length(head: &mut ReplyBuffer, size: u64)
-    ensures { Puts head.old head.new (print_field (length_field size)) 38 }
+fn put_length<W: ByteSink>(head: &mut Gather, writer: &mut W, size: u64)
+    ensures { Puts (sink (W.contents writer.old) (W.failed_writes writer.old)) head.old
+        (sink (W.contents writer.new) (W.failed_writes writer.new)) head.new (print_field (length_field size)) }
 {
-    head.put(b"Content-Length: ");
-    head.put_number(size);
-    head.put(b"\r\n");
+    head.put(writer, b"Content-Length: ");
+    head.put_number(writer, size);
+    head.put(writer, b"\r\n");
 }
 
 /// Adds the place of an upload.
-fn put_upload_location(head: &mut ReplyBuffer, name: &RepoName, at: UploadRef)
-    ensures { Puts head.old head.new (print_field (codes "Location", upload_location name.now at)) 322 }
+fn put_upload_location<W: ByteSink>(
+    head: &mut Gather,
+    writer: &mut W,
+    name: &RepoName,
+    at: UploadRef,
+)
+    ensures { Puts (sink (W.contents writer.old) (W.failed_writes writer.old)) head.old
+        (sink (W.contents writer.new) (W.failed_writes writer.new)) head.new (print_field (codes "Location", upload_location name.now at)) }
 {
-    head.put(b"Location: /v2/");
-    head.put(name.as_str().as_bytes());
-    head.put(b"/blobs/uploads/");
-    head.put(&at.text());
-    head.put(b"\r\n");
+    head.put(writer, b"Location: /v2/");
+    head.put(writer, name.as_str().as_bytes());
+    head.put(writer, b"/blobs/uploads/");
+    head.put(writer, &at.text());
+    head.put(writer, b"\r\n");
 }
 
 /// Adds the place of a blob.
-fn put_blob_location(head: &mut ReplyBuffer, name: &RepoName, digest: BlobDigest)
-    ensures { Puts head.old head.new (print_field (codes "Location", blob_location name.now digest)) 413 }
+fn put_blob_location<W: ByteSink>(
+    head: &mut Gather,
+    writer: &mut W,
+    name: &RepoName,
+    digest: BlobDigest,
+)
+    ensures { Puts (sink (W.contents writer.old) (W.failed_writes writer.old)) head.old
+        (sink (W.contents writer.new) (W.failed_writes writer.new)) head.new (print_field (codes "Location", blob_location name.now digest)) }
 {
-    head.put(b"Location: /v2/");
-    head.put(name.as_str().as_bytes());
-    head.put(b"/blobs/");
-    head.put(digest.text().as_bytes());
-    head.put(b"\r\n");
+    head.put(writer, b"Location: /v2/");
+    head.put(writer, name.as_str().as_bytes());
+    head.put(writer, b"/blobs/");
+    head.put(writer, digest.text().as_bytes());
+    head.put(writer, b"\r\n");
 }
 
 /// Adds how many bytes an upload has, where it has some.
-fn put_range(head: &mut ReplyBuffer, next: u64)
-    ensures { Puts head.old head.new (flat_map print_field (range_fields next)) 31 }
+fn put_range<W: ByteSink>(head: &mut Gather, writer: &mut W, next: u64)
+    ensures { Puts (sink (W.contents writer.old) (W.failed_writes writer.old)) head.old
+        (sink (W.contents writer.new) (W.failed_writes writer.new)) head.new (flat_map print_field (range_fields next)) }
 {
     if next == 0 {
         return;
     }
-    head.put(b"Range: 0-");
-    head.put_number(next - 1);
-    head.put(b"\r\n");
+    head.put(writer, b"Range: 0-");
+    head.put_number(writer, next - 1);
+    head.put(writer, b"\r\n");
 }
 
 /// Adds the place of an upload and how many bytes it has.
-fn put_upload(head: &mut ReplyBuffer, name: &RepoName, at: UploadRef, next: u64)
-    ensures { Puts head.old head.new (flat_map print_field (upload_fields name.now at next)) 353 }
+fn put_upload<W: ByteSink>(
+    head: &mut Gather,
+    writer: &mut W,
+    name: &RepoName,
+    at: UploadRef,
+    next: u64,
+)
+    ensures { Puts (sink (W.contents writer.old) (W.failed_writes writer.old)) head.old
+        (sink (W.contents writer.new) (W.failed_writes writer.new)) head.new (flat_map print_field (upload_fields name.now at next)) }
 {
-    put_upload_location(head, name, at);
-    put_range(head, next);
+    put_upload_location(head, writer, name, at);
+    put_range(head, writer, next);
 }
 
 /// Adds the kind and the length of the body that names an error.
-fn put_error(head: &mut ReplyBuffer, code: ErrorCode)
-    ensures { Puts head.old head.new (flat_map print_field (error_fields code)) 70 }
+fn put_error<W: ByteSink>(head: &mut Gather, writer: &mut W, code: ErrorCode)
+    ensures { Puts (sink (W.contents writer.old) (W.failed_writes writer.old)) head.old
+        (sink (W.contents writer.new) (W.failed_writes writer.new)) head.new (flat_map print_field (error_fields code)) }
 {
-    put_field(head, b"Content-Type", b"application/json");
-    put_length(head, code.body().len() as u64);
+    put_field(head, writer, b"Content-Type", b"application/json");
+    put_length(head, writer, code.body().len() as u64);
 }
 
 /// Adds the methods of the form, where a method was refused.
-fn put_allow(head: &mut ReplyBuffer, refusal: Refusal)
-    ensures { Puts head.old head.new (flat_map print_field (allow_fields refusal)) 30 }
+fn put_allow<W: ByteSink>(head: &mut Gather, writer: &mut W, refusal: Refusal)
+    ensures { Puts (sink (W.contents writer.old) (W.failed_writes writer.old)) head.old
+        (sink (W.contents writer.new) (W.failed_writes writer.new)) head.new (flat_map print_field (allow_fields refusal)) }
 {
     if let Refusal::Method(form) = refusal {
-        put_field(head, b"Allow", methods(form).as_bytes());
+        put_field(head, writer, b"Allow", methods(form).as_bytes());
     }
 }
 
 /// Adds the field that closes the connection, where it closes, and the empty line.
-fn put_end(head: &mut ReplyBuffer, keep: bool)
-    ensures { Puts head.old head.new (flat_map print_field (closing_fields keep) ++ crlf_bytes) 21 }
+fn put_end<W: ByteSink>(head: &mut Gather, writer: &mut W, keep: bool)
+    ensures { Puts (sink (W.contents writer.old) (W.failed_writes writer.old)) head.old
+        (sink (W.contents writer.new) (W.failed_writes writer.new)) head.new (flat_map print_field (closing_fields keep) ++ crlf_bytes) }
 {
     if !keep {
-        put_field(head, b"Connection", b"close");
+        put_field(head, writer, b"Connection", b"close");
     }
-    head.put(b"\r\n");
+    head.put(writer, b"\r\n");
 }
 
 /// The status of a reply.
@@ -116,70 +141,79 @@ fn status_of(answer: &Answer) -> Status
 }
 
 /// Adds the fields of a reply, but for the one that closes the connection.
-fn put_fields(head: &mut ReplyBuffer, answer: &Answer)
-    ensures { Puts head.old head.new (flat_map print_field (reply_of answer.now).fields) 451 }
+fn put_fields<W: ByteSink>(head: &mut Gather, writer: &mut W, answer: &Answer)
+    ensures { Puts (sink (W.contents writer.old) (W.failed_writes writer.old)) head.old
+        (sink (W.contents writer.new) (W.failed_writes writer.new)) head.new (flat_map print_field (reply_of answer.now).fields) }
 {
     match answer {
-        Answer::Base | Answer::NoMemory => put_length(head, 0),
+        Answer::Base | Answer::NoMemory => put_length(head, writer, 0),
         Answer::Blob { digest, size, .. } => {
-            put_field(head, b"Docker-Content-Digest", digest.text().as_bytes());
-            put_field(head, b"Content-Type", b"application/octet-stream");
-            put_length(head, *size);
+            put_field(
+                head,
+                writer,
+                b"Docker-Content-Digest",
+                digest.text().as_bytes(),
+            );
+            put_field(head, writer, b"Content-Type", b"application/octet-stream");
+            put_length(head, writer, *size);
         }
         Answer::Begun { name, at } => {
-            put_upload_location(head, name, *at);
-            put_length(head, 0);
+            put_upload_location(head, writer, name, *at);
+            put_length(head, writer, 0);
         }
         Answer::Stored { name, digest } => {
-            put_blob_location(head, name, *digest);
-            put_length(head, 0);
+            put_blob_location(head, writer, name, *digest);
+            put_length(head, writer, 0);
         }
         Answer::Taken { name, at, next } => {
-            put_upload(head, name, *at, *next);
-            put_length(head, 0);
+            put_upload(head, writer, name, *at, *next);
+            put_length(head, writer, 0);
         }
-        Answer::Standing { name, at, next } => put_upload(head, name, *at, *next),
+        Answer::Standing { name, at, next } => put_upload(head, writer, name, *at, *next),
         Answer::Misplaced { name, at, next } => {
-            put_upload(head, name, *at, *next);
-            put_error(head, ErrorCode::BlobUploadInvalid);
+            put_upload(head, writer, name, *at, *next);
+            put_error(head, writer, ErrorCode::BlobUploadInvalid);
         }
         Answer::Refused(refusal) => {
-            put_allow(head, *refusal);
-            put_error(head, refusal_code(*refusal));
+            put_allow(head, writer, *refusal);
+            put_error(head, writer, refusal_code(*refusal));
         }
     }
 }
 
-/// The reply to an answer, up to its body.
-pub(super) fn reply_head(answer: &Answer, keep: bool) -> ReplyBuffer
-    ensures { result ≡ reply_head answer.now keep }
+/// Puts the reply to an answer, up to its body.
+pub(super) fn put_reply_head<W: ByteSink>(
+    head: &mut Gather,
+    writer: &mut W,
+    answer: &Answer,
+    keep: bool,
+)
+    ensures { Puts (sink (W.contents writer.old) (W.failed_writes writer.old)) head.old
+        (sink (W.contents writer.new) (W.failed_writes writer.new)) head.new (reply_head answer.now keep) }
 {
-    let mut head = ReplyBuffer::new();
-    head.put(status_of(answer).line().as_bytes());
-    put_fields(&mut head, answer);
-    put_end(&mut head, keep);
-    head
+    head.put(writer, status_of(answer).line().as_bytes());
+    put_fields(head, writer, answer);
+    put_end(head, writer, keep);
 }
 
-/// The status of the reply to a request that could not be read.
-fn bad_status(number: u8) -> Status
-    ensures { result ≡ bad_status number }
+/// The status of the reply to what is no request.
+fn bad_status(why: Bad) -> Status
+    ensures { result ≡ bad_status why }
 {
-    match number {
-        LONG_HEAD => Status::HeaderFieldsTooLarge,
-        LARGE_BODY => Status::ContentTooLarge,
-        BAD_CODING => Status::LengthRequired,
-        _ => Status::BadRequest,
+    match why {
+        Bad::Head | Bad::Length | Bad::Chunks => Status::BadRequest,
+        Bad::LongHead => Status::HeaderFieldsTooLarge,
+        Bad::TooLarge => Status::ContentTooLarge,
+        Bad::Coding => Status::LengthRequired,
     }
 }
 
-/// The reply to a request that could not be read.
-pub(super) fn bad_head(number: u8) -> ReplyBuffer
-    ensures { result ≡ bad number }
+/// Puts the reply to what is no request.
+pub(super) fn put_bad_head<W: ByteSink>(head: &mut Gather, writer: &mut W, why: Bad)
+    ensures { Puts (sink (W.contents writer.old) (W.failed_writes writer.old)) head.old
+        (sink (W.contents writer.new) (W.failed_writes writer.new)) head.new (bad why) }
 {
-    let mut head = ReplyBuffer::new();
-    head.put(bad_status(number).line().as_bytes());
-    put_length(&mut head, 0);
-    put_end(&mut head, false);
-    head
+    head.put(writer, bad_status(why).line().as_bytes());
+    put_length(head, writer, 0);
+    put_end(head, writer, false);
 }

@@ -165,7 +165,7 @@ fn ask_thrice(rt: &impl Abort, transport: &mut impl Transport) -> usize {
 /// Asks three times over a new transport, and says how many replies were heard, and what was written.
 fn asked(rt: &impl Abort, alloc: Global) -> Result<(usize, Vec<u8>), AllocError> {
     let mut sent = room(alloc)?;
-    let source = MemorySource::new(REPLIES, 1_000, false);
+    let source = MemorySource::new(REPLIES, 1, false);
     let mut heard = 0;
     if let Ok(transport) = WireTransport::new(alloc, source, ToWrite::new(&mut sent), b"h") {
         let mut transport = transport;

@@ -1,6 +1,6 @@
 use Rattle.std.proofs.Common.{refl}
 use Rattle.upload_wire.specs.Conversation.{source}
-use Rattle.upload_wire.specs.Writing.{sink}
+use Rattle.http_wire.specs.Writing.{sink}
 use Rattle.upload_wire.proofs.ConversationLemmas.{ends, ends_at_once, goes_on}
 use Rattle.upload_wire.proofs.connection.serve_connection.Goals as goal
 

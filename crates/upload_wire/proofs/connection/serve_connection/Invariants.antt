@@ -1,5 +1,5 @@
 use Rattle.upload_wire.specs.Conversation.{source}
-use Rattle.upload_wire.specs.Writing.{sink}
+use Rattle.http_wire.specs.Writing.{sink}
 use Rattle.upload_wire.proofs.ConversationLemmas.{SoFar}
 use Rattle.upload_wire.proofs.connection.serve_connection.Given as goal
 

@@ -1,9 +1,9 @@
 use Rattle.std.proofs.Common.{subst}
 use Rattle.std.specs.Prelude.{Ok}
 use Rattle.upload_wire.specs.Conversation.{source}
-use Rattle.upload_wire.specs.Writing.{sink}
+use Rattle.http_wire.specs.Writing.{sink}
 use Rattle.upload_wire.specs.RequestText.{ReadsNext}
-use Rattle.upload_wire.specs.declared.fault.WireFault.TheVariants.{Read}
+use Rattle.http_wire.specs.declared.fault.WireFault.TheVariants.{Read}
 use Rattle.upload_wire.proofs.ConversationLemmas.{ok_not_err, one_more, one_last}
 use Rattle.upload_wire.proofs.connection.serve_next.Goals as goal
 

@@ -1,6 +1,6 @@
 use Rattle.std.proofs.Common.{sym, ◌∙◌, ap}
 use Rattle.std.specs.Prelude.{Some}
-use Rattle.upload_wire.proofs.FieldLemmas.{not_both}
+use Rattle.http_wire.proofs.FieldLemmas.{not_both}
 use Rattle.upload_wire.proofs.CodeLemmas.{code_none, code_some}
 use Rattle.upload_wire.proofs.client.answer.code_of.Goals as goal
 

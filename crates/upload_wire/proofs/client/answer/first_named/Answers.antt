@@ -1,8 +1,8 @@
 use Rattle.std.proofs.Common.{refl, subst, sym, map, take, ◌≡◌}
 use Rattle.std.specs.Prelude.{option_map}
 use Rattle.httparse.specs.Spans.{header_bytes}
-use Rattle.upload_wire.specs.Fields.{values_of}
-use Rattle.upload_wire.proofs.FieldLemmas.{map_take-next}
+use Rattle.http_wire.specs.Fields.{values_of}
+use Rattle.http_wire.proofs.FieldLemmas.{map_take-next}
 use Rattle.upload_wire.specs.AnswerText.{first_of}
 use Rattle.upload_wire.proofs.client.answer.first_named.Goals as goal
 

@@ -1,7 +1,7 @@
 use Rattle.std.proofs.Common.{take, map, ◌≡◌}
 use Rattle.std.specs.Prelude.{option_map}
 use Rattle.httparse.specs.Spans.{header_bytes}
-use Rattle.upload_wire.specs.Fields.{values_of}
+use Rattle.http_wire.specs.Fields.{values_of}
 use Rattle.upload_wire.specs.AnswerText.{first_of}
 use Rattle.upload_wire.proofs.client.answer.first_named.Given as goal
 

@@ -2,14 +2,23 @@ use Rattle.std.proofs.Common.{◌∙◌, ap, sym, inl}
 use Rattle.std.specs.Prelude.{Err}
 use Rattle.upload_wire.specs.AnswerReading.{fault_of}
 use Rattle.upload_wire.specs.declared.client.heard.HeardFault.TheVariants as Fault
-use Rattle.upload_wire.proofs.AnswerLemmas.{reads_after, found_after, head_fault}
+use Rattle.upload_wire.proofs.AnswerLemmas.{reads_after, found_after, head_fault, head_over}
 use Rattle.upload_wire.proofs.AnswerBodyLemmas.{read_fault, err_same, wire_same}
+use Rattle.http_wire.proofs.ResponseLaws.{response_laws}
 use Rattle.upload_wire.proofs.client.answer.read_answer.Goals as goal
+
+pub read_head-requires : goal.read_head-requires
+read_head-requires g c = record { lawful = response_laws }
 
 pub returns-in-Ok-Head-clause-found : goal.returns-in-Ok-Head-clause-found
 returns-in-Ok-Head-clause-found g c =
     reads_after c.args.head_only c.args.buffer.now c.read_head.new.buffer c.read_framed.new.buffer _ _ _ c.read_framed.result _
     c.in-Ok-Head.ensures.gave c.read_framed.ensures.found
+
+pub returns-in-Ok-Over-clause-found : goal.returns-in-Ok-Over-clause-found
+returns-in-Ok-Over-clause-found g c =
+    found_after c.args.head_only c.args.buffer.now c.read_head.new.buffer c.read_head.new.buffer _ _ (Err Fault.Truncated) _ c.in-Ok-Over.ensures.gave
+    (head_over c.args.head_only c.read_head.new.buffer c.read_head.new.buffer _ c.args.keep.now (rw c.in-Ok-Over.field-0-is at c.in-Ok-Over.ensures.found))
 
 pub returns-in-Ok-Refused-clause-found : goal.returns-in-Ok-Refused-clause-found
 returns-in-Ok-Refused-clause-found g c =

@@ -1,7 +1,7 @@
 use Rattle.std.proofs.Common.{◌≡◌, ◌∙◌, sym, ap, true, false}
 use Rattle.std.specs.Prelude.{Some, None}
 use Rattle.httparse.specs.Spans.{header_bytes}
-use Rattle.upload_wire.specs.Fields.{same_word}
+use Rattle.http_wire.specs.Fields.{same_word}
 use Rattle.upload_wire.proofs.CodeLemmas.{first-match, first-other, first-kept}
 use Rattle.upload_wire.proofs.client.answer.with_first.Goals as goal
 

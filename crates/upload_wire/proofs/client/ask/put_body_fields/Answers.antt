@@ -1,6 +1,6 @@
 use Rattle.std.proofs.Common.{subst, append_assoc}
-use Rattle.upload_wire.specs.Writing.{sink}
-use Rattle.upload_wire.specs.Gathering.{Gathered}
+use Rattle.http_wire.specs.Writing.{sink}
+use Rattle.http_wire.specs.Gathering.{Gathered}
 use Rattle.upload_wire.proofs.client.ask.put_body_fields.Goals as goal
 
 pub returns : goal.returns

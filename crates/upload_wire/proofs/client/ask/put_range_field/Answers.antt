@@ -1,8 +1,8 @@
 use Rattle.std.proofs.Common.{◌∙◌, sym, ap, subst, ◌++◌}
 use Rattle.std.specs.Prelude.{flat_map}
 use Rattle.upload_names.specs.ByteRange.{Span}
-use Rattle.upload_wire.specs.Writing.{sink}
-use Rattle.upload_wire.specs.Gathering.{Gathered}
+use Rattle.http_wire.specs.Writing.{sink}
+use Rattle.http_wire.specs.Gathering.{Gathered}
 use Rattle.upload_wire.specs.AskText.{range_fields}
 use Rattle.upload_wire.specs.ReplyText.{print_field}
 use Rattle.upload_wire.proofs.AskTextLemmas.{range_text_is}

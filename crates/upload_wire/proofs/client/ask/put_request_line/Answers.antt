@@ -1,6 +1,6 @@
 use Rattle.std.proofs.Common.{◌∙◌, sym, ap, subst, ◌++◌}
-use Rattle.upload_wire.specs.Writing.{sink}
-use Rattle.upload_wire.specs.Gathering.{Gathered}
+use Rattle.http_wire.specs.Writing.{sink}
+use Rattle.http_wire.specs.Gathering.{Gathered}
 use Rattle.upload_wire.specs.AskText.{request_line, message_of}
 use Rattle.upload_wire.proofs.AskTextLemmas.{single_line, mount_line, chunk_line, status_line, close_line}
 use Rattle.upload_wire.proofs.client.ask.put_request_line.Goals as goal

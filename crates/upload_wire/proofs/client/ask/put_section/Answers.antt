@@ -1,6 +1,6 @@
 use Rattle.std.proofs.Common.{sym, ap, subst, ◌++◌, inl, inr}
-use Rattle.upload_wire.specs.Writing.{sink}
-use Rattle.upload_wire.specs.Gathering.{Gathered}
+use Rattle.http_wire.specs.Writing.{sink}
+use Rattle.http_wire.specs.Gathering.{Gathered}
 use Rattle.upload_wire.specs.AskText.{message_of, section_text}
 use Rattle.upload_wire.proofs.client.ask.put_section.Goals as goal
 

@@ -1,7 +1,10 @@
-use Rattle.std.proofs.Common.{append_assoc, arith}
-use Rattle.upload_wire.proofs.ReplyLemmas.{puts_as, puts_both}
+use Rattle.std.proofs.Common.{subst, append_assoc}
+use Rattle.http_wire.specs.Writing.{sink}
+use Rattle.http_wire.specs.Gathering.{Gathered}
 use Rattle.upload_wire.proofs.reply.head.put_field.Goals as goal
 
 pub returns : goal.returns
-returns c =
-    puts_as (simp append_assoc) (omega arith) (puts_both (puts_both (puts_both c.put.ensures c.put-2.ensures) c.put-3.ensures) c.put-4.ensures)
+returns g c = λ start before held.
+    subst (Gathered start (sink (g.W.ByteSink.contents c.put-4.new.writer) (g.W.ByteSink.failed_writes c.put-4.new.writer)) c.put-4.new.self)
+    (simp append_assoc)
+    (c.put-4.ensures start _ (c.put-3.ensures start _ (c.put-2.ensures start _ (c.put.ensures start before held))))

@@ -1,6 +1,10 @@
-use Rattle.std.proofs.Common.{append_assoc, arith}
-use Rattle.upload_wire.proofs.ReplyLemmas.{puts_as, puts_both}
+use Rattle.std.proofs.Common.{subst, append_assoc}
+use Rattle.http_wire.specs.Writing.{sink}
+use Rattle.http_wire.specs.Gathering.{Gathered}
 use Rattle.upload_wire.proofs.reply.head.put_length.Goals as goal
 
 pub returns : goal.returns
-returns c = puts_as (simp append_assoc) (omega arith) (puts_both (puts_both c.put.ensures c.put_number.ensures) c.put-2.ensures)
+returns g c = λ start before held.
+    subst (Gathered start (sink (g.W.ByteSink.contents c.put-2.new.writer) (g.W.ByteSink.failed_writes c.put-2.new.writer)) c.put-2.new.self)
+    (simp append_assoc)
+    (c.put-2.ensures start _ (c.put_number.ensures start _ (c.put.ensures start before held)))

@@ -1,10 +1,15 @@
-use Rattle.std.proofs.Common.{arith}
-use Rattle.upload_wire.proofs.ReplyLemmas.{puts_as, puts_both, puts_none, range_text}
+use Rattle.std.proofs.Common.{subst}
+use Rattle.std.proofs.lemmas.List.{append-nil}
+use Rattle.http_wire.specs.Writing.{sink}
+use Rattle.http_wire.specs.Gathering.{Gathered}
+use Rattle.upload_wire.proofs.ReplyLemmas.{range_text}
 use Rattle.upload_wire.proofs.reply.head.put_range.Goals as goal
 
 pub returns-then-next-eq0 : goal.returns-then-next-eq0
-returns-then-next-eq0 c = rw c.if-next-eq0.true (puts_none _ _)
+returns-then-next-eq0 g c = λ start before held. rw (c.if-next-eq0.true, append-nil before) held
 
 pub returns : goal.returns
-returns c =
-    puts_as (range_text c.args.next c.if-next-eq0.false) (omega arith) (puts_both (puts_both c.put.ensures c.put_number.ensures) c.put-2.ensures)
+returns g c = λ start before held.
+    subst (Gathered start (sink (g.W.ByteSink.contents c.put-2.new.writer) (g.W.ByteSink.failed_writes c.put-2.new.writer)) c.put-2.new.self)
+    (range_text before c.args.next c.if-next-eq0.false)
+    (c.put-2.ensures start _ (c.put_number.ensures start _ (c.put.ensures start before held)))

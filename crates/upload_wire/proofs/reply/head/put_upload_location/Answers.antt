@@ -1,9 +1,12 @@
-use Rattle.std.proofs.Common.{◌∙◌, ap, arith, length}
-use Rattle.upload_wire.proofs.ReplyLemmas.{puts_as, puts_both, upload_text}
+use Rattle.std.proofs.Common.{◌∙◌, subst}
+use Rattle.upload_wire.proofs.ReplyLemmas.{upload_text}
+use Rattle.http_wire.specs.Writing.{sink}
+use Rattle.http_wire.specs.Gathering.{Gathered}
 use Rattle.upload_wire.proofs.reply.head.put_upload_location.Goals as goal
 
 pub returns : goal.returns
-returns c =
+returns g c = λ start before held.
     let name = c.as_bytes.ensures.value ∙ c.as_str.ensures.text in
-    puts_as (upload_text name c.text.ensures.text) (omega (arith, ap length name, c.as_str.ensures.named.short))
-    (puts_both (puts_both (puts_both (puts_both c.put.ensures c.put-2.ensures) c.put-3.ensures) c.put-4.ensures) c.put-5.ensures)
+    subst (Gathered start (sink (g.W.ByteSink.contents c.put-5.new.writer) (g.W.ByteSink.failed_writes c.put-5.new.writer)) c.put-5.new.self)
+    (upload_text before name c.text.ensures.text)
+    (c.put-5.ensures start _ (c.put-4.ensures start _ (c.put-3.ensures start _ (c.put-2.ensures start _ (c.put.ensures start before held)))))

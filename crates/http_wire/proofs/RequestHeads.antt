@@ -1,0 +1,20 @@
+-- The laws of the heads of requests.
+use Rattle.std.proofs.Common.{ℕ, List, ◌∷◌, ◌++◌, arith}
+use Rattle.std.specs.List.{flat_map}
+use Rattle.httparse.specs.Grammar.{print_end, print_blank, print_version, print_field, print_section, print_request}
+use Rattle.http_wire.specs.RequestFronts.{requests}
+use Rattle.http_wire.proofs.HeadLemmas.{line_feeds-append, line_feeds-end, line_feeds-fields, HasLines}
+
+pub has_lines : HasLines requests
+unfolding print_request
+has_lines h =
+    let start : List ℕ = print_blank h.blank ++ h.method ++ 32 ∷ h.target ++ 32 ∷ print_version h.minor in
+    omega (
+      arith,
+      line_feeds-append (start ++ print_end h.line_end) (print_section h.fields h.last),
+      line_feeds-append start (print_end h.line_end),
+      line_feeds-end h.line_end,
+      line_feeds-append (flat_map print_field h.fields) (print_end h.last),
+      line_feeds-end h.last,
+      line_feeds-fields h.fields,
+    )

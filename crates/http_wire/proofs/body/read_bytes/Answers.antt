@@ -1,0 +1,34 @@
+use Rattle.std.proofs.Common.{◌≡◌, ◌-◌, ◌+◌, arith, subst, ◌∙◌}
+use Rattle.std.proofs.lemmas.Result.{err_from_is_err_and}
+use Rattle.http_wire.specs.BodyReading.{Moved}
+use Rattle.http_wire.proofs.MovedLemmas.{moved_both, bytes_fault}
+use Rattle.http_wire.proofs.body.read_bytes.Goals as goal
+
+pub loop-left-preserved : goal.loop-left-preserved
+loop-left-preserved g c =
+    let count = c.args.count in
+    let left = c.loop-left.left in
+    let part = c.in_ok-left.field-0 in
+    let found = c.in_ok-left.ensures.found in
+    let some = found.1 in
+    let few = found.2 in
+    let within = c.loop-left.invariant.within in
+    let done : (count - left) + part ≡ count - (left - part) = omega (arith, within, few) in
+    record {
+      within = omega (arith, within);
+      moved = subst (λ n. Moved (g.S.ByteSource.remaining c.args.source.now) c.args.buffer.now (g.B.BodyBuffer.bytes c.args.body.now)
+          (g.S.ByteSource.remaining c.read_part.new.source) c.read_part.new.buffer (g.B.BodyBuffer.bytes c.read_part.new.body) n) done
+          (moved_both _ _ _ _ _ _ _ _ _ (count - left) part c.loop-left.invariant.moved found.0);
+      reads = λ low. let before = c.loop-left.invariant.reads (omega (arith, low, done)) in
+          let one = c.read_part.ensures.reads (omega (arith, low, before, done, some)) in omega (arith, one, before, done, some);
+      unfailed = c.in_ok-left.ensures.unfailed (λ e. cc) ∙ c.loop-left.invariant.unfailed;
+    }
+
+pub returns-in_err-left-clause-found : goal.returns-in_err-left-clause-found
+returns-in_err-left-clause-found g c =
+    let within = c.loop-left.invariant.within in
+    let some = c.loop-left-test.true in
+    let p = err_from_is_err_and c.from_residual.result c.from_residual.ensures.1 in
+    rw (p.1, p.2)
+    (bytes_fault _ _ _ _ _ c.read_part.new.buffer _ _ (g.B.BodyBuffer.bytes c.read_part.new.body) (c.args.count - c.loop-left.left) c.loop-left.left c.args.count
+    c.in_err-left.field-0.0 c.loop-left.invariant.moved (omega (arith, within, some)) c.in_err-left.ensures.found)

@@ -1,0 +1,52 @@
+-- What the functions find that read a head, of any grammar.
+use Rattle.std.specs.Prelude.{◌≡◌, ℕ, ◌+◌, ◌<◌, ◌≤◌, ◌⊎◌, List, [], ◌∷◌, ◌++◌, length, take, drop, Option, Result, Ok, Err}
+use Rattle.std.specs.Io.KnownBytes.{IsAtEnd}
+use Rattle.httparse.specs.Ascii.{line_feed}
+use Rattle.http_wire.specs.Fronts.{max_head, Words, Reads, HasNone, IsRefused, IsTooLong, IsUnfinished, MayBeRefused}
+use Rattle.http_wire.specs.declared.head.Verdict.{Verdict}
+use Rattle.http_wire.specs.declared.head.Verdict.TheVariants.{Complete, Refused, Open}
+use Rattle.http_wire.specs.declared.head.HeadRead.{HeadRead}
+use Rattle.http_wire.specs.declared.head.HeadRead.TheVariants as Found
+use Rattle.http_wire.specs.declared.fault.WireFault.{WireFault}
+use Rattle.http_wire.specs.declared.fault.WireFault.TheVariants as Fault
+
+-- what a parser of the grammar answers: which heads that begin a text it covers, and how many bytes they have
+pub record Spans (P : Type 0) : Type 1 where
+  pub words : Words
+  pub IsHeadOf : List ℕ → P → Type 0
+  pub len : P → ℕ
+
+-- each head ends in a line feed, and what is covered is a head of the text
+pub record AreLawful {P : Type 0} (s : Spans P) : Type 0 where
+  pub ends : (h : s.words.Head) → (front : List ℕ) × (s.words.print h ≡ front ++ line_feed ∷ [])
+  pub fits : (text : List ℕ) (p : P) → s.IsHeadOf text p → s.len p ≤ length text
+  pub reads : (text : List ℕ) (p : P) → s.IsHeadOf text p → (h : s.words.Head) × Reads s.words text h (drop (s.len p) text)
+
+-- what the verdict says of a front
+abbrev pub Judges : {P : Type 0} → Spans P → List ℕ → Verdict P → Type 0
+Judges s front (Complete p) = s.IsHeadOf front p
+Judges s front Refused = MayBeRefused s.words front
+Judges s front Open = HasNone s.words front
+
+-- the head is the first bytes of the text
+pub record IsHeadAtFront {P : Type 0} (s : Spans P) (text : List ℕ) (p : P) : Type 0 where
+  pub short : s.len p ≤ max_head
+  pub in_range : s.len p ≤ length text
+  pub head : s.IsHeadOf (take (s.len p) text) p
+
+-- what the verdict on the front that ends at an index says of the text
+abbrev pub JudgesAt : {P : Type 0} → Spans P → List ℕ → ℕ → Verdict P → Type 0
+JudgesAt s text at (Complete p) = IsHeadAtFront s text p
+JudgesAt s text at Refused = IsRefused s.words text
+JudgesAt s text at Open = HasNone s.words (take (at + 1) text)
+
+-- what a read of a head found in the text that was read, where the source is left as new
+abbrev pub FindsHead : {P : Type 0} → Spans P → List ℕ → Option (List ℕ) → Result (HeadRead P) WireFault → Type 0
+FindsHead s text new (Ok Found.Over) = (text ≡ []) × IsAtEnd new
+FindsHead s text new (Ok Found.Refused) = IsRefused s.words text
+FindsHead s text new (Ok Found.TooLong) = IsTooLong s.words text
+FindsHead s text new (Ok (Found.Head p)) = IsHeadAtFront s text p
+FindsHead s text new (Err Fault.Truncated) = ((0 < length text) × IsUnfinished s.words text) × IsAtEnd new
+FindsHead s text new (Err Fault.Read) = (text ≡ []) ⊎ ((0 < length text) × IsUnfinished s.words text)
+FindsHead s text new (Err Fault.NoMemory) = ⊥
+FindsHead s text new (Err Fault.Ended) = ⊥

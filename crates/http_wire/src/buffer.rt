@@ -1,0 +1,117 @@
+//! Bytes that were read from a source and not taken yet.
+ghost use Rattle.std.specs.Prelude.{◌≡◌, ◌≢◌, ℕ, ◌+◌, ◌-◌, ◌<◌, ◌≤◌, List, [], ◌++◌, length, drop, take, Ok, Err, IfOk, OnErr, IfErr, IsTrue, IsFalse};
+ghost use Rattle.std.specs.Io.KnownBytes.{IsAtEnd};
+ghost use Rattle.std.specs.Result.{result_unwrap_or};
+ghost use Rattle.http_wire.specs.Counts.{CountsUp, CountsAtMost};
+ghost use Rattle.http_wire.specs.Reading.{Gave};
+
+use crate::bytes::ByteSource;
+use crate::fault::WireFault;
+use std::alloc::{AllocError, Global};
+use std::marker::Model;
+
+/// How many bytes one read may give.
+pub const CAPACITY: usize = 65_536;
+
+/// The bytes that were read and not taken, in a buffer of a fixed size.
+#[derive(Drop)]
+pub struct ReadBuffer {
+    bytes: Vec<u8>,
+    start: usize,
+    end: usize,
+}
+
+impl Model for ReadBuffer {
+    ghost use Rattle.std.specs.Prelude.{◌≡◌, ℕ, ◌≤◌, List, slice_range, length};
+
+    ghost Value = { List ℕ };
+
+    ghost view = { λ b. slice_range b.bytes.items b.start b.end };
+
+    ghost invariant = { λ b. (b.start ≤ b.end) × (b.end ≤ 65536) × (length b.bytes.items ≡ 65536) };
+}
+
+impl ReadBuffer {
+    /// An empty buffer. It is all the memory that it ever takes.
+    pub fn new(alloc: Global) -> Result<ReadBuffer, AllocError>
+        ensures { IfOk result (λ buffer. buffer ≡ []) }
+    {
+        let bytes = vec![in alloc; 0u8; CAPACITY]?;
+        Ok(ReadBuffer {
+            bytes,
+            start: 0,
+            end: 0,
+        })
+    }
+
+    /// The bytes that it holds.
+    pub fn as_slice(&self) -> &[u8]
+        ensures { result.now ≡ self.now }
+    {
+        &self.bytes[self.start..self.end]
+    }
+
+    /// How many bytes it holds.
+    pub fn len(&self) -> usize
+        ensures { result ≡ length self.now }
+    {
+        self.end - self.start
+    }
+
+    /// Drops the first bytes.
+    pub fn consume(&mut self, count: usize)
+        requires { count ≤ length self.old }
+        ensures { self.new ≡ drop count self.old }
+    {
+        self.start += count;
+    }
+
+    /// Reads once, behind what it holds. 0 is the end. A read that failed leaves what it holds.
+    pub fn fill<S: ByteSource>(&mut self, source: &mut S) -> Result<usize, WireFault>
+        requires { length self.old < CAPACITY }
+        ensures gave { Gave (S.remaining source.old) (S.remaining source.new) self.old self.new }
+        ensures count { IfOk result (λ n. length self.new ≡ length self.old + n) }
+        ensures end { IfOk result (λ n. n ≡ 0 → IsAtEnd (S.remaining source.new)) }
+        ensures error { IfErr result (λ e. e ≡ WireFault.Read) }
+        ensures kept { OnErr result (self.new ≡ self.old) }
+        ensures reads { CountsAtMost (S.reads source.old) (S.reads source.new) 1 }
+        ensures failed { result ≡ Err WireFault.Read
+            → CountsUp (S.failed_reads source.old) (S.failed_reads source.new) }
+        ensures unfailed { result ≢ Err WireFault.Read
+            → S.failed_reads source.new ≡ S.failed_reads source.old }
+    {
+        if self.end == CAPACITY {
+            self.bytes.copy_within(self.start..CAPACITY, 0);
+            self.end -= self.start;
+            self.start = 0;
+        }
+        let count = read_behind(source, &mut self.bytes, self.end)?;
+        self.end += count;
+        Ok(count)
+    }
+}
+
+/// Reads once into the bytes from this index on.
+fn read_behind<S: ByteSource>(
+    source: &mut S,
+    bytes: &mut [u8],
+    end: usize,
+) -> Result<usize, WireFault>
+    requires { end < length bytes.old }
+    ensures gave { Gave (S.remaining source.old) (S.remaining source.new)
+        (take end bytes.old) (take (end + result_unwrap_or result 0) bytes.new) }
+    ensures count { IfOk result (λ n. end + n ≤ length bytes.new) }
+    ensures end { IfOk result (λ n. n ≡ 0 → IsAtEnd (S.remaining source.new)) }
+    ensures error { IfErr result (λ e. e ≡ WireFault.Read) }
+    ensures kept { OnErr result (take end bytes.new ≡ take end bytes.old) }
+    ensures reads { CountsAtMost (S.reads source.old) (S.reads source.new) 1 }
+    ensures failed { result ≡ Err WireFault.Read
+        → CountsUp (S.failed_reads source.old) (S.failed_reads source.new) }
+    ensures unfailed { result ≢ Err WireFault.Read
+        → S.failed_reads source.new ≡ S.failed_reads source.old }
+{
+    match source.read(&mut bytes[end..]) {
+        Ok(count) => Ok(count),
+        Err(_) => Err(WireFault::Read),
+    }
+}

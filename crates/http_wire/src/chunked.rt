@@ -1,0 +1,211 @@
+//! Chunked bodies (RFC 9112, section 7.1), read chunk by chunk. A size line has 1 to 8 hexadecimal digits and
+//! no extension, and no trailer stands behind the last one.
+ghost use Rattle.std.specs.Prelude.{◌≡◌, ◌≢◌, ℕ, ◌+◌, ◌*◌, ◌-◌, ◌^◌, ◌<◌, ◌≤◌, List, [], ◌∷◌, ◌++◌, length, Ok, Err, MatchOption, IsFalse, true};
+ghost use Rattle.std.specs.Char.{is_ascii_hexdigit, digit_value};
+ghost use Rattle.http_wire.specs.Counts.{CountsUp, CountsAtMost};
+ghost use Rattle.http_wire.specs.SizeLines.{StandsAt, StepSays, IsBounded};
+ghost use Rattle.http_wire.specs.ChunkReading.{FindsLine, FindsEnd, FindsChunk};
+ghost use Rattle.http_wire.specs.BodyFinding.{FindsBody};
+
+use crate::body::{BodyBuffer, BodyEnd, read_bytes};
+use crate::buffer::ReadBuffer;
+use crate::bytes::ByteSource;
+use crate::fault::{Bad, WireFault};
+use crate::framing::Framing;
+use crate::head::has_byte;
+
+/// What was read of a size line.
+#[derive(Clone, Copy)]
+pub enum LineState {
+    /// So many digits, and their value.
+    Digits(u8, u64),
+    /// The digits' value, and the CR behind them.
+    Ended(u64),
+}
+
+/// What one more byte makes of a size line.
+#[derive(Clone, Copy)]
+pub enum LineStep {
+    More(LineState),
+    Whole(u64),
+    Broken,
+}
+
+/// A size line that was read.
+#[derive(Clone, Copy)]
+pub enum LineRead {
+    Size(u64),
+    /// A byte came after which nothing makes it a size line.
+    Broken,
+}
+
+/// A chunk that was read.
+#[derive(Clone, Copy, Debug, PartialEq, Eq)]
+pub enum ChunkRead {
+    /// A chunk with data.
+    More,
+    /// The end.
+    Last,
+    /// Neither: `TooLarge` where its size takes the body over the limit, and else `Chunks`.
+    Refused(Bad),
+}
+
+/// The value of a hexadecimal digit.
+fn hex_value(byte: u8) -> Option<u64>
+    ensures { MatchOption result (IsFalse (is_ascii_hexdigit byte))
+        (λ v. (is_ascii_hexdigit byte ≡ true) × (v ≡ digit_value byte) × (v < 16)) }
+{
+    match byte {
+        b'0'..=b'9' => Some(u64::from(byte - b'0')),
+        b'a'..=b'f' => Some(u64::from(byte - b'a') + 10),
+        b'A'..=b'F' => Some(u64::from(byte - b'A') + 10),
+        _ => None,
+    }
+}
+
+/// A size line with one more byte.
+fn line_step(state: LineState, byte: u8) -> LineStep
+    requires { IsBounded state }
+    ensures { (front : List ℕ) → StandsAt front state → StepSays (front ++ byte ∷ []) result }
+{
+    match state {
+        LineState::Ended(value) => {
+            if byte == b'\n' {
+                LineStep::Whole(value)
+            } else {
+                LineStep::Broken
+            }
+        }
+        LineState::Digits(count, value) => {
+            if byte == b'\r' {
+                if count == 0 {
+                    LineStep::Broken
+                } else {
+                    LineStep::More(LineState::Ended(value))
+                }
+            } else if count == 8 {
+                LineStep::Broken
+            } else {
+                match hex_value(byte) {
+                    Some(digit) => LineStep::More(LineState::Digits(count + 1, value * 16 + digit)),
+                    None => LineStep::Broken,
+                }
+            }
+        }
+    }
+}
+
+/// Reads a size line, and takes it out of the buffer.
+fn read_line<S: ByteSource>(source: &mut S, buffer: &mut ReadBuffer) -> Result<LineRead, WireFault>
+    ensures found { FindsLine (S.remaining source.old) buffer.old (S.remaining source.new) buffer.new result }
+    ensures reads { CountsAtMost (S.reads source.old) (S.reads source.new) 10 }
+    ensures failed { result ≡ Err WireFault.Read
+        → CountsUp (S.failed_reads source.old) (S.failed_reads source.new) }
+    ensures unfailed { result ≢ Err WireFault.Read
+        → S.failed_reads source.new ≡ S.failed_reads source.old }
+{
+    let mut state = LineState::Digits(0, 0);
+    for at in 0..10usize {
+        if !has_byte(source, buffer, at)? {
+            return Err(WireFault::Truncated);
+        }
+        match line_step(state, buffer.as_slice()[at]) {
+            LineStep::More(next) => state = next,
+            LineStep::Whole(size) => {
+                buffer.consume(at + 1);
+                return Ok(LineRead::Size(size));
+            }
+            LineStep::Broken => return Ok(LineRead::Broken),
+        }
+    }
+    unreachable!()
+}
+
+/// Reads a line end, CR LF, and takes it out of the buffer. `false`: a byte came that isn't one of it.
+fn read_line_end<S: ByteSource>(source: &mut S, buffer: &mut ReadBuffer) -> Result<bool, WireFault>
+    ensures found { FindsEnd (S.remaining source.old) buffer.old (S.remaining source.new) buffer.new result }
+    ensures reads { CountsAtMost (S.reads source.old) (S.reads source.new) 2 }
+    ensures failed { result ≡ Err WireFault.Read
+        → CountsUp (S.failed_reads source.old) (S.failed_reads source.new) }
+    ensures unfailed { result ≢ Err WireFault.Read
+        → S.failed_reads source.new ≡ S.failed_reads source.old }
+{
+    if !has_byte(source, buffer, 0)? {
+        return Err(WireFault::Truncated);
+    }
+    if buffer.as_slice()[0] != b'\r' {
+        return Ok(false);
+    }
+    if !has_byte(source, buffer, 1)? {
+        return Err(WireFault::Truncated);
+    }
+    if buffer.as_slice()[1] != b'\n' {
+        return Ok(false);
+    }
+    buffer.consume(2);
+    Ok(true)
+}
+
+/// Reads one chunk and adds its data to the body, or reads the end.
+fn read_chunk<S: ByteSource, B: BodyBuffer>(
+    source: &mut S,
+    buffer: &mut ReadBuffer,
+    body: &mut B,
+    room: u64,
+) -> Result<ChunkRead, WireFault>
+    requires { room ≤ 2 ^ 31 }
+    ensures found { FindsChunk room (S.remaining source.old) buffer.old (B.bytes body.old) (S.remaining source.new)
+        buffer.new (B.bytes body.new) result }
+    ensures reads { CountsAtMost (S.reads source.old) (S.reads source.new) (12 + room) }
+    ensures few { result ≡ Ok ChunkRead.More → CountsAtMost (S.reads source.old) (S.reads source.new)
+        (12 + (length (B.bytes body.new) - length (B.bytes body.old))) }
+    ensures failed { result ≡ Err WireFault.Read
+        → CountsUp (S.failed_reads source.old) (S.failed_reads source.new) }
+    ensures unfailed { result ≢ Err WireFault.Read
+        → S.failed_reads source.new ≡ S.failed_reads source.old }
+{
+    let LineRead::Size(size) = read_line(source, buffer)? else {
+        return Ok(ChunkRead::Refused(Bad::Chunks));
+    };
+    if size > room {
+        return Ok(ChunkRead::Refused(Bad::TooLarge));
+    }
+    read_bytes(source, buffer, body, size as usize)?;
+    if !read_line_end(source, buffer)? {
+        return Ok(ChunkRead::Refused(Bad::Chunks));
+    }
+    if size == 0 {
+        Ok(ChunkRead::Last)
+    } else {
+        Ok(ChunkRead::More)
+    }
+}
+
+/// Reads chunks up to the end, and puts their data into an empty buffer.
+pub fn read_chunks<S: ByteSource, B: BodyBuffer>(
+    source: &mut S,
+    buffer: &mut ReadBuffer,
+    body: &mut B,
+    max_body: u64,
+) -> Result<BodyEnd, WireFault>
+    requires limit { max_body ≤ 2 ^ 31 }
+    requires empty { B.bytes body.old ≡ [] }
+    ensures found { FindsBody max_body Framing.Chunked (S.remaining source.old) buffer.old (S.remaining source.new)
+        buffer.new (B.bytes body.new) result }
+    ensures reads { CountsAtMost (S.reads source.old) (S.reads source.new) (12 + 13 * max_body) }
+    ensures failed { result ≡ Err WireFault.Read
+        → CountsUp (S.failed_reads source.old) (S.failed_reads source.new) }
+    ensures unfailed { result ≢ Err WireFault.Read
+        → S.failed_reads source.new ≡ S.failed_reads source.old }
+{
+    // Each chunk but the last has a byte, so there are at most one more than the most bytes of a body.
+    for _chunk in 0..max_body + 1 {
+        let room = max_body - body.len() as u64;
+        match read_chunk(source, buffer, body, room)? {
+            ChunkRead::More => {}
+            ChunkRead::Last => return Ok(BodyEnd::Whole),
+            ChunkRead::Refused(bad) => return Ok(BodyEnd::Refused(bad)),
+        }
+    }
+    unreachable!()
+}

@@ -1,0 +1,79 @@
+//! The head of a message, gathered so that it leaves in one write where it is short.
+ghost use Rattle.std.specs.Prelude.{◌≡◌, ◌++◌, ℕ, List, [], false, decimal, IsTrue, OnOk};
+ghost use Rattle.http_wire.specs.Writing.{Sink, Wrote, sink};
+ghost use Rattle.http_wire.specs.Gathering.{Gathered, Puts};
+
+use crate::bytes::ByteSink;
+use crate::writing::{WriteFault, then_flush, then_write, write_all};
+use arrayvec::ArrayVec;
+use itoa::Buffer;
+use std::marker::Model;
+
+/// The bytes of a head that were not written yet, at most 1,024, and whether a write failed. After
+/// that nothing more is written.
+#[derive(Drop)]
+pub struct Gather {
+    bytes: ArrayVec<u8, 1024>,
+    failed: bool,
+}
+
+impl Model for Gather {
+    ghost use Rattle.http_wire.specs.Gathering.{Held};
+
+    ghost Value = { Held };
+
+    ghost view = { λ g. record { bytes = g.bytes.items; failed = g.failed } };
+}
+
+impl Gather {
+    /// Nothing yet.
+    pub fn new() -> Gather
+        ensures { result ≡ record { bytes = []; failed = false } }
+    {
+        Gather {
+            bytes: ArrayVec::new(),
+            failed: false,
+        }
+    }
+
+    /// Puts bytes behind those that it has. Where they don't fit, what it has is written first.
+    pub fn put<W: ByteSink>(&mut self, writer: &mut W, text: &[u8])
+        ensures { Puts (sink (W.contents writer.old) (W.failed_writes writer.old)) self.old
+            (sink (W.contents writer.new) (W.failed_writes writer.new)) self.new text.now }
+    {
+        if self.failed {
+            return;
+        }
+        if self.bytes.try_extend_from_slice(text).is_ok() {
+            return;
+        }
+        let done = write_all(writer, self.bytes.as_slice());
+        self.bytes.clear();
+        self.failed = then_write(done, writer, text).is_err();
+    }
+
+    /// Puts the decimal digits of a number.
+    pub fn put_number<W: ByteSink>(&mut self, writer: &mut W, number: u64)
+        ensures { Puts (sink (W.contents writer.old) (W.failed_writes writer.old)) self.old
+            (sink (W.contents writer.new) (W.failed_writes writer.new)) self.new (decimal number) }
+    {
+        let mut digits = Buffer::new();
+        let text = digits.format(number);
+        self.put(writer, text.as_bytes());
+    }
+
+    /// Writes what it has and the body behind it, and flushes.
+    pub fn finish<W: ByteSink>(self, writer: &mut W, body: &[u8]) -> Result<(), WriteFault>
+        ensures wrote { (start : Sink) (before : List ℕ)
+            → Gathered start (sink (W.contents writer.old) (W.failed_writes writer.old)) self before
+            → Wrote start (sink (W.contents writer.new) (W.failed_writes writer.new)) (before ++ body.now) result }
+        ensures flushed { OnOk result (IsTrue (W.is_flushed writer.new)) }
+    {
+        if self.failed {
+            return Err(WriteFault);
+        }
+        let done = write_all(writer, self.bytes.as_slice());
+        let done = then_write(done, writer, body);
+        then_flush(done, writer)
+    }
+}

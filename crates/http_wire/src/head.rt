@@ -1,0 +1,148 @@
+//! Heads, read from a source of bytes.
+ghost use Rattle.std.specs.Prelude.{◌≡◌, ◌≢◌, ℕ, ◌+◌, ◌<◌, ◌≤◌, List, length, take, Ok, Err, IfOk, IfErr, OnErr, IsTrue, IsFalse};
+ghost use Rattle.std.specs.Io.KnownBytes.{IsAtEnd};
+ghost use Rattle.http_wire.specs.Counts.{CountsUp, CountsAtMost};
+ghost use Rattle.http_wire.specs.Fronts.{line_feeds, HasNone};
+ghost use Rattle.http_wire.specs.Reading.{Gave};
+ghost use Rattle.http_wire.specs.HeadReading.{Spans, AreLawful, Judges, JudgesAt, FindsHead};
+
+use crate::buffer::{CAPACITY, ReadBuffer};
+use crate::bytes::ByteSource;
+use crate::fault::WireFault;
+
+/// The most bytes of a head, with its empty line.
+pub const MAX_HEAD: usize = 16_384;
+
+/// The most fields of a head.
+pub const MAX_FIELDS: usize = 64;
+
+/// What a front of the input is.
+#[derive(Clone, Copy)]
+pub enum Verdict<P> {
+    /// It is a head.
+    Complete(P),
+    /// No head of the limits begins with it.
+    Refused,
+    /// It is no head yet.
+    Open,
+}
+
+/// What stands at the front of the input.
+#[derive(Clone, Copy)]
+pub enum HeadRead<P> {
+    /// The input has no more bytes.
+    Over,
+    /// No head.
+    Refused,
+    /// The most bytes of a head, and no head in them.
+    TooLong,
+    /// A head.
+    Head(P),
+}
+
+/// A grammar of heads, and the parser that is asked for a verdict.
+pub trait Grammar {
+    /// Where the parts of a head are.
+    type Parsed: Copy;
+
+    // What the parser answers.
+    ghost spans: { Spans Self.Parsed };
+
+    /// Asks the parser for a verdict on a front of the input.
+    fn judge(front: &[u8]) -> Verdict<Self::Parsed>
+        ensures { Judges spans front.now result };
+}
+
+/// The verdict on the front that ends at a byte, where so many lines ended before it. A head ends in a line
+/// feed, and one of 64 fields has 66 of them where no empty line stands in front of it: a front with as many
+/// that is no head is given up, so that a hostile head costs at most 66 verdicts.
+fn judge_at<G: Grammar>(text: &[u8], at: usize, lines: usize) -> Verdict<G::Parsed>
+    requires lawful { AreLawful G.spans }
+    requires in_range { at < length text.now }
+    requires short { at < MAX_HEAD }
+    requires counted { lines ≡ line_feeds (take at text.now) }
+    requires none_before { HasNone G.spans.words (take at text.now) }
+    ensures { JudgesAt G.spans text.now at result }
+{
+    if text[at] != b'\n' {
+        return Verdict::Open;
+    }
+    let verdict = G::judge(&text[..at + 1]);
+    if lines <= MAX_FIELDS {
+        return verdict;
+    }
+    match verdict {
+        Verdict::Open => Verdict::Refused,
+        verdict => verdict,
+    }
+}
+
+/// How many lines ended up to a byte, where so many ended before it.
+pub fn lines_after(text: &[u8], at: usize, lines: usize) -> usize
+    requires in_range { at < length text.now }
+    requires short { at < MAX_HEAD }
+    requires counted { lines ≡ line_feeds (take at text.now) }
+    ensures { result ≡ line_feeds (take (at + 1) text.now) }
+{
+    if text[at] == b'\n' { lines + 1 } else { lines }
+}
+
+/// Reads until the buffer has a byte at this index. `false`: the input ended before it. A read that
+/// failed leaves what the buffer holds.
+pub fn has_byte<S: ByteSource>(
+    source: &mut S,
+    buffer: &mut ReadBuffer,
+    at: usize,
+) -> Result<bool, WireFault>
+    requires near { at ≤ length buffer.old }
+    requires small { at < CAPACITY }
+    ensures gave { Gave (S.remaining source.old) (S.remaining source.new) buffer.old buffer.new }
+    ensures there { IfOk result (λ b. IsTrue b → at < length buffer.new) }
+    ensures ended { IfOk result (λ b. IsFalse b → (length buffer.new ≡ at)
+        × (buffer.new ≡ buffer.old) × IsAtEnd (S.remaining source.new)) }
+    ensures error { IfErr result (λ e. e ≡ WireFault.Read) }
+    ensures kept { OnErr result ((length buffer.new ≡ at) × (buffer.new ≡ buffer.old)) }
+    ensures reads { CountsAtMost (S.reads source.old) (S.reads source.new) 1 }
+    ensures failed { result ≡ Err WireFault.Read
+        → CountsUp (S.failed_reads source.old) (S.failed_reads source.new) }
+    ensures unfailed { result ≢ Err WireFault.Read
+        → S.failed_reads source.new ≡ S.failed_reads source.old }
+{
+    if at < buffer.len() {
+        return Ok(true);
+    }
+    Ok(buffer.fill(source)? > 0)
+}
+
+/// Reads a head, behind what the buffer holds of it.
+pub fn read_head<G: Grammar, S: ByteSource>(
+    source: &mut S,
+    buffer: &mut ReadBuffer,
+) -> Result<HeadRead<G::Parsed>, WireFault>
+    requires lawful { AreLawful G.spans }
+    ensures gave { Gave (S.remaining source.old) (S.remaining source.new) buffer.old buffer.new }
+    ensures found { FindsHead G.spans buffer.new (S.remaining source.new) result }
+    ensures reads { CountsAtMost (S.reads source.old) (S.reads source.new) MAX_HEAD }
+    ensures failed { result ≡ Err WireFault.Read
+        → CountsUp (S.failed_reads source.old) (S.failed_reads source.new) }
+    ensures unfailed { result ≢ Err WireFault.Read
+        → S.failed_reads source.new ≡ S.failed_reads source.old }
+{
+    let mut lines = 0;
+    for at in 0..MAX_HEAD {
+        if !has_byte(source, buffer, at)? {
+            return if at == 0 {
+                Ok(HeadRead::Over)
+            } else {
+                Err(WireFault::Truncated)
+            };
+        }
+        match judge_at::<G>(buffer.as_slice(), at, lines) {
+            Verdict::Complete(parsed) => return Ok(HeadRead::Head(parsed)),
+            Verdict::Refused => return Ok(HeadRead::Refused),
+            Verdict::Open => {}
+        }
+        lines = lines_after(buffer.as_slice(), at, lines);
+    }
+    Ok(HeadRead::TooLong)
+}

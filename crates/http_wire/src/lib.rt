@@ -1,0 +1,36 @@
+//! HTTP/1.1 messages, from bytes and to bytes (RFC 9112): what is the same for each service and each client.
+//!
+//! Readers and writers (`bytes`) tell their contracts which bytes they move and how often they are called. What is read
+//! stands in one buffer (`buffer`) until it is taken. A head is read by one loop over the grammar of requests
+//! (`requests`) or of responses (`responses`), and its fields (`fields`, `elements`) say how its body is framed
+//! (`framing`), which is read behind it (`body`, `chunked`). What is written goes out whole (`writing`), and a head is
+//! gathered first (`gather`).
+#![tactic(auto)]
+
+mod body;
+mod buffer;
+mod bytes;
+mod chunked;
+mod elements;
+mod fault;
+mod fields;
+mod framing;
+mod gather;
+mod head;
+mod requests;
+mod responses;
+mod writing;
+
+pub use body::{BodyBuffer, BodyEnd, read_body};
+pub use buffer::{CAPACITY, ReadBuffer};
+pub use bytes::{ByteSink, ByteSource, Failed, FromRead, ToWrite};
+pub use fault::{Bad, WireFault};
+pub use fields::{
+    Occurrence, field_among, field_named, is_same_word, keeps_connection, lists_close,
+};
+pub use framing::{Framing, framing_of, length_of};
+pub use gather::Gather;
+pub use head::{Grammar, HeadRead, MAX_FIELDS, MAX_HEAD, Verdict, has_byte, read_head};
+pub use requests::{ParsedRequest, Requests};
+pub use responses::{ParsedResponse, Responses};
+pub use writing::{WriteFault, then_flush, then_write, write_all};

@@ -1,0 +1,12 @@
+//! Where the parts of a request's head are.
+ghost use Rattle.std.specs.Prelude.{◌≤◌};
+
+use httparse::spans::{HeaderSpan, RequestSpans};
+
+/// Where the parts of a head are: of its 64 places for fields the first `spans.headers` count.
+#[derive(Clone, Copy)]
+pub struct ParsedRequest {
+    pub spans: RequestSpans,
+    pub headers: [HeaderSpan; 64],
+    ghost count_fits: { spans.headers ≤ 64 },
+}

@@ -1,0 +1,27 @@
+//! The grammar of replies.
+ghost use Rattle.http_wire.specs.ResponseSpans.{response_spans};
+
+mod parsed;
+
+use crate::head::{Grammar, MAX_FIELDS, Verdict};
+use httparse::Status;
+use httparse::spans::{EMPTY_HEADER_SPAN, parse_response};
+pub use parsed::ParsedResponse;
+
+/// The heads of replies.
+pub struct Responses;
+
+impl Grammar for Responses {
+    type Parsed = ParsedResponse;
+
+    ghost spans = { response_spans };
+
+    fn judge(front: &[u8]) -> Verdict<ParsedResponse> {
+        let mut headers = [EMPTY_HEADER_SPAN; MAX_FIELDS];
+        match parse_response(front, &mut headers) {
+            Ok(Status::Complete(spans)) => Verdict::Complete(ParsedResponse { spans, headers }),
+            Ok(Status::Partial) => Verdict::Open,
+            Err(_) => Verdict::Refused,
+        }
+    }
+}

@@ -1,0 +1,55 @@
+//! Writes of whole texts.
+ghost use Rattle.std.specs.Prelude.{◌≡◌, ◌++◌, List, ℕ, IsTrue, OnOk};
+ghost use Rattle.http_wire.specs.Writing.{Sink, Wrote, sink};
+
+use crate::bytes::ByteSink;
+
+/// A write or a flush failed. What was written up to then is a front of the text.
+#[derive(Clone, Copy, Debug, PartialEq, Eq)]
+pub struct WriteFault;
+
+/// Writes all the bytes, in one write where the writer takes them so.
+pub fn write_all<W: ByteSink>(writer: &mut W, bytes: &[u8]) -> Result<(), WriteFault>
+    ensures { Wrote (sink (W.contents writer.old) (W.failed_writes writer.old))
+        (sink (W.contents writer.new) (W.failed_writes writer.new)) bytes.now result }
+{
+    let mut at = 0;
+    while at < bytes.len() {
+        match writer.write(&bytes[at..]) {
+            Ok(count) => at += count,
+            Err(_) => return Err(WriteFault),
+        }
+    }
+    Ok(())
+}
+
+/// Writes these bytes too, unless a write has failed.
+pub fn then_write<W: ByteSink>(
+    done: Result<(), WriteFault>,
+    writer: &mut W,
+    bytes: &[u8],
+) -> Result<(), WriteFault>
+    ensures { (start : Sink) (text : List ℕ)
+        → Wrote start (sink (W.contents writer.old) (W.failed_writes writer.old)) text done
+        → Wrote start (sink (W.contents writer.new) (W.failed_writes writer.new)) (text ++ bytes.now) result }
+{
+    done?;
+    write_all(writer, bytes)
+}
+
+/// Flushes, unless a write has failed.
+pub fn then_flush<W: ByteSink>(
+    done: Result<(), WriteFault>,
+    writer: &mut W,
+) -> Result<(), WriteFault>
+    ensures wrote { (start : Sink) (text : List ℕ)
+        → Wrote start (sink (W.contents writer.old) (W.failed_writes writer.old)) text done
+        → Wrote start (sink (W.contents writer.new) (W.failed_writes writer.new)) text result }
+    ensures flushed { OnOk result (IsTrue (W.is_flushed writer.new)) }
+{
+    done?;
+    match writer.flush() {
+        Ok(()) => Ok(()),
+        Err(_) => Err(WriteFault),
+    }
+}

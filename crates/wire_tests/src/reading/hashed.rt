@@ -1,0 +1,173 @@
+//! Which bodies carry the hash of their bytes, and by which algorithm. No contract says it: a hash that is there is
+//! right, and where there is none the service makes it, so that only speed hangs on it.
+
+use super::{DIGEST, UPLOAD};
+use crate::content::content;
+use crate::expect::same;
+use crate::memory::MemorySource;
+use std::alloc::Global;
+use std::process::Abort;
+use std::test::Fail;
+use upload_names::{Algorithm, Bytes};
+use upload_service::{Ask, Limits};
+use upload_wire::{Next, RequestReader};
+
+const LIMITS: Limits = Limits {
+    max_blob: 1_000_000,
+    max_body: 1_000_000,
+    max_open: 1,
+    max_idle: 1,
+};
+
+const DIGEST_512: &str =
+    "sha512:ddaf35a193617abacc417349ae20413112e6fa4e89a97ea20a9eeee64b55d39a2192992a274fc1a836ba3c23a3feebbd454d4423643ce80e2a9ac94fa54ca49f";
+
+const SINGLE: &str = "/v2/lib/a/blobs/uploads/";
+
+const SHA256: Option<Algorithm> = Some(Algorithm::Sha256);
+
+const SHA512: Option<Algorithm> = Some(Algorithm::Sha512);
+
+/// How a body of so many bytes is sent: behind its length, or as one chunk.
+#[derive(Clone, Copy)]
+enum Framed {
+    Sized(usize),
+    Chunked(usize),
+}
+
+/// A method, a path, the digest in the query, further fields, the body, and by what it is hashed as it comes.
+type Row = (
+    &'static str,
+    &'static str,
+    &'static str,
+    &'static str,
+    Framed,
+    Option<Algorithm>,
+);
+
+static ROWS: [Row; 17] = [
+    ("POST", SINGLE, DIGEST, "", Framed::Sized(65_536), None),
+    ("POST", SINGLE, DIGEST, "", Framed::Sized(65_537), SHA256),
+    (
+        "POST",
+        SINGLE,
+        DIGEST_512,
+        "",
+        Framed::Sized(65_537),
+        SHA512,
+    ),
+    ("POST", SINGLE, DIGEST_512, "", Framed::Chunked(3), SHA512),
+    ("POST", SINGLE, "x", "", Framed::Chunked(3), None),
+    ("PATCH", UPLOAD, "", "", Framed::Sized(65_536), None),
+    ("PATCH", UPLOAD, "", "", Framed::Sized(65_537), SHA256),
+    ("PATCH", UPLOAD, "", "", Framed::Chunked(3), SHA256),
+    (
+        "PATCH",
+        UPLOAD,
+        "",
+        "Content-Range: 0-2\r\n",
+        Framed::Chunked(3),
+        SHA256,
+    ),
+    (
+        "PATCH",
+        UPLOAD,
+        "",
+        "Content-Range: 1-3\r\n",
+        Framed::Chunked(3),
+        None,
+    ),
+    (
+        "PATCH",
+        UPLOAD,
+        "",
+        "Content-Range: x\r\n",
+        Framed::Chunked(3),
+        None,
+    ),
+    ("PUT", UPLOAD, DIGEST, "", Framed::Chunked(3), SHA256),
+    ("PUT", UPLOAD, DIGEST_512, "", Framed::Sized(65_537), SHA512),
+    (
+        "PUT",
+        UPLOAD,
+        DIGEST_512,
+        "Content-Range: 0-65536\r\n",
+        Framed::Sized(65_537),
+        SHA512,
+    ),
+    (
+        "PUT",
+        UPLOAD,
+        DIGEST_512,
+        "Content-Range: 1-65537\r\n",
+        Framed::Sized(65_537),
+        None,
+    ),
+    ("PUT", UPLOAD, "", "", Framed::Chunked(3), None),
+    ("PUT", UPLOAD, DIGEST, "", Framed::Sized(3), None),
+];
+
+/// The request of a row.
+fn request_of(alloc: Global, row: &Row) -> Result<Vec<u8>, Fail> {
+    let (method, path, digest, fields, framed, _) = row;
+    let head = format!(in alloc; "{method} {path}?digest={digest} HTTP/1.1\r\n{fields}")?;
+    let mut text = head.as_bytes().to_vec(alloc)?;
+    let (field, size, end) = match framed {
+        Framed::Sized(size) => (
+            format!(in alloc; "Content-Length: {size}\r\n\r\n")?,
+            *size,
+            "",
+        ),
+        Framed::Chunked(size) => (
+            format!(in alloc; "Transfer-Encoding: chunked\r\n\r\n{size:x}\r\n")?,
+            *size,
+            "\r\n0\r\n\r\n",
+        ),
+    };
+    text.extend_from_slice(field.as_bytes())?;
+    text.extend_from_slice(&content(alloc, size)?)?;
+    text.extend_from_slice(end.as_bytes())?;
+    Ok(text)
+}
+
+/// By what the body of a request was hashed, where it has one.
+fn hash_of(ask: &Ask) -> Option<Algorithm> {
+    match ask {
+        Ask::Single { body, .. } | Ask::Chunk { body, .. } | Ask::Close { body, .. } => {
+            algorithm_of(body)
+        }
+        _ => None,
+    }
+}
+
+/// By what a body is hashed.
+fn algorithm_of(body: &Bytes) -> Option<Algorithm> {
+    if body.sha256().is_some() {
+        return SHA256;
+    }
+    if body.sha512().is_some() {
+        return SHA512;
+    }
+    None
+}
+
+/// The body of a row's request is hashed as the row says.
+fn is_hashed(rt: &impl Abort, alloc: Global, number: usize, row: &Row) -> Result<(), Fail> {
+    assert!(rt; LIMITS.lawful());
+    let text = request_of(alloc, row)?;
+    let source = MemorySource::new(&text, 65_536, false);
+    let mut reader = RequestReader::new(alloc, source, LIMITS)?;
+    let Next::Request { ask, .. } = reader.next_request()? else {
+        return Err(Fail::new("no request"));
+    };
+    same(rt, hash_of(&ask), row.5, &number);
+    Ok(())
+}
+
+#[test]
+fn bodies_are_hashed_where_it_pays(rt: HostRuntime) -> Result<(), Fail> {
+    for (number, row) in ROWS.iter().enumerate() {
+        is_hashed(&rt, rt.alloc(), number, row)?;
+    }
+    Ok(())
+}
