@@ -1,5 +1,5 @@
 //! Two seats asked from two threads. Each test ends by itself, and prints the same whatever the schedule.
-ghost use Rattle.std.specs.Prelude.{IfOk, ◌<◌, ◌≤◌, ◌^◌};
+ghost use Rattle.std.specs.Prelude.{IfOk, ◌≡◌, ◌<◌, ◌≤◌, ◌^◌};
 ghost use Rattle.upload_intake.specs.Seats.{IsSameSeat};
 ghost use Rattle.upload_intake.specs.Served.{AreOfOneCall};
 
@@ -15,7 +15,7 @@ use std::thread::{Promise, Threads};
 use std::{thread, vec};
 use upload_intake::{Gone, Keeper, Moments, Seat, SeatEnd, Settled, lines, settle};
 use upload_names::{BlobDigest, ByteRange, Bytes, RepoName, UploadRef};
-use upload_service::{Answer, Ask, Extent, Limits, Refusal, Service};
+use upload_service::{Answer, Ask, BlobBytes, Extent, Limits, Refusal, Service};
 
 /// What a thread asks from its seat, and what it does with the answers.
 trait Script {
@@ -281,6 +281,8 @@ struct Told {
 }
 
 impl Moments for Told {
+    ghost tells = { λ old told new. told ≡ new.last };
+
     fn now(&mut self) -> u64 {
         if let Some(moment) = self.moments.next() {
             self.last = moment;
@@ -294,6 +296,8 @@ impl Moments for Told {
 struct Still;
 
 impl Moments for Still {
+    ghost tells = { λ old told new. told ≡ 0 };
+
     fn now(&mut self) -> u64 {
         0
     }
@@ -475,9 +479,17 @@ fn held(
         Answer::Blob {
             bytes: Some(bytes),
             ..
-        } => Ok(Some(bytes.into_vec())),
+        } => Ok(Some(joined(alloc, &bytes)?)),
         _ => Ok(None),
     }
+}
+
+fn joined(alloc: Global, bytes: &BlobBytes) -> Result<Vec<u8>, AllocError> {
+    let mut whole = Vec::new(alloc);
+    for part in bytes.parts() {
+        whole.extend_from_slice(part.as_slice())?;
+    }
+    Ok(whole)
 }
 
 fn is_answered(

@@ -1,5 +1,5 @@
 //! Two workers that serve connections at once. Each test ends by itself, and prints the same whatever the schedule.
-ghost use Rattle.std.specs.Prelude.{None};
+ghost use Rattle.std.specs.Prelude.{◌≡◌, None, IfSome};
 
 mod growths;
 
@@ -89,6 +89,9 @@ impl Conns for Texts {
     type In = Text;
 
     type Out = Nowhere;
+
+    // One that nobody has read or written yet.
+    ghost gives = { λ old given new. IfSome given (λ conn. (conn.0.reads ≡ 0) × (conn.1.writes ≡ 0)) };
 
     fn next_conn(&mut self) -> Option<(Text, Nowhere)> {
         let text = self.texts.next()?;
@@ -193,6 +196,8 @@ impl Flags {
 struct Still;
 
 impl Moments for Still {
+    ghost tells = { λ old told new. told ≡ 0 };
+
     fn now(&mut self) -> u64 {
         0
     }

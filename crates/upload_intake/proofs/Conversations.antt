@@ -7,7 +7,7 @@ use Rattle.upload_intake.specs.declared.gone.Gone.TheVariants.{NotSent, NoAnswer
 use Rattle.upload_intake.specs.Seats.{SeatState, Asks, IsSameSeat}
 use Rattle.upload_intake.specs.SeatMoves.{AsksWithDrawn}
 use Rattle.upload_intake.specs.Desks.{seat_of, secrets_of}
-use Rattle.upload_intake.specs.declared.pair.GatedDesk.{GatedDesk}
+use Rattle.upload_intake.specs.declared.work.GatedDesk.{GatedDesk}
 use Rattle.upload_wire.specs.declared.connection.ConnEnd.{ConnEnd}
 use Rattle.upload_wire.specs.declared.connection.ConnEnd.TheVariants.{Clean, AfterClose, AfterBad, TooMany, DeskGone, Fault}
 use Rattle.upload_wire.specs.declared.connection.ConnFault.TheVariants as Conn

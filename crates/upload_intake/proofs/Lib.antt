@@ -1,5 +1,10 @@
+pub mod Carrying
 pub mod Conversations
 pub mod KeeperMoves
 pub mod LineMoves
+pub mod Pairing
+pub mod SeatConversations
 pub mod SeatMoves
 pub mod Settling
+pub mod Walks
+pub mod Working

@@ -99,7 +99,7 @@ heard side steps outlet gone replies got sent h is_taker waits whole all =
           (let a = whole here in let b = ap length all in let c = length-answers_to side steps in let d = ap length all_is in let e = length-append (whats got) (whats waiting ++ h.unsent) in let k = length-whats got in omega arith),
     )
 
-module _ (start service : State) (now count : ℕ) (j : LineView Message) (l r : Outlet) (k : IsKeeping start service now count j l r true true)
+module _ (start service : State) (now count : ℕ) (j : LineView Message) (l r : Outlet) (steps : List Step) (k : IsKeeping start service now count steps j l r true true)
     (lj : LineView Message) (lr : LineView Answer) (ls : Side) (lg : Bool) (is_left : ls ≡ Left) (left : SatToTheEnd ls lg lj lr)
     (rj : LineView Message) (rr : LineView Answer) (rs : Side) (rg : Bool) (is_right : rs ≡ Right) (right : SatToTheEnd rs rg rj rr)
     (jobs_wait : (waiting : List (Item Message)) × Waits (joined (joined lj rj) j) waiting) where
@@ -121,14 +121,14 @@ module _ (start service : State) (now count : ℕ) (j : LineView Message) (l r :
   right_jobs : jobs_of Right (taken_in j.taken) ≡ jobs_in right.sent
   right_jobs = jobs_taken Right right.sent (items_taken Right right.sent (known_jobs refl Right refl) right.finished_last (k.right_finish refl))
 
-  pub left_sent : jobs_of Left (taken_in j.taken) ≡ jobs_in (sent ls lj)
-  left_sent = left_jobs ∙ ap jobs_in (sym (ap (sent ls) left.knows.jobs_view ∙ sent-sender_view ls left.sent))
+  pub left_sent : jobs_of Left (taken_by steps) ≡ jobs_in (sent ls lj)
+  left_sent = ap (jobs_of Left) k.keeps.is_taken ∙ left_jobs ∙ ap jobs_in (sym (ap (sent ls) left.knows.jobs_view ∙ sent-sender_view ls left.sent))
 
-  pub right_sent : jobs_of Right (taken_in j.taken) ≡ jobs_in (sent rs rj)
-  right_sent = right_jobs ∙ ap jobs_in (sym (ap (sent rs) right.knows.jobs_view ∙ sent-sender_view rs right.sent))
+  pub right_sent : jobs_of Right (taken_by steps) ≡ jobs_in (sent rs rj)
+  right_sent = ap (jobs_of Right) k.keeps.is_taken ∙ right_jobs ∙ ap jobs_in (sym (ap (sent rs) right.knows.jobs_view ∙ sent-sender_view rs right.sent))
 
-  pub left_heard : ((waiting : List (Item Answer)) × Waits (joined l.view lr) waiting) → (unheard : List Answer) × (answers_to Left k.keeps.steps ≡ whats lr.taken ++ unheard) × (lg ≡ false → unheard ≡ [])
-  left_heard waits = heard Left k.keeps.steps l lg lr left.knows.got left.sent k.keeps.left_replied left.knows.replies_view waits left.knows.each_answered (ap (jobs_of Left) k.keeps.is_taken ∙ left_jobs)
+  pub left_heard : ((waiting : List (Item Answer)) × Waits (joined l.view lr) waiting) → (unheard : List Answer) × (answers_to Left steps ≡ whats lr.taken ++ unheard) × (lg ≡ false → unheard ≡ [])
+  left_heard waits = heard Left steps l lg lr left.knows.got left.sent k.keeps.left_replied left.knows.replies_view waits left.knows.each_answered (ap (jobs_of Left) k.keeps.is_taken ∙ left_jobs)
 
-  pub right_heard : ((waiting : List (Item Answer)) × Waits (joined r.view rr) waiting) → (unheard : List Answer) × (answers_to Right k.keeps.steps ≡ whats rr.taken ++ unheard) × (rg ≡ false → unheard ≡ [])
-  right_heard waits = heard Right k.keeps.steps r rg rr right.knows.got right.sent k.keeps.right_replied right.knows.replies_view waits right.knows.each_answered (ap (jobs_of Right) k.keeps.is_taken ∙ right_jobs)
+  pub right_heard : ((waiting : List (Item Answer)) × Waits (joined r.view rr) waiting) → (unheard : List Answer) × (answers_to Right steps ≡ whats rr.taken ++ unheard) × (rg ≡ false → unheard ≡ [])
+  right_heard waits = heard Right steps r rg rr right.knows.got right.sent k.keeps.right_replied right.knows.replies_view waits right.knows.each_answered (ap (jobs_of Right) k.keeps.is_taken ∙ right_jobs)

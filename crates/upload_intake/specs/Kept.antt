@@ -10,7 +10,7 @@ use Rattle.upload_intake.specs.declared.line.LineView.{LineView}
 use Rattle.upload_intake.specs.declared.message.Message.{Message}
 use Rattle.upload_intake.specs.declared.message.Message.TheVariants as message
 use Rattle.upload_intake.specs.Line.{items_of}
-use Rattle.upload_intake.specs.Log.{Job, TakenJob, Step, exchanges_of, taken_by, answers_to}
+use Rattle.upload_intake.specs.Log.{Job, TakenJob, Step, exchanges_of, taken_by, answers_to, last_moment}
 use Rattle.upload_intake.specs.Passes.{sender_view, only_sender_view, taker_view}
 use Rattle.upload_intake.specs.Settled.{count_limit}
 
@@ -75,14 +75,8 @@ pub record Replied (side : Side) (steps : List Step) (outlet : Outlet) : Type 0 
   pub in_order : answers_to side steps ≡ replies ++ unsent
   pub all : outlet.is_open ≡ true → unsent ≡ []
 
--- the moment of the last exchange, and 0 before the first
-abbrev pub last_moment : ℕ → List Exchange → ℕ
-last_moment moment [] = moment
-last_moment moment (x ∷ xs) = last_moment x.now xs
-
--- what a keeper keeps of its service
-pub record Keeps (start service : State) (now count : ℕ) (taken : List (Item Message)) (left right : Outlet) : Type 0 where
-  pub steps : List Step
+-- what a keeper keeps of its service, over the steps in its log
+pub record Keeps (start service : State) (now count : ℕ) (steps : List Step) (taken : List (Item Message)) (left right : Outlet) : Type 0 where
   pub lawful : IsLawful start
   pub run : Run start (exchanges_of steps) service
   pub moments : NeverFall (exchanges_of steps)
@@ -105,8 +99,8 @@ pub record SendsReplies (view : LineView Answer) : Type 0 where
   pub is_sender : view ≡ only_sender_view replies
 
 -- a keeper that runs: of a seat that is done it took the finish
-pub record IsKeeping (start service : State) (now count : ℕ) (jobs : LineView Message) (left right : Outlet) (left_done right_done : Bool) : Type 0 where
-  pub keeps : Keeps start service now count jobs.taken left right
+pub record IsKeeping (start service : State) (now count : ℕ) (steps : List Step) (jobs : LineView Message) (left right : Outlet) (left_done right_done : Bool) : Type 0 where
+  pub keeps : Keeps start service now count steps jobs.taken left right
   pub receives : Receives jobs
   pub left_finish : left_done ≡ true → TookFinish Left jobs
   pub right_finish : right_done ≡ true → TookFinish Right jobs

@@ -4,8 +4,12 @@ pub mod Kept
 pub mod Line
 pub mod Log
 pub mod Passes
+pub mod SeatConversations
 pub mod SeatMoves
 pub mod Seats
 pub mod Secrets
 pub mod Served
+pub mod ServedPair
 pub mod Settled
+pub mod Told
+pub mod Working

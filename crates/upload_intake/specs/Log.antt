@@ -1,9 +1,10 @@
 -- What the keeper took from its two seats and answered, as one list.
-use Rattle.std.specs.Prelude.{ℕ, List, map, filter}
+use Rattle.std.specs.Prelude.{ℕ, List, [], ◌∷◌, map, filter}
 use Rattle.upload_service.specs.declared.ask.Ask.{Ask}
 use Rattle.upload_service.specs.declared.answer.Answer.{Answer}
 use Rattle.upload_service.specs.Run.{Exchange}
 use Rattle.upload_intake.specs.declared.line.Side.{Side}
+use Rattle.upload_intake.specs.declared.log.Entry.{Entry}
 use Rattle.upload_intake.specs.Line.{same_side}
 
 -- a job: a request, and the secret for the session that it may open
@@ -19,6 +20,13 @@ pub record TakenJob : Type 0 where
 pub record Step : Type 0 where
   pub side : Side
   pub exchange : Exchange
+
+-- an entry of a keeper's log as a step
+abbrev pub step_of : Entry → Step
+step_of e = record { side = e.side; exchange = record { ask = e.ask.value; secret = e.secret; now = e.now; answer = e.answer.value } }
+
+abbrev pub steps_of : List Entry → List Step
+steps_of entries = map step_of entries
 
 abbrev pub exchanges_of : List Step → List Exchange
 exchanges_of steps = map (λ (s : Step). s.exchange) steps
@@ -36,3 +44,8 @@ jobs_of side taken = map (λ (j : TakenJob). j.job) (filter (λ (j : TakenJob). 
 
 abbrev pub answers_to : Side → List Step → List Answer
 answers_to side steps = map (λ (s : Step). s.exchange.answer) (filter (λ (s : Step). same_side side s.side) steps)
+
+-- the moment of the last exchange, and 0 before the first
+abbrev pub last_moment : ℕ → List Exchange → ℕ
+last_moment moment [] = moment
+last_moment moment (x ∷ xs) = last_moment x.now xs

@@ -1,4 +1,4 @@
--- A keeper: its lines, the service that it was given and the one that it has now, and the jobs that it took.
+-- A keeper: its lines, the service that it was given and the one that it has now, and the steps by which it came there.
 use Rattle.std.specs.Prelude.{◌≡◌, List}
 use Rattle.upload_service.specs.declared.answer.Answer.{Answer}
 use Rattle.upload_service.specs.Machine.{State}
@@ -6,7 +6,7 @@ use Rattle.upload_service.specs.Run.{Exchange, Run, NeverFall}
 use Rattle.upload_service.specs.Headline.{Headline}
 use Rattle.upload_intake.specs.declared.line.Side.TheVariants.{Left, Right}
 use Rattle.upload_intake.specs.declared.message.Message.{Message}
-use Rattle.upload_intake.specs.Log.{TakenJob, Step, exchanges_of, taken_by}
+use Rattle.upload_intake.specs.Log.{Step, exchanges_of}
 use Rattle.upload_intake.specs.Passes.{LineId}
 use Rattle.upload_intake.specs.Seats.{SeatState}
 
@@ -16,7 +16,7 @@ pub record KeeperState : Type 0 where
   pub right : LineId Answer
   pub start : State
   pub service : State
-  pub taken : List TakenJob
+  pub log : List Step
 
 -- the same lines, and the same service at the start
 pub record IsSameKeeper (old new : KeeperState) : Type 0 where
@@ -31,16 +31,9 @@ pub record IsServed (start : State) (exchanges : List Exchange) (service : State
   pub moments : NeverFall exchanges
   pub headline : Headline start exchanges service
 
--- The steps are those of the jobs that the keeper took, in that order, from the service that it was given to the one that
--- it has.
-pub record Explains (steps : List Step) (keeper : KeeperState) : Type 0 where
-  pub taken : taken_by steps ≡ keeper.taken
-  pub served : IsServed keeper.start (exchanges_of steps) keeper.service
-
--- some run leads there
-pub record ComesOf (start service : State) : Type 0 where
-  pub exchanges : List Exchange
-  pub served : IsServed start exchanges service
+-- the keeper's log is a run from the service that it was given to the one that it has
+abbrev pub Serves : KeeperState → Type 0
+Serves keeper = IsServed keeper.start (exchanges_of keeper.log) keeper.service
 
 -- the seats and the keeper are of one call of `lines`, in this order
 pub record AreOfOneCall (keeper : KeeperState) (left right : SeatState) : Type 0 where

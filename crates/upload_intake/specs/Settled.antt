@@ -19,14 +19,14 @@ pub record Heard (side : Side) (steps : List Step) (seat : SeatState) : Type 0 w
   pub in_order : answers_to side steps ≡ seat.heard ++ unheard
   pub all : seat.gone ≡ false → unheard ≡ []
 
-pub record IsSettled (keeper : KeeperState) (left right : SeatState) (service : State) (log_length : ℕ) (steps : List Step) : Type 0 where
-  -- the jobs that the keeper took are, of each seat, exactly those that it sent, in its order, each once
-  pub left_sent : jobs_of Left keeper.taken ≡ left.sent
-  pub right_sent : jobs_of Right keeper.taken ≡ right.sent
-  -- the service and the answers are a run over that one list, at moments that don't fall, and the headline holds of it
-  pub taken : taken_by steps ≡ keeper.taken
-  pub served : IsServed keeper.start (exchanges_of steps) service
-  pub counted : log_length ≡ min (length steps) count_limit
+pub record IsSettled (keeper : KeeperState) (left right : SeatState) (service : State) (log_length : ℕ) : Type 0 where
+  -- the jobs of the keeper's steps are, of each seat, exactly those that it sent, in its order, each once
+  pub left_sent : jobs_of Left (taken_by keeper.log) ≡ left.sent
+  pub right_sent : jobs_of Right (taken_by keeper.log) ≡ right.sent
+  -- the service is the keeper's, and those steps are a run to it, at moments that don't fall; so the headline holds of them
+  pub same : service ≡ keeper.service
+  pub served : IsServed keeper.start (exchanges_of keeper.log) service
+  pub counted : log_length ≡ min (length keeper.log) count_limit
   -- what each seat heard is in order a front of the answers to its own jobs
-  pub left_heard : Heard Left steps left
-  pub right_heard : Heard Right steps right
+  pub left_heard : Heard Left keeper.log left
+  pub right_heard : Heard Right keeper.log right

@@ -1,4 +1,6 @@
 //! Where a worker's connections come from.
+ghost use Rattle.std.specs.Prelude.{Option};
+
 use upload_wire::{ByteSink, ByteSource};
 
 /// The connections of one worker, one after the other.
@@ -8,6 +10,10 @@ pub trait Conns {
     /// What the replies are written to.
     type Out: ByteSink + Send + Drop;
 
+    // Holds of the state before, the connection that is given, or none where no more come, and the state after.
+    ghost gives: { Self → Option (Self.In × Self.Out) → Self → Type 0 };
+
     /// The next connection, or None where no more come.
-    fn next_conn(&mut self) -> Option<(Self::In, Self::Out)>;
+    fn next_conn(&mut self) -> Option<(Self::In, Self::Out)>
+        ensures { gives self.old result self.new };
 }

@@ -1,5 +1,5 @@
 //! The ends of a line, each with its pass: what may be done there, and what was done.
-ghost use Rattle.std.specs.Prelude.{◌≡◌, true, [], List, ◌<◌, MatchOption, MatchResult, IfOk};
+ghost use Rattle.std.specs.Prelude.{◌≡◌, true, false, [], List, ◌<◌, MatchOption, MatchResult, IfOk};
 ghost use Rattle.std.proofs.Props.{props};
 ghost use Rattle.crossbeam_channel.specs.Claims.{view, IsSeatAt};
 ghost use Rattle.crossbeam_channel.specs.Ends.{sends_on, receives_on};
@@ -19,11 +19,12 @@ pub type LineReceiver<T> = RuledReceiver<Item<T>, LineView<T>, Ordered, Global>;
 
 pub type LinePass<T> = Pass<Item<T>, LineView<T>>;
 
-/// A sender, and what it sent.
+/// A sender, and what it sent. It is open until an item was handed back, which this module alone can say.
 #[derive(Drop)]
 pub struct SendEnd<T: Drop> {
     sender: LineSender<T>,
     pass: LinePass<T>,
+    is_open: bool,
     ghost at: { IsSeatAt (sends_on sender) pass } by { Prim.hlevel props },
 }
 
@@ -36,17 +37,28 @@ pub struct TakeEnd<T: Drop> {
 }
 
 impl<T: Drop> SendEnd<T> {
-    /// Adds an item at the back, or hands it back and changes nothing.
+    /// Whether no item was handed back so far.
+    pub fn is_open(&self) -> bool
+        ensures { result ≡ self.now.is_open }
+    {
+        self.is_open
+    }
+
+    /// Adds an item at the back, or hands it back: then nothing was sent, and the end isn't open any more.
     pub fn send<R: Wait>(&mut self, rt: &R, item: Item<T>) -> Result<(), Item<T>>
         requires { sends item.side (view self.old.pass) ≡ true }
         ensures line { self.new.sender ≡ self.old.sender }
         ensures sent { MatchResult result
             (λ _. view self.new.pass ≡ with_sent item (view self.old.pass))
             (λ back. (back ≡ item) × (view self.new.pass ≡ view self.old.pass)) }
+        ensures closing { MatchResult result (λ _. self.new.is_open ≡ self.old.is_open) (λ _. self.new.is_open ≡ false) }
     {
         match self.sender.send_as::<Sends, R>(rt, &mut self.pass, item) {
             Ok(()) => Ok(()),
-            Err(refused) => Err(refused.into_inner()),
+            Err(refused) => {
+                self.is_open = false;
+                Err(refused.into_inner())
+            }
         }
     }
 }
@@ -68,13 +80,18 @@ impl<T: Drop> TakeEnd<T> {
 pub fn reply_line<T: Drop>(alloc: Global) -> Result<(SendEnd<T>, TakeEnd<T>), AllocError>
     ensures line { IfOk result (λ ends. line_of (receives_on ends.1.receiver) ≡ line_of (sends_on ends.0.sender)) }
     ensures views { IfOk result (λ ends. (view ends.0.pass ≡ only_sender_view []) × (view ends.1.pass ≡ taker_view [])) }
+    ensures opened { IfOk result (λ ends. ends.0.is_open ≡ true) }
 {
     let (sender, receiver, mut pass) = bounded_with::<Item<T>, LineView<T>, Ordered, Global>(
         alloc, 1,
     )?;
     let taker = sender.another::<Taker>(&mut pass);
     Ok((
-        SendEnd { sender, pass },
+        SendEnd {
+            sender,
+            pass,
+            is_open: true,
+        },
         TakeEnd {
             receiver,
             pass: taker,
@@ -100,10 +117,15 @@ pub fn job_line<T: Drop>(
     let taker = sender.another::<Taker>(&mut pass);
     let right = sender.another::<RightSender>(&mut pass);
     Ok((
-        SendEnd { sender, pass },
+        SendEnd {
+            sender,
+            pass,
+            is_open: true,
+        },
         SendEnd {
             sender: other,
             pass: right,
+            is_open: true,
         },
         TakeEnd {
             receiver,
@@ -117,7 +139,11 @@ pub fn settle_line<T: Drop>(sender: SendEnd<T>, taker: TakeEnd<T>)
     requires { line_of (receives_on taker.receiver) ≡ line_of (sends_on sender.sender) }
     ensures { (waiting : List (Item T)) × Waits (joined (view sender.pass) (view taker.pass)) waiting }
 {
-    let SendEnd { sender, mut pass } = sender;
+    let SendEnd {
+        sender,
+        mut pass,
+        is_open: _,
+    } = sender;
     let TakeEnd {
         receiver: _,
         pass: taken,
@@ -132,10 +158,15 @@ pub fn settle_job_line<T: Drop>(left: SendEnd<T>, right: SendEnd<T>, taker: Take
     requires taker { line_of (receives_on taker.receiver) ≡ line_of (sends_on left.sender) }
     ensures { (waiting : List (Item T)) × Waits (joined (joined (view left.pass) (view right.pass)) (view taker.pass)) waiting }
 {
-    let SendEnd { sender, mut pass } = left;
+    let SendEnd {
+        sender,
+        mut pass,
+        is_open: _,
+    } = left;
     let SendEnd {
         sender: _,
         pass: other,
+        is_open: _,
     } = right;
     let TakeEnd {
         receiver: _,

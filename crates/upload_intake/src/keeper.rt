@@ -1,6 +1,7 @@
 //! The keeper alone has the service, and serves the seats' requests in the order in which it took them.
 use crate::ends::{SendEnd, TakeEnd};
 use crate::line::{Item, Side};
+use crate::log::{Entry, Log};
 use crate::message::Message;
 use crate::moments::Moments;
 use std::marker::Model;
@@ -10,11 +11,10 @@ use std::thread;
 use upload_names::UploadRef;
 use upload_service::{Answer, Service, headline_holds};
 
-/// The way back to one seat. It is open until a reply was handed back, and done when the seat's finish was taken.
+/// The way back to one seat. It is done when the seat's finish was taken.
 #[derive(Drop)]
 pub(crate) struct ReplyLine {
     pub(crate) replies: SendEnd<Answer>,
-    pub(crate) is_open: bool,
     pub(crate) is_done: bool,
 }
 
@@ -28,6 +28,7 @@ pub struct Keeper {
     left: ReplyLine,
     right: ReplyLine,
     start: Snapshot<Service>,
+    log: Log<Entry>,
 }
 
 impl Model for Keeper {
@@ -37,7 +38,8 @@ impl Model for Keeper {
     ghost use Rattle.upload_service.specs.Codes.{state_code};
     ghost use Rattle.upload_intake.specs.Passes.{line_of};
     ghost use Rattle.upload_intake.specs.Served.{KeeperState};
-    ghost use Rattle.upload_intake.specs.Kept.{IsKeeping, taken_in};
+    ghost use Rattle.upload_intake.specs.Log.{steps_of};
+    ghost use Rattle.upload_intake.specs.Kept.{IsKeeping};
 
     ghost Value = { KeeperState };
 
@@ -49,12 +51,12 @@ impl Model for Keeper {
       right = line_of (sends_on k.right.replies.sender);
       start = k.start.value;
       service = k.service;
-      taken = taken_in (known k.jobs.pass).taken;
+      log = steps_of k.log.items;
     } };
 
-    ghost invariant = { λ k. IsKeeping k.start.value k.service k.now k.count (known k.jobs.pass)
-        (record { is_open = k.left.is_open; view = known k.left.replies.pass })
-        (record { is_open = k.right.is_open; view = known k.right.replies.pass })
+    ghost invariant = { λ k. IsKeeping k.start.value k.service k.now k.count (steps_of k.log.items) (known k.jobs.pass)
+        (record { is_open = k.left.replies.is_open; view = known k.left.replies.pass })
+        (record { is_open = k.right.replies.is_open; view = known k.right.replies.pass })
         k.left.is_done k.right.is_done };
 }
 
@@ -68,6 +70,7 @@ pub struct Served {
     pub(crate) left: ReplyLine,
     pub(crate) right: ReplyLine,
     pub(crate) start: Snapshot<Service>,
+    pub(crate) log: Log<Entry>,
 }
 
 impl Model for Served {
@@ -78,7 +81,8 @@ impl Model for Served {
     ghost use Rattle.upload_service.specs.Codes.{state_code};
     ghost use Rattle.upload_intake.specs.Passes.{line_of};
     ghost use Rattle.upload_intake.specs.Served.{KeeperState};
-    ghost use Rattle.upload_intake.specs.Kept.{IsKeeping, taken_in};
+    ghost use Rattle.upload_intake.specs.Log.{steps_of};
+    ghost use Rattle.upload_intake.specs.Kept.{IsKeeping};
 
     ghost Value = { KeeperState };
 
@@ -90,12 +94,12 @@ impl Model for Served {
       right = line_of (sends_on k.right.replies.sender);
       start = k.start.value;
       service = k.service;
-      taken = taken_in (known k.jobs.pass).taken;
+      log = steps_of k.log.items;
     } };
 
-    ghost invariant = { λ k. IsKeeping k.start.value k.service k.now k.count (known k.jobs.pass)
-        (record { is_open = k.left.is_open; view = known k.left.replies.pass })
-        (record { is_open = k.right.is_open; view = known k.right.replies.pass })
+    ghost invariant = { λ k. IsKeeping k.start.value k.service k.now k.count (steps_of k.log.items) (known k.jobs.pass)
+        (record { is_open = k.left.replies.is_open; view = known k.left.replies.pass })
+        (record { is_open = k.right.replies.is_open; view = known k.right.replies.pass })
         true true };
 }
 
@@ -104,14 +108,15 @@ impl ReplyLine {
     ghost use Rattle.crossbeam_channel.specs.Claims.{view as known};
     ghost use Rattle.upload_intake.specs.Kept.{Replies, SendsReplies};
 
-    // Sends a reply, if the line is open.
+    // Sends a reply, if the line is open. A reply that is handed back closes it, and nothing else does.
+    #[tactic(auto, using(crate::proofs::KeeperMoves::replied_by, crate::proofs::KeeperMoves::was_closed))]
     fn reply<R: Wait>(&mut self, rt: &R, answer: Answer)
         requires { SendsReplies (known self.old.replies.pass) }
         ensures line { self.new.replies.sender ≡ self.old.replies.sender }
         ensures done { self.new.is_done ≡ self.old.is_done }
-        ensures sent { Replies answer (record { is_open = self.old.is_open; view = known self.old.replies.pass }) (record { is_open = self.new.is_open; view = known self.new.replies.pass }) }
+        ensures sent { Replies answer (record { is_open = self.old.replies.is_open; view = known self.old.replies.pass }) (record { is_open = self.new.replies.is_open; view = known self.new.replies.pass }) }
     {
-        if !self.is_open {
+        if !self.replies.is_open() {
             return;
         }
         // Each reply line has one sender, which sends as either side.
@@ -119,20 +124,18 @@ impl ReplyLine {
             side: Side::Left,
             what: answer,
         };
-        if self.replies.send(rt, reply).is_err() {
-            self.is_open = false;
-        }
+        let _ = self.replies.send(rt, reply);
     }
 }
 
 impl Keeper {
-    ghost use Rattle.std.specs.Prelude.{◌≡◌, [], List};
+    ghost use Rattle.std.specs.Prelude.{◌≡◌, []};
     ghost use Rattle.crossbeam_channel.specs.Claims.{view as known};
     ghost use Rattle.crossbeam_channel.specs.Ends.{sends_on, receives_on};
     ghost use Rattle.upload_service.specs.Machine.{IsLawful};
-    ghost use Rattle.upload_intake.specs.Log.{Step};
     ghost use Rattle.upload_intake.specs.Passes.{line_of, only_sender_view, taker_view};
-    ghost use Rattle.upload_intake.specs.Served.{IsSameKeeper, Explains};
+    ghost use Rattle.upload_intake.specs.Served.{IsSameKeeper, Serves};
+    ghost use Rattle.upload_intake.specs.Told.{Grows};
 
     pub(crate) fn new(
         service: Service,
@@ -143,7 +146,7 @@ impl Keeper {
         requires jobs { known jobs.pass ≡ taker_view [] }
         requires left { known left.pass ≡ only_sender_view [] }
         requires right { known right.pass ≡ only_sender_view [] }
-        ensures { result ≡ record { jobs = line_of (receives_on jobs.receiver); left = line_of (sends_on left.sender); right = line_of (sends_on right.sender); start = service; service = service; taken = [] } }
+        ensures { result ≡ record { jobs = line_of (receives_on jobs.receiver); left = line_of (sends_on left.sender); right = line_of (sends_on right.sender); start = service; service = service; log = [] } }
     {
         // Each service is lawful, and this call says so.
         let _ = service.limits();
@@ -155,21 +158,21 @@ impl Keeper {
             jobs,
             left: ReplyLine {
                 replies: left,
-                is_open: true,
                 is_done: false,
             },
             right: ReplyLine {
                 replies: right,
-                is_open: true,
                 is_done: false,
             },
             start,
+            log: Log::new(),
         }
     }
 
     // Takes one message, does what it asks, and tells which session took a chunk.
     fn turn<R: Wait, M: Moments>(&mut self, rt: &R, moments: &mut M) -> Option<UploadRef>
-        ensures { IsSameKeeper self.old self.new }
+        ensures same { IsSameKeeper self.old self.new }
+        ensures grows { Grows M.tells self.old moments.old self.new moments.new }
     {
         let Some(item) = self.jobs.take(rt) else {
             thread::yield_now();
@@ -179,7 +182,16 @@ impl Keeper {
         match what {
             Message::Job(ask, secret) => {
                 self.now = self.now.max(moments.now());
+                let asked = Snapshot::of(&ask);
                 let answer = self.service.step(ask, secret, self.now);
+                let entry = Entry {
+                    side,
+                    ask: asked,
+                    secret,
+                    now: self.now,
+                    answer: Snapshot::of(&answer),
+                };
+                self.log = self.log.and(&entry);
                 self.count = self.count.saturating_add(1);
                 let taken = session_that_took(&answer);
                 match side {
@@ -209,7 +221,8 @@ impl Keeper {
     /// A seat that is dropped unfinished leaves it without an end.
     pub fn run<R: Wait, M: Moments>(self, rt: &R, moments: &mut M) -> Served
         ensures same { IsSameKeeper self result }
-        ensures served { (steps : List Step) × Explains steps result }
+        ensures grows { Grows M.tells self moments.old result moments.new }
+        ensures served { Serves result }
         ensures lawful { IsLawful result.service }
     {
         // The law over all runs, of which this one will be one. The call does nothing.
@@ -225,6 +238,7 @@ impl Keeper {
                     left,
                     right,
                     start,
+                    log,
                 } = keeper;
                 return Served {
                     service,
@@ -234,6 +248,7 @@ impl Keeper {
                     left,
                     right,
                     start,
+                    log,
                 };
             }
             if let Some(at) = keeper.turn(rt, moments) {

@@ -3,7 +3,8 @@
 //! once, and what a seat hears is in order what the service answered to its own requests.
 //!
 //! A request goes from a connection (`conns`) over a worker's `gate` and `desk` to its `seat`, on a line (`line`, `ends`)
-//! to the `keeper`, and its answer back. `pair` starts it all, and `settlement` makes the lines and settles them.
+//! to the `keeper`, and its answer back. `work` serves one worker's connections, `pair` starts both workers and the
+//! keeper, and `settlement` makes the lines and settles them.
 #![tactic(auto)]
 
 mod conns;
@@ -12,21 +13,26 @@ mod ends;
 mod gate;
 mod gone;
 mod keeper;
+mod laws;
 mod line;
+mod log;
 mod message;
 mod moments;
 mod pair;
 mod seat;
 mod secrets;
 mod settlement;
+mod work;
 
 pub use conns::Conns;
 pub use desk::SeatDesk;
 pub use gate::{Gate, NoGate};
 pub use gone::Gone;
 pub use keeper::{Keeper, Served};
+pub use laws::conversations_fill_the_seat;
 pub use moments::Moments;
-pub use pair::{Pair, ServeFault, Worker, WorkerEnd, serve_pair};
+pub use pair::{Pair, ServeFault, serve_pair};
 pub use seat::{Seat, SeatEnd};
 pub use secrets::{DrawnSecrets, Secrets, ZeroSecrets};
 pub use settlement::{Settled, lines, settle};
+pub use work::{Worker, WorkerEnd};

@@ -1,7 +1,6 @@
 //! Making the lines, and settling them when all ends are back.
-ghost use Rattle.std.specs.Prelude.{◌≡◌, ◌<◌, [], List, IfOk};
+ghost use Rattle.std.specs.Prelude.{◌≡◌, ◌<◌, [], IfOk};
 ghost use Rattle.upload_service.specs.Machine.{IsLawful};
-ghost use Rattle.upload_intake.specs.Log.{Step};
 ghost use Rattle.upload_intake.specs.Seats.{IsFresh};
 ghost use Rattle.upload_intake.specs.Served.{AreOfOneCall};
 ghost use Rattle.upload_intake.specs.Settled.{IsSettled};
@@ -32,7 +31,7 @@ pub fn lines(
     ensures of_one_call { IfOk result (λ r. AreOfOneCall r.0 r.1 r.2) }
     ensures start { IfOk result (λ r. r.0.start ≡ service) }
     ensures service { IfOk result (λ r. r.0.service ≡ service) }
-    ensures taken { IfOk result (λ r. r.0.taken ≡ []) }
+    ensures log { IfOk result (λ r. r.0.log ≡ []) }
     ensures seats { IfOk result (λ r. IsFresh r.1 × IsFresh r.2) }
 {
     let (left_jobs, right_jobs, jobs) = job_line(alloc, capacity)?;
@@ -49,7 +48,7 @@ pub fn lines(
 /// call of `lines`, the ends in the order of its seats. It waits for nobody.
 pub fn settle(served: Served, left: SeatEnd, right: SeatEnd) -> Settled
     requires { AreOfOneCall served left right }
-    ensures settled { (steps : List Step) × IsSettled served left right result.service result.log_length steps }
+    ensures settled { IsSettled served left right result.service result.log_length }
     ensures lawful { IsLawful result.service }
 {
     // The law over all runs, of which this was one. The call does nothing.
@@ -62,6 +61,7 @@ pub fn settle(served: Served, left: SeatEnd, right: SeatEnd) -> Settled
         left: left_line,
         right: right_line,
         start: _,
+        log: _,
     } = served;
     let SeatEnd {
         side: _,
@@ -77,12 +77,10 @@ pub fn settle(served: Served, left: SeatEnd, right: SeatEnd) -> Settled
     } = right;
     let ReplyLine {
         replies: to_left,
-        is_open: _,
         is_done: _,
     } = left_line;
     let ReplyLine {
         replies: to_right,
-        is_open: _,
         is_done: _,
     } = right_line;
     settle_job_line(left_jobs, right_jobs, jobs);

@@ -1,0 +1,41 @@
+-- What a conversation over a seat added to it: its asks to what was sent, its answers to what was heard.
+use Rattle.std.specs.Prelude.{◌≡◌, ℕ, ◌⊎◌, List, [], ◌++◌, map}
+use Rattle.upload_service.specs.declared.ask.Ask.{Ask}
+use Rattle.upload_service.specs.declared.answer.Answer.{Answer}
+use Rattle.upload_intake.specs.Log.{Job}
+use Rattle.upload_intake.specs.Seats.{SeatState}
+use Rattle.upload_intake.specs.SeatMoves.{AsksWithDrawn}
+use Rattle.upload_wire.specs.Writing.{Sink}
+use Rattle.upload_wire.specs.Conversation.{Moves, Exchange, Source, IsConversation}
+use Rattle.upload_wire.specs.ConnectionRuns.{answered, unanswered}
+use Rattle.upload_wire.specs.declared.connection.ConnEnd.{ConnEnd}
+
+abbrev pub asks_of : List Exchange → List Ask
+asks_of xs = map (λ (x : Exchange). x.ask) xs
+
+abbrev pub answers_of : List Exchange → List Answer
+answers_of xs = map (λ (x : Exchange). x.answer) xs
+
+abbrev pub asks_in : List Job → List Ask
+asks_in jobs = map (λ (j : Job). j.0) jobs
+
+-- The asks, in order, were sent, but for one that was given back unsent; and the answers, in order, were heard.
+pub record Adds (old new : SeatState) (answered : List Exchange) (unanswered : List Ask) : Type 0 where
+  pub jobs : List Job
+  pub unsent : List Ask
+  pub sent : new.sent ≡ old.sent ++ jobs
+  pub asks : asks_of answered ++ unanswered ≡ asks_in jobs ++ unsent
+  pub given_back : (unsent ≡ []) ⊎ (unsent ≡ unanswered)
+  pub heard : new.heard ≡ old.heard ++ answers_of answered
+
+-- the moves of a desk over a seat
+abbrev pub SeatSteps : {D S : Type 0} → (S → List ℕ → S → Type 0) → (D → SeatState) → (D → S) → Moves D
+SeatSteps draws seat secrets a ask answer b = AsksWithDrawn draws (seat a) (secrets a) ask answer (seat b) (secrets b)
+
+-- every conversation over a desk that is a seat with secrets adds its asks and its answers to the seat
+abbrev pub ConversationsFillTheSeat : {S : Type 0} → (S → List ℕ → S → Type 0) → Type 0
+ConversationsFillTheSeat {S} draws =
+    (max_body : ℕ) (first left : Source) (old new : SeatState × S) (before after : Sink) (end : ConnEnd)
+    → (c : IsConversation {D = SeatState × S} (SeatSteps draws (λ d. d.0) (λ d. d.1)) max_body first left old new before after end)
+    → Adds old.0 new.0 (answered {D = SeatState × S} (SeatSteps draws (λ d. d.0) (λ d. d.1)) max_body first left old new before after end c)
+    (unanswered {D = SeatState × S} (SeatSteps draws (λ d. d.0) (λ d. d.1)) max_body first left old new before after end c)

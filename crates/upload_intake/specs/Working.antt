@@ -1,0 +1,91 @@
+-- A WORKER'S HISTORY: the connections that it was given, each a conversation over its seat, one behind the other.
+use Rattle.std.specs.Prelude.{◌≡◌, ℕ, min, Bool, true, false, List, [], ◌∷◌, length, filter, Option, Some, None}
+use Rattle.std.specs.List.{flat_map}
+use Rattle.upload_service.specs.declared.ask.Ask.{Ask}
+use Rattle.upload_intake.specs.Seats.{SeatState}
+use Rattle.upload_intake.specs.SeatConversations.{SeatSteps}
+use Rattle.upload_intake.specs.Settled.{count_limit}
+use Rattle.upload_wire.specs.Writing.{Sink, sink}
+use Rattle.upload_wire.specs.Conversation.{Moves, Exchange, Source, source, IsConversation}
+use Rattle.upload_wire.specs.ConnectionRuns.{answered, unanswered}
+use Rattle.upload_wire.specs.declared.connection.ConnEnd.{ConnEnd}
+use Rattle.upload_wire.specs.declared.connection.ConnEnd.TheVariants.{Clean, AfterClose, DeskGone}
+
+-- How a worker is given connections, what contracts see of a reader and of a writer, and how secrets are drawn.
+pub record Means (C In Out S : Type 0) : Type 1 where
+  pub gives : C → Option (In × Out) → C → Type 0
+  pub reads : In → Source
+  pub writes : Out → Sink
+  pub draws : S → List ℕ → S → Type 0
+
+abbrev pub means : {C In Out S : Type 0} → (C → Option (In × Out) → C → Type 0) → (In → Option (List ℕ)) → (In → ℕ) → (Out → Option (List ℕ)) → (Out → ℕ) → (S → List ℕ → S → Type 0) → Means C In Out S
+means gives remaining failed_reads contents failed_writes draws = record {
+  gives = gives;
+  reads = λ s. source (remaining s) (failed_reads s);
+  writes = λ s. sink (contents s) (failed_writes s);
+  draws = draws;
+}
+
+-- the ends that a worker counts as clean
+abbrev pub is_clean : ConnEnd → Bool
+is_clean Clean = true
+is_clean AfterClose = true
+is_clean other = false
+
+abbrev pub is_gone : ConnEnd → Bool
+is_gone DeskGone = true
+is_gone other = false
+
+-- of two facts the one that has to hold behind such an end: the first where the desk was gone
+abbrev pub Behind : ConnEnd → Type 0 → Type 0 → Type 0
+Behind DeskGone gone on = gone
+Behind other gone on = on
+
+module _ {C In Out S : Type 0} (m : Means C In Out S) (max_body : ℕ) where
+  -- how a worker's desk moves: its seat is asked with the secret drawn next
+  abbrev pub steps : Moves (SeatState × S)
+  steps = SeatSteps {D = SeatState × S} {S = S} m.draws (λ d. d.0) (λ d. d.1)
+
+  -- A connection that was served: the reader and the writer as they were given and as they were left, the seat and the secrets
+  -- before and behind it, and how it ended. What was read and written is a conversation over the seat.
+  pub record Talk : Type 0 where
+    pub reader : In
+    pub writer : Out
+    pub reader_left : In
+    pub writer_left : Out
+    pub old : SeatState × S
+    pub new : SeatState × S
+    pub end : ConnEnd
+    pub conversation : IsConversation steps max_body (m.reads reader) (m.reads reader_left) old new (m.writes writer) (m.writes writer_left) end
+
+  -- what was asked and answered on these connections, in order; and the request at which the desk was gone
+  abbrev pub answered_on : Talk → List Exchange
+  answered_on t = answered steps max_body (m.reads t.reader) (m.reads t.reader_left) t.old t.new (m.writes t.writer) (m.writes t.writer_left) t.end t.conversation
+
+  abbrev pub unanswered_on : Talk → List Ask
+  unanswered_on t = unanswered steps max_body (m.reads t.reader) (m.reads t.reader_left) t.old t.new (m.writes t.writer) (m.writes t.writer_left) t.end t.conversation
+
+  abbrev pub all_answered : List Talk → List Exchange
+  all_answered ts = flat_map answered_on ts
+
+  abbrev pub all_unanswered : List Talk → List Ask
+  all_unanswered ts = flat_map unanswered_on ts
+
+  abbrev pub count_clean : List Talk → ℕ
+  count_clean ts = length (filter (λ t. is_clean t.end) ts)
+
+  -- From this seat on: no more comes; or the next connection that is given is served from where the seat stands, and so on, but
+  -- where the desk was gone: behind that connection none is taken.
+  abbrev pub Serves : C → SeatState × S → List Talk → SeatState × S → Type 0
+  Serves conns desk [] new = (left : C) × m.gives conns None left × (new ≡ desk)
+  Serves conns desk (t ∷ ts) new =
+      (mid : C) × m.gives conns (Some (t.reader, t.writer)) mid × (t.old ≡ desk)
+      × Behind t.end ((ts ≡ []) × (new ≡ t.new)) (Serves mid t.new ts new)
+
+  -- What a worker did over its seat: what it served, how many connections it took, and how many of them ended clean.
+  pub record IsWorked (conns : C) (secrets : S) (seat new : SeatState) (taken clean : ℕ) : Type 0 where
+    pub talks : List Talk
+    pub secrets_left : S
+    pub served : Serves conns (seat, secrets) talks (new, secrets_left)
+    pub counted : taken ≡ min (length talks) count_limit
+    pub clean_ones : clean ≡ min (count_clean talks) count_limit

@@ -1,0 +1,155 @@
+//! A worker, which serves connections one after the other over its seat.
+ghost use Rattle.std.specs.Prelude.{◌≡◌, ◌+◌, min, if◌then◌else◌};
+ghost use Rattle.upload_service.specs.Machine.{AreLawful};
+ghost use Rattle.upload_intake.specs.Seats.{IsSameSeat};
+ghost use Rattle.upload_intake.specs.Settled.{count_limit};
+ghost use Rattle.upload_intake.specs.Working.{IsWorked, is_clean, is_gone, means};
+
+use crate::conns::Conns;
+use crate::desk::SeatDesk;
+use crate::gate::Gate;
+use crate::seat::{Seat, SeatEnd};
+use crate::secrets::Secrets;
+use std::alloc::Global;
+use std::snapshot::Snapshot;
+use std::sync::Wait;
+use std::thread::Promise;
+use upload_service::{Answer, Ask, Limits};
+use upload_wire::{ConnEnd, Desk, serve_connection};
+
+/// What a worker serves, with which secrets, and what is told of it.
+#[derive(Drop)]
+pub struct Worker<C, S, G> {
+    /// What it serves.
+    pub conns: C,
+    /// Of the sessions that its requests open.
+    pub secrets: S,
+    /// What is told of each request.
+    pub gate: G,
+}
+
+/// What a worker did. A count stays at 2^64 - 1 once there.
+#[derive(Clone, Copy, Debug, PartialEq, Eq)]
+pub struct WorkerEnd {
+    /// The connections that it took.
+    pub conns: u64,
+    /// Those of them that ended `Clean` or `AfterClose`.
+    pub clean: u64,
+}
+
+impl WorkerEnd {
+    // Counts a connection that ended so.
+    fn count(&mut self, end: ConnEnd)
+        ensures conns { self.new.conns ≡ min (self.old.conns + 1) count_limit }
+        ensures clean { self.new.clean ≡ min (self.old.clean + (if is_clean end then 1 else 0)) count_limit }
+    {
+        self.conns = self.conns.saturating_add(1);
+        self.clean = self.clean.saturating_add(u64::from(is_clean(end)));
+    }
+}
+
+fn is_clean(end: ConnEnd) -> bool
+    ensures { result ≡ is_clean end }
+{
+    matches!(end, ConnEnd::Clean | ConnEnd::AfterClose)
+}
+
+fn is_gone(end: ConnEnd) -> bool
+    ensures { result ≡ is_gone end }
+{
+    matches!(end, ConnEnd::DeskGone)
+}
+
+/// What the thread of a worker promises: the end comes of this seat, and over it these connections were served, with these
+/// secrets.
+#[derive(Drop)]
+pub(crate) struct Work<C, S> {
+    seat: Snapshot<Seat>,
+    conns: Snapshot<C>,
+    secrets: Snapshot<S>,
+    limits: Limits,
+}
+
+impl<C: Conns, S: Secrets> Work<C, S> {
+    pub(crate) fn of<G>(seat: &Seat, worker: &Worker<C, S, G>, limits: Limits) -> Work<C, S>
+        ensures seat { result.seat.value ≡ seat.now }
+        ensures conns { result.conns.value ≡ worker.now.conns }
+        ensures secrets { result.secrets.value ≡ worker.now.secrets }
+        ensures limits { result.limits ≡ limits }
+    {
+        Work {
+            seat: Snapshot::of(seat),
+            conns: Snapshot::of(&worker.conns),
+            secrets: Snapshot::of(&worker.secrets),
+            limits,
+        }
+    }
+}
+
+impl<C: Conns, S: Secrets> Promise<(SeatEnd, WorkerEnd)> for Work<C, S> {
+    ghost kept_by = { λ promise end. IsSameSeat promise.seat.value end.0
+        × IsWorked (means C.gives C.In.remaining C.In.failed_reads C.Out.contents C.Out.failed_writes S.draws)
+        promise.limits.max_body promise.conns.value promise.secrets.value promise.seat.value end.0 end.1.conns end.1.clean };
+}
+
+// A seat's desk behind a gate, and how many requests were asked there.
+#[derive(Drop)]
+struct GatedDesk<'a, R: Wait, S, G> {
+    desk: SeatDesk<'a, R, S>,
+    gate: G,
+    turn: u64,
+}
+
+impl<'a, R: Wait, S: Secrets, G: Gate> Desk for GatedDesk<'a, R, S, G> {
+    ghost use Rattle.upload_intake.specs.Desks.{seat_of, secrets_of};
+    ghost use Rattle.upload_intake.specs.SeatMoves.{AsksWithDrawn};
+
+    ghost moves = { λ old ask answer new. AsksWithDrawn S.draws (seat_of old.desk) (secrets_of old.desk) ask answer (seat_of new.desk) (secrets_of new.desk) };
+
+    fn ask(&mut self, ask: Ask) -> Option<Answer> {
+        self.turn = self.turn.saturating_add(1);
+        self.gate.before_ask(self.turn);
+        let answer = self.desk.ask(ask)?;
+        self.gate.after_answer(self.turn);
+        Some(answer)
+    }
+}
+
+/// Serves a worker's connections one after the other, none behind one that ended `DeskGone`, and finishes its seat.
+pub(crate) fn serve_all<R: Wait, C: Conns + Drop, S: Secrets + Drop, G: Gate + Drop>(
+    rt: &R,
+    alloc: Global,
+    limits: Limits,
+    seat: Seat,
+    worker: Worker<C, S, G>,
+) -> (SeatEnd, WorkerEnd)
+    requires { AreLawful limits }
+    ensures seat { IsSameSeat seat result.0 }
+    ensures worked { IsWorked (means C.gives C.In.remaining C.In.failed_reads C.Out.contents C.Out.failed_writes S.draws)
+        limits.max_body worker.conns worker.secrets seat result.0 result.1.conns result.1.clean }
+{
+    let Worker {
+        mut conns,
+        secrets,
+        gate,
+    } = worker;
+    let mut desk = GatedDesk {
+        desk: SeatDesk::new(rt, seat, secrets),
+        gate,
+        turn: 0,
+    };
+    let mut end = WorkerEnd { conns: 0, clean: 0 };
+    for _ in rt.forever() {
+        let Some((mut source, mut sink)) = conns.next_conn() else {
+            break;
+        };
+        let ended = serve_connection(alloc, &mut source, &mut sink, &mut desk, limits);
+        end.count(ended);
+        // A desk that is gone stays gone: the next client would get no reply.
+        if is_gone(ended) {
+            break;
+        }
+    }
+    let GatedDesk { desk, .. } = desk;
+    (desk.into_seat().finish(rt), end)
+}
