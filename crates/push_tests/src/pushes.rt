@@ -17,8 +17,8 @@ use upload_push::{
     Event, LossyWorld, Outcome, PushAsk, PushFault, PushStep, Pusher, Why, push, push_promise,
     push_with,
 };
-use upload_service::{Answer, Ask, Extent, Limits, Service};
-use upload_wire::{Heard, Transport};
+use upload_service::{Answer, Ask, BlobBytes, Extent, Limits, Service};
+use upload_wire::{Heard, LentChunk, Transport};
 
 /// Fails the test where a case doesn't hold. The macro's expansion is proved once, here.
 fn check(rt: &impl Abort, holds: bool, case: &str) {
@@ -36,13 +36,17 @@ enum Asked {
     Other,
 }
 
+fn kind_of_chunk(range: &Extent) -> Asked {
+    match range {
+        Extent::Given(range) => Asked::Chunk(range.first, range.last),
+        _ => Asked::Other,
+    }
+}
+
 fn kind_of(ask: &Ask) -> Asked {
     match ask {
         Ask::Opening { .. } => Asked::Opening,
-        Ask::Chunk {
-            range: Extent::Given(range),
-            ..
-        } => Asked::Chunk(range.first, range.last),
+        Ask::Chunk { range, .. } => kind_of_chunk(range),
         Ask::Status { .. } => Asked::Status,
         Ask::Close { .. } => Asked::Close,
         Ask::Has { .. } => Asked::Head,
@@ -87,6 +91,14 @@ impl Transport for Recorder {
             return None;
         }
         self.world.ask(ask)
+    }
+
+    fn ask_chunk(&mut self, chunk: &LentChunk<'_>) -> Result<Option<Heard>, AllocError> {
+        let heard = self.world.ask_chunk(chunk)?;
+        if self.asked.push(kind_of_chunk(&chunk.range)).is_err() {
+            return Ok(None);
+        }
+        Ok(heard)
     }
 }
 
@@ -156,6 +168,15 @@ fn chunk_of_one(alloc: Global, number: u32, at: u64, byte: u8) -> Result<Ask, Fa
     })
 }
 
+/// The parts of a blob, one behind the other.
+fn joined(alloc: Global, blob: &BlobBytes) -> Result<Vec<u8>, AllocError> {
+    let mut joined = Vec::new(alloc);
+    for part in blob.parts() {
+        joined.extend_from_slice(part.as_slice())?;
+    }
+    Ok(joined)
+}
+
 /// The bytes that the world's repository has under a digest, if it has it.
 fn held(alloc: Global, world: LossyWorld, digest: BlobDigest) -> Result<Option<Vec<u8>>, Fail> {
     let name = name(alloc)?;
@@ -169,7 +190,7 @@ fn held(alloc: Global, world: LossyWorld, digest: BlobDigest) -> Result<Option<V
         Answer::Blob {
             bytes: Some(bytes),
             ..
-        } => Ok(Some(bytes.into_vec())),
+        } => Ok(Some(joined(alloc, &bytes)?)),
         _ => Ok(None),
     }
 }

@@ -68,10 +68,10 @@ started asks p old s name digest name_is digest_is is =
     }
 
 -- the request as the loop makes it
-pub sent : {S : Type 0} (asks : S → Ask → Option Heard → S → Type 0) (p : Push) (mid new : S) (r : Ask) (digest : Digest) (ask : PushAsk) (h : Option Heard)
-    → r ≡ request_of p.name digest p.file ask → digest ≡ p.digest → asks mid r h new → asks mid (request p ask) h new
-sent asks p mid new r digest ask h is digest_is done =
-    subst (λ (a : Ask). asks mid a h new) (is ∙ ap (λ (d : Digest). request_of p.name d p.file ask) digest_is) done
+pub sent : {S : Type 0} (asks : S → Ask → Option Heard → S → Type 0) (p : Push) (mid new : S) (digest : Digest) (ask : PushAsk) (h : Option Heard)
+    → digest ≡ p.digest → asks mid (request_of p.name digest p.file ask) h new → asks mid (request p ask) h new
+sent asks p mid new digest ask h digest_is done =
+    subst (λ (d : Digest). asks mid (request_of p.name d p.file ask) h new) digest_is done
 
 pub within_file : {S : Type 0} (asks : S → Ask → Option Heard → S → Type 0) (p : Push) (old new : S) (s : PushState) (ask : PushAsk)
     → IsUnderway asks p old new s → IsAskWithin s.plan.size ask → IsAskWithin (length p.file) ask
@@ -120,3 +120,9 @@ ended asks p old new s end so_far is =
       leads = so_far.leads;
       ends = subst (λ (t : PushState). IsEnd t.stand.phase end) so_far.stands is;
     }
+
+-- the transport was asked nothing more
+pub unasked : {S : Type 0} (asks : S → Ask → Option Heard → S → Type 0) (p : Push) (old mid new : S) (s : PushState) (end : Result Outcome PushFault)
+    → IsUnderway asks p old mid s → new ≡ mid → IsEnd s.stand.phase end → IsPush asks p old new end
+unasked asks p old mid new s end so_far same is =
+    ended asks p old new s end (subst (λ t. IsUnderway asks p old t s) (sym same) so_far) is

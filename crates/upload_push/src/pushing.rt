@@ -1,7 +1,6 @@
 //! A push over any transport: a pusher's asks, with the bytes of the file.
-ghost use Rattle.std.specs.Prelude.{◌≡◌, ◌≤◌, ◌^◌, IfOk, length};
+ghost use Rattle.std.specs.Prelude.{◌≡◌, ◌≤◌, ◌^◌, IfOk, OnErr, length};
 ghost use Rattle.upload_names.specs.declared.digest.Algorithm.{Algorithm};
-ghost use Rattle.upload_wire.specs.AskText.{CanBeWritten};
 ghost use Rattle.upload_push.specs.Steps.{IsAskWithin};
 ghost use Rattle.upload_push.specs.Slices.{IsPush, push_of, request_of};
 
@@ -9,7 +8,7 @@ use crate::pusher::{Outcome, PushAsk, PushStep, Pusher, Why};
 use std::alloc::{AllocError, Global};
 use upload_names::{Algorithm, BlobDigest, Bytes, RepoName};
 use upload_service::{Ask, Extent};
-use upload_wire::Transport;
+use upload_wire::{Heard, LentChunk, Transport};
 
 /// Why a push has no outcome.
 #[derive(Drop)]
@@ -78,51 +77,62 @@ pub fn push_with<T: Transport>(
                 return Err(PushFault::GaveUp(why));
             }
         };
-        let Ok(asked) = request(alloc, name, digest, file, ask) else {
+        let Ok(heard) = ask_once(alloc, transport, file, name, digest, ask) else {
             return Err(PushFault::NoMemory);
         };
-        let heard = transport.ask(asked);
         pusher.heard(heard);
     }
 }
 
-/// What a pusher asks, with the name, the digest and the bytes of the file. An error is want of memory for the name or
-/// for the bytes of a chunk.
-fn request(
+/// Asks what a pusher asks, with the name, the digest and the bytes of the file, which are lent. An error is want of memory for a
+/// copy of the name, or of the bytes where the transport wants one; nothing was asked then.
+fn ask_once<T: Transport>(
     alloc: Global,
+    transport: &mut T,
+    file: &[u8],
     name: &RepoName,
     digest: BlobDigest,
-    file: &[u8],
     ask: PushAsk,
-) -> Result<Ask, AllocError>
+) -> Result<Option<Heard>, AllocError>
     requires { IsAskWithin (length file.now) ask }
-    ensures value { IfOk result (λ r. r ≡ request_of name.now digest file.now ask) }
-    ensures writable { IfOk result CanBeWritten }
+    ensures asked { IfOk result (λ heard. T.asked transport.old (request_of name.now digest file.now ask) heard transport.new) }
+    ensures unasked { OnErr result (transport.new ≡ transport.old) }
 {
-    let name = name.copy(alloc)?;
     match ask {
-        PushAsk::Opening => Ok(Ask::Opening { name }),
+        PushAsk::Opening => {
+            let name = name.copy(alloc)?;
+            Ok(transport.ask(Ask::Opening { name }))
+        }
         PushAsk::Chunk { at, range } => {
             let part = &file[range.first as usize..range.last as usize + 1];
-            Ok(Ask::Chunk {
+            transport.ask_chunk(&LentChunk {
                 name,
                 at,
                 range: Extent::Given(range),
-                body: Bytes::of(part.to_vec(alloc)?),
+                body: part,
             })
         }
-        PushAsk::Status { at } => Ok(Ask::Status { name, at }),
-        PushAsk::Close { at } => Ok(Ask::Close {
-            name,
-            at,
-            range: Extent::Absent,
-            digest: Some(digest),
-            body: Bytes::of(Vec::new(alloc)),
-        }),
-        PushAsk::Head => Ok(Ask::Has {
-            name,
-            digest,
-            head: true,
-        }),
+        PushAsk::Status { at } => {
+            let name = name.copy(alloc)?;
+            Ok(transport.ask(Ask::Status { name, at }))
+        }
+        PushAsk::Close { at } => {
+            let name = name.copy(alloc)?;
+            Ok(transport.ask(Ask::Close {
+                name,
+                at,
+                range: Extent::Absent,
+                digest: Some(digest),
+                body: Bytes::of(Vec::new(alloc)),
+            }))
+        }
+        PushAsk::Head => {
+            let name = name.copy(alloc)?;
+            Ok(transport.ask(Ask::Has {
+                name,
+                digest,
+                head: true,
+            }))
+        }
     }
 }

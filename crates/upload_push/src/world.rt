@@ -8,11 +8,11 @@ ghost use Rattle.upload_service.specs.declared.answer.Answer.{Answer};
 ghost use Rattle.upload_service.specs.Machine.{Turn};
 ghost use Rattle.upload_push.specs.World.{World, Asked, Meets, Reaches, IsSecret, IsLawfulWorld};
 
-use std::alloc::Global;
+use std::alloc::{AllocError, Global};
 use std::marker::Model;
 use std::vec::IntoIter;
 use upload_service::{Ask, Service};
-use upload_wire::{Heard, Transport, heard_of};
+use upload_wire::{Heard, LentChunk, Transport, heard_of};
 
 /// What becomes of a request, or what happens in front of it.
 #[derive(Drop)]
@@ -149,5 +149,11 @@ impl Transport for LossyWorld {
             }
             Fate::Delivered => reply(self.alloc, &mut self.service, ask, self.secret, self.now),
         }
+    }
+
+    /// A service keeps what it takes: the chunk is copied first.
+    fn ask_chunk(&mut self, chunk: &LentChunk<'_>) -> Result<Option<Heard>, AllocError> {
+        let ask = chunk.to_ask(self.alloc)?;
+        Ok(self.ask(ask))
     }
 }

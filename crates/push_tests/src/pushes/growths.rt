@@ -1,14 +1,14 @@
 //! A push that is refused memory leaves what its asks did, and one that goes on ends well all the same. The test holds
 //! whichever one growth is refused: `tests/growths.py` has each of them refused in turn.
 
-use super::{Asked, End, check, end_of, events, kind_of, name, new_world, session};
+use super::{Asked, End, check, end_of, events, kind_of, kind_of_chunk, name, new_world, session};
 use std::alloc::{AllocError, Global};
 use std::process::Abort;
 use std::test::Fail;
 use upload_names::{BlobDigest, RepoName};
 use upload_push::{Event, LossyWorld, push};
 use upload_service::{Ask, Service};
-use upload_wire::{Heard, Transport};
+use upload_wire::{Heard, LentChunk, Transport};
 
 /// A world, and how many bytes of its open upload were heard of.
 #[derive(Drop)]
@@ -28,16 +28,29 @@ fn open_after(open: Option<u64>, kind: Asked, reply: &Heard) -> Option<u64> {
     }
 }
 
+impl Follower {
+    fn follow(&mut self, kind: Asked, heard: &Option<Heard>) {
+        if let Some(reply) = heard {
+            self.open = open_after(self.open, kind, reply);
+        }
+    }
+}
+
 impl Transport for Follower {
     ghost asked = { λ s ask heard t. Unit {0} };
 
     fn ask(&mut self, ask: Ask) -> Option<Heard> {
         let kind = kind_of(&ask);
         let heard = self.world.ask(ask);
-        if let Some(reply) = &heard {
-            self.open = open_after(self.open, kind, reply);
-        }
+        self.follow(kind, &heard);
         heard
+    }
+
+    fn ask_chunk(&mut self, chunk: &LentChunk<'_>) -> Result<Option<Heard>, AllocError> {
+        let kind = kind_of_chunk(&chunk.range);
+        let heard = self.world.ask_chunk(chunk)?;
+        self.follow(kind, &heard);
+        Ok(heard)
     }
 }
 

@@ -1,11 +1,16 @@
 //! A push over a wire: what it writes, given to a server, gets the replies that it heard, byte for byte.
+ghost use Rattle.std.specs.Prelude.{◌<◌, ◌≤◌, Some, length};
+
 use super::{End, check, end_of, name};
 use std::alloc::Global;
 use std::process::Abort;
 use std::test::Fail;
 use upload_push::push;
 use upload_service::{Limits, Service};
-use upload_wire::{ConnEnd, FromRead, ServiceDesk, ToWrite, WireTransport, serve_connection};
+use upload_wire::{
+    ByteSink, ByteSource, ConnEnd, Failed, FromRead, Heard, LentChunk, ServiceDesk, ToWrite,
+    Transport, WireTransport, serve_connection,
+};
 
 /// The replies to an opening, to the chunks `ab` and `c`, and to the close.
 const REPLIES: &str =
@@ -30,12 +35,61 @@ fn replies_to(alloc: Global, requests: &[u8]) -> (Vec<u8>, ConnEnd) {
     (writer.into_inner(), end)
 }
 
-/// How a push of `abc` ends that hears these replies. What it writes is sent.
-fn pushed_over_wire(alloc: Global, replies: &[u8], sent: &mut Vec<u8>) -> Result<End, Fail> {
+/// How many bytes the first reply has, of replies without a body; all that there are, where it is cut.
+fn first_reply(replies: &[u8]) -> usize
+    ensures within { result ≤ length replies.now }
+    ensures some { 0 < length replies.now → 0 < result }
+{
+    for end in 4..=replies.len() {
+        if replies[..end].ends_with(b"\r\n\r\n") {
+            return end;
+        }
+    }
+    replies.len()
+}
+
+/// A server's replies, of which each read gives one: none lies there before its request.
+#[derive(Drop)]
+struct OneByOne<'r> {
+    left: &'r [u8],
+    reads: u64,
+}
+
+impl ByteSource for OneByOne<'_> {
+    ghost remaining = { λ s. Some s.left.now };
+
+    ghost reads = { λ s. s.reads };
+
+    ghost failed_reads = { λ _. 0 };
+
+    fn read(&mut self, buf: &mut [u8]) -> Result<usize, Failed> {
+        self.reads = self.reads.saturating_add(1);
+        let count = first_reply(self.left).min(buf.len());
+        let (front, back) = self.left.split_at(count);
+        buf[..count].copy_from_slice(front);
+        self.left = back;
+        Ok(count)
+    }
+}
+
+/// How a push of `abc` ends over the two halves of a wire.
+fn ended_over<S: ByteSource + Drop, W: ByteSink + Drop>(
+    alloc: Global,
+    source: S,
+    sink: W,
+) -> Result<End, Fail> {
     let name = name(alloc)?;
-    let reader = FromRead::new(replies);
-    let mut transport = WireTransport::new(alloc, reader, ToWrite::new(sent), b"h")?;
+    let mut transport = WireTransport::new(alloc, source, sink, b"h")?;
     Ok(end_of(&push(alloc, &mut transport, b"abc", &name, 2, 5)))
+}
+
+/// How it ends where it hears these replies. What it writes is sent.
+fn pushed_over_wire(alloc: Global, replies: &[u8], sent: &mut Vec<u8>) -> Result<End, Fail> {
+    let source = OneByOne {
+        left: replies,
+        reads: 0,
+    };
+    ended_over(alloc, source, ToWrite::new(sent))
 }
 
 #[test]
@@ -69,6 +123,86 @@ fn a_push_over_a_wire_that_breaks_is_given_up(rt: HostRuntime) -> Result<(), Fai
     for cut in 0..REPLIES.len() {
         let is_given_up = is_given_up(rt.alloc(), &REPLIES.as_bytes()[..cut])?;
         check_cut(&rt, is_given_up, cut);
+    }
+    Ok(())
+}
+
+/// Replies that came before their requests are no replies to them: behind the first nothing more is sent, and nothing is heard.
+#[test]
+fn replies_ahead_of_their_requests_are_not_heard(rt: HostRuntime) -> Result<(), Fail> {
+    let mut sent = Vec::new(rt.alloc());
+    let source = FromRead::new(REPLIES.as_bytes());
+    let end = ended_over(rt.alloc(), source, ToWrite::new(&mut sent))?;
+    check(&rt, end == End::OutOfTries, "out of tries");
+    check(
+        &rt,
+        sent.as_slice() == OPENING.as_bytes(),
+        "the opening alone",
+    );
+    Ok(())
+}
+
+/// The reply to the opening.
+const OPENED: &str =
+    "HTTP/1.1 202 Accepted\r\nLocation: /v2/lib/a/blobs/uploads/00000001-0000-8000-8000-000000000000\r\nContent-Length: 0\r\n\r\n";
+
+/// The opening's request.
+const OPENING: &str =
+    "POST /v2/lib/a/blobs/uploads/ HTTP/1.1\r\nHost: h\r\nContent-Length: 0\r\n\r\n";
+
+/// What a server sent before it closed, where the first chunk breaks off at its last byte, and how the push ends.
+static REPLIES_TO_A_PART: [(&str, End); 8] = [
+    (
+        "HTTP/1.1 413 -\r\nContent-Length: 0\r\n\r\n",
+        End::Refused(413),
+    ),
+    (
+        "HTTP/1.1 404 -\r\nContent-Length: 0\r\n\r\n",
+        End::Refused(404),
+    ),
+    (
+        "HTTP/1.1 202 -\r\nLocation: /v2/lib/a/blobs/uploads/00000001-0000-8000-8000-000000000000\r\nRange: 0-1\r\nContent-Length: 0\r\n\r\n",
+        End::OutOfTries,
+    ),
+    (
+        "HTTP/1.1 201 -\r\nContent-Length: 0\r\n\r\n",
+        End::OutOfTries,
+    ),
+    (
+        "HTTP/1.1 408 -\r\nContent-Length: 0\r\n\r\n",
+        End::OutOfTries,
+    ),
+    (
+        "HTTP/1.1 416 -\r\nContent-Length: 0\r\n\r\n",
+        End::OutOfTries,
+    ),
+    (
+        "HTTP/1.1 500 -\r\nContent-Length: 0\r\n\r\n",
+        End::OutOfTries,
+    ),
+    ("", End::OutOfTries),
+];
+
+/// How many bytes the opening and the first chunk have.
+const FIRST_TWO: usize = 239;
+
+/// How a push ends whose first chunk breaks off, by what the server sent before.
+fn ended_by(alloc: Global, reply: &str) -> Result<End, Fail> {
+    let mut replies = Vec::from_slice(alloc, OPENED.as_bytes())?;
+    replies.extend_from_slice(reply.as_bytes())?;
+    let source = OneByOne {
+        left: &replies,
+        reads: 0,
+    };
+    let mut room = [0u8; FIRST_TWO - 1];
+    ended_over(alloc, source, ToWrite::new(&mut room[..]))
+}
+
+/// A refusal of a chunk is heard though the chunk wasn't sent whole; nothing else is.
+#[test]
+fn a_refusal_of_a_part_is_told(rt: HostRuntime) -> Result<(), Fail> {
+    for (reply, end) in REPLIES_TO_A_PART.iter() {
+        check(&rt, ended_by(rt.alloc(), reply)? == *end, reply);
     }
     Ok(())
 }

@@ -1,4 +1,4 @@
-use Rattle.upload_push.proofs.Underway.{started, moved, fewer, ended, sent, within_file, step_says}
+use Rattle.upload_push.proofs.Underway.{started, moved, fewer, ended, unasked, sent, within_file, step_says}
 use Rattle.upload_push.specs.Slices.{push_of, IsLawfulPush}
 use Rattle.upload_push.proofs.pushing.push_with.Goals as goal
 
@@ -8,19 +8,19 @@ asks-init g c = started _ _ _ _ _ _ c.in-Ok.ensures c.of-digest.ensures c.new-pu
 pub returns-in-Done : goal.returns-in-Done
 returns-in-Done g c = ended _ _ _ _ _ _ c.asks.invariant (step_says c.asks.pusher.plan c.asks.pusher.stand.phase _ c.in-Done.ensures.step)
 
-pub request-requires : goal.request-requires
-request-requires g c = within_file _ _ _ _ _ _ c.asks.invariant c.in-Ask.ensures.within
+pub ask_once-requires : goal.ask_once-requires
+ask_once-requires g c = within_file _ _ _ _ _ _ c.asks.invariant c.in-Ask.ensures.within
 
-pub returns-in_default-request : goal.returns-in_default-request
-returns-in_default-request g c = ended _ _ _ _ _ _ c.asks.invariant tt
+pub returns-in_default-ask_once : goal.returns-in_default-ask_once
+returns-in_default-ask_once g c = unasked _ _ _ _ _ _ _ c.asks.invariant c.in_default-ask_once.ensures.unasked tt
 
 pub asks-smaller : goal.asks-smaller
 asks-smaller g c =
     let lawful : IsLawfulPush (push_of c.args.algorithm c.args.name.now c.args.file.now c.args.chunk c.args.tries) =
     record { size = c.requires.size; chunk_least = c.requires.chunk.0; chunk_most = c.requires.chunk.1 } in
-    fewer _ _ _ _ _ _ _ c.ask-heard.result lawful c.asks.invariant c.in-Ask.ensures.step c.heard.ensures
+    fewer _ _ _ _ _ _ _ c.in-Ok-ask_once.heard lawful c.asks.invariant c.in-Ask.ensures.step c.heard.ensures
 
 pub asks-preserved : goal.asks-preserved
 asks-preserved g c =
-    moved _ _ _ _ _ _ _ _ c.ask-heard.result c.asks.invariant c.in-Ask.ensures.step
-    (sent g.T.Transport.asked (push_of c.args.algorithm c.args.name.now c.args.file.now c.args.chunk c.args.tries) _ _ c.in-Ok-request.asked c.of-digest.result c.in-Ask.ask c.ask-heard.result c.in-Ok-request.ensures.value c.of-digest.ensures c.ask-heard.ensures) c.heard.ensures
+    moved _ _ _ _ _ _ _ _ c.in-Ok-ask_once.heard c.asks.invariant c.in-Ask.ensures.step
+    (sent g.T.Transport.asked (push_of c.args.algorithm c.args.name.now c.args.file.now c.args.chunk c.args.tries) _ _ c.of-digest.result c.in-Ask.ask c.in-Ok-ask_once.heard c.of-digest.ensures c.in-Ok-ask_once.ensures.asked) c.heard.ensures
