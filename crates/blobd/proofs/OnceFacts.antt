@@ -1,12 +1,16 @@
 -- A conversation with the program's new service.
-use Rattle.std.proofs.Common.{◌≡◌, subst}
+use Rattle.std.proofs.Common.{◌≡◌, ℕ, List, [], ◌∷◌, subst, lit≤}
+use Rattle.upload_service.specs.Machine.{empty_state, IsLawful}
+use Rattle.upload_service.specs.Run.{NeverBefore}
+use Rattle.upload_service.specs.Headline.{HeadlineHolds}
 use Rattle.upload_service.specs.declared.limits.Limits.{Limits}
 use Rattle.upload_wire.specs.Writing.{Sink}
-use Rattle.upload_wire.specs.Conversation.{Source, IsConversation}
+use Rattle.upload_wire.specs.Conversation.{Exchange, Source, IsConversation}
+use Rattle.upload_wire.specs.ConnectionRuns.{answered, service_exchanges, ConversationsRunTheService}
 use Rattle.upload_wire.specs.ServiceTurns.{StepsService}
 use Rattle.upload_wire.specs.declared.connection.ConnEnd.{ConnEnd}
 use Rattle.upload_wire.specs.declared.desk.ServiceDesk.{ServiceDesk}
-use Rattle.blobd.specs.Once.{program_limits, first_desk}
+use Rattle.blobd.specs.Once.{program_limits, first_desk, status_of, IsOnce}
 
 pub with_first_desk : (first left : Source) (before after : Sink) (end : ConnEnd) (limits : Limits) (desk new : ServiceDesk) → limits ≡ program_limits → desk ≡ first_desk
     → IsConversation StepsService limits.max_body first left desk new before after end
@@ -14,3 +18,22 @@ pub with_first_desk : (first left : Source) (before after : Sink) (end : ConnEnd
 with_first_desk first left before after end limits desk new is_limits is_desk talk =
     subst (λ d. IsConversation StepsService program_limits.max_body first left d new before after end) is_desk
     (subst (λ l. IsConversation StepsService l.max_body first left desk new before after end) is_limits talk)
+
+-- the clock stands at 0
+never_falls : (xs : List Exchange) → NeverBefore 0 (service_exchanges first_desk xs)
+never_falls [] = tt
+never_falls (x ∷ xs) = (lit≤ tt, never_falls xs)
+
+pub once : ConversationsRunTheService → HeadlineHolds → (first left : Source) (before after : Sink) (end : ConnEnd) (new : ServiceDesk) (status : ℕ) → IsLawful (empty_state program_limits 0)
+    → IsConversation StepsService program_limits.max_body first left first_desk new before after end → status ≡ status_of end → IsOnce first left before after status
+once runs holds first left before after end new status lawful talk is_status =
+    let run = (runs program_limits.max_body first left first_desk new before after end talk).run in
+    let xs = answered StepsService program_limits.max_body first left first_desk new before after end talk in
+    record {
+      end = end;
+      desk = new;
+      conversation = talk;
+      run = run;
+      headline = holds first_desk.service (service_exchanges first_desk xs) new.service lawful (never_falls xs) run;
+      is_status = is_status;
+    }

@@ -12,7 +12,7 @@ use Rattle.std.proofs.lemmas.Str.{IsUtf8-from_ascii}
 use Rattle.std.proofs.lemmas.Str.Ascii.{IsAscii-from_all}
 use Rattle.upload_names.specs.Digest.{Digest, IsDigest, digest_text}
 use Rattle.upload_wire.proofs.PlainTexts.{IsTarget-plain, ascii_bytes, digest_plain}
-use Rattle.blobd.specs.Pushed.{shown}
+use Rattle.blobd.specs.Pushed.{is_word, shown}
 
 -- the text of a digest
 pub digest_utf8 : (digest : Digest) → IsDigest digest → IsUtf8 (digest_text digest)
@@ -35,6 +35,10 @@ pub read_text : {T E : Type 0} (r : Result T E) (now : T → List ℕ) (other : 
 read_text (Ok s) now other bytes P utf8 h = h.0
 read_text (Err e) now other bytes P utf8 h = absurd (h.0 utf8)
 
--- a visible code is printed as it is
-pub shown_visible : (code : List ℕ) → list_all is_ascii_graphic code ≡ true → code ≡ shown (Some code)
-shown_visible code h = sym (ap (λ b. cond b code (codes "-")) h)
+-- a word is visible
+pub word_visible : (text : List ℕ) → is_word text ≡ true → list_all is_ascii_graphic text ≡ true
+word_visible text h = grind arith
+
+-- a code that is a word is printed as it is
+pub shown_word : (code : List ℕ) → is_word code ≡ true → code ≡ shown (Some code)
+shown_word code h = sym (ap (λ b. cond b code (codes "-")) h)

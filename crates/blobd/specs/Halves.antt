@@ -1,8 +1,8 @@
 -- The two halves of a connection.
 use Rattle.std.specs.Prelude.{◌≡◌}
 use Rattle.std.specs.declared.net.tcp.TcpStream.{TcpStream}
-use Rattle.upload_wire.specs.declared.bytes.FromRead.{FromRead}
-use Rattle.upload_wire.specs.declared.bytes.ToWrite.{ToWrite}
+use Rattle.upload_wire.specs.FromRead.{FromRead}
+use Rattle.upload_wire.specs.ToWrite.{ToWrite}
 
 -- nothing was read and nothing was written
 abbrev pub AreUnused : FromRead TcpStream → ToWrite TcpStream → Type 0

@@ -2,4 +2,5 @@ pub mod Halves
 pub mod Once
 pub mod Pushed
 pub mod Status
+pub mod Waits
 pub mod Words

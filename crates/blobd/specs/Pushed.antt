@@ -1,5 +1,5 @@
 -- What a push prints, and the exit status that goes with it.
-use Rattle.std.specs.Prelude.{◌≡◌, ℕ, ◌⊎◌, List, ◌++◌, codes, decimal, Option, Some, None, if◌then◌else◌}
+use Rattle.std.specs.Prelude.{◌≡◌, ℕ, nat_lt, Bool, ◌&&◌, ◌⊎◌, List, ◌++◌, length, codes, decimal, Option, Some, None, if◌then◌else◌}
 use Rattle.std.specs.List.{list_all}
 use Rattle.std.specs.Char.{is_ascii_graphic}
 use Rattle.std.specs.Io.KnownBytes.{Appends}
@@ -24,10 +24,14 @@ digest_after (Close name at range digest body) before = digest
 digest_after (Has name digest head) before = Some digest
 digest_after other before = before
 
--- an error code as it is printed: itself where it is visible ASCII, and else a hyphen
+-- one or more bytes, all of them visible ASCII
+abbrev pub is_word : List ℕ → Bool
+is_word text = nat_lt 0 (length text) && list_all is_ascii_graphic text
+
+-- an error code as it is printed: itself where it is a word, and else a hyphen
 abbrev pub shown : Option (List ℕ) → List ℕ
 shown None = codes "-"
-shown (Some code) = if list_all is_ascii_graphic code then code else codes "-"
+shown (Some code) = if is_word code then code else codes "-"
 
 -- the word for how a push ended well
 abbrev pub outcome_word : Outcome → List ℕ

@@ -1,5 +1,5 @@
 -- Commands, and the words that make them.
-use Rattle.std.specs.Prelude.{◌≡◌, ℕ, ◌≤◌, List, [], length, slice_index_or, codes}
+use Rattle.std.specs.Prelude.{◌≡◌, ℕ, ◌≤◌, List, [], length, slice_index_or, codes, Option, Some, None}
 use Rattle.std.specs.Borrow.{Bor}
 use Rattle.std.specs.Str.Parse.{IsNumeral, digits_value}
 use Rattle.std.specs.Net.Grammar.{IsSocketText}
@@ -14,12 +14,16 @@ IsCount most word number = IsNumeral 10 word × (digits_value 10 word ≡ number
 abbrev pub word_at : List (Bor (List ℕ)) → ℕ → List ℕ
 word_at words k = (slice_index_or words k (record { ref_ptr = (0, 0); now = [] })).now
 
+-- Behind `serve` and an address no word follows, and there is no count; or one does, and it is the count.
+abbrev pub AreServeWords : List (Bor (List ℕ)) → Option ℕ → Type 0
+AreServeWords words None = length words ≡ 2
+AreServeWords words (Some count) = (length words ≡ 3) × IsCount 1000000 (word_at words 2) count
+
 -- the words make the command
 abbrev pub Makes : List (Bor (List ℕ)) → Command → Type 0
 Makes words Once = (length words ≡ 1) × (word_at words 0 ≡ codes "once")
 Makes words (Serve addr count) =
-    (length words ≡ 3) × (word_at words 0 ≡ codes "serve")
-    × IsSocketText (word_at words 1) addr × IsCount 1000000 (word_at words 2) count
+    (word_at words 0 ≡ codes "serve") × IsSocketText (word_at words 1) addr × AreServeWords words count
 Makes words (Push addr name file chunk) =
     (length words ≡ 5) × (word_at words 0 ≡ codes "push")
     × IsSocketText (word_at words 1) addr × IsCount 2147483648 (word_at words 4) chunk

@@ -1,13 +1,14 @@
 //! The program: the blob upload part of an image registry.
 //!
 //!     blobd once                  one connection over standard input and output, over a new service
-//!     blobd serve ADDR COUNT      listens; two workers take COUNT connections each
+//!     blobd serve ADDR [COUNT]    listens; two workers take COUNT connections each, or all that come
 //!     blobd push ADDR NAME FILE CHUNK
 //!                                 pushes a file in chunks, connecting again after a fault
 #![tactic(auto)]
 
 ghost use Rattle.std.specs.Prelude.{◌≤◌};
 
+mod accept;
 mod limits;
 mod once;
 mod push;
@@ -16,20 +17,24 @@ mod sockets;
 mod status;
 #[cfg(test)]
 mod tests;
+mod waits;
 mod words;
 
+use crate::accept::Terms;
 use crate::once::run_once;
 use crate::push::run_push;
 use crate::serve::run_serve;
 use crate::status::{FAULT, print_line};
 use crate::words::{Command, USAGE, read_words};
 use std::fs::Files;
+use std::io::{Eprint, ErrorKind};
 use std::net::{Net, SocketAddr, TcpListener, TcpStream};
 use std::process::ExitCode;
 use std::random::RandomSource;
 use std::rt::Clock;
 use std::sync::Wait;
 use std::thread::Threads;
+use std::time::Duration;
 use std::{env, fs, io};
 use upload_wire::{FromRead, ToWrite};
 
@@ -38,6 +43,12 @@ const NO_COMMAND: u8 = 2;
 
 /// The most bytes of a file that is pushed.
 const LARGEST_FILE: usize = 1_099_511_627_776;
+
+/// How long a connection that is served may be silent, in seconds.
+const SILENCE_SECONDS: u64 = 60;
+
+/// More connections than ever come.
+const ENDLESS: u64 = u64::MAX;
 
 fn print_usage(rt: &HostRuntime) -> u8 {
     let _ = eprintln!(rt; "{USAGE}");
@@ -50,45 +61,70 @@ fn serve_input(rt: &HostRuntime) -> u8 {
     run_once(rt.alloc(), &mut reader, &mut writer)
 }
 
-fn listen<R>(rt: &R, addr: SocketAddr, count: u64) -> u8
+fn listen<R>(rt: &R, addr: SocketAddr, count: Option<u64>) -> u8
 where
-    R: Threads + Wait + Sync + AllocGlobal + Clock + RandomSource + Print,
+    R: Threads + Wait + Sync + AllocGlobal + Clock + RandomSource + Print + Eprint,
     R: Net<Listener = TcpListener, Stream = TcpStream>,
 {
     let mut out = io::writer(rt);
+    let terms = Terms {
+        count: count.unwrap_or(ENDLESS),
+        silence: Duration::from_secs(SILENCE_SECONDS),
+    };
     match TcpListener::bind(rt, addr) {
-        Ok(listener) => run_serve(rt, &listener, count, &mut out),
-        Err(_) => print_line(&mut out, "fault: listen", FAULT),
+        Ok(listener) => run_serve(rt, &listener, terms, &mut out),
+        Err(error) => {
+            let _ = eprintln!(rt; "blobd: can't listen at {addr}: {error}");
+            print_line(&mut out, "fault: listen", FAULT)
+        }
     }
 }
 
 fn push_file<R>(rt: &R, addr: SocketAddr, name: &str, path: &str, chunk: u64) -> u8
 where
-    R: AllocGlobal + Files + Print + Net<Stream = TcpStream>,
+    R: AllocGlobal + Clock + Files + Print + Eprint + Net<Stream = TcpStream>,
     requires { (1 ≤ chunk) × (chunk ≤ 2147483648) }
 {
     let mut out = io::writer(rt);
-    match fs::read(rt, path) {
+    let fault = match fs::read(rt, path) {
         Ok(file) if file.len() <= LARGEST_FILE => {
-            run_push(rt, addr, name.as_bytes(), &file, chunk, &mut out)
+            return run_push(rt, addr, name.as_bytes(), &file, chunk, &mut out);
         }
-        _ => print_line(&mut out, "fault: file", FAULT),
+        Ok(_) => io::Error::from(ErrorKind::FileTooLarge),
+        Err(error) => error,
+    };
+    let _ = eprintln!(rt; "blobd: can't push {path}: {fault}");
+    print_line(&mut out, "fault: file", FAULT)
+}
+
+/// The words behind the program's name. An error is want of memory, or says that a word isn't UTF-8.
+fn args_of(rt: &HostRuntime) -> io::Result<Vec<String>> {
+    Ok(env::args(rt)?.skip(1).collect::<Vec<String>>(rt.alloc())?)
+}
+
+fn print_no_memory(rt: &HostRuntime) -> u8 {
+    print_line(&mut io::writer(rt), "fault: memory", FAULT)
+}
+
+/// Says why there are no words, and gives the exit status. Words that aren't UTF-8 are no command.
+fn print_no_args(rt: &HostRuntime, error: &io::Error) -> u8 {
+    match error.kind() {
+        ErrorKind::OutOfMemory => print_no_memory(rt),
+        _ => print_usage(rt),
     }
 }
 
 fn main(rt: HostRuntime) -> ExitCode {
-    let Ok(args) = env::args(&rt) else {
-        return ExitCode::from(print_usage(&rt));
-    };
-    let Ok(args) = args.skip(1).collect::<Vec<String>>(rt.alloc()) else {
-        return ExitCode::from(print_usage(&rt));
+    let args = match args_of(&rt) {
+        Ok(args) => args,
+        Err(error) => return ExitCode::from(print_no_args(&rt, &error)),
     };
     let Ok(words) = args
         .iter()
         .map(|word| word.as_str())
         .collect::<Vec<&str>>(rt.alloc())
     else {
-        return ExitCode::from(print_usage(&rt));
+        return ExitCode::from(print_no_memory(&rt));
     };
     ExitCode::from(match read_words(&words) {
         Some(Command::Once) => serve_input(&rt),

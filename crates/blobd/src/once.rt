@@ -7,8 +7,10 @@ ghost use Rattle.blobd.specs.Once.{IsOnce, status_of};
 use crate::limits::limits;
 use crate::status::{DONE, FAULT, REFUSED};
 use std::alloc::Global;
-use upload_service::Service;
-use upload_wire::{ByteSink, ByteSource, ConnEnd, ServiceDesk, serve_connection};
+use upload_service::{Service, headline_holds};
+use upload_wire::{
+    ByteSink, ByteSource, ConnEnd, ServiceDesk, connections_run_the_service, serve_connection,
+};
 
 /// The exit status of a connection's end: 0 where the client ended it, 1 where the service did, 3 after a fault.
 fn status_of(end: ConnEnd) -> u8
@@ -27,8 +29,13 @@ pub fn run_once<R: ByteSource, W: ByteSink>(alloc: Global, reader: &mut R, write
     ensures { IsOnce (source (R.remaining reader.old) (R.failed_reads reader.old)) (source (R.remaining reader.new) (R.failed_reads reader.new))
         (sink (W.contents writer.old) (W.failed_writes writer.old)) (sink (W.contents writer.new) (W.failed_writes writer.new)) result }
 {
+    // The laws over all conversations and over all runs, of which this will be one. The calls do nothing.
+    connections_run_the_service();
+    headline_holds();
     let limits = limits();
     let service = Service::new(alloc, limits);
+    // Each service is lawful, and this call says so.
+    let _ = service.limits();
     let mut desk = ServiceDesk::new(service, [0; 12], 0);
     status_of(serve_connection(alloc, reader, writer, &mut desk, limits))
 }

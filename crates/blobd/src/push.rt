@@ -2,21 +2,26 @@
 ghost use Rattle.std.specs.Prelude.{length, ◌≡◌, ◌≤◌, ◌^◌, ◌++◌, codes, Some, unwrap_or};
 ghost use Rattle.std.specs.List.{list_all};
 ghost use Rattle.std.specs.Char.{is_ascii_graphic};
-ghost use Rattle.upload_wire.specs.AskText.{is_host};
+ghost use Rattle.upload_wire.specs.AskText.{CanBeWritten, ask_of_chunk};
 ghost use Rattle.upload_names.specs.Digest.{content_digest, digest_text};
 ghost use Rattle.upload_names.specs.declared.digest.Algorithm.{Algorithm};
 ghost use Rattle.blobd.specs.Status.{IsPrinted};
-ghost use Rattle.blobd.specs.Pushed.{IsPushed, digest_after, outcome_word, shown, why_text};
+ghost use Rattle.blobd.specs.Waits.{pause_after};
+ghost use Rattle.blobd.specs.Pushed.{IsPushed, digest_after, is_word, outcome_word, shown, why_text};
 
 use crate::sockets::{Reader, Writer, split};
 use crate::status::{DONE, FAULT, REFUSED, print_line};
-use std::alloc::Global;
+use crate::waits::pause_after;
+use std::alloc::{AllocError, Global};
 use std::io::Write;
 use std::net::{Net, SocketAddr, TcpStream};
+use std::rt::Clock;
+use std::thread;
+use std::time::Duration;
 use upload_names::{BlobDigest, Bytes, NameFault, RepoName};
 use upload_push::{Outcome, PushFault, Why, push};
 use upload_service::Ask;
-use upload_wire::{Heard, Transport, WireTransport};
+use upload_wire::{Heard, LentChunk, Transport, WireTransport};
 
 /// How often a push may go on after a request whose reply wasn't heard.
 const TRIES: u32 = 5;
@@ -27,10 +32,10 @@ fn are_visible(text: &[u8]) -> bool
     text.iter().all(u8::is_ascii_graphic)
 }
 
-/// Whether a text may stand as a Host: at least one byte, all of them visible ASCII. The text of an address is one, which
-/// std's contract doesn't say.
-fn is_host(text: &[u8]) -> bool
-    ensures { result ≡ is_host text.now }
+/// Whether a text is a word: at least one byte, all of them visible ASCII. So it may stand as a Host. The text of an address
+/// is one, which std's contract doesn't say.
+fn is_word(text: &[u8]) -> bool
+    ensures { result ≡ is_word text.now }
 {
     !text.is_empty() && are_visible(text)
 }
@@ -57,47 +62,100 @@ struct Dialer<'r, R> {
     wire: Option<WireTransport<Reader, Writer>>,
     /// The digest that was asked for last: a push asks for that of its file alone.
     digest: Option<BlobDigest>,
+    /// How long it waits before the next ask, in milliseconds.
+    pause: u64,
 }
 
 impl<'r, R: Net<Stream = TcpStream>> Dialer<'r, R> {
     /// A new connection, or `None` where it can't be made, for want of memory too.
     fn dial(&self) -> Option<WireTransport<Reader, Writer>> {
-        if !is_host(self.host.as_bytes()) {
+        if !is_word(self.host.as_bytes()) {
             return None;
         }
         let stream = TcpStream::connect(self.rt, self.addr).ok()?;
         let (reader, writer) = split(&stream).ok()?;
         WireTransport::new(self.alloc, reader, writer, self.host.as_bytes()).ok()
     }
-}
 
-impl<'r, R: Net<Stream = TcpStream>> Transport for Dialer<'r, R> {
-    // The digest that was asked for last is kept; nothing is said of what a network delivers.
-    ghost asked = { λ old ask heard new. new.digest ≡ digest_after ask old.digest };
+    /// The connection that was kept, or a new one.
+    fn connected(&mut self) -> Option<WireTransport<Reader, Writer>>
+        ensures { (self.new.digest ≡ self.old.digest) × (self.new.pause ≡ self.old.pause) }
+    {
+        match self.wire.take() {
+            Some(wire) => Some(wire),
+            None => self.dial(),
+        }
+    }
 
-    fn ask(&mut self, ask: Ask) -> Option<Heard> {
-        self.digest = digest_after(&ask, self.digest);
-        let mut wire = match self.wire.take() {
-            Some(wire) => wire,
-            None => self.dial()?,
-        };
-        let heard = wire.ask(ask);
+    /// Keeps a connection over which more can be asked.
+    fn keep(&mut self, wire: WireTransport<Reader, Writer>)
+        ensures { (self.new.digest ≡ self.old.digest) × (self.new.pause ≡ self.old.pause) }
+    {
         if wire.stays_open() {
             self.wire = Some(wire);
         }
+    }
+
+    /// The reply to a request over the connection, or over a new one where there is none.
+    fn exchange(&mut self, ask: Ask) -> Option<Heard>
+        requires { CanBeWritten ask }
+        ensures { (self.new.digest ≡ self.old.digest) × (self.new.pause ≡ self.old.pause) }
+    {
+        let mut wire = self.connected()?;
+        let heard = wire.ask(ask);
+        self.keep(wire);
+        heard
+    }
+
+    /// The same of a chunk, which is written from the bytes that are lent.
+    fn exchange_chunk(&mut self, chunk: &LentChunk<'_>) -> Option<Heard>
+        requires { CanBeWritten (ask_of_chunk chunk.now) }
+        ensures { (self.new.digest ≡ self.old.digest) × (self.new.pause ≡ self.old.pause) }
+    {
+        let mut wire = self.connected()?;
+        let heard = wire.ask_chunk(chunk).unwrap_or(None);
+        self.keep(wire);
         heard
     }
 }
 
-/// The code as it is printed: `-` where there is none, or where it isn't visible ASCII, since a server could else
-/// write more lines than one.
+impl<'r, R: Net<Stream = TcpStream> + Clock> Dialer<'r, R> {
+    /// Waits as long as what was heard last wants.
+    fn wait(&self) {
+        if self.pause > 0 {
+            thread::sleep(self.rt, Duration::from_millis(self.pause));
+        }
+    }
+}
+
+impl<'r, R: Net<Stream = TcpStream> + Clock> Transport for Dialer<'r, R> {
+    // The digest that was asked for last is kept, and how long it waits before the next ask; nothing is said of what a
+    // network delivers.
+    ghost asked = { λ old ask heard new. (new.digest ≡ digest_after ask old.digest) × (new.pause ≡ pause_after heard old.pause) };
+
+    fn ask(&mut self, ask: Ask) -> Option<Heard> {
+        self.digest = digest_after(&ask, self.digest);
+        self.wait();
+        let heard = self.exchange(ask);
+        self.pause = pause_after(&heard, self.pause);
+        heard
+    }
+
+    fn ask_chunk(&mut self, chunk: &LentChunk<'_>) -> Result<Option<Heard>, AllocError> {
+        self.wait();
+        let heard = self.exchange_chunk(chunk);
+        self.pause = pause_after(&heard, self.pause);
+        Ok(heard)
+    }
+}
+
+/// The code as it is printed: `-` where there is none, where it is empty, or where it isn't visible ASCII, since a server
+/// could else write more lines than one.
 fn printable(code: &Option<Bytes>) -> &str
     ensures { result.now ≡ shown code.now }
 {
     match code {
-        Some(code) if are_visible(code.as_slice()) => {
-            str::from_utf8(code.as_slice()).unwrap_or("-")
-        }
+        Some(code) if is_word(code.as_slice()) => { str::from_utf8(code.as_slice()).unwrap_or("-") }
         _ => "-",
     }
 }
@@ -162,7 +220,7 @@ pub fn run_push<R, W>(
     out: &mut W,
 ) -> u8
 where
-    R: Net<Stream = TcpStream> + AllocGlobal,
+    R: Net<Stream = TcpStream> + AllocGlobal + Clock,
     W: Write,
     requires size { length file.now ≤ 2 ^ 40 }
     requires chunk { (1 ≤ chunk) × (chunk ≤ 2 ^ 31) }
@@ -184,6 +242,7 @@ where
         host,
         wire: None,
         digest: None,
+        pause: 0,
     };
     match push(rt.alloc(), &mut transport, file, &name, chunk, TRIES) {
         Ok(outcome) => {

@@ -1,65 +1,25 @@
 //! `blobd serve`: a listener, and two workers that take connections from it.
-ghost use Rattle.std.specs.Prelude.{◌≡◌, ◌+◌, OnSome};
+ghost use Rattle.std.specs.Prelude.{◌≡◌, None};
 ghost use Rattle.blobd.specs.Status.{IsServed};
 
+use crate::accept::{Accepted, Terms};
 use crate::limits::limits;
-use crate::sockets::{Reader, Writer, close_politely, split};
 use crate::status::{DONE, FAULT, print_line};
 use rand::rngs::StdRng;
 use std::alloc::Global;
 use std::io;
-use std::io::Write;
-use std::net::{TcpListener, TcpStream};
+use std::io::{Eprint, Write};
+use std::net::TcpListener;
 use std::random::RandomSource;
 use std::rt::Clock;
 use std::sync::Wait;
 use std::thread::Threads;
 use std::time::Instant;
-use upload_intake::{Conns, DrawnSecrets, Moments, NoGate, ServeFault, Worker, serve_pair};
+use upload_intake::{DrawnSecrets, Moments, NoGate, ServeFault, Worker, serve_pair};
 use upload_service::Service;
 
 /// Secrets of the system's random numbers.
 type SystemSecrets = DrawnSecrets<StdRng>;
-
-/// The connections of one worker: the next ones that the listener accepts, up to a count.
-#[derive(Drop)]
-struct Accepted<'a, R> {
-    rt: &'a R,
-    listener: &'a TcpListener,
-    /// How many more it takes.
-    left: u64,
-    /// The connection before, which is closed when the next one is asked for.
-    served: Option<TcpStream>,
-}
-
-impl<'a, R> Accepted<'a, R> {
-    fn accept(&mut self) -> io::Result<(Reader, Writer)>
-        ensures { self.new.left ≡ self.old.left }
-    {
-        let (stream, _) = self.listener.accept()?;
-        let halves = split(&stream)?;
-        self.served = Some(stream);
-        Ok(halves)
-    }
-}
-
-impl<'a, R: Clock> Conns for Accepted<'a, R> {
-    type In = Reader;
-
-    type Out = Writer;
-
-    /// Closes the connection before, and waits for the next one. None where as many as were asked for are served, or
-    /// where one couldn't be taken.
-    fn next_conn(&mut self) -> Option<(Reader, Writer)>
-        ensures { OnSome result (self.new.left + 1 ≡ self.old.left) }
-    {
-        if let Some(stream) = self.served.take() {
-            close_politely(self.rt, stream);
-        }
-        self.left = self.left.checked_sub(1)?;
-        self.accept().ok()
-    }
-}
 
 /// Whole seconds since a start; 0 where the clock can't be read, which the keeper takes as no time passed.
 #[derive(Drop)]
@@ -69,6 +29,9 @@ struct SinceStart<'a, R> {
 }
 
 impl<'a, R: Clock> Moments for SinceStart<'a, R> {
+    // The clock is as it was, and one that can't be read tells 0. Nothing is said of what the system's clock tells.
+    ghost tells = { λ old told new. (new ≡ old) × (old.start ≡ None → told ≡ 0) };
+
     fn now(&mut self) -> u64 {
         let Some(start) = self.start else {
             return 0;
@@ -89,20 +52,15 @@ fn serve_workers<R>(
     rt: &R,
     alloc: Global,
     listener: &TcpListener,
-    count: u64,
+    terms: Terms,
     left: SystemSecrets,
     right: SystemSecrets,
 ) -> Result<bool, ServeFault>
 where
-    R: Threads + Wait + Sync + Clock,
+    R: Threads + Wait + Sync + Clock + Eprint,
 {
     let worker = |secrets: SystemSecrets| Worker {
-        conns: Accepted {
-            rt,
-            listener,
-            left: count,
-            served: None,
-        },
+        conns: Accepted::new(rt, listener, terms),
         secrets,
         gate: NoGate,
     };
@@ -119,20 +77,20 @@ where
         worker(right),
         &mut moments,
     )?;
-    Ok(pair.left.conns == count && pair.right.conns == count)
+    Ok(pair.left.conns == terms.count && pair.right.conns == terms.count)
 }
 
-/// Serves a listener: two workers take `count` connections each. Prints `listening` and the local address, and `served`
+/// Serves a listener: two workers take connections on these terms. Prints `listening` and the local address, and `served`
 /// after the last connection; gives the exit status.
 ///
 /// A fault is printed in place of the line that would come next, and has status 3: `fault: listen` where the local
 /// address can't be told, `fault: random` where a generator of secrets can't be made, `fault: workers` where the workers
 /// couldn't be started (once a worker that was started has ended, which it does behind the first request that comes to it),
-/// and `fault: accept` where a connection couldn't be accepted or split, once the other worker has ended too. A line that
-/// can't be printed ends the program with status 3.
-pub fn run_serve<R, W>(rt: &R, listener: &TcpListener, count: u64, out: &mut W) -> u8
+/// and `fault: accept` where a worker couldn't take a connection, once the other worker has ended too; that one is told on
+/// standard error at once. A line that can't be printed ends the program with status 3.
+pub fn run_serve<R, W>(rt: &R, listener: &TcpListener, terms: Terms, out: &mut W) -> u8
 where
-    R: Threads + Wait + Sync + AllocGlobal + Clock + RandomSource,
+    R: Threads + Wait + Sync + AllocGlobal + Clock + RandomSource + Eprint,
     W: Write,
     ensures { IsServed (W.contents out.old) (W.contents out.new) result }
 {
@@ -145,7 +103,7 @@ where
     if print_line(out, format_args!("listening {addr}"), DONE) != DONE {
         return FAULT;
     }
-    match serve_workers(rt, rt.alloc(), listener, count, left, right) {
+    match serve_workers(rt, rt.alloc(), listener, terms, left, right) {
         Ok(true) => print_line(out, "served", DONE),
         Ok(false) => print_line(out, "fault: accept", FAULT),
         Err(_) => print_line(out, "fault: workers", FAULT),
@@ -156,7 +114,9 @@ where
 mod tests {
     use super::*;
     use std::io::Read;
+    use std::net::TcpStream;
     use std::test::Fail;
+    use std::time::Duration;
 
     const OPENING: &[u8] =
         b"POST /v2/lib/a/blobs/uploads/ HTTP/1.1\r\nContent-Length: 0\r\nConnection: close\r\n\r\n";
@@ -165,6 +125,14 @@ mod tests {
         let mut reply = String::new(alloc);
         client.read_to_string(&mut reply)?;
         Ok(reply)
+    }
+
+    /// A connection for each worker, which may be silent for a fifth of a second.
+    fn terms() -> Terms {
+        Terms {
+            count: 1,
+            silence: Duration::from_millis(200),
+        }
     }
 
     /// Both connections wait to be accepted, with a request each, before the listener is served.
@@ -178,7 +146,7 @@ mod tests {
         left.write_all(OPENING)?;
         right.write_all(OPENING)?;
         let mut printed = Vec::new(alloc);
-        assert_eq!(rt; run_serve(&rt, &listener, 1, &mut printed), DONE);
+        assert_eq!(rt; run_serve(&rt, &listener, terms(), &mut printed), DONE);
         let wanted = format!(in alloc; "listening {addr}\nserved\n")?;
         assert_eq!(rt; printed.as_slice(), wanted.as_bytes());
         for reply in [reply(alloc, &mut left)?, reply(alloc, &mut right)?] {
@@ -189,6 +157,22 @@ mod tests {
             );
             assert!(rt; reply.ends_with("Content-Length: 0\r\nConnection: close\r\n\r\n"));
         }
+        Ok(())
+    }
+
+    /// A client that sends nothing and one that sends half a head: neither holds its worker for long.
+    #[test]
+    fn silent_clients_are_ended(rt: HostRuntime) -> Result<(), Fail> {
+        let alloc = rt.alloc();
+        let listener = TcpListener::bind(&rt, "127.0.0.1:0")?;
+        let addr = listener.local_addr()?;
+        let mut silent = TcpStream::connect(&rt, addr)?;
+        let mut halting = TcpStream::connect(&rt, addr)?;
+        halting.write_all(&OPENING[..20])?;
+        let mut printed = Vec::new(alloc);
+        assert_eq!(rt; run_serve(&rt, &listener, terms(), &mut printed), DONE);
+        assert_eq!(rt; reply(alloc, &mut silent)?.as_str(), "");
+        assert_eq!(rt; reply(alloc, &mut halting)?.as_str(), "");
         Ok(())
     }
 }

@@ -1,6 +1,7 @@
 //! Connections over TCP: small writes leave at once, and a close lets the peer read the last reply.
 
-ghost use Rattle.std.specs.Prelude.{IfOk};
+ghost use Rattle.std.specs.Prelude.{◌≡◌, IfOk, IsErr};
+ghost use Rattle.std.specs.Duration.{as_nanos};
 ghost use Rattle.blobd.specs.Halves.{AreUnused};
 
 use std::io;
@@ -39,6 +40,14 @@ pub fn split(stream: &TcpStream) -> io::Result<(Reader, Writer)>
     let reader = stream.try_clone()?;
     let writer = stream.try_clone()?;
     Ok((FromRead::new(reader), ToWrite::new(writer)))
+}
+
+/// Ends the reads and writes of a connection that move no byte for as long as `silence`, which is more than zero: they fail.
+pub fn end_silence(stream: &TcpStream, silence: Duration) -> io::Result<()>
+    ensures { as_nanos silence ≡ 0 → IsErr result }
+{
+    stream.set_read_timeout(Some(silence))?;
+    stream.set_write_timeout(Some(silence))
 }
 
 /// Closes a connection that is served. Where the peer still sends, as behind a refused head, a close at once would reset

@@ -1,46 +1,58 @@
 //! A server and pushes in one process.
 ghost use Rattle.std.specs.Thread.{IsSync};
 
+use crate::accept::Terms;
 use crate::push::run_push;
 use crate::serve::run_serve;
+use std::io::{Eprint, Read, Write};
 use std::net::{Net, SocketAddr, TcpListener, TcpStream};
 use std::random::RandomSource;
 use std::rt::Clock;
 use std::sync::Wait;
 use std::test::Fail;
 use std::thread::{Threads, join};
+use std::time::Duration;
+use std::{io, thread};
 
 /// A line, and the exit status.
 type Printed = (Vec<u8>, u8);
 
 fn pushed<R>(rt: &R, addr: SocketAddr, name: &[u8]) -> Printed
 where
-    R: Net<Stream = TcpStream> + AllocGlobal,
+    R: Net<Stream = TcpStream> + AllocGlobal + Clock,
 {
     let mut out = Vec::new(rt.alloc());
     let status = run_push(rt, addr, name, b"abc", 2, &mut out);
     (out, status)
 }
 
-fn served<R>(rt: &R, listener: &TcpListener) -> Printed
+fn served<R>(rt: &R, listener: &TcpListener, silence: Duration) -> Printed
 where
-    R: Threads + Wait + Sync + AllocGlobal + Clock + RandomSource,
+    R: Threads + Wait + Sync + AllocGlobal + Clock + RandomSource + Eprint,
 {
     let mut out = Vec::new(rt.alloc());
-    let status = run_serve(rt, listener, 1, &mut out);
+    let terms = Terms { count: 1, silence };
+    let status = run_serve(rt, listener, terms, &mut out);
     (out, status)
 }
 
 /// What a server whose workers take a connection each prints, and two pushes to it.
 fn all_printed<R>(rt: &R, listener: &TcpListener, addr: SocketAddr) -> (Printed, (Printed, Printed))
 where
-    R: Threads + Wait + Sync + AllocGlobal + Clock + RandomSource + Net<Stream = TcpStream>,
+    R: Threads
+        + Wait
+        + Sync
+        + AllocGlobal
+        + Clock
+        + RandomSource
+        + Eprint
+        + Net<Stream = TcpStream>,
 {
     join(
         rt,
         || -> Printed
             requires { IsSync R.row }
-        { served(rt, listener) },
+        { served(rt, listener, Duration::from_secs(60)) },
         || -> (Printed, Printed)
             requires { IsSync R.row }
         {
@@ -75,5 +87,64 @@ fn a_name_that_is_none_is_refused(rt: HostRuntime) -> Result<(), Fail> {
         (printed.0.as_slice(), printed.1),
         (b"refused: name\n".as_slice(), 1)
     );
+    Ok(())
+}
+
+const OPENING: &[u8] =
+    b"POST /v2/lib/a/blobs/uploads/ HTTP/1.1\r\nContent-Length: 0\r\nConnection: close\r\n\r\n";
+
+/// The reply to an opening that is sent in pieces, a tenth of a second apart, for about a second and a half.
+fn opened_slowly<R>(rt: &R, addr: SocketAddr) -> io::Result<Vec<u8>>
+where
+    R: Net<Stream = TcpStream> + AllocGlobal + Clock,
+{
+    let mut client = TcpStream::connect(rt, addr)?;
+    for piece in OPENING.chunks(6) {
+        thread::sleep(rt, Duration::from_millis(100));
+        client.write_all(piece)?;
+    }
+    let mut reply = Vec::new(rt.alloc());
+    client.read_to_end(&mut reply)?;
+    Ok(reply)
+}
+
+/// What a server prints whose clients may be silent for a second, and the replies to two that send slowly.
+fn slow_replies<R>(
+    rt: &R,
+    listener: &TcpListener,
+    addr: SocketAddr,
+) -> (Printed, [io::Result<Vec<u8>>; 2])
+where
+    R: Threads
+        + Wait
+        + Sync
+        + AllocGlobal
+        + Clock
+        + RandomSource
+        + Eprint
+        + Net<Stream = TcpStream>,
+{
+    join(
+        rt,
+        || -> Printed
+            requires { IsSync R.row }
+        { served(rt, listener, Duration::from_secs(1)) },
+        || -> [io::Result<Vec<u8>>; 2]
+            requires { IsSync R.row }
+        { [opened_slowly(rt, addr), opened_slowly(rt, addr)] },
+    )
+}
+
+/// A request that takes longer than a client may be silent, and isn't silent for so long, is served.
+#[test]
+fn a_slow_client_is_served(rt: HostRuntime) -> Result<(), Fail> {
+    let any: SocketAddr = "127.0.0.1:0".parse()?;
+    let listener = TcpListener::bind(&rt, any)?;
+    let addr = listener.local_addr()?;
+    let (server, replies) = slow_replies(&rt, &listener, addr);
+    assert_eq!(rt; server.1, 0);
+    for reply in replies {
+        assert!(rt; reply?.starts_with(b"HTTP/1.1 202 Accepted\r\n"));
+    }
     Ok(())
 }

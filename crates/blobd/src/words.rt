@@ -19,10 +19,10 @@ const LARGEST_CHUNK: u64 = 2_147_483_648;
 pub enum Command<'w> {
     /// One connection over standard input and output.
     Once,
-    /// Two workers, each of which takes `count` connections at `addr`.
+    /// Two workers, each of which takes `count` connections at `addr`, or all that come where there is no count.
     Serve {
         addr: SocketAddr,
-        count: u64,
+        count: Option<u64>,
     },
     /// Pushes `file` in chunks of at most `chunk` bytes into the repository `name` of the server at `addr`.
     Push {
@@ -60,9 +60,13 @@ pub fn read_words<'w>(words: &[&'w str]) -> Option<Command<'w>>
 {
     match words {
         ["once"] => Some(Command::Once),
+        ["serve", addr] => Some(Command::Serve {
+            addr: read_addr(addr)?,
+            count: None,
+        }),
         ["serve", addr, count] => Some(Command::Serve {
             addr: read_addr(addr)?,
-            count: read_count(count, MOST_CONNECTIONS)?,
+            count: Some(read_count(count, MOST_CONNECTIONS)?),
         }),
         ["push", addr, name, file, chunk] => Some(Command::Push {
             addr: read_addr(addr)?,
@@ -89,7 +93,7 @@ mod tests {
             most,
             Some(Command::Serve {
                 addr,
-                count: 1_000_000
+                count: Some(1_000_000)
             })
         );
         let padded = read_words(&["serve", "[::1]:0", "0001"]);
@@ -97,7 +101,15 @@ mod tests {
             padded,
             Some(Command::Serve {
                 addr: six,
-                count: 1
+                count: Some(1)
+            })
+        );
+        let endless = read_words(&["serve", "[::1]:0"]);
+        assert_eq!(rt;
+            endless,
+            Some(Command::Serve {
+                addr: six,
+                count: None
             })
         );
         let push = read_words(&["push", "127.0.0.1:5000", "A", "", "2147483648"]);
@@ -128,6 +140,7 @@ mod tests {
         }
         for addr in ["localhost:0", "127.0.0.1", "127.0.0.1:65536", ""] {
             assert_eq!(rt; read_words(&["serve", addr, "1"]), None, "{addr}");
+            assert_eq!(rt; read_words(&["serve", addr]), None, "{addr}");
         }
         for chunk in ["0", "2147483649", "-1"] {
             assert_eq!(rt;

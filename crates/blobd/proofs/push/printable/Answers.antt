@@ -1,8 +1,6 @@
 use Rattle.std.proofs.Common.{◌≡◌, ℕ, List, true, sym, ap, ◌∙◌}
-use Rattle.std.specs.List.{list_all}
-use Rattle.std.specs.Char.{is_ascii_graphic}
-use Rattle.blobd.specs.Pushed.{shown}
-use Rattle.blobd.proofs.PrintedTexts.{visible_utf8, read_text, shown_visible}
+use Rattle.blobd.specs.Pushed.{is_word, shown}
+use Rattle.blobd.proofs.PrintedTexts.{visible_utf8, word_visible, read_text, shown_word}
 use Rattle.blobd.proofs.push.printable.Goals as goal
 
 pub returns-in-Some : goal.returns-in-Some
@@ -10,8 +8,7 @@ returns-in-Some c =
     let code : List ℕ = c.in-Some.code in
     let text : List ℕ = c.as_slice-in-Some.result.now in
     let same : text ≡ code = c.as_slice-in-Some.ensures in
-    let seen : list_all is_ascii_graphic code ≡ true =
-    ap (list_all is_ascii_graphic) (sym c.as_slice.ensures) ∙ sym c.are_visible.ensures ∙ c.if-are_visible.true in
-    let visible : list_all is_ascii_graphic text ≡ true = ap (list_all is_ascii_graphic) same ∙ seen in
-    let read = read_text c.from_utf8.result (λ s. s.now) _ text _ (visible_utf8 text visible) c.from_utf8.ensures.cases in
-    ap (λ s. s.now) c.unwrap_or.ensures ∙ read ∙ same ∙ shown_visible code seen ∙ sym (ap shown c.in-Some.is)
+    let seen : is_word code ≡ true = ap is_word (sym c.as_slice.ensures) ∙ sym c.is_word.ensures ∙ c.if-is_word.true in
+    let word : is_word text ≡ true = ap is_word same ∙ seen in
+    let read = read_text c.from_utf8.result (λ s. s.now) _ text _ (visible_utf8 text (word_visible text word)) c.from_utf8.ensures.cases in
+    ap (λ s. s.now) c.unwrap_or.ensures ∙ read ∙ same ∙ shown_word code seen ∙ sym (ap shown c.in-Some.is)

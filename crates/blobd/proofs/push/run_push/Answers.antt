@@ -14,7 +14,7 @@ returns-in-Err-TooLong g c =
 pub returns-in-Ok-push : goal.returns-in-Ok-push
 returns-in-Ok-push g c =
     let same : c.in-Ok.name ≡ c.args.name.now = c.in-Ok.ensures.value in
-    done (λ s. s.digest) (λ s ask heard t h. h) c.push.ensures c.in-Ok-push.is same c.in-Ok.ensures.named refl
+    done (λ s. s.digest) (λ s ask heard t h. h.0) c.push.ensures c.in-Ok-push.is same c.in-Ok.ensures.named refl
     _ _ _ _ _ c.outcome_word.ensures c.asked_or_own-digest.ensures c.print_digest.ensures
 
 pub returns : goal.returns

@@ -1,0 +1,67 @@
+//! A connection over standard input and output, with a desk of one's own: it counts what it is asked, and has a service
+//! answer. Behind the replies the program prints how the connection ended, and the count.
+#![tactic(auto)]
+
+ghost use Rattle.upload_wire.specs.Writing.{sink};
+ghost use Rattle.upload_wire.specs.Conversation.{IsConversation, source};
+ghost use Rattle.embed_connection.specs.Counting.{StepsAndCounts};
+
+use std::alloc::Global;
+use std::io;
+use upload_service::{Answer, Ask, Limits, Service};
+use upload_wire::{ByteSink, ByteSource, ConnEnd, Desk, FromRead, ToWrite, serve_connection};
+
+/// A server draws it at random, so that nobody guesses a session's reference.
+const SECRET: [u8; 12] = [0; 12];
+
+const LIMITS: Limits = Limits {
+    max_blob: 1 << 30,
+    max_body: 1 << 20,
+    max_open: 16,
+    max_idle: 3_600,
+};
+
+/// A service, and how many requests it was asked.
+#[derive(Drop)]
+struct CountingDesk {
+    service: Service,
+    asked: u64,
+}
+
+impl Desk for CountingDesk {
+    ghost use Rattle.embed_connection.specs.Counting.{StepsAndCounts};
+
+    ghost moves = { StepsAndCounts };
+
+    fn ask(&mut self, ask: Ask) -> Option<Answer> {
+        self.asked = self.asked.saturating_add(1);
+        Some(self.service.step(ask, SECRET, 0))
+    }
+}
+
+/// Serves one connection: what is read and written is a conversation, in which each request that was read is one turn
+/// of the service, counted, and its answer is what is written.
+fn serve<R: ByteSource, W: ByteSink>(
+    alloc: Global,
+    reader: &mut R,
+    writer: &mut W,
+    desk: &mut CountingDesk,
+) -> ConnEnd
+    ensures { IsConversation StepsAndCounts 1048576
+        (source (R.remaining reader.old) (R.failed_reads reader.old)) (source (R.remaining reader.new) (R.failed_reads reader.new))
+        desk.old desk.new
+        (sink (W.contents writer.old) (W.failed_writes writer.old)) (sink (W.contents writer.new) (W.failed_writes writer.new)) result }
+{
+    serve_connection(alloc, reader, writer, desk, LIMITS)
+}
+
+fn main(rt: HostRuntime) -> io::Result<()> {
+    let mut reader = FromRead::new(rt.stdin());
+    let mut writer = ToWrite::new(rt.stdout());
+    let mut desk = CountingDesk {
+        service: Service::new(rt.alloc(), LIMITS),
+        asked: 0,
+    };
+    let end = serve(rt.alloc(), &mut reader, &mut writer, &mut desk);
+    println!(rt; "{end:?} after {} requests", desk.asked)
+}
