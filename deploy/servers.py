@@ -1,0 +1,229 @@
+"""Starts blobd and the servers that stand in front of it, with the settings of this folder, and ends them.
+
+They listen on the loopback address alone. Each is a `Service`, for as long as its `with` lasts; it ends too where the program that started it is killed.
+"""
+import ctypes
+import glob
+import os
+import shutil
+import signal
+import socket
+import subprocess
+import time
+
+HERE = os.path.dirname(os.path.abspath(__file__))
+# Debian keeps servers where the path of others doesn't look.
+PATH = os.environ.get("PATH", "") + os.pathsep + "/usr/sbin" + os.pathsep + "/sbin"
+# What `make serve` sets too: large blobs lie in huge pages.
+HUGE_PAGES = {"GLIBC_TUNABLES": "glibc.malloc.hugetlb=1"}
+PATIENCE = 20
+DIES_WITH_PARENT = 1
+
+# Debian's package for each thing that is wanted, and how to see that it is there.
+PACKAGES = {
+    "haproxy": lambda: program("haproxy"),
+    "lua-cjson": lambda: glob.glob("/usr/lib/*/lua/5.*/cjson.so"),
+    "openssl": lambda: program("openssl"),
+    "skopeo": lambda: program("skopeo"),
+    "nginx-light": lambda: program("nginx"),
+    "docker-registry": lambda: program("docker-registry"),
+}
+
+
+def program(name):
+    return shutil.which(name, path=PATH)
+
+
+def missing(*packages):
+    return [name for name in packages if not PACKAGES[name]()]
+
+
+def free_address():
+    """An address that nobody listens on now."""
+    with socket.socket() as free:
+        free.bind(("127.0.0.1", 0))
+        return "127.0.0.1:%d" % free.getsockname()[1]
+
+
+def place(address):
+    host, port = address.rsplit(":", 1)
+    return host, int(port)
+
+
+def leave_with_parent():
+    ctypes.CDLL(None).prctl(DIES_WITH_PARENT, signal.SIGTERM)
+
+
+class Service:
+    """A process that listens on these addresses. What it prints goes to the file NAME.log of the folder."""
+
+    def __init__(self, name, folder, words, addresses, settings=None):
+        self.name, self.folder, self.words, self.addresses = name, folder, words, addresses
+        self.settings = os.environ | (settings or {})
+        self.log = os.path.join(folder, f"{name}.log")
+        self.process = None
+
+    def __enter__(self):
+        self.start()
+        return self
+
+    def __exit__(self, *_):
+        self.end()
+
+    def start(self):
+        with open(self.log, "ab") as log:
+            # In a session of its own, an interrupt at the terminal doesn't reach it: it is ended in its turn.
+            self.process = subprocess.Popen(
+                self.words, cwd=self.folder, env=self.settings, stdin=subprocess.DEVNULL, stdout=log, stderr=log,
+                start_new_session=True, preexec_fn=leave_with_parent,
+            )
+        try:
+            for address in self.addresses:
+                self.wait_for(address)
+        except BaseException:
+            self.end()
+            raise
+
+    def wait_for(self, address):
+        end = time.monotonic() + PATIENCE
+        while self.process.poll() is None and time.monotonic() < end:
+            try:
+                socket.create_connection(place(address), timeout=1).close()
+                return
+            except OSError:
+                time.sleep(0.05)
+        with open(self.log, encoding="utf-8", errors="replace") as log:
+            told = log.read()[-2000:]
+        raise RuntimeError(f"{self.name} doesn't listen on {address}:\n{told}")
+
+    def end(self, by=signal.SIGTERM):
+        """Ends it, by force where it doesn't go within five seconds."""
+        if self.process is None:
+            return
+        self.process.send_signal(by)
+        try:
+            self.process.wait(timeout=5)
+        except subprocess.TimeoutExpired:
+            self.process.kill()
+            self.process.wait()
+        self.process = None
+
+    def ended(self):
+        return self.process is None or self.process.poll() is not None
+
+
+def blobd(binary, folder, address, name="blobd", memory=None):
+    """A shard; where it is told, with so many bytes of address space."""
+    words = [os.path.abspath(binary), "serve", address]
+    if memory:
+        words = ["prlimit", f"--as={memory}", *words]
+    return Service(name, folder, words, [address], HUGE_PAGES)
+
+
+def certificate(folder):
+    """Makes a certificate that signs itself, for this machine's loopback address: ca/front.crt, front.key, and both in front.pem."""
+    os.makedirs(os.path.join(folder, "ca"), exist_ok=True)
+    key, crt = os.path.join(folder, "front.key"), os.path.join(folder, "ca", "front.crt")
+    words = ["openssl", "req", "-x509", "-newkey", "ec", "-pkeyopt", "ec_paramgen_curve:P-256", "-nodes", "-days", "30"]
+    words += ["-subj", "/CN=blobd", "-addext", "subjectAltName=IP:127.0.0.1,DNS:localhost", "-keyout", key, "-out", crt]
+    subprocess.run(words, check=True, stdout=subprocess.DEVNULL, stderr=subprocess.PIPE)
+    pem = os.path.join(folder, "front.pem")
+    with open(os.open(pem, os.O_CREAT | os.O_WRONLY | os.O_TRUNC, 0o600), "w", encoding="ascii") as both:
+        for path in (crt, key):
+            with open(path, encoding="ascii") as part:
+                both.write(part.read())
+
+
+def logins(folder, users):
+    """Writes the logins, of these users with their passwords, where nobody else reads them."""
+    path = os.path.join(folder, "users.cfg")
+    with open(os.open(path, os.O_CREAT | os.O_WRONLY | os.O_TRUNC, 0o600), "w", encoding="ascii") as file:
+        file.write("userlist pushers\n" + "".join(f"    user {user} insecure-password {word}\n" for user, word in users.items()))
+
+
+class HAProxy(Service):
+    """The front over these shards, with the certificate and the logins of the folder, on free addresses but for the one given, with more settings."""
+
+    def __init__(self, folder, shards, tls=None, more=None):
+        self.tls = tls or free_address()
+        self.plain, self.local, self.status = free_address(), free_address(), free_address()
+        settings = {
+            "FRONT_TLS": self.tls, "FRONT_PLAIN": self.plain, "FRONT_LOCAL": self.local, "FRONT_STATUS": self.status,
+            "FRONT_CERT": os.path.join(folder, "front.pem"), "FRONT_LUA": os.path.join(HERE, "manifests.lua"),
+        }
+        settings |= {f"BLOBD_{number}": address for number, address in enumerate(shards, 1)} | (more or {})
+        words = [program("haproxy"), "-f", os.path.join(HERE, "haproxy.cfg"), "-f", "users.cfg"]
+        super().__init__("haproxy", folder, words, [self.tls, self.plain, self.local, self.status], settings)
+
+    def judged(self):
+        """What `haproxy -c` says of the settings, where it isn't content."""
+        ran = subprocess.run([*self.words, "-c"], cwd=self.folder, env=self.settings, capture_output=True, text=True, check=False)
+        return ran.stdout + ran.stderr if ran.returncode else ""
+
+
+class Nginx(Service):
+    """nginx in front of HAProxy's plain address."""
+
+    def __init__(self, folder, front):
+        self.tls = free_address()
+        with open(os.path.join(HERE, "nginx.conf"), encoding="utf-8") as file:
+            settings = file.read()
+        # Its workers are of another user, where it is started by root: they need a way to their files.
+        prefix = os.path.join(folder, "nginx")
+        os.makedirs(prefix, exist_ok=True)
+        os.chmod(folder, 0o711)
+        os.chmod(prefix, 0o711)
+        kinds = ("client_body", "proxy", "fastcgi", "scgi", "uwsgi")
+        places = " ".join(f"{kind}_temp_path {kind};" for kind in kinds)
+        changes = {
+            "pid /run/nginx.pid;": "pid nginx.pid;",
+            "error_log /var/log/nginx/error.log": "error_log stderr",
+            "access_log /var/log/nginx/access.log;": f"access_log access.log; {places}",
+            "server 127.0.0.1:5080;": f"server {front.plain};",
+            "listen 443 ssl http2;": f"listen {self.tls} ssl http2;",
+            "/etc/blobd/front.crt": os.path.join(folder, "ca", "front.crt"),
+            "/etc/blobd/front.key": os.path.join(folder, "front.key"),
+        }
+        for old, new in changes.items():
+            if settings.count(old) != 1:
+                raise RuntimeError(f"nginx.conf doesn't say once: {old}")
+            settings = settings.replace(old, new)
+        path = os.path.join(folder, "nginx.conf")
+        with open(path, "w", encoding="utf-8") as file:
+            file.write(settings)
+        super().__init__("nginx", folder, [program("nginx"), "-p", prefix, "-c", path, "-g", "daemon off;"], [self.tls])
+
+
+class Adapter(Service):
+    """Lets `blobd push` push to another registry."""
+
+    def __init__(self, folder, to):
+        self.address = free_address()
+        states = os.path.join(folder, "states.map")
+        with open(states, "w", encoding="ascii"):
+            pass
+        settings = {"ADAPTER": self.address, "ADAPTER_TO": to, "ADAPTER_MAP": states}
+        words = [program("haproxy"), "-f", os.path.join(HERE, "adapter.cfg")]
+        super().__init__("adapter", folder, words, [self.address], settings)
+
+
+class DockerRegistry(Service):
+    """Debian's docker-registry, with its files in the folder; with logins of Apache's form where they are given."""
+
+    def __init__(self, folder, tls=False, htpasswd=None):
+        self.address = free_address()
+        self.root = os.path.join(folder, "registry")
+        lines = ["version: 0.1", "log:", "  level: error", "  accesslog:", "    disabled: true"]
+        lines += ["storage:", "  filesystem:", f"    rootdirectory: {self.root}", "http:", f"  addr: {self.address}"]
+        if tls:
+            lines += ["  tls:", f"    certificate: {folder}/ca/front.crt", f"    key: {folder}/front.key"]
+        if htpasswd:
+            lines += ["auth:", "  htpasswd:", "    realm: registry", f"    path: {htpasswd}"]
+        path = os.path.join(folder, "registry.yml")
+        with open(path, "w", encoding="utf-8") as file:
+            file.write("\n".join(lines) + "\n")
+        super().__init__("docker-registry", folder, [program("docker-registry"), "serve", path], [self.address])
+
+    def end(self, by=signal.SIGTERM):
+        super().end(by)
+        shutil.rmtree(self.root, ignore_errors=True)
