@@ -1,17 +1,19 @@
 #!/usr/bin/env python3
 """Figures of `blobd serve` and `blobd push` over loopback, as ratios in one run.
 
-    loopback.py PROGRAM [--json FILE] [--mib SIZE] [--small-pages]
+    loopback.py PROGRAM [--json FILE] [--mib SIZE] [--waiting-mib SIZE] [--small-pages]
 
-Each figure is the best of three, each upload's and each openings' on a server of its own. Beside an upload and a push stands `sha256sum` on the same
-bytes, timed before each of their runs; beside a pull the same bytes over a connection with no server behind it, sent in the same way. Where Debian's
-`docker-registry` is installed it has the same rows, with its files in memory too. The server runs as `make serve` runs it, with the huge pages that
-the system gives on request; with --small-pages it doesn't ask for them.
+Each figure is the best of five, each upload's and each openings' on a server of its own. Beside an upload and a push stands `sha256sum` on the same
+bytes, timed before each of their runs; beside a pull the same bytes over a connection with no server behind it, sent in the same way. Two at once are
+told beside one alone, and waiting is that of a thousand small requests beside a large body. Where Debian's `docker-registry` is installed it has the
+same rows, with its files in memory too. The server runs as `make serve` runs it, with the huge pages that the system gives on request; with
+--small-pages it doesn't ask for them.
 
 The client writes whole requests from memory to a raw socket, and still takes longer over a small request than the server does. So small requests
 are also counted by the seconds of processor time that the server spent, its own and the system's for it.
 
-Needs Linux, and about four times SIZE MiB (256 where none is given) of memory, part of it in /dev/shm.
+Needs Linux, and about four times the larger SIZE in MiB of memory, part of it in /dev/shm: 256 for the speeds and 1,024 for the waiting, where none is
+given.
 """
 import argparse
 import collections
@@ -27,14 +29,17 @@ import socket
 import subprocess
 import sys
 import tempfile
+import threading
 import time
 
 MIB = 1 << 20
-RUNS = 3
+RUNS = 5
 # A connection of `blobd` has at most 10,000 requests, and one of them goes before the measured ones.
 SMALL_REQUESTS = 9600
 # `blobd` has at most 1,024 open sessions.
 OPENINGS = 960
+# The small requests beside a large body, whose longest wait is told.
+BESIDE = 1000
 PIPELINED = 16
 PATIENCE = 120
 # What `make serve` sets (glibc's tunables): memory is asked for in huge pages.
@@ -47,8 +52,8 @@ FORK = multiprocessing.get_context("fork")
 class Blob:
     """Random bytes in a file in memory, and their digest."""
 
-    def __init__(self, folder, size):
-        self.path = os.path.join(folder, "blob")
+    def __init__(self, path, size):
+        self.path = path
         self.size = size
         digest = hashlib.sha256()
         with open(self.path, "wb") as file:
@@ -259,6 +264,41 @@ def seconds(work):
     return time.monotonic() - start
 
 
+class Beside(threading.Thread):
+    """Work that goes on beside the caller's, from the start of a `with` to its end. What it raises ends this program."""
+
+    def __init__(self, work):
+        super().__init__(daemon=True)
+        self.work = work
+        self.fault = None
+
+    def run(self):
+        try:
+            self.work()
+        except (Exception, SystemExit) as fault:  # told by the thread that waits for this one
+            self.fault = fault
+
+    def __enter__(self):
+        self.start()
+        return self
+
+    def __exit__(self, *_):
+        self.join(PATIENCE)
+        if self.is_alive() or self.fault:
+            sys.exit(f"work beside another failed: {self.fault or 'it did not end'}")
+
+
+def seconds_of_both(works):
+    """Seconds from the start of the first to the end of the last of several that run at once."""
+
+    def both():
+        with contextlib.ExitStack() as running:
+            for work in works:
+                running.enter_context(Beside(work))
+
+    return seconds(both)
+
+
 def ran(words):
     """Runs a program: what it printed, the seconds it took, those of the processor, and the most memory it had in bytes.
 
@@ -356,6 +396,90 @@ def pull_row(server, blob):
     }
 
 
+def uploads_at_once_row(server, blob, chunk, count):
+    """Uploads at once, each over a connection of its own, beside one alone: the same work a server, each run with a new one."""
+
+    def work(connection, name):
+        return lambda: upload(connection, name, blob, chunk)
+
+    alone, at_once, peaks = [], [], []
+    for _ in range(RUNS):
+        with server, server.connect() as connection:
+            alone.append(seconds(work(connection, "lib/a")))
+        with server, contextlib.ExitStack() as open_ones:
+            connections = [open_ones.enter_context(server.connect()) for _ in range(count)]
+            at_once.append(seconds_of_both([work(each, f"lib/a{number}") for number, each in enumerate(connections)]))
+            peaks.append(server.peak())
+    return of_one_alone(blob, count, alone, at_once, peaks)
+
+
+def of_one_alone(blob, count, alone, at_once, peaks):
+    """What several at once have in common. The same bytes come each time, and a registry keeps them once or several times."""
+    return {
+        "bytes_a_second": count * blob.size / min(at_once),
+        "of_one_alone": count * min(alone) / min(at_once),
+        "alone_seconds": min(alone),
+        "at_once_seconds": min(at_once),
+        "peak_bytes_a_byte": max(peaks) / blob.size,
+    }
+
+
+def pulls_at_once_row(server, blob, count):
+    alone, at_once = [], []
+    rooms = [bytearray(MIB) for _ in range(count)]
+    with server, contextlib.ExitStack() as open_ones:
+        connections = [open_ones.enter_context(server.connect()) for _ in range(count)]
+        upload(connections[0], "lib/a", blob, blob.size)
+        works = [lambda each=each, room=room: pull(each, "lib/a", blob, room) for each, room in zip(connections, rooms)]
+        for _ in range(RUNS):
+            alone.append(seconds(works[0]))
+            at_once.append(seconds_of_both(works))
+        peak = server.peak()
+    return of_one_alone(blob, count, alone, at_once, [peak])
+
+
+def longest_waits(server, work):
+    """Does the work, and asks for `/v2/` all the while over another connection: the longest and the middle wait, in seconds, of the first thousand.
+
+    The requests that the work outlasts are spread over it; what is left of the thousand comes behind it.
+    """
+    waits = []
+    with server.connect() as other:
+        request = other.head("GET", "/v2/")
+
+        def ask():
+            start = time.monotonic()
+            other.socket.sendall(request)
+            wanted(other.reply(), 200)
+            waits.append(time.monotonic() - start)
+
+        ask()
+        waits.clear()
+        with Beside(work) as working:
+            while working.is_alive() and len(waits) < BESIDE:
+                ask()
+                time.sleep(0.001)
+        beside = len(waits)
+        while len(waits) < BESIDE:
+            ask()
+    waits.sort()
+    return waits[-1], waits[len(waits) // 2], beside
+
+
+def waiting_row(server, blob, pulled):
+    """The longest wait beside an upload in one body, or beside a pull: the best of the runs, and the worst of them."""
+    longest, middle, beside = [], [], []
+    room = bytearray(MIB)
+    for _ in range(RUNS):
+        with server, server.connect() as connection:
+            if pulled:
+                upload(connection, "lib/a", blob, blob.size)
+            work = (lambda: pull(connection, "lib/a", blob, room)) if pulled else (lambda: upload(connection, "lib/a", blob, blob.size))
+            for kept, told in zip((longest, middle, beside), longest_waits(server, work)):
+                kept.append(told)
+    return {"longest_wait_seconds": min(longest), "worst_wait_seconds": max(longest), "middle_wait_seconds": min(middle), "asked_beside": max(beside)}
+
+
 def push_row(server, blob, chunk):
     """A push, each run to a new server; the client's own processor time and memory beside it."""
     wall, processor, client, plain, peaks = [], [], [], [], []
@@ -436,11 +560,16 @@ def small_row(server, method, target, status, fields, count, at_once, together):
     }
 
 
-def server_rows(server, blob):
+def server_rows(server, blob, large):
     """Every row that one server has: its kind, what was asked, and the figures."""
     for what, chunk in (("one body", blob.size), *((f"chunks of {size} MiB", size * MIB) for size in (16, 4, 1))):
         yield "upload", f"upload in {what}", upload_row(server, blob, chunk)
     yield "pull", "pull", pull_row(server, blob)
+    for what, chunk in (("one body", blob.size), ("chunks of 4 MiB", 4 * MIB)):
+        yield "at once", f"two uploads in {what}", uploads_at_once_row(server, blob, chunk, 2)
+    yield "at once", "two pulls", pulls_at_once_row(server, blob, 2)
+    for what, pulled in (("an upload in one body", False), ("a pull", True)):
+        yield "waiting", f"beside {what} of {large.size // MIB} MiB", waiting_row(server, large, pulled)
     small = {
         "GET /v2/": ("GET", "/v2/", 200, {}, SMALL_REQUESTS),
         "opening": ("POST", "/v2/lib/a/blobs/uploads/", 202, {"Content_Length": 0}, OPENINGS),
@@ -451,13 +580,39 @@ def server_rows(server, blob):
             yield "small", f"{asked}, {way}", small_row(server, *words, at_once, together)
 
 
+def pushes_at_once_row(server, blob, chunk, count):
+    """Pushes at once, each a process of its own, beside one alone."""
+
+    def work(name):
+        def run():
+            told, *_ = ran([server.program, "push", "%s:%d" % server.place, name, blob.path, str(chunk)])
+            if told != f"pushed {blob.digest}\n":
+                sys.exit(f"a push ended with {told!r}")
+
+        return run
+
+    alone, at_once, peaks = [], [], []
+    for _ in range(RUNS):
+        with server:
+            alone.append(seconds(work("lib/a")))
+        with server:
+            at_once.append(seconds_of_both([work(f"lib/a{number}") for number in range(count)]))
+            peaks.append(server.peak())
+    return of_one_alone(blob, count, alone, at_once, peaks)
+
+
 def push_rows(server, blob):
     for what, chunk in (("one chunk", blob.size), ("chunks of 1 MiB", MIB)):
         yield "push", f"push in {what}", push_row(server, blob, chunk)
+    yield "at once", "two pushes in one chunk", pushes_at_once_row(server, blob, blob.size, 2)
 
 
 def mib(value):
     return f"{value / MIB:.0f}"
+
+
+def milliseconds(value):
+    return f"{value * 1000:.2f}"
 
 
 SPEED = {"MiB a second": ("bytes_a_second", mib)}
@@ -475,6 +630,19 @@ COLUMNS = {
         "bare connection, s": ("bare_seconds", "{:.3f}".format),
         **SPENT,
         "server's peak memory a byte": ("peak_bytes_a_byte", "{:.3f}".format),
+    },
+    "at once": {
+        **SPEED,
+        "of one alone's": ("of_one_alone", "{:.2f}".format),
+        "one alone, s": ("alone_seconds", "{:.3f}".format),
+        "at once, s": ("at_once_seconds", "{:.3f}".format),
+        "server's peak memory a byte of one": ("peak_bytes_a_byte", "{:.3f}".format),
+    },
+    "waiting": {
+        "the longest wait for GET /v2/, ms": ("longest_wait_seconds", milliseconds),
+        "in the worst run": ("worst_wait_seconds", milliseconds),
+        "the middle one": ("middle_wait_seconds", milliseconds),
+        "asked meanwhile": ("asked_beside", "{}".format),
     },
     "small": {
         "requests a second by the clock": ("requests_a_second", "{:.0f}".format),
@@ -519,17 +687,18 @@ def read_words():
     words.add_argument("program", metavar="PROGRAM")
     words.add_argument("--json", metavar="FILE", help="write the figures there too")
     words.add_argument("--mib", metavar="SIZE", type=int, default=256, help="the blob's size in MiB")
+    words.add_argument("--waiting-mib", metavar="SIZE", type=int, default=1024, help="the size in MiB of the blob beside which others wait")
     words.add_argument("--small-pages", action="store_true", help="the server doesn't ask the system for huge pages")
     return words.parse_args()
 
 
-def measure(program, settings, blob, folder):
+def measure(program, settings, blob, large, folder):
     """The rows of each server, and those of the client."""
     blobd = Blobd(program, settings)
-    measured = [(blobd, server_rows(blobd, blob)), (blobd, push_rows(blobd, blob))]
+    measured = [(blobd, server_rows(blobd, blob, large)), (blobd, push_rows(blobd, blob))]
     if registry := shutil.which("docker-registry"):
         registry = DockerRegistry(registry, folder)
-        measured.append((registry, server_rows(registry, blob)))
+        measured.append((registry, server_rows(registry, blob, large)))
     else:
         print("skipped: docker-registry, which isn't installed", flush=True)
     for server, rows in measured:
@@ -543,9 +712,10 @@ def main():
     settings = {} if words.small_pages else HUGE_PAGES
     load = [os.getloadavg()[0]]
     with tempfile.TemporaryDirectory(dir="/dev/shm") as folder:
-        blob = Blob(folder, words.mib * MIB)
+        blob = Blob(os.path.join(folder, "blob"), words.mib * MIB)
+        large = Blob(os.path.join(folder, "large"), words.waiting_mib * MIB)
         library = hashed_by_library(blob)
-        rows = list(measure(os.path.abspath(words.program), settings, blob, folder))
+        rows = list(measure(os.path.abspath(words.program), settings, blob, large, folder))
     load.append(os.getloadavg()[0])
     told = {"machine": machine(), "load": load, "blob_bytes": blob.size, "runs": RUNS, "settings": settings, "hashlib_seconds": library, "rows": rows}
     found = told["machine"]

@@ -14,6 +14,7 @@ import sys
 WORDS = ("stream", "refuse", "commit", "drip")
 TIME = re.compile(r"^(.*): (\d+) us")
 MEMORY = re.compile(r"^memory kept: (\d+) for each 1,000 bytes$", re.MULTILINE)
+BLOB_MEMORY = re.compile(r"^memory kept: (\d+) bytes for each blob$", re.MULTILINE)
 
 
 def times(text):
@@ -34,6 +35,8 @@ def figure(program, word):
         sys.exit(f"{word}: what had to be stored was not, or what had to be refused was")
     memory = [int(kept) for text in texts for kept in MEMORY.findall(text)]
     kept = f", {max(memory) / 1000:.3f} bytes of memory a byte" if memory else ""
+    each = [int(kept) for text in texts for kept in BLOB_MEMORY.findall(text)]
+    kept += f", {max(each)} bytes of memory a blob" if each else ""
     ratio = least_measured / max(least_beside, 1)
     return f"{measured}: {ratio:.3f} of the time of {beside} ({least_measured} us, {least_beside} us){kept}"
 

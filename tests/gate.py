@@ -19,8 +19,11 @@ PARTS = [
     ("whole connections", [sys.executable, "tests/connections.py", "crates/blobd/out/blobd"]),
     ("each growth refused in turn", [sys.executable, "tests/growths.py", "crates/blobd/out/blobd"]),
     ("the program over loopback", [sys.executable, "tests/program.py", "crates/blobd/out/blobd"]),
+    ("the servers in front", [sys.executable, "tests/front.py", "crates/blobd/out/blobd"]),
     ("pushes", [sys.executable, "tests/pushes.py", "crates/blobd/out/blobd"]),
-    ("streams that a generator makes", [sys.executable, "tests/fuzz.py", "crates/blobd/out/blobd", "500"]),
+    ("replies before their time", [sys.executable, "tests/early_replies.py", "crates/blobd/out/blobd"]),
+    ("streams, beside a model", [sys.executable, "tests/differential.py", "crates/blobd/out/blobd"]),
+    ("clients for a while", [sys.executable, "tests/soak.py", "crates/blobd/out/blobd", "--seconds", "10"]),
 ]
 
 

@@ -6,101 +6,28 @@
 Prints a line for each check that fails, one for each client that isn't installed, and 'N passed, M failed' as the last.
 """
 import concurrent.futures
-import hashlib
+import errno
 import http.client
 import json
 import os
 import random
+import re
 import resource
+import select
 import shutil
+import signal
 import socket
-import struct
 import subprocess
-import sys
 import tempfile
 import threading
 import time
 
+from harness import running, shims, suite
+from harness.running import Server, ask, ask_alone, pull, rest_of, run, sha256, vanish
+from harness.suite import check
+
 MIB = 1 << 20
 USAGE = "usage: blobd once | serve ADDR COUNT | push ADDR NAME FILE CHUNK"
-PROGRAM = ""
-RESULTS = {"passed": 0, "failed": 0}
-
-
-def check(name, holds, told=""):
-    RESULTS["passed" if holds else "failed"] += 1
-    if not holds:
-        print(f"FAILED: {name}: {told}", flush=True)
-
-
-def run(*words, **options):
-    """Standard output, the exit status and standard error of a run that ends by itself."""
-    ran = subprocess.run([PROGRAM, *words], capture_output=True, text=True, timeout=60, check=False, **options)
-    return ran.stdout, ran.returncode, ran.stderr
-
-
-def limited(**limits):
-    """Starts a program under limits of the system, as NOFILE=4."""
-
-    def limit():
-        for name, most in limits.items():
-            which = getattr(resource, f"RLIMIT_{name}")
-            resource.setrlimit(which, (most, resource.getrlimit(which)[1]))
-
-    return limit
-
-
-class Server:
-    """`blobd serve` on a port that the system picks, each worker for so many connections."""
-
-    def __init__(self, count, **options):
-        words = [PROGRAM, "serve", "127.0.0.1:0", str(count)]
-        self.process = subprocess.Popen(words, stdout=subprocess.PIPE, text=True, **options)
-        self.addr = self.process.stdout.readline().removeprefix("listening ").strip()
-
-    def __enter__(self):
-        return self
-
-    def __exit__(self, *_):
-        self.process.kill()
-        self.process.wait()
-        self.process.stdout.close()
-
-    def place(self):
-        host, port = self.addr.rsplit(":", 1)
-        return host, int(port)
-
-    def connect(self):
-        return socket.create_connection(self.place(), timeout=20)
-
-    def client(self):
-        return http.client.HTTPConnection(*self.place(), timeout=20)
-
-    def end(self):
-        """Uses up the connections that are left, and gives what else was printed and the exit status."""
-        while self.process.poll() is None:
-            try:
-                self.connect().close()
-            except OSError:
-                break
-        return self.process.stdout.read(), self.process.wait(timeout=30)
-
-
-def ask(client, method, target, body=b"", **fields):
-    """The reply to one request over a kept connection: its status, its fields and its body."""
-    headers = {name.replace("_", "-"): value for name, value in fields.items()}
-    client.request(method, target, body=body, headers={"Content-Length": str(len(body)), **headers})
-    reply = client.getresponse()
-    return reply.status, reply.headers, reply.read()
-
-
-def ask_alone(server, method, target, body=b"", **fields):
-    """The same over a connection of its own, which the request asks to close."""
-    client = server.client()
-    try:
-        return ask(client, method, target, body, Connection="close", **fields)
-    finally:
-        client.close()
 
 
 def opened(server, name):
@@ -108,30 +35,6 @@ def opened(server, name):
     status, fields, _ = ask_alone(server, "POST", f"/v2/{name}/blobs/uploads/")
     check(f"an opening of {name}", status == 202, status)
     return fields["Location"]
-
-
-def pull(server, name, digest):
-    """The blob, or the status where it isn't there."""
-    status, fields, body = ask_alone(server, "GET", f"/v2/{name}/blobs/{digest}")
-    return body if status == 200 and fields["Docker-Content-Digest"] == digest else status
-
-
-def sha256(content):
-    return "sha256:" + hashlib.sha256(content).hexdigest()
-
-
-def rest_of(connection):
-    """All that comes until the other side closes; a reset raises."""
-    parts = []
-    while part := connection.recv(65536):
-        parts.append(part)
-    return b"".join(parts)
-
-
-def vanish(connection):
-    """Closes so that the other side is reset."""
-    connection.setsockopt(socket.SOL_SOCKET, socket.SO_LINGER, struct.pack("ii", 1, 0))
-    connection.close()
 
 
 def upload(server, name, content, piece, meeting):
@@ -276,6 +179,32 @@ def kept_connections():
         check("the last line after kept connections", server.end() == ("served\n", 0))
 
 
+def serves_until_it_is_ended():
+    """Without a count it serves all that come, at the address that it was given and at no other."""
+    with Server() as server:
+        check("the first line", re.fullmatch(r"listening 127\.0\.0\.1:[1-9][0-9]*\n", server.first_line), server.first_line)
+        try:
+            socket.create_connection(("127.0.0.2", server.place()[1]), timeout=5).close()
+            check("no connection at another address", False, "it was taken")
+        except ConnectionRefusedError:
+            check("no connection at another address", True)
+        replies = [ask_alone(server, "GET", "/v2/")[0] for _ in range(50)]
+        check("replies without a count", replies == [200] * 50, replies)
+        check("it goes on without a count", server.process.poll() is None, server.process.returncode)
+        server.process.send_signal(signal.SIGINT)
+        ended = server.ended()
+        check("an interrupt ends it", ended == ("", -signal.SIGINT), ended)
+
+
+def first_references():
+    """Two servers draw secrets of their own: the references of their first sessions differ."""
+    places = []
+    for _ in range(2):
+        with Server(1) as server:
+            places.append(opened(server, "lib/a"))
+    check("the first references of two servers", places[0] != places[1], places)
+
+
 def secrets_are_drawn():
     """Each reference has its number, a UUID's version and variant, and a secret of its own."""
     with Server(4) as server:
@@ -288,15 +217,15 @@ def secrets_are_drawn():
 
 def words():
     addr = "127.0.0.1:0"
-    for refused in ([], ["twice"], ["serve", addr], ["serve", addr, "0"], ["serve", addr, "1000001"], ["serve", addr, "+1"]):
+    for refused in ([], ["twice"], ["serve"], ["serve", addr, ""], ["serve", addr, "0"], ["serve", addr, "1000001"], ["serve", addr, "+1"]):
         check(f"the words {refused}", run(*refused) == ("", 2, USAGE + "\n"), run(*refused))
-    for refused in (["serve", "localhost:0", "1"], ["serve", "127.0.0.1", "1"], ["push", addr, "a", "f", "0"], ["once", "once"]):
+    for refused in (["serve", "localhost:0"], ["serve", addr, "1", "1"], ["serve", "localhost:0", "1"], ["serve", "127.0.0.1", "1"], ["push", addr, "a", "f", "0"], ["once", "once"]):
         check(f"the words {refused}", run(*refused) == ("", 2, USAGE + "\n"), run(*refused))
 
 
 def one_worker_alone():
     """A worker without another has nobody to ask, and stops behind the first request that found that out."""
-    with Server(1000, preexec_fn=limited(STACK=3 << 30, AS=4 << 30)) as server:
+    with Server(1000, limits=[f"-s {3 << 20}", f"-v {4 << 20}"]) as server:
         with server.connect() as connection:
             connection.sendall(b"GET /v2/ HTTP/1.1\r\n\r\n")
             reply = rest_of(connection)
@@ -308,25 +237,100 @@ def one_worker_alone():
         check("a worker alone stops", ended == (3, "fault: workers\n"), ended)
 
 
-def faults():
+def taken_address():
     with socket.socket() as taken:
         taken.bind(("127.0.0.1", 0))
         taken.listen()
         addr = "127.0.0.1:%d" % taken.getsockname()[1]
-        check("an address that is taken", run("serve", addr, "1") == ("fault: listen\n", 3, ""), run("serve", addr, "1"))
-    with Server(1, preexec_fn=limited(NOFILE=4)) as server:
-        check("no handle for a connection", server.end() == ("fault: accept\n", 3))
-    with Server(1, preexec_fn=limited(NOFILE=6)) as server:
-        check("no handle for a connection's halves", server.end() == ("fault: accept\n", 3))
+        ran = run("serve", addr, "1")
+        told = f"blobd: can't listen at {addr}: Address already in use (os error 98)\n"
+        check("an address that is taken", ran == ("fault: listen\n", 3, told), ran)
+
+
+STOPPED = "blobd: a worker takes no more connections: {}\n"
+TOO_MANY_FILES = STOPPED.format("Too many open files (os error 24)")
+
+
+def no_descriptors(hasty):
+    """Workers that find no descriptor for a connection, or for its halves, wait a minute and then stop."""
+    with Server(1, limits=["-n 4"], env=hasty, stderr=subprocess.PIPE) as server:
+        begun = time.monotonic()
+        ended = *server.ended(), server.process.stderr.read()
+        waited = time.monotonic() - begun
+        check("no descriptor for a connection", ended == ("fault: accept\n", 3, 2 * TOO_MANY_FILES), ended)
+        check("a minute without descriptors", 2 < waited < 30, waited)
+    with Server(1, limits=["-n 6"], env=hasty, stderr=subprocess.PIPE) as server, server.connect(), server.connect():
+        ended = *server.ended(), server.process.stderr.read()
+        check("no descriptor for a connection's halves", ended == ("fault: accept\n", 3, 2 * TOO_MANY_FILES), ended)
+
+
+def descriptors_come_again():
+    """A connection that finds no descriptor waits until there is one."""
+    with Server(1) as server:
+        client = server.client()
+        check("a reply while there are descriptors", ask(client, "GET", "/v2/")[0] == 200)
+        server.allow_descriptors(server.descriptors() - 1)
+        with server.connect() as waiting:
+            waiting.sendall(b"GET /v2/ HTTP/1.1\r\nConnection: close\r\n\r\n")
+            check("no reply while there are none", not select.select([waiting], [], [], 1)[0])
+            server.allow_descriptors(64)
+            reply = rest_of(waiting)
+            check("a reply once there are descriptors", reply.startswith(b"HTTP/1.1 200 OK\r\n"), reply)
+        client.close()
+        check("the last line after want of descriptors", server.ended() == ("served\n", 0))
+
+
+def one_worker_fails_alone(hasty):
+    """A worker that can take no connection says so at once; the other takes all of its own, and the last line tells of the one that failed."""
+    with Server(2, env=hasty, stderr=subprocess.PIPE) as server:
+        client = server.client()
+        check("a reply before descriptors run out", ask(client, "GET", "/v2/")[0] == 200)
+        # The other worker waits by then, with the descriptor of its next connection. Else the connection below stays for this one to count.
+        time.sleep(1)
+        server.allow_descriptors(server.descriptors() - 1)
+        with server.connect():
+            told, statuses = "", []
+            while not told and len(statuses) < 60:
+                statuses.append(ask(client, "GET", "/v2/")[0])
+                told = server.told(0.5)
+            check("a worker that stops says so at once", told == TOO_MANY_FILES and server.process.poll() is None, told)
+            check("the other goes on meanwhile", set(statuses) == {200}, statuses)
+        server.allow_descriptors(64)
+        check("and behind that", ask(client, "GET", "/v2/", Connection="close")[0] == 200)
+        check("and takes its next connection", ask_alone(server, "GET", "/v2/")[0] == 200)
+        ended = server.ended()
+        check("the last line of a worker that failed alone", ended == ("fault: accept\n", 3), ended)
+
+
+def failing_accepts(folder):
+    """A connection that was aborted before it was accepted is passed over, want of descriptors or memory waited out; else a worker stops."""
+    library = shims.compiled(folder, "accepts")
+    table = [(errno.ECONNABORTED, 10_000)] + [(which, 10) for which in (errno.EAGAIN, errno.ENOMEM, errno.ENFILE, errno.EMFILE, errno.ENOBUFS)]
+    for error, failures in table:
+        env = shims.environment(library, ACCEPT_ERROR=error, ACCEPT_FAILURES=failures)
+        with Server(1, env=env, stderr=subprocess.PIPE) as server:
+            replies = [ask_alone(server, "GET", "/v2/")[0] for _ in range(2)]
+            ended = *server.ended(), server.process.stderr.read()
+            check(f"{failures} accepts that fail: {os.strerror(error)}", (replies, ended) == ([200, 200], ("served\n", 0, "")), (replies, ended))
+    env = shims.environment(library, ACCEPT_ERROR=errno.EINVAL, ACCEPT_FAILURES=1)
+    with Server(1, env=env, stderr=subprocess.PIPE) as server:
+        reply = ask_alone(server, "GET", "/v2/")[0]
+        ended = *server.ended(), server.process.stderr.read()
+        wanted = ("fault: accept\n", 3, STOPPED.format("Invalid argument (os error 22)"))
+        check("an accept that fails for good", (reply, ended) == (200, wanted), (reply, ended))
+
+
+def faults():
+    taken_address()
     most_stack = resource.getrlimit(resource.RLIMIT_STACK)[1]
     if most_stack != resource.RLIM_INFINITY and most_stack < 8 << 30:
         print("skipped: the system allows no stack so large that a worker can't be started")
     else:
-        with Server(1, preexec_fn=limited(STACK=8 << 30, AS=4 << 30)) as server:
+        with Server(1, limits=[f"-s {8 << 20}", f"-v {4 << 20}"]) as server:
             check("no memory for a worker", server.end() == ("fault: workers\n", 3))
         one_worker_alone()
     with open("/dev/full", "w", encoding="utf-8") as full:
-        ended = subprocess.run([PROGRAM, "serve", "127.0.0.1:0", "1"], stdout=full, timeout=20, check=False)
+        ended = subprocess.run([running.PROGRAM, "serve", "127.0.0.1:0", "1"], stdout=full, timeout=20, check=False)
         check("a line that can't be printed", ended.returncode == 3, ended.returncode)
 
 
@@ -436,28 +440,158 @@ def skopeo_copies(folder):
             check(f"skopeo's blob {digest}", isinstance(got, bytes) and sha256(got) == digest, (got, ran.stderr))
 
 
-def tell_results():
-    """Prints how many checks passed and failed, and gives the exit status."""
-    print(f"{RESULTS['passed']} passed, {RESULTS['failed']} failed")
-    return 1 if RESULTS["failed"] else 0
+def status_cases(name, place, next_place, digest):
+    """Requests of each kind about a session that has received three bytes, each with the status that it has to get."""
+    uploads, blob = f"/v2/{name}/blobs/uploads/", f"/v2/{name}/blobs/{digest}"
+    absent = sha256(b"absent")
+    return [
+        ("GET", "/v2/", b"", {}, 200),
+        ("GET", "/v2/none", b"", {}, 404),
+        ("PUT", "/v2/", b"", {}, 405),
+        ("POST", f"/v2/{name.upper()}/blobs/uploads/", b"", {}, 404),
+        ("POST", uploads, b"x", {}, 400),
+        ("PATCH", place, b"de", {"Content_Range": "5-6"}, 416),
+        ("PATCH", place, b"de", {"Content_Range": "0-1"}, 416),
+        ("PATCH", place, b"de", {"Content_Range": "3-9"}, 400),
+        ("PATCH", place, b"de", {"Content_Range": "bytes 3-4"}, 400),
+        ("GET", place, b"", {}, 204),
+        ("PUT", f"{place}?digest={digest}", b"d", {"Content_Range": "9-9"}, 416),
+        ("PUT", f"{place}?digest={absent}", b"", {}, 400),
+        ("PUT", f"{place}?digest=md5:0", b"", {}, 400),
+        ("GET", blob, b"", {}, 404),
+        ("PUT", f"{place}?digest={digest}", b"", {}, 201),
+        ("PATCH", place, b"de", {}, 404),
+        ("HEAD", blob, b"", {}, 200),
+        ("GET", blob, b"", {}, 200),
+        ("GET", f"/v2/{name}/blobs/sha256:0", b"", {}, 400),
+        ("GET", f"/v2/{name}/blobs/{absent}", b"", {}, 404),
+        ("POST", f"{uploads}?digest={absent}", b"absent", {}, 201),
+        ("POST", f"{uploads}?mount={digest}&from={name}", b"", {}, 201),
+        ("PATCH", next_place, b"x", {"Content_Range": "1-1"}, 416),
+        ("PATCH", next_place, b"x", {}, 202),
+    ]
 
 
-def main():
-    global PROGRAM
-    PROGRAM = os.path.abspath(sys.argv[1])
-    words()
-    faults()
-    secrets_are_drawn()
-    kept_connections()
-    refused_heads()
-    peers_that_stay()
-    two_uploads_at_once()
-    clients_that_vanish()
+def answered(client, name):
+    """The statuses of such requests over one connection, and those that are wanted."""
+    places = [ask(client, "POST", f"/v2/{name}/blobs/uploads/")[1]["Location"] for _ in range(2)]
+    begun = ask(client, "PATCH", places[0], b"abc")[0]
+    cases = status_cases(name, *places, sha256(b"abc"))
+    got = []
+    for method, target, body, fields, _ in cases:
+        try:
+            got.append(ask(client, method, target, body, **fields)[0])
+        except OSError as error:
+            return [begun, *got, error], [202, *(wanted for *_, wanted in cases)]
+    return [begun, *got], [202, *(wanted for *_, wanted in cases)]
+
+
+def statuses():
+    """Each kind of answer is told by each worker, and the requests behind it are answered too."""
+    with Server() as server:
+        clients = [server.client(), server.client()]
+        for which, client in enumerate(clients):
+            got, wanted = answered(client, f"lib/{which}")
+            check(f"the statuses that worker {which} tells", got == wanted, got)
+        opened_all = [ask(clients[0], "POST", "/v2/lib/many/blobs/uploads/")[0] for _ in range(1030)]
+        # two sessions of answered() are still open
+        check("as many sessions as there may be, and no more", opened_all == [202] * 1022 + [429] * 8, opened_all[1015:])
+        for client in clients:
+            client.close()
+
+
+def fill(server, most):
+    """Stores small blobs until a request is answered 503. Gives the statuses of the requests that were answered."""
+    statuses, client = [], server.client()
+    for number in range(most):
+        content = random.Random(number).randbytes(10_000)
+        try:
+            statuses.append(ask(client, "POST", f"/v2/lib/a/blobs/uploads/?digest={sha256(content)}", content)[0])
+        except (OSError, http.client.HTTPException):
+            # the body found no memory: the connection ended without a reply
+            client.close()
+            client = server.client()
+        if statuses[-1:] == [503]:
+            break
+    client.close()
+    return statuses
+
+
+def full_memory():
+    """Requests that find no memory are answered 503, and the server goes on."""
+    with Server(limits=["-v 200000"]) as server:
+        statuses = fill(server, 60_000)
+        check("503 where memory is full", set(statuses) == {201, 503}, sorted(set(statuses)))
+        check("a full server goes on", server.process.poll() is None, server.process.returncode)
+
+
+def silent_clients(hasty):
+    """A client that stops inside a head and one that reads nothing of its reply are ended after a minute, or two."""
+    content = random.Random(7).randbytes(64 * MIB)
+    digest = sha256(content)
+    with Server(env=hasty) as server:
+        stored = ask_alone(server, "POST", f"/v2/lib/a/blobs/uploads/?digest={digest}", content)[0]
+        check("a blob for a client that doesn't read it", stored == 201, stored)
+        with server.connect() as halting, server.connect() as deaf, server.connect() as third:
+            begun = time.monotonic()
+            halting.sendall(b"GET /v2/ HT")
+            deaf.sendall(f"GET /v2/lib/a/blobs/{digest} HTTP/1.1\r\n\r\n".encode())
+            third.sendall(b"GET /v2/ HTTP/1.1\r\nConnection: close\r\n\r\n")
+            reply = rest_of(third)
+            waited = time.monotonic() - begun
+            check("a third client once the silent ones are ended", reply.startswith(b"HTTP/1.1 200 OK\r\n"), reply)
+            check("a minute of silence", 1.9 < waited < 15, waited)
+            check("no reply to a client that stops inside a head", rest_of(halting) == b"")
+            time.sleep(max(0, begun + 10 - time.monotonic()))
+            sent = len(rest_of(deaf))
+            check("a client that reads nothing isn't sent all", sent < len(content), sent)
+
+
+def within_seconds():
+    """What a library brings about: accepts that fail, and minutes that pass in seconds."""
+    if not shims.has_compiler():
+        print(f"skipped: {shims.NO_COMPILER}: failed accepts, and what takes a minute")
+        return
     with tempfile.TemporaryDirectory() as folder:
-        curl_uploads(folder)
-        skopeo_copies(folder)
-    return tell_results()
+        failing_accepts(folder)
+        hasty = shims.environment(shims.compiled(folder, "minutes"))
+        no_descriptors(hasty)
+        one_worker_fails_alone(hasty)
+        silent_clients(hasty)
+
+
+def paused_upload():
+    """A session of which four seconds nothing is heard is still open."""
+    with Server() as server:
+        place = opened(server, "lib/a")
+        first = ask_alone(server, "PATCH", place, b"abc")[0]
+        time.sleep(4)
+        second = ask_alone(server, "PATCH", place, b"def")[0]
+        third = ask_alone(server, "PUT", f"{place}?digest={sha256(b'abcdef')}")[0]
+        check("an upload that pauses for four seconds", (first, second, third) == (202, 202, 201), (first, second, third))
+
+
+def load_tests(*_):
+    return suite.cases(
+        words,
+        serves_until_it_is_ended,
+        faults,
+        descriptors_come_again,
+        within_seconds,
+        first_references,
+        secrets_are_drawn,
+        statuses,
+        paused_upload,
+        full_memory,
+        kept_connections,
+        refused_heads,
+        peers_that_stay,
+        two_uploads_at_once,
+        clients_that_vanish,
+        curl_uploads,
+        skopeo_copies,
+    )
 
 
 if __name__ == "__main__":
-    sys.exit(main())
+    suite.main(__doc__)

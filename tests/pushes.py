@@ -9,12 +9,14 @@ import concurrent.futures
 import os
 import random
 import socket
-import sys
-import tempfile
 import threading
+import time
 
-import program
-from program import MIB, Server, check, pull, run, sha256, tell_results
+from harness import suite
+from harness.running import Server, pull, run, sha256
+from harness.suite import check
+
+MIB = 1 << 20
 
 CUT_PUSHES = 50
 
@@ -62,12 +64,37 @@ def pushes_and_their_lines(folder):
         check("an empty file", push(server.addr, "lib/a", nothing, 2) == pushed(b""))
         check("a name that isn't one", push(server.addr, "A", abc, 2) == ("refused: name\n", 1, ""))
         missing = abc + "-that-is-not-there"
-        check("a missing file", push(server.addr, "lib/a", missing, 2) == ("fault: file\n", 3, ""))
-        check("a missing file goes before the name", push(server.addr, "A", missing, 2) == ("fault: file\n", 3, ""))
-        check("a folder in place of a file", push(server.addr, "lib/a", folder, 2) == ("fault: file\n", 3, ""))
-        addr = server.addr
-        server.end()
-    check("a server that isn't there", push(addr, "lib/a", abc, 2) == ("refused: out of tries\n", 1, ""))
+        no_file = ("fault: file\n", 3, f"blobd: can't push {missing}: No such file or directory (os error 2)\n")
+        check("a missing file", push(server.addr, "lib/a", missing, 2) == no_file)
+        check("a missing file goes before the name", push(server.addr, "A", missing, 2) == no_file)
+        a_folder = ("fault: file\n", 3, f"blobd: can't push {folder}: Is a directory (os error 21)\n")
+        check("a folder in place of a file", push(server.addr, "lib/a", folder, 2) == a_folder)
+
+
+def servers_that_come_again(folder):
+    """A push tries for some seconds: over a server that starts again, and one that can't serve yet."""
+    content = random.Random(8).randbytes(5000)
+    path = written(folder, content)
+    with Server(100) as server:
+        host, port = server.place()
+        check("a push before the server ends", push(server.addr, "lib/a", path, 1000) == pushed(content))
+    begun = time.monotonic()
+    ended = push(f"{host}:{port}", "lib/a", path, 1000)
+    waited = time.monotonic() - begun
+    check("a server that isn't there", ended == ("refused: out of tries\n", 1, ""), ended)
+    check("its five tries take some seconds", 3 < waited < 10, waited)
+    with concurrent.futures.ThreadPoolExecutor(1) as pool:
+        late = pool.submit(push, f"{host}:{port}", "lib/a", path, 1000)
+        time.sleep(1)
+        with Server(100, port) as server:
+            check("a server that starts again", late.result() == pushed(content), late.result())
+            check("what it was sent", pull(server, "lib/a", sha256(content)) == content)
+    busy = Answering(b"HTTP/1.1 503 Service Unavailable\r\nContent-Length: 0\r\n\r\n")
+    begun = time.monotonic()
+    ended = push(busy.addr, "lib/a", path, 1000)
+    waited = time.monotonic() - begun
+    busy.close()
+    check("a server that can't serve", (ended, 3 < waited < 10) == (("refused: out of tries\n", 1, ""), True), (ended, waited))
 
 
 class Answering:
@@ -100,10 +127,12 @@ def strange_servers(folder):
     abc = written(folder, b"abc")
     coded = b'{"errors":[{"code":"DENIED"}]}'
     lines = b'{"errors":[{"code":"A\\nB"}]}'
+    empty = b'{"errors":[{"code":""}]}'
     table = [
         ("a refusal with a code", b"HTTP/1.1 403 Forbidden\r\nContent-Length: %d\r\n\r\n" % len(coded) + coded, "refused: 403 DENIED\n"),
         ("a refusal without a code", b"HTTP/1.1 403 Forbidden\r\nContent-Length: 0\r\n\r\n", "refused: 403 -\n"),
         ("a code of two lines", b"HTTP/1.1 403 Forbidden\r\nContent-Length: %d\r\n\r\n" % len(lines) + lines, "refused: 403 -\n"),
+        ("an empty code", b"HTTP/1.1 403 Forbidden\r\nContent-Length: %d\r\n\r\n" % len(empty) + empty, "refused: 403 -\n"),
         ("a 202 without a place", b"HTTP/1.1 202 Accepted\r\nContent-Length: 0\r\n\r\n", "refused: bad server\n"),
         ("no HTTP", b"SSH-2.0-none\r\n", "refused: out of tries\n"),
     ]
@@ -178,22 +207,29 @@ def more_chunks_than_six_connections_take(folder):
         check("more chunks than six connections take", ended == pushed(content), ended)
 
 
+def cut_push(server, folder, seed):
+    """A push through a proxy that cuts connections by chance: what it printed, its status and what the server has of its content."""
+    chance = random.Random(seed)
+    content = chance.randbytes(20_000 + seed)
+    often = 0.6 if seed % 2 else 1.0
+
+    def judge(_):
+        cut = chance.random() < often
+        return (chance.randrange(1, 12_000), chance.randrange(1, 2_000), b"") if cut else (EVERYTHING, EVERYTHING, b"")
+
+    proxy = Proxy(server.addr, judge)
+    line, status, _ = push(proxy.addr, "lib/a", written(folder, content), 1500)
+    proxy.close()
+    return content, line, status, pull(server, "lib/a", sha256(content))
+
+
 def pushes_over_cut_connections(folder):
     counts = {"pushed": 0, "already": 0, "refused": 0}
-    with Server(1000) as server:
-        for seed in range(CUT_PUSHES):
-            chance = random.Random(seed)
-            content = chance.randbytes(20_000 + seed)
-            often = 0.6 if seed % 2 else 1.0
-
-            def judge(_, chance=chance, often=often):
-                cut = chance.random() < often
-                return (chance.randrange(1, 12_000), chance.randrange(1, 2_000), b"") if cut else (EVERYTHING, EVERYTHING, b"")
-
-            proxy = Proxy(server.addr, judge)
-            line, status, _ = push(proxy.addr, "lib/a", written(folder, content), 1500)
-            proxy.close()
-            got = pull(server, "lib/a", sha256(content))
+    # most of a push's time is waits
+    with Server(1000) as server, concurrent.futures.ThreadPoolExecutor(8) as pool:
+        pushes = [pool.submit(cut_push, server, folder, seed) for seed in range(CUT_PUSHES)]
+        for seed, ended in enumerate(pushes):
+            content, line, status, got = ended.result()
             word = line.split(":")[0].split(" ")[0]
             counts[word] = counts.get(word, 0) + 1
             if status == 0:
@@ -205,17 +241,17 @@ def pushes_over_cut_connections(folder):
     check("pushes got through the proxy, and some were given up", counts["pushed"] > 5 and counts["refused"] > 0, counts)
 
 
-def main():
-    program.PROGRAM = os.path.abspath(sys.argv[1])
-    with tempfile.TemporaryDirectory() as folder:
-        pushes_and_their_lines(folder)
-        strange_servers(folder)
-        a_lost_reply_to_the_close(folder)
-        more_chunks_than_six_connections_take(folder)
-        two_pushes_at_once(folder)
-        pushes_over_cut_connections(folder)
-    return tell_results()
+def load_tests(*_):
+    return suite.cases(
+        pushes_and_their_lines,
+        servers_that_come_again,
+        strange_servers,
+        a_lost_reply_to_the_close,
+        more_chunks_than_six_connections_take,
+        two_pushes_at_once,
+        pushes_over_cut_connections,
+    )
 
 
 if __name__ == "__main__":
-    sys.exit(main())
+    suite.main(__doc__)

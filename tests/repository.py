@@ -3,11 +3,12 @@
 
 Prints a line for each check, and 'N passed, M failed' as the last. Exit status 1 where one failed.
 """
-import glob
 import os
 import re
 import subprocess
 import sys
+
+import stored
 
 TOP = os.path.dirname(os.path.dirname(os.path.abspath(__file__)))
 HANDLES = "Handles allowed: Threads, Wait, Net.\n"
@@ -24,20 +25,22 @@ PUBLIC_FUNCTION = re.compile(r"^\s*pub (?:const )?fn (\w+)")
 IMPL = re.compile(r"^impl(?:<.*?>)?\s+(?:[\w:<>', ]+\s+for\s+)?(\w+)")
 TEST_MODULE = re.compile(r"#\[cfg\(test\)\]\s*mod \w+ \{")
 # A law takes nothing and gives nothing: its contract is all that it has.
-LAW = re.compile(r"^\s*pub fn \w+\(\)\s*(\{\s*\})?$")
+LAW = re.compile(r"^\s*pub fn \w+(?:<.*?>)?\(\)\s*(\{\s*\})?$")
 # The page that names each must-fail edit, and how it sets a name.
 WRONG_BODIES = "docs/WRONG-BODIES.md"
 NAME = re.compile(r"`(\w+)`")
+FUNCTION = re.compile(r"`([\w:]+)`")
+# what an edit breaks that says of no function that it breaks it: a trait's function, or nothing that was promised
+NO_FUNCTION = re.compile(r"`\w+`'s? `\w+`|the measured figures")
 
-LITERAL = re.compile(r'"((?:[^"\\]|\\.)*)"')
-# The tests of disturbed streams make these themselves.
-LONGEST_HEADS = {"head-of-16384-bytes", "head-of-16385-bytes"}
-# the stored connections, request by request
-STORED = "crates/wire_tests/src/connections/stored.rt"
+# The page on using the crates, and what it shows of the two programs that do.
+USING = "docs/USING.md"
+SHOWN = re.compile(r"crates/embed_\w+/(src/\w+\.rt|specs/(?!Lib\.)\w+\.antt)")
 
 # Functions that no edit can turn: their types leave no other body that compiles.
 NO_OTHER_BODY = {
-    "upload_wire": {"ToWrite::into_inner", "ServiceDesk::into_service"},
+    "http_wire": {"ToWrite::into_inner"},
+    "upload_wire": {"ServiceDesk::into_service"},
 }
 
 
@@ -52,12 +55,6 @@ def text_of(path):
             return file.read()
     except (UnicodeDecodeError, FileNotFoundError):
         return ""
-
-
-def content(path):
-    """A file as it is, byte for byte: its line ends stay."""
-    with open(os.path.join(TOP, path), encoding="ascii", newline="") as file:
-        return file.read()
 
 
 def citations(paths):
@@ -125,15 +122,17 @@ def public_functions(crate, laws=False):
                 yield f"{kind}::{match.group(1)}" if kind else match.group(1)
 
 
+def broken_by(edit):
+    """The functions that a must-fail edit says it breaks. An edit of a trait's function says none."""
+    lines = [line for line in text_of(edit).splitlines() if line.startswith("breaks:")]
+    return {word.strip() for line in lines for word in line[len("breaks:") :].split(",")}
+
+
 def broken_by_edits(crate):
     """The functions that the crate's must-fail edits say they break."""
     folder = os.path.join(TOP, "crates", crate, "must-fail")
-    broken = set()
-    for name in sorted(os.listdir(folder)) if os.path.isdir(folder) else []:
-        for line in text_of(f"crates/{crate}/must-fail/{name}").splitlines():
-            if line.startswith("breaks:"):
-                broken.update(word.strip() for word in line[len("breaks:") :].split(","))
-    return broken
+    names = sorted(os.listdir(folder)) if os.path.isdir(folder) else []
+    return set().union(*(broken_by(f"crates/{crate}/must-fail/{name}") for name in names))
 
 
 def unbroken(_):
@@ -149,17 +148,17 @@ def unbroken(_):
 
 
 def named_edits():
-    """The crate and the name of each edit in the tables of the page of wrong bodies."""
-    named, crate = set(), None
+    """Each edit in the tables of the page of wrong bodies: its crate, its name, and the cell that says what it breaks; none in the first table, which
+    says what rules a mistake out."""
+    crate = None
     for line in text_of(WRONG_BODIES).splitlines():
-        cells = [NAME.findall(cell) for cell in line.split("|")[1:-1]]
+        cells = line.split("|")[1:-1]
         if line.startswith("## "):
             crate = next(iter(NAME.findall(line)), None)
         elif crate and cells:
-            named.update((crate, edit) for edit in cells[0])
+            yield from ((crate, edit, cells[-1]) for edit in NAME.findall(cells[0]))
         elif len(cells) == 4:
-            named.update((crate, edit) for crate in cells[1] for edit in cells[2])
-    return named
+            yield from ((crate, edit, None) for crate in NAME.findall(cells[1]) for edit in NAME.findall(cells[2]))
 
 
 def edited_once(path):
@@ -184,35 +183,43 @@ def unapplied(paths):
     return [path for path in paths if "/further-edits/" in path and not edited_once(path)]
 
 
+def edits_there(paths):
+    """The file of each must-fail edit, by its crate and its name."""
+    return {(path.split("/")[1], os.path.basename(path).removesuffix(".edit")): path for path in paths if path.endswith(".edit")}
+
+
+def misnamed(paths):
+    """Rows of the page of wrong bodies that say of an edit that it breaks something else than its own first line says."""
+    there, found = edits_there(paths), []
+    for crate, edit, told in named_edits():
+        path = there.get((crate, edit))
+        broken = broken_by(path) if path else set()
+        if path and told and broken and broken != set(FUNCTION.findall(told)):
+            found.append(f"{path} breaks {', '.join(sorted(broken))}, and {WRONG_BODIES} says {told.strip()}")
+        if path and told and not broken and not NO_FUNCTION.fullmatch(told.strip()):
+            found.append(f"{path} says of no function that it breaks it, and {WRONG_BODIES} says {told.strip()}")
+    return found
+
+
 def unnamed(paths):
     """Must-fail edits that the page of wrong bodies doesn't name, and names there of edits that aren't there."""
-    parts = [path.split("/") for path in paths if path.endswith(".edit")]
-    there = {(crate, name[: -len(".edit")]) for _, crate, _, name in parts}
-    named = named_edits()
+    there = set(edits_there(paths))
+    named = {(crate, edit) for crate, edit, _ in named_edits()}
     found = [f"{WRONG_BODIES} doesn't name the edit {edit} of {crate}" for crate, edit in sorted(there - named)]
     return found + [f"{WRONG_BODIES} names the edit {edit} of {crate}, which isn't there" for crate, edit in sorted(named - there)]
 
 
-def text_of_literal(literal):
-    """The text of a string literal of the sources."""
-    return literal.replace("\\r", "\r").replace("\\n", "\n").replace('\\"', '"')
+def unshown(paths):
+    """Files of the programs that use the crates which the page on that doesn't show word for word."""
+    page = text_of(USING)
+    return [f"{USING} doesn't show {path} as it is" for path in paths if SHOWN.fullmatch(path) and f"\n{text_of(path)}```\n" not in page]
 
 
 def disturbed(_):
-    """Stored connections that the tests of disturbed streams don't hold as they are."""
-    source = text_of(STORED)
-    found = []
-    for path in sorted(glob.glob(os.path.join(TOP, "tests/connections/*.in"))):
-        name = os.path.basename(path)[: -len(".in")]
-        if name in LONGEST_HEADS:
-            continue
-        held = re.search(rf'\n        name: "{name}",\n(.*?)\n    \}}\n', source, re.DOTALL)
-        texts = [text_of_literal(literal) for literal in LITERAL.findall(held.group(1))] if held else [""]
-        # Requests and replies in turn, and then what is sent behind them.
-        sent, replies = "".join(texts[0:-1:2]) + texts[-1], "".join(texts[1::2])
-        stored = f"tests/connections/{name}"
-        if not held or len(texts) % 2 == 0 or (sent, replies) != (content(f"{stored}.in"), content(f"{stored}.out")):
-            found.append(f"{stored}.in isn't what {STORED} holds")
+    """Stored connections that the model answers otherwise, and rows that aren't those that are made of them."""
+    found = [f"tests/connections/{stem}: the model answers otherwise" for stem in stored.unlike_the_model()]
+    if not found and text_of(stored.ROWS) != stored.rows():
+        found.append(f"{stored.ROWS} isn't what tests/stored.py writes")
     return found
 
 
@@ -223,8 +230,10 @@ CHECKS = [
     ("HANDLES is its one line", handles),
     ("every public function has a must-fail edit", unbroken),
     ("every must-fail edit is named among the wrong bodies", unnamed),
+    ("the wrong bodies break what the edits' first lines say", misnamed),
     ("every further edit applies", unapplied),
-    ("every stored connection is disturbed", disturbed),
+    ("the page on using the crates shows its programs as they are", unshown),
+    ("the stored connections are what the tests of disturbed streams take", disturbed),
 ]
 
 

@@ -1,0 +1,243 @@
+#!/usr/bin/env python3
+"""Figures of one, two and three `blobd` behind HAProxy, and of Debian's `docker-registry`, under the same load.
+
+    front.py PROGRAM [--json FILE] [--shards N ..] [--runs N]
+
+Each figure is that of the best of three runs, in which the servers take turns. Each client keeps its connection, has a repository of its own, and goes on
+like this: it opens an upload, sends a blob in one chunk, closes, asks for it by HEAD, pulls it and compares. The front asks for a login; both speak plain
+HTTP, so that this client's TLS isn't what is measured. `docker-registry` has its files in memory (/dev/shm), no login and no log. The clients are Python,
+in as many processes as there are cores, and share the machine with the servers: read the figures as ratios in one run.
+
+Needs Linux, HAProxy with lua-cjson, and docker-registry for its rows.
+"""
+import argparse
+import base64
+import collections
+import contextlib
+import functools
+import hashlib
+import json
+import multiprocessing
+import os
+import random
+import socket
+import sys
+import tempfile
+import threading
+import time
+
+TOP = os.path.dirname(os.path.dirname(os.path.abspath(__file__)))
+sys.path.insert(0, os.path.join(TOP, "deploy"))
+import servers  # noqa: E402
+
+KIB, MIB = 1 << 10, 1 << 20
+LOGIN = ("alice", "wonder")
+FORK = multiprocessing.get_context("fork")
+PATIENCE = 300
+
+Load = collections.namedtuple("Load", "name clients blobs size")
+LOADS = [
+    Load("1 KiB blobs, 1 client", 1, 100, KIB),
+    Load("1 KiB blobs, 64 clients", 64, 15, KIB),
+    Load("1 MiB blobs, 64 clients", 64, 2, MIB),
+    Load("8 MiB blobs, 1 client", 1, 8, 8 * MIB),
+    Load("8 MiB blobs, 16 clients", 16, 2, 8 * MIB),
+]
+
+
+class Client:
+    """A client over a kept connection, which reads bodies into one room."""
+
+    def __init__(self, address, size):
+        self.host = address
+        login = base64.b64encode(":".join(LOGIN).encode()).decode()
+        self.always = f"Host: {address}\r\nAuthorization: Basic {login}\r\n"
+        self.room = bytearray(size)
+        self.asked = 0
+        self.connect()
+
+    def connect(self):
+        self.socket = socket.create_connection(servers.place(self.host), timeout=PATIENCE)
+        self.socket.setsockopt(socket.IPPROTO_TCP, socket.TCP_NODELAY, 1)
+
+    def ask(self, method, target, body=None):
+        """The status, the fields in lower case and the length of the body, which then stands in the room."""
+        head = f"{method} {target} HTTP/1.1\r\n{self.always}"
+        if body is not None:
+            head += f"Content-Length: {len(body)}\r\nContent-Type: application/octet-stream\r\n"
+        self.socket.sendall(head.encode() + b"\r\n" + (body if body and len(body) <= KIB else b""))
+        if body and len(body) > KIB:
+            self.socket.sendall(body)
+        got = b""
+        while b"\r\n\r\n" not in got:
+            part = self.socket.recv(65536)
+            if not part:
+                raise ConnectionError("no reply")
+            got += part
+        head, _, first = got.partition(b"\r\n\r\n")
+        line, *lines = head.decode().split("\r\n")
+        status, fields = int(line.split()[1]), {name.lower(): value.strip() for name, _, value in (one.partition(":") for one in lines)}
+        length = 0 if method == "HEAD" or status == 204 else int(fields.get("content-length", 0))
+        self.room[: len(first)] = first
+        at = len(first)
+        with memoryview(self.room) as room:
+            while at < length:
+                more = self.socket.recv_into(room[at:length])
+                if not more:
+                    raise ConnectionError("a body is cut")
+                at += more
+        self.asked += 1
+        if fields.get("connection", "").lower() == "close":
+            self.socket.close()
+            self.connect()
+        return status, fields, length
+
+    def go_round(self, name, content, digest):
+        """One blob there and back."""
+        status, fields, _ = self.ask("POST", f"/v2/{name}/blobs/uploads/", b"")
+        self.expect("POST", status, 202)
+        status, fields, _ = self.ask("PATCH", path_of(fields["location"]), content)
+        self.expect("PATCH", status, 202)
+        place = path_of(fields["location"])
+        self.expect("PUT", self.ask("PUT", f"{place}{'&' if '?' in place else '?'}digest={digest}", b"")[0], 201)
+        self.expect("HEAD", self.ask("HEAD", f"/v2/{name}/blobs/{digest}")[0], 200)
+        status, _, length = self.ask("GET", f"/v2/{name}/blobs/{digest}")
+        self.expect("GET", status, 200)
+        if length != len(content) or self.room[:length] != content:
+            raise ValueError(f"{digest} came back otherwise")
+
+    @staticmethod
+    def expect(method, status, expected):
+        if status != expected:
+            raise ValueError(f"{method}: {status} for {expected}")
+
+
+def path_of(location):
+    """A Location without its scheme and host."""
+    return "/" + location.split("/", 3)[3] if "://" in location else location
+
+
+def work(address, load, number, told):
+    """One client's part of a load."""
+    blobs = []
+    for turn in range(load.blobs):
+        content = random.Random(f"{address} {number} {turn}").randbytes(load.size)
+        blobs.append((content, "sha256:" + hashlib.sha256(content).hexdigest()))
+    yield
+    client = Client(address, load.size + 65536)
+    longest = 0.0
+    for content, digest in blobs:
+        begun = time.monotonic()
+        client.go_round(f"team{number}/app", content, digest)
+        longest = max(longest, time.monotonic() - begun)
+    client.socket.close()
+    told.append((client.asked, longest))
+
+
+def work_together(address, load, numbers, ready, go, results):
+    """A process with some of the clients, a thread for each."""
+    told, faults = [], []
+
+    def run(one):
+        try:
+            for _ in one:
+                pass
+        except (OSError, ValueError) as fault:
+            faults.append(str(fault))
+
+    parts = [work(address, load, number, told) for number in numbers]
+    for part in parts:
+        next(part)
+    ready.put(True)
+    go.wait()
+    threads = [threading.Thread(target=run, args=(part,)) for part in parts]
+    for thread in threads:
+        thread.start()
+    for thread in threads:
+        thread.join()
+    results.put((told, faults))
+
+
+def measured(name, address, load):
+    """The figures of a load at an address."""
+    ready, results, go = FORK.Queue(), FORK.Queue(), FORK.Event()
+    cores = min(os.cpu_count(), load.clients)
+    words = [(address, load, range(core, load.clients, cores), ready, go, results) for core in range(cores)]
+    processes = [FORK.Process(target=work_together, args=one, daemon=True) for one in words]
+    for process in processes:
+        process.start()
+    for _ in processes:
+        ready.get(timeout=PATIENCE)
+    begun = time.monotonic()
+    go.set()
+    told = [results.get(timeout=PATIENCE) for _ in processes]
+    seconds = time.monotonic() - begun
+    for process in processes:
+        process.join()
+    faults = [fault for _, some in told for fault in some]
+    if faults:
+        sys.exit(f"{name}, {load.name}: {faults[:3]}")
+    clients = [client for some, _ in told for client in some]
+    return {
+        "server": name,
+        "load": load.name,
+        "requests a second": sum(asked for asked, _ in clients) / seconds,
+        "MiB a second there and back": load.clients * load.blobs * load.size / MIB / seconds,
+        "longest there and back, s": max(longest for _, longest in clients),
+    }
+
+
+def behind_the_front(program, shards, load):
+    with contextlib.ExitStack() as stack:
+        folder = stack.enter_context(tempfile.TemporaryDirectory(prefix="blobd-front-", dir="/dev/shm"))
+        servers.certificate(folder)
+        servers.logins(folder, dict([LOGIN]))
+        addresses = [servers.free_address() for _ in range(shards)]
+        for number, address in enumerate(addresses, 1):
+            stack.enter_context(servers.blobd(program, folder, address, f"blobd{number}"))
+        haproxy = stack.enter_context(servers.HAProxy(folder, addresses))
+        return measured(f"{shards} blobd", haproxy.plain, load)
+
+
+def docker_registry(load):
+    with tempfile.TemporaryDirectory(prefix="blobd-front-", dir="/dev/shm") as folder, servers.DockerRegistry(folder) as registry:
+        return measured("docker-registry", registry.address, load)
+
+
+def print_table(rows):
+    names = list(rows[0])
+    cells = [names] + [[value if isinstance(value, str) else f"{value:.{0 if value >= 100 else 2}f}" for value in row.values()] for row in rows]
+    widths = [max(len(row[column]) for row in cells) for column in range(len(names))]
+    for number, row in enumerate(cells):
+        print("| " + " | ".join(f"{cell:<{width}}" if column < 2 else f"{cell:>{width}}" for column, (cell, width) in enumerate(zip(row, widths))) + " |")
+        if number == 0:
+            print("| " + " | ".join("-" * width if column < 2 else "-" * (width - 1) + ":" for column, width in enumerate(widths)) + " |")
+
+
+def main():
+    parser = argparse.ArgumentParser(description=__doc__, formatter_class=argparse.RawDescriptionHelpFormatter)
+    parser.add_argument("program")
+    parser.add_argument("--json", help="a file to write the figures to as well")
+    parser.add_argument("--shards", type=int, nargs="+", default=[1, 2, 3], help="how many blobd there are in turn")
+    parser.add_argument("--runs", type=int, default=3)
+    given = parser.parse_args()
+    absent = servers.missing("haproxy", "lua-cjson", "openssl")
+    if absent:
+        sys.exit("apt-get install --no-install-recommends " + " ".join(absent))
+    rows = []
+    for load in LOADS:
+        # one client is served by one shard
+        counts = given.shards if load.clients > 1 else given.shards[:1]
+        measures = [functools.partial(behind_the_front, given.program, shards, load) for shards in counts]
+        if not servers.missing("docker-registry"):
+            measures.append(functools.partial(docker_registry, load))
+        runs = [[measure() for measure in measures] for _ in range(given.runs)]
+        rows += [max(tries, key=lambda row: row["requests a second"]) for tries in zip(*runs)]
+    print_table(rows)
+    if given.json:
+        with open(given.json, "w", encoding="ascii") as file:
+            json.dump(rows, file, indent=1)
+
+
+if __name__ == "__main__":
+    main()

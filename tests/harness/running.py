@@ -1,0 +1,150 @@
+"""Runs the built program: over one connection, and as a server over loopback."""
+import concurrent.futures
+import hashlib
+import http.client
+import multiprocessing
+import os
+import resource
+import select
+import socket
+import struct
+import subprocess
+
+
+# The built program: the first word of every script.
+PROGRAM = ""
+
+
+def once(sent):
+    """What `blobd once` writes over this connection, and its exit status."""
+    ran = subprocess.run([PROGRAM, "once"], input=sent, capture_output=True, timeout=60, check=False)
+    return ran.stdout, ran.returncode
+
+
+def run(*words, **options):
+    """Standard output, the exit status and standard error of a run of the program that ends by itself."""
+    ran = subprocess.run([PROGRAM, *words], capture_output=True, text=True, timeout=60, check=False, **options)
+    return ran.stdout, ran.returncode, ran.stderr
+
+
+def connected(place, timeout=20):
+    return socket.create_connection(place, timeout=timeout)
+
+
+def processes(count=None):
+    """Workers that know what this process does, its options too."""
+    return concurrent.futures.ProcessPoolExecutor(count, mp_context=multiprocessing.get_context("fork"))
+
+
+class Server:
+    """`blobd serve`, each worker for so many connections, or for all that come; on a port that the system picks, unless one is given, and
+    under limits of the system, as ["-n 4"] for four descriptors."""
+
+    def __init__(self, count=None, port=0, limits=(), **options):
+        words = [PROGRAM, "serve", f"127.0.0.1:{port}"] + ([] if count is None else [str(count)])
+        if limits:
+            words = ["sh", "-c", "".join(f"ulimit {limit} && " for limit in limits) + 'exec "$@"', "sh", *words]
+        self.process = subprocess.Popen(words, stdout=subprocess.PIPE, text=True, **options)
+        # it prints this line once it listens
+        self.first_line = self.process.stdout.readline()
+        self.addr = self.first_line.removeprefix("listening ").strip()
+
+    def __enter__(self):
+        return self
+
+    def __exit__(self, *_):
+        self.stop()
+
+    def stop(self):
+        """Ends it at once, and gives what it printed behind its first line."""
+        self.process.kill()
+        self.process.wait()
+        if self.process.stderr:
+            self.process.stderr.close()
+        if self.process.stdout.closed:
+            return ""
+        with self.process.stdout as printed:
+            return printed.read()
+
+    def place(self):
+        host, port = self.addr.rsplit(":", 1)
+        return host, int(port)
+
+    def connect(self, timeout=20):
+        return connected(self.place(), timeout)
+
+    def client(self, timeout=20):
+        return http.client.HTTPConnection(*self.place(), timeout=timeout)
+
+    def memory(self):
+        """The bytes of its memory that are resident."""
+        with open(f"/proc/{self.process.pid}/statm", encoding="ascii") as file:
+            return int(file.read().split()[1]) * os.sysconf("SC_PAGE_SIZE")
+
+    def ended(self):
+        """What else was printed and the exit status, once it has ended by itself."""
+        status = self.process.wait(timeout=100)
+        return self.process.stdout.read(), status
+
+    def told(self, seconds):
+        """The next line on standard error, or nothing where none comes in time."""
+        ready, _, _ = select.select([self.process.stderr], [], [], seconds)
+        return self.process.stderr.readline() if ready else ""
+
+    def descriptors(self):
+        return len(os.listdir(f"/proc/{self.process.pid}/fd"))
+
+    def allow_descriptors(self, most):
+        """Lets the server have so many descriptors from now on."""
+        _, hard = resource.prlimit(self.process.pid, resource.RLIMIT_NOFILE)
+        resource.prlimit(self.process.pid, resource.RLIMIT_NOFILE, (most, hard))
+
+    def end(self):
+        """Uses up the connections that are left, and gives what else was printed and the exit status."""
+        while self.process.poll() is None:
+            try:
+                self.connect().close()
+            except OSError:
+                break
+        return self.process.stdout.read(), self.process.wait(timeout=30)
+
+
+def ask(client, method, target, body=b"", **fields):
+    """The reply to one request over a kept connection: its status, its fields and its body."""
+    headers = {name.replace("_", "-"): value for name, value in fields.items()}
+    client.request(method, target, body=body, headers={"Content-Length": str(len(body)), **headers})
+    reply = client.getresponse()
+    return reply.status, reply.headers, reply.read()
+
+
+def ask_alone(server, method, target, body=b"", **fields):
+    """The same over a connection of its own, which the request asks to close."""
+    client = server.client()
+    try:
+        return ask(client, method, target, body, Connection="close", **fields)
+    finally:
+        client.close()
+
+
+def pull(server, name, digest):
+    """The blob, or the status where it isn't there."""
+    status, fields, body = ask_alone(server, "GET", f"/v2/{name}/blobs/{digest}")
+    return body if status == 200 and fields["Docker-Content-Digest"] == digest else status
+
+
+def sha256(content):
+    return "sha256:" + hashlib.sha256(content).hexdigest()
+
+
+def rest_of(connection):
+    """All that comes until the other side closes; a reset raises."""
+    parts = []
+    while part := connection.recv(65536):
+        parts.append(part)
+    return b"".join(parts)
+
+
+def vanish(connection):
+    """Closes so that the other side is reset."""
+    connection.setsockopt(socket.SOL_SOCKET, socket.SO_LINGER, struct.pack("ii", 1, 0))
+    connection.close()

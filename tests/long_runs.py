@@ -1,0 +1,125 @@
+#!/usr/bin/env python3
+"""Sends `blobd serve` very many requests, and has it store very many small blobs.
+
+    long_runs.py PROGRAM [--requests N] [--blobs N]
+
+- Requests which leave the service as it is, each kind among them, over connections that take as many as one may. Each reply is compared with the
+  model's, and the server's memory has to stay level.
+- Small blobs. Tells what memory each takes, and pulls some.
+
+Closes with 'N passed, M failed'.
+"""
+import random
+import time
+import unittest
+
+import model
+from harness import running, suite
+from harness.running import sha256
+from harness.wire import PATIENCE, request_text
+
+ZERO_REFERENCE = model.reference_of(1)
+PLACE = f"/v2/a/blobs/uploads/{ZERO_REFERENCE}"
+BLOB = b"0123456789" * 30
+STORES = request_text("POST", f"/v2/a/blobs/uploads/?digest={sha256(BLOB)}", BLOB)
+# An upload with three bytes in it, and a blob; and requests that leave these as they are, each answer of the service among them.
+FIRST = [request_text("POST", "/v2/a/blobs/uploads/"), request_text("PATCH", PLACE, b"abc"), STORES]
+ROUND = [
+    request_text("GET", "/v2/"),
+    request_text("HEAD", "/v2/"),
+    request_text("GET", PLACE),
+    request_text("PATCH", PLACE),
+    request_text("PATCH", PLACE, is_chunked=True),
+    request_text("PATCH", PLACE, b"bc", [("Content-Range", "1-2")]),
+    request_text("PUT", f"{PLACE}?digest={sha256(b'abcdef')}", b"de"),
+    request_text("GET", f"/v2/a/blobs/{sha256(BLOB)}"),
+    request_text("HEAD", f"/v2/a/blobs/{sha256(BLOB)}"),
+    request_text("GET", f"/v2/b/blobs/{sha256(BLOB)}"),
+    request_text("POST", "/v2/a/blobs/uploads/", b"x"),
+    request_text("POST", f"/v2/a/blobs/uploads/?mount={sha256(BLOB)}&from=a"),
+    STORES,
+    request_text("DELETE", "/v2/A/blobs/uploads/"),
+]
+# So much is sent and not yet answered at a time: little enough that neither side waits for the other's.
+ROUNDS_AT_ONCE = 16
+ROUNDS_OF_A_CONNECTION = (model.MAX_REQUESTS - 1) // len(ROUND)
+# What the system's allocator may keep more than before.
+LEVEL = 2 << 20
+MOST_OF_A_SMALL_BLOB = 2_000
+
+
+def exchanged(connection, sent, wanted):
+    """Sends requests, and sees that the replies are the wanted ones."""
+    connection.sendall(sent)
+    heard = b""
+    while len(heard) < len(wanted) and (part := connection.recv(1 << 16)):
+        heard += part
+    return heard == wanted
+
+
+def rounds(place, reference, count):
+    """Sends so many rounds of requests. Gives whether all were answered as the model does."""
+    replies = [turn.text for turn in model.conversation(b"".join(FIRST + ROUND))[0]][len(FIRST) :]
+    sent, wanted = (b"".join(texts).replace(ZERO_REFERENCE.encode(), reference.encode()) for texts in (ROUND, replies))
+    while count:
+        with running.connected(place, PATIENCE) as connection:
+            left = min(count, ROUNDS_OF_A_CONNECTION)
+            count -= left
+            while left:
+                now = min(left, ROUNDS_AT_ONCE)
+                left -= now
+                if not exchanged(connection, sent * now, wanted * now):
+                    return False
+    return True
+
+
+def small_blobs(place, numbers):
+    """Stores a small blob for each number. Gives whether all were answered as the model does."""
+    for first in range(numbers.start, numbers.stop, model.MAX_REQUESTS // 2):
+        with running.connected(place, PATIENCE) as connection:
+            last = min(first + model.MAX_REQUESTS // 2, numbers.stop)
+            for begin in range(first, last, 100):
+                bodies = [b"%d" % number for number in range(begin, min(begin + 100, last))]
+                digests = [sha256(body) for body in bodies]
+                sent = b"".join(request_text("POST", f"/v2/a/blobs/uploads/?digest={digest}", body) for digest, body in zip(digests, bodies))
+                if not exchanged(connection, sent, b"".join(model.Service.stored("a", digest).text(False, False) for digest in digests)):
+                    return False
+    return True
+
+
+class LongRuns(unittest.TestCase):
+    def setUp(self):
+        self.server = running.Server(1_000_000)
+        self.addCleanup(self.server.stop)
+
+    def test_memory_stays_level(self):
+        with self.server.connect(PATIENCE) as connection:
+            connection.sendall(FIRST[0])
+            reference = connection.recv(1 << 16).split(b"\r\n")[1].decode().rsplit("/", 1)[1]
+            connection.sendall(FIRST[1].replace(ZERO_REFERENCE.encode(), reference.encode()) + FIRST[2])
+            self.assertEqual(b"HTTP/1.1 202", connection.recv(12))
+        count, memory, begun = suite.OPTIONS.requests // len(ROUND) // 2, [], time.monotonic()
+        with running.processes(2) as pool:
+            for part in (count // 10, count - count // 10):
+                ends = [pool.submit(rounds, self.server.place(), reference, part) for _ in range(2)]
+                self.assertEqual([True, True], [end.result() for end in ends])
+                memory.append(self.server.memory())
+        print(f"{count * 2 * len(ROUND)} requests in {time.monotonic() - begun:.0f} s: {memory[0] >> 10} KiB after a tenth of them, {memory[1] >> 10} KiB at the end")
+        self.assertLess(memory[1], memory[0] + LEVEL)
+
+    def test_small_blobs(self):
+        count = suite.OPTIONS.blobs
+        before, begun = self.server.memory(), time.monotonic()
+        with running.processes(2) as pool:
+            ends = [pool.submit(small_blobs, self.server.place(), numbers) for numbers in (range(count // 2), range(count // 2, count))]
+            self.assertEqual([True, True], [end.result() for end in ends])
+        each = (self.server.memory() - before) // count
+        print(f"{count} small blobs in {time.monotonic() - begun:.0f} s: {each} bytes of memory each")
+        self.assertLess(each, MOST_OF_A_SMALL_BLOB)
+        for number in random.Random(1).sample(range(count), min(count, 1_000)):
+            body = b"%d" % number
+            self.assertEqual(body, running.ask_alone(self.server, "GET", f"/v2/a/blobs/{sha256(body)}")[2])
+
+
+if __name__ == "__main__":
+    suite.main(__doc__, requests=(10_000_000, "how many requests"), blobs=(1_000_000, "how many blobs"))

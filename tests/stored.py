@@ -1,0 +1,119 @@
+#!/usr/bin/env python3
+"""Writes the stored connections as the rows that the tests of disturbed streams take, in crates/wire_tests.
+
+    stored.py
+
+tests/connections holds them: what is sent, what comes back and the exit status. Where each request ends, and its reply, and how the connection ends
+is the model's (tests/model.py), which has to answer as the files say. The rows are laid out as `rt fmt` does.
+"""
+import os
+import sys
+
+import model
+
+TOP = os.path.dirname(os.path.dirname(os.path.abspath(__file__)))
+FOLDER = os.path.join(TOP, "tests", "connections")
+ROWS = "crates/wire_tests/src/connections/stored.rt"
+# The tests of disturbed streams make these themselves.
+LONGEST_HEADS = {"head-of-16384-bytes", "head-of-16385-bytes"}
+# Tests take these by name.
+NAMED = {"whole-upload"}
+
+ENDS = {
+    model.End.CLEAN: "ConnEnd::Clean",
+    model.End.AFTER_CLOSE: "ConnEnd::AfterClose",
+    model.End.AFTER_BAD: "ConnEnd::AfterBad",
+    model.End.TOO_MANY: "ConnEnd::TooMany",
+    model.End.TRUNCATED: "ConnEnd::Fault(ConnFault::Wire(WireFault::Truncated))",
+}
+
+# What stands in front of this in the file is written by hand.
+BEGIN = "/// How many connections there are.\n"
+
+
+def content(name):
+    with open(os.path.join(FOLDER, name), "rb") as file:
+        return file.read()
+
+
+def connections():
+    """The name of each stored connection, what is sent, what comes back and the exit status."""
+    for name in sorted(os.listdir(FOLDER)):
+        stem, suffix = os.path.splitext(name)
+        if suffix == ".in":
+            yield stem, content(name), content(stem + ".out"), int(content(stem + ".status"))
+
+
+def literal(text):
+    """A text as a literal of the sources."""
+    escapes = {"\r": "\\r", "\n": "\\n", '"': '\\"', "\\": "\\\\"}
+    return '"' + "".join(escapes.get(byte, byte) for byte in text.decode("ascii")) + '"'
+
+
+def function_name(stem):
+    return stem.replace("-", "_")
+
+
+def row(stem, sent):
+    """A connection as a function that gives it."""
+    turns, end = model.conversation(sent)
+    begins = [0, *(turn.end for turn in turns)]
+    pairs = [(literal(sent[begin : turn.end]), literal(turn.text)) for begin, turn in zip(begins, turns)]
+    if len(pairs) == 1:
+        shown = "(\n            {},\n            {},\n        )".format(*pairs[0])
+    else:
+        shown = "".join("\n            (\n                {},\n                {},\n            ),".format(*pair) for pair in pairs)
+        shown += "\n        " if pairs else ""
+    return f"""
+{"pub(super) " if stem in NAMED else ""}fn {function_name(stem)}() -> Stored<'static> {{
+    Stored {{
+        name: "{stem}",
+        turns: &[{shown}],
+        rest: {literal(sent[begins[-1] :])},
+        end: {ENDS[end]},
+    }}
+}}
+"""
+
+
+def table(stems):
+    """The function that gives a connection by its number."""
+    arms = [f"        {number} => {function_name(stem)}(),\n" for number, stem in enumerate(stems[:-1])]
+    return f"""\
+{BEGIN}pub(super) const COUNT: usize = {len(stems)};
+
+/// The connection of a number below `COUNT`.
+pub(super) fn connection(number: usize) -> Stored<'static> {{
+    match number {{
+{"".join(arms)}        _ => {function_name(stems[-1])}(),
+    }}
+}}
+"""
+
+
+def rows():
+    """The text of the source file: its front as it stands, and the rows."""
+    with open(os.path.join(TOP, ROWS), encoding="utf-8") as file:
+        front, begin, _ = file.read().partition(BEGIN)
+    if not begin:
+        sys.exit(f"{ROWS} has no line '{BEGIN.strip()}'")
+    stored = [(stem, sent) for stem, sent, *_ in connections() if stem not in LONGEST_HEADS]
+    return front + table([stem for stem, _ in stored]) + "".join(row(stem, sent) for stem, sent in stored)
+
+
+def unlike_the_model():
+    """Stored connections that the model answers otherwise, so that the rows wouldn't hold what the files do."""
+    return [stem for stem, sent, replies, status in connections() if model.once(sent) != (replies, status)]
+
+
+def main():
+    unlike = unlike_the_model()
+    if unlike:
+        sys.exit(f"the model answers otherwise: {', '.join(unlike)}")
+    text = rows()
+    with open(os.path.join(TOP, ROWS), "w", encoding="utf-8") as file:
+        file.write(text)
+
+
+if __name__ == "__main__":
+    main()
