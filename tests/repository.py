@@ -114,7 +114,8 @@ def public_functions(crate, laws=False):
         for line in text.splitlines():
             if line.startswith("impl"):
                 found = IMPL.match(line)
-                kind = found.group(1) if found else ""
+                # an impl of nothing ends where it begins
+                kind = found.group(1) if found and not line.endswith("{}") else ""
             elif line.startswith("}"):
                 kind = ""
             match = PUBLIC_FUNCTION.match(line)

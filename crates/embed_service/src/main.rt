@@ -49,8 +49,7 @@ fn digest_of(alloc: Global, parts: &[Part]) -> Result<BlobDigest, AllocError>
 }
 
 fn print_digest(rt: &HostRuntime, word: &str, digest: BlobDigest) -> io::Result<()> {
-    let text = digest.text();
-    println!(rt; "{word} {}", str::from_utf8(text.as_bytes()).unwrap_or("-"))
+    println!(rt; "{word} {digest}")
 }
 
 fn print_answer(rt: &HostRuntime, answer: &Answer) -> io::Result<()> {

@@ -1,4 +1,5 @@
 pub mod Counts
+pub mod FaultTexts
 pub mod Reading
 pub mod Writing
 pub mod Gathering

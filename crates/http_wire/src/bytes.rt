@@ -3,11 +3,24 @@ ghost use Rattle.std.specs.Prelude.{◌≡◌, ℕ, ◌+◌, ◌-◌, ◌<◌, �
 ghost use Rattle.std.specs.Io.KnownBytes.{ReadConsumes, WriteAppends, Keeps};
 ghost use Rattle.http_wire.specs.Counts.{CountsUp};
 
+use std::fmt;
 use std::io::{Read, Write};
 
 /// A read, a write or a flush failed. It moved no byte.
-#[derive(Clone, Copy, Debug, PartialEq, Eq)]
+#[derive(Clone, Copy, Debug, Drop, PartialEq, Eq)]
 pub struct Failed;
+
+impl fmt::Display for Failed {
+    ghost use Rattle.std.specs.Prelude.{Some, codes};
+
+    ghost output = { λ _. Some (codes "a read, a write or a flush failed") };
+
+    fn fmt<W: fmt::Write>(&self, f: &mut fmt::Formatter<W>) -> fmt::Result {
+        f.write_str("a read, a write or a flush failed")
+    }
+}
+
+impl std::error::Error for Failed {}
 
 /// Where requests and replies are read from.
 pub trait ByteSource {

@@ -3,10 +3,23 @@ ghost use Rattle.std.specs.Prelude.{◌≡◌, ◌++◌, List, ℕ, IsTrue, OnOk
 ghost use Rattle.http_wire.specs.Writing.{Sink, Wrote, sink};
 
 use crate::bytes::ByteSink;
+use std::fmt;
 
 /// A write or a flush failed. What was written up to then is a front of the text.
-#[derive(Clone, Copy, Debug, PartialEq, Eq)]
+#[derive(Clone, Copy, Debug, Drop, PartialEq, Eq)]
 pub struct WriteFault;
+
+impl fmt::Display for WriteFault {
+    ghost use Rattle.std.specs.Prelude.{Some, codes};
+
+    ghost output = { λ _. Some (codes "a write or a flush failed") };
+
+    fn fmt<W: fmt::Write>(&self, f: &mut fmt::Formatter<W>) -> fmt::Result {
+        f.write_str("a write or a flush failed")
+    }
+}
+
+impl std::error::Error for WriteFault {}
 
 /// Writes all the bytes, in one write where the writer takes them so.
 pub fn write_all<W: ByteSink>(writer: &mut W, bytes: &[u8]) -> Result<(), WriteFault>

@@ -12,3 +12,5 @@ mod names;
 mod ranges;
 #[cfg(test)]
 mod references;
+#[cfg(test)]
+mod texts;

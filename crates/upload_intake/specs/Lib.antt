@@ -13,3 +13,4 @@ pub mod ServedPair
 pub mod Settled
 pub mod Told
 pub mod Working
+pub mod FaultTexts

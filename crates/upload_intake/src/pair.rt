@@ -14,8 +14,8 @@ use crate::settlement::{Settled, lines, settle};
 use crate::work::{Work, Worker, WorkerEnd, serve_all};
 use std::alloc::Global;
 use std::sync::Wait;
-use std::thread;
 use std::thread::Threads;
+use std::{fmt, thread};
 use upload_service::Service;
 
 /// How many jobs of both workers wait at most.
@@ -32,14 +32,30 @@ pub struct Pair {
     pub right: WorkerEnd,
 }
 
-/// Why a pair was not served. The service is dropped.
-#[derive(Clone, Copy, Debug, PartialEq, Eq)]
+/// Why a pair was not served. The service is dropped. The discriminant is its number.
+#[derive(Clone, Copy, Debug, Drop, PartialEq, Eq)]
 pub enum ServeFault {
     /// The lines found no memory. No worker was started.
-    NoMemory,
+    NoMemory = 1,
     /// A worker could not be started. One that was started has ended.
-    NoThread,
+    NoThread = 2,
 }
+
+impl fmt::Display for ServeFault {
+    ghost use Rattle.std.specs.Prelude.{Some};
+    ghost use Rattle.upload_intake.specs.FaultTexts.{serve_fault_text};
+
+    ghost output = { λ fault. Some (serve_fault_text fault) };
+
+    fn fmt<W: fmt::Write>(&self, f: &mut fmt::Formatter<W>) -> fmt::Result {
+        match self {
+            ServeFault::NoMemory => f.write_str("no memory for two workers"),
+            ServeFault::NoThread => f.write_str("a worker could not be started"),
+        }
+    }
+}
+
+impl std::error::Error for ServeFault {}
 
 /// Serves the connections of two workers, both at once, each worker's one after the other until no more come. Both
 /// workers are started before the keeper runs on this thread, and every thread is joined. `moments` is asked once for

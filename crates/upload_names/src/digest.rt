@@ -8,7 +8,9 @@ ghost use Rattle.upload_names.specs.Digest.{Digest as DigestModel, IsDigest, Spe
 use crate::bytes::Bytes;
 use sha2::{Digest, Sha256, Sha512};
 use std::cmp::Ordering;
+use std::fmt;
 use std::marker::Model;
+use std::str::FromStr;
 
 /// By what a digest is computed (FIPS 180-4).
 #[derive(Clone, Copy, Debug, PartialEq, Eq)]
@@ -96,6 +98,63 @@ impl Ord for BlobDigest {
             (Sum::Sha512(_), Sum::Sha256(_)) => Ordering::Greater,
             (Sum::Sha512(mine), Sum::Sha512(theirs)) => mine.as_slice().cmp(theirs.as_slice()),
         }
+    }
+}
+
+/// The digest's text: `sha256:` or `sha512:`, and lower case digits.
+impl fmt::Display for BlobDigest {
+    ghost use Rattle.upload_names.specs.Digest.{digest_text};
+
+    ghost output = { λ digest. Some (digest_text digest) };
+
+    fn fmt<W: fmt::Write>(&self, f: &mut fmt::Formatter<W>) -> fmt::Result {
+        match str::from_utf8(self.text().as_bytes()) {
+            Ok(text) => f.write_str(text),
+            // never: the text is ASCII
+            Err(_) => Err(fmt::Error),
+        }
+    }
+}
+
+/// A text that is no digest's.
+#[derive(Clone, Copy, Debug, Drop, PartialEq, Eq)]
+pub struct NotADigest;
+
+impl fmt::Display for NotADigest {
+    ghost use Rattle.std.specs.Prelude.{codes};
+
+    ghost output = { λ _. Some (codes "not a digest") };
+
+    fn fmt<W: fmt::Write>(&self, f: &mut fmt::Formatter<W>) -> fmt::Result {
+        f.write_str("not a digest")
+    }
+}
+
+impl std::error::Error for NotADigest {}
+
+/// Reads a digest's text, as `BlobDigest::read` does.
+impl TryFrom<&[u8]> for BlobDigest {
+    type Error = NotADigest;
+
+    ghost use Rattle.std.specs.Result.{result_ok};
+
+    ghost try_from_gives = { λ text result. result_ok result ≡ digest_of text.now };
+
+    fn try_from(text: &[u8]) -> Result<BlobDigest, NotADigest> {
+        BlobDigest::read(text).ok_or(NotADigest)
+    }
+}
+
+/// Reads a digest's text, as `BlobDigest::read` does.
+impl FromStr for BlobDigest {
+    type Err = NotADigest;
+
+    ghost use Rattle.std.specs.Result.{result_ok};
+
+    ghost from_str_gives = { λ text result. result_ok result ≡ digest_of text };
+
+    fn from_str(text: &str) -> Result<BlobDigest, NotADigest> {
+        BlobDigest::try_from(text.as_bytes())
     }
 }
 

@@ -11,7 +11,7 @@ mod range;
 mod reference;
 
 pub use bytes::Bytes;
-pub use digest::{Algorithm, BlobDigest, DigestText, digests_are_decided};
+pub use digest::{Algorithm, BlobDigest, DigestText, NotADigest, digests_are_decided};
 pub use name::{NameFault, RepoName, names_are_decided};
-pub use range::{ByteRange, ranges_are_decided};
-pub use reference::{UploadRef, references_read_back};
+pub use range::{ByteRange, NotARange, ranges_are_decided};
+pub use reference::{NotAReference, UploadRef, references_read_back};

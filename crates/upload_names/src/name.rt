@@ -9,21 +9,39 @@ ghost use Rattle.upload_names.specs.NamePass.{is_in_grammar, is_name};
 use crate::grammar::is_in_grammar;
 use std::alloc::{AllocError, Global};
 use std::cmp::Ordering;
+use std::fmt;
 use std::marker::Model;
 
 /// The most bytes that a name may have.
 const LONGEST_NAME: usize = 255;
 
-/// Why a text isn't read as a name. Where several causes apply, the first in this order is answered.
+/// Why a text isn't read as a name. Where several causes apply, the first in this order is answered. The
+/// discriminant is its number.
 #[derive(Clone, Copy, Debug, PartialEq, Eq)]
 pub enum NameFault {
     /// The text isn't of the grammar of names.
-    NotAName,
+    NotAName = 1,
     /// The text is of the grammar and has more than 255 bytes.
-    TooLong,
+    TooLong = 2,
     /// The text is a name, and there was no memory to keep it.
-    NoMemory,
+    NoMemory = 3,
 }
+
+impl fmt::Display for NameFault {
+    ghost use Rattle.upload_names.specs.NameFaults.{fault_text};
+
+    ghost output = { λ fault. Some (fault_text fault) };
+
+    fn fmt<W: fmt::Write>(&self, f: &mut fmt::Formatter<W>) -> fmt::Result {
+        match self {
+            NameFault::NotAName => f.write_str("not a name of a repository"),
+            NameFault::TooLong => f.write_str("a name of more than 255 bytes"),
+            NameFault::NoMemory => f.write_str("no memory for a name"),
+        }
+    }
+}
+
+impl std::error::Error for NameFault {}
 
 /// The name of a repository (OCI Distribution Specification 1.1, section "Pulling manifests", `<name>`), of at
 /// most 255 bytes. It is seen as its text's bytes.
@@ -41,6 +59,15 @@ impl Model for RepoName {
     ghost view = { λ a. string_bytes a.text };
 
     ghost invariant = { λ a. IsTrue (is_name (string_bytes a.text)) };
+}
+
+/// The name's text.
+impl fmt::Display for RepoName {
+    ghost output = { λ name. Some name };
+
+    fn fmt<W: fmt::Write>(&self, f: &mut fmt::Formatter<W>) -> fmt::Result {
+        f.write_str(&self.text)
+    }
 }
 
 impl PartialEq for RepoName {

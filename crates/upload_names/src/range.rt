@@ -2,7 +2,9 @@
 ghost use Rattle.std.specs.Prelude.{◌≡◌, ◌↔◌, List, ℕ, Some, position};
 ghost use Rattle.upload_names.specs.ByteRange.{Span, SpellsRange, range_of, span_length, numeral_value, is_minus};
 
+use std::fmt;
 use std::marker::Model;
+use std::str::FromStr;
 
 /// The largest number that a range keeps: a text's larger number is read as this one.
 const CAP: u64 = 1_000_000_000_000_000_000;
@@ -30,6 +32,61 @@ impl Model for ByteRange {
     ghost use Rattle.std.specs.Prelude.{◌≤◌};
 
     ghost invariant = { λ a. (a.first ≤ range_cap) × (a.last ≤ range_cap) };
+}
+
+/// The range's text: both positions in decimal digits, with a hyphen between them.
+impl fmt::Display for ByteRange {
+    ghost use Rattle.std.specs.Prelude.{◌++◌, decimal, codes};
+
+    ghost output = { λ span. Some (decimal span.first ++ codes "-" ++ decimal span.last) };
+
+    fn fmt<W: fmt::Write>(&self, f: &mut fmt::Formatter<W>) -> fmt::Result {
+        let first = self.first;
+        let last = self.last;
+        write!(f, "{first}-{last}")
+    }
+}
+
+/// A text that is no range's.
+#[derive(Clone, Copy, Debug, Drop, PartialEq, Eq)]
+pub struct NotARange;
+
+impl fmt::Display for NotARange {
+    ghost use Rattle.std.specs.Prelude.{codes};
+
+    ghost output = { λ _. Some (codes "not a range of bytes") };
+
+    fn fmt<W: fmt::Write>(&self, f: &mut fmt::Formatter<W>) -> fmt::Result {
+        f.write_str("not a range of bytes")
+    }
+}
+
+impl std::error::Error for NotARange {}
+
+/// Reads a range's text, as `ByteRange::read` does.
+impl TryFrom<&[u8]> for ByteRange {
+    type Error = NotARange;
+
+    ghost use Rattle.std.specs.Result.{result_ok};
+
+    ghost try_from_gives = { λ text result. result_ok result ≡ range_of text.now };
+
+    fn try_from(text: &[u8]) -> Result<ByteRange, NotARange> {
+        ByteRange::read(text).ok_or(NotARange)
+    }
+}
+
+/// Reads a range's text, as `ByteRange::read` does.
+impl FromStr for ByteRange {
+    type Err = NotARange;
+
+    ghost use Rattle.std.specs.Result.{result_ok};
+
+    ghost from_str_gives = { λ text result. result_ok result ≡ range_of text };
+
+    fn from_str(text: &str) -> Result<ByteRange, NotARange> {
+        ByteRange::try_from(text.as_bytes())
+    }
 }
 
 /// The number that digits spell, or the largest that a range keeps where they spell a larger one. `None`: the text

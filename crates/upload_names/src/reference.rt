@@ -2,7 +2,9 @@
 ghost use Rattle.std.specs.Prelude.{◌≡◌, ◌↔◌, ◌<◌, ◌^◌, ℕ, List, length, IsTrue, Some, All};
 ghost use Rattle.upload_names.specs.Reference.{reference, number_of, reference_of, reference_text};
 
+use std::fmt;
 use std::marker::Model;
+use std::str::FromStr;
 use uuid::Uuid;
 
 /// The reference of an upload session: a UUID of version 8 (RFC 9562, section 5.8), seen as its sixteen bytes. Any
@@ -20,6 +22,61 @@ impl Model for UploadRef {
     ghost view = { λ a. a.id };
 
     ghost inverse = { λ b. record { id = b } };
+}
+
+/// The reference's text in lower case with hyphens.
+impl fmt::Display for UploadRef {
+    ghost output = { λ at. Some (reference_text at) };
+
+    fn fmt<W: fmt::Write>(&self, f: &mut fmt::Formatter<W>) -> fmt::Result {
+        match str::from_utf8(self.text().as_slice()) {
+            Ok(text) => f.write_str(text),
+            // never: the text is ASCII
+            Err(_) => Err(fmt::Error),
+        }
+    }
+}
+
+/// A text that is no reference's.
+#[derive(Clone, Copy, Debug, Drop, PartialEq, Eq)]
+pub struct NotAReference;
+
+impl fmt::Display for NotAReference {
+    ghost use Rattle.std.specs.Prelude.{codes};
+
+    ghost output = { λ _. Some (codes "not a reference of an upload") };
+
+    fn fmt<W: fmt::Write>(&self, f: &mut fmt::Formatter<W>) -> fmt::Result {
+        f.write_str("not a reference of an upload")
+    }
+}
+
+impl std::error::Error for NotAReference {}
+
+/// Reads a reference's text, as `UploadRef::read` does.
+impl TryFrom<&[u8]> for UploadRef {
+    type Error = NotAReference;
+
+    ghost use Rattle.std.specs.Result.{result_ok};
+
+    ghost try_from_gives = { λ text result. result_ok result ≡ reference_of text.now };
+
+    fn try_from(text: &[u8]) -> Result<UploadRef, NotAReference> {
+        UploadRef::read(text).ok_or(NotAReference)
+    }
+}
+
+/// Reads a reference's text, as `UploadRef::read` does.
+impl FromStr for UploadRef {
+    type Err = NotAReference;
+
+    ghost use Rattle.std.specs.Result.{result_ok};
+
+    ghost from_str_gives = { λ text result. result_ok result ≡ reference_of text };
+
+    fn from_str(text: &str) -> Result<UploadRef, NotAReference> {
+        UploadRef::try_from(text.as_bytes())
+    }
 }
 
 impl UploadRef {

@@ -4,3 +4,4 @@ pub mod World
 pub mod Codes
 pub mod Promise
 pub mod RuledOut
+pub mod FaultTexts

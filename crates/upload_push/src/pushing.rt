@@ -6,6 +6,7 @@ ghost use Rattle.upload_push.specs.Slices.{IsPush, push_of, request_of};
 
 use crate::pusher::{Outcome, PushAsk, PushStep, Pusher, Why};
 use std::alloc::{AllocError, Global};
+use std::fmt;
 use upload_names::{Algorithm, BlobDigest, Bytes, RepoName};
 use upload_service::{Ask, Extent};
 use upload_wire::{Heard, LentChunk, Transport};
@@ -17,6 +18,20 @@ pub enum PushFault {
     GaveUp(Why),
     /// A growth was refused; what was asked before it stays done.
     NoMemory,
+}
+
+impl fmt::Display for PushFault {
+    ghost use Rattle.std.specs.Prelude.{Some};
+    ghost use Rattle.upload_push.specs.FaultTexts.{push_fault_text};
+
+    ghost output = { λ fault. Some (push_fault_text fault) };
+
+    fn fmt<W: fmt::Write>(&self, f: &mut fmt::Formatter<W>) -> fmt::Result {
+        match self {
+            PushFault::GaveUp(_) => f.write_str("the push was given up"),
+            PushFault::NoMemory => f.write_str("no memory for a push"),
+        }
+    }
 }
 
 /// Pushes a file under its sha256 digest: `push_with` of that algorithm, with its errors.

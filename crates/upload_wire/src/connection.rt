@@ -10,19 +10,36 @@ use crate::reply::{write_bad, write_reply};
 use crate::request::{Next, Style, read_next};
 use http_wire::{ByteSink, ByteSource, ReadBuffer, WireFault};
 use std::alloc::Global;
+use std::fmt;
 use upload_service::{Ask, Limits};
 
 /// The most requests that are answered on one connection.
 const MAX_REQUESTS: usize = 10_000;
 
 /// How a connection was disturbed.
-#[derive(Clone, Copy, Debug, PartialEq, Eq)]
+#[derive(Clone, Copy, Debug, Drop, PartialEq, Eq)]
 pub enum ConnFault {
     /// No further request could be read. Nothing was replied to what was read of it.
     Wire(WireFault),
     /// A write or a flush of a reply failed. The writer holds the replies before it, and a front of it.
     Write,
 }
+
+impl fmt::Display for ConnFault {
+    ghost use Rattle.std.specs.Prelude.{Some};
+    ghost use Rattle.upload_wire.specs.FaultTexts.{conn_fault_text};
+
+    ghost output = { λ fault. Some (conn_fault_text fault) };
+
+    fn fmt<W: fmt::Write>(&self, f: &mut fmt::Formatter<W>) -> fmt::Result {
+        match self {
+            ConnFault::Wire(fault) => write!(f, "no further request: {fault}"),
+            ConnFault::Write => f.write_str("a reply could not be written"),
+        }
+    }
+}
+
+impl std::error::Error for ConnFault {}
 
 /// How a connection ended.
 #[derive(Clone, Copy, Debug, PartialEq, Eq)]

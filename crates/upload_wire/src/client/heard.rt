@@ -5,6 +5,7 @@ ghost use Rattle.upload_wire.specs.Heard.{reply_heard, of_upload, bare, last_bel
 
 use crate::reply::{ErrorCode, refusal_code, refusal_status};
 use std::alloc::{AllocError, Global};
+use std::fmt;
 use upload_names::{Bytes, RepoName, UploadRef};
 use upload_service::Answer;
 
@@ -21,8 +22,8 @@ pub struct Heard {
     pub code: Option<Bytes>,
 }
 
-/// Why no reply could be read.
-#[derive(Clone, Copy, Debug, PartialEq, Eq)]
+/// Why no reply could be read. The discriminant is its number.
+#[derive(Clone, Copy, Debug, Drop, PartialEq, Eq)]
 pub enum HeardFault {
     /// The input ended before the end of a reply.
     Truncated = 1,
@@ -37,6 +38,26 @@ pub enum HeardFault {
     /// There was a fault before, and nothing was read.
     Ended = 6,
 }
+
+impl fmt::Display for HeardFault {
+    ghost use Rattle.std.specs.Prelude.{Some};
+    ghost use Rattle.upload_wire.specs.FaultTexts.{heard_fault_text};
+
+    ghost output = { λ fault. Some (heard_fault_text fault) };
+
+    fn fmt<W: fmt::Write>(&self, f: &mut fmt::Formatter<W>) -> fmt::Result {
+        match self {
+            HeardFault::Truncated => f.write_str("the input ended inside a reply"),
+            HeardFault::Read => f.write_str("a read failed"),
+            HeardFault::NoMemory => f.write_str("no memory for a reply"),
+            HeardFault::Unreadable => f.write_str("a reply of no form that is read"),
+            HeardFault::TooLarge => f.write_str("a reply whose head or body is too large"),
+            HeardFault::Ended => f.write_str("the reading had ended"),
+        }
+    }
+}
+
+impl std::error::Error for HeardFault {}
 
 /// What is heard in the reply to an answer, or want of memory for its texts.
 pub fn heard_of(alloc: Global, answer: &Answer) -> Result<Heard, AllocError>
