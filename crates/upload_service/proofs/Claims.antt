@@ -38,7 +38,7 @@ MisplacedOnlyThere = (start : State) (front : List Exchange) (before : State) (x
 
 abbrev pub ClosedTakesNothing : Type 0
 ClosedTakesNothing = (start : State) (front : List Exchange) (before : State) (x : Exchange) (after : State) → Moment start front before x after
-    → (at : List ℕ) → IsTrue (is_closed start front at) → IsTrue (carries at x.ask)
+    → (at : List ℕ) → IsTrue (is_closed start front at x.now) → IsTrue (carries at x.ask)
     → (x.answer ≡ answers.Refused refusals.NoUpload) × (after ≡ before)
 
 abbrev pub AnsweredAsAlone : Type 0

@@ -196,7 +196,7 @@ unfolding Turn
 closed_takes_nothing start front before x after m at closed c =
     let h : IsNumbered start = numbered_if_lawful start m.lawful in
     let none : awake before x.now at ≡ None =
-    elim (list_any (λ y. closes_of at y.ask y.answer) front) as (λ b. list_any (λ y. closes_of at y.ask y.answer) front ≡ b → (b || is_lapsed start.limits.max_idle at (seen_of (map.get start.sessions at)) front) ≡ true → awake before x.now at ≡ None) [
+    elim (list_any (λ y. closes_of at y.ask y.answer) front) as (λ b. list_any (λ y. closes_of at y.ask y.answer) front ≡ b → (b || is_lapsed start.limits.max_idle at (seen_of (map.get start.sessions at)) front x.now) ≡ true → awake before x.now at ≡ None) [
       | true ↦ λ e _. ap (unless_idle before.limits.max_idle x.now) (closed_is_gone front start before at m.so_far h e).0
       | false ↦ λ _ lapsed. over_not_awake before x.now at (lapsed_is_over start.limits at x front start before 0 _ refl h (tracks_at_start start at h) m.never_fall m.so_far lapsed)
     ] refl closed in

@@ -192,11 +192,12 @@ late_is_over s now at (Some moment) tracks late = (
 )
 
 pub lapsed_is_over : (limits : Limits) (at : List ℕ) (x : Exchange) (xs : List Exchange) (s t : State) (from : ℕ) (touched : Option ℕ) → s.limits ≡ limits → IsNumbered s → Tracks s at touched
-    → NeverBefore from (xs ++ x ∷ []) → Run s xs t → is_lapsed limits.max_idle at touched xs ≡ true → IsOver t x.now at
+    → NeverBefore from (xs ++ x ∷ []) → Run s xs t → is_lapsed limits.max_idle at touched xs x.now ≡ true → IsOver t x.now at
 unfolding Turn
-lapsed_is_over limits at x [] s t from touched m h tracks never run lapsed = absurd (true≢false (sym lapsed))
+lapsed_is_over limits at x [] s t from touched m h tracks never run lapsed =
+    subst (λ q. IsOver q x.now at) (sym run) (late_is_over s x.now at touched tracks (ap (λ (k : Limits). is_late k.max_idle touched x.now) m ∙ lapsed))
 lapsed_is_over limits at x (y ∷ ys) s t from touched m h tracks (later, never) (mid, turn, rest) lapsed =
-    elim (is_late limits.max_idle touched y.now) as (λ b. is_late limits.max_idle touched y.now ≡ b → (b || is_lapsed limits.max_idle at (touched_by at y touched) ys) ≡ true → IsOver t x.now at) [
+    elim (is_late limits.max_idle touched y.now) as (λ b. is_late limits.max_idle touched y.now ≡ b → (b || is_lapsed limits.max_idle at (touched_by at y touched) ys x.now) ≡ true → IsOver t x.now at) [
       | true ↦ λ late _.
           let over : IsOver s y.now at = late_is_over s y.now at touched tracks (ap (λ (k : Limits). is_late k.max_idle touched y.now) m ∙ late) in
           over_run x ys mid t y.now at never rest (over_turn s y mid y.now at (omega arith) turn over)

@@ -55,8 +55,8 @@ pub record IsOrderly (start : State) (front : List Exchange) (before : State) (x
   -- and nothing else is
   pub misplaced : (name at : List ℕ) (next : ℕ) → x.answer ≡ answers.Misplaced name at next
       → (first : ℕ) × (aim_of x.ask ≡ Some (record { name = name; at = at; first = first })) × IsAwake before x.now name at × (next ≡ length (received start front at)) × (first ≢ next)
-  -- a closed session takes nothing more
-  pub closed : (at : List ℕ) → IsTrue (is_closed start front at) → IsTrue (carries at x.ask) → (x.answer ≡ answers.Refused refusals.NoUpload) × (after ≡ before)
+  -- a closed session takes nothing more, nor does one that this request finds idle
+  pub closed : (at : List ℕ) → IsTrue (is_closed start front at x.now) → IsTrue (carries at x.ask) → (x.answer ≡ answers.Refused refusals.NoUpload) × (after ≡ before)
   -- a blob that is handed out is the last that was stored there
   pub blob : (name : List ℕ) (digest : Digest) (head : Bool) (of : Digest) (size : ℕ) (bytes : Option (List ℕ))
       → x.ask ≡ asks.Has name digest head → x.answer ≡ answers.Blob of size bytes
