@@ -15,25 +15,25 @@ import base64
 import collections
 import contextlib
 import functools
-import hashlib
 import json
 import multiprocessing
 import os
 import random
-import socket
 import sys
 import tempfile
 import threading
 import time
 
+import raw
+
 TOP = os.path.dirname(os.path.dirname(os.path.abspath(__file__)))
-sys.path.insert(0, os.path.join(TOP, "deploy"))
+sys.path[:0] = [os.path.join(TOP, "tests"), os.path.join(TOP, "deploy")]
 import servers  # noqa: E402
+from harness.running import sha256  # noqa: E402
 
 KIB, MIB = 1 << 10, 1 << 20
 LOGIN = ("alice", "wonder")
 FORK = multiprocessing.get_context("fork")
-PATIENCE = 300
 
 Load = collections.namedtuple("Load", "name clients blobs size")
 LOADS = [
@@ -49,46 +49,28 @@ class Client:
     """A client over a kept connection, which reads bodies into one room."""
 
     def __init__(self, address, size):
-        self.host = address
-        login = base64.b64encode(":".join(LOGIN).encode()).decode()
-        self.always = f"Host: {address}\r\nAuthorization: Basic {login}\r\n"
+        self.place = servers.place(address)
+        self.login = "Basic " + base64.b64encode(":".join(LOGIN).encode()).decode()
         self.room = bytearray(size)
         self.asked = 0
         self.connect()
 
     def connect(self):
-        self.socket = socket.create_connection(servers.place(self.host), timeout=PATIENCE)
-        self.socket.setsockopt(socket.IPPROTO_TCP, socket.TCP_NODELAY, 1)
+        self.connection = raw.Connection(self.place, Authorization=self.login)
 
     def ask(self, method, target, body=None):
         """The status, the fields in lower case and the length of the body, which then stands in the room."""
-        head = f"{method} {target} HTTP/1.1\r\n{self.always}"
-        if body is not None:
-            head += f"Content-Length: {len(body)}\r\nContent-Type: application/octet-stream\r\n"
-        self.socket.sendall(head.encode() + b"\r\n" + (body if body and len(body) <= KIB else b""))
-        if body and len(body) > KIB:
-            self.socket.sendall(body)
-        got = b""
-        while b"\r\n\r\n" not in got:
-            part = self.socket.recv(65536)
-            if not part:
-                raise ConnectionError("no reply")
-            got += part
-        head, _, first = got.partition(b"\r\n\r\n")
-        line, *lines = head.decode().split("\r\n")
-        status, fields = int(line.split()[1]), {name.lower(): value.strip() for name, _, value in (one.partition(":") for one in lines)}
+        fields = {} if body is None else {"Content_Length": len(body), "Content_Type": "application/octet-stream"}
+        head, body = self.connection.head(method, target, **fields), body or b""
+        # what is short leaves with the head
+        for text in [head + body] if len(body) <= KIB else [head, body]:
+            self.connection.socket.sendall(text)
+        status, fields = self.connection.reply_head()
         length = 0 if method == "HEAD" or status == 204 else int(fields.get("content-length", 0))
-        self.room[: len(first)] = first
-        at = len(first)
-        with memoryview(self.room) as room:
-            while at < length:
-                more = self.socket.recv_into(room[at:length])
-                if not more:
-                    raise ConnectionError("a body is cut")
-                at += more
+        self.connection.body_into(self.room, length)
         self.asked += 1
         if fields.get("connection", "").lower() == "close":
-            self.socket.close()
+            self.connection.close()
             self.connect()
         return status, fields, length
 
@@ -96,10 +78,9 @@ class Client:
         """One blob there and back."""
         status, fields, _ = self.ask("POST", f"/v2/{name}/blobs/uploads/", b"")
         self.expect("POST", status, 202)
-        status, fields, _ = self.ask("PATCH", path_of(fields["location"]), content)
+        status, fields, _ = self.ask("PATCH", raw.target_of(fields), content)
         self.expect("PATCH", status, 202)
-        place = path_of(fields["location"])
-        self.expect("PUT", self.ask("PUT", f"{place}{'&' if '?' in place else '?'}digest={digest}", b"")[0], 201)
+        self.expect("PUT", self.ask("PUT", raw.closing_target(raw.target_of(fields), digest), b"")[0], 201)
         self.expect("HEAD", self.ask("HEAD", f"/v2/{name}/blobs/{digest}")[0], 200)
         status, _, length = self.ask("GET", f"/v2/{name}/blobs/{digest}")
         self.expect("GET", status, 200)
@@ -112,17 +93,12 @@ class Client:
             raise ValueError(f"{method}: {status} for {expected}")
 
 
-def path_of(location):
-    """A Location without its scheme and host."""
-    return "/" + location.split("/", 3)[3] if "://" in location else location
-
-
 def work(address, load, number, told):
     """One client's part of a load."""
     blobs = []
     for turn in range(load.blobs):
         content = random.Random(f"{address} {number} {turn}").randbytes(load.size)
-        blobs.append((content, "sha256:" + hashlib.sha256(content).hexdigest()))
+        blobs.append((content, sha256(content)))
     yield
     client = Client(address, load.size + 65536)
     longest = 0.0
@@ -130,7 +106,7 @@ def work(address, load, number, told):
         begun = time.monotonic()
         client.go_round(f"team{number}/app", content, digest)
         longest = max(longest, time.monotonic() - begun)
-    client.socket.close()
+    client.connection.close()
     told.append((client.asked, longest))
 
 
@@ -167,10 +143,10 @@ def measured(name, address, load):
     for process in processes:
         process.start()
     for _ in processes:
-        ready.get(timeout=PATIENCE)
+        ready.get(timeout=raw.PATIENCE)
     begun = time.monotonic()
     go.set()
-    told = [results.get(timeout=PATIENCE) for _ in processes]
+    told = [results.get(timeout=raw.PATIENCE) for _ in processes]
     seconds = time.monotonic() - begun
     for process in processes:
         process.join()

@@ -16,7 +16,6 @@ Needs Linux, and about four times the larger SIZE in MiB of memory, part of it i
 given.
 """
 import argparse
-import collections
 import contextlib
 import ctypes
 import hashlib
@@ -24,13 +23,19 @@ import json
 import mmap
 import multiprocessing
 import os
-import shutil
 import socket
 import subprocess
 import sys
 import tempfile
 import threading
 import time
+
+import raw
+
+TOP = os.path.dirname(os.path.dirname(os.path.abspath(__file__)))
+sys.path[:0] = [os.path.join(TOP, "tests"), os.path.join(TOP, "deploy")]
+import servers  # noqa: E402
+from harness import running  # noqa: E402
 
 MIB = 1 << 20
 RUNS = 5
@@ -41,11 +46,8 @@ OPENINGS = 960
 # The small requests beside a large body, whose longest wait is told.
 BESIDE = 1000
 PIPELINED = 16
-PATIENCE = 120
-# What `make serve` sets (glibc's tunables): memory is asked for in huge pages.
-HUGE_PAGES = {"GLIBC_TUNABLES": "glibc.malloc.hugetlb=1"}
+PATIENCE = raw.PATIENCE
 
-Reply = collections.namedtuple("Reply", "status fields body")
 FORK = multiprocessing.get_context("fork")
 
 
@@ -64,144 +66,65 @@ class Blob:
         self.digest = "sha256:" + digest.hexdigest()
 
 
-class Server:
-    """A server in a process of its own, on a free port, for as long as the `with` lasts."""
+class Measured:
+    """A server in a process of its own, on a free port, for as long as the `with` lasts; the next `with` begins one anew."""
 
     def __enter__(self):
-        self.start()
+        self.server = self.begun()
+        self.server.__enter__()
+        self.pid = self.server.process.pid
         return self
 
-    def __exit__(self, *_):
-        self.process.kill()
-        self.process.wait()
-
-    def give_up(self, why):
-        """Ends a server that didn't start as it must, and this program."""
-        self.__exit__()
-        sys.exit(why)
+    def __exit__(self, *fault):
+        self.server.__exit__(*fault)
 
     def connect(self):
-        return Connection(self.place)
+        return raw.Connection(self.place())
 
     def processor(self):
         """Seconds of processor time that its threads have had."""
         clock = ctypes.c_int()
-        if ctypes.CDLL(None).clock_getcpuclockid(self.process.pid, ctypes.byref(clock)):
+        if ctypes.CDLL(None).clock_getcpuclockid(self.pid, ctypes.byref(clock)):
             raise OSError("the server's clock can't be read")
         return time.clock_gettime(clock.value)
 
     def peak(self):
         """The most memory that it has had, in bytes."""
-        with open(f"/proc/{self.process.pid}/status", encoding="ascii") as status:
+        with open(f"/proc/{self.pid}/status", encoding="ascii") as status:
             for line in status:
                 if line.startswith("VmHWM:"):
                     return int(line.split()[1]) * 1024
         raise OSError("the server's memory can't be read")
 
 
-class Blobd(Server):
+class Blobd(Measured):
     name = "blobd"
 
-    def __init__(self, program, settings):
-        self.program = program
+    def __init__(self, settings):
         self.settings = settings
 
-    def start(self):
-        words = [self.program, "serve", "127.0.0.1:0", "1000000"]
-        self.process = subprocess.Popen(words, env=os.environ | self.settings, stdout=subprocess.PIPE, text=True)
-        told = self.process.stdout.readline()
-        if not told.startswith("listening "):
-            self.give_up(f"{self.program} serve: {told.strip() or 'it says nothing'}")
-        host, port = told.removeprefix("listening ").strip().rsplit(":", 1)
-        self.place = host, int(port)
+    def begun(self):
+        server = running.Server(1_000_000, env=os.environ | self.settings)
+        if not server.first_line.startswith("listening "):
+            server.stop()
+            sys.exit(f"{running.PROGRAM} serve: {server.first_line.strip() or 'it says nothing'}")
+        return server
 
-    def __exit__(self, *words):
-        super().__exit__(*words)
-        self.process.stdout.close()
+    def place(self):
+        return self.server.place()
 
 
-class DockerRegistry(Server):
+class DockerRegistry(Measured):
     name = "docker-registry"
 
-    def __init__(self, program, folder):
-        self.program = program
-        self.root = os.path.join(folder, "registry")
-        self.config = os.path.join(folder, "registry.yml")
+    def __init__(self, folder):
+        self.folder = folder
 
-    def start(self):
-        with socket.socket() as free:
-            free.bind(("127.0.0.1", 0))
-            self.place = free.getsockname()
-        with open(self.config, "w", encoding="ascii") as config:
-            config.write(
-                "version: 0.1\nlog:\n  level: error\n  accesslog:\n    disabled: true\n"
-                f"storage:\n  filesystem:\n    rootdirectory: {self.root}\nhttp:\n  addr: {self.place[0]}:{self.place[1]}\n"
-            )
-        self.process = subprocess.Popen([self.program, "serve", self.config], stdout=subprocess.DEVNULL, stderr=subprocess.DEVNULL)
-        for _ in range(200):
-            with contextlib.suppress(OSError), self.connect():
-                return
-            time.sleep(0.05)
-        self.give_up(f"{self.program} serve: nobody listens on {self.place}")
+    def begun(self):
+        return servers.DockerRegistry(self.folder)
 
-    def __exit__(self, *words):
-        super().__exit__(*words)
-        shutil.rmtree(self.root, ignore_errors=True)
-
-
-class Connection:
-    """A kept connection: one request, one reply."""
-
-    def __init__(self, place):
-        self.host = f"{place[0]}:{place[1]}"
-        self.socket = socket.create_connection(place, timeout=PATIENCE)
-        # A timeout would make each call of the socket two.
-        self.socket.setblocking(True)
-        self.socket.setsockopt(socket.IPPROTO_TCP, socket.TCP_NODELAY, 1)
-        self.unread = b""
-
-    def __enter__(self):
-        return self
-
-    def __exit__(self, *_):
-        self.socket.close()
-
-    def head(self, method, target, **fields):
-        lines = [f"{method} {target} HTTP/1.1", f"Host: {self.host}", *(f"{name.replace('_', '-')}: {value}" for name, value in fields.items())]
-        return "".join(line + "\r\n" for line in lines).encode() + b"\r\n"
-
-    def ask(self, method, target, **fields):
-        self.socket.sendall(self.head(method, target, **fields))
-        return self.reply()
-
-    def send_part(self, head, file, first, length):
-        """A head, and a part of a file that goes out as it lies in memory."""
-        self.socket.sendall(head, socket.MSG_MORE)
-        sent = 0
-        while sent < length:
-            sent += os.sendfile(self.socket.fileno(), file.fileno(), first + sent, length - sent)
-
-    def read_more(self):
-        part = self.socket.recv(65536)
-        if not part:
-            sys.exit(f"the server closed behind {self.unread!r}")
-        self.unread += part
-
-    def reply_head(self):
-        while b"\r\n\r\n" not in self.unread:
-            self.read_more()
-        head, self.unread = self.unread.split(b"\r\n\r\n", 1)
-        lines = head.decode().split("\r\n")
-        pairs = (line.split(":", 1) for line in lines[1:])
-        return int(lines[0].split()[1]), {name.lower(): value.strip() for name, value in pairs}
-
-    def reply(self):
-        status, fields = self.reply_head()
-        length = int(fields.get("content-length", 0))
-        while len(self.unread) < length:
-            self.read_more()
-        body, self.unread = self.unread[:length], self.unread[length:]
-        return Reply(status, fields, body)
+    def place(self):
+        return servers.place(self.server.address)
 
 
 def wanted(reply, status):
@@ -210,34 +133,16 @@ def wanted(reply, status):
     return reply
 
 
-def target_of(reply):
-    """The path and query of a Location, which may name the server too."""
-    location = reply.fields["location"]
-    return "/" + location.split("://", 1)[1].split("/", 1)[1] if "://" in location else location
-
-
 def upload(connection, name, blob, chunk):
     """A whole upload: an opening, the chunks, and the close."""
-    place = target_of(wanted(connection.ask("POST", f"/v2/{name}/blobs/uploads/", Content_Length=0), 202))
+    place = raw.target_of(wanted(connection.ask("POST", f"/v2/{name}/blobs/uploads/", Content_Length=0), 202).fields)
     with open(blob.path, "rb") as file:
         for first in range(0, blob.size, chunk):
             length = min(chunk, blob.size - first)
             fields = {"Content_Type": "application/octet-stream", "Content_Range": f"{first}-{first + length - 1}", "Content_Length": length}
             connection.send_part(connection.head("PATCH", place, **fields), file, first, length)
-            place = target_of(wanted(connection.reply(), 202))
-    query = f"{'&' if '?' in place else '?'}digest={blob.digest}"
-    wanted(connection.ask("PUT", place + query, Content_Length=0), 201)
-
-
-def receive(connection, length, room, take=None):
-    """Takes so many bytes into the same room again and again, and hands each part on where that is asked for."""
-    while length:
-        taken = connection.recv_into(room)
-        if not taken:
-            sys.exit("the server closed inside a body")
-        if take:
-            take(memoryview(room)[:taken])
-        length -= taken
+            place = raw.target_of(wanted(connection.reply(), 202).fields)
+    wanted(connection.ask("PUT", raw.closing_target(place, blob.digest), Content_Length=0), 201)
 
 
 def pull(connection, name, blob, room, take=None):
@@ -245,10 +150,7 @@ def pull(connection, name, blob, room, take=None):
     status, fields = connection.reply_head()
     if (status, int(fields["content-length"])) != (200, blob.size):
         sys.exit(f"a pull was answered {status} {fields}")
-    begun, connection.unread = connection.unread, b""
-    if take:
-        take(begun)
-    receive(connection.socket, blob.size - len(begun), room, take)
+    connection.body_over(room, blob.size, take)
 
 
 def pulled_well(connection, name, blob, room):
@@ -292,9 +194,9 @@ def seconds_of_both(works):
     """Seconds from the start of the first to the end of the last of several that run at once."""
 
     def both():
-        with contextlib.ExitStack() as running:
+        with contextlib.ExitStack() as at_once:
             for work in works:
-                running.enter_context(Beside(work))
+                at_once.enter_context(Beside(work))
 
     return seconds(both)
 
@@ -356,7 +258,7 @@ def moved_bare(blob, room):
         process = FORK.Process(target=send, args=(listener,))
         process.start()
         with socket.create_connection(listener.getsockname()) as connection:
-            taken = seconds(lambda: (connection.sendall(b"x"), receive(connection, blob.size, room)))
+            taken = seconds(lambda: (connection.sendall(b"x"), raw.receive(connection, blob.size, room)))
         process.join()
     return taken
 
@@ -487,7 +389,7 @@ def push_row(server, blob, chunk):
         plain.append(hashed(blob))
         with server:
             before = server.processor()
-            told, taken, used, peak = ran([server.program, "push", "%s:%d" % server.place, "lib/a", blob.path, str(chunk)])
+            told, taken, used, peak = ran([running.PROGRAM, "push", server.server.addr, "lib/a", blob.path, str(chunk)])
             processor.append(server.processor() - before)
             if told != f"pushed {blob.digest}\n":
                 sys.exit(f"a push ended with {told!r}")
@@ -500,7 +402,7 @@ def push_row(server, blob, chunk):
 
 def converse(place, request, ending, rounds, together, meeting, told):
     """One client of several: the same request again and again, so many written together. A reply is told by its end."""
-    with Connection(place) as connection:
+    with raw.Connection(place) as connection:
         talk, batch = connection.socket, request * together
 
         def round_trip(sent, due):
@@ -528,7 +430,7 @@ def run_clients(server, method, target, status, fields, count, at_once, together
         ending = b"\r\n\r\n" + wanted(first.ask(method, target, **fields), status).body
     meeting, told = FORK.Barrier(at_once + 1, timeout=PATIENCE), FORK.Queue()
     rounds = count // together // at_once
-    words = (server.place, request, ending, rounds, together, meeting, told)
+    words = (server.place(), request, ending, rounds, together, meeting, told)
     clients = [FORK.Process(target=converse, args=words) for _ in range(at_once)]
     for client in clients:
         client.start()
@@ -585,7 +487,7 @@ def pushes_at_once_row(server, blob, chunk, count):
 
     def work(name):
         def run():
-            told, *_ = ran([server.program, "push", "%s:%d" % server.place, name, blob.path, str(chunk)])
+            told, *_ = ran([running.PROGRAM, "push", server.server.addr, name, blob.path, str(chunk)])
             if told != f"pushed {blob.digest}\n":
                 sys.exit(f"a push ended with {told!r}")
 
@@ -694,10 +596,11 @@ def read_words():
 
 def measure(program, settings, blob, large, folder):
     """The rows of each server, and those of the client."""
-    blobd = Blobd(program, settings)
+    running.PROGRAM = program
+    blobd = Blobd(settings)
     measured = [(blobd, server_rows(blobd, blob, large)), (blobd, push_rows(blobd, blob))]
-    if registry := shutil.which("docker-registry"):
-        registry = DockerRegistry(registry, folder)
+    if not servers.missing("docker-registry"):
+        registry = DockerRegistry(folder)
         measured.append((registry, server_rows(registry, blob, large)))
     else:
         print("skipped: docker-registry, which isn't installed", flush=True)
@@ -709,7 +612,7 @@ def measure(program, settings, blob, large, folder):
 
 def main():
     words = read_words()
-    settings = {} if words.small_pages else HUGE_PAGES
+    settings = {} if words.small_pages else servers.HUGE_PAGES
     load = [os.getloadavg()[0]]
     with tempfile.TemporaryDirectory(dir="/dev/shm") as folder:
         blob = Blob(os.path.join(folder, "blob"), words.mib * MIB)

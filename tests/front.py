@@ -3,11 +3,16 @@
 
     front.py PROGRAM
 
+It tries whether the settings are taken, who is let in, which bodies are refused and when 100 is said, manifests and tags, clients that keep their
+connections and slow ones, what becomes of pushes when a shard is lost or has no memory, and images that `skopeo` and `docker` push and pull; `blobd push`
+through the adapter to `docker-registry`, and `make registry` as a newcomer meets it.
+
 Prints a line for each check that fails, one for each part whose packages aren't installed, and 'N passed, M failed' as the last.
 """
 import base64
 import concurrent.futures
 import contextlib
+import functools
 import gzip
 import hashlib
 import http.client
@@ -25,7 +30,12 @@ import tarfile
 import tempfile
 import threading
 import time
+import unittest
 import warnings
+
+from harness import running, suite, wire
+from harness.running import sha256
+from harness.suite import check
 
 TOP = os.path.dirname(os.path.dirname(os.path.abspath(__file__)))
 sys.path.insert(0, os.path.join(TOP, "deploy"))
@@ -33,25 +43,38 @@ import servers  # noqa: E402
 
 KIB, MIB = 1 << 10, 1 << 20
 LOGIN = ("alice", "wonder")
+# what every front needs
+FRONT = ("haproxy", "lua-cjson", "openssl")
 IMAGE_TYPE = "application/vnd.oci.image.manifest.v1+json"
 INDEX_TYPE = "application/vnd.oci.image.index.v1+json"
-EMPTY_BLOB = "sha256:" + hashlib.sha256(b"").hexdigest()
-PROGRAM = ""
-RESULTS = {"passed": 0, "failed": 0}
-
-
-def check(name, holds, told=""):
-    RESULTS["passed" if holds else "failed"] += 1
-    if not holds:
-        print(f"FAILED: {name}: {told}", flush=True)
-
-
-def sha256(content):
-    return "sha256:" + hashlib.sha256(content).hexdigest()
+EMPTY_BLOB = sha256(b"")
 
 
 def sha512(content):
     return "sha512:" + hashlib.sha512(content).hexdigest()
+
+
+def wanted(name, *packages):
+    """Whether the packages of a part are there; the part is told where they aren't."""
+    absent = servers.missing(*packages)
+    if absent:
+        print(f"skipped: {name}: {', '.join(absent)} isn't installed", flush=True)
+    return not absent
+
+
+def needs(*packages):
+    """A case that is skipped where packages of it aren't there."""
+
+    def of(case):
+        @functools.wraps(case)
+        def run():
+            if absent := servers.missing(*packages):
+                raise unittest.SkipTest(f"{case.__name__}: {', '.join(absent)} isn't installed")
+            case()
+
+        return run
+
+    return of
 
 
 class Client:
@@ -94,12 +117,10 @@ class Client:
 
     def heard(self, method):
         """The next reply: its status, its fields and its body."""
-        reply = http.client.HTTPResponse(self.socket, method=method)
-        reply.begin()
-        body = reply.read()
-        if reply.will_close or self.fresh:
+        reply, is_last = wire.next_reply(self.socket, method)
+        if is_last or self.fresh:
             self.close()
-        return reply.status, reply.headers, body
+        return reply.status, reply.fields, reply.body
 
     def ask(self, method, target, body=b"", **fields):
         fields = {name.replace("_", "-"): value for name, value in fields.items()}
@@ -138,7 +159,7 @@ class Site:
             servers.logins(self.folder, dict([LOGIN]))
             self.certificates = os.path.join(self.folder, "ca", "front.crt")
             self.shards = [
-                stack.enter_context(servers.blobd(PROGRAM, self.folder, address, f"blobd{number}", self.memory))
+                stack.enter_context(servers.blobd(running.PROGRAM, self.folder, address, f"blobd{number}", self.memory))
                 for number, address in enumerate(self.addresses, 1)
             ]
             self.haproxy = stack.enter_context(servers.HAProxy(self.folder, self.addresses, more=self.more))
@@ -222,6 +243,7 @@ def blobs_in(folder):
     return found
 
 
+@needs(*FRONT)
 def settings_are_valid():
     with tempfile.TemporaryDirectory(prefix="blobd-front-") as folder:
         servers.certificate(folder)
@@ -240,9 +262,11 @@ def settings_are_valid():
 
 
 def unit_is_valid():
+    if not servers.program("systemd-analyze"):
+        raise unittest.SkipTest("unit_is_valid: systemd isn't installed")
     with tempfile.TemporaryDirectory(prefix="blobd-front-") as folder:
         with open(os.path.join(TOP, "deploy", "blobd@.service"), encoding="utf-8") as file:
-            unit = file.read().replace("/usr/local/bin/blobd", os.path.abspath(PROGRAM))
+            unit = file.read().replace("/usr/local/bin/blobd", os.path.abspath(running.PROGRAM))
         path = os.path.join(folder, "blobd@.service")
         with open(path, "w", encoding="utf-8") as file:
             file.write(unit)
@@ -408,6 +432,7 @@ def tags_and_indexes_are_kept(site):
     check("what names others stays", kept.get("three") == manifest)
 
 
+@needs(*FRONT)
 def room_for_manifests_ends():
     with Site(more={"FRONT_HELD": "1"}) as site:
         kept = Repository(site, "lib/held")
@@ -668,6 +693,7 @@ def shards_of_all(names, shards):
         return {line.split("/v2/")[1].split("/blobs/")[0]: line.split(" shards/")[1].split(" ")[0] for line in lines}
 
 
+@needs(*FRONT)
 def a_new_shard_moves_few():
     names = [f"team{number % 7}/app{number}" for number in range(300)]
     two, three = shards_of_all(names, 2), shards_of_all(names, 3)
@@ -678,6 +704,7 @@ def a_new_shard_moves_few():
     check("shards have about as much as each other", min(counts) > 60 and max(counts) < 140, counts)
 
 
+@needs("haproxy", "docker-registry")
 def a_push_through_the_adapter():
     with tempfile.TemporaryDirectory(prefix="blobd-front-") as folder:
         path = os.path.join(folder, "file")
@@ -686,16 +713,17 @@ def a_push_through_the_adapter():
             file.write(content)
         with servers.DockerRegistry(folder) as registry, servers.Adapter(folder, registry.address) as adapter:
             for chunk in (MIB, 8 * MIB):
-                ran = told_by([PROGRAM, "push", adapter.address, "lib/adapted", path, str(chunk)])
+                ran = told_by([running.PROGRAM, "push", adapter.address, "lib/adapted", path, str(chunk)])
                 check(f"blobd push through the adapter in chunks of {chunk}", ran == (0, f"pushed {sha256(content)}\n"), ran)
             status, _, back = Client(registry.address).ask("GET", f"/v2/lib/adapted/blobs/{sha256(content)}", Connection="close")
             check("docker-registry has what was pushed", status == 200 and back == content, status)
 
 
+@needs(*FRONT)
 def the_newcomers_registry():
     """`make registry` as a newcomer meets it: it says three lines that work, and ends without a rest."""
     tls, store = servers.free_address(), servers.free_address()
-    words = [sys.executable, os.path.join(TOP, "deploy", "registry.py"), PROGRAM]
+    words = [sys.executable, os.path.join(TOP, "deploy", "registry.py"), running.PROGRAM]
     settings = os.environ | {"FRONT_TLS": tls, "BLOBD_1": store}
     with subprocess.Popen(words, env=settings, stdout=subprocess.PIPE, stderr=subprocess.STDOUT, text=True) as registry:
         lines = []
@@ -719,6 +747,7 @@ def the_newcomers_registry():
             check(f"nobody listens on {address}", probe.connect_ex(servers.place(address)) != 0)
 
 
+@needs(*FRONT)
 def memory_ends():
     """A shard with little memory refuses what it has no room for, and keeps what it has."""
     with Site(memory=320 * MIB) as site:
@@ -743,14 +772,7 @@ def docker_runs():
     return shutil.which("docker") and subprocess.run(["docker", "info"], stdout=subprocess.DEVNULL, stderr=subprocess.DEVNULL, check=False).returncode == 0
 
 
-def wanted(name, *packages):
-    """Whether the packages of a part are there; the part is told where they aren't."""
-    absent = servers.missing(*packages)
-    if absent:
-        print(f"skipped: {name}: {', '.join(absent)} isn't installed", flush=True)
-    return not absent
-
-
+@needs(*FRONT)
 def one_shard():
     with Site() as site:
         logins_are_asked_for(site)
@@ -769,12 +791,14 @@ def one_shard():
                 print("skipped: an image by docker: no engine runs")
 
 
+@needs(*FRONT)
 def two_shards():
     with Site(2) as site:
         a_shard_is_lost(site)
         health_tells_of_a_lost_shard(site)
 
 
+@needs(*FRONT, "nginx-light")
 def behind_nginx():
     with Site(nginx=True) as site:
         nginx_asks_for_logins(site)
@@ -783,39 +807,20 @@ def behind_nginx():
         slow_clients_hold_nobody(site)
 
 
-PARTS = [
-    ("the settings", settings_are_valid, ["haproxy", "lua-cjson", "openssl"]),
-    ("one shard", one_shard, ["haproxy", "lua-cjson", "openssl"]),
-    ("two shards", two_shards, ["haproxy", "lua-cjson", "openssl"]),
-    ("a third shard", a_new_shard_moves_few, ["haproxy", "lua-cjson", "openssl"]),
-    ("little room for manifests", room_for_manifests_ends, ["haproxy", "lua-cjson", "openssl"]),
-    ("little memory", memory_ends, ["haproxy", "lua-cjson", "openssl"]),
-    ("slow clients", behind_nginx, ["haproxy", "lua-cjson", "openssl", "nginx-light"]),
-    ("the adapter", a_push_through_the_adapter, ["haproxy", "docker-registry"]),
-    ("make registry", the_newcomers_registry, ["haproxy", "lua-cjson", "openssl"]),
-]
-
-
-def main():
-    global PROGRAM
-    if len(sys.argv) != 2:
-        sys.exit(__doc__)
-    PROGRAM = os.path.abspath(sys.argv[1])
-    if not os.access(PROGRAM, os.X_OK):
-        sys.exit(f"{PROGRAM} isn't there")
-    for name, part, packages in PARTS:
-        if wanted(name, *packages):
-            try:
-                part()
-            except (OSError, RuntimeError, http.client.HTTPException, subprocess.SubprocessError, KeyError, ValueError) as fault:
-                check(f"{name}: it goes on to its end", False, repr(fault))
-    if servers.program("systemd-analyze"):
-        unit_is_valid()
-    else:
-        print("skipped: the unit: systemd isn't installed")
-    print(f"{RESULTS['passed']} passed, {RESULTS['failed']} failed")
-    return 1 if RESULTS["failed"] else 0
+def load_tests(*_):
+    return suite.cases(
+        settings_are_valid,
+        one_shard,
+        two_shards,
+        a_new_shard_moves_few,
+        room_for_manifests_ends,
+        memory_ends,
+        behind_nginx,
+        a_push_through_the_adapter,
+        the_newcomers_registry,
+        unit_is_valid,
+    )
 
 
 if __name__ == "__main__":
-    sys.exit(main())
+    suite.main(__doc__)

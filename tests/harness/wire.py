@@ -43,6 +43,14 @@ def request_text(method, target, body=b"", fields=(), is_chunked=False):
     return "\r\n".join([*lines, "", ""]).encode() + body
 
 
+def next_reply(connection, method):
+    """The next reply over a socket, and whether it is the last."""
+    response = http.client.HTTPResponse(connection, method=method)
+    response.begin()
+    reply = Reply(response.status, response.headers, response.read())
+    return reply, response.will_close
+
+
 class Connection:
     """One connection, over which requests are sent one after the other."""
 
@@ -62,16 +70,14 @@ class Connection:
         """The reply, or nothing where the connection ended first."""
         if not self.is_open:
             return None
-        response = http.client.HTTPResponse(self.socket, method=method)
         try:
-            response.begin()
-            reply = Reply(response.status, response.headers, response.read())
+            reply, is_last = next_reply(self.socket, method)
         except TimeoutError:
             raise Complaint(f"no reply for {PATIENCE} seconds") from None
         except (OSError, http.client.HTTPException):
             self.close()
             return None
-        if response.headers["Connection"] == "close":
+        if is_last:
             self.close()
         return reply
 
