@@ -23,6 +23,7 @@ local PATIENCE = 150000
 local DIGITS = {sha256 = 64, sha512 = 128}
 local BITS = {sha256 = 256, sha512 = 512}
 
+-- Of each repository that has a manifest:
 -- repositories[name] = {manifests = {[digest] = {body, type, blobs, manifests, size}}, tags = {[tag] = digest}}
 local repositories = {}
 -- the sizes of all of them, and of the tags
@@ -81,14 +82,16 @@ local function drop_tag(repository, tag)
   repository.tags[tag] = nil
 end
 
-local function drop_manifest(repository, digest)
+-- Drops a manifest that is held, its tags, and with the last one the repository: what is empty takes no room.
+local function drop_manifest(name, digest)
+  local repository = repositories[name]
   local manifest = repository.manifests[digest]
-  if not manifest then return end
   held = held - manifest.size
   repository.manifests[digest] = nil
   for tag, at in pairs(repository.tags) do
     if at == digest then drop_tag(repository, tag) end
   end
+  if not next(repository.manifests) then repositories[name] = nil end
 end
 
 -- How a blob is there: 200 where it is, 404 where it isn't, 503 where that couldn't be learnt.
@@ -116,7 +119,7 @@ local function status_of_manifest(name, digest, seen)
   -- unless it was put anew meanwhile
   if status == 404 and repository.manifests[digest] == manifest then
     core.log(core.notice, "dropped, since what it names has gone: " .. name .. "@" .. digest)
-    drop_manifest(repository, digest)
+    drop_manifest(name, digest)
   end
   return status
 end
@@ -186,7 +189,7 @@ local function delete(applet, name, reference, algorithm)
     return refuse(applet, 404, "MANIFEST_UNKNOWN", "the repository has no such manifest")
   end
   if algorithm then
-    drop_manifest(repositories[name], reference)
+    drop_manifest(name, reference)
   else
     drop_tag(repositories[name], reference)
   end
