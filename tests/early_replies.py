@@ -6,7 +6,6 @@
 Its closing line is 'N passed, M failed'.
 """
 import socket
-import subprocess
 import tempfile
 import threading
 import unittest
@@ -102,9 +101,7 @@ def push(addr, content, chunk):
     with tempfile.NamedTemporaryFile() as file:
         file.write(content)
         file.flush()
-        words = [running.PROGRAM, "push", addr, "lib/a", file.name, str(chunk)]
-        ran = subprocess.run(words, stdout=subprocess.PIPE, text=True, timeout=60, check=False)
-    return ran.stdout, ran.returncode
+        return running.run("push", addr, "lib/a", file.name, str(chunk))[:2]
 
 
 def pushed(content):
