@@ -3,6 +3,9 @@
 
     program.py PROGRAM
 
+It tries the command line; an address, descriptors and memory that can't be had; references and their secrets; each status; connections that are kept, cut
+or silent, and peers that stay; uploads at once and beside clients that vanish; and uploads by `curl` and `skopeo`.
+
 Prints a line for each check that fails, one for each client that isn't installed, and 'N passed, M failed' as the last.
 """
 import concurrent.futures

@@ -3,6 +3,9 @@
 
     pushes.py PROGRAM
 
+It tries what a push prints and what it leaves; servers that start again, that can't serve, or whose replies are odd; a close whose reply is lost; more chunks
+than one connection takes; pushes at once.
+
 Prints a line for each check that fails, and 'N passed, M failed' as the last.
 """
 import concurrent.futures
