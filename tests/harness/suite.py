@@ -1,9 +1,10 @@
 """Counts what passed and failed, and closes with 'N passed, M failed'.
 
-Scripts are `unittest` cases: their words are the built program, their own options, and then what `unittest` takes, as names of cases and `-k`. A case that
+Scripts are `unittest` cases: their words are the built program, their own options, and then what `unittest` takes, as `-k NAME` for some of the cases. A case that
 has subtests counts as these. Where the steps of a case lead to one another it makes checks, and goes on where one fails; it counts as these too.
 """
 import argparse
+import fnmatch
 import functools
 import inspect
 import os
@@ -119,8 +120,10 @@ def in_a_folder(function):
 
 
 def cases(*functions):
-    """Functions as cases: what a script's `load_tests` gives."""
-    return unittest.TestSuite(unittest.FunctionTestCase(in_a_folder(function)) for function in functions)
+    """Functions as cases, those that `-k` chooses: what a script's `load_tests` gives."""
+    patterns = unittest.defaultTestLoader.testNamePatterns
+    chosen = [function for function in functions if not patterns or any(fnmatch.fnmatchcase(function.__name__, pattern) for pattern in patterns)]
+    return unittest.TestSuite(unittest.FunctionTestCase(in_a_folder(function)) for function in chosen)
 
 
 def check(name, holds, told=""):
