@@ -8,7 +8,9 @@ or silent, and peers that stay; uploads at once and beside clients that vanish; 
 
 Prints a line for each check that fails, one for each client that isn't installed, and 'N passed, M failed' as the last.
 """
+import collections
 import concurrent.futures
+import contextlib
 import errno
 import http.client
 import json
@@ -503,28 +505,45 @@ def statuses():
             client.close()
 
 
-def fill(server, most):
-    """Stores small blobs until a request is answered 503. Gives the statuses of the requests that were answered."""
-    statuses, client = [], server.client()
+def fill(client, most):
+    """Stores small blobs until one isn't taken. Gives their statuses, None where the connection ended without a reply: the body found no memory."""
+    statuses = []
     for number in range(most):
         content = random.Random(number).randbytes(10_000)
         try:
             statuses.append(ask(client, "POST", f"/v2/lib/a/blobs/uploads/?digest={sha256(content)}", content)[0])
         except (OSError, http.client.HTTPException):
-            # the body found no memory: the connection ended without a reply
-            client.close()
-            client = server.client()
-        if statuses[-1:] == [503]:
+            statuses.append(None)
+        if statuses[-1] != 201:
             break
-    client.close()
     return statuses
 
 
+def alone(server, method, target):
+    """The status and the body of a reply over a connection of its own, (None, b"") where it ends without one."""
+    try:
+        status, _, body = ask_alone(server, method, target)
+        return status, body
+    except (OSError, http.client.HTTPException):
+        return None, b""
+
+
 def full_memory():
-    """Requests that find no memory are answered 503, and the server goes on."""
-    with Server(limits=["-v 200000"]) as server:
-        statuses = fill(server, 60_000)
-        check("503 where memory is full", set(statuses) == {201, 503}, sorted(set(statuses)))
+    """An upload that finds no memory is answered 503 or not at all. What needs none is answered on every new connection, also by the worker that
+    had served nothing before."""
+    content = random.Random(60_000).randbytes(10_000)
+    blob = f"/v2/lib/a/blobs/{sha256(content)}"
+    with Server(limits=["-v 200000"]) as server, contextlib.closing(server.client()) as client:
+        stored = ask(client, "POST", f"/v2/lib/a/blobs/uploads/?digest={sha256(content)}", content)[0]
+        check("a blob before memory is full", stored == 201, stored)
+        place = ask(client, "POST", "/v2/lib/a/blobs/uploads/")[1]["Location"]
+        statuses = fill(client, 60_000)
+        check("an upload where memory is full", set(statuses) in ({201, 503}, {201, None}), collections.Counter(statuses))
+        client.close()
+        wanted = {("GET", "/v2/"): (200, b""), ("GET", place): (204, b""), ("HEAD", blob): (200, b""), ("GET", blob): (200, content)}
+        for (method, target), reply in wanted.items():
+            replies = [alone(server, method, target) for _ in range(40)]
+            check(f"{method} {target} where memory is full", replies == [reply] * 40, [status for status, _ in replies])
         check("a full server goes on", server.process.poll() is None, server.process.returncode)
 
 

@@ -66,6 +66,14 @@ impl ReadBuffer {
         self.start += count;
     }
 
+    /// Forgets what it holds.
+    pub fn clear(&mut self)
+        ensures { self.new ≡ [] }
+    {
+        self.start = 0;
+        self.end = 0;
+    }
+
     /// Reads once, behind what it holds. 0 is the end. A read that failed leaves what it holds.
     pub fn fill<S: ByteSource>(&mut self, source: &mut S) -> Result<usize, WireFault>
         requires { length self.old < CAPACITY }

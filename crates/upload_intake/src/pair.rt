@@ -12,11 +12,12 @@ use crate::moments::Moments;
 use crate::secrets::Secrets;
 use crate::settlement::{Settled, lines, settle};
 use crate::work::{Work, Worker, WorkerEnd, serve_all};
-use std::alloc::Global;
+use std::alloc::{AllocError, Global};
 use std::sync::Wait;
 use std::thread::Threads;
 use std::{fmt, thread};
 use upload_service::Service;
+use upload_wire::ReadBuffer;
 
 /// How many jobs of both workers wait at most.
 const CAPACITY: usize = 2;
@@ -35,7 +36,7 @@ pub struct Pair {
 /// Why a pair was not served. The service is dropped. The discriminant is its number.
 #[derive(Clone, Copy, Debug, Drop, PartialEq, Eq)]
 pub enum ServeFault {
-    /// The lines found no memory. No worker was started.
+    /// The workers' buffers or the lines found no memory. No worker was started.
     NoMemory = 1,
     /// A worker could not be started. One that was started has ended.
     NoThread = 2,
@@ -57,13 +58,20 @@ impl fmt::Display for ServeFault {
 
 impl std::error::Error for ServeFault {}
 
+/// A buffer for each worker, for all its connections.
+fn buffers(alloc: Global) -> Result<(ReadBuffer, ReadBuffer), AllocError> {
+    let left = ReadBuffer::new(alloc)?;
+    let right = ReadBuffer::new(alloc)?;
+    Ok((left, right))
+}
+
 /// Serves the connections of two workers, both at once, each worker's one after the other until no more come. Both
 /// workers are started before the keeper runs on this thread, and every thread is joined. `moments` is asked once for
-/// each request.
+/// each request. What a worker reads through is taken before, once for all its connections.
 ///
-/// `NoMemory` comes where the lines found no memory: no worker was started. `NoThread` comes where a worker couldn't be
-/// started, once one that was started has ended. That one may wait for a connection: the first that asks something ends
-/// `DeskGone`, and it takes no more. After either the service is dropped.
+/// `NoMemory` comes where the workers' buffers or the lines found no memory: no worker was started. `NoThread` comes where
+/// a worker couldn't be started, once one that was started has ended. That one may wait for a connection: the first that
+/// asks something ends `DeskGone`, and it takes no more. After either the service is dropped.
 pub fn serve_pair<R, M, LC, LS, LG, RC, RS, RG>(
     rt: &R,
     alloc: Global,
@@ -108,13 +116,16 @@ where
                 pair.service (pair.left.conns, pair.left.clean) (pair.right.conns, pair.right.clean)) }
             ensures lawful { IfOk result (λ pair. IsLawful pair.service) }
         {
+            let Ok((mut left_buffer, mut right_buffer)) = buffers(alloc) else {
+                return Err(ServeFault::NoMemory);
+            };
             let of_left = Work::of(&left_seat, &left, limits);
             let of_right = Work::of(&right_seat, &right, limits);
             let Ok(left) = scope.spawn_with(
                 of_left,
                 move ||
                     requires { AreLawful limits }
-                { serve_all(rt, alloc, limits, left_seat, left) },
+                { serve_all(rt, alloc, limits, left_seat, left, &mut left_buffer) },
             ) else {
                 return Err(ServeFault::NoThread);
             };
@@ -122,7 +133,7 @@ where
                 of_right,
                 move ||
                     requires { AreLawful limits }
-                { serve_all(rt, alloc, limits, right_seat, right) },
+                { serve_all(rt, alloc, limits, right_seat, right, &mut right_buffer) },
             ) else {
                 drop(keeper);
                 left.join(rt);

@@ -15,7 +15,7 @@ use std::snapshot::Snapshot;
 use std::sync::Wait;
 use std::thread::Promise;
 use upload_service::{Answer, Ask, Limits};
-use upload_wire::{ConnEnd, Desk, serve_connection};
+use upload_wire::{ConnEnd, Desk, ReadBuffer, serve_connection_with_buffer};
 
 /// What a worker serves, with which secrets, and what is told of it.
 #[derive(Drop)]
@@ -115,13 +115,15 @@ impl<'a, R: Wait, S: Secrets, G: Gate> Desk for GatedDesk<'a, R, S, G> {
     }
 }
 
-/// Serves a worker's connections one after the other, none behind one that ended `DeskGone`, and finishes its seat.
+/// Serves a worker's connections one after the other, none behind one that ended `DeskGone`, and finishes its seat. All are
+/// read through one buffer, so that none is turned away for want of it.
 pub(crate) fn serve_all<R: Wait, C: Conns + Drop, S: Secrets + Drop, G: Gate + Drop>(
     rt: &R,
     alloc: Global,
     limits: Limits,
     seat: Seat,
     worker: Worker<C, S, G>,
+    buffer: &mut ReadBuffer,
 ) -> (SeatEnd, WorkerEnd)
     requires { AreLawful limits }
     ensures seat { IsSameSeat seat result.0 }
@@ -143,7 +145,14 @@ pub(crate) fn serve_all<R: Wait, C: Conns + Drop, S: Secrets + Drop, G: Gate + D
         let Some((mut source, mut sink)) = conns.next_conn() else {
             break;
         };
-        let ended = serve_connection(alloc, &mut source, &mut sink, &mut desk, limits);
+        let ended = serve_connection_with_buffer(
+            alloc,
+            &mut source,
+            &mut sink,
+            &mut desk,
+            limits,
+            buffer,
+        );
         end.count(ended);
         // A desk that is gone stays gone: the next client would get no reply.
         if is_gone(ended) {

@@ -78,16 +78,29 @@ pub fn serve_connection<S: ByteSource, W: ByteSink, D: Desk>(
     let Ok(mut buffer) = ReadBuffer::new(alloc) else {
         return ConnEnd::Fault(ConnFault::Wire(WireFault::NoMemory));
     };
+    serve_connection_with_buffer(alloc, reader, writer, desk, limits, &mut buffer)
+}
+
+/// As `serve_connection`, with a buffer that is lent. What it holds of another connection is forgotten first. So who
+/// serves one connection after the other takes a buffer once. Only a request may then want memory.
+pub fn serve_connection_with_buffer<S: ByteSource, W: ByteSink, D: Desk>(
+    alloc: Global,
+    reader: &mut S,
+    writer: &mut W,
+    desk: &mut D,
+    limits: Limits,
+    buffer: &mut ReadBuffer,
+) -> ConnEnd
+    requires { AreLawful limits }
+    ensures { IsConversation D.moves limits.max_body
+        (source (S.remaining reader.old) (S.failed_reads reader.old))
+        (source (S.remaining reader.new) (S.failed_reads reader.new)) desk.old desk.new
+        (sink (W.contents writer.old) (W.failed_writes writer.old))
+        (sink (W.contents writer.new) (W.failed_writes writer.new)) result }
+{
+    buffer.clear();
     for count in 0..MAX_REQUESTS {
-        if let Some(end) = serve_next(
-            alloc,
-            reader,
-            &mut buffer,
-            limits.max_body,
-            writer,
-            desk,
-            count,
-        ) {
+        if let Some(end) = serve_next(alloc, reader, buffer, limits.max_body, writer, desk, count) {
             return end;
         }
     }

@@ -4,6 +4,7 @@ ghost use Rattle.std.specs.Prelude.{◌<◌};
 mod disturbed;
 mod growths;
 mod hashed;
+mod lent;
 mod rows;
 mod stored;
 

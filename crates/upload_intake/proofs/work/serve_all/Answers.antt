@@ -19,11 +19,11 @@ loop-init g c =
 pub loop-preserved : goal.loop-preserved
 loop-preserved g c =
     let m = means g.C.Conns.gives g.C.In.ByteSource.remaining g.C.In.ByteSource.failed_reads g.C.Out.ByteSink.contents g.C.Out.ByteSink.failed_writes g.S.Secrets.draws in (
-      same_seat_twice _ _ _ c.loop.invariant.0 (gated_same g.S.Secrets.draws _ _ _ _ _ _ _ _ c.serve_connection-ended.ensures),
+      same_seat_twice _ _ _ c.loop.invariant.0 (gated_same g.S.Secrets.draws _ _ _ _ _ _ _ _ c.serve_connection_with_buffer-ended.ensures),
       talked m c.args.limits.max_body c.args.worker.conns (c.args.seat, c.args.worker.secrets) c.loop.conns (seat_of c.loop.desk.desk, secrets_of c.loop.desk.desk) c.loop.end.conns c.loop.end.clean c.loop.invariant.1
-          (talk_of m c.args.limits.max_body c.in-Some-next_conn.source c.serve_connection-ended.new.reader c.in-Some-next_conn.sink c.serve_connection-ended.new.writer c.loop.desk c.serve_connection-ended.new.desk c.serve_connection-ended.result c.serve_connection-ended.ensures)
+          (talk_of m c.args.limits.max_body c.in-Some-next_conn.source c.serve_connection_with_buffer-ended.new.reader c.in-Some-next_conn.sink c.serve_connection_with_buffer-ended.new.writer c.loop.desk c.serve_connection_with_buffer-ended.new.desk c.serve_connection_with_buffer-ended.result c.serve_connection_with_buffer-ended.ensures)
           c.next_conn.new.self c.count.new.self.conns c.count.new.self.clean c.in-Some-next_conn.ensures refl c.count.ensures.conns c.count.ensures.clean
-          (not_gone c.serve_connection-ended.result (sym c.is_gone.ensures ∙ c.if-is_gone.false)),
+          (not_gone c.serve_connection_with_buffer-ended.result (sym c.is_gone.ensures ∙ c.if-is_gone.false)),
     )
 
 pub returns-clause-seat : goal.returns-clause-seat
@@ -32,7 +32,7 @@ returns-clause-seat g c =
       | in-None w ↦ absurd (true≢false (sym w.in-None.ensures.steps))
       | in-Some+in_default w ↦ search (rules, c.loop.invariant.0, w.desk-is)
       | in-Some+in-Some-next_conn+then-is_gone w ↦
-          let behind = same_seat_twice _ _ _ c.loop.invariant.0 (gated_same g.S.Secrets.draws _ _ _ _ _ _ _ _ w.serve_connection-ended.ensures) in
+          let behind = same_seat_twice _ _ _ c.loop.invariant.0 (gated_same g.S.Secrets.draws _ _ _ _ _ _ _ _ w.serve_connection_with_buffer-ended.ensures) in
           search (rules, behind, w.desk-is)
     ] in
     search (rules, at_the_end, c.finish.ensures, c.into_seat.ensures)
@@ -47,11 +47,11 @@ returns-clause-worked g c =
           (ends_at_none m c.args.limits.max_body c.args.worker.conns (c.args.seat, c.args.worker.secrets) c.loop.conns (seat_of c.loop.desk.desk, secrets_of c.loop.desk.desk) c.loop.end.conns c.loop.end.clean c.loop.invariant.1 w.next_conn.new.self w.in_default.ensures)
           (ap (λ d. seat_of d.desk) w.desk-is) (ap (λ e. e.conns) w.end-is) (ap (λ e. e.clean) w.end-is)
       | in-Some+in-Some-next_conn+then-is_gone w ↦
-          worked_as m c.args.limits.max_body c.args.worker.conns c.args.worker.secrets c.args.seat (seat_of w.serve_connection-ended.new.desk.desk) (seat_of c.match-next.desk.desk) w.count.new.self.conns c.match-next.end.conns w.count.new.self.clean c.match-next.end.clean
+          worked_as m c.args.limits.max_body c.args.worker.conns c.args.worker.secrets c.args.seat (seat_of w.serve_connection_with_buffer-ended.new.desk.desk) (seat_of c.match-next.desk.desk) w.count.new.self.conns c.match-next.end.conns w.count.new.self.clean c.match-next.end.clean
           (ends_gone m c.args.limits.max_body c.args.worker.conns (c.args.seat, c.args.worker.secrets) c.loop.conns (seat_of c.loop.desk.desk, secrets_of c.loop.desk.desk) c.loop.end.conns c.loop.end.clean c.loop.invariant.1
-          (talk_of m c.args.limits.max_body w.in-Some-next_conn.source w.serve_connection-ended.new.reader w.in-Some-next_conn.sink w.serve_connection-ended.new.writer c.loop.desk w.serve_connection-ended.new.desk w.serve_connection-ended.result w.serve_connection-ended.ensures)
+          (talk_of m c.args.limits.max_body w.in-Some-next_conn.source w.serve_connection_with_buffer-ended.new.reader w.in-Some-next_conn.sink w.serve_connection_with_buffer-ended.new.writer c.loop.desk w.serve_connection_with_buffer-ended.new.desk w.serve_connection_with_buffer-ended.result w.serve_connection_with_buffer-ended.ensures)
           w.next_conn.new.self w.count.new.self.conns w.count.new.self.clean w.in-Some-next_conn.ensures refl w.count.ensures.conns w.count.ensures.clean
-          (gone_is w.serve_connection-ended.result (sym w.is_gone.ensures ∙ w.if-is_gone.true)))
+          (gone_is w.serve_connection_with_buffer-ended.result (sym w.is_gone.ensures ∙ w.if-is_gone.true)))
           (ap (λ d. seat_of d.desk) w.desk-is) (ap (λ e. e.conns) w.end-is) (ap (λ e. e.clean) w.end-is)
     ] in
     worked_as m c.args.limits.max_body c.args.worker.conns c.args.worker.secrets c.args.seat (seat_of c.match-next.desk.desk) c.finish.result c.match-next.end.conns c.match-next.end.conns c.match-next.end.clean c.match-next.end.clean

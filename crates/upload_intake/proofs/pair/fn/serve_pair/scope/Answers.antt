@@ -8,8 +8,8 @@ pub returns : goal.returns
 returns g c =
     let l = means g.LC.Conns.gives g.LC.In.ByteSource.remaining g.LC.In.ByteSource.failed_reads g.LC.Out.ByteSink.contents g.LC.Out.ByteSink.failed_writes g.LS.Secrets.draws in
     let r = means g.RC.Conns.gives g.RC.In.ByteSource.remaining g.RC.In.ByteSource.failed_reads g.RC.Out.ByteSink.contents g.RC.Out.ByteSink.failed_writes g.RS.Secrets.draws in
-    let p = c.in-Ok.ensures.ok in
-    let q = c.in-Ok-spawn_with.ensures.ok in
+    let p = c.in-Ok-spawn_with.ensures.ok in
+    let q = c.in-Ok-spawn_with-2.ensures.ok in
     record {
       served = served_pair l r g.M.Moments.tells c.captures.limits c.captures.keeper c.run-served.result c.captures.left_seat c.captures.right_seat c.join-left_end.result.0 c.join-right_end.result.0 c.captures.moments.now c.run-served.new.moments
           c.captures.left.conns c.captures.left.secrets c.captures.right.conns c.captures.right.secrets c.settle-service.result.service c.settle-service.result.log_length

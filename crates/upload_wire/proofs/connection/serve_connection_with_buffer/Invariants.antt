@@ -1,7 +1,7 @@
 use Rattle.upload_wire.specs.Conversation.{source}
 use Rattle.http_wire.specs.Writing.{sink}
 use Rattle.upload_wire.proofs.ConversationLemmas.{SoFar}
-use Rattle.upload_wire.proofs.connection.serve_connection.Given as goal
+use Rattle.upload_wire.proofs.connection.serve_connection_with_buffer.Given as goal
 
 abbrev pub invariant-loop-count : goal.invariant-loop-count
 invariant-loop-count g l =
