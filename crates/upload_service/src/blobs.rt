@@ -7,6 +7,7 @@ ghost use Rattle.upload_service.specs.Machine.{Session};
 
 use crate::blob::Blob;
 use crate::pairs::Pairs;
+use crate::segments::Segments;
 use crate::sessions::Sessions;
 use crate::shared::Part;
 use std::alloc::{AllocError, Global};
@@ -102,25 +103,29 @@ impl Blobs {
         let Ok(last) = Part::of(alloc, body.into_vec()) else {
             return Err(AllocError);
         };
+        let Ok(room) = Box::new(alloc, Segments::new(alloc)) else {
+            return Err(AllocError);
+        };
         let Ok(entry) = self.stored.entry(digest) else {
             return Err(AllocError);
         };
         match entry {
             Entry::Occupied(mut place) => {
                 pairs.put(name, digest)?;
-                place.insert(blob_of(sessions, at, last));
+                place.insert(blob_of(sessions, at, room, last));
             }
             Entry::Vacant(place) => {
                 pairs.put(name, digest)?;
-                place.insert(blob_of(sessions, at, last));
+                place.insert(blob_of(sessions, at, room, last));
             }
         }
         Ok(())
     }
 }
 
-/// Closes an open session, and makes a blob of what it received and a last body. It takes no memory.
-fn blob_of(sessions: &mut Sessions, at: &UploadRef, last: Part) -> Blob
+/// Closes an open session, and makes a blob of what it received, in a place that is there for it, and a last body. It
+/// takes no memory.
+fn blob_of(sessions: &mut Sessions, at: &UploadRef, place: Box<Segments>, last: Part) -> Blob
     requires open { IsSome (map.get sessions.old at.now) }
     requires fits { (session : Session) → map.get sessions.old at.now ≡ Some session → length session.received + length last < 2 ^ 64 }
     ensures blob { (session : Session) → map.get sessions.old at.now ≡ Some session → result ≡ session.received ++ last }
@@ -130,5 +135,5 @@ fn blob_of(sessions: &mut Sessions, at: &UploadRef, last: Part) -> Blob
         unreachable!();
     };
     let segments = session.received.into_segments();
-    Blob::of_parts(segments, last)
+    Blob::of_parts(segments, place, last)
 }

@@ -69,6 +69,26 @@ impl Segments {
         self.tail.as_slice()
     }
 
+    /// Moves the last segment to an empty part behind the segments. It takes no memory, and where that part has other
+    /// owners it does nothing.
+    pub fn hand_over(&mut self, last: &mut Part)
+        requires { last.old ≡ [] }
+        ensures { whole self.new ++ last.new ≡ whole self.old }
+    {
+        let size = self.tail.len() as u64;
+        if last.trade(&mut self.tail) {
+            self.total -= size;
+        }
+    }
+
+    /// Gives the spare room of the list of segments and of the last one back.
+    pub fn shrink(&mut self)
+        ensures { self.new ≡ self.old }
+    {
+        self.settled.shrink_to_fit();
+        self.tail.shrink_to_fit();
+    }
+
     /// Puts a body behind the others. An empty one adds no segment. An `Err` changes nothing.
     pub fn append(&mut self, body: Bytes) -> Result<(), AllocError>
         requires { length (whole self.old) + length body < 2 ^ 64 }

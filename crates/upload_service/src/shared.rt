@@ -1,9 +1,10 @@
 //! Bytes with several owners, in any threads: what a GET hands out is what is stored, and no copy.
-ghost use Rattle.std.specs.Prelude.{◌≡◌, IfOk, OnErr, IfErr};
+ghost use Rattle.std.specs.Prelude.{◌≡◌, IsTrue, IsFalse, IfOk, OnErr, IfErr};
 ghost use Rattle.std.specs.List.{concat};
 
 use std::alloc::{AllocError, Global};
 use std::marker::Model;
+use std::mem;
 use std::sync::Arc;
 use upload_names::Bytes;
 
@@ -31,6 +32,20 @@ impl Part {
         match Arc::new(alloc, bytes) {
             Ok(bytes) => Ok(Part { bytes }),
             Err(failed) => Err(failed.value),
+        }
+    }
+
+    /// Trades the bytes for others, where they have one owner. Says whether it did; where not, nothing changes.
+    pub(crate) fn trade(&mut self, bytes: &mut Vec<u8>) -> bool
+        ensures traded { IsTrue result → (self.new ≡ bytes.old.items) × (bytes.new.items ≡ self.old) }
+        ensures kept { IsFalse result → (self.new ≡ self.old) × (bytes.new.items ≡ bytes.old.items) }
+    {
+        match Arc::get_mut(&mut self.bytes) {
+            Some(held) => {
+                mem::swap(held, bytes);
+                true
+            }
+            None => false,
         }
     }
 

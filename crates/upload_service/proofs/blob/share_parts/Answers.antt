@@ -3,7 +3,7 @@ use Rattle.std.proofs.Math.Seq.{take-length}
 use Rattle.std.specs.List.{concat}
 use Rattle.upload_service.specs.Kept.Parts.{joined}
 use Rattle.upload_service.proofs.Parts.{take_next, concat-two}
-use Rattle.upload_service.proofs.blob.Blob.share.Goals as goal
+use Rattle.upload_service.proofs.blob.share_parts.Goals as goal
 
 pub loop-part-init : goal.loop-part-init
 loop-part-init c = c.in_ok-parts.ensures.items
@@ -19,9 +19,9 @@ pub returns : goal.returns
 returns c =
     let settled : List (List ℕ) = c.settled-settled.result.now in
     let end : c.loop-part.part-index ≡ length settled = omega (arith, c.loop-part-test.false, c.loop-part.auto.part-index-end) in
-    let front : c.loop-part.parts.items ≡ c.self.inside.segments.settled =
+    let front : c.loop-part.parts.items ≡ c.args.segments.now.settled =
     c.loop-part.invariant ∙ ap (λ n. take n settled) end ∙ take-length settled ∙ c.settled-settled.ensures in
-    let tail : c.in-Ok.tail ≡ c.self.inside.segments.tail = c.in-Ok.ensures.ok ∙ c.in_ok-from_slice.ensures.items ∙ c.tail.ensures in
-    let all : c.push-3.new.self.items ≡ (c.self.inside.segments.settled ++ c.self.inside.segments.tail ∷ []) ++ c.self.inside.last ∷ [] =
+    let tail : c.in-Ok.tail ≡ c.args.segments.now.tail = c.in-Ok.ensures.ok ∙ c.in_ok-from_slice.ensures.items ∙ c.tail.ensures in
+    let all : c.push-3.new.self.items ≡ (c.args.segments.now.settled ++ c.args.segments.now.tail ∷ []) ++ c.args.last.now ∷ [] =
     c.in_ok-push-3.ensures.items ∙ (λ i. (c.in_ok-push-2.ensures.items ∙ (λ j. front j ++ tail j ∷ [])) i ++ c.in_ok-share-2.ensures i ∷ []) in
-    c.of_parts.ensures ∙ ap concat all ∙ concat-two c.self.inside.segments.settled c.self.inside.segments.tail c.self.inside.last ∙ c.self.view_is
+    c.of_parts.ensures ∙ ap concat all ∙ concat-two c.args.segments.now.settled c.args.segments.now.tail c.args.last.now
