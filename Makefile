@@ -14,7 +14,7 @@ V3 = avx avx2 bmi1 bmi2 f16c fma abm movbe xsave
 LEVEL := $(if $(filter-out $(shell grep -m1 '^flags' /proc/cpuinfo),$(V3)),,x86-64-v3)
 CPU = $(if $(LEVEL),--cpu=$(LEVEL))
 
-.PHONY: help try once serve upload registry build native proved test edits check format figures fuzz soak long growths bench
+.PHONY: help try once serve upload registry build native proved test edits check format figures fuzz soak long large growths bench
 
 help:
 	@echo 'make try     a whole upload over one connection, through `blobd once`, interpreted and unproved: a minute'
@@ -29,6 +29,7 @@ help:
 	@echo 'make fuzz    100,000 generated streams of requests through `blobd once`, beside a model (after make once; make test runs 2,000)'
 	@echo 'make soak    three minutes of clients that cut and race one another, and are refused memory, against `blobd serve` (after make once)'
 	@echo 'make long    ten million requests and a million small blobs, with the memory of `blobd serve` (after make once)'
+	@echo 'make large   blobs of more than 1 GiB, each in one request or one push, stored and pulled: two minutes (after make once)'
 	@echo 'make growths has each growth refused in turn, in the built tests and the built program (after make test, which does it too)'
 	@echo 'make figures speed and memory of `blobd once` and of the service alone, as ratios in one run (after make once)'
 	@echo 'make bench   the same of `blobd serve` and `blobd push`, over loopback, and a picture (ten minutes; docs/PERFORMANCE.md)'
@@ -102,6 +103,9 @@ soak:
 
 long:
 	@python3 tests/long_runs.py crates/blobd/out/blobd
+
+large:
+	@python3 tests/large.py crates/blobd/out/blobd
 
 growths:
 	@python3 tests/growths.py crates/blobd/out/blobd

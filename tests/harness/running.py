@@ -21,9 +21,9 @@ def once(sent):
     return ran.stdout, ran.returncode
 
 
-def run(*words, **options):
-    """Standard output, the exit status and standard error of a run of the program that ends by itself."""
-    ran = subprocess.run([PROGRAM, *words], capture_output=True, text=True, timeout=60, check=False, **options)
+def run(*words, timeout=60, **options):
+    """Standard output, the exit status and standard error of a run of the program that ends by itself, in so many seconds."""
+    ran = subprocess.run([PROGRAM, *words], capture_output=True, text=True, timeout=timeout, check=False, **options)
     return ran.stdout, ran.returncode, ran.stderr
 
 
