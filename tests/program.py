@@ -569,13 +569,28 @@ def silent_clients(hasty):
             check("a client that reads nothing isn't sent all", sent < len(content), sent)
 
 
+def idle_upload(folder):
+    """An upload that pauses is there for an hour behind its last chunk, by the program's own clock, and not for longer."""
+    ahead = os.path.join(folder, "ahead")
+    env = shims.environment(shims.compiled(folder, "ahead"), CLOCK_AHEAD=ahead)
+    with Server(env=env) as server:
+        place, statuses = opened(server, "lib/a"), []
+        # seconds since the server began, and some more of the test's own: the last pause is longer than an hour, the others aren't
+        for seconds in (0, 3_500, 7_000, 10_602):
+            with open(ahead, "w", encoding="ascii") as file:
+                file.write(str(seconds))
+            statuses.append(ask_alone(server, "PATCH", place, b"a")[0])
+        check("an upload that pauses for an hour", statuses == [202, 202, 202, 404], statuses)
+
+
 def within_seconds():
-    """What a library brings about: accepts that fail, and minutes that pass in seconds."""
+    """What a library brings about: accepts that fail, and minutes and hours that pass in seconds."""
     if not shims.has_compiler():
-        print(f"skipped: {shims.NO_COMPILER}: failed accepts, and what takes a minute")
+        print(f"skipped: {shims.NO_COMPILER}: failed accepts, and what takes a minute or an hour")
         return
     with tempfile.TemporaryDirectory() as folder:
         failing_accepts(folder)
+        idle_upload(folder)
         hasty = shims.environment(shims.compiled(folder, "minutes"))
         no_descriptors(hasty)
         one_worker_fails_alone(hasty)
