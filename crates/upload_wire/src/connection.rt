@@ -83,6 +83,7 @@ pub fn serve_connection<S: ByteSource, W: ByteSink, D: Desk>(
 
 /// As `serve_connection`, with a buffer that is lent. What it holds of another connection is forgotten first. So who
 /// serves one connection after the other takes a buffer once. Only a request may then want memory.
+#[tactic(auto, using(crate::proofs::ConversationLemmas::starts))]
 pub fn serve_connection_with_buffer<S: ByteSource, W: ByteSink, D: Desk>(
     alloc: Global,
     reader: &mut S,

@@ -1,14 +1,8 @@
 use Rattle.std.proofs.Common.{refl}
 use Rattle.upload_wire.specs.Conversation.{source}
 use Rattle.http_wire.specs.Writing.{sink}
-use Rattle.upload_wire.proofs.ConversationLemmas.{ends, goes_on, starts}
+use Rattle.upload_wire.proofs.ConversationLemmas.{ends, goes_on}
 use Rattle.upload_wire.proofs.connection.serve_connection_with_buffer.Goals as goal
-
-pub loop-count-init : goal.loop-count-init
-loop-count-init g c =
-    starts g.D.Desk.moves c.args.limits.max_body
-    (source (g.S.ByteSource.remaining c.args.reader.now) (g.S.ByteSource.failed_reads c.args.reader.now)) c.args.desk.now c.clear.new.self
-    (sink (g.W.ByteSink.contents c.args.writer.now) (g.W.ByteSink.failed_writes c.args.writer.now)) c.clear.ensures
 
 pub returns-in-Some : goal.returns-in-Some
 returns-in-Some g c =
