@@ -1,17 +1,19 @@
 //! Lists of requests that are made by a rule, served beside the model; and runs of one session alone.
 
+ghost use Rattle.upload_service.specs.Machine.{AreLawful};
+
 use crate::asks::{
     At, Hashed, Line, Place, Told, Unmade, Word, ask_of, body_of, is_content, name, reference, row,
     under,
 };
 use crate::model::{Model, alike};
-use crate::serving::{ABC, ABC_512, NOTHING, answers_to, check, limits};
+use crate::serving::{ABC, ABC_512, Job, NOTHING, answers_to, check, limits};
 use std::alloc::{AllocError, Global};
 use std::process::Abort;
 use std::slice::Iter;
 use std::test::Fail;
 use upload_names::{Algorithm, BlobDigest};
-use upload_service::{Answer, Ask, Extent, Refusal, Service};
+use upload_service::{Answer, Ask, Extent, Limits, Refusal, Service};
 
 /// A source of numbers that looks random and is the same in each run.
 #[derive(Drop)]
@@ -94,6 +96,13 @@ fn word(dice: &mut Dice, issued: u64) -> Word {
 /// For lines whose answers are compared with others: what they are told isn't read.
 const ANY: Told = Told::Base;
 
+/// Limits that a list by a rule often meets.
+fn small() -> Limits
+    ensures { AreLawful result }
+{
+    limits(5, 2, 9)
+}
+
 /// A list that goes on by a rule, over the service and over the model.
 #[derive(Drop)]
 struct Play {
@@ -107,12 +116,11 @@ struct Play {
 
 impl Play {
     fn new(alloc: Global, seed: u64) -> Play {
-        let small = limits(5, 2, 9);
         Play {
             alloc,
             dice: Dice { state: seed },
-            service: Service::new(alloc, small),
-            model: Model::after(alloc, small, 0),
+            service: Service::new(alloc, small()),
+            model: Model::after(alloc, small(), 0),
             now: 0,
             issued: 0,
         }
@@ -128,17 +136,31 @@ impl Play {
         }
     }
 
-    /// Whether the service answers the next request as the model does.
-    fn is_alike(&mut self) -> Result<bool, Unmade> {
+    /// The next request, and the model's answer to it.
+    fn turn(&mut self) -> Result<Turn, Unmade> {
         let line = self.line();
         let ask = ask_of(self.alloc, hashed(&mut self.dice), line)?;
         let wanted = self.model.step(&ask, [0; 12], line.now)?;
-        let answer = self.service.step(ask, [0; 12], line.now);
-        if let Answer::Begun { .. } = answer {
+        if let Answer::Begun { .. } = wanted {
             self.issued = self.issued.saturating_add(1);
         }
+        let job = (ask, [0; 12], line.now);
+        Ok(Turn { job, wanted })
+    }
+
+    /// Whether the service answers the next request as the model does.
+    fn is_alike(&mut self) -> Result<bool, Unmade> {
+        let Turn { job, wanted } = self.turn()?;
+        let answer = self.service.step(job.0, job.1, job.2);
         Ok(alike(&answer, &wanted))
     }
+}
+
+/// A request, and the answer that is wanted.
+#[derive(Drop)]
+struct Turn {
+    job: Job,
+    wanted: Answer,
 }
 
 fn check_turn(rt: &impl Abort, is_alike: bool, turn: u64, seed: u64) {
@@ -159,6 +181,38 @@ fn lists_are_served_as_by_the_model(rt: HostRuntime) -> Result<(), Fail> {
     for seed in 1..6u64 {
         let begun = uploads_begun(&rt, rt.alloc(), seed)?;
         assert!(rt; begun > 10);
+    }
+    Ok(())
+}
+
+/// How many requests a long list has.
+const MANY: usize = 2_000;
+
+/// A long list of requests, and the model's answers, one by one.
+fn long_list(alloc: Global) -> Result<(Vec<Job>, Vec<Answer>), Unmade> {
+    let mut play = Play::new(alloc, 7);
+    let mut jobs = Vec::new(alloc);
+    let mut answers = Vec::new(alloc);
+    for _ in 0..MANY {
+        keep(&mut jobs, &mut answers, play.turn()?)?;
+    }
+    Ok((jobs, answers))
+}
+
+fn keep(jobs: &mut Vec<Job>, answers: &mut Vec<Answer>, turn: Turn) -> Result<(), AllocError> {
+    jobs.push(turn.job)?;
+    answers.push(turn.wanted)?;
+    Ok(())
+}
+
+#[test]
+fn long_lists_are_served_as_by_the_model(rt: HostRuntime) -> Result<(), Fail> {
+    let alloc = rt.alloc();
+    let (jobs, wanted) = long_list(alloc)?;
+    let answers = Service::new(alloc, small()).run_all(alloc, jobs)?;
+    assert!(rt; answers.len() == MANY);
+    for (i, (answer, wanted)) in answers.iter().zip(wanted.iter()).enumerate() {
+        check(&rt, alike(answer, wanted), i, "the answer");
     }
     Ok(())
 }
