@@ -17,4 +17,6 @@ mod memory;
 #[cfg(test)]
 mod reading;
 #[cfg(test)]
+mod reads;
+#[cfg(test)]
 mod replies;
