@@ -201,6 +201,19 @@ def serves_until_it_is_ended():
         check("an interrupt ends it", ended == ("", -signal.SIGINT), ended)
 
 
+def tells_a_terminal_how_to_stop():
+    """Standard error that is a terminal gets one line, and standard output gets no other than without it."""
+    terminal, inner = os.openpty()
+    with Server(1, stderr=inner) as server:
+        os.close(inner)
+        ready, _, _ = select.select([terminal], [], [], 20)
+        told = os.read(terminal, 65536).decode() if ready else ""
+        check("how a server is stopped", told == "blobd: Ctrl-C stops it, and its blobs go with it\r\n", told)
+        ended = server.end()
+        check("what it prints all the same", ended == ("served\n", 0), ended)
+    os.close(terminal)
+
+
 def first_references():
     """Two servers draw secrets of their own: the references of their first sessions differ."""
     places = []
@@ -612,6 +625,7 @@ def load_tests(*_):
     return suite.cases(
         words,
         serves_until_it_is_ended,
+        tells_a_terminal_how_to_stop,
         faults,
         descriptors_come_again,
         within_seconds,

@@ -27,7 +27,7 @@ use crate::serve::run_serve;
 use crate::status::{FAULT, print_line};
 use crate::words::{Command, USAGE, read_words};
 use std::fs::Files;
-use std::io::{Eprint, ErrorKind};
+use std::io::{Eprint, ErrorKind, IsTerminal};
 use std::net::{Net, SocketAddr, TcpListener, TcpStream};
 use std::process::ExitCode;
 use std::random::RandomSource;
@@ -61,7 +61,14 @@ fn serve_input(rt: &HostRuntime) -> u8 {
     run_once(rt.alloc(), &mut reader, &mut writer)
 }
 
-fn listen<R>(rt: &R, addr: SocketAddr, count: Option<u64>) -> u8
+/// Tells somebody who looks on how a server is stopped.
+fn print_stop<R: Eprint>(rt: &R, seen: bool) {
+    if seen {
+        let _ = eprintln!(rt; "blobd: Ctrl-C stops it, and its blobs go with it");
+    }
+}
+
+fn listen<R>(rt: &R, addr: SocketAddr, count: Option<u64>, seen: bool) -> u8
 where
     R: Threads + Wait + Sync + AllocGlobal + Clock + RandomSource + Print + Eprint,
     R: Net<Listener = TcpListener, Stream = TcpStream>,
@@ -72,7 +79,10 @@ where
         silence: Duration::from_secs(SILENCE_SECONDS),
     };
     match TcpListener::bind(rt, addr) {
-        Ok(listener) => run_serve(rt, &listener, terms, &mut out),
+        Ok(listener) => {
+            print_stop(rt, seen);
+            run_serve(rt, &listener, terms, &mut out)
+        }
         Err(error) => {
             let _ = eprintln!(rt; "blobd: can't listen at {addr}: {error}");
             print_line(&mut out, "fault: listen", FAULT)
@@ -128,7 +138,9 @@ fn main(rt: HostRuntime) -> ExitCode {
     };
     ExitCode::from(match read_words(&words) {
         Some(Command::Once) => serve_input(&rt),
-        Some(Command::Serve { addr, count }) => listen(&rt, addr, count),
+        Some(Command::Serve { addr, count }) => {
+            listen(&rt, addr, count, rt.stderr().is_terminal())
+        }
         Some(
             Command::Push {
                 addr,
