@@ -2,6 +2,8 @@
 ghost use Rattle.std.specs.Prelude.{◌≡◌, None, IfSome};
 
 mod growths;
+mod many;
+mod moments;
 
 use crate::checks::check;
 use std::alloc::{AllocError, Global};

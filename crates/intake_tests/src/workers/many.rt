@@ -1,0 +1,89 @@
+//! A worker with very many connections, each of which is served and counted.
+ghost use Rattle.std.specs.Prelude.{◌≡◌, None, IfSome};
+
+use super::{Nowhere, Still, service};
+use crate::checks::check;
+use std::test::*;
+use upload_intake::{Conns, NoGate, Worker, ZeroSecrets, serve_pair};
+use upload_wire::{ByteSource, Failed};
+
+const MANY: u64 = 100_001;
+
+const FEW: u64 = 3;
+
+const TEXT: &[u8] = b"GET /v2/ HTTP/1.1\r\n\r\n";
+
+/// A short text, which comes in one read.
+#[derive(Drop)]
+struct Short {
+    left: &'static [u8],
+    reads: u64,
+}
+
+impl ByteSource for Short {
+    ghost remaining = { λ s. None };
+
+    ghost reads = { λ s. s.reads };
+
+    ghost failed_reads = { λ s. 0 };
+
+    fn read(&mut self, buf: &mut [u8]) -> Result<usize, Failed> {
+        self.reads = self.reads.saturating_add(1);
+        let count = self.left.len().min(buf.len());
+        let (front, back) = self.left.split_at(count);
+        buf[..count].copy_from_slice(front);
+        self.left = back;
+        Ok(count)
+    }
+}
+
+/// So many connections of one request each.
+#[derive(Drop)]
+struct Same {
+    left: u64,
+}
+
+impl Conns for Same {
+    type In = Short;
+
+    type Out = Nowhere;
+
+    // One that nobody has read or written yet.
+    ghost gives = { λ old given new. IfSome given (λ conn. (conn.0.reads ≡ 0) × (conn.1.writes ≡ 0)) };
+
+    fn next_conn(&mut self) -> Option<(Short, Nowhere)> {
+        self.left = self.left.checked_sub(1)?;
+        let source = Short {
+            left: TEXT,
+            reads: 0,
+        };
+        Some((source, Nowhere { writes: 0 }))
+    }
+}
+
+fn worker(count: u64) -> Worker<Same, ZeroSecrets, NoGate> {
+    Worker {
+        conns: Same { left: count },
+        secrets: ZeroSecrets,
+        gate: NoGate,
+    }
+}
+
+/// What a connection kept would be 64 KiB each, of its buffer alone.
+#[test]
+fn very_many_connections_are_served(rt: HostRuntime) -> Result<(), Fail> {
+    let alloc = rt.alloc();
+    let (left, right) = (worker(MANY), worker(FEW));
+    let pair = serve_pair(&rt, alloc, service(alloc), left, right, &mut Still)?;
+    check(
+        &rt,
+        (pair.left.conns, pair.left.clean) == (MANY, MANY),
+        "left",
+    );
+    check(
+        &rt,
+        (pair.right.conns, pair.right.clean) == (FEW, FEW),
+        "right",
+    );
+    Ok(())
+}
