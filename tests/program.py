@@ -542,13 +542,15 @@ def alone(server, method, target):
 
 
 def full_memory():
-    """An upload that finds no memory is answered 503 or not at all. What needs none is answered on every new connection, also by the worker that
-    had served nothing before."""
+    """An upload that finds no memory is answered 503 or not at all. What needs next to none is answered on every new connection, by either worker:
+    both have served before, since the C library gives a thread its own memory as it first wants some."""
     content = random.Random(60_000).randbytes(10_000)
     blob = f"/v2/lib/a/blobs/{sha256(content)}"
     with Server(limits=["-v 200000"]) as server, contextlib.closing(server.client()) as client:
         stored = ask(client, "POST", f"/v2/lib/a/blobs/uploads/?digest={sha256(content)}", content)[0]
         check("a blob before memory is full", stored == 201, stored)
+        # the client keeps one worker, so that this is the other's
+        check("the other worker", alone(server, "GET", "/v2/") == (200, b""))
         place = ask(client, "POST", "/v2/lib/a/blobs/uploads/")[1]["Location"]
         statuses = fill(client, 60_000)
         check("an upload where memory is full", set(statuses) in ({201, 503}, {201, None}), collections.Counter(statuses))
