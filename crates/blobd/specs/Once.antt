@@ -35,6 +35,12 @@ pub record IsOnce (first left : Source) (before after : Sink) (status : ℕ) : T
   pub end : ConnEnd
   pub desk : ServiceDesk
   pub conversation : IsConversation StepsService program_limits.max_body first left first_desk desk before after end
-  pub run : Run first_desk.service (service_exchanges first_desk (answered StepsService program_limits.max_body first left first_desk desk before after end conversation)) desk.service
-  pub headline : Headline first_desk.service (service_exchanges first_desk (answered StepsService program_limits.max_body first left first_desk desk before after end conversation)) desk.service
+  pub run : Run first_desk.service
+      (service_exchanges first_desk
+        (answered StepsService program_limits.max_body first left first_desk desk before after end conversation))
+      desk.service
+  pub headline : Headline first_desk.service
+      (service_exchanges first_desk
+        (answered StepsService program_limits.max_body first left first_desk desk before after end conversation))
+      desk.service
   pub is_status : status ≡ status_of end

@@ -99,7 +99,10 @@ pub record SendsReplies (view : LineView Answer) : Type 0 where
   pub is_sender : view ≡ only_sender_view replies
 
 -- a keeper that runs: of a seat that is done it took the finish
-pub record IsKeeping (start service : State) (now count : ℕ) (steps : List Step) (jobs : LineView Message) (left right : Outlet) (left_done right_done : Bool) : Type 0 where
+pub record IsKeeping
+    (start service : State) (now count : ℕ) (steps : List Step) (jobs : LineView Message)
+    (left right : Outlet) (left_done right_done : Bool)
+    : Type 0 where
   pub keeps : Keeps start service now count steps jobs.taken left right
   pub receives : Receives jobs
   pub left_finish : left_done ≡ true → TookFinish Left jobs
@@ -107,7 +110,9 @@ pub record IsKeeping (start service : State) (now count : ℕ) (steps : List Ste
 
 -- a reply was sent on a line that is open; or nothing was, and the line is closed from now on
 pub data Replies (answer : Answer) (old new : Outlet) : Type 0 where
-  Sent : old.is_open ≡ true → new.is_open ≡ true → ((replies : List Answer) → old.view ≡ only_sender_view replies → new.view ≡ only_sender_view (replies ++ answer ∷ [])) → Replies answer old new
+  Sent : old.is_open ≡ true → new.is_open ≡ true
+      → ((replies : List Answer) → old.view ≡ only_sender_view replies → new.view ≡ only_sender_view (replies ++ answer ∷ []))
+      → Replies answer old new
   Closed : new.is_open ≡ false → new.view ≡ old.view → Replies answer old new
 
 abbrev pub IsJob : Message → Type 0

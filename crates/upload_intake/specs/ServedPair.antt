@@ -38,7 +38,8 @@ pub record Carries (side : Side) (steps : List Step) (answered : List Exchange) 
 
 -- A worker's part: what it served over a seat that had asked nothing, the steps that its conversations are, and the jobs among
 -- them with the secrets that it drew.
-pub record HasPart {C In Out S : Type 0} (m : Means C In Out S) (max_body : ℕ) (side : Side) (steps : List Step) (worker : C × S) (count : ℕ × ℕ) : Type 0 where
+pub record HasPart {C In Out S : Type 0}
+    (m : Means C In Out S) (max_body : ℕ) (side : Side) (steps : List Step) (worker : C × S) (count : ℕ × ℕ) : Type 0 where
   pub seat : SeatState
   pub new : SeatState
   pub fresh : IsFresh seat
@@ -46,7 +47,8 @@ pub record HasPart {C In Out S : Type 0} (m : Means C In Out S) (max_body : ℕ)
   pub carried : Carries side steps (all_answered m max_body worked.talks) (all_unanswered m max_body worked.talks)
   pub sent : jobs_of side (taken_by steps) ≡ new.sent
 
-pub record IsServedPair {LC LIn LOut LS RC RIn ROut RS M : Type 0} (l : Means LC LIn LOut LS) (r : Means RC RIn ROut RS) (tells : M → ℕ → M → Type 0)
+pub record IsServedPair {LC LIn LOut LS RC RIn ROut RS M : Type 0}
+    (l : Means LC LIn LOut LS) (r : Means RC RIn ROut RS) (tells : M → ℕ → M → Type 0)
     (start : State) (moments : M) (left : LC × LS) (right : RC × RS) (service : State) (left_count right_count : ℕ × ℕ) : Type 0 where
   pub steps : List Step
   pub left_part : HasPart l start.limits.max_body Left steps left left_count

@@ -18,7 +18,8 @@ pub record Means (C In Out S : Type 0) : Type 1 where
   pub writes : Out → Sink
   pub draws : S → List ℕ → S → Type 0
 
-abbrev pub means : {C In Out S : Type 0} → (C → Option (In × Out) → C → Type 0) → (In → Option (List ℕ)) → (In → ℕ) → (Out → Option (List ℕ)) → (Out → ℕ) → (S → List ℕ → S → Type 0) → Means C In Out S
+abbrev pub means : {C In Out S : Type 0} → (C → Option (In × Out) → C → Type 0) → (In → Option (List ℕ)) → (In → ℕ)
+    → (Out → Option (List ℕ)) → (Out → ℕ) → (S → List ℕ → S → Type 0) → Means C In Out S
 means gives remaining failed_reads contents failed_writes draws = record {
   gives = gives;
   reads = λ s. source (remaining s) (failed_reads s);
@@ -60,10 +61,12 @@ module _ {C In Out S : Type 0} (m : Means C In Out S) (max_body : ℕ) where
 
   -- what was asked and answered on these connections, in order; and the request at which the desk was gone
   abbrev pub answered_on : Talk → List Exchange
-  answered_on t = answered steps max_body (m.reads t.reader) (m.reads t.reader_left) t.old t.new (m.writes t.writer) (m.writes t.writer_left) t.end t.conversation
+  answered_on t =
+      answered steps max_body (m.reads t.reader) (m.reads t.reader_left) t.old t.new (m.writes t.writer) (m.writes t.writer_left) t.end t.conversation
 
   abbrev pub unanswered_on : Talk → List Ask
-  unanswered_on t = unanswered steps max_body (m.reads t.reader) (m.reads t.reader_left) t.old t.new (m.writes t.writer) (m.writes t.writer_left) t.end t.conversation
+  unanswered_on t =
+      unanswered steps max_body (m.reads t.reader) (m.reads t.reader_left) t.old t.new (m.writes t.writer) (m.writes t.writer_left) t.end t.conversation
 
   abbrev pub all_answered : List Talk → List Exchange
   all_answered ts = flat_map answered_on ts

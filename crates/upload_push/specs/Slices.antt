@@ -167,7 +167,9 @@ IsEnd phase (Err faults.NoMemory) = Unit {0}
 
 -- A push over a transport: there is all that was heard, the transport went by the requests of that run and no others,
 -- and the answer is the run's end.
-pub record IsPush {S : Type 0} (asked : S → Ask → Option Heard → S → Type 0) (p : Push) (old new : S) (end : Result Outcome PushFault) : Type 0 where
+pub record IsPush {S : Type 0}
+    (asked : S → Ask → Option Heard → S → Type 0) (p : Push) (old new : S) (end : Result Outcome PushFault)
+    : Type 0 where
   pub heard : List (Option Heard)
   pub leads : Leads asked old (log_of p heard) new
   pub ends : IsEnd (after_all p heard).phase end

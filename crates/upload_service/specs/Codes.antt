@@ -17,7 +17,8 @@ abbrev pub bytes_code : Coded (List ℕ)
 bytes_code = coded_list coded_ℕ
 
 abbrev pub session_code : Coded Session
-session_code = code_by (List ℕ × (List ℕ × ℕ)) (coded× bytes_code (coded× bytes_code coded_ℕ)) (λ s. (s.name, (s.received, s.seen))) (λ p. record { name = p.0; received = p.1.0; seen = p.1.1 }) (λ _. refl)
+session_code = code_by (List ℕ × (List ℕ × ℕ)) (coded× bytes_code (coded× bytes_code coded_ℕ))
+    (λ s. (s.name, (s.received, s.seen))) (λ p. record { name = p.0; received = p.1.0; seen = p.1.1 }) (λ _. refl)
 
 abbrev pub to_bool : Algorithm → Bool
 to_bool algorithms.Sha256 = false
@@ -33,14 +34,17 @@ back algorithms.Sha512 = refl
 
 abbrev pub digest_code : Coded Digest
 digest_code =
-    code_by (Bool × List ℕ) (coded× coded_bool bytes_code) (λ d. (to_bool d.algorithm, d.bytes)) (λ p. record { algorithm = from_bool p.0; bytes = p.1 })
+    code_by (Bool × List ℕ) (coded× coded_bool bytes_code) (λ d. (to_bool d.algorithm, d.bytes))
+    (λ p. record { algorithm = from_bool p.0; bytes = p.1 })
     (λ d i. record { algorithm = back d.algorithm i; bytes = d.bytes })
 
 abbrev pub pair_code : Coded (List ℕ × Digest)
 pair_code = coded× bytes_code digest_code
 
 abbrev pub limits_code : Coded Limits
-limits_code = code_by (ℕ × (ℕ × (ℕ × ℕ))) (coded× coded_ℕ (coded× coded_ℕ (coded× coded_ℕ coded_ℕ))) (λ l. (l.max_blob, (l.max_body, (l.max_open, l.max_idle)))) (λ p. record { max_blob = p.0; max_body = p.1.0; max_open = p.1.1.0; max_idle = p.1.1.1 }) (λ _. refl)
+limits_code = code_by (ℕ × (ℕ × (ℕ × ℕ))) (coded× coded_ℕ (coded× coded_ℕ (coded× coded_ℕ coded_ℕ)))
+    (λ l. (l.max_blob, (l.max_body, (l.max_open, l.max_idle))))
+    (λ p. record { max_blob = p.0; max_body = p.1.0; max_open = p.1.1.0; max_idle = p.1.1.1 }) (λ _. refl)
 
 abbrev pub state_code : Coded State
 state_code =

@@ -50,13 +50,16 @@ pub record IsOrderly (start : State) (front : List Exchange) (before : State) (x
       → x.ask ≡ asks.Close name at range asked body → x.answer ≡ answers.Stored name' digest
       → IsCommitted (received start (front ++ x ∷ []) at) name name' asked digest after
   -- a chunk that misses the next offset is answered so, and changes nothing
-  pub missed : (aim : Aim) → aim_of x.ask ≡ Some aim → IsAwake before x.now aim.name aim.at → aim.first ≢ length (received start front aim.at)
+  pub missed : (aim : Aim) → aim_of x.ask ≡ Some aim → IsAwake before x.now aim.name aim.at
+      → aim.first ≢ length (received start front aim.at)
       → (x.answer ≡ answers.Misplaced aim.name aim.at (length (received start front aim.at))) × (after ≡ before)
   -- and nothing else is
   pub misplaced : (name at : List ℕ) (next : ℕ) → x.answer ≡ answers.Misplaced name at next
-      → (first : ℕ) × (aim_of x.ask ≡ Some (record { name = name; at = at; first = first })) × IsAwake before x.now name at × (next ≡ length (received start front at)) × (first ≢ next)
+      → (first : ℕ) × (aim_of x.ask ≡ Some (record { name = name; at = at; first = first }))
+      × IsAwake before x.now name at × (next ≡ length (received start front at)) × (first ≢ next)
   -- a closed session takes nothing more, nor does one that this request finds idle
-  pub closed : (at : List ℕ) → IsTrue (is_closed start front at x.now) → IsTrue (carries at x.ask) → (x.answer ≡ answers.Refused refusals.NoUpload) × (after ≡ before)
+  pub closed : (at : List ℕ) → IsTrue (is_closed start front at x.now) → IsTrue (carries at x.ask)
+      → (x.answer ≡ answers.Refused refusals.NoUpload) × (after ≡ before)
   -- a blob that is handed out is the last that was stored there
   pub blob : (name : List ℕ) (digest : Digest) (head : Bool) (of : Digest) (size : ℕ) (bytes : Option (List ℕ))
       → x.ask ≡ asks.Has name digest head → x.answer ≡ answers.Blob of size bytes
@@ -66,7 +69,8 @@ pub record IsOrderly (start : State) (front : List Exchange) (before : State) (x
 -- what was stored.
 pub record Headline (start : State) (xs : List Exchange) (end : State) : Type 0 where
   pub each : (front : List Exchange) (x : Exchange) (rest : List Exchange) → xs ≡ front ++ x ∷ rest
-      → (before : State) × (after : State) × Run start front before × Turn before x.ask x.secret x.now x.answer after × Run after rest end × IsOrderly start front before x after
+      → (before : State) × (after : State) × Run start front before × Turn before x.ask x.secret x.now x.answer after
+      × Run after rest end × IsOrderly start front before x after
   -- each session is told what it would be told alone, refusals for memory left out
   pub alone : (at : List ℕ) → IsToldAsAlone start xs at
   pub store : IsStoreAfter start xs end
@@ -78,6 +82,7 @@ HeadlineHolds = (start : State) (xs : List Exchange) (end : State) → IsLawful 
 
 -- Other requests leave an open session as it is, or it is idle then and leaves the table.
 abbrev pub OthersLeaveIt : Type 0
-OthersLeaveIt = (old : State) (ask : Ask) (secret : List ℕ) (now : ℕ) (answer : Answer) (new : State) → IsLawful old → Turn old ask secret now answer new
+OthersLeaveIt = (old : State) (ask : Ask) (secret : List ℕ) (now : ℕ) (answer : Answer) (new : State)
+    → IsLawful old → Turn old ask secret now answer new
     → (at : List ℕ) (session : Session) → map.get old.sessions at ≡ Some session → carries at ask ≡ false
     → (map.get new.sessions at ≡ Some session) ⊎ (IsTrue (is_idle old.limits.max_idle now session) × (map.get new.sessions at ≡ None))

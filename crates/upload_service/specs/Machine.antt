@@ -109,9 +109,18 @@ answer_of (Mounts name digest) = answers.Stored name digest
 -- the state after it, at this moment
 abbrev pub state_after : State → ℕ → Outcome → State
 state_after s now (Replies answer) = s
-state_after s now (Begins name at) = record s { issued = s.issued + 1; sessions = map.insert (swept s now) at (record { name = name; received = []; seen = now }) }
-state_after s now (Takes name at received) = record s { sessions = map.insert s.sessions at (record { name = name; received = received; seen = now }) }
-state_after s now (Commits name at digest blob) = record s { sessions = map.remove s.sessions at; blobs = map.insert s.blobs digest blob; pairs = set.insert s.pairs (name, digest) }
+state_after s now (Begins name at) = record s {
+  issued = s.issued + 1;
+  sessions = map.insert (swept s now) at (record { name = name; received = []; seen = now });
+}
+state_after s now (Takes name at received) = record s {
+  sessions = map.insert s.sessions at (record { name = name; received = received; seen = now });
+}
+state_after s now (Commits name at digest blob) = record s {
+  sessions = map.remove s.sessions at;
+  blobs = map.insert s.blobs digest blob;
+  pairs = set.insert s.pairs (name, digest);
+}
 state_after s now (Stores name digest blob) = record s { blobs = map.insert s.blobs digest blob; pairs = set.insert s.pairs (name, digest) }
 state_after s now (Mounts name digest) = record s { pairs = set.insert s.pairs (name, digest) }
 
@@ -175,13 +184,16 @@ holds s name digest = set.contains s.pairs (name, digest)
 abbrev pub outcome : State → Ask → List ℕ → ℕ → Outcome
 outcome s asks.Base secret now = Replies answers.Base
 outcome s (asks.Refused refusal) secret now = refused refusal
-outcome s (asks.Has name digest head) secret now = if holds s name digest then blob_reply digest head (map.get s.blobs digest) else refused refusals.NoBlob
+outcome s (asks.Has name digest head) secret now =
+    if holds s name digest then blob_reply digest head (map.get s.blobs digest) else refused refusals.NoBlob
 outcome s (asks.Opening name) secret now = opening s name secret now
 outcome s (asks.Mount name digest source) secret now = if holds s source digest then Mounts name digest else opening s name secret now
-outcome s (asks.Single name digest body) secret now = unless_fault (size_fault s.limits.max_blob 0 body) (checked digest body (λ d. Stores name d body))
+outcome s (asks.Single name digest body) secret now =
+    unless_fault (size_fault s.limits.max_blob 0 body) (checked digest body (λ d. Stores name d body))
 outcome s (asks.Chunk name at range body) secret now = at_session s.limits.max_blob (awake s now at) name (asks.Chunk name at range body)
 outcome s (asks.Status name at) secret now = at_session s.limits.max_blob (awake s now at) name (asks.Status name at)
-outcome s (asks.Close name at range digest body) secret now = at_session s.limits.max_blob (awake s now at) name (asks.Close name at range digest body)
+outcome s (asks.Close name at range digest body) secret now =
+    at_session s.limits.max_blob (awake s now at) name (asks.Close name at range digest body)
 
 -- where want of memory may be answered: at a change, and where the bytes of a blob are handed out
 abbrev pub hands_out : Answer → Bool

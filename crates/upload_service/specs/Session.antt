@@ -81,7 +81,8 @@ is_late max_idle (Some touched) now = nat_lt (touched + max_idle) now
 -- some exchange, of whichever session, came more than max_idle after the last touch before it, or this moment does
 abbrev pub is_lapsed : ℕ → List ℕ → Option ℕ → List Exchange → ℕ → Bool
 is_lapsed max_idle at touched [] now = is_late max_idle touched now
-is_lapsed max_idle at touched (x ∷ xs) now = is_late max_idle touched x.now || is_lapsed max_idle at (if touches at x then Some x.now else touched) xs now
+is_lapsed max_idle at touched (x ∷ xs) now =
+    is_late max_idle touched x.now || is_lapsed max_idle at (if touches at x then Some x.now else touched) xs now
 
 -- the session was closed, or fell idle, in these exchanges, or is idle at this moment behind them
 abbrev pub is_closed : State → List Exchange → List ℕ → ℕ → Bool

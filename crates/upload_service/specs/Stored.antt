@@ -50,10 +50,13 @@ notes name digest other = false
 -- and the pairs are those of the start and those that were answered Stored.
 pub record IsStoreAfter (start : State) (xs : List Exchange) (end : State) : Type 0 where
   pub blobs : (digest : Digest) → map.get end.blobs digest ≡ last_under digest (stored start xs) (map.get start.blobs digest)
-  pub pairs : (name : List ℕ) (digest : Digest) → holds end name digest ≡ (holds start name digest || list_any (λ x. notes name digest x.answer) xs)
+  pub pairs : (name : List ℕ) (digest : Digest)
+      → holds end name digest ≡ (holds start name digest || list_any (λ x. notes name digest x.answer) xs)
 
 -- what is handed out of a blob: its own digest, its length, and its bytes, but for a HEAD
-pub record IsHandedOut (digest : Digest) (head : Bool) (blob : Option (List ℕ)) (of : Digest) (size : ℕ) (bytes : Option (List ℕ)) : Type 0 where
+pub record IsHandedOut
+    (digest : Digest) (head : Bool) (blob : Option (List ℕ)) (of : Digest) (size : ℕ) (bytes : Option (List ℕ))
+    : Type 0 where
   pub own : of ≡ digest
   pub content : List ℕ
   pub is_content : blob ≡ Some content

@@ -115,7 +115,9 @@ abbrev pub head_fields : ResponseHead → Fields
 head_fields head = map name_and_value head.fields
 
 -- the text begins with a head whose body goes so far, and then comes rest
-pub record ReadsFramed (head_only : Bool) (text : List ℕ) (framing : Result AnswerFraming HeardFault) (head : ResponseHead) (rest : List ℕ) : Type 0 where
+pub record ReadsFramed
+    (head_only : Bool) (text : List ℕ) (framing : Result AnswerFraming HeardFault) (head : ResponseHead) (rest : List ℕ)
+    : Type 0 where
   pub reads : ReadsHead text head rest
   pub framed : framing_of head_only (status_code head) (head_fields head) ≡ framing
 

@@ -77,7 +77,13 @@ bare_message method path = record { method = method; path = path; query = None; 
 
 -- a POST without a body to the uploads of a repository
 abbrev pub post_message : List ℕ → Option (List ℕ) → Message
-post_message name query = record { method = codes "POST"; path = upload_path name []; query = query; fields = (codes "Content-Length", codes "0") ∷ []; body = [] }
+post_message name query = record {
+  method = codes "POST";
+  path = upload_path name [];
+  query = query;
+  fields = (codes "Content-Length", codes "0") ∷ [];
+  body = [];
+}
 
 -- GET or HEAD
 abbrev pub look_method : Bool → List ℕ
@@ -88,11 +94,29 @@ abbrev pub message_of : Ask → Message
 message_of Base = bare_message (codes "GET") (codes "/v2/")
 message_of (Has name digest head) = bare_message (look_method head) (blob_path name (digest_text digest))
 message_of (Opening name) = post_message name None
-message_of (Single name digest body) = record { method = codes "POST"; path = upload_path name []; query = Some (codes "digest=" ++ digest_or_nothing digest); fields = body_fields body; body = body }
+message_of (Single name digest body) = record {
+  method = codes "POST";
+  path = upload_path name [];
+  query = Some (codes "digest=" ++ digest_or_nothing digest);
+  fields = body_fields body;
+  body = body;
+}
 message_of (Mount name digest source) = post_message name (Some (codes "mount=" ++ (digest_text digest ++ (codes "&from=" ++ source))))
-message_of (Chunk name at range body) = record { method = codes "PATCH"; path = upload_path name (reference_text at); query = None; fields = range_fields range ++ body_fields body; body = body }
+message_of (Chunk name at range body) = record {
+  method = codes "PATCH";
+  path = upload_path name (reference_text at);
+  query = None;
+  fields = range_fields range ++ body_fields body;
+  body = body;
+}
 message_of (Status name at) = bare_message (codes "GET") (upload_path name (reference_text at))
-message_of (Close name at range digest body) = record { method = codes "PUT"; path = upload_path name (reference_text at); query = digest_query digest; fields = range_fields range ++ body_fields body; body = body }
+message_of (Close name at range digest body) = record {
+  method = codes "PUT";
+  path = upload_path name (reference_text at);
+  query = digest_query digest;
+  fields = range_fields range ++ body_fields body;
+  body = body;
+}
 message_of (Refused refusal) = bare_message [] []
 
 -- the ask of a chunk that is lent

@@ -25,7 +25,12 @@ bare status = record { status = status; place = None; upto = None; code = None }
 
 -- a status, the path of an upload, and how far it is
 abbrev pub of_upload : ℕ → List ℕ → List ℕ → ℕ → Heard
-of_upload status name at next = record { status = status; place = Some (upload_path name (reference_text at)); upto = last_below next; code = None }
+of_upload status name at next = record {
+  status = status;
+  place = Some (upload_path name (reference_text at));
+  upto = last_below next;
+  code = None;
+}
 
 -- the number of a status
 abbrev pub status_number : Status → ℕ
@@ -45,7 +50,12 @@ status_number statuses.ServiceUnavailable = 503
 
 -- an error's status and its code
 abbrev pub of_refusal : Refusal → Heard
-of_refusal refusal = record { status = status_number (refusal_status refusal); place = None; upto = None; code = Some (code_text (refusal_code refusal)) }
+of_refusal refusal = record {
+  status = status_number (refusal_status refusal);
+  place = None;
+  upto = None;
+  code = Some (code_text (refusal_code refusal));
+}
 
 -- what is heard in the reply to an answer
 abbrev pub reply_heard : Answer → Heard

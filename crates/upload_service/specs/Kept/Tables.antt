@@ -19,7 +19,8 @@ turned_away name at next verdicts.Misplaced = Some (answers.Misplaced name at ne
 turned_away name at next (verdicts.Refused refusal) = Some (answers.Refused refusal)
 
 abbrev pub IsVerdict : ℕ → ℕ → Extent → ℕ → Verdict → Type 0
-IsVerdict max_blob next range size verdict = (name at body : List ℕ) → length body ≡ size → body_fault max_blob name at next range body ≡ turned_away name at next verdict
+IsVerdict max_blob next range size verdict =
+    (name at body : List ℕ) → length body ≡ size → body_fault max_blob name at next range body ≡ turned_away name at next verdict
 
 -- what a service keeps: its limits and its state are lawful
 pub record IsService (limits : Limits) (tables : Tables) : Type 0 where
