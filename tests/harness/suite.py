@@ -88,6 +88,8 @@ class Runner:
     """Runs cases, and prints the closing line."""
 
     def run(self, cases):
+        if cases.countTestCases() == 0:
+            COUNT.fails("the cases", "none has such a name")
         cases.run(Tally())
         print(f"{COUNT.passed} passed, {COUNT.failed} failed", flush=True)
         return self
