@@ -29,6 +29,7 @@ LAW = re.compile(r"^\s*pub fn \w+(?:<.*?>)?\(\)\s*(\{\s*\})?$")
 # The page that names each must-fail edit, and how it sets a name.
 WRONG_BODIES = "docs/WRONG-BODIES.md"
 NAME = re.compile(r"`(\w+)`")
+EDITS = re.compile(r"/(?:must-fail|further-edits)/")
 FUNCTION = re.compile(r"`([\w:]+)`")
 # what an edit breaks that says of no function that it breaks it: a trait's function, or nothing that was promised
 NO_FUNCTION = re.compile(r"`\w+`'s? `\w+`|the measured figures")
@@ -168,7 +169,7 @@ def edited_once(path):
     for line in text_of(path).splitlines():
         word, _, text = line.partition(": ")
         if word == "file":
-            target = f"{path.split('/further-edits/')[0]}/{text.strip()}"
+            target = f"{EDITS.split(path)[0]}/{text.strip()}"
         elif word == "old":
             old = text
         elif word == "new":
@@ -180,8 +181,8 @@ def edited_once(path):
 
 
 def unapplied(paths):
-    """Further edits, which the gate doesn't try, that the sources have left behind."""
-    return [path for path in paths if "/further-edits/" in path and not edited_once(path)]
+    """Edits that the sources have left behind."""
+    return [path for path in paths if EDITS.search(path) and not edited_once(path)]
 
 
 def edits_there(paths):
@@ -232,7 +233,7 @@ CHECKS = [
     ("every public function has a must-fail edit", unbroken),
     ("every must-fail edit is named among the wrong bodies", unnamed),
     ("the wrong bodies break what the edits' first lines say", misnamed),
-    ("every further edit applies", unapplied),
+    ("every edit applies", unapplied),
     ("the page on using the crates shows its programs as they are", unshown),
     ("the stored connections are what the tests of disturbed streams take", disturbed),
 ]
