@@ -1,6 +1,8 @@
 -- What the tables, the segments and the hashes of a service stand for. Nothing here is part of what it promises.
+pub mod Blobs
 pub mod Entries
-pub mod Pairs
+pub mod Holders
 pub mod Parts
 pub mod Running
+pub mod Stock
 pub mod Tables

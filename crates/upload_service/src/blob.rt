@@ -1,5 +1,5 @@
 //! A stored blob: the segments that a session received and a last body.
-ghost use Rattle.std.specs.Prelude.{◌≡◌, ◌+◌, ◌<◌, ◌^◌, ◌++◌, [], ℕ, List, length, IfOk};
+ghost use Rattle.std.specs.Prelude.{◌≡◌, ◌+◌, ◌<◌, ◌^◌, ◌++◌, [], ℕ, List, length, box_value, IfOk};
 ghost use Rattle.upload_service.specs.Kept.Parts.{whole};
 
 use crate::segments::Segments;
@@ -8,11 +8,25 @@ use std::alloc::{AllocError, Global};
 use std::marker::Model;
 use upload_names::Bytes;
 
+/// What a session received, and the last body behind it.
+#[derive(Drop)]
+pub struct Several {
+    pub before: Segments,
+    pub last: Part,
+}
+
+/// What a blob is kept in.
+#[derive(Drop)]
+pub enum Shape {
+    Nothing,
+    One(Part),
+    Several(Box<Several>),
+}
+
 /// A blob, seen as its bytes. It is kept in the parts that it came in; of one part it keeps just that part.
 #[derive(Drop)]
 pub struct Blob {
-    before: Option<Box<Segments>>,
-    last: Part,
+    shape: Shape,
 }
 
 impl Model for Blob {
@@ -23,30 +37,41 @@ impl Model for Blob {
 
     ghost coded = { coded_list coded_ℕ };
 
-    ghost use Rattle.upload_service.specs.Kept.Parts.{before_last};
+    ghost use Rattle.upload_service.specs.Kept.Blobs.{before_in, last_in};
 
-    ghost view = { λ a. before_last a.before ++ a.last };
+    ghost view = { λ a. before_in a.shape ++ last_in a.shape };
 
-    ghost invariant = { λ a. length (before_last a.before) + length a.last < 2 ^ 64 };
+    ghost invariant = { λ a. length (before_in a.shape) + length (last_in a.shape) < 2 ^ 64 };
 }
 
 impl Blob {
-    /// What was received and a last body, in a place that is there for what was received. It takes no memory.
-    pub fn of_parts(mut segments: Segments, mut place: Box<Segments>, mut last: Part) -> Blob
-        requires { length (whole segments) + length last < 2 ^ 64 }
-        ensures { result ≡ whole segments ++ last }
+    /// A blob of no bytes. It takes no memory.
+    pub fn empty() -> Blob
+        ensures { result ≡ [] }
+    {
+        Blob {
+            shape: Shape::Nothing,
+        }
+    }
+
+    /// What was received and a last body, in a place where the last body is already. It takes no memory.
+    pub fn of_parts(mut segments: Segments, mut place: Box<Several>) -> Blob
+        requires { length (whole segments) + length (box_value place).last < 2 ^ 64 }
+        ensures { result ≡ whole segments ++ (box_value place).last }
     {
         segments.shrink();
-        if last.as_slice().is_empty() {
-            segments.hand_over(&mut last);
+        if place.last.as_slice().is_empty() {
+            segments.hand_over(&mut place.last);
         }
         if segments.total() == 0 {
-            return Blob { before: None, last };
+            let several = Box::into_inner(place);
+            return Blob {
+                shape: Shape::One(several.last),
+            };
         }
-        *place = segments;
+        place.before = segments;
         Blob {
-            before: Some(place),
-            last,
+            shape: Shape::Several(place),
         }
     }
 
@@ -58,17 +83,19 @@ impl Blob {
             return Err(AllocError);
         };
         let _size = last.as_slice().len();
-        Ok(Blob { before: None, last })
+        Ok(Blob {
+            shape: Shape::One(last),
+        })
     }
 
     /// How many bytes it has.
     pub fn len(&self) -> u64
         ensures { result ≡ length self.now }
     {
-        let last = self.last.as_slice().len() as u64;
-        match &self.before {
-            Some(segments) => segments.total() + last,
-            None => last,
+        match &self.shape {
+            Shape::Nothing => 0,
+            Shape::One(last) => last.as_slice().len() as u64,
+            Shape::Several(parts) => parts.before.total() + parts.last.as_slice().len() as u64,
         }
     }
 
@@ -77,9 +104,10 @@ impl Blob {
     pub fn share(&self, alloc: Global) -> Result<BlobBytes, AllocError>
         ensures { IfOk result (λ bytes. bytes ≡ self.now) }
     {
-        match &self.before {
-            Some(segments) => share_parts(alloc, segments, &self.last),
-            None => share_part(alloc, &self.last),
+        match &self.shape {
+            Shape::Nothing => Ok(BlobBytes::of_parts(Vec::new(alloc))),
+            Shape::One(last) => share_part(alloc, last),
+            Shape::Several(parts) => share_parts(alloc, &parts.before, &parts.last),
         }
     }
 }

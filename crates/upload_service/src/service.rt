@@ -8,10 +8,9 @@ ghost use Rattle.upload_service.specs.Headline.{Headline};
 
 use crate::answer::Answer;
 use crate::ask::Ask;
-use crate::blobs::Blobs;
 use crate::limits::Limits;
-use crate::pairs::Pairs;
 use crate::sessions::Sessions;
+use crate::stock::Stock;
 use crate::turn::{Tables, turn};
 use std::alloc::{AllocError, Global};
 use std::marker::Model;
@@ -61,8 +60,7 @@ impl Service {
             tables: Tables {
                 issued,
                 sessions: Sessions::new(alloc),
-                blobs: Blobs::new(alloc),
-                pairs: Pairs::new(alloc),
+                stock: Stock::new(alloc),
             },
         }
     }
@@ -110,7 +108,7 @@ impl Service {
     pub fn holds(&self, name: &RepoName, digest: &BlobDigest) -> bool
         ensures { result ≡ holds_of self.now name.now digest.now }
     {
-        self.tables.pairs.contains(name, digest)
+        self.tables.stock.contains(name, digest)
     }
 
     /// Serves requests in order, each with a secret and at a moment in seconds: one answer for each. The

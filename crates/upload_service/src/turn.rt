@@ -9,10 +9,9 @@ ghost use Rattle.upload_service.specs.Kept.Tables.{state_of, IsVerdict};
 use crate::answer::{Answer, Refusal};
 use crate::ask::{Ask, Extent};
 use crate::blob::Blob;
-use crate::blobs::Blobs;
 use crate::limits::Limits;
-use crate::pairs::Pairs;
 use crate::sessions::Sessions;
+use crate::stock::Stock;
 use std::alloc::Global;
 use upload_names::{BlobDigest, Bytes, RepoName, UploadRef};
 
@@ -22,8 +21,7 @@ pub struct Tables {
     /// The last number that was given to a session.
     pub issued: u32,
     pub sessions: Sessions,
-    pub blobs: Blobs,
-    pub pairs: Pairs,
+    pub stock: Stock,
 }
 
 /// What a body is judged to be.
@@ -101,7 +99,6 @@ fn chunk(
 
 /// Closes a session: what it received and a last body are stored where they have the digest.
 fn close(
-    alloc: Global,
     limits: Limits,
     tables: &mut Tables,
     name: RepoName,
@@ -130,12 +127,11 @@ fn close(
     if !tables.sessions.has_digest(&at, &digest, &body) {
         return Answer::Refused(Refusal::Mismatch);
     }
-    commit(alloc, tables, name, at, digest, body)
+    commit(tables, name, at, digest, body)
 }
 
 /// Closes an open session, stores what it received and a last body, and notes the pair.
 fn commit(
-    alloc: Global,
     tables: &mut Tables,
     name: RepoName,
     at: UploadRef,
@@ -147,15 +143,9 @@ fn commit(
     ensures { (limits : LimitsOf) (now : ℕ) (session : Session) → map.get tables.old.sessions at ≡ Some session →
         Comes (state_of limits tables.old) now (Commits name at digest (session.received ++ body)) result (state_of limits tables.new) }
 {
-    let Ok(()) = tables.blobs.commit(
-        alloc,
-        &mut tables.pairs,
-        &mut tables.sessions,
-        &name,
-        &at,
-        digest,
-        body,
-    )
+    let Ok(()) = tables
+        .stock
+        .commit(&mut tables.sessions, &name, &at, digest, body)
     else {
         return Answer::NoMemory;
     };
@@ -201,10 +191,10 @@ fn has(
 ) -> Answer
     ensures { (secret : List ℕ) (now : ℕ) → Turn (state_of limits tables.now) (Ask.Has name digest head) secret now result (state_of limits tables.now) }
 {
-    if !tables.pairs.contains(&name, &digest) {
+    if !tables.stock.contains(&name, &digest) {
         return Answer::Refused(Refusal::NoBlob);
     }
-    let Some(blob) = tables.blobs.get(&digest) else {
+    let Some(blob) = tables.stock.get(&digest) else {
         return Answer::Refused(Refusal::NoBlob);
     };
     let size = blob.len();
@@ -250,7 +240,7 @@ fn single(
     let Ok(blob) = Blob::of(alloc, body) else {
         return Answer::NoMemory;
     };
-    let Ok(()) = tables.blobs.store(&mut tables.pairs, &name, digest, blob) else {
+    let Ok(()) = tables.stock.store(&name, digest, blob) else {
         return Answer::NoMemory;
     };
     Answer::Stored { name, digest }
@@ -270,10 +260,10 @@ fn mount(
 ) -> Answer
     ensures { Turn (state_of limits tables.old) (Ask.Mount name digest source) secret now result (state_of limits tables.new) }
 {
-    if !tables.pairs.contains(&source, &digest) {
+    if !tables.stock.contains(&source, &digest) {
         return opening(alloc, limits, tables, name, secret, now);
     }
-    let Ok(()) = tables.pairs.put(&name, digest) else {
+    let Ok(()) = tables.stock.mount(&name, digest) else {
         return Answer::NoMemory;
     };
     Answer::Stored { name, digest }
@@ -315,6 +305,6 @@ pub fn turn(
             range,
             digest,
             body,
-        } => close(alloc, limits, tables, name, at, range, digest, body, now),
+        } => close(limits, tables, name, at, range, digest, body, now),
     }
 }

@@ -1,5 +1,5 @@
 -- What segments stand for: bodies one after another.
-use Rattle.std.specs.Prelude.{ℕ, List, [], ◌∷◌, ◌++◌, Option, Some, None, Box, box_value}
+use Rattle.std.specs.Prelude.{ℕ, List, [], ◌∷◌, ◌++◌}
 
 -- the bytes of all parts
 abbrev pub joined : List (List ℕ) → List ℕ
@@ -19,8 +19,3 @@ pub record Parts : Type 0 where
 -- all their bytes
 abbrev pub whole : Parts → List ℕ
 whole parts = joined parts.settled ++ parts.tail
-
--- the bytes of the segments before a blob's last part, where it has some
-abbrev pub before_last : {Z : Type 0} → Option (Box Parts Z) → List ℕ
-before_last None = []
-before_last (Some segments) = whole (box_value segments)

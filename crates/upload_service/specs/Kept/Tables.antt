@@ -10,7 +10,7 @@ use Rattle.upload_service.specs.declared.turn.Verdict.TheVariants as verdicts
 use Rattle.upload_service.specs.Machine.{State, IsLawful, AreLawful, body_fault}
 
 abbrev pub state_of : Limits → Tables → State
-state_of limits t = record { limits = limits; issued = t.issued; sessions = t.sessions; blobs = t.blobs; pairs = t.pairs }
+state_of limits t = record { limits = limits; issued = t.issued; sessions = t.sessions; blobs = t.stock.blobs; pairs = t.stock.pairs }
 
 -- the answer by which a body is turned away
 abbrev pub turned_away : List ℕ → List ℕ → ℕ → Verdict → Option Answer

@@ -1,7 +1,6 @@
-use Rattle.std.proofs.Common.{◌≡◌, ◌++◌, ◌∷◌, [], ◌≤◌, List, ℕ, length, ap, sym, ◌∙◌, arith, take, get_or}
+use Rattle.std.proofs.Common.{◌≡◌, ◌++◌, ◌∷◌, [], List, ℕ, length, ap, sym, ◌∙◌, arith, take}
 use Rattle.std.proofs.Math.Seq.{take-length}
 use Rattle.std.specs.List.{concat}
-use Rattle.upload_service.specs.Kept.Parts.{joined}
 use Rattle.upload_service.proofs.Parts.{take_next, concat-two}
 use Rattle.upload_service.proofs.blob.share_parts.Goals as goal
 

@@ -11,4 +11,4 @@ returns c = λ limits now session e.
 pub returns-in_default : goal.returns-in_default
 returns-in_default c = λ limits now session e.
     lacks _ now _ (Commits c.args.name c.args.at c.args.digest (session.received ++ c.args.body)) _ _ refl refl refl
-    (λ i. record { limits = limits; issued = c.args.tables.now.issued; sessions = c.in_default.ensures.err.2 i; blobs = c.in_default.ensures.err.0 i; pairs = c.in_default.ensures.err.1 i })
+    (λ i. record { limits = limits; issued = c.args.tables.now.issued; sessions = c.in_default.ensures.err.1 i; blobs = (c.in_default.ensures.err.0 i).blobs; pairs = (c.in_default.ensures.err.0 i).pairs })
