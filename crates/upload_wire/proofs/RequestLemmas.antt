@@ -5,7 +5,6 @@ use Rattle.std.proofs.lemmas.List.{take-append-drop, append-nil, length-map}
 use Rattle.std.proofs.Math.ListN.{drop_of_length-le}
 use Rattle.httparse.specs.Grammar.{RequestHead, print_request}
 use Rattle.httparse.specs.Spans.{span_bytes, header_bytes, name_and_value}
-use Rattle.upload_service.specs.declared.ask.Ask.{Ask}
 use Rattle.upload_service.specs.declared.ask.Extent.{Extent}
 use Rattle.http_wire.specs.RequestFronts.{ReadsHead}
 use Rattle.http_wire.specs.Fields.{head_fields, values_of, keeps_connection}
@@ -22,6 +21,7 @@ use Rattle.http_wire.specs.declared.framing.Framing.{Framing}
 use Rattle.http_wire.specs.declared.fault.Bad.{Bad}
 use Rattle.http_wire.specs.declared.fault.WireFault.{WireFault}
 use Rattle.http_wire.specs.declared.fault.WireFault.TheVariants as Fault
+use Rattle.upload_wire.specs.declared.asks.HeadAsk.{HeadAsk}
 use Rattle.upload_wire.specs.declared.request.Style.{Style}
 use Rattle.upload_wire.specs.declared.request.Next.{Next}
 use Rattle.upload_wire.specs.declared.request.Next.TheVariants.{Request}
@@ -74,7 +74,7 @@ whole_text : (text given more : List ℕ) (n : ℕ) → more ≡ drop n text ++ 
 whole_text text given more n same =
     ap (λ t. t ++ given) (sym (take-append-drop n text)) ∙ append_assoc (take n text) (drop n text) given ∙ ap (λ t. take n text ++ t) (sym same)
 
-asks_same : (text body : List ℕ) (p : ParsedRequest) (ask : Ask) (style : Style) (f : IsHeadAtFront text p)
+asks_same : (text body : List ℕ) (p : ParsedRequest) (ask : HeadAsk) (style : Style) (f : IsHeadAtFront text p)
     → Describes (take p.spans.len text) p ask style → AsksWhole (the_head f) body (with_body ask body)
 asks_same text body p ask style f d =
     let h = the_head f in
@@ -87,7 +87,7 @@ asks_same text body p ask style f d =
     subst (λ t. Asks (span_bytes front p.spans.method) t (head_range h) ask) f.head.1.1.path by_range in
     (ask, subst (λ m. Asks m h.target (head_range h) ask) f.head.1.1.method by_target, refl)
 
-style_same : (text : List ℕ) (p : ParsedRequest) (ask : Ask) (style : Style) (f : IsHeadAtFront text p)
+style_same : (text : List ℕ) (p : ParsedRequest) (ask : HeadAsk) (style : Style) (f : IsHeadAtFront text p)
     → Describes (take p.spans.len text) p ask style → style ≡ style_of (the_head f)
 style_same text p ask style f d =
     let h = the_head f in
@@ -97,7 +97,7 @@ style_same text p ask style f d =
     ∙ ap (keeps_connection h.minor) (fields_same text p f) in
     (λ i. record { head = is_head i; keep = keeps i })
 
-pub request_next : (max : ℕ) (old new : Option (List ℕ)) (held rest body : List ℕ) (p : ParsedRequest) (framing : Framing) (ask : Ask) (style : Style)
+pub request_next : (max : ℕ) (old new : Option (List ℕ)) (held rest body : List ℕ) (p : ParsedRequest) (framing : Framing) (ask : HeadAsk) (style : Style)
     (f : IsHeadAtFront held p) → Ok framing ≡ framing_of max p.spans.version (fields_of (take p.spans.len held) p)
     → Describes (take p.spans.len held) p ask style → TakesBody max framing old (drop p.spans.len held) new rest body
     → ReadsNext max held old rest new (Ok (Request (with_body ask body) style))
@@ -192,7 +192,7 @@ reads_after max held text rest old mid new r gave next = record {
   found = subst (λ t. FindsNext max t rest new r) (ap (λ t. t ++ next.given) gave.2 ∙ append_assoc held gave.0 next.given) next.found;
 }
 
-pub described : (front : List ℕ) (p : ParsedRequest) (ask : Ask) (style : Style) (method target : List ℕ) (range : Extent)
+pub described : (front : List ℕ) (p : ParsedRequest) (ask : HeadAsk) (style : Style) (method target : List ℕ) (range : Extent)
     → method ≡ span_bytes front p.spans.method → target ≡ span_bytes front p.spans.path
     → range ≡ extent_of (values_of (codes "content-range") (fields_of front p)) → Asks method target range ask
     → style.head ≡ bytes_eq method (codes "HEAD") → style.keep ≡ keeps_connection p.spans.version (fields_of front p)

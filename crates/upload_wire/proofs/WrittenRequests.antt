@@ -26,7 +26,7 @@ use Rattle.upload_wire.specs.Query.{parameter}
 use Rattle.http_wire.specs.Fields.{values_of, keeps_connection, head_fields}
 use Rattle.http_wire.specs.Body.{framing_of}
 use Rattle.upload_wire.specs.RequestText.{IsRequest}
-use Rattle.upload_wire.specs.Target.{IsFormOf, ask_of_form, with_body, extent_of, upload_path, Asks}
+use Rattle.upload_wire.specs.Target.{IsFormOf, ask_of_form, with_body, extent_of, method_of, upload_path, Asks}
 use Rattle.upload_wire.specs.AskText.{Message, message_of, print_message, target_of, query_text, is_host, look_method, digest_query, digest_or_nothing, IsAbsentOrGiven, CanBeWritten, ask_text}
 use Rattle.upload_wire.specs.WrittenAsks.{AsksAreReadBack, HasLawfulParts, HasSpan, IsReference, body_text, written_style}
 use Rattle.upload_wire.proofs.PlainTexts.{IsPlain, IsParameters, IsTarget, is_plain_byte, AllPass-nil, HasNoSlash-tail, name_plain, digest_tail, digest_plain, reference_tail, blob_plain, uploads_plain, upload_plain, line_bytes, ascii_bytes}
@@ -50,7 +50,7 @@ target_short m host h =
 
 -- what is asked of the form, with these fields and this body
 abbrev asked : Message → PathForm → Extent → Ask
-asked m form range = with_body (ask_of_form form (record { method = m.method; query = unwrap_or m.query []; range = range })) m.body
+asked m form range = with_body (ask_of_form form (method_of m.method) (unwrap_or m.query []) range) m.body
 
 -- the parts of a message are read as an ask
 record ReadsAs (max_body : ℕ) (m : Message) (host : List ℕ) (range : Extent) (form : PathForm) (ask : Ask) : Type 0 where
@@ -85,7 +85,7 @@ read_as {max_body} {m} {host} {range} {form} h short =
     let s = spelled m.path m.query h.path h.slash h.query (target_short m host short) in
     let ranged : extent_of (values_of (codes "content-range") (head_fields (head_of m host))) ≡ range =
     ap (λ f. extent_of (values_of (codes "content-range") f)) kept ∙ h.fields.range_is in
-    let bare = ask_of_form form (record { method = m.method; query = unwrap_or m.query []; range = range }) in
+    let bare = ask_of_form form (method_of m.method) (unwrap_or m.query []) range in
     let asks : Asks m.method (target_of m) range bare =
     inr (s.uri, s.spells, (form, rw s.path_is h.form_is, rw s.query_is refl)) in
     record {

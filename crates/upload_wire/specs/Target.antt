@@ -1,6 +1,6 @@
 -- What a request asks (OCI Distribution Specification 1.1, section Endpoints): the forms of a path, and the
 -- ask of each form, method, query and Content-Range.
-use Rattle.std.specs.Prelude.{◌≡◌, ◌≢◌, ℕ, ◌<◌, ◌⊎◌, Bool, ◌||◌, ◌==◌, List, [], ◌∷◌, ◌++◌, length, codes, bytes_eq, slice_index, Option, Some, None, option_and_then, unwrap_or, if◌then◌else◌}
+use Rattle.std.specs.Prelude.{◌≡◌, ◌≢◌, ℕ, ◌<◌, ◌⊎◌, Bool, true, false, ◌==◌, List, [], ◌∷◌, ◌++◌, length, codes, bytes_eq, slice_index, Option, Some, None, option_and_then, unwrap_or, if◌then◌else◌}
 use Rattle.httparse.specs.Grammar.{RequestHead}
 use Rattle.http_uri.specs.declared.uri.Uri.{Uri}
 use Rattle.http_uri.specs.Uri.{Spells, SpellsNone, uri_path, uri_query}
@@ -12,10 +12,16 @@ use Rattle.upload_service.specs.declared.ask.Ask.{Ask}
 use Rattle.upload_service.specs.declared.ask.Ask.TheVariants.{Base, Has, Opening, Single, Mount, Chunk, Status, Close, Refused}
 use Rattle.upload_service.specs.declared.ask.Extent.{Extent}
 use Rattle.upload_service.specs.declared.ask.Extent.TheVariants.{Absent, Bad, Given}
-use Rattle.upload_service.specs.declared.answer.Refusal.TheVariants as Refusal
+use Rattle.upload_service.specs.declared.answer.Refusal.{Refusal}
+use Rattle.upload_service.specs.declared.answer.Refusal.TheVariants as refusals
 use Rattle.upload_service.specs.declared.answer.Form.TheVariants as Form
 use Rattle.http_wire.specs.Fields.{head_fields, values_of}
 use Rattle.upload_wire.specs.Query.{parameter}
+use Rattle.upload_wire.specs.declared.asks.Method.{Method}
+use Rattle.upload_wire.specs.declared.asks.Method.TheVariants.{Get, Head, Post, Patch, Put, Other}
+use Rattle.upload_wire.specs.declared.asks.HeadAsk.{HeadAsk}
+use Rattle.upload_wire.specs.declared.asks.HeadAsk.TheVariants.{Ready, IfBodiless}
+use Rattle.upload_wire.specs.declared.asks.HeadAsk.TheVariants as heads
 use Rattle.upload_wire.specs.declared.target.PathForm.{PathForm}
 use Rattle.upload_wire.specs.declared.target.PathForm.TheVariants as Path
 
@@ -45,100 +51,90 @@ IsFormOf path Path.NoForm =
     × ((name tail : List ℕ) → HasNoSlash tail → path ≢ blob_path name tail)
     × ((name tail : List ℕ) → HasNoSlash tail → path ≢ upload_path name tail)
 
--- ---- asks
+-- ---- asks: what a head asks is a `HeadAsk`, and `with_body` makes it an ask
 
--- what an ask is made of, beside the path and the body
-pub record Parts : Type 0 where
-  pub method : List ℕ
-  pub query : List ℕ
-  pub range : Extent
-
--- the method, exactly
-abbrev pub is_method : List ℕ → Parts → Bool
-is_method name p = bytes_eq p.method name
-
-abbrev pub is_get_or_head : Parts → Bool
-is_get_or_head p = is_method (codes "GET") p || is_method (codes "HEAD") p
-
-abbrev pub is_upload_method : Parts → Bool
-is_upload_method p = is_get_or_head p || (is_method (codes "PATCH") p || is_method (codes "PUT") p)
+-- the method that a text is, exactly
+abbrev pub method_of : List ℕ → Method
+method_of text =
+    if bytes_eq text (codes "GET") then Get
+    else (if bytes_eq text (codes "HEAD") then Head
+    else (if bytes_eq text (codes "POST") then Post
+    else (if bytes_eq text (codes "PATCH") then Patch
+    else (if bytes_eq text (codes "PUT") then Put else Other))))
 
 -- the name that a text is
 abbrev pub named : List ℕ → Option (List ℕ)
 named text = if is_name text then Some text else None
 
+-- a refusal, whatever the body
+abbrev pub refused : Refusal → HeadAsk
+refused refusal = Ready (Refused refusal)
+
 -- GET and HEAD of the base path
-abbrev pub base_ask : Parts → Ask
-base_ask p = if is_get_or_head p then Base else Refused (Refusal.Method Form.Base)
+abbrev pub base_ask : Method → HeadAsk
+base_ask Get = Ready Base
+base_ask Head = Ready Base
+base_ask method = refused (refusals.Method Form.Base)
 
 -- GET and HEAD of a blob
-abbrev pub has_ask : List ℕ → Bool → Option Digest → Ask
-has_ask name head None = Refused Refusal.BadDigest
-has_ask name head (Some digest) = Has name digest head
+abbrev pub has_ask : List ℕ → Bool → Option Digest → HeadAsk
+has_ask name head None = refused refusals.BadDigest
+has_ask name head (Some digest) = Ready (Has name digest head)
 
-abbrev pub blob_ask : Option (List ℕ) → List ℕ → Parts → Ask
-blob_ask None tail p = Refused Refusal.BadName
-blob_ask (Some name) tail p =
-    if is_get_or_head p then has_ask name (is_method (codes "HEAD") p) (digest_of tail) else Refused (Refusal.Method Form.Blob)
+abbrev pub blob_ask : Option (List ℕ) → List ℕ → Method → HeadAsk
+blob_ask None tail method = refused refusals.BadName
+blob_ask (Some name) tail Get = has_ask name false (digest_of tail)
+blob_ask (Some name) tail Head = has_ask name true (digest_of tail)
+blob_ask (Some name) tail method = refused (refusals.Method Form.Blob)
 
 -- a mount needs its digest and its source, and is an opening without them
-abbrev pub mount_ask : List ℕ → Option Digest → Option (List ℕ) → Ask
-mount_ask name None source = Opening name
-mount_ask name (Some digest) None = Opening name
-mount_ask name (Some digest) (Some source) = Mount name digest source
+abbrev pub mount_ask : List ℕ → Option Digest → Option (List ℕ) → HeadAsk
+mount_ask name None source = IfBodiless (Opening name)
+mount_ask name (Some digest) None = IfBodiless (Opening name)
+mount_ask name (Some digest) (Some source) = IfBodiless (Mount name digest source)
 
 -- POST without `mount`: with `digest`, and without
-abbrev pub single_ask : List ℕ → Option (List ℕ) → Ask
-single_ask name None = Opening name
-single_ask name (Some digest) = Single name (digest_of digest) []
+abbrev pub single_ask : List ℕ → Option (List ℕ) → HeadAsk
+single_ask name None = IfBodiless (Opening name)
+single_ask name (Some digest) = heads.Single name (digest_of digest)
 
 -- POST with `mount`, and without
-abbrev pub post_ask : List ℕ → List ℕ → Option (List ℕ) → Ask
+abbrev pub post_ask : List ℕ → List ℕ → Option (List ℕ) → HeadAsk
 post_ask name query None = single_ask name (parameter (codes "digest") query)
 post_ask name query (Some mount) = mount_ask name (digest_of mount) (option_and_then named (parameter (codes "from") query))
 
-abbrev pub uploads_ask : Option (List ℕ) → Parts → Ask
-uploads_ask None p = Refused Refusal.BadName
-uploads_ask (Some name) p =
-    if is_method (codes "POST") p then post_ask name p.query (parameter (codes "mount") p.query)
-    else Refused (Refusal.Method Form.Uploads)
+abbrev pub uploads_ask : Option (List ℕ) → Method → List ℕ → HeadAsk
+uploads_ask None method query = refused refusals.BadName
+uploads_ask (Some name) Post query = post_ask name query (parameter (codes "mount") query)
+uploads_ask (Some name) method query = refused (refusals.Method Form.Uploads)
 
 -- GET, HEAD, PATCH and PUT of an upload
-abbrev pub session_ask : List ℕ → Parts → Option (List ℕ) → Ask
-session_ask name p None = Refused Refusal.NoUpload
-session_ask name p (Some at) =
-    if is_get_or_head p then Status name at
-    else (if is_method (codes "PATCH") p then Chunk name at p.range []
-    else Close name at p.range (option_and_then digest_of (parameter (codes "digest") p.query)) [])
+abbrev pub upload_ask : Option (List ℕ) → Option (List ℕ) → Method → List ℕ → Extent → HeadAsk
+upload_ask None at method query range = refused refusals.BadName
+upload_ask (Some name) at Post query range = refused (refusals.Method Form.Upload)
+upload_ask (Some name) at Other query range = refused (refusals.Method Form.Upload)
+upload_ask (Some name) None method query range = refused refusals.NoUpload
+upload_ask (Some name) (Some at) Get query range = Ready (Status name at)
+upload_ask (Some name) (Some at) Head query range = Ready (Status name at)
+upload_ask (Some name) (Some at) Patch query range = heads.Chunk name at range
+upload_ask (Some name) (Some at) Put query range =
+    heads.Close name at range (option_and_then digest_of (parameter (codes "digest") query))
 
-abbrev pub upload_ask : Option (List ℕ) → List ℕ → Parts → Ask
-upload_ask None tail p = Refused Refusal.BadName
-upload_ask (Some name) tail p =
-    if is_upload_method p then session_ask name p (reference_of tail) else Refused (Refusal.Method Form.Upload)
-
--- the ask of each form, with no body yet
-abbrev pub ask_of_form : PathForm → Parts → Ask
-ask_of_form Path.Base p = base_ask p
-ask_of_form (Path.Blob name tail) p = blob_ask (named name.now) tail.now p
-ask_of_form (Path.Uploads name) p = uploads_ask (named name.now) p
-ask_of_form (Path.Upload name tail) p = upload_ask (named name.now) tail.now p
-ask_of_form Path.NoForm p = Refused Refusal.NoForm
-
--- the ask, for a request without a body
-abbrev pub if_bodiless : List ℕ → Ask → Ask
-if_bodiless body ask = if length body == 0 then ask else Refused Refusal.HasBody
+-- what each form asks, by the method, the query and the range
+abbrev pub ask_of_form : PathForm → Method → List ℕ → Extent → HeadAsk
+ask_of_form Path.Base method query range = base_ask method
+ask_of_form (Path.Blob name tail) method query range = blob_ask (named name.now) tail.now method
+ask_of_form (Path.Uploads name) method query range = uploads_ask (named name.now) method query
+ask_of_form (Path.Upload name tail) method query range = upload_ask (named name.now) (reference_of tail.now) method query range
+ask_of_form Path.NoForm method query range = refused refusals.NoForm
 
 -- The ask with its body: an opening and a mount have none, and an ask that carries none drops it.
-abbrev pub with_body : Ask → List ℕ → Ask
-with_body Base body = Base
-with_body (Has name digest head) body = Has name digest head
-with_body (Opening name) body = if_bodiless body (Opening name)
-with_body (Single name digest none) body = Single name digest body
-with_body (Mount name digest source) body = if_bodiless body (Mount name digest source)
-with_body (Chunk name at range none) body = Chunk name at range body
-with_body (Status name at) body = Status name at
-with_body (Close name at range digest none) body = Close name at range digest body
-with_body (Refused refusal) body = Refused refusal
+abbrev pub with_body : HeadAsk → List ℕ → Ask
+with_body (Ready ask) body = ask
+with_body (IfBodiless ask) body = if length body == 0 then ask else Refused refusals.HasBody
+with_body (heads.Single name digest) body = Single name digest body
+with_body (heads.Chunk name at range) body = Chunk name at range body
+with_body (heads.Close name at range digest) body = Close name at range digest body
 
 -- ---- heads
 
@@ -156,18 +152,16 @@ extent_of (value ∷ other ∷ values) = Bad
 abbrev pub head_range : RequestHead → Extent
 head_range head = extent_of (values_of (codes "content-range") (head_fields head))
 
--- what is asked at a URI, with no body yet
-abbrev pub AsksAt : List ℕ → List ℕ → Option (List ℕ) → Extent → Ask → Type 0
-AsksAt method path query range ask =
-    (form : PathForm) × IsFormOf path form
-    × (ask ≡ ask_of_form form (record { method = method; query = unwrap_or query []; range = range }))
+-- what is asked at a path
+abbrev pub AsksAt : List ℕ → Method → List ℕ → Extent → HeadAsk → Type 0
+AsksAt path method query range asked = (form : PathForm) × IsFormOf path form × (asked ≡ ask_of_form form method query range)
 
--- What is asked, with no body yet, by the method, the target and the range. A target that spells no URI has no form.
-abbrev pub Asks : List ℕ → List ℕ → Extent → Ask → Type 0
-Asks method target range ask =
-    (SpellsNone target × (ask ≡ Refused Refusal.NoForm))
-    ⊎ ((uri : Uri) × Spells target uri × AsksAt method (uri_path uri) (uri_query uri) range ask)
+-- What a head asks, by the method, the target and the range. A target that spells no URI has no form.
+abbrev pub Asks : List ℕ → List ℕ → Extent → HeadAsk → Type 0
+Asks method target range asked =
+    (SpellsNone target × (asked ≡ refused refusals.NoForm))
+    ⊎ ((uri : Uri) × Spells target uri × AsksAt (uri_path uri) (method_of method) (unwrap_or (uri_query uri) []) range asked)
 
 -- what a head and a body ask
 abbrev pub AsksWhole : RequestHead → List ℕ → Ask → Type 0
-AsksWhole head body ask = (bare : Ask) × Asks head.method head.target (head_range head) bare × (ask ≡ with_body bare body)
+AsksWhole head body ask = (asked : HeadAsk) × Asks head.method head.target (head_range head) asked × (ask ≡ with_body asked body)

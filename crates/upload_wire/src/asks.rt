@@ -1,9 +1,9 @@
-//! What a request asks, by its path, method, query and range.
-ghost use Rattle.std.specs.Prelude.{◌≡◌, [], IfOk, option_and_then, unwrap_or, codes, bytes_eq, ◌||◌, option_copied};
+//! What a request asks, by its path, method, query and range, and then by its body.
+ghost use Rattle.std.specs.Prelude.{◌≡◌, IfOk, option_and_then, codes};
 ghost use Rattle.upload_names.specs.Digest.{digest_of};
 ghost use Rattle.upload_names.specs.Reference.{reference_of};
 ghost use Rattle.upload_wire.specs.Query.{parameter};
-ghost use Rattle.upload_wire.specs.Target.{Parts, named, base_ask, blob_ask, mount_ask, single_ask, post_ask, uploads_ask, session_ask, upload_ask, if_bodiless, with_body, AsksAt, Asks};
+ghost use Rattle.upload_wire.specs.Target.{method_of, named, base_ask, blob_ask, mount_ask, uploads_ask, upload_ask, with_body, AsksAt, Asks};
 
 use crate::query::parameter;
 use crate::target::{PathForm, form_of};
@@ -12,6 +12,79 @@ use http_wire::Framing;
 use std::alloc::{AllocError, Global};
 use upload_names::{Algorithm, BlobDigest, Bytes, NameFault, RepoName, UploadRef};
 use upload_service::{Ask, Extent, Form, Refusal};
+
+/// The methods that requests of the service have.
+#[derive(Clone, Copy)]
+pub enum Method {
+    Get,
+    Head,
+    Post,
+    Patch,
+    Put,
+    /// None of these.
+    Other,
+}
+
+/// What a head asks. With its body it is an ask.
+#[derive(Drop)]
+pub enum HeadAsk {
+    /// This, whatever the body: it is dropped.
+    Ready(Ask),
+    /// This, where the body is empty.
+    IfBodiless(Ask),
+    /// POST of a whole blob, which is the body.
+    Single {
+        name: RepoName,
+        digest: Option<BlobDigest>,
+    },
+    /// PATCH that sends a session the body.
+    Chunk {
+        name: RepoName,
+        at: UploadRef,
+        range: Extent,
+    },
+    /// PUT that closes a session behind the body.
+    Close {
+        name: RepoName,
+        at: UploadRef,
+        range: Extent,
+        digest: Option<BlobDigest>,
+    },
+}
+
+/// What a head says beside its path: its method, its query, and the range of its body.
+#[derive(Clone, Copy)]
+struct Parts<'h> {
+    method: Method,
+    query: &'h [u8],
+    range: Extent,
+}
+
+/// The method that a text is, exactly.
+fn method_of(text: &[u8]) -> Method
+    ensures { result ≡ method_of text.now }
+{
+    if text == b"GET".as_slice() {
+        Method::Get
+    } else if text == b"HEAD".as_slice() {
+        Method::Head
+    } else if text == b"POST".as_slice() {
+        Method::Post
+    } else if text == b"PATCH".as_slice() {
+        Method::Patch
+    } else if text == b"PUT".as_slice() {
+        Method::Put
+    } else {
+        Method::Other
+    }
+}
+
+/// A request that isn't let through to the service.
+fn refused(refusal: Refusal) -> HeadAsk
+    ensures { result ≡ HeadAsk.Ready (Ask.Refused refusal) }
+{
+    HeadAsk::Ready(Ask::Refused(refusal))
+}
 
 /// The name that a text is, if it is one.
 fn name_of(alloc: Global, text: &[u8]) -> Result<Option<RepoName>, AllocError>
@@ -25,57 +98,31 @@ fn name_of(alloc: Global, text: &[u8]) -> Result<Option<RepoName>, AllocError>
     }
 }
 
-fn is_get_or_head(method: &[u8]) -> bool
-    ensures { result ≡ (bytes_eq method.now (codes "GET") || bytes_eq method.now (codes "HEAD")) }
-{
-    method == b"GET".as_slice() || method == b"HEAD".as_slice()
-}
-
 /// GET and HEAD of the base path.
-fn base_ask(method: &[u8]) -> Ask
-    ensures { (p : Parts) → p.method ≡ method.now → result ≡ base_ask p }
+fn base_ask(method: Method) -> HeadAsk
+    ensures { result ≡ base_ask method }
 {
-    if is_get_or_head(method) {
-        Ask::Base
-    } else {
-        Ask::Refused(Refusal::Method(Form::Base))
+    match method {
+        Method::Get | Method::Head => HeadAsk::Ready(Ask::Base),
+        _ => refused(Refusal::Method(Form::Base)),
     }
 }
 
 /// GET and HEAD of a blob.
-fn blob_ask(alloc: Global, method: &[u8], name: &[u8], tail: &[u8]) -> Result<Ask, AllocError>
-    ensures { IfOk result (λ ask. (p : Parts) → p.method ≡ method.now → ask ≡ blob_ask (named name.now) tail.now p) }
+fn blob_ask(alloc: Global, method: Method, name: &[u8], tail: &[u8]) -> Result<HeadAsk, AllocError>
+    ensures { IfOk result (λ ask. ask ≡ blob_ask (named name.now) tail.now method) }
 {
     let Some(name) = name_of(alloc, name)? else {
-        return Ok(Ask::Refused(Refusal::BadName));
+        return Ok(refused(Refusal::BadName));
     };
-    if !is_get_or_head(method) {
-        return Ok(Ask::Refused(Refusal::Method(Form::Blob)));
-    }
-    let head = method == b"HEAD".as_slice();
+    let head = match method {
+        Method::Get => false,
+        Method::Head => true,
+        _ => return Ok(refused(Refusal::Method(Form::Blob))),
+    };
     match BlobDigest::read(tail) {
-        Some(digest) => Ok(Ask::Has { name, digest, head }),
-        None => Ok(Ask::Refused(Refusal::BadDigest)),
-    }
-}
-
-/// The digest that a parameter of a query names, if it names one.
-fn digest_named(alloc: Global, query: &[u8]) -> Result<Option<BlobDigest>, AllocError>
-    ensures { IfOk result (λ o. o ≡ option_and_then digest_of (parameter (codes "digest") query.now)) }
-{
-    match parameter(alloc, query, "digest")? {
-        Some(text) => Ok(BlobDigest::read(text.as_str().as_bytes())),
-        None => Ok(None),
-    }
-}
-
-/// The repository that a mount is from, if it is named.
-fn source_named(alloc: Global, query: &[u8]) -> Result<Option<RepoName>, AllocError>
-    ensures { IfOk result (λ o. o ≡ option_and_then named (parameter (codes "from") query.now)) }
-{
-    match parameter(alloc, query, "from")? {
-        Some(text) => name_of(alloc, text.as_str().as_bytes()),
-        None => Ok(None),
+        Some(digest) => Ok(HeadAsk::Ready(Ask::Has { name, digest, head })),
+        None => Ok(refused(Refusal::BadDigest)),
     }
 }
 
@@ -85,195 +132,173 @@ fn mount_ask(
     name: RepoName,
     digest: Option<BlobDigest>,
     query: &[u8],
-) -> Result<Ask, AllocError>
+) -> Result<HeadAsk, AllocError>
     ensures { IfOk result (λ ask. ask ≡ mount_ask name digest (option_and_then named (parameter (codes "from") query.now))) }
 {
-    let Some(digest) = digest else {
-        return Ok(Ask::Opening { name });
+    let source = match parameter(alloc, query, "from")? {
+        Some(text) => name_of(alloc, text.as_str().as_bytes())?,
+        None => None,
     };
-    match source_named(alloc, query)? {
-        Some(source) => Ok(Ask::Mount {
+    Ok(HeadAsk::IfBodiless(match (digest, source) {
+        (Some(digest), Some(source)) => Ask::Mount {
             name,
             digest,
             source,
-        }),
-        None => Ok(Ask::Opening { name }),
-    }
+        },
+        _ => Ask::Opening { name },
+    }))
 }
 
-/// A whole blob where the query has its digest, and else an opening.
-fn single_ask(alloc: Global, name: RepoName, query: &[u8]) -> Result<Ask, AllocError>
-    ensures { IfOk result (λ ask. ask ≡ single_ask name (parameter (codes "digest") query.now)) }
-{
-    match parameter(alloc, query, "digest")? {
-        Some(text) => Ok(Ask::Single {
-            name,
-            digest: BlobDigest::read(text.as_str().as_bytes()),
-            body: Bytes::of(Vec::new(alloc)),
-        }),
-        None => Ok(Ask::Opening { name }),
-    }
-}
-
-/// POST to a repository's uploads.
-fn post_ask(alloc: Global, name: RepoName, query: &[u8]) -> Result<Ask, AllocError>
-    ensures { IfOk result (λ ask. ask ≡ post_ask name query.now (parameter (codes "mount") query.now)) }
-{
-    match parameter(alloc, query, "mount")? {
-        Some(text) => {
-            let digest = BlobDigest::read(text.as_str().as_bytes());
-            mount_ask(alloc, name, digest, query)
-        }
-        None => single_ask(alloc, name, query),
-    }
-}
-
-/// A request for a repository's uploads.
-fn uploads_ask(alloc: Global, method: &[u8], name: &[u8], query: &[u8]) -> Result<Ask, AllocError>
-    ensures { IfOk result (λ ask. (p : Parts) → p.method ≡ method.now → p.query ≡ query.now → ask ≡ uploads_ask (named name.now) p) }
+/// POST to a repository's uploads: a mount, a whole blob where the query has its digest, and else an opening.
+fn uploads_ask(alloc: Global, name: &[u8], parts: &Parts<'_>) -> Result<HeadAsk, AllocError>
+    ensures { IfOk result (λ ask. ask ≡ uploads_ask (named name.now) parts.now.method parts.now.query.now) }
 {
     let Some(name) = name_of(alloc, name)? else {
-        return Ok(Ask::Refused(Refusal::BadName));
+        return Ok(refused(Refusal::BadName));
     };
-    if method != b"POST".as_slice() {
-        return Ok(Ask::Refused(Refusal::Method(Form::Uploads)));
+    let Method::Post = parts.method else {
+        return Ok(refused(Refusal::Method(Form::Uploads)));
+    };
+    if let Some(text) = parameter(alloc, parts.query, "mount")? {
+        let digest = BlobDigest::read(text.as_str().as_bytes());
+        return mount_ask(alloc, name, digest, parts.query);
     }
-    post_ask(alloc, name, query)
+    match parameter(alloc, parts.query, "digest")? {
+        Some(text) => Ok(HeadAsk::Single {
+            name,
+            digest: BlobDigest::read(text.as_str().as_bytes()),
+        }),
+        None => Ok(HeadAsk::IfBodiless(Ask::Opening { name })),
+    }
+}
+
+/// The digest that a close names, if it names one.
+fn digest_named(alloc: Global, query: &[u8]) -> Result<Option<BlobDigest>, AllocError>
+    ensures { IfOk result (λ o. o ≡ option_and_then digest_of (parameter (codes "digest") query.now)) }
+{
+    match parameter(alloc, query, "digest")? {
+        Some(text) => Ok(BlobDigest::read(text.as_str().as_bytes())),
+        None => Ok(None),
+    }
 }
 
 /// GET, HEAD, PATCH and PUT of an upload.
-fn session_ask(
+fn upload_ask(
     alloc: Global,
-    method: &[u8],
-    name: RepoName,
+    name: &[u8],
     tail: &[u8],
-    query: &[u8],
-    range: Extent,
-) -> Result<Ask, AllocError>
-    ensures { IfOk result (λ ask. (p : Parts) → p.method ≡ method.now → p.query ≡ query.now → p.range ≡ range
-        → ask ≡ session_ask name p (reference_of tail.now)) }
+    parts: &Parts<'_>,
+) -> Result<HeadAsk, AllocError>
+    ensures { IfOk result (λ ask. ask ≡ upload_ask (named name.now) (reference_of tail.now) parts.now.method parts.now.query.now
+        parts.now.range) }
 {
-    let Some(at) = UploadRef::read(tail) else {
-        return Ok(Ask::Refused(Refusal::NoUpload));
+    let Some(name) = name_of(alloc, name)? else {
+        return Ok(refused(Refusal::BadName));
     };
-    if is_get_or_head(method) {
-        return Ok(Ask::Status { name, at });
-    }
-    let body = Bytes::of(Vec::new(alloc));
-    if method == b"PATCH".as_slice() {
-        return Ok(Ask::Chunk {
+    let range = parts.range;
+    match (parts.method, UploadRef::read(tail)) {
+        (Method::Post | Method::Other, _) => Ok(refused(Refusal::Method(Form::Upload))),
+        (_, None) => Ok(refused(Refusal::NoUpload)),
+        (Method::Get | Method::Head, Some(at)) => Ok(HeadAsk::Ready(Ask::Status { name, at })),
+        (Method::Patch, Some(at)) => Ok(HeadAsk::Chunk { name, at, range }),
+        (Method::Put, Some(at)) => Ok(HeadAsk::Close {
             name,
             at,
             range,
-            body,
-        });
-    }
-    let digest = digest_named(alloc, query)?;
-    Ok(Ask::Close {
-        name,
-        at,
-        range,
-        digest,
-        body,
-    })
-}
-
-/// A request for an upload.
-fn upload_ask(
-    alloc: Global,
-    method: &[u8],
-    name: &[u8],
-    tail: &[u8],
-    query: &[u8],
-    range: Extent,
-) -> Result<Ask, AllocError>
-    ensures { IfOk result (λ ask. (p : Parts) → p.method ≡ method.now → p.query ≡ query.now → p.range ≡ range
-        → ask ≡ upload_ask (named name.now) tail.now p) }
-{
-    let Some(name) = name_of(alloc, name)? else {
-        return Ok(Ask::Refused(Refusal::BadName));
-    };
-    if is_get_or_head(method) || method == b"PATCH".as_slice() || method == b"PUT".as_slice() {
-        session_ask(alloc, method, name, tail, query, range)
-    } else {
-        Ok(Ask::Refused(Refusal::Method(Form::Upload)))
+            digest: digest_named(alloc, parts.query)?,
+        }),
     }
 }
 
-/// The query as bytes; none is an empty one.
-fn query_bytes<'q>(query: Option<&'q str>) -> &'q [u8]
-    ensures { result.now ≡ unwrap_or (option_copied query.entry) [] }
+/// What a request for this path asks.
+fn ask_at(alloc: Global, path: &[u8], parts: &Parts<'_>) -> Result<HeadAsk, AllocError>
+    ensures { IfOk result (AsksAt path.now parts.now.method parts.now.query.now parts.now.range) }
 {
-    match query {
-        Some(query) => query.as_bytes(),
-        None => b"".as_slice(),
-    }
-}
-
-/// What a request for this path asks, with no body yet.
-fn ask_at(
-    alloc: Global,
-    method: &[u8],
-    path: &[u8],
-    query: Option<&str>,
-    range: Extent,
-) -> Result<Ask, AllocError>
-    ensures { IfOk result (AsksAt method.now path.now (option_copied query.entry) range) }
-{
-    let query = query_bytes(query);
     match form_of(path) {
-        PathForm::Base => Ok(base_ask(method)),
-        PathForm::Blob(name, tail) => blob_ask(alloc, method, name, tail),
-        PathForm::Uploads(name) => uploads_ask(alloc, method, name, query),
-        PathForm::Upload(name, tail) => upload_ask(alloc, method, name, tail, query, range),
-        PathForm::NoForm => Ok(Ask::Refused(Refusal::NoForm)),
+        PathForm::Base => Ok(base_ask(parts.method)),
+        PathForm::Blob(name, tail) => blob_ask(alloc, parts.method, name, tail),
+        PathForm::Uploads(name) => uploads_ask(alloc, name, parts),
+        PathForm::Upload(name, tail) => upload_ask(alloc, name, tail, parts),
+        PathForm::NoForm => Ok(refused(Refusal::NoForm)),
     }
 }
 
-/// What a request asks, with no body yet.
-pub fn ask_of(alloc: Global, method: &[u8], target: &[u8], range: Extent) -> Result<Ask, AllocError>
+/// What a head asks.
+pub fn ask_of(
+    alloc: Global,
+    method: &[u8],
+    target: &[u8],
+    range: Extent,
+) -> Result<HeadAsk, AllocError>
     ensures { IfOk result (Asks method.now target.now range) }
 {
     match Uri::from_bytes(alloc, target) {
-        Ok(uri) => ask_at(alloc, method, uri.path().as_bytes(), uri.query(), range),
-        Err(UriError::Invalid(_)) => Ok(Ask::Refused(Refusal::NoForm)),
+        Ok(uri) => {
+            let parts = Parts {
+                method: method_of(method),
+                query: uri.query().unwrap_or("").as_bytes(),
+                range,
+            };
+            ask_at(alloc, uri.path().as_bytes(), &parts)
+        }
+        Err(UriError::Invalid(_)) => Ok(refused(Refusal::NoForm)),
         Err(UriError::OutOfMemory) => Err(AllocError),
     }
 }
 
-/// The ask, where the body is empty.
-fn if_bodiless(ask: Ask, body: &[u8]) -> Ask
-    ensures { result ≡ if_bodiless body.now ask }
-{
-    if body.is_empty() {
-        ask
-    } else {
-        Ask::Refused(Refusal::HasBody)
-    }
-}
-
-/// By what the body of an ask is hashed as it comes: where it is large, and the service may want the hash of just its
-/// bytes. A small body, and one that comes behind others, the service hashes with what is around it. What a chunk will
-/// be asked for, its close says; most say SHA-256.
-pub fn hash_wanted(ask: &Ask, framing: Framing) -> Option<Algorithm> {
-    if let Framing::Length(length) = framing {
-        if length <= 65_536 {
-            return None;
+impl HeadAsk {
+    /// The ask with its body. One that carries none drops it, and an opening and a mount refuse it.
+    pub fn with_body(self, body: Bytes) -> Ask
+        ensures { result ≡ with_body self body }
+    {
+        match self {
+            HeadAsk::Ready(ask) => ask,
+            HeadAsk::IfBodiless(ask) => {
+                if body.as_slice().is_empty() {
+                    ask
+                } else {
+                    Ask::Refused(Refusal::HasBody)
+                }
+            }
+            HeadAsk::Single { name, digest } => Ask::Single { name, digest, body },
+            HeadAsk::Chunk { name, at, range } => Ask::Chunk {
+                name,
+                at,
+                range,
+                body,
+            },
+            HeadAsk::Close {
+                name,
+                at,
+                range,
+                digest,
+            } => Ask::Close {
+                name,
+                at,
+                range,
+                digest,
+                body,
+            },
         }
     }
-    match ask {
-        Ask::Single { digest, .. } => algorithm_of(*digest),
-        Ask::Chunk { range, .. } if may_be_first(*range) => Some(Algorithm::Sha256),
-        Ask::Close { range, digest, .. } if may_be_first(*range) => algorithm_of(*digest),
-        _ => None,
-    }
-}
 
-/// The algorithm of a digest that is there.
-fn algorithm_of(digest: Option<BlobDigest>) -> Option<Algorithm> {
-    match digest {
-        Some(digest) => Some(digest.algorithm()),
-        None => None,
+    /// By what the body is hashed as it comes: where it is large, and the service may want the hash of just its bytes.
+    /// A small body, and one that comes behind others, the service hashes with what is around it. What a chunk will be
+    /// asked for, its close says; most say SHA-256.
+    pub fn hash_wanted(&self, framing: Framing) -> Option<Algorithm> {
+        if let Framing::Length(length) = framing {
+            if length <= 65_536 {
+                return None;
+            }
+        }
+        match self {
+            HeadAsk::Single { digest, .. } => Some((*digest)?.algorithm()),
+            HeadAsk::Chunk { range, .. } if may_be_first(*range) => Some(Algorithm::Sha256),
+            HeadAsk::Close { range, digest, .. } if may_be_first(*range) => {
+                Some((*digest)?.algorithm())
+            }
+            _ => None,
+        }
     }
 }
 
@@ -283,56 +308,5 @@ fn may_be_first(range: Extent) -> bool {
         Extent::Absent => true,
         Extent::Bad => false,
         Extent::Given(range) => range.first == 0,
-    }
-}
-
-/// The ask with its body. An ask that carries none drops it, and an opening and a mount refuse it.
-pub fn with_body(ask: Ask, body: Bytes) -> Ask
-    ensures { result ≡ with_body ask body }
-{
-    match ask {
-        Ask::Opening { name } => if_bodiless(Ask::Opening { name }, body.as_slice()),
-        Ask::Mount {
-            name,
-            digest,
-            source,
-        } => if_bodiless(
-            Ask::Mount {
-                name,
-                digest,
-                source,
-            },
-            body.as_slice(),
-        ),
-        Ask::Single {
-            name,
-            digest,
-            body: _,
-        } => Ask::Single { name, digest, body },
-        Ask::Chunk {
-            name,
-            at,
-            range,
-            body: _,
-        } => Ask::Chunk {
-            name,
-            at,
-            range,
-            body,
-        },
-        Ask::Close {
-            name,
-            at,
-            range,
-            digest,
-            body: _,
-        } => Ask::Close {
-            name,
-            at,
-            range,
-            digest,
-            body,
-        },
-        other => other,
     }
 }

@@ -8,7 +8,7 @@ ghost use Rattle.http_wire.specs.FieldReading.{fields_of};
 ghost use Rattle.upload_wire.specs.RequestText.{ReadsNext};
 ghost use Rattle.upload_wire.specs.RequestReading.{Describes};
 
-use crate::asks::{ask_of, hash_wanted, with_body};
+use crate::asks::{HeadAsk, ask_of};
 use crate::body::Body;
 use http_wire::{
     Bad, BodyEnd, ByteSource, HeadRead, Occurrence, ParsedRequest, ReadBuffer, Requests, WireFault,
@@ -39,10 +39,10 @@ pub enum Next {
     Bad(Bad),
 }
 
-/// What a head asks, with no body yet, and how it wants its reply.
+/// What a head asks, and how it wants its reply.
 #[derive(Drop)]
 struct Described {
-    ask: Ask,
+    ask: HeadAsk,
     style: Style,
 }
 
@@ -104,13 +104,13 @@ fn read_request<S: ByteSource>(
     };
     let Described { ask, style } = describe(alloc, head, parsed)?;
     buffer.consume(parsed.spans.len);
-    let mut body = Body::begin(alloc, hash_wanted(&ask, framing));
+    let mut body = Body::begin(alloc, ask.hash_wanted(framing));
     match read_body(source, buffer, &mut body, framing, max_body)? {
         BodyEnd::Whole => {
             // It may stay as long as its blob does, so the room that it grew by in advance goes.
             body.bytes.shrink_to_fit();
             Ok(Next::Request {
-                ask: with_body(ask, body.bytes),
+                ask: ask.with_body(body.bytes),
                 style,
             })
         }
