@@ -283,9 +283,9 @@ impl HeadAsk {
     }
 
     /// By what the body is hashed as it comes: where it is large, and the service may want the hash of just its bytes.
-    /// A small body, and one that comes behind others, the service hashes with what is around it. What a chunk will be
-    /// asked for, its close says; most say SHA-256.
-    pub fn hash_wanted(&self, framing: Framing) -> Option<Algorithm> {
+    /// A small body, and one that comes behind others, the service hashes with what is around it; `filled` is an upload
+    /// that is known to have bytes. What a chunk will be asked for, its close says; most say SHA-256.
+    pub fn hash_wanted(&self, framing: Framing, filled: Option<UploadRef>) -> Option<Algorithm> {
         if let Framing::Length(length) = framing {
             if length <= 65_536 {
                 return None;
@@ -293,10 +293,15 @@ impl HeadAsk {
         }
         match self {
             HeadAsk::Single { digest, .. } => Some((*digest)?.algorithm()),
-            HeadAsk::Chunk { range, .. } if may_be_first(*range) => Some(Algorithm::Sha256),
-            HeadAsk::Close { range, digest, .. } if may_be_first(*range) => {
-                Some((*digest)?.algorithm())
+            HeadAsk::Chunk { at, range, .. } if filled != Some(*at) && may_be_first(*range) => {
+                Some(Algorithm::Sha256)
             }
+            HeadAsk::Close {
+                at,
+                range,
+                digest,
+                ..
+            } if filled != Some(*at) && may_be_first(*range) => Some((*digest)?.algorithm()),
             _ => None,
         }
     }

@@ -11,7 +11,8 @@ use crate::request::{Next, Style, read_next};
 use http_wire::{ByteSink, ByteSource, ReadBuffer, WireFault};
 use std::alloc::Global;
 use std::fmt;
-use upload_service::{Ask, Limits};
+use upload_names::UploadRef;
+use upload_service::{Answer, Ask, Limits};
 
 /// The most requests that are answered on one connection.
 const MAX_REQUESTS: usize = 10_000;
@@ -100,15 +101,26 @@ pub fn serve_connection_with_buffer<S: ByteSource, W: ByteSink, D: Desk>(
         (sink (W.contents writer.new) (W.failed_writes writer.new)) result }
 {
     buffer.clear();
+    let mut filled = None;
     for count in 0..MAX_REQUESTS {
-        if let Some(end) = serve_next(alloc, reader, buffer, limits.max_body, writer, desk, count) {
+        if let Some(end) = serve_next(
+            alloc,
+            reader,
+            buffer,
+            limits.max_body,
+            writer,
+            desk,
+            count,
+            &mut filled,
+        ) {
             return end;
         }
     }
     unreachable!()
 }
 
-/// Serves what comes next, behind `count` requests. `None`: the connection goes on.
+/// Serves what comes next, behind `count` requests. `None`: the connection goes on. `filled` is the upload that was last
+/// answered to have bytes.
 fn serve_next<S: ByteSource, W: ByteSink, D: Desk>(
     alloc: Global,
     reader: &mut S,
@@ -117,6 +129,7 @@ fn serve_next<S: ByteSource, W: ByteSink, D: Desk>(
     writer: &mut W,
     desk: &mut D,
     count: usize,
+    filled: &mut Option<UploadRef>,
 ) -> Option<ConnEnd>
     requires turn { count < MAX_REQUESTS }
     requires limit { max_body ≤ 2 ^ 31 }
@@ -131,8 +144,8 @@ fn serve_next<S: ByteSource, W: ByteSink, D: Desk>(
         (sink (W.contents writer.old) (W.failed_writes writer.old))
         (sink (W.contents writer.new) (W.failed_writes writer.new))) }
 {
-    match read_next(alloc, reader, buffer, max_body) {
-        Ok(Next::Request { ask, style }) => answer_one(writer, desk, ask, style, count),
+    match read_next(alloc, reader, buffer, max_body, *filled) {
+        Ok(Next::Request { ask, style }) => answer_one(writer, desk, ask, style, count, filled),
         Ok(Next::Over) => Some(ConnEnd::Clean),
         Ok(Next::Bad(why)) => match write_bad(writer, why) {
             Ok(()) => Some(ConnEnd::AfterBad),
@@ -149,6 +162,7 @@ fn answer_one<W: ByteSink, D: Desk>(
     ask: Ask,
     style: Style,
     count: usize,
+    filled: &mut Option<UploadRef>,
 ) -> Option<ConnEnd>
     requires { count < MAX_REQUESTS }
     ensures { AnswersOne D.moves count ask style desk.old desk.new
@@ -158,6 +172,7 @@ fn answer_one<W: ByteSink, D: Desk>(
     let Some(answer) = desk.ask(ask) else {
         return Some(ConnEnd::DeskGone);
     };
+    note_filled(&answer, filled);
     if write_reply(writer, &answer, last_style(style, count)).is_err() {
         return Some(ConnEnd::Fault(ConnFault::Write));
     }
@@ -168,6 +183,20 @@ fn answer_one<W: ByteSink, D: Desk>(
         return Some(ConnEnd::TooMany);
     }
     None
+}
+
+/// Notes the upload that an answer says to have bytes: a hash of a further body alone would be of no use to it.
+fn note_filled(answer: &Answer, filled: &mut Option<UploadRef>) {
+    match answer {
+        Answer::Taken { at, next, .. }
+        | Answer::Standing { at, next, .. }
+        | Answer::Misplaced { at, next, .. } => {
+            if *next > 0 {
+                *filled = Some(*at);
+            }
+        }
+        _ => {}
+    }
 }
 
 /// How the reply to a request behind `count` others is written: the last that may be closes the connection.

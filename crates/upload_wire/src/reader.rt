@@ -104,6 +104,7 @@ impl<S: ByteSource> RequestReader<S> {
             &mut self.source,
             &mut self.buffer,
             self.max_body,
+            None,
         );
         self.phase = match &next {
             Ok(Next::Request { ask: _, style: _ }) => Phase::Ready,

@@ -15,7 +15,7 @@ use http_wire::{
     field_named, framing_of, keeps_connection, read_body, read_head,
 };
 use std::alloc::Global;
-use upload_names::ByteRange;
+use upload_names::{ByteRange, UploadRef};
 use upload_service::{Ask, Extent};
 
 /// How a request wants its reply.
@@ -79,13 +79,14 @@ fn describe(alloc: Global, head: &[u8], parsed: &ParsedRequest) -> Result<Descri
     Ok(Described { ask, style })
 }
 
-/// Reads the request of the head that the buffer begins with.
+/// Reads the request of the head that the buffer begins with, where `filled` is an upload that is known to have bytes.
 fn read_request<S: ByteSource>(
     alloc: Global,
     source: &mut S,
     buffer: &mut ReadBuffer,
     parsed: &ParsedRequest,
     max_body: u64,
+    filled: Option<UploadRef>,
 ) -> Result<Next, WireFault>
     requires limit { max_body ≤ 2 ^ 31 }
     requires head { IsHeadAtFront buffer.old parsed.now }
@@ -104,7 +105,7 @@ fn read_request<S: ByteSource>(
     };
     let Described { ask, style } = describe(alloc, head, parsed)?;
     buffer.consume(parsed.spans.len);
-    let mut body = Body::begin(alloc, ask.hash_wanted(framing));
+    let mut body = Body::begin(alloc, ask.hash_wanted(framing, filled));
     match read_body(source, buffer, &mut body, framing, max_body)? {
         BodyEnd::Whole => {
             // It may stay as long as its blob does, so the room that it grew by in advance goes.
@@ -118,12 +119,14 @@ fn read_request<S: ByteSource>(
     }
 }
 
-/// Reads what comes next, behind what the buffer holds of it.
+/// Reads what comes next, behind what the buffer holds of it. A body for the upload that is known to have bytes isn't
+/// hashed as it comes.
 pub fn read_next<S: ByteSource>(
     alloc: Global,
     source: &mut S,
     buffer: &mut ReadBuffer,
     max_body: u64,
+    filled: Option<UploadRef>,
 ) -> Result<Next, WireFault>
     requires { max_body ≤ 2 ^ 31 }
     ensures found { ReadsNext max_body buffer.old (S.remaining source.old)
@@ -135,7 +138,7 @@ pub fn read_next<S: ByteSource>(
         → S.failed_reads source.new ≡ S.failed_reads source.old }
 {
     match read_head::<Requests, S>(source, buffer)? {
-        HeadRead::Head(parsed) => read_request(alloc, source, buffer, &parsed, max_body),
+        HeadRead::Head(parsed) => read_request(alloc, source, buffer, &parsed, max_body, filled),
         HeadRead::Over => Ok(Next::Over),
         HeadRead::Refused => Ok(Next::Bad(Bad::Head)),
         HeadRead::TooLong => Ok(Next::Bad(Bad::LongHead)),

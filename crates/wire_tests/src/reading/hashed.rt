@@ -1,21 +1,22 @@
 //! Which bodies carry the hash of their bytes, and by which algorithm. No contract says it: a hash that is there is
 //! right, and where there is none the service makes it, so that only speed hangs on it.
+ghost use Rattle.std.specs.Prelude.{◌<◌};
 
-use super::{DIGEST, UPLOAD};
+use super::{DIGEST, OPENING, UPLOAD};
 use crate::content::content;
 use crate::expect::same;
-use crate::memory::MemorySource;
+use crate::memory::{MemorySink, MemorySource};
 use std::alloc::Global;
 use std::process::Abort;
 use std::test::Fail;
 use upload_names::{Algorithm, Bytes};
-use upload_service::{Ask, Limits};
-use upload_wire::{Next, RequestReader};
+use upload_service::{Answer, Ask, Limits, Service};
+use upload_wire::{ConnEnd, Desk, Next, RequestReader, ServiceDesk, serve_connection};
 
 const LIMITS: Limits = Limits {
     max_blob: 1_000_000,
     max_body: 1_000_000,
-    max_open: 1,
+    max_open: 2,
     max_idle: 1,
 };
 
@@ -168,6 +169,74 @@ fn is_hashed(rt: &impl Abort, alloc: Global, number: usize, row: &Row) -> Result
 fn bodies_are_hashed_where_it_pays(rt: HostRuntime) -> Result<(), Fail> {
     for (number, row) in ROWS.iter().enumerate() {
         is_hashed(&rt, rt.alloc(), number, row)?;
+    }
+    Ok(())
+}
+
+const OTHER_UPLOAD: &str = "/v2/lib/a/blobs/uploads/00000002-0000-8000-8000-000000000000";
+
+const FROM_0: &str = "Content-Range: 0-65536\r\n";
+
+/// The requests of one connection, behind two openings. A body for an upload that was answered to have bytes isn't hashed as it comes.
+static CONNECTION: [Row; 12] = [
+    ("PATCH", UPLOAD, "", "", Framed::Sized(65_537), SHA256),
+    ("PATCH", UPLOAD, "", "", Framed::Sized(65_537), None),
+    ("GET", "/v2/", "", "", Framed::Sized(0), None),
+    ("PATCH", UPLOAD, "", "", Framed::Chunked(3), None),
+    ("PATCH", UPLOAD, "", FROM_0, Framed::Sized(65_537), None),
+    // an upload that was sent an empty chunk has none
+    ("PATCH", OTHER_UPLOAD, "", "", Framed::Sized(0), None),
+    ("PATCH", OTHER_UPLOAD, "", "", Framed::Sized(65_537), SHA256),
+    ("PUT", OTHER_UPLOAD, DIGEST, "", Framed::Sized(65_537), None),
+    // another one is known to have some by its offset
+    ("GET", UPLOAD, "", "", Framed::Sized(0), None),
+    ("PATCH", UPLOAD, "", "", Framed::Sized(65_537), None),
+    ("PUT", UPLOAD, DIGEST_512, "", Framed::Sized(65_537), None),
+    ("POST", SINGLE, DIGEST_512, "", Framed::Chunked(3), SHA512),
+];
+
+/// A service, and by what the body of each request was hashed that it was asked.
+#[derive(Drop)]
+struct NotingDesk {
+    desk: ServiceDesk,
+    noted: Vec<Option<Algorithm>>,
+}
+
+impl Desk for NotingDesk {
+    ghost moves = { λ _ _ _ _. Unit {0} };
+
+    fn ask(&mut self, ask: Ask) -> Option<Answer> {
+        self.noted.push(hash_of(&ask)).ok()?;
+        self.desk.ask(ask)
+    }
+}
+
+#[test]
+fn a_body_behind_others_is_not_hashed_as_it_comes(rt: HostRuntime) -> Result<(), Fail> {
+    let alloc = rt.alloc();
+    assert!(rt; LIMITS.lawful());
+    let mut requests = format!(in alloc; "{OPENING}\r\n{OPENING}\r\n")?
+        .as_bytes()
+        .to_vec(alloc)?;
+    for row in &CONNECTION {
+        requests.extend_from_slice(&request_of(alloc, row)?)?;
+    }
+    let mut desk = NotingDesk {
+        desk: ServiceDesk::new(Service::new(alloc, LIMITS), [0; 12], 0),
+        noted: Vec::new(alloc),
+    };
+    let mut reader = MemorySource::new(&requests, 65_536, false);
+    let mut writer = MemorySink::new(Vec::new(alloc), 65_536, 65_536);
+    let end = serve_connection(alloc, &mut reader, &mut writer, &mut desk, LIMITS);
+    same(&rt, end, ConnEnd::Clean, &"its end");
+    same(
+        &rt,
+        desk.noted.len(),
+        2 + CONNECTION.len(),
+        &"how many were asked",
+    );
+    for (number, (row, noted)) in CONNECTION.iter().zip(desk.noted.iter().skip(2)).enumerate() {
+        same(&rt, *noted, row.5, &number);
     }
     Ok(())
 }
