@@ -34,15 +34,15 @@ pub copied_or : (query : Option (Bor (List ℕ))) (copied : Option (List ℕ)) (
 copied_or None copied none result same is empty = ap (λ b. b.now) is ∙ empty ∙ ap (λ o. unwrap_or o []) same
 copied_or (Some query) copied none result same is empty = ap (λ b. b.now) is ∙ ap (λ o. unwrap_or o []) same
 
-pub by_uri : (method target path query : List ℕ) (read : Method) (range : Extent) (uri : Uri) (r : Result HeadAsk AllocError)
-    → Spells target uri → path ≡ uri_path uri → read ≡ method_of method → query ≡ unwrap_or (uri_query uri) []
-    → IfOk r (AsksAt path read query range) → IfOk r (Asks method target range)
-by_uri method target path query read range uri (Ok ask) spells same_path same_method same_query asks =
+pub by_uri : (method target path query : List ℕ) (verb : Method) (range : Extent) (uri : Uri) (r : Result HeadAsk AllocError)
+    → Spells target uri → path ≡ uri_path uri → verb ≡ method_of method → query ≡ unwrap_or (uri_query uri) []
+    → IfOk r (AsksAt path verb query range) → IfOk r (Asks method target range)
+by_uri method target path query verb range uri (Ok ask) spells same_path same_method same_query asks =
     inr (
       uri,
       spells,
       subst (λ p. AsksAt p (method_of method) (unwrap_or (uri_query uri) []) range ask) same_path
           (subst (λ m. AsksAt path m (unwrap_or (uri_query uri) []) range ask) same_method
-          (subst (λ q. AsksAt path read q range ask) same_query asks)),
+          (subst (λ q. AsksAt path verb q range ask) same_query asks)),
     )
-by_uri method target path query read range uri (Err e) spells same_path same_method same_query asks = tt
+by_uri method target path query verb range uri (Err e) spells same_path same_method same_query asks = tt

@@ -172,16 +172,6 @@ fn uploads_ask(alloc: Global, name: &[u8], parts: &Parts<'_>) -> Result<HeadAsk,
     }
 }
 
-/// The digest that a close names, if it names one.
-fn digest_named(alloc: Global, query: &[u8]) -> Result<Option<BlobDigest>, AllocError>
-    ensures { IfOk result (λ o. o ≡ option_and_then digest_of (parameter (codes "digest") query.now)) }
-{
-    match parameter(alloc, query, "digest")? {
-        Some(text) => Ok(BlobDigest::read(text.as_str().as_bytes())),
-        None => Ok(None),
-    }
-}
-
 /// GET, HEAD, PATCH and PUT of an upload.
 fn upload_ask(
     alloc: Global,
@@ -201,12 +191,18 @@ fn upload_ask(
         (_, None) => Ok(refused(Refusal::NoUpload)),
         (Method::Get | Method::Head, Some(at)) => Ok(HeadAsk::Ready(Ask::Status { name, at })),
         (Method::Patch, Some(at)) => Ok(HeadAsk::Chunk { name, at, range }),
-        (Method::Put, Some(at)) => Ok(HeadAsk::Close {
-            name,
-            at,
-            range,
-            digest: digest_named(alloc, parts.query)?,
-        }),
+        (Method::Put, Some(at)) => {
+            let digest = match parameter(alloc, parts.query, "digest")? {
+                Some(text) => BlobDigest::read(text.as_str().as_bytes()),
+                None => None,
+            };
+            Ok(HeadAsk::Close {
+                name,
+                at,
+                range,
+                digest,
+            })
+        }
     }
 }
 

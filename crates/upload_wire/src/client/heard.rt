@@ -1,7 +1,7 @@
 //! What a client hears in a reply.
 ghost use Rattle.std.specs.Prelude.{◌≡◌, ◌++◌, IfOk, codes};
 ghost use Rattle.std.specs.Option.{option_copied};
-ghost use Rattle.upload_wire.specs.Heard.{reply_heard, of_upload, bare, last_below, after_front, place_in};
+ghost use Rattle.upload_wire.specs.Heard.{reply_heard, of_upload, bare, after_front, place_in};
 
 use crate::reply::{ErrorCode, refusal_code, refusal_status};
 use std::alloc::{AllocError, Global};
@@ -72,9 +72,9 @@ pub fn heard_of(alloc: Global, answer: &Answer) -> Result<Heard, AllocError>
         Answer::Standing { name, at, next } => Ok(of_upload(alloc, 204, name, at, *next)?),
         Answer::Misplaced { name, at, next } => {
             let heard = of_upload(alloc, 416, name, at, *next)?;
-            let code = copied(alloc, ErrorCode::BlobUploadInvalid.text())?;
+            let code = Vec::from_slice(alloc, ErrorCode::BlobUploadInvalid.text())?;
             Ok(Heard {
-                code: Some(code),
+                code: Some(Bytes::of(code)),
                 ..heard
             })
         }
@@ -86,9 +86,9 @@ pub fn heard_of(alloc: Global, answer: &Answer) -> Result<Heard, AllocError>
             })
         }
         Answer::Refused(refusal) => {
-            let code = copied(alloc, refusal_code(*refusal).text())?;
+            let code = Vec::from_slice(alloc, refusal_code(*refusal).text())?;
             Ok(Heard {
-                code: Some(code),
+                code: Some(Bytes::of(code)),
                 ..bare(refusal_status(*refusal).number())
             })
         }
@@ -121,16 +121,9 @@ fn of_upload(
     Ok(Heard {
         status,
         place: Some(place),
-        upto: last_below(next),
+        upto: next.checked_sub(1),
         code: None,
     })
-}
-
-/// The last position below the next offset.
-fn last_below(next: u64) -> Option<u64>
-    ensures { result ≡ last_below next }
-{
-    if next == 0 { None } else { Some(next - 1) }
 }
 
 /// A path of the repository.
@@ -142,13 +135,6 @@ fn path_of(alloc: Global, name: &RepoName, kind: &[u8], tail: &[u8]) -> Result<B
     path.extend_from_slice(kind)?;
     path.extend_from_slice(tail)?;
     Ok(Bytes::of(path))
-}
-
-/// A text of its own.
-fn copied(alloc: Global, text: &[u8]) -> Result<Bytes, AllocError>
-    ensures { IfOk result (λ copy. copy ≡ text.now) }
-{
-    Ok(Bytes::of(Vec::from_slice(alloc, text)?))
 }
 
 /// The reference in a path of the form `/v2/<name>/blobs/uploads/<reference>`, where the name is this
