@@ -4,15 +4,15 @@ use Rattle.upload_service.specs.Machine.{empty_state, IsLawful}
 use Rattle.upload_service.specs.Run.{NeverBefore}
 use Rattle.upload_service.specs.Headline.{HeadlineHolds}
 use Rattle.upload_service.specs.declared.limits.Limits.{Limits}
-use Rattle.upload_wire.specs.Writing.{Sink}
-use Rattle.upload_wire.specs.Conversation.{Exchange, Source, IsConversation}
+use Rattle.upload_wire.specs.States.{SourceState, SinkState}
+use Rattle.upload_wire.specs.Conversation.{Exchange, IsConversation}
 use Rattle.upload_wire.specs.ConnectionRuns.{answered, service_exchanges, ConversationsRunTheService}
 use Rattle.upload_wire.specs.ServiceTurns.{StepsService}
 use Rattle.upload_wire.specs.declared.connection.ConnEnd.{ConnEnd}
 use Rattle.upload_wire.specs.declared.desk.ServiceDesk.{ServiceDesk}
 use Rattle.blobd.specs.Once.{program_limits, first_desk, status_of, IsOnce}
 
-pub with_first_desk : (first left : Source) (before after : Sink) (end : ConnEnd) (limits : Limits) (desk new : ServiceDesk) → limits ≡ program_limits → desk ≡ first_desk
+pub with_first_desk : (first left : SourceState) (before after : SinkState) (end : ConnEnd) (limits : Limits) (desk new : ServiceDesk) → limits ≡ program_limits → desk ≡ first_desk
     → IsConversation StepsService limits.max_body first left desk new before after end
     → IsConversation StepsService program_limits.max_body first left first_desk new before after end
 with_first_desk first left before after end limits desk new is_limits is_desk talk =
@@ -24,7 +24,7 @@ never_falls : (xs : List Exchange) → NeverBefore 0 (service_exchanges first_de
 never_falls [] = tt
 never_falls (x ∷ xs) = (lit≤ tt, never_falls xs)
 
-pub once : ConversationsRunTheService → HeadlineHolds → (first left : Source) (before after : Sink) (end : ConnEnd) (new : ServiceDesk) (status : ℕ) → IsLawful (empty_state program_limits 0)
+pub once : ConversationsRunTheService → HeadlineHolds → (first left : SourceState) (before after : SinkState) (end : ConnEnd) (new : ServiceDesk) (status : ℕ) → IsLawful (empty_state program_limits 0)
     → IsConversation StepsService program_limits.max_body first left first_desk new before after end → status ≡ status_of end → IsOnce first left before after status
 once runs holds first left before after end new status lawful talk is_status =
     let run = (runs program_limits.max_body first left first_desk new before after end talk).run in

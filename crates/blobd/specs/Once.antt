@@ -4,8 +4,8 @@ use Rattle.upload_service.specs.declared.limits.Limits.{Limits}
 use Rattle.upload_service.specs.Machine.{empty_state}
 use Rattle.upload_service.specs.Run.{Run}
 use Rattle.upload_service.specs.Headline.{Headline}
-use Rattle.upload_wire.specs.Writing.{Sink}
-use Rattle.upload_wire.specs.Conversation.{Source, IsConversation}
+use Rattle.upload_wire.specs.States.{SourceState, SinkState}
+use Rattle.upload_wire.specs.Conversation.{IsConversation}
 use Rattle.upload_wire.specs.ConnectionRuns.{answered, service_exchanges}
 use Rattle.upload_wire.specs.ServiceTurns.{StepsService}
 use Rattle.upload_wire.specs.declared.connection.ConnEnd.{ConnEnd}
@@ -31,7 +31,7 @@ status_of (Fault fault) = 3
 
 -- What was read and what was written are a conversation with a new service, and the exit status is that of its end. The requests
 -- that were answered are a run of the service, and the headline holds of it.
-pub record IsOnce (first left : Source) (before after : Sink) (status : ℕ) : Type 0 where
+pub record IsOnce (first left : SourceState) (before after : SinkState) (status : ℕ) : Type 0 where
   pub end : ConnEnd
   pub desk : ServiceDesk
   pub conversation : IsConversation StepsService program_limits.max_body first left first_desk desk before after end

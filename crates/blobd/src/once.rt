@@ -1,7 +1,5 @@
 //! `blobd once`: one connection over a reader and a writer, over a new service.
 ghost use Rattle.std.specs.Prelude.{◌≡◌};
-ghost use Rattle.upload_wire.specs.Writing.{sink};
-ghost use Rattle.upload_wire.specs.Conversation.{source};
 ghost use Rattle.blobd.specs.Once.{IsOnce, status_of};
 
 use crate::limits::limits;
@@ -26,8 +24,7 @@ fn status_of(end: ConnEnd) -> u8
 /// Serves one connection over a new service, whose secrets are zero and whose clock stands at 0, and gives the exit
 /// status.
 pub fn run_once<R: ByteSource, W: ByteSink>(alloc: Global, reader: &mut R, writer: &mut W) -> u8
-    ensures { IsOnce (source (R.remaining reader.old) (R.failed_reads reader.old)) (source (R.remaining reader.new) (R.failed_reads reader.new))
-        (sink (W.contents writer.old) (W.failed_writes writer.old)) (sink (W.contents writer.new) (W.failed_writes writer.new)) result }
+    ensures { IsOnce (R.state reader.old) (R.state reader.new) (W.state writer.old) (W.state writer.new) result }
 {
     // The laws over all conversations and over all runs, of which this will be one. The calls do nothing.
     connections_run_the_service();

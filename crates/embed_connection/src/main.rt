@@ -2,8 +2,7 @@
 //! answer. Behind the replies the program prints how the connection ended, and the count.
 #![tactic(auto)]
 
-ghost use Rattle.upload_wire.specs.Writing.{sink};
-ghost use Rattle.upload_wire.specs.Conversation.{IsConversation, source};
+ghost use Rattle.upload_wire.specs.Conversation.{IsConversation};
 ghost use Rattle.embed_connection.specs.Counting.{StepsAndCounts};
 
 use std::alloc::Global;
@@ -47,10 +46,8 @@ fn serve<R: ByteSource, W: ByteSink>(
     writer: &mut W,
     desk: &mut CountingDesk,
 ) -> ConnEnd
-    ensures { IsConversation StepsAndCounts 1048576
-        (source (R.remaining reader.old) (R.failed_reads reader.old)) (source (R.remaining reader.new) (R.failed_reads reader.new))
-        desk.old desk.new
-        (sink (W.contents writer.old) (W.failed_writes writer.old)) (sink (W.contents writer.new) (W.failed_writes writer.new)) result }
+    ensures { IsConversation StepsAndCounts 1048576 (R.state reader.old) (R.state reader.new)
+        desk.old desk.new (W.state writer.old) (W.state writer.new) result }
 {
     serve_connection(alloc, reader, writer, desk, LIMITS)
 }

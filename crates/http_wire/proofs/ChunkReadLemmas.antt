@@ -1,10 +1,11 @@
 -- From a chunk's parts to the chunk, and from chunks to the body.
 use Rattle.std.proofs.Common.{◌≡◌, ℕ, ◌-◌, ◌<◌, ◌≤◌, List, [], ◌∷◌, ◌++◌, All, length, refl, arith, ◌∙◌, sym, ap, subst, append_assoc, length-append, inl, inr}
-use Rattle.std.specs.Prelude.{Option, Err, ◌⊎◌}
+use Rattle.std.specs.Prelude.{Err, ◌⊎◌}
 use Rattle.std.proofs.lemmas.List.{append-nil}
 use Rattle.std.proofs.lemmas.Grind.{flat_map-append}
 use Rattle.std.proofs.lemmas.List.Elements.{All-append, All-cons, All-nil}
 use Rattle.std.specs.Str.Parse.{digits_value}
+use Rattle.http_wire.specs.States.{SourceState}
 use Rattle.http_wire.specs.Reading.{Gave}
 use Rattle.http_wire.specs.Body.{Chunk, print_chunk, IsChunk, chunks_text, chunks_data, NeverChunked, IsBadBody, IsCutBody}
 use Rattle.http_wire.specs.BodyReading.{Moved, StopsBefore, ReadsBytes}
@@ -14,15 +15,18 @@ use Rattle.http_wire.specs.BodyFinding.{TakesBody, RefusesBodyText, CutsBody, Fi
 use Rattle.http_wire.specs.declared.framing.Framing.TheVariants.{Length, Chunked}
 use Rattle.http_wire.specs.declared.fault.Bad.{Bad}
 use Rattle.http_wire.specs.declared.fault.Bad.TheVariants as bads
-use Rattle.http_wire.specs.declared.fault.WireFault.{WireFault}
-use Rattle.http_wire.specs.declared.fault.WireFault.TheVariants as Fault
-use Rattle.http_wire.proofs.GaveLemmas.{gave_none, gave_after}
+use Rattle.http_wire.specs.Faults.{body_of_input}
+use Rattle.http_wire.specs.declared.fault.InputFault.{InputFault}
+use Rattle.http_wire.specs.declared.fault.InputFault.TheVariants as Input
+use Rattle.http_wire.specs.declared.fault.BodyFault.{BodyFault}
+use Rattle.http_wire.specs.declared.fault.BodyFault.TheVariants as Fault
+use Rattle.http_wire.proofs.GaveLemmas.{gave_none, gave_as, gave_after}
 use Rattle.http_wire.proofs.ChunkLemmas.{never_from_line, never_after, front_after, under_after, over_after, under_inside, never_end, empty_of}
 use Rattle.http_wire.proofs.FrontLemmas.{front_line, front_data, front_data_end, under_line}
 
 -- ---- one chunk
 
-pub chunk_line_broken : (room : ℕ) (a b : Option (List ℕ)) (held : List ℕ) → BreaksLine a held b → RefusesChunk room a held b bads.Chunks
+pub chunk_line_broken : (room : ℕ) (a b : SourceState) (held : List ℕ) → BreaksLine a held b → RefusesChunk room a held b bads.Chunks
 chunk_line_broken room a b held h = record {
   text = h.before ++ h.byte ∷ h.rest;
   gave = h.gave;
@@ -40,21 +44,19 @@ chunk_line_broken room a b held h = record {
   );
 }
 
-chunk_line_cut : (room : ℕ) (a b : Option (List ℕ)) (held : List ℕ) → CutsLine a held b → CutsChunk room a held b
+chunk_line_cut : (room : ℕ) (a b : SourceState) (held : List ℕ) → CutsLine a held b → CutsChunk room a held b
 chunk_line_cut room a b held h = record {
   text = h.text;
   gave = h.gave;
   cut = (front_line h.text h.state h.stands, under_line room h.text h.state h.stands);
 }
 
-pub chunk_line_fault : (room : ℕ) (a b : Option (List ℕ)) (held rest x y : List ℕ) (e : WireFault) → FindsLine a held b rest (Err e)
-    → FindsChunk room a held x b rest y (Err e)
-chunk_line_fault room a b held rest x y Fault.Truncated h = (chunk_line_cut room a b held h.0, h.1)
-chunk_line_fault room a b held rest x y Fault.Read h = chunk_line_cut room a b held h
-chunk_line_fault room a b held rest x y Fault.NoMemory h = absurd h
-chunk_line_fault room a b held rest x y Fault.Ended h = absurd h
+pub chunk_line_fault : (room : ℕ) (a b : SourceState) (held rest x y : List ℕ) (e : InputFault) → FindsLine a held b rest (Err e)
+    → FindsChunk room a held x b rest y (Err (body_of_input e))
+chunk_line_fault room a b held rest x y Input.Truncated h = (chunk_line_cut room a b held h.0, h.1)
+chunk_line_fault room a b held rest x y Input.Read h = chunk_line_cut room a b held h
 
-pub chunk_over : (room : ℕ) (a b : Option (List ℕ)) (held rest : List ℕ) (value : ℕ) → TakesLine a held b rest value → room < value → RefusesChunk room a held b bads.TooLarge
+pub chunk_over : (room : ℕ) (a b : SourceState) (held rest : List ℕ) (value : ℕ) → TakesLine a held b rest value → room < value → RefusesChunk room a held b bads.TooLarge
 chunk_over room a b held rest value h over =
     let l = h.is_line in
     let valued = l.value_is in
@@ -79,7 +81,7 @@ chunk_over room a b held rest value h over =
 line_text : (line digits more : List ℕ) → line ≡ digits ++ (13 ∷ 10 ∷ []) → line ++ more ≡ digits ++ (13 ∷ 10 ∷ more)
 line_text line digits more cut = ap (λ t. t ++ more) cut ∙ append_assoc digits (13 ∷ 10 ∷ []) more
 
-chunk_data_cut : (room : ℕ) (a b c : Option (List ℕ)) (held mid : List ℕ) (value : ℕ)
+chunk_data_cut : (room : ℕ) (a b c : SourceState) (held mid : List ℕ) (value : ℕ)
     → TakesLine a held b mid value → value ≤ room → StopsBefore b mid c value → CutsChunk room a held c
 chunk_data_cut room a b c held mid value h fits end =
     let l = h.is_line in
@@ -94,22 +96,21 @@ chunk_data_cut room a b c held mid value h fits end =
       );
     }
 
-pub chunk_data_fault : (room : ℕ) (a b c : Option (List ℕ)) (held mid rest x y : List ℕ) (value : ℕ) (e : WireFault)
+pub chunk_data_fault : (room : ℕ) (a b c : SourceState) (held mid rest x y : List ℕ) (value : ℕ) (e : BodyFault)
     → TakesLine a held b mid value → value ≤ room → ReadsBytes b mid x c rest y value (Err e) → FindsChunk room a held x c rest y (Err e)
 chunk_data_fault room a b c held mid rest x y value Fault.Truncated h fits end =
     (chunk_data_cut room a b c held mid value h fits end.0, end.1)
 chunk_data_fault room a b c held mid rest x y value Fault.Read h fits stop = chunk_data_cut room a b c held mid value h fits stop
 chunk_data_fault room a b c held mid rest x y value Fault.NoMemory h fits none =
     record { text = h.line ++ none.text; gave = gave_after a b c held h.line mid none.text h.gave none.gave }
-chunk_data_fault room a b c held mid rest x y value Fault.Ended h fits none = absurd none
 
 -- a line and its data were taken, and then some text was seen
-gave_chunk : (a b c d : Option (List ℕ)) (held mid rest more x y : List ℕ) (value : ℕ) (h : TakesLine a held b mid value) (m : Moved b mid x c rest y value)
+gave_chunk : (a b c d : SourceState) (held mid rest more x y : List ℕ) (value : ℕ) (h : TakesLine a held b mid value) (m : Moved b mid x c rest y value)
     → Gave c d rest more → Gave a d held (h.line ++ (m.bytes ++ more))
 gave_chunk a b c d held mid rest more x y value h m g =
     gave_after a b d held h.line mid (m.bytes ++ more) h.gave (gave_after b c d mid m.bytes rest more m.gave g)
 
-pub chunk_end_broken : (room : ℕ) (a b c d : Option (List ℕ)) (held mid rest x y : List ℕ) (value : ℕ)
+pub chunk_end_broken : (room : ℕ) (a b c d : SourceState) (held mid rest x y : List ℕ) (value : ℕ)
     → TakesLine a held b mid value → value ≤ room → Moved b mid x c rest y value → BreaksEnd c rest d → RefusesChunk room a held d bads.Chunks
 chunk_end_broken room a b c d held mid rest x y value h fits m e =
     let l = h.is_line in
@@ -142,7 +143,7 @@ chunk_end_broken room a b c d held mid rest x y value h fits m e =
     front_of x (inl e) = (0, 13 ∷ 10 ∷ [], ap (λ t. t ++ (13 ∷ 10 ∷ [])) e, omega arith)
     front_of x (inr e) = (0, 10 ∷ [], ap (λ t. t ++ (10 ∷ [])) e, omega arith)
 
-pub chunk_end_cut : (room : ℕ) (a b c d : Option (List ℕ)) (held mid rest x y : List ℕ) (value : ℕ)
+pub chunk_end_cut : (room : ℕ) (a b c d : SourceState) (held mid rest x y : List ℕ) (value : ℕ)
     → TakesLine a held b mid value → value ≤ room → Moved b mid x c rest y value → CutsEnd c rest d → CutsChunk room a held d
 chunk_end_cut room a b c d held mid rest x y value h fits m e =
     let l = h.is_line in
@@ -166,15 +167,14 @@ chunk_end_cut room a b c d held mid rest x y value h fits m e =
     front_of x (inl e) = (0, 13 ∷ 10 ∷ [], ap (λ t. t ++ (13 ∷ 10 ∷ [])) e, omega arith)
     front_of x (inr e) = (0, 10 ∷ [], ap (λ t. t ++ (10 ∷ [])) e, omega arith)
 
-pub chunk_end_fault : (room : ℕ) (a b c d : Option (List ℕ)) (held mid rest last x y : List ℕ) (value : ℕ) (e : WireFault)
-    → TakesLine a held b mid value → value ≤ room → Moved b mid x c rest y value → FindsEnd c rest d last (Err e) → FindsChunk room a held x d last y (Err e)
-chunk_end_fault room a b c d held mid rest last x y value Fault.Truncated h fits m f =
+pub chunk_end_fault : (room : ℕ) (a b c d : SourceState) (held mid rest last x y : List ℕ) (value : ℕ) (e : InputFault)
+    → TakesLine a held b mid value → value ≤ room → Moved b mid x c rest y value → FindsEnd c rest d last (Err e)
+    → FindsChunk room a held x d last y (Err (body_of_input e))
+chunk_end_fault room a b c d held mid rest last x y value Input.Truncated h fits m f =
     (chunk_end_cut room a b c d held mid rest x y value h fits m f.0, f.1)
-chunk_end_fault room a b c d held mid rest last x y value Fault.Read h fits m f = chunk_end_cut room a b c d held mid rest x y value h fits m f
-chunk_end_fault room a b c d held mid rest last x y value Fault.NoMemory h fits m f = absurd f
-chunk_end_fault room a b c d held mid rest last x y value Fault.Ended h fits m f = absurd f
+chunk_end_fault room a b c d held mid rest last x y value Input.Read h fits m f = chunk_end_cut room a b c d held mid rest x y value h fits m f
 
-pub chunk_taken : (room : ℕ) (a b c d : Option (List ℕ)) (held mid rest last x y : List ℕ) (value : ℕ)
+pub chunk_taken : (room : ℕ) (a b c d : SourceState) (held mid rest last x y : List ℕ) (value : ℕ)
     → TakesLine a held b mid value → value ≤ room → 0 < value → Moved b mid x c rest y value → Gave c d rest (13 ∷ 10 ∷ last)
     → TakesChunk room a held x d last y
 chunk_taken room a b c d held mid rest last x y value h fits some m end =
@@ -186,14 +186,14 @@ chunk_taken room a b c d held mid rest last x y value h fits some m end =
       chunk = record { digits = l.digits; data_bytes = m.bytes };
       is_chunk = record { size = l.size; some = omega (arith, counted, some); same = omega (arith, valued, counted) };
       fits = omega (arith, counted, fits);
-      gave = (gave.0, gave.1, flat l.digits m.bytes ∙ sym (line_text h.line l.digits (m.bytes ++ (13 ∷ 10 ∷ last)) l.cut) ∙ gave.2);
+      gave = gave_as (flat l.digits m.bytes ∙ sym (line_text h.line l.digits (m.bytes ++ (13 ∷ 10 ∷ last)) l.cut)) gave;
       joined = m.joined;
     }
   where
     flat : (ds d : List ℕ) → (ds ++ (13 ∷ 10 ∷ (d ++ (13 ∷ 10 ∷ [])))) ++ last ≡ ds ++ (13 ∷ 10 ∷ (d ++ (13 ∷ 10 ∷ last)))
     flat ds d = simp append_assoc
 
-pub chunk_last : (a b c d : Option (List ℕ)) (held mid rest last x y : List ℕ) (value : ℕ)
+pub chunk_last : (a b c d : SourceState) (held mid rest last x y : List ℕ) (value : ℕ)
     → TakesLine a held b mid value → value ≡ 0 → Moved b mid x c rest y value → Gave c d rest (13 ∷ 10 ∷ last)
     → TakesLast a held x d last y
 chunk_last a b c d held mid rest last x y value h zero m end =
@@ -205,12 +205,8 @@ chunk_last a b c d held mid rest last x y value h zero m end =
     record {
       zeros = l.digits;
       is_zero = record { size = l.size; zero = omega (arith, valued, zero) };
-      gave = (
-        gave.0,
-        gave.1,
-        flat l.digits ∙ ap (λ d. l.digits ++ (13 ∷ 10 ∷ (d ++ (13 ∷ 10 ∷ last)))) (sym none)
-            ∙ sym (line_text h.line l.digits (m.bytes ++ (13 ∷ 10 ∷ last)) l.cut) ∙ gave.2,
-      );
+      gave = gave_as (flat l.digits ∙ ap (λ d. l.digits ++ (13 ∷ 10 ∷ (d ++ (13 ∷ 10 ∷ last)))) (sym none)
+          ∙ sym (line_text h.line l.digits (m.bytes ++ (13 ∷ 10 ∷ last)) l.cut)) gave;
       joined = m.joined ∙ ap (λ d. x ++ d) none ∙ append-nil x;
     }
   where
@@ -219,10 +215,10 @@ chunk_last a b c d held mid rest last x y value h zero m end =
 
 -- ---- all chunks
 
-pub taken_nothing : (max : ℕ) (known : Option (List ℕ)) (held : List ℕ) → AreTaken max known held known held []
+pub taken_nothing : (max : ℕ) (known : SourceState) (held : List ℕ) → AreTaken max known held known held []
 taken_nothing max known held = record { chunks = []; each = All-nil IsChunk; gave = gave_none known held; joined = refl; fits = omega arith }
 
-pub taken_more : (max room : ℕ) (a b c : Option (List ℕ)) (held mid rest x y : List ℕ) → room ≡ max - length x → AreTaken max a held b mid x
+pub taken_more : (max room : ℕ) (a b c : SourceState) (held mid rest x y : List ℕ) → room ≡ max - length x → AreTaken max a held b mid x
     → TakesChunk room b mid x c rest y → AreTaken max a held c rest y
 taken_more max room a b c held mid rest x y left t h =
     let fits = t.fits in
@@ -232,19 +228,15 @@ taken_more max room a b c held mid rest x y left t h =
     record {
       chunks = t.chunks ++ h.chunk ∷ [];
       each = All-append IsChunk t.chunks (h.chunk ∷ []) t.each (All-cons IsChunk h.chunk [] h.is_chunk (All-nil IsChunk));
-      gave = (
-        gave.0,
-        gave.1,
-        ap (λ s. s ++ rest) (flat_map-append print_chunk t.chunks (h.chunk ∷ []) ∙ ap (λ s. chunks_text t.chunks ++ s) (append-nil (print_chunk h.chunk)))
-            ∙ append_assoc (chunks_text t.chunks) (print_chunk h.chunk) rest ∙ gave.2,
-      );
+      gave = gave_as (ap (λ s. s ++ rest) (flat_map-append print_chunk t.chunks (h.chunk ∷ []) ∙ ap (λ s. chunks_text t.chunks ++ s) (append-nil (print_chunk h.chunk)))
+          ∙ append_assoc (chunks_text t.chunks) (print_chunk h.chunk) rest) gave;
       joined = h.joined ∙ ap (λ s. s ++ h.chunk.data_bytes) t.joined
           ∙ ap (λ s. chunks_data t.chunks ++ s) (sym (append-nil h.chunk.data_bytes))
           ∙ sym (flat_map-append (λ c. c.data_bytes) t.chunks (h.chunk ∷ []));
       fits = omega (arith, fits, more, left, joined, length-append x h.chunk.data_bytes);
     }
 
-pub body_whole : (max : ℕ) (a b c : Option (List ℕ)) (held mid rest x y : List ℕ) → AreTaken max a held b mid x
+pub body_whole : (max : ℕ) (a b c : SourceState) (held mid rest x y : List ℕ) → AreTaken max a held b mid x
     → TakesLast b mid x c rest y → TakesBody max Chunked a held c rest y
 body_whole max a b c held mid rest x y t h =
     let fits = t.fits in
@@ -253,7 +245,7 @@ body_whole max a b c held mid rest x y t h =
     let gave = gave_after a b c held (chunks_text t.chunks) mid (last ++ rest) t.gave h.gave in
     record {
       text = chunks_text t.chunks ++ last;
-      gave = (gave.0, gave.1, append_assoc (chunks_text t.chunks) last rest ∙ gave.2);
+      gave = gave_as (append_assoc (chunks_text t.chunks) last rest) gave;
       written = (
         record { chunks = t.chunks; zeros = h.zeros; each = t.each; last = h.is_zero; cut = refl; joined = h.joined ∙ t.joined },
         omega (arith, fits, same),
@@ -285,7 +277,7 @@ bad_after max chunks text why each fits bad = elim bad [
       )
 ]
 
-pub body_refused : (max room : ℕ) (a b c : Option (List ℕ)) (held mid x : List ℕ) (why : Bad) → room ≡ max - length x → AreTaken max a held b mid x
+pub body_refused : (max room : ℕ) (a b c : SourceState) (held mid x : List ℕ) (why : Bad) → room ≡ max - length x → AreTaken max a held b mid x
     → RefusesChunk room b mid c why → RefusesBodyText max Chunked a held c why
 body_refused max room a b c held mid x why left t h =
     let fits = t.fits in
@@ -297,7 +289,7 @@ body_refused max room a b c held mid x why left t h =
           (subst (λ n. IsBadBody n Chunked h.text why) (room_left max room x t.chunks left t.joined) h.bad);
     }
 
-body_cut : (max room : ℕ) (a b c : Option (List ℕ)) (held mid x : List ℕ) → room ≡ max - length x → AreTaken max a held b mid x
+body_cut : (max room : ℕ) (a b c : SourceState) (held mid x : List ℕ) → room ≡ max - length x → AreTaken max a held b mid x
     → CutsChunk room b mid c → CutsBody max Chunked a held c
 body_cut max room a b c held mid x left t h =
     let fits = t.fits in
@@ -309,22 +301,20 @@ body_cut max room a b c held mid x left t h =
       cut = (front_after t.chunks h.text t.each cut.0, under_after max t.chunks h.text t.each (omega (arith, fits, same)) cut.1);
     }
 
-pub body_fault : (max room : ℕ) (a b c : Option (List ℕ)) (held mid rest x y : List ℕ) (e : WireFault) → room ≡ max - length x → AreTaken max a held b mid x
+pub body_fault : (max room : ℕ) (a b c : SourceState) (held mid rest x y : List ℕ) (e : BodyFault) → room ≡ max - length x → AreTaken max a held b mid x
     → FindsChunk room b mid x c rest y (Err e) → FindsBody max Chunked a held c rest y (Err e)
 body_fault max room a b c held mid rest x y Fault.Truncated left t h = (body_cut max room a b c held mid x left t h.0, h.1)
 body_fault max room a b c held mid rest x y Fault.Read left t h = body_cut max room a b c held mid x left t h
 body_fault max room a b c held mid rest x y Fault.NoMemory left t h =
     record { text = chunks_text t.chunks ++ h.text; gave = gave_after a b c held (chunks_text t.chunks) mid h.text t.gave h.gave }
-body_fault max room a b c held mid rest x y Fault.Ended left t h = absurd h
 
 -- ---- a body of a length
 
-pub length_whole : (max n : ℕ) (a b : Option (List ℕ)) (held rest y : List ℕ) → Moved a held [] b rest y n → TakesBody max (Length n) a held b rest y
+pub length_whole : (max n : ℕ) (a b : SourceState) (held rest y : List ℕ) → Moved a held [] b rest y n → TakesBody max (Length n) a held b rest y
 length_whole max n a b held rest y m = record { text = m.bytes; gave = m.gave; written = (sym m.joined, ap length m.joined ∙ m.counted) }
 
-pub length_fault : (max n : ℕ) (a b : Option (List ℕ)) (held rest y : List ℕ) (e : WireFault) → ReadsBytes a held [] b rest y n (Err e)
+pub length_fault : (max n : ℕ) (a b : SourceState) (held rest y : List ℕ) (e : BodyFault) → ReadsBytes a held [] b rest y n (Err e)
     → FindsBody max (Length n) a held b rest y (Err e)
 length_fault max n a b held rest y Fault.Truncated h = (record { text = h.0.text; gave = h.0.gave; cut = h.0.short }, h.1)
 length_fault max n a b held rest y Fault.Read h = record { text = h.text; gave = h.gave; cut = h.short }
 length_fault max n a b held rest y Fault.NoMemory h = h
-length_fault max n a b held rest y Fault.Ended h = absurd h

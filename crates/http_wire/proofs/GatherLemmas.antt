@@ -3,11 +3,12 @@ use Rattle.std.proofs.Common.{◌≡◌, ℕ, Bool, true, false, List, [], ◌++
 use Rattle.std.specs.Prelude.{Result, Ok, Err, ⊤, is_ok, is_err, OnOk, OnErr}
 use Rattle.std.proofs.lemmas.List.{append-nil}
 use Rattle.http_wire.specs.declared.writing.WriteFault.{WriteFault}
-use Rattle.http_wire.specs.Writing.{Sink, TookFront, Wrote}
+use Rattle.http_wire.specs.States.{SinkState}
+use Rattle.http_wire.specs.Writing.{TookFront, Wrote}
 use Rattle.http_wire.specs.Gathering.{Held, GatheredUnless, Gathered}
 use Rattle.http_wire.proofs.WritingLemmas.{appends_none, wrote_more}
 
-pub took_less : (a b : Sink) (text more : List ℕ) → TookFront a b text → TookFront a b (text ++ more)
+pub took_less : (a b : SinkState) (text more : List ℕ) → TookFront a b text → TookFront a b (text ++ more)
 took_less a b text more f = record {
   front = f.front;
   back = f.back ++ more;
@@ -17,13 +18,13 @@ took_less a b text more f = record {
 }
 
 -- after a failed write nothing more is written
-pub put_failed : (start now : Sink) (held : Held) (text more : List ℕ) → held.failed ≡ true → Gathered start now held text → Gathered start now held (text ++ more)
+pub put_failed : (start now : SinkState) (held : Held) (text more : List ℕ) → held.failed ≡ true → Gathered start now held text → Gathered start now held (text ++ more)
 put_failed start now held text more f h =
     let front = subst (λ b. GatheredUnless b start now held.bytes text) f h in
     subst (λ b. GatheredUnless b start now held.bytes (text ++ more)) (sym f) (took_less start now text more front)
 
 -- the bytes are held
-pub put_held : (start now : Sink) (held : Held) (text more bytes : List ℕ) (b : Bool) → held.failed ≡ false → b ≡ false → bytes ≡ held.bytes ++ more
+pub put_held : (start now : SinkState) (held : Held) (text more bytes : List ℕ) (b : Bool) → held.failed ≡ false → b ≡ false → bytes ≡ held.bytes ++ more
     → Gathered start now held text → GatheredUnless b start now bytes (text ++ more)
 put_held start now held text more bytes b f k e h =
     let g = subst (λ b. GatheredUnless b start now held.bytes text) f h in
@@ -31,7 +32,7 @@ put_held start now held text more bytes b f k e h =
     (g.0, g.1, ap (λ t. t ++ more) g.2 ∙ append_assoc g.0 held.bytes more ∙ ap (λ t. g.0 ++ t) (sym e))
 
 -- what is held is written, and more behind it
-pub write_held : (start now new : Sink) (held : Held) (text more : List ℕ) (r : Result ⊤ WriteFault) → held.failed ≡ false → Gathered start now held text
+pub write_held : (start now new : SinkState) (held : Held) (text more : List ℕ) (r : Result ⊤ WriteFault) → held.failed ≡ false → Gathered start now held text
     → Wrote now new (held.bytes ++ more) r → Wrote start new (text ++ more) r
 write_held start now new held text more r f h w =
     let g = subst (λ b. GatheredUnless b start now held.bytes text) f h in
@@ -39,7 +40,7 @@ write_held start now new held text more r f h w =
     (wrote_more start now new g.0 (held.bytes ++ more) r g.1 w)
 
 -- a text that was written is gathered, with nothing held
-pub gathered_after : (start new : Sink) (text bytes : List ℕ) (b : Bool) (r : Result ⊤ WriteFault) → b ≡ is_err r → bytes ≡ [] → Wrote start new text r
+pub gathered_after : (start new : SinkState) (text bytes : List ℕ) (b : Bool) (r : Result ⊤ WriteFault) → b ≡ is_err r → bytes ≡ [] → Wrote start new text r
     → GatheredUnless b start new bytes text
 gathered_after start new text bytes b (Ok u) e none w =
     subst (λ x. GatheredUnless x start new bytes text) (sym e) (text, w, sym (append-nil text) ∙ ap (λ t. text ++ t) (sym none))
@@ -54,11 +55,11 @@ pub given_err : {A E : Type 0} {P : Type 0} (r : Result A E) → is_ok r ≡ fal
 given_err (Ok x) h p = absurd (cc)
 given_err (Err e) h p = p
 
-pub end_failed : (start now : Sink) (held : Held) (text more : List ℕ) (e : WriteFault) → held.failed ≡ true → Gathered start now held text → Wrote start now (text ++ more) (Err e)
+pub end_failed : (start now : SinkState) (held : Held) (text more : List ℕ) (e : WriteFault) → held.failed ≡ true → Gathered start now held text → Wrote start now (text ++ more) (Err e)
 end_failed start now held text more e f h =
     took_less start now text more (subst (λ b. GatheredUnless b start now held.bytes text) f h)
 
 -- a gatherer that has nothing yet
-pub gathered_none : (start : Sink) (held : Held) → held ≡ record { bytes = []; failed = false } → Gathered start start held []
+pub gathered_none : (start : SinkState) (held : Held) → held ≡ record { bytes = []; failed = false } → Gathered start start held []
 gathered_none start held e =
     subst (λ h. Gathered start start h []) (sym e) ([], record { grown = appends_none start.contents; unfailed = refl }, refl)

@@ -1,6 +1,6 @@
 -- A size line in the buffer.
 use Rattle.std.proofs.Common.{◌≡◌, ◌≢◌, ℕ, ◌+◌, ◌^◌, ◌<◌, ◌≤◌, true, List, [], ◌∷◌, ◌++◌, All, length, take, drop, get_or, refl, arith, ◌∙◌, sym, ap, subst, append_assoc, add-one}
-use Rattle.std.specs.Prelude.{Option, Err, ◌⊎◌}
+use Rattle.std.specs.Prelude.{◌⊎◌}
 use Rattle.std.proofs.Math.Seq.{take-suc}
 use Rattle.std.proofs.Math.Nat.{pow-le-pow_right}
 use Rattle.std.proofs.lemmas.List.{take_all, take-append-drop, take-append-le}
@@ -9,14 +9,14 @@ use Rattle.std.proofs.lemmas.List.Elements.{All-head, All-tail}
 use Rattle.std.proofs.lemmas.Int.Digits.{digits_value-lt}
 use Rattle.std.specs.Str.Parse.{digits_value, AllDigits}
 use Rattle.std.specs.Char.{is_ascii_hexdigit, digit_value}
+use Rattle.http_wire.specs.States.{SourceState}
 use Rattle.http_wire.specs.Reading.{Gave}
 use Rattle.http_wire.specs.SizeLines.{StandsAt, IsLine, IsBounded, NeverLine}
-use Rattle.http_wire.specs.ChunkReading.{TakesLine, BreaksLine, CutsLine, FindsLine, NeverEnd, BreaksEnd, CutsEnd, FindsEnd}
-use Rattle.http_wire.specs.declared.fault.WireFault.{WireFault}
-use Rattle.http_wire.specs.declared.fault.WireFault.TheVariants as Fault
+use Rattle.http_wire.specs.ChunkReading.{TakesLine, BreaksLine, CutsLine, NeverEnd, BreaksEnd, CutsEnd}
 use Rattle.http_wire.specs.declared.chunked.LineState.{LineState}
 use Rattle.http_wire.specs.declared.chunked.LineState.TheVariants.{Digits, Ended}
 use Rattle.http_wire.proofs.LineLemmas.{IsHex}
+use Rattle.http_wire.proofs.GaveLemmas.{gave_as}
 use Rattle.std.proofs.lemmas.List.Elements.{All-nil}
 
 hex_small : (b : ℕ) → is_ascii_hexdigit b ≡ true → digit_value b < 16
@@ -45,8 +45,8 @@ bounded front (Ended value) h =
     omega (arith, valued, small)
 
 -- a read behind the bytes leaves them
-pub front_kept : (a b : Option (List ℕ)) (old new : List ℕ) (at : ℕ) → Gave a b old new → at ≤ length old → take at new ≡ take at old
-front_kept a b old new at gave le = ap (take at) gave.2 ∙ take-append-le at old gave.0 le
+pub front_kept : (a b : SourceState) (old new : List ℕ) (at : ℕ) → Gave a b old new → at ≤ length old → take at new ≡ take at old
+front_kept a b old new at gave le = ap (take at) gave.joined ∙ take-append-le at old gave.given le
 
 -- one more byte
 pub front_next : (text : List ℕ) (at b : ℕ) → b ≡ get_or text at b → at < length text → take (at + 1) text ≡ take at text ++ b ∷ []
@@ -58,27 +58,27 @@ cut_round text at b next =
     sym (append_assoc (take at text) (b ∷ []) (drop (at + 1) text))
     ∙ ap (λ t. t ++ drop (at + 1) text) (sym next) ∙ take-append-drop (at + 1) text
 
-pub line_taken : (a b : Option (List ℕ)) (held text front : List ℕ) (at byte value : ℕ) → Gave a b held text
+pub line_taken : (a b : SourceState) (held text front : List ℕ) (at byte value : ℕ) → Gave a b held text
     → take (at + 1) text ≡ front ++ byte ∷ [] → IsLine (front ++ byte ∷ []) value → TakesLine a held b (drop (at + 1) text) value
 line_taken a b held text front at byte value gave next is = record {
   line = take (at + 1) text;
   is_line = subst (λ t. IsLine t value) (sym next) is;
-  gave = (gave.0, gave.1, take-append-drop (at + 1) text ∙ gave.2);
+  gave = gave_as (take-append-drop (at + 1) text) gave;
 }
 
-pub line_broken : (a b : Option (List ℕ)) (held text : List ℕ) (at byte : ℕ) (state : LineState) → Gave a b held text
+pub line_broken : (a b : SourceState) (held text : List ℕ) (at byte : ℕ) (state : LineState) → Gave a b held text
     → take (at + 1) text ≡ take at text ++ byte ∷ [] → StandsAt (take at text) state → NeverLine (take at text ++ byte ∷ []) → BreaksLine a held b
 line_broken a b held text at byte state gave next stands never = record {
   before = take at text;
   byte = byte;
   rest = drop (at + 1) text;
-  gave = (gave.0, gave.1, cut_round text at byte next ∙ gave.2);
+  gave = gave_as (cut_round text at byte next) gave;
   state = state;
   stands = stands;
   never = never;
 }
 
-pub line_cut : (a b : Option (List ℕ)) (held text : List ℕ) (at : ℕ) (state : LineState) → Gave a b held text
+pub line_cut : (a b : SourceState) (held text : List ℕ) (at : ℕ) (state : LineState) → Gave a b held text
     → length text ≡ at → StandsAt (take at text) state → CutsLine a held b
 line_cut a b held text at state gave len stands = record {
   text = text;
@@ -86,9 +86,6 @@ line_cut a b held text at state gave len stands = record {
   state = state;
   stands = subst (λ t. StandsAt t state) (take_all at text (omega (arith, len))) stands;
 }
-
-pub line_fault : (a b : Option (List ℕ)) (held text : List ℕ) (e : WireFault) → e ≡ Fault.Read → CutsLine a held b → FindsLine a held b text (Err e)
-line_fault a b held text e is cut = subst (λ f. FindsLine a held b text (Err f)) (sym is) cut
 
 pub stands_empty : (text : List ℕ) → StandsAt (take 0 text) (Digits 0 0)
 stands_empty text = record { count_is = refl; few = omega arith; hex = none_hex; value_is = refl }
@@ -104,24 +101,21 @@ never_first b other more rest e = other (cc)
 pub never_second : (b : ℕ) → b ≢ 10 → NeverEnd ((13 ∷ []) ++ b ∷ [])
 never_second b other more rest e = other (cc)
 
-pub end_broken : (a b : Option (List ℕ)) (held text front : List ℕ) (at byte : ℕ) → Gave a b held text
+pub end_broken : (a b : SourceState) (held text front : List ℕ) (at byte : ℕ) → Gave a b held text
     → take (at + 1) text ≡ front ++ byte ∷ [] → (front ≡ []) ⊎ (front ≡ 13 ∷ []) → NeverEnd (front ++ byte ∷ []) → BreaksEnd a held b
 end_broken a b held text front at byte gave next which never = record {
   before = front;
   byte = byte;
   rest = drop (at + 1) text;
-  gave = (gave.0, gave.1, sym (append_assoc front (byte ∷ []) (drop (at + 1) text)) ∙ ap (λ t. t ++ drop (at + 1) text) (sym next) ∙ take-append-drop (at + 1) text ∙ gave.2);
+  gave = gave_as (sym (append_assoc front (byte ∷ []) (drop (at + 1) text)) ∙ ap (λ t. t ++ drop (at + 1) text) (sym next) ∙ take-append-drop (at + 1) text) gave;
   front = which;
   never = never;
 }
 
-pub end_cut : (a b : Option (List ℕ)) (held text front : List ℕ) (at : ℕ) → Gave a b held text → length text ≡ at
+pub end_cut : (a b : SourceState) (held text front : List ℕ) (at : ℕ) → Gave a b held text → length text ≡ at
     → take at text ≡ front → (front ≡ []) ⊎ (front ≡ 13 ∷ []) → CutsEnd a held b
 end_cut a b held text front at gave len start which = record {
   text = front;
-  gave = (gave.0, gave.1, sym start ∙ take_all at text (omega (arith, len)) ∙ gave.2);
+  gave = gave_as (sym start ∙ take_all at text (omega (arith, len))) gave;
   front = which;
 }
-
-pub end_fault : (a b : Option (List ℕ)) (held text : List ℕ) (e : WireFault) → e ≡ Fault.Read → CutsEnd a held b → FindsEnd a held b text (Err e)
-end_fault a b held text e is cut = subst (λ f. FindsEnd a held b text (Err f)) (sym is) cut

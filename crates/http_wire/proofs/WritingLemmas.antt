@@ -7,7 +7,8 @@ use Rattle.std.proofs.lemmas.List.Folds.{concat-append}
 use Rattle.std.proofs.Math.Seq.{take-add}
 use Rattle.std.specs.Io.KnownBytes.{Appends, Keeps}
 use Rattle.http_wire.specs.declared.writing.WriteFault.{WriteFault}
-use Rattle.http_wire.specs.Writing.{Sink, TookAll, TookFront, Wrote}
+use Rattle.http_wire.specs.States.{SinkState}
+use Rattle.http_wire.specs.Writing.{TookAll, TookFront, Wrote}
 use Rattle.http_wire.specs.Counts.{CountsUp}
 
 pub appends_none : (known : Option (List ℕ)) → Appends known known []
@@ -31,31 +32,31 @@ pub taken_more : (xs : List ℕ) (i n : ℕ) → take (i + n) xs ≡ take i xs +
 taken_more xs i n =
     take-add i n xs ∙ ap (λ t. take i xs ++ take n t) (sym (take_all (length xs - i) (drop i xs) (omega (arith, length-drop i xs))))
 
-pub took_both : (a b c : Sink) (text bytes : List ℕ) → TookAll a b text → TookAll b c bytes → TookAll a c (text ++ bytes)
+pub took_both : (a b c : SinkState) (text bytes : List ℕ) → TookAll a b text → TookAll b c bytes → TookAll a c (text ++ bytes)
 took_both a b c text bytes h k = record {
   grown = appends_both a.contents b.contents c.contents text bytes h.grown k.grown;
   unfailed = k.unfailed ∙ h.unfailed;
 }
 
-pub took_more : (a b c : Sink) (text bytes : List ℕ) → TookAll a b text → TookFront b c bytes → TookFront a c (text ++ bytes)
+pub took_more : (a b c : SinkState) (text bytes : List ℕ) → TookAll a b text → TookFront b c bytes → TookFront a c (text ++ bytes)
 took_more a b c text bytes h k = record {
   front = text ++ k.front;
   back = k.back;
   cut = ap (λ t. text ++ t) k.cut ∙ sym (append_assoc text k.front k.back);
   grown = appends_both a.contents b.contents c.contents text k.front h.grown k.grown;
-  failed = subst (λ m. CountsUp m c.failed) h.unfailed k.failed;
+  failed = subst (λ m. CountsUp m c.failed_writes) h.unfailed k.failed;
 }
 
-pub wrote_more : (a b c : Sink) (text bytes : List ℕ) (r : Result ⊤ WriteFault) → TookAll a b text → Wrote b c bytes r
+pub wrote_more : (a b c : SinkState) (text bytes : List ℕ) (r : Result ⊤ WriteFault) → TookAll a b text → Wrote b c bytes r
     → Wrote a c (text ++ bytes) r
 wrote_more a b c text bytes (Ok u) h k = took_both a b c text bytes h k
 wrote_more a b c text bytes (Err e) h k = took_more a b c text bytes h k
 
-pub wrote_after : (a b c : Sink) (text bytes : List ℕ) (d r : Result ⊤ WriteFault) (u : ⊤) → d ≡ Ok u → Wrote a b text d
+pub wrote_after : (a b c : SinkState) (text bytes : List ℕ) (d r : Result ⊤ WriteFault) (u : ⊤) → d ≡ Ok u → Wrote a b text d
     → Wrote b c bytes r → Wrote a c (text ++ bytes) r
 wrote_after a b c text bytes d r u e h k = wrote_more a b c text bytes r (subst (Wrote a b text) e h) k
 
-pub wrote_less : (a b : Sink) (text bytes : List ℕ) (d : Result ⊤ WriteFault) (e : WriteFault) → d ≡ Err e → Wrote a b text d
+pub wrote_less : (a b : SinkState) (text bytes : List ℕ) (d : Result ⊤ WriteFault) (e : WriteFault) → d ≡ Err e → Wrote a b text d
     → TookFront a b (text ++ bytes)
 wrote_less a b text bytes d e same h =
     let f = subst (Wrote a b text) same h in

@@ -1,41 +1,40 @@
 -- What the functions find that read a body.
-use Rattle.std.specs.Prelude.{◌≡◌, ℕ, ◌<◌, ◌≤◌, List, ◌++◌, length, Option, Result, Ok, Err}
+use Rattle.std.specs.Prelude.{◌≡◌, ℕ, ◌<◌, ◌≤◌, List, ◌++◌, length, Result, Ok, Err}
 use Rattle.std.specs.Io.KnownBytes.{IsAtEnd}
+use Rattle.http_wire.specs.States.{SourceState}
 use Rattle.http_wire.specs.Reading.{Gave}
-use Rattle.http_wire.specs.declared.fault.WireFault.{WireFault}
-use Rattle.http_wire.specs.declared.fault.WireFault.TheVariants as Fault
+use Rattle.http_wire.specs.declared.fault.BodyFault.{BodyFault}
+use Rattle.http_wire.specs.declared.fault.BodyFault.TheVariants as Fault
 
 -- some bytes were moved from the input to the end of a body
-pub record Moved (old : Option (List ℕ)) (held before : List ℕ) (new : Option (List ℕ)) (rest after : List ℕ) (count : ℕ) : Type 0 where
+pub record Moved (old : SourceState) (held before : List ℕ) (new : SourceState) (rest after : List ℕ) (count : ℕ) : Type 0 where
   pub bytes : List ℕ
   pub gave : Gave old new held (bytes ++ rest)
   pub joined : after ≡ before ++ bytes
   pub counted : length bytes ≡ count
 
 -- no byte was moved, where the source is left as new
-pub record MovedNone (old : Option (List ℕ)) (held : List ℕ) (new : Option (List ℕ)) : Type 0 where
+pub record MovedNone (old : SourceState) (held : List ℕ) (new : SourceState) : Type 0 where
   pub text : List ℕ
   pub gave : Gave old new held text
 
 -- fewer than so many bytes came
-pub record StopsBefore (old : Option (List ℕ)) (held : List ℕ) (new : Option (List ℕ)) (count : ℕ) : Type 0 where
+pub record StopsBefore (old : SourceState) (held : List ℕ) (new : SourceState) (count : ℕ) : Type 0 where
   pub text : List ℕ
   pub gave : Gave old new held text
   pub short : length text < count
 
 -- a part of what is left of a body, or the end or a failed read before any of it
-abbrev pub ReadsPart : Option (List ℕ) → List ℕ → List ℕ → Option (List ℕ) → List ℕ → List ℕ → ℕ → Result ℕ WireFault → Type 0
+abbrev pub ReadsPart : SourceState → List ℕ → List ℕ → SourceState → List ℕ → List ℕ → ℕ → Result ℕ BodyFault → Type 0
 ReadsPart old held before new rest after left (Ok count) =
     Moved old held before new rest after count × (0 < count) × (count ≤ left)
-ReadsPart old held before new rest after left (Err Fault.Truncated) = StopsBefore old held new 1 × IsAtEnd new
+ReadsPart old held before new rest after left (Err Fault.Truncated) = StopsBefore old held new 1 × IsAtEnd new.remaining
 ReadsPart old held before new rest after left (Err Fault.Read) = StopsBefore old held new 1
 ReadsPart old held before new rest after left (Err Fault.NoMemory) = MovedNone old held new
-ReadsPart old held before new rest after left (Err Fault.Ended) = ⊥
 
 -- so many bytes of a body, or the end or a failed read before them
-abbrev pub ReadsBytes : Option (List ℕ) → List ℕ → List ℕ → Option (List ℕ) → List ℕ → List ℕ → ℕ → Result (Unit {0}) WireFault → Type 0
+abbrev pub ReadsBytes : SourceState → List ℕ → List ℕ → SourceState → List ℕ → List ℕ → ℕ → Result (Unit {0}) BodyFault → Type 0
 ReadsBytes old held before new rest after count (Ok done) = Moved old held before new rest after count
-ReadsBytes old held before new rest after count (Err Fault.Truncated) = StopsBefore old held new count × IsAtEnd new
+ReadsBytes old held before new rest after count (Err Fault.Truncated) = StopsBefore old held new count × IsAtEnd new.remaining
 ReadsBytes old held before new rest after count (Err Fault.Read) = StopsBefore old held new count
 ReadsBytes old held before new rest after count (Err Fault.NoMemory) = MovedNone old held new
-ReadsBytes old held before new rest after count (Err Fault.Ended) = ⊥

@@ -1,7 +1,8 @@
 -- What the functions find that read a chunked body.
-use Rattle.std.specs.Prelude.{◌≡◌, ◌≢◌, ℕ, ◌≤◌, ◌⊎◌, Bool, true, false, List, [], ◌∷◌, ◌++◌, length, Option, Result, Ok, Err}
+use Rattle.std.specs.Prelude.{◌≡◌, ◌≢◌, ℕ, ◌≤◌, ◌⊎◌, Bool, true, false, List, [], ◌∷◌, ◌++◌, length, Result, Ok, Err}
 use Rattle.std.specs.Io.KnownBytes.{IsAtEnd}
 use Rattle.httparse.specs.Ascii.{crlf_bytes}
+use Rattle.http_wire.specs.States.{SourceState}
 use Rattle.http_wire.specs.Reading.{Gave}
 use Rattle.http_wire.specs.BodyReading.{MovedNone}
 use Rattle.http_wire.specs.Body.{Chunk, IsChunk, print_chunk, IsZero, IsBadBody, IsCutBody}
@@ -13,17 +14,19 @@ use Rattle.http_wire.specs.declared.chunked.LineRead.TheVariants.{Size, Broken}
 use Rattle.http_wire.specs.declared.chunked.ChunkRead.{ChunkRead}
 use Rattle.http_wire.specs.declared.chunked.ChunkRead.TheVariants.{More, Last, Refused}
 use Rattle.http_wire.specs.declared.fault.Bad.{Bad}
-use Rattle.http_wire.specs.declared.fault.WireFault.{WireFault}
-use Rattle.http_wire.specs.declared.fault.WireFault.TheVariants as Fault
+use Rattle.http_wire.specs.declared.fault.InputFault.{InputFault}
+use Rattle.http_wire.specs.declared.fault.InputFault.TheVariants as Input
+use Rattle.http_wire.specs.declared.fault.BodyFault.{BodyFault}
+use Rattle.http_wire.specs.declared.fault.BodyFault.TheVariants as Fault
 
 -- a whole size line was taken
-pub record TakesLine (old : Option (List ℕ)) (held : List ℕ) (new : Option (List ℕ)) (rest : List ℕ) (value : ℕ) : Type 0 where
+pub record TakesLine (old : SourceState) (held : List ℕ) (new : SourceState) (rest : List ℕ) (value : ℕ) : Type 0 where
   pub line : List ℕ
   pub is_line : IsLine line value
   pub gave : Gave old new held (line ++ rest)
 
 -- at a byte the input stops being the front of a size line
-pub record BreaksLine (old : Option (List ℕ)) (held : List ℕ) (new : Option (List ℕ)) : Type 0 where
+pub record BreaksLine (old : SourceState) (held : List ℕ) (new : SourceState) : Type 0 where
   pub before : List ℕ
   pub byte : ℕ
   pub rest : List ℕ
@@ -33,26 +36,24 @@ pub record BreaksLine (old : Option (List ℕ)) (held : List ℕ) (new : Option 
   pub never : NeverLine (before ++ byte ∷ [])
 
 -- what came is the front of a size line
-pub record CutsLine (old : Option (List ℕ)) (held : List ℕ) (new : Option (List ℕ)) : Type 0 where
+pub record CutsLine (old : SourceState) (held : List ℕ) (new : SourceState) : Type 0 where
   pub text : List ℕ
   pub gave : Gave old new held text
   pub state : LineState
   pub stands : StandsAt text state
 
-abbrev pub FindsLine : Option (List ℕ) → List ℕ → Option (List ℕ) → List ℕ → Result LineRead WireFault → Type 0
+abbrev pub FindsLine : SourceState → List ℕ → SourceState → List ℕ → Result LineRead InputFault → Type 0
 FindsLine old held new rest (Ok (Size value)) = TakesLine old held new rest value
 FindsLine old held new rest (Ok Broken) = BreaksLine old held new
-FindsLine old held new rest (Err Fault.Truncated) = CutsLine old held new × IsAtEnd new
-FindsLine old held new rest (Err Fault.Read) = CutsLine old held new
-FindsLine old held new rest (Err Fault.NoMemory) = ⊥
-FindsLine old held new rest (Err Fault.Ended) = ⊥
+FindsLine old held new rest (Err Input.Truncated) = CutsLine old held new × IsAtEnd new.remaining
+FindsLine old held new rest (Err Input.Read) = CutsLine old held new
 
 -- no continuation begins with CR LF
 abbrev pub NeverEnd : List ℕ → Type 0
 NeverEnd text = (more rest : List ℕ) → text ++ more ≢ crlf_bytes ++ rest
 
 -- at a byte the input stops being the front of CR LF
-pub record BreaksEnd (old : Option (List ℕ)) (held : List ℕ) (new : Option (List ℕ)) : Type 0 where
+pub record BreaksEnd (old : SourceState) (held : List ℕ) (new : SourceState) : Type 0 where
   pub before : List ℕ
   pub byte : ℕ
   pub rest : List ℕ
@@ -61,21 +62,19 @@ pub record BreaksEnd (old : Option (List ℕ)) (held : List ℕ) (new : Option (
   pub never : NeverEnd (before ++ byte ∷ [])
 
 -- what came is the front of CR LF
-pub record CutsEnd (old : Option (List ℕ)) (held : List ℕ) (new : Option (List ℕ)) : Type 0 where
+pub record CutsEnd (old : SourceState) (held : List ℕ) (new : SourceState) : Type 0 where
   pub text : List ℕ
   pub gave : Gave old new held text
   pub front : (text ≡ []) ⊎ (text ≡ 13 ∷ [])
 
-abbrev pub FindsEnd : Option (List ℕ) → List ℕ → Option (List ℕ) → List ℕ → Result Bool WireFault → Type 0
+abbrev pub FindsEnd : SourceState → List ℕ → SourceState → List ℕ → Result Bool InputFault → Type 0
 FindsEnd old held new rest (Ok true) = Gave old new held (crlf_bytes ++ rest)
 FindsEnd old held new rest (Ok false) = BreaksEnd old held new
-FindsEnd old held new rest (Err Fault.Truncated) = CutsEnd old held new × IsAtEnd new
-FindsEnd old held new rest (Err Fault.Read) = CutsEnd old held new
-FindsEnd old held new rest (Err Fault.NoMemory) = ⊥
-FindsEnd old held new rest (Err Fault.Ended) = ⊥
+FindsEnd old held new rest (Err Input.Truncated) = CutsEnd old held new × IsAtEnd new.remaining
+FindsEnd old held new rest (Err Input.Read) = CutsEnd old held new
 
 -- a whole chunk was taken
-pub record TakesChunk (room : ℕ) (old : Option (List ℕ)) (held before : List ℕ) (new : Option (List ℕ)) (rest after : List ℕ) : Type 0 where
+pub record TakesChunk (room : ℕ) (old : SourceState) (held before : List ℕ) (new : SourceState) (rest after : List ℕ) : Type 0 where
   pub chunk : Chunk
   pub is_chunk : IsChunk chunk
   pub fits : length chunk.data_bytes ≤ room
@@ -83,29 +82,28 @@ pub record TakesChunk (room : ℕ) (old : Option (List ℕ)) (held before : List
   pub joined : after ≡ before ++ chunk.data_bytes
 
 -- the end was taken
-pub record TakesLast (old : Option (List ℕ)) (held before : List ℕ) (new : Option (List ℕ)) (rest after : List ℕ) : Type 0 where
+pub record TakesLast (old : SourceState) (held before : List ℕ) (new : SourceState) (rest after : List ℕ) : Type 0 where
   pub zeros : List ℕ
   pub is_zero : IsZero zeros
   pub gave : Gave old new held ((zeros ++ (crlf_bytes ++ crlf_bytes)) ++ rest)
   pub joined : after ≡ before
 
 -- what came is no chunked text of so many bytes
-pub record RefusesChunk (room : ℕ) (old : Option (List ℕ)) (held : List ℕ) (new : Option (List ℕ)) (why : Bad) : Type 0 where
+pub record RefusesChunk (room : ℕ) (old : SourceState) (held : List ℕ) (new : SourceState) (why : Bad) : Type 0 where
   pub text : List ℕ
   pub gave : Gave old new held text
   pub bad : IsBadBody room Chunked text why
 
 -- what came is the front of a chunked text of so many bytes
-pub record CutsChunk (room : ℕ) (old : Option (List ℕ)) (held : List ℕ) (new : Option (List ℕ)) : Type 0 where
+pub record CutsChunk (room : ℕ) (old : SourceState) (held : List ℕ) (new : SourceState) : Type 0 where
   pub text : List ℕ
   pub gave : Gave old new held text
   pub cut : IsCutBody room Chunked text
 
-abbrev pub FindsChunk : ℕ → Option (List ℕ) → List ℕ → List ℕ → Option (List ℕ) → List ℕ → List ℕ → Result ChunkRead WireFault → Type 0
+abbrev pub FindsChunk : ℕ → SourceState → List ℕ → List ℕ → SourceState → List ℕ → List ℕ → Result ChunkRead BodyFault → Type 0
 FindsChunk room old held before new rest after (Ok More) = TakesChunk room old held before new rest after
 FindsChunk room old held before new rest after (Ok Last) = TakesLast old held before new rest after
 FindsChunk room old held before new rest after (Ok (Refused why)) = RefusesChunk room old held new why
-FindsChunk room old held before new rest after (Err Fault.Truncated) = CutsChunk room old held new × IsAtEnd new
+FindsChunk room old held before new rest after (Err Fault.Truncated) = CutsChunk room old held new × IsAtEnd new.remaining
 FindsChunk room old held before new rest after (Err Fault.Read) = CutsChunk room old held new
 FindsChunk room old held before new rest after (Err Fault.NoMemory) = MovedNone old held new
-FindsChunk room old held before new rest after (Err Fault.Ended) = ⊥

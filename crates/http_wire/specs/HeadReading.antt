@@ -1,14 +1,15 @@
 -- What the functions find that read a head, of any grammar.
-use Rattle.std.specs.Prelude.{◌≡◌, ℕ, ◌+◌, ◌<◌, ◌≤◌, ◌⊎◌, List, [], ◌∷◌, ◌++◌, length, take, drop, Option, Result, Ok, Err}
+use Rattle.std.specs.Prelude.{◌≡◌, ℕ, ◌+◌, ◌<◌, ◌≤◌, ◌⊎◌, List, [], ◌∷◌, ◌++◌, length, take, drop, Result, Ok, Err}
 use Rattle.std.specs.Io.KnownBytes.{IsAtEnd}
 use Rattle.httparse.specs.Ascii.{line_feed}
+use Rattle.http_wire.specs.States.{SourceState}
 use Rattle.http_wire.specs.Fronts.{max_head, Words, Reads, HasNone, IsRefused, IsTooLong, IsUnfinished, MayBeRefused}
 use Rattle.http_wire.specs.declared.head.Verdict.{Verdict}
 use Rattle.http_wire.specs.declared.head.Verdict.TheVariants.{Complete, Refused, Open}
 use Rattle.http_wire.specs.declared.head.HeadRead.{HeadRead}
 use Rattle.http_wire.specs.declared.head.HeadRead.TheVariants as Found
-use Rattle.http_wire.specs.declared.fault.WireFault.{WireFault}
-use Rattle.http_wire.specs.declared.fault.WireFault.TheVariants as Fault
+use Rattle.http_wire.specs.declared.fault.InputFault.{InputFault}
+use Rattle.http_wire.specs.declared.fault.InputFault.TheVariants as Fault
 
 -- what a parser of the grammar answers: which heads that begin a text it covers, and how many bytes they have
 pub record Spans (P : Type 0) : Type 1 where
@@ -41,12 +42,10 @@ JudgesAt s text at Refused = IsRefused s.words text
 JudgesAt s text at Open = HasNone s.words (take (at + 1) text)
 
 -- what a read of a head found in the text that was read, where the source is left as new
-abbrev pub FindsHead : {P : Type 0} → Spans P → List ℕ → Option (List ℕ) → Result (HeadRead P) WireFault → Type 0
-FindsHead s text new (Ok Found.Over) = (text ≡ []) × IsAtEnd new
+abbrev pub FindsHead : {P : Type 0} → Spans P → List ℕ → SourceState → Result (HeadRead P) InputFault → Type 0
+FindsHead s text new (Ok Found.Over) = (text ≡ []) × IsAtEnd new.remaining
 FindsHead s text new (Ok Found.Refused) = IsRefused s.words text
 FindsHead s text new (Ok Found.TooLong) = IsTooLong s.words text
 FindsHead s text new (Ok (Found.Head p)) = IsHeadAtFront s text p
-FindsHead s text new (Err Fault.Truncated) = ((0 < length text) × IsUnfinished s.words text) × IsAtEnd new
+FindsHead s text new (Err Fault.Truncated) = ((0 < length text) × IsUnfinished s.words text) × IsAtEnd new.remaining
 FindsHead s text new (Err Fault.Read) = (text ≡ []) ⊎ ((0 < length text) × IsUnfinished s.words text)
-FindsHead s text new (Err Fault.NoMemory) = ⊥
-FindsHead s text new (Err Fault.Ended) = ⊥

@@ -1,4 +1,6 @@
 pub mod Counts
+pub mod States
+pub mod Faults
 pub mod FaultTexts
 pub mod Reading
 pub mod Writing

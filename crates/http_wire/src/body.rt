@@ -1,6 +1,6 @@
 //! Bodies (RFC 9112, section 6), read behind their heads.
-ghost use Rattle.std.specs.Prelude.{◌≡◌, ◌≢◌, ℕ, ◌+◌, ◌*◌, ◌^◌, ◌<◌, ◌≤◌, List, [], ◌++◌, length, Err, OnOk, OnErr};
-ghost use Rattle.http_wire.specs.Counts.{CountsUp, CountsAtMost};
+ghost use Rattle.std.specs.Prelude.{◌≡◌, ℕ, ◌+◌, ◌*◌, ◌^◌, ◌<◌, ◌≤◌, List, [], ◌++◌, length, Err, OnOk, OnErr};
+ghost use Rattle.http_wire.specs.Reading.{Costs};
 ghost use Rattle.http_wire.specs.BodyReading.{ReadsPart, ReadsBytes};
 ghost use Rattle.http_wire.specs.BodyFinding.{FindsBody};
 ghost use Rattle.http_wire.specs.Body.{IsFraming};
@@ -8,7 +8,7 @@ ghost use Rattle.http_wire.specs.Body.{IsFraming};
 use crate::buffer::ReadBuffer;
 use crate::bytes::ByteSource;
 use crate::chunked::read_chunks;
-use crate::fault::{Bad, WireFault};
+use crate::fault::{Bad, BodyFault};
 use crate::framing::Framing;
 use crate::head::has_byte;
 use std::alloc::AllocError;
@@ -43,23 +43,17 @@ fn read_part<S: ByteSource, B: BodyBuffer>(
     buffer: &mut ReadBuffer,
     body: &mut B,
     left: usize,
-) -> Result<usize, WireFault>
+) -> Result<usize, BodyFault>
     requires { 0 < left }
-    ensures found { ReadsPart (S.remaining source.old) buffer.old (B.bytes body.old)
-        (S.remaining source.new) buffer.new (B.bytes body.new) left result }
-    ensures reads { CountsAtMost (S.reads source.old) (S.reads source.new) 1 }
-    ensures failed { result ≡ Err WireFault.Read
-        → CountsUp (S.failed_reads source.old) (S.failed_reads source.new) }
-    ensures unfailed { result ≢ Err WireFault.Read
-        → S.failed_reads source.new ≡ S.failed_reads source.old }
+    ensures found { ReadsPart (S.state source.old) buffer.old (B.bytes body.old)
+        (S.state source.new) buffer.new (B.bytes body.new) left result }
+    ensures costs { Costs 1 (result ≡ Err BodyFault.Read) (S.state source.old) (S.state source.new) }
 {
     if !has_byte(source, buffer, 0)? {
-        return Err(WireFault::Truncated);
+        return Err(BodyFault::Truncated);
     }
     let count = left.min(buffer.len());
-    if body.extend(&buffer.as_slice()[..count]).is_err() {
-        return Err(WireFault::NoMemory);
-    }
+    body.extend(&buffer.as_slice()[..count])?;
     buffer.consume(count);
     Ok(count)
 }
@@ -70,14 +64,10 @@ pub fn read_bytes<S: ByteSource, B: BodyBuffer>(
     buffer: &mut ReadBuffer,
     body: &mut B,
     count: usize,
-) -> Result<(), WireFault>
-    ensures found { ReadsBytes (S.remaining source.old) buffer.old (B.bytes body.old)
-        (S.remaining source.new) buffer.new (B.bytes body.new) count result }
-    ensures reads { CountsAtMost (S.reads source.old) (S.reads source.new) count }
-    ensures failed { result ≡ Err WireFault.Read
-        → CountsUp (S.failed_reads source.old) (S.failed_reads source.new) }
-    ensures unfailed { result ≢ Err WireFault.Read
-        → S.failed_reads source.new ≡ S.failed_reads source.old }
+) -> Result<(), BodyFault>
+    ensures found { ReadsBytes (S.state source.old) buffer.old (B.bytes body.old)
+        (S.state source.new) buffer.new (B.bytes body.new) count result }
+    ensures costs { Costs count (result ≡ Err BodyFault.Read) (S.state source.old) (S.state source.new) }
 {
     let mut left = count;
     while left > 0 {
@@ -94,17 +84,13 @@ pub fn read_body<S: ByteSource, B: BodyBuffer>(
     body: &mut B,
     framing: Framing,
     max_body: u64,
-) -> Result<BodyEnd, WireFault>
+) -> Result<BodyEnd, BodyFault>
     requires limit { max_body ≤ 2 ^ 31 }
     requires framing { IsFraming max_body framing }
     requires empty { B.bytes body.old ≡ [] }
-    ensures found { FindsBody max_body framing (S.remaining source.old) buffer.old (S.remaining source.new)
+    ensures found { FindsBody max_body framing (S.state source.old) buffer.old (S.state source.new)
         buffer.new (B.bytes body.new) result }
-    ensures reads { CountsAtMost (S.reads source.old) (S.reads source.new) (12 + 13 * max_body) }
-    ensures failed { result ≡ Err WireFault.Read
-        → CountsUp (S.failed_reads source.old) (S.failed_reads source.new) }
-    ensures unfailed { result ≢ Err WireFault.Read
-        → S.failed_reads source.new ≡ S.failed_reads source.old }
+    ensures costs { Costs (12 + 13 * max_body) (result ≡ Err BodyFault.Read) (S.state source.old) (S.state source.new) }
 {
     match framing {
         Framing::Length(length) => {

@@ -1,12 +1,10 @@
 //! Bytes that were read from a source and not taken yet.
-ghost use Rattle.std.specs.Prelude.{◌≡◌, ◌≢◌, ℕ, ◌+◌, ◌-◌, ◌<◌, ◌≤◌, List, [], ◌++◌, length, drop, take, Ok, Err, IfOk, OnErr, IfErr, IsTrue, IsFalse};
+ghost use Rattle.std.specs.Prelude.{◌≡◌, ◌+◌, ◌-◌, ◌<◌, ◌≤◌, [], length, drop, take, IfOk, OnErr, IsErr};
 ghost use Rattle.std.specs.Io.KnownBytes.{IsAtEnd};
 ghost use Rattle.std.specs.Result.{result_unwrap_or};
-ghost use Rattle.http_wire.specs.Counts.{CountsUp, CountsAtMost};
-ghost use Rattle.http_wire.specs.Reading.{Gave};
+ghost use Rattle.http_wire.specs.Reading.{Gave, Costs};
 
-use crate::bytes::ByteSource;
-use crate::fault::WireFault;
+use crate::bytes::{ByteSource, Failed};
 use std::alloc::{AllocError, Global};
 use std::marker::Model;
 
@@ -75,18 +73,13 @@ impl ReadBuffer {
     }
 
     /// Reads once, behind what it holds. 0 is the end. A read that failed leaves what it holds.
-    pub fn fill<S: ByteSource>(&mut self, source: &mut S) -> Result<usize, WireFault>
+    pub fn fill<S: ByteSource>(&mut self, source: &mut S) -> Result<usize, Failed>
         requires { length self.old < CAPACITY }
-        ensures gave { Gave (S.remaining source.old) (S.remaining source.new) self.old self.new }
+        ensures gave { Gave (S.state source.old) (S.state source.new) self.old self.new }
         ensures count { IfOk result (λ n. length self.new ≡ length self.old + n) }
-        ensures end { IfOk result (λ n. n ≡ 0 → IsAtEnd (S.remaining source.new)) }
-        ensures error { IfErr result (λ e. e ≡ WireFault.Read) }
+        ensures end { IfOk result (λ n. n ≡ 0 → IsAtEnd (S.state source.new).remaining) }
         ensures kept { OnErr result (self.new ≡ self.old) }
-        ensures reads { CountsAtMost (S.reads source.old) (S.reads source.new) 1 }
-        ensures failed { result ≡ Err WireFault.Read
-            → CountsUp (S.failed_reads source.old) (S.failed_reads source.new) }
-        ensures unfailed { result ≢ Err WireFault.Read
-            → S.failed_reads source.new ≡ S.failed_reads source.old }
+        ensures costs { Costs 1 (IsErr result) (S.state source.old) (S.state source.new) }
     {
         if self.end == CAPACITY {
             self.bytes.copy_within(self.start..CAPACITY, 0);
@@ -100,26 +93,14 @@ impl ReadBuffer {
 }
 
 /// Reads once into the bytes from this index on.
-fn read_behind<S: ByteSource>(
-    source: &mut S,
-    bytes: &mut [u8],
-    end: usize,
-) -> Result<usize, WireFault>
+fn read_behind<S: ByteSource>(source: &mut S, bytes: &mut [u8], end: usize) -> Result<usize, Failed>
     requires { end < length bytes.old }
-    ensures gave { Gave (S.remaining source.old) (S.remaining source.new)
+    ensures gave { Gave (S.state source.old) (S.state source.new)
         (take end bytes.old) (take (end + result_unwrap_or result 0) bytes.new) }
     ensures count { IfOk result (λ n. end + n ≤ length bytes.new) }
-    ensures end { IfOk result (λ n. n ≡ 0 → IsAtEnd (S.remaining source.new)) }
-    ensures error { IfErr result (λ e. e ≡ WireFault.Read) }
+    ensures end { IfOk result (λ n. n ≡ 0 → IsAtEnd (S.state source.new).remaining) }
     ensures kept { OnErr result (take end bytes.new ≡ take end bytes.old) }
-    ensures reads { CountsAtMost (S.reads source.old) (S.reads source.new) 1 }
-    ensures failed { result ≡ Err WireFault.Read
-        → CountsUp (S.failed_reads source.old) (S.failed_reads source.new) }
-    ensures unfailed { result ≢ Err WireFault.Read
-        → S.failed_reads source.new ≡ S.failed_reads source.old }
+    ensures costs { Costs 1 (IsErr result) (S.state source.old) (S.state source.new) }
 {
-    match source.read(&mut bytes[end..]) {
-        Ok(count) => Ok(count),
-        Err(_) => Err(WireFault::Read),
-    }
+    source.read(&mut bytes[end..])
 }

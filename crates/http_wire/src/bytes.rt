@@ -1,7 +1,8 @@
 //! Readers and writers of bytes, with contracts that name the bytes and count the calls.
-ghost use Rattle.std.specs.Prelude.{◌≡◌, ℕ, ◌+◌, ◌-◌, ◌<◌, ◌≤◌, Bool, true, IsTrue, List, length, take, Option, IfOk, OnOk, OnErr};
+ghost use Rattle.std.specs.Prelude.{◌≡◌, ◌+◌, ◌-◌, ◌<◌, ◌≤◌, true, IsTrue, length, take, IfOk, OnOk, OnErr};
 ghost use Rattle.std.specs.Io.KnownBytes.{ReadConsumes, WriteAppends, Keeps};
 ghost use Rattle.http_wire.specs.Counts.{CountsUp};
+ghost use Rattle.http_wire.specs.States.{SourceState, SinkState};
 
 use std::fmt;
 use std::io::{Read, Write};
@@ -24,57 +25,43 @@ impl std::error::Error for Failed {}
 
 /// Where requests and replies are read from.
 pub trait ByteSource {
-    // The bytes that reads will give from here on, where they are known.
-    ghost remaining: { Self → Option (List ℕ) };
-
-    // How many reads there were.
-    ghost reads: { Self → ℕ };
-
-    // How many reads failed.
-    ghost failed_reads: { Self → ℕ };
+    // The bytes that reads will give from here on, where they are known, and the counts of its reads.
+    ghost state: { Self → SourceState };
 
     /// Reads some bytes into the front of `buf`, at least one unless the source has ended, and says
     /// how many: 0 is the end. `Failed` is any error of the read, an interrupted one too.
     fn read(&mut self, buf: &mut [u8]) -> Result<usize, Failed>
         requires { 0 < length buf.old }
         ensures bound { IfOk result (λ n. n ≤ length buf.new) }
-        ensures bytes { ReadConsumes (remaining self.old) (remaining self.new) result buf.new }
-        ensures counted { CountsUp (reads self.old) (reads self.new) }
-        ensures ok { OnOk result (failed_reads self.new ≡ failed_reads self.old) }
-        ensures err { OnErr result (CountsUp (failed_reads self.old) (failed_reads self.new)) };
+        ensures bytes { ReadConsumes (state self.old).remaining (state self.new).remaining result buf.new }
+        ensures counted { CountsUp (state self.old).reads (state self.new).reads }
+        ensures ok { OnOk result ((state self.new).failed_reads ≡ (state self.old).failed_reads) }
+        ensures err { OnErr result (CountsUp (state self.old).failed_reads (state self.new).failed_reads) };
 }
 
 /// Where requests and replies are written to.
 pub trait ByteSink {
-    // The bytes that the sink holds, where they are known.
-    ghost contents: { Self → Option (List ℕ) };
-
-    // How many writes and flushes there were.
-    ghost writes: { Self → ℕ };
-
-    // How many writes and flushes failed.
-    ghost failed_writes: { Self → ℕ };
-
-    // Whether all that was written was handed on. A sink that keeps nothing back need not say so.
-    ghost is_flushed: { Self → Bool } = { λ _. true };
+    // The bytes that it holds, where they are known, the counts of its writes and flushes, and whether all that was
+    // written was handed on, which is so at all times where it keeps nothing back.
+    ghost state: { Self → SinkState };
 
     /// Writes some bytes from the front of `buf`, at least one where there is one, and says how many.
     /// `Failed` is any error of the write, and a write that takes none of the bytes that it is given.
     fn write(&mut self, buf: &[u8]) -> Result<usize, Failed>
         ensures bound { IfOk result (λ n. n ≤ length buf.now) }
         ensures some { IfOk result (λ n. 0 < length buf.now → 0 < n) }
-        ensures bytes { WriteAppends (contents self.old) (contents self.new) result buf.now }
-        ensures counted { CountsUp (writes self.old) (writes self.new) }
-        ensures ok { OnOk result (failed_writes self.new ≡ failed_writes self.old) }
-        ensures err { OnErr result (CountsUp (failed_writes self.old) (failed_writes self.new)) };
+        ensures bytes { WriteAppends (state self.old).contents (state self.new).contents result buf.now }
+        ensures counted { CountsUp (state self.old).writes (state self.new).writes }
+        ensures ok { OnOk result ((state self.new).failed_writes ≡ (state self.old).failed_writes) }
+        ensures err { OnErr result (CountsUp (state self.old).failed_writes (state self.new).failed_writes) };
 
     /// Hands on what was written. `Failed` is any error of it.
     fn flush(&mut self) -> Result<(), Failed>
-        ensures bytes { Keeps (contents self.old) (contents self.new) }
-        ensures flushed { OnOk result (IsTrue (is_flushed self.new)) }
-        ensures counted { CountsUp (writes self.old) (writes self.new) }
-        ensures ok { OnOk result (failed_writes self.new ≡ failed_writes self.old) }
-        ensures err { OnErr result (CountsUp (failed_writes self.old) (failed_writes self.new)) };
+        ensures bytes { Keeps (state self.old).contents (state self.new).contents }
+        ensures flushed { OnOk result (IsTrue (state self.new).flushed) }
+        ensures counted { CountsUp (state self.old).writes (state self.new).writes }
+        ensures ok { OnOk result ((state self.new).failed_writes ≡ (state self.old).failed_writes) }
+        ensures err { OnErr result (CountsUp (state self.old).failed_writes (state self.new).failed_writes) };
 }
 
 /// A reader of std as a source. The counts stop at the last `u64`.
@@ -99,11 +86,11 @@ impl<R> FromRead<R> {
 }
 
 impl<R: Read> ByteSource for FromRead<R> {
-    ghost remaining = { λ s. R.remaining s.inner };
-
-    ghost reads = { λ s. s.reads };
-
-    ghost failed_reads = { λ s. s.failed_reads };
+    ghost state = { λ s. record {
+      remaining = R.remaining s.inner;
+      reads = s.reads;
+      failed_reads = s.failed_reads;
+    } };
 
     fn read(&mut self, buf: &mut [u8]) -> Result<usize, Failed> {
         self.reads = self.reads.saturating_add(1);
@@ -154,13 +141,12 @@ impl<W> ToWrite<W> {
 }
 
 impl<W: Write> ByteSink for ToWrite<W> {
-    ghost contents = { λ s. W.contents s.inner };
-
-    ghost writes = { λ s. s.writes };
-
-    ghost failed_writes = { λ s. s.failed_writes };
-
-    ghost is_flushed = { λ s. s.flushed };
+    ghost state = { λ s. record {
+      contents = W.contents s.inner;
+      writes = s.writes;
+      failed_writes = s.failed_writes;
+      flushed = s.flushed;
+    } };
 
     fn write(&mut self, buf: &[u8]) -> Result<usize, Failed> {
         self.writes = self.writes.saturating_add(1);

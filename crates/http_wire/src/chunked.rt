@@ -1,8 +1,9 @@
 //! Chunked bodies (RFC 9112, section 7.1), read chunk by chunk. A size line has 1 to 8 hexadecimal digits and
 //! no extension, and no trailer stands behind the last one.
-ghost use Rattle.std.specs.Prelude.{◌≡◌, ◌≢◌, ℕ, ◌+◌, ◌*◌, ◌-◌, ◌^◌, ◌<◌, ◌≤◌, List, [], ◌∷◌, ◌++◌, length, Ok, Err, MatchOption, IsFalse, true};
+ghost use Rattle.std.specs.Prelude.{◌≡◌, ℕ, ◌+◌, ◌*◌, ◌-◌, ◌^◌, ◌<◌, ◌≤◌, List, [], ◌∷◌, ◌++◌, length, Ok, Err, MatchOption, IsFalse, true};
 ghost use Rattle.std.specs.Char.{is_ascii_hexdigit, digit_value};
-ghost use Rattle.http_wire.specs.Counts.{CountsUp, CountsAtMost};
+ghost use Rattle.http_wire.specs.Counts.{CountsAtMost};
+ghost use Rattle.http_wire.specs.Reading.{Costs};
 ghost use Rattle.http_wire.specs.SizeLines.{StandsAt, StepSays, IsBounded};
 ghost use Rattle.http_wire.specs.ChunkReading.{FindsLine, FindsEnd, FindsChunk};
 ghost use Rattle.http_wire.specs.BodyFinding.{FindsBody};
@@ -10,7 +11,7 @@ ghost use Rattle.http_wire.specs.BodyFinding.{FindsBody};
 use crate::body::{BodyBuffer, BodyEnd, read_bytes};
 use crate::buffer::ReadBuffer;
 use crate::bytes::ByteSource;
-use crate::fault::{Bad, WireFault};
+use crate::fault::{Bad, BodyFault, InputFault};
 use crate::framing::Framing;
 use crate::head::has_byte;
 
@@ -96,18 +97,14 @@ fn line_step(state: LineState, byte: u8) -> LineStep
 }
 
 /// Reads a size line, and takes it out of the buffer.
-fn read_line<S: ByteSource>(source: &mut S, buffer: &mut ReadBuffer) -> Result<LineRead, WireFault>
-    ensures found { FindsLine (S.remaining source.old) buffer.old (S.remaining source.new) buffer.new result }
-    ensures reads { CountsAtMost (S.reads source.old) (S.reads source.new) 10 }
-    ensures failed { result ≡ Err WireFault.Read
-        → CountsUp (S.failed_reads source.old) (S.failed_reads source.new) }
-    ensures unfailed { result ≢ Err WireFault.Read
-        → S.failed_reads source.new ≡ S.failed_reads source.old }
+fn read_line<S: ByteSource>(source: &mut S, buffer: &mut ReadBuffer) -> Result<LineRead, InputFault>
+    ensures found { FindsLine (S.state source.old) buffer.old (S.state source.new) buffer.new result }
+    ensures costs { Costs 10 (result ≡ Err InputFault.Read) (S.state source.old) (S.state source.new) }
 {
     let mut state = LineState::Digits(0, 0);
     for at in 0..10usize {
         if !has_byte(source, buffer, at)? {
-            return Err(WireFault::Truncated);
+            return Err(InputFault::Truncated);
         }
         match line_step(state, buffer.as_slice()[at]) {
             LineStep::More(next) => state = next,
@@ -122,22 +119,18 @@ fn read_line<S: ByteSource>(source: &mut S, buffer: &mut ReadBuffer) -> Result<L
 }
 
 /// Reads a line end, CR LF, and takes it out of the buffer. `false`: a byte came that isn't one of it.
-fn read_line_end<S: ByteSource>(source: &mut S, buffer: &mut ReadBuffer) -> Result<bool, WireFault>
-    ensures found { FindsEnd (S.remaining source.old) buffer.old (S.remaining source.new) buffer.new result }
-    ensures reads { CountsAtMost (S.reads source.old) (S.reads source.new) 2 }
-    ensures failed { result ≡ Err WireFault.Read
-        → CountsUp (S.failed_reads source.old) (S.failed_reads source.new) }
-    ensures unfailed { result ≢ Err WireFault.Read
-        → S.failed_reads source.new ≡ S.failed_reads source.old }
+fn read_line_end<S: ByteSource>(source: &mut S, buffer: &mut ReadBuffer) -> Result<bool, InputFault>
+    ensures found { FindsEnd (S.state source.old) buffer.old (S.state source.new) buffer.new result }
+    ensures costs { Costs 2 (result ≡ Err InputFault.Read) (S.state source.old) (S.state source.new) }
 {
     if !has_byte(source, buffer, 0)? {
-        return Err(WireFault::Truncated);
+        return Err(InputFault::Truncated);
     }
     if buffer.as_slice()[0] != b'\r' {
         return Ok(false);
     }
     if !has_byte(source, buffer, 1)? {
-        return Err(WireFault::Truncated);
+        return Err(InputFault::Truncated);
     }
     if buffer.as_slice()[1] != b'\n' {
         return Ok(false);
@@ -152,17 +145,13 @@ fn read_chunk<S: ByteSource, B: BodyBuffer>(
     buffer: &mut ReadBuffer,
     body: &mut B,
     room: u64,
-) -> Result<ChunkRead, WireFault>
+) -> Result<ChunkRead, BodyFault>
     requires { room ≤ 2 ^ 31 }
-    ensures found { FindsChunk room (S.remaining source.old) buffer.old (B.bytes body.old) (S.remaining source.new)
+    ensures found { FindsChunk room (S.state source.old) buffer.old (B.bytes body.old) (S.state source.new)
         buffer.new (B.bytes body.new) result }
-    ensures reads { CountsAtMost (S.reads source.old) (S.reads source.new) (12 + room) }
-    ensures few { result ≡ Ok ChunkRead.More → CountsAtMost (S.reads source.old) (S.reads source.new)
+    ensures costs { Costs (12 + room) (result ≡ Err BodyFault.Read) (S.state source.old) (S.state source.new) }
+    ensures few { result ≡ Ok ChunkRead.More → CountsAtMost (S.state source.old).reads (S.state source.new).reads
         (12 + (length (B.bytes body.new) - length (B.bytes body.old))) }
-    ensures failed { result ≡ Err WireFault.Read
-        → CountsUp (S.failed_reads source.old) (S.failed_reads source.new) }
-    ensures unfailed { result ≢ Err WireFault.Read
-        → S.failed_reads source.new ≡ S.failed_reads source.old }
 {
     let LineRead::Size(size) = read_line(source, buffer)? else {
         return Ok(ChunkRead::Refused(Bad::Chunks));
@@ -187,16 +176,12 @@ pub fn read_chunks<S: ByteSource, B: BodyBuffer>(
     buffer: &mut ReadBuffer,
     body: &mut B,
     max_body: u64,
-) -> Result<BodyEnd, WireFault>
+) -> Result<BodyEnd, BodyFault>
     requires limit { max_body ≤ 2 ^ 31 }
     requires empty { B.bytes body.old ≡ [] }
-    ensures found { FindsBody max_body Framing.Chunked (S.remaining source.old) buffer.old (S.remaining source.new)
+    ensures found { FindsBody max_body Framing.Chunked (S.state source.old) buffer.old (S.state source.new)
         buffer.new (B.bytes body.new) result }
-    ensures reads { CountsAtMost (S.reads source.old) (S.reads source.new) (12 + 13 * max_body) }
-    ensures failed { result ≡ Err WireFault.Read
-        → CountsUp (S.failed_reads source.old) (S.failed_reads source.new) }
-    ensures unfailed { result ≢ Err WireFault.Read
-        → S.failed_reads source.new ≡ S.failed_reads source.old }
+    ensures costs { Costs (12 + 13 * max_body) (result ≡ Err BodyFault.Read) (S.state source.old) (S.state source.new) }
 {
     // Each chunk but the last has a byte, so there are at most one more than the most bytes of a body.
     for _chunk in 0..max_body + 1 {

@@ -1,6 +1,110 @@
-//! Why no message could be read.
+//! Why no message could be read. Each function answers no more faults than it has, and `?` makes the wider of the narrower.
 
+use crate::bytes::Failed;
+use std::alloc::AllocError;
 use std::fmt;
+
+/// Why no more came of what is read.
+#[derive(Clone, Copy, Debug, Drop, PartialEq, Eq)]
+pub enum InputFault {
+    /// The input ended inside it.
+    Truncated,
+    /// A read failed in this call.
+    Read,
+}
+
+impl fmt::Display for InputFault {
+    ghost use Rattle.std.specs.Prelude.{Some};
+    ghost use Rattle.http_wire.specs.FaultTexts.{fault_text};
+    ghost use Rattle.http_wire.specs.Faults.{wire_of_input};
+
+    ghost output = { λ fault. Some (fault_text (wire_of_input fault)) };
+
+    fn fmt<W: fmt::Write>(&self, f: &mut fmt::Formatter<W>) -> fmt::Result {
+        match self {
+            InputFault::Truncated => f.write_str("the input ended inside a message"),
+            InputFault::Read => f.write_str("a read failed"),
+        }
+    }
+}
+
+impl std::error::Error for InputFault {}
+
+impl From<Failed> for InputFault {
+    ghost use Rattle.std.specs.Prelude.{◌≡◌};
+    ghost use Rattle.http_wire.specs.declared.fault.InputFault.TheVariants as Fault;
+
+    ghost from_gives = { λ _ fault. fault ≡ Fault.Read };
+
+    fn from(_failed: Failed) -> InputFault {
+        InputFault::Read
+    }
+}
+
+/// Why no more came of a body.
+#[derive(Clone, Copy, Debug, Drop, PartialEq, Eq)]
+pub enum BodyFault {
+    /// The input ended inside it.
+    Truncated,
+    /// A read failed in this call.
+    Read,
+    /// Memory was wanted and refused.
+    NoMemory,
+}
+
+impl fmt::Display for BodyFault {
+    ghost use Rattle.std.specs.Prelude.{Some};
+    ghost use Rattle.http_wire.specs.FaultTexts.{fault_text};
+    ghost use Rattle.http_wire.specs.Faults.{wire_of_body};
+
+    ghost output = { λ fault. Some (fault_text (wire_of_body fault)) };
+
+    fn fmt<W: fmt::Write>(&self, f: &mut fmt::Formatter<W>) -> fmt::Result {
+        match self {
+            BodyFault::Truncated => f.write_str("the input ended inside a message"),
+            BodyFault::Read => f.write_str("a read failed"),
+            BodyFault::NoMemory => f.write_str("no memory for a message"),
+        }
+    }
+}
+
+impl std::error::Error for BodyFault {}
+
+impl From<Failed> for BodyFault {
+    ghost use Rattle.std.specs.Prelude.{◌≡◌};
+    ghost use Rattle.http_wire.specs.declared.fault.BodyFault.TheVariants as Fault;
+
+    ghost from_gives = { λ _ fault. fault ≡ Fault.Read };
+
+    fn from(_failed: Failed) -> BodyFault {
+        BodyFault::Read
+    }
+}
+
+impl From<AllocError> for BodyFault {
+    ghost use Rattle.std.specs.Prelude.{◌≡◌};
+    ghost use Rattle.http_wire.specs.declared.fault.BodyFault.TheVariants as Fault;
+
+    ghost from_gives = { λ _ fault. fault ≡ Fault.NoMemory };
+
+    fn from(_error: AllocError) -> BodyFault {
+        BodyFault::NoMemory
+    }
+}
+
+impl From<InputFault> for BodyFault {
+    ghost use Rattle.std.specs.Prelude.{◌≡◌};
+    ghost use Rattle.http_wire.specs.Faults.{body_of_input};
+
+    ghost from_gives = { λ fault body. body ≡ body_of_input fault };
+
+    fn from(fault: InputFault) -> BodyFault {
+        match fault {
+            InputFault::Truncated => BodyFault::Truncated,
+            InputFault::Read => BodyFault::Read,
+        }
+    }
+}
 
 /// Why a reader gives no request. After each of these it gives no more. The discriminant is its number.
 #[derive(Clone, Copy, Debug, Drop, PartialEq, Eq)]
@@ -32,6 +136,35 @@ impl fmt::Display for WireFault {
 }
 
 impl std::error::Error for WireFault {}
+
+impl From<InputFault> for WireFault {
+    ghost use Rattle.std.specs.Prelude.{◌≡◌};
+    ghost use Rattle.http_wire.specs.Faults.{wire_of_input};
+
+    ghost from_gives = { λ fault wire. wire ≡ wire_of_input fault };
+
+    fn from(fault: InputFault) -> WireFault {
+        match fault {
+            InputFault::Truncated => WireFault::Truncated,
+            InputFault::Read => WireFault::Read,
+        }
+    }
+}
+
+impl From<BodyFault> for WireFault {
+    ghost use Rattle.std.specs.Prelude.{◌≡◌};
+    ghost use Rattle.http_wire.specs.Faults.{wire_of_body};
+
+    ghost from_gives = { λ fault wire. wire ≡ wire_of_body fault };
+
+    fn from(fault: BodyFault) -> WireFault {
+        match fault {
+            BodyFault::Truncated => WireFault::Truncated,
+            BodyFault::Read => WireFault::Read,
+            BodyFault::NoMemory => WireFault::NoMemory,
+        }
+    }
+}
 
 /// What is bad in what came, so that it is no request; the discriminant is its number.
 #[derive(Clone, Copy, Debug, Drop, PartialEq, Eq)]

@@ -1,6 +1,7 @@
 //! The head of a message, gathered so that it leaves in one write where it is short.
 ghost use Rattle.std.specs.Prelude.{◌≡◌, ◌++◌, ℕ, List, [], false, decimal, IsTrue, OnOk};
-ghost use Rattle.http_wire.specs.Writing.{Sink, Wrote, sink};
+ghost use Rattle.http_wire.specs.States.{SinkState};
+ghost use Rattle.http_wire.specs.Writing.{Wrote};
 ghost use Rattle.http_wire.specs.Gathering.{Gathered, Puts};
 
 use crate::bytes::ByteSink;
@@ -38,8 +39,7 @@ impl Gather {
 
     /// Puts bytes behind those that it has. Where they don't fit, what it has is written first.
     pub fn put<W: ByteSink>(&mut self, writer: &mut W, text: &[u8])
-        ensures { Puts (sink (W.contents writer.old) (W.failed_writes writer.old)) self.old
-            (sink (W.contents writer.new) (W.failed_writes writer.new)) self.new text.now }
+        ensures { Puts (W.state writer.old) self.old (W.state writer.new) self.new text.now }
     {
         if self.failed {
             return;
@@ -54,8 +54,7 @@ impl Gather {
 
     /// Puts the decimal digits of a number.
     pub fn put_number<W: ByteSink>(&mut self, writer: &mut W, number: u64)
-        ensures { Puts (sink (W.contents writer.old) (W.failed_writes writer.old)) self.old
-            (sink (W.contents writer.new) (W.failed_writes writer.new)) self.new (decimal number) }
+        ensures { Puts (W.state writer.old) self.old (W.state writer.new) self.new (decimal number) }
     {
         let mut digits = Buffer::new();
         let text = digits.format(number);
@@ -64,10 +63,10 @@ impl Gather {
 
     /// Writes what it has and the body behind it, and flushes.
     pub fn finish<W: ByteSink>(self, writer: &mut W, body: &[u8]) -> Result<(), WriteFault>
-        ensures wrote { (start : Sink) (before : List ℕ)
-            → Gathered start (sink (W.contents writer.old) (W.failed_writes writer.old)) self before
-            → Wrote start (sink (W.contents writer.new) (W.failed_writes writer.new)) (before ++ body.now) result }
-        ensures flushed { OnOk result (IsTrue (W.is_flushed writer.new)) }
+        ensures wrote { (start : SinkState) (before : List ℕ)
+            → Gathered start (W.state writer.old) self before
+            → Wrote start (W.state writer.new) (before ++ body.now) result }
+        ensures flushed { OnOk result (IsTrue ((W.state writer.new).flushed)) }
     {
         if self.failed {
             return Err(WriteFault);

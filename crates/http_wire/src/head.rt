@@ -1,14 +1,13 @@
 //! Heads, read from a source of bytes.
-ghost use Rattle.std.specs.Prelude.{◌≡◌, ◌≢◌, ℕ, ◌+◌, ◌<◌, ◌≤◌, List, length, take, Ok, Err, IfOk, IfErr, OnErr, IsTrue, IsFalse};
+ghost use Rattle.std.specs.Prelude.{◌≡◌, ℕ, ◌+◌, ◌<◌, ◌≤◌, List, length, take, Err, IfOk, OnErr, IsErr, IsTrue, IsFalse};
 ghost use Rattle.std.specs.Io.KnownBytes.{IsAtEnd};
-ghost use Rattle.http_wire.specs.Counts.{CountsUp, CountsAtMost};
 ghost use Rattle.http_wire.specs.Fronts.{line_feeds, HasNone};
-ghost use Rattle.http_wire.specs.Reading.{Gave};
+ghost use Rattle.http_wire.specs.Reading.{Gave, Costs};
 ghost use Rattle.http_wire.specs.HeadReading.{Spans, AreLawful, Judges, JudgesAt, FindsHead};
 
 use crate::buffer::{CAPACITY, ReadBuffer};
-use crate::bytes::ByteSource;
-use crate::fault::WireFault;
+use crate::bytes::{ByteSource, Failed};
+use crate::fault::InputFault;
 
 /// The most bytes of a head, with its empty line.
 pub const MAX_HEAD: usize = 16_384;
@@ -93,20 +92,15 @@ pub fn has_byte<S: ByteSource>(
     source: &mut S,
     buffer: &mut ReadBuffer,
     at: usize,
-) -> Result<bool, WireFault>
+) -> Result<bool, Failed>
     requires near { at ≤ length buffer.old }
     requires small { at < CAPACITY }
-    ensures gave { Gave (S.remaining source.old) (S.remaining source.new) buffer.old buffer.new }
+    ensures gave { Gave (S.state source.old) (S.state source.new) buffer.old buffer.new }
     ensures there { IfOk result (λ b. IsTrue b → at < length buffer.new) }
     ensures ended { IfOk result (λ b. IsFalse b → (length buffer.new ≡ at)
-        × (buffer.new ≡ buffer.old) × IsAtEnd (S.remaining source.new)) }
-    ensures error { IfErr result (λ e. e ≡ WireFault.Read) }
+        × (buffer.new ≡ buffer.old) × IsAtEnd (S.state source.new).remaining) }
     ensures kept { OnErr result ((length buffer.new ≡ at) × (buffer.new ≡ buffer.old)) }
-    ensures reads { CountsAtMost (S.reads source.old) (S.reads source.new) 1 }
-    ensures failed { result ≡ Err WireFault.Read
-        → CountsUp (S.failed_reads source.old) (S.failed_reads source.new) }
-    ensures unfailed { result ≢ Err WireFault.Read
-        → S.failed_reads source.new ≡ S.failed_reads source.old }
+    ensures costs { Costs 1 (IsErr result) (S.state source.old) (S.state source.new) }
 {
     if at < buffer.len() {
         return Ok(true);
@@ -118,15 +112,11 @@ pub fn has_byte<S: ByteSource>(
 pub fn read_head<G: Grammar, S: ByteSource>(
     source: &mut S,
     buffer: &mut ReadBuffer,
-) -> Result<HeadRead<G::Parsed>, WireFault>
+) -> Result<HeadRead<G::Parsed>, InputFault>
     requires lawful { AreLawful G.spans }
-    ensures gave { Gave (S.remaining source.old) (S.remaining source.new) buffer.old buffer.new }
-    ensures found { FindsHead G.spans buffer.new (S.remaining source.new) result }
-    ensures reads { CountsAtMost (S.reads source.old) (S.reads source.new) MAX_HEAD }
-    ensures failed { result ≡ Err WireFault.Read
-        → CountsUp (S.failed_reads source.old) (S.failed_reads source.new) }
-    ensures unfailed { result ≢ Err WireFault.Read
-        → S.failed_reads source.new ≡ S.failed_reads source.old }
+    ensures gave { Gave (S.state source.old) (S.state source.new) buffer.old buffer.new }
+    ensures found { FindsHead G.spans buffer.new (S.state source.new) result }
+    ensures costs { Costs MAX_HEAD (result ≡ Err InputFault.Read) (S.state source.old) (S.state source.new) }
 {
     let mut lines = 0;
     for at in 0..MAX_HEAD {
@@ -134,7 +124,7 @@ pub fn read_head<G: Grammar, S: ByteSource>(
             return if at == 0 {
                 Ok(HeadRead::Over)
             } else {
-                Err(WireFault::Truncated)
+                Err(InputFault::Truncated)
             };
         }
         match judge_at::<G>(buffer.as_slice(), at, lines) {

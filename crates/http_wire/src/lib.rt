@@ -24,7 +24,7 @@ mod writing;
 pub use body::{BodyBuffer, BodyEnd, read_body};
 pub use buffer::{CAPACITY, ReadBuffer};
 pub use bytes::{ByteSink, ByteSource, Failed, FromRead, ToWrite};
-pub use fault::{Bad, WireFault};
+pub use fault::{Bad, BodyFault, InputFault, WireFault};
 pub use fields::{
     Occurrence, field_among, field_named, is_same_word, keeps_connection, lists_close,
 };

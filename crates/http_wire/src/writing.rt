@@ -1,6 +1,7 @@
 //! Writes of whole texts.
 ghost use Rattle.std.specs.Prelude.{◌≡◌, ◌++◌, List, ℕ, IsTrue, OnOk};
-ghost use Rattle.http_wire.specs.Writing.{Sink, Wrote, sink};
+ghost use Rattle.http_wire.specs.States.{SinkState};
+ghost use Rattle.http_wire.specs.Writing.{Wrote};
 
 use crate::bytes::ByteSink;
 use std::fmt;
@@ -23,8 +24,7 @@ impl std::error::Error for WriteFault {}
 
 /// Writes all the bytes, in one write where the writer takes them so.
 pub fn write_all<W: ByteSink>(writer: &mut W, bytes: &[u8]) -> Result<(), WriteFault>
-    ensures { Wrote (sink (W.contents writer.old) (W.failed_writes writer.old))
-        (sink (W.contents writer.new) (W.failed_writes writer.new)) bytes.now result }
+    ensures { Wrote (W.state writer.old) (W.state writer.new) bytes.now result }
 {
     let mut at = 0;
     while at < bytes.len() {
@@ -42,9 +42,9 @@ pub fn then_write<W: ByteSink>(
     writer: &mut W,
     bytes: &[u8],
 ) -> Result<(), WriteFault>
-    ensures { (start : Sink) (text : List ℕ)
-        → Wrote start (sink (W.contents writer.old) (W.failed_writes writer.old)) text done
-        → Wrote start (sink (W.contents writer.new) (W.failed_writes writer.new)) (text ++ bytes.now) result }
+    ensures { (start : SinkState) (text : List ℕ)
+        → Wrote start (W.state writer.old) text done
+        → Wrote start (W.state writer.new) (text ++ bytes.now) result }
 {
     done?;
     write_all(writer, bytes)
@@ -55,10 +55,10 @@ pub fn then_flush<W: ByteSink>(
     done: Result<(), WriteFault>,
     writer: &mut W,
 ) -> Result<(), WriteFault>
-    ensures wrote { (start : Sink) (text : List ℕ)
-        → Wrote start (sink (W.contents writer.old) (W.failed_writes writer.old)) text done
-        → Wrote start (sink (W.contents writer.new) (W.failed_writes writer.new)) text result }
-    ensures flushed { OnOk result (IsTrue (W.is_flushed writer.new)) }
+    ensures wrote { (start : SinkState) (text : List ℕ)
+        → Wrote start (W.state writer.old) text done
+        → Wrote start (W.state writer.new) text result }
+    ensures flushed { OnOk result (IsTrue ((W.state writer.new).flushed)) }
 {
     done?;
     match writer.flush() {

@@ -1,5 +1,5 @@
 //! Two workers that serve connections at once. Each test ends by itself, and prints the same whatever the schedule.
-ghost use Rattle.std.specs.Prelude.{◌≡◌, None, IfSome};
+ghost use Rattle.std.specs.Prelude.{◌≡◌, true, None, IfSome};
 
 mod growths;
 mod many;
@@ -29,11 +29,7 @@ struct Text {
 }
 
 impl ByteSource for Text {
-    ghost remaining = { λ s. None };
-
-    ghost reads = { λ s. s.reads };
-
-    ghost failed_reads = { λ s. 0 };
+    ghost state = { λ s. record { remaining = None; reads = s.reads; failed_reads = 0 } };
 
     fn read(&mut self, buf: &mut [u8]) -> Result<usize, Failed> {
         self.reads = self.reads.saturating_add(1);
@@ -52,11 +48,7 @@ struct Nowhere {
 }
 
 impl ByteSink for Nowhere {
-    ghost contents = { λ s. None };
-
-    ghost writes = { λ s. s.writes };
-
-    ghost failed_writes = { λ s. 0 };
+    ghost state = { λ s. record { contents = None; writes = s.writes; failed_writes = 0; flushed = true } };
 
     fn write(&mut self, buf: &[u8]) -> Result<usize, Failed> {
         self.writes = self.writes.saturating_add(1);

@@ -11,8 +11,8 @@ use Rattle.upload_intake.specs.declared.work.GatedDesk.{GatedDesk}
 use Rattle.upload_wire.specs.declared.connection.ConnEnd.{ConnEnd}
 use Rattle.upload_wire.specs.declared.connection.ConnEnd.TheVariants.{Clean, AfterClose, AfterBad, TooMany, DeskGone, Fault}
 use Rattle.upload_wire.specs.declared.connection.ConnFault.TheVariants as Conn
-use Rattle.upload_wire.specs.Writing.{Sink}
-use Rattle.upload_wire.specs.Conversation.{Moves, Exchange, Answers, EndsWith, IsConversation, Source}
+use Rattle.upload_wire.specs.States.{SourceState, SinkState}
+use Rattle.upload_wire.specs.Conversation.{Moves, Exchange, Answers, EndsWith, IsConversation}
 
 module _ {D : Type 0} (step : Moves D) (Keeps : D → D → Type 0) (same : (d : D) → Keeps d d) (joined : (a b c : D) → Keeps a b → Keeps b c → Keeps a c)
     (each : (old : D) (ask : Ask) (answer : Option Answer) (new : D) → step old ask answer new → Keeps old new) where
@@ -23,7 +23,7 @@ module _ {D : Type 0} (step : Moves D) (Keeps : D → D → Type 0) (same : (d :
   by_answers [] old at e = unmoved old at (sym e)
   by_answers (x ∷ xs) old at a = joined old a.0 at (each old x.ask (Some x.answer) a.0 a.1) (by_answers xs a.0 at a.2)
 
-  by_end : (max_body count : ℕ) (at new : D) (rest : List ℕ) (left : Option (List ℕ)) (mid after : Sink) (end : ConnEnd) → EndsWith step max_body count at new rest left mid after end → Keeps at new
+  by_end : (max_body count : ℕ) (at new : D) (rest : List ℕ) (left : SourceState) (mid after : SinkState) (end : ConnEnd) → EndsWith step max_body count at new rest left mid after end → Keeps at new
   by_end max_body count at new rest left mid after Clean e = unmoved at new e.2.unasked
   by_end max_body count at new rest left mid after AfterClose e = each at e.0.ask (Some e.0.answer) new e.1.answered
   by_end max_body count at new rest left mid after AfterBad e = unmoved at new e.1.unasked
@@ -32,8 +32,8 @@ module _ {D : Type 0} (step : Moves D) (Keeps : D → D → Type 0) (same : (d :
   by_end max_body count at new rest left mid after (Fault (Conn.Wire fault)) e = unmoved at new e.1.unasked
   by_end max_body count at new rest left mid after (Fault Conn.Write) e = ⊎_elim (λ s. each at s.0.ask (Some s.0.answer) new s.1.answered) (λ s. unmoved at new s.1.unasked) e
 
-  pub kept_by : (max_body : ℕ) (first left : Source) (old new : D) (before after : Sink) (end : ConnEnd) → IsConversation step max_body first left old new before after end → Keeps old new
-  kept_by max_body first left old new before after end c = joined old c.at new (by_answers c.exchanges old c.at c.served.answered) (by_end max_body _ c.at new c.rest left.remaining c.mid after end c.ended)
+  pub kept_by : (max_body : ℕ) (first left : SourceState) (old new : D) (before after : SinkState) (end : ConnEnd) → IsConversation step max_body first left old new before after end → Keeps old new
+  kept_by max_body first left old new before after end c = joined old c.at new (by_answers c.exchanges old c.at c.served.answered) (by_end max_body _ c.at new c.rest left c.mid after end c.ended)
 
 -- a call of a seat leaves its lines and its side
 asks_same : (old : SeatState) (ask : Ask) (secret : List ℕ) (result : Result Answer Gone) (new : SeatState) → Asks old ask secret result new → IsSameSeat old new
@@ -52,7 +52,7 @@ pub same_seat_twice : (a b c : SeatState) → IsSameSeat a b → IsSameSeat b c 
 same_seat_twice a b c p q = record { jobs = q.jobs ∙ p.jobs; replies = q.replies ∙ p.replies; side = q.side ∙ p.side }
 
 -- a worker's desk has the same seat behind a conversation
-pub gated_same : {R S G : Type 0} (draws : S → List ℕ → S → Type 0) (max_body : ℕ) (first left : Source) (old new : GatedDesk R S G) (before after : Sink) (end : ConnEnd)
+pub gated_same : {R S G : Type 0} (draws : S → List ℕ → S → Type 0) (max_body : ℕ) (first left : SourceState) (old new : GatedDesk R S G) (before after : SinkState) (end : ConnEnd)
     → IsConversation (λ a ask answer b. AsksWithDrawn draws (seat_of a.desk) (secrets_of a.desk) ask answer (seat_of b.desk) (secrets_of b.desk)) max_body first left old new before after end
     → IsSameSeat (seat_of old.desk) (seat_of new.desk)
 gated_same {R} {S} {G} draws max_body first left old new before after end c =

@@ -10,8 +10,8 @@ use Rattle.upload_intake.specs.Seats.{SeatState, Asks}
 use Rattle.upload_intake.specs.SeatMoves.{AsksWithDrawn}
 use Rattle.upload_intake.specs.SeatConversations.{asks_of, answers_of, asks_in, Adds, SeatSteps, ConversationsFillTheSeat}
 use Rattle.upload_wire.specs.ConnectionRuns.{answered_last, unanswered_last, answered, unanswered}
-use Rattle.upload_wire.specs.Writing.{Sink}
-use Rattle.upload_wire.specs.Conversation.{Moves, Exchange, Answers, Source, EndsWith, IsConversation}
+use Rattle.upload_wire.specs.States.{SourceState, SinkState}
+use Rattle.upload_wire.specs.Conversation.{Moves, Exchange, Answers, EndsWith, IsConversation}
 use Rattle.upload_wire.specs.declared.connection.ConnEnd.{ConnEnd}
 use Rattle.upload_wire.specs.declared.connection.ConnEnd.TheVariants.{Clean, AfterClose, AfterBad, TooMany, DeskGone, Fault}
 use Rattle.upload_wire.specs.declared.connection.ConnFault.TheVariants as Conn
@@ -48,7 +48,7 @@ module _ {D S : Type 0} (draws : S → List ℕ → S → Type 0) (seat : D → 
   by_answers [] old at e = adds_none (seat old) (seat at) (ap seat (sym e))
   by_answers (x ∷ xs) old at a = adds_twice (seat old) (seat a.0) (seat at) (x ∷ []) xs [] (adds_one (seat old) (seat a.0) x a.1.0 a.1.2) (by_answers xs a.0 at a.2)
 
-  by_end : (max_body count : ℕ) (at new : D) (rest : List ℕ) (left : Option (List ℕ)) (mid after : Sink) (end : ConnEnd) (e : EndsWith steps max_body count at new rest left mid after end)
+  by_end : (max_body count : ℕ) (at new : D) (rest : List ℕ) (left : SourceState) (mid after : SinkState) (end : ConnEnd) (e : EndsWith steps max_body count at new rest left mid after end)
       → Adds (seat at) (seat new) (answered_last steps max_body count at new rest left mid after end e) (unanswered_last steps max_body count at new rest left mid after end e)
   by_end max_body count at new rest left mid after Clean e = adds_none (seat at) (seat new) (ap seat e.2.unasked)
   by_end max_body count at new rest left mid after AfterClose e = adds_one (seat at) (seat new) e.0 e.1.answered.0 e.1.answered.2
@@ -62,10 +62,10 @@ module _ {D S : Type 0} (draws : S → List ℕ → S → Type 0) (seat : D → 
         | inr s ↦ adds_none (seat at) (seat new) (ap seat s.1.unasked)
       ]
 
-  pub fills : (max_body : ℕ) (first left : Source) (old new : D) (before after : Sink) (end : ConnEnd) (c : IsConversation steps max_body first left old new before after end)
+  pub fills : (max_body : ℕ) (first left : SourceState) (old new : D) (before after : SinkState) (end : ConnEnd) (c : IsConversation steps max_body first left old new before after end)
       → Adds (seat old) (seat new) (answered steps max_body first left old new before after end c) (unanswered steps max_body first left old new before after end c)
   fills max_body first left old new before after end c =
-      adds_twice (seat old) (seat c.at) (seat new) c.exchanges _ _ (by_answers c.exchanges old c.at c.served.answered) (by_end max_body (length c.exchanges) c.at new c.rest left.remaining c.mid after end c.ended)
+      adds_twice (seat old) (seat c.at) (seat new) c.exchanges _ _ (by_answers c.exchanges old c.at c.served.answered) (by_end max_body (length c.exchanges) c.at new c.rest left c.mid after end c.ended)
 
 pub conversations_fill : {S : Type 0} (draws : S → List ℕ → S → Type 0) → ConversationsFillTheSeat draws
 conversations_fill {S} draws = fills {D = SeatState × S} {S = S} draws (λ d. d.0) (λ d. d.1)

@@ -11,8 +11,8 @@ use Rattle.upload_intake.specs.Settled.{count_limit}
 use Rattle.upload_intake.specs.SeatConversations.{Adds}
 use Rattle.upload_intake.specs.Working.{Means, Behind, is_clean, is_gone, Serves, Talk, steps, answered_on, unanswered_on, all_answered, all_unanswered, count_clean, IsWorked}
 use Rattle.upload_intake.proofs.SeatConversations.{adds_none, adds_twice, fills}
-use Rattle.upload_wire.specs.Writing.{Sink}
-use Rattle.upload_wire.specs.Conversation.{Moves, Exchange, Answers, Source, EndsWith, IsConversation}
+use Rattle.upload_wire.specs.States.{SourceState, SinkState}
+use Rattle.upload_wire.specs.Conversation.{Moves, Exchange, Answers, EndsWith, IsConversation}
 use Rattle.upload_wire.specs.ConnectionRuns.{unanswered_last}
 use Rattle.upload_wire.specs.declared.connection.ConnEnd.{ConnEnd}
 use Rattle.upload_wire.specs.declared.connection.ConnEnd.TheVariants.{Clean, AfterClose, AfterBad, TooMany, DeskGone, Fault}
@@ -26,7 +26,7 @@ module _ {D E : Type 0} (step : Moves D) (seen : Moves E) (see : D → E)
   see_answers [] old at a = ap see a
   see_answers (x ∷ xs) old at a = (see a.0, each old x.ask (Some x.answer) a.0 a.1, see_answers xs a.0 at a.2)
 
-  see_end : (max_body count : ℕ) (at new : D) (rest : List ℕ) (left : Option (List ℕ)) (mid after : Sink) (end : ConnEnd) → EndsWith step max_body count at new rest left mid after end → EndsWith seen max_body count (see at) (see new) rest left mid after end
+  see_end : (max_body count : ℕ) (at new : D) (rest : List ℕ) (left : SourceState) (mid after : SinkState) (end : ConnEnd) → EndsWith step max_body count at new rest left mid after end → EndsWith seen max_body count (see at) (see new) rest left mid after end
   see_end max_body count at new rest left mid after Clean e = (e.0, e.1, record { unasked = ap see e.2.unasked; unwritten = e.2.unwritten })
   see_end max_body count at new rest left mid after AfterClose e = (e.0, record { more = e.1.more; read = e.1.read; request = e.1.request; answered = each at e.0.ask (Some e.0.answer) new e.1.answered }, e.2, e.3)
   see_end max_body count at new rest left mid after AfterBad e = (e.0, record { bad = e.1.bad; unasked = ap see e.1.unasked }, e.2)
@@ -38,7 +38,7 @@ module _ {D E : Type 0} (step : Moves D) (seen : Moves E) (see : D → E)
       ⊎_elim (λ s. inl (s.0, record { more = s.1.more; read = s.1.read; request = s.1.request; answered = each at s.0.ask (Some s.0.answer) new s.1.answered }, s.2))
       (λ s. inr (s.0, record { bad = s.1.bad; unasked = ap see s.1.unasked }, s.2)) e
 
-  pub seen_as : (max_body : ℕ) (first left : Source) (old new : D) (before after : Sink) (end : ConnEnd) → IsConversation step max_body first left old new before after end → IsConversation seen max_body first left (see old) (see new) before after end
+  pub seen_as : (max_body : ℕ) (first left : SourceState) (old new : D) (before after : SinkState) (end : ConnEnd) → IsConversation step max_body first left old new before after end → IsConversation seen max_body first left (see old) (see new) before after end
   seen_as max_body first left old new before after end c = record {
     bytes = c.bytes;
     consumed = c.consumed;
@@ -54,7 +54,7 @@ module _ {D E : Type 0} (step : Moves D) (seen : Moves E) (see : D → E)
       answered = see_answers c.exchanges old c.at c.served.answered;
       written = c.served.written;
     };
-    ended = see_end max_body (length c.exchanges) c.at new c.rest left.remaining c.mid after end c.ended;
+    ended = see_end max_body (length c.exchanges) c.at new c.rest left c.mid after end c.ended;
   }
 
 -- ---- ends
@@ -89,7 +89,7 @@ gone_is TooMany gone = absurd (true≢false (sym gone))
 gone_is DeskGone gone = refl
 gone_is (Fault fault) gone = absurd (true≢false (sym gone))
 
-module _ {D : Type 0} (step : Moves D) (max_body count : ℕ) (at new : D) (rest : List ℕ) (left : Option (List ℕ)) (mid after : Sink) where
+module _ {D : Type 0} (step : Moves D) (max_body count : ℕ) (at new : D) (rest : List ℕ) (left : SourceState) (mid after : SinkState) where
   all_heard : (end : ConnEnd) (e : EndsWith step max_body count at new rest left mid after end) → (end ≡ DeskGone → ⊥) → unanswered_last step max_body count at new rest left mid after end e ≡ []
   all_heard Clean e there = refl
   all_heard AfterClose e there = refl
@@ -141,7 +141,7 @@ module _ {C In Out S : Type 0} (m : Means C In Out S) (max_body : ℕ) where
       (subst (λ (l : List Exchange). Adds desk.0 t.new.0 l (unanswered_on m max_body t ++ [])) (sym (append-nil (answered_on m max_body t)))
       (subst (λ (l : List Ask). Adds desk.0 t.new.0 (answered_on m max_body t) l) (sym (append-nil (unanswered_on m max_body t))) first))))
       (λ (x : (t.end ≡ DeskGone → ⊥) × Serves m max_body s.0 t.new ts new).
-      let heard : unanswered_on m max_body t ≡ [] = all_heard (steps m max_body) max_body (length t.conversation.exchanges) t.conversation.at t.new t.conversation.rest (m.reads t.reader_left).remaining t.conversation.mid (m.writes t.writer_left) t.end t.conversation.ended x.0 in
+      let heard : unanswered_on m max_body t ≡ [] = all_heard (steps m max_body) max_body (length t.conversation.exchanges) t.conversation.at t.new t.conversation.rest (m.reads t.reader_left) t.conversation.mid (m.writes t.writer_left) t.end t.conversation.ended x.0 in
       subst (λ (l : List Ask). Adds desk.0 new.0 (all_answered m max_body (t ∷ ts)) (l ++ all_unanswered m max_body ts)) (sym heard)
       (adds_twice desk.0 t.new.0 new.0 (answered_on m max_body t) (all_answered m max_body ts) (all_unanswered m max_body ts)
       (subst (λ (l : List Ask). Adds desk.0 t.new.0 (answered_on m max_body t) l) heard first)

@@ -5,8 +5,8 @@ use Rattle.upload_service.specs.declared.ask.Ask.{Ask}
 use Rattle.upload_intake.specs.Seats.{SeatState}
 use Rattle.upload_intake.specs.SeatConversations.{SeatSteps}
 use Rattle.upload_intake.specs.Settled.{count_limit}
-use Rattle.upload_wire.specs.Writing.{Sink, sink}
-use Rattle.upload_wire.specs.Conversation.{Moves, Exchange, Source, source, IsConversation}
+use Rattle.upload_wire.specs.States.{SourceState, SinkState}
+use Rattle.upload_wire.specs.Conversation.{Moves, Exchange, IsConversation}
 use Rattle.upload_wire.specs.ConnectionRuns.{answered, unanswered}
 use Rattle.upload_wire.specs.declared.connection.ConnEnd.{ConnEnd}
 use Rattle.upload_wire.specs.declared.connection.ConnEnd.TheVariants.{Clean, AfterClose, DeskGone}
@@ -14,18 +14,13 @@ use Rattle.upload_wire.specs.declared.connection.ConnEnd.TheVariants.{Clean, Aft
 -- How a worker is given connections, what contracts see of a reader and of a writer, and how secrets are drawn.
 pub record Means (C In Out S : Type 0) : Type 1 where
   pub gives : C → Option (In × Out) → C → Type 0
-  pub reads : In → Source
-  pub writes : Out → Sink
+  pub reads : In → SourceState
+  pub writes : Out → SinkState
   pub draws : S → List ℕ → S → Type 0
 
-abbrev pub means : {C In Out S : Type 0} → (C → Option (In × Out) → C → Type 0) → (In → Option (List ℕ)) → (In → ℕ)
-    → (Out → Option (List ℕ)) → (Out → ℕ) → (S → List ℕ → S → Type 0) → Means C In Out S
-means gives remaining failed_reads contents failed_writes draws = record {
-  gives = gives;
-  reads = λ s. source (remaining s) (failed_reads s);
-  writes = λ s. sink (contents s) (failed_writes s);
-  draws = draws;
-}
+abbrev pub means : {C In Out S : Type 0} → (C → Option (In × Out) → C → Type 0) → (In → SourceState) → (Out → SinkState)
+    → (S → List ℕ → S → Type 0) → Means C In Out S
+means gives reads writes draws = record { gives = gives; reads = reads; writes = writes; draws = draws }
 
 -- the ends that a worker counts as clean
 abbrev pub is_clean : ConnEnd → Bool

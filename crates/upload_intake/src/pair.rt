@@ -90,8 +90,8 @@ where
     RS: Secrets + Send + Drop,
     RG: Gate + Send + Drop,
     ensures served { IfOk result (λ pair. IsServedPair
-        (means LC.gives LC.In.remaining LC.In.failed_reads LC.Out.contents LC.Out.failed_writes LS.draws)
-        (means RC.gives RC.In.remaining RC.In.failed_reads RC.Out.contents RC.Out.failed_writes RS.draws)
+        (means LC.gives LC.In.state LC.Out.state LS.draws)
+        (means RC.gives RC.In.state RC.Out.state RS.draws)
         M.tells service moments.old (left.conns, left.secrets) (right.conns, right.secrets)
         pair.service (pair.left.conns, pair.left.clean) (pair.right.conns, pair.right.clean)) }
     ensures lawful { IfOk result (λ pair. IsLawful pair.service) }
@@ -110,8 +110,8 @@ where
             requires same_limits { limits ≡ keeper.start.limits }
             requires fresh { keeper.log ≡ [] }
             ensures served { IfOk result (λ pair. IsServedPair
-                (means LC.gives LC.In.remaining LC.In.failed_reads LC.Out.contents LC.Out.failed_writes LS.draws)
-                (means RC.gives RC.In.remaining RC.In.failed_reads RC.Out.contents RC.Out.failed_writes RS.draws)
+                (means LC.gives LC.In.state LC.Out.state LS.draws)
+                (means RC.gives RC.In.state RC.Out.state RS.draws)
                 M.tells keeper.start moments.entry.now (left.conns, left.secrets) (right.conns, right.secrets)
                 pair.service (pair.left.conns, pair.left.clean) (pair.right.conns, pair.right.clean)) }
             ensures lawful { IfOk result (λ pair. IsLawful pair.service) }

@@ -88,7 +88,7 @@ impl<C: Conns, S: Secrets> Work<C, S> {
 
 impl<C: Conns, S: Secrets> Promise<(SeatEnd, WorkerEnd)> for Work<C, S> {
     ghost kept_by = { λ promise end. IsSameSeat promise.seat.value end.0
-        × IsWorked (means C.gives C.In.remaining C.In.failed_reads C.Out.contents C.Out.failed_writes S.draws)
+        × IsWorked (means C.gives C.In.state C.Out.state S.draws)
         promise.limits.max_body promise.conns.value promise.secrets.value promise.seat.value end.0 end.1.conns end.1.clean };
 }
 
@@ -127,7 +127,7 @@ pub(crate) fn serve_all<R: Wait, C: Conns + Drop, S: Secrets + Drop, G: Gate + D
 ) -> (SeatEnd, WorkerEnd)
     requires { AreLawful limits }
     ensures seat { IsSameSeat seat result.0 }
-    ensures worked { IsWorked (means C.gives C.In.remaining C.In.failed_reads C.Out.contents C.Out.failed_writes S.draws)
+    ensures worked { IsWorked (means C.gives C.In.state C.Out.state S.draws)
         limits.max_body worker.conns worker.secrets seat result.0 result.1.conns result.1.clean }
 {
     let Worker {

@@ -1,10 +1,11 @@
 -- From the spans of a reply's head to what is heard.
 use Rattle.std.proofs.Common.{◌≡◌, ℕ, ◌<◌, ◌≤◌, List, [], ◌++◌, length, take, drop, sym, ap, ◌∙◌, subst, arith, append_assoc, length-append, length-take, inl, inr, Bool}
-use Rattle.std.specs.Prelude.{◌⊎◌, Option, Result, Ok, Err, ⊤}
+use Rattle.std.specs.Prelude.{◌⊎◌, Result, Ok, Err, ⊤}
 use Rattle.std.proofs.lemmas.List.{take-append-drop, append-nil, take-append-le, drop-append-le, length-map}
 use Rattle.std.proofs.Math.ListN.{drop_of_length-le}
 use Rattle.httparse.specs.Grammar.{ResponseHead, print_response, status_code}
 use Rattle.httparse.specs.Spans.{header_bytes, name_and_value}
+use Rattle.http_wire.specs.States.{SourceState}
 use Rattle.http_wire.specs.Reading.{Gave}
 use Rattle.http_wire.specs.Fields.{Fields}
 use Rattle.std.specs.Io.KnownBytes.{IsAtEnd}
@@ -15,15 +16,15 @@ use Rattle.http_wire.proofs.ResponseLaws.{head_ends}
 use Rattle.upload_wire.specs.AnswerText.{framing_of, head_fields, keeps_on, ReadsFramed, IsWhole, FindsAnswer, ReadsAnswer}
 use Rattle.http_wire.specs.ResponseSpans.{IsHeadOf, IsHeadAtFront, response_spans}
 use Rattle.http_wire.specs.HeadReading.{FindsHead}
-use Rattle.upload_wire.specs.AnswerReading.{fields_of, FindsBody, FindsBodyIn, IsFramingFault, Says, fault_of}
+use Rattle.upload_wire.specs.AnswerReading.{fields_of, FindsBody, FindsBodyIn, IsFramingFault, Says, heard_of_input}
 use Rattle.http_wire.specs.declared.responses.parsed.ParsedResponse.{ParsedResponse}
 use Rattle.upload_wire.specs.declared.client.framing.AnswerFraming.{AnswerFraming}
 use Rattle.upload_wire.specs.declared.client.framing.AnswerFraming.TheVariants.{Sized, ToEnd}
 use Rattle.upload_wire.specs.declared.client.heard.Heard.{Heard}
 use Rattle.upload_wire.specs.declared.client.heard.HeardFault.{HeardFault}
 use Rattle.upload_wire.specs.declared.client.heard.HeardFault.TheVariants as Fault
-use Rattle.http_wire.specs.declared.fault.WireFault.{WireFault}
-use Rattle.http_wire.specs.declared.fault.WireFault.TheVariants as Wire
+use Rattle.http_wire.specs.declared.fault.InputFault.{InputFault}
+use Rattle.http_wire.specs.declared.fault.InputFault.TheVariants as Input
 use Rattle.http_wire.proofs.GaveLemmas.{consumes_both, consumes_none}
 
 -- the head that the spans cover
@@ -80,7 +81,7 @@ framed h text p r f e = record {
 }
 
 -- a refused framing
-unframed : (h : Bool) (text rest : List ℕ) (new : Option (List ℕ)) (keep : Bool) (p : ParsedResponse) (e : HeardFault) → IsHeadAtFront text p
+unframed : (h : Bool) (text rest : List ℕ) (new : SourceState) (keep : Bool) (p : ParsedResponse) (e : HeardFault) → IsHeadAtFront text p
     → framing_of h p.spans.code (fields_of (take p.spans.len text) p) ≡ Err e → IsFramingFault e → FindsAnswer h text rest new (Err e) keep
 unframed h text rest new keep p Fault.Unreadable f e is =
     inr (inl (record { head = the_head f; rest = drop p.spans.len text; framed = framed h text p (Err Fault.Unreadable) f e }))
@@ -91,16 +92,16 @@ unframed h text rest new keep p Fault.Read f e is = absurd is
 unframed h text rest new keep p Fault.NoMemory f e is = absurd is
 unframed h text rest new keep p Fault.Ended f e is = absurd is
 
-pub found_at_once : (h : Bool) (held rest : List ℕ) (known : Option (List ℕ)) (r : Result Heard HeardFault) (keep : Bool)
+pub found_at_once : (h : Bool) (held rest : List ℕ) (known : SourceState) (r : Result Heard HeardFault) (keep : Bool)
     → FindsAnswer h held rest known r keep → ReadsAnswer h held known rest known r keep
 found_at_once h held rest known r keep found = record {
   given = [];
-  consumed = consumes_none known;
+  consumed = consumes_none known.remaining;
   found = subst (λ t. FindsAnswer h t rest known r keep) (sym (append-nil held)) found;
 }
 
 -- what the body is, behind the head
-body_found : (h : Bool) (text after body rest : List ℕ) (new : Option (List ℕ)) (keep : Bool) (p : ParsedResponse) (framing : AnswerFraming) (e : HeardFault) (f : IsHeadAtFront text p)
+body_found : (h : Bool) (text after body rest : List ℕ) (new : SourceState) (keep : Bool) (p : ParsedResponse) (framing : AnswerFraming) (e : HeardFault) (f : IsHeadAtFront text p)
     → ReadsFramed h text (Ok framing) (the_head f) after → FindsBodyIn framing after body rest new (Err e) → FindsAnswer h text rest new (Err e) keep
 body_found h text after body rest new keep p (Sized n) Fault.Truncated f r b =
     (b.1, inr (record { head = the_head f; rest = after; size = n; framed = r; cut = b.0 }))
@@ -115,7 +116,7 @@ body_found h text after body rest new keep p framing Fault.Unreadable f r b = ab
 body_found h text after body rest new keep p framing Fault.Ended f r b = absurd b
 
 -- what a whole reply says
-says_found : (h : Bool) (text rest : List ℕ) (new : Option (List ℕ)) (head : ResponseHead) (body : List ℕ) (r : Result Heard HeardFault) (keep : Bool)
+says_found : (h : Bool) (text rest : List ℕ) (new : SourceState) (head : ResponseHead) (body : List ℕ) (r : Result Heard HeardFault) (keep : Bool)
     (whole : IsWhole h text rest new head body) → Says (status_code head) (head_fields head) body r
     → keep ≡ keeps_on head.minor (head_fields head) whole.framing → FindsAnswer h text rest new r keep
 says_found h text rest new head body (Ok heard) keep whole says keeps =
@@ -127,7 +128,7 @@ says_found h text rest new head body (Err Fault.Read) keep whole says keeps = ab
 says_found h text rest new head body (Err Fault.TooLarge) keep whole says keeps = absurd says
 says_found h text rest new head body (Err Fault.Ended) keep whole says keeps = absurd says
 
-module _ (h : Bool) (held rest body : List ℕ) (old new : Option (List ℕ)) (keep : Bool) (p : ParsedResponse) (framing : AnswerFraming) (f : IsHeadAtFront held p)
+module _ (h : Bool) (held rest body : List ℕ) (old new : SourceState) (keep : Bool) (p : ParsedResponse) (framing : AnswerFraming) (f : IsHeadAtFront held p)
     (is : Ok framing ≡ framing_of h p.spans.code (fields_of (take p.spans.len held) p)) where
   same_front : (given : List ℕ) → take p.spans.len (held ++ given) ≡ take p.spans.len held
   same_front given = take-append-le p.spans.len held given f.in_range
@@ -142,16 +143,16 @@ module _ (h : Bool) (held rest body : List ℕ) (old new : Option (List ℕ)) (k
 
   pub body_fault_found : (e : HeardFault) → FindsBody framing (drop p.spans.len held) old body rest new (Err e) → ReadsAnswer h held old rest new (Err e) keep
   body_fault_found e b = record {
-    given = b.gave.0;
-    consumed = b.gave.1;
-    found = body_found h (held ++ b.gave.0) b.text body rest new keep p framing e (head_kept held b.gave.0 p f) (framed_on b.gave.0 b.text b.gave.2) b.found;
+    given = b.gave.given;
+    consumed = b.gave.consumed;
+    found = body_found h (held ++ b.gave.given) b.text body rest new keep p framing e (head_kept held b.gave.given p f) (framed_on b.gave.given b.text b.gave.joined) b.found;
   }
 
   pub reply_found : (u : ⊤) (r : Result Heard HeardFault) → FindsBody framing (drop p.spans.len held) old body rest new (Ok u)
       → Says p.spans.code (fields_of (take p.spans.len held) p) body r
       → keep ≡ keeps_on p.spans.version (fields_of (take p.spans.len held) p) framing → ReadsAnswer h held old rest new r keep
   reply_found u r b says keeps =
-      let given = b.gave.0 in
+      let given = b.gave.given in
       let text = held ++ given in
       let k = head_kept held given p f in
       let at_code = subst (λ s. Says s (fields_of (take p.spans.len held) p) body r) k.head.1.1.code says in
@@ -161,11 +162,11 @@ module _ (h : Bool) (held rest body : List ℕ) (old new : Option (List ℕ)) (k
       let kept = at_version ∙ ap (λ t. keeps_on (the_head k).minor t framing) fields in
       record {
         given = given;
-        consumed = b.gave.1;
+        consumed = b.gave.consumed;
         found = says_found h text rest new (the_head k) body r keep
             (record {
               framing = framing;
-              framed = subst (ReadsFramed h text (Ok framing) (the_head k)) b.found.0 (framed_on given b.text b.gave.2);
+              framed = subst (ReadsFramed h text (Ok framing) (the_head k)) b.found.0 (framed_on given b.text b.gave.joined);
               is_body = b.found.1;
             }) said kept;
       }
@@ -178,13 +179,13 @@ framing_at : (h : Bool) (held slice : List ℕ) (p : ParsedResponse) (r : Result
 framing_at h held slice p r slice_is is = subst (λ t. r ≡ framing_of h p.spans.code (fields_of (take p.spans.len t) p)) slice_is is
 
 -- a refused framing of the head
-pub framing_refused : (h : Bool) (held slice rest : List ℕ) (known : Option (List ℕ)) (keep : Bool) (p : ParsedResponse) (e : HeardFault) → IsHeadAtFront held p → slice ≡ held
+pub framing_refused : (h : Bool) (held slice rest : List ℕ) (known : SourceState) (keep : Bool) (p : ParsedResponse) (e : HeardFault) → IsHeadAtFront held p → slice ≡ held
     → Err e ≡ framing_of h p.spans.code (fields_of (take p.spans.len slice) p) → IsFramingFault e → ReadsAnswer h held known rest known (Err e) keep
 framing_refused h held slice rest known keep p e f slice_is is fault =
     found_at_once h held rest known (Err e) keep (unframed h held rest known keep p e f (sym (framing_at h held slice p (Err e) slice_is is)) fault)
 
 -- a fault of the body behind the head
-pub fault_behind : (h : Bool) (held slice front body rest : List ℕ) (old new : Option (List ℕ)) (keep : Bool) (p : ParsedResponse) (framing : AnswerFraming) (e : HeardFault)
+pub fault_behind : (h : Bool) (held slice front body rest : List ℕ) (old new : SourceState) (keep : Bool) (p : ParsedResponse) (framing : AnswerFraming) (e : HeardFault)
     → IsHeadAtFront held p → slice ≡ held → Ok framing ≡ framing_of h p.spans.code (fields_of (take p.spans.len slice) p)
     → front ≡ drop p.spans.len held → FindsBody framing front old body rest new (Err e) → ReadsAnswer h held old rest new (Err e) keep
 fault_behind h held slice front body rest old new keep p framing e f slice_is is front_is b =
@@ -192,7 +193,7 @@ fault_behind h held slice front body rest old new keep p framing e f slice_is is
     (subst (λ t. FindsBody framing t old body rest new (Err e)) front_is b)
 
 -- a body behind the head
-pub reply_behind : (h : Bool) (held slice front body seen rest : List ℕ) (old new : Option (List ℕ)) (keep : Bool) (p : ParsedResponse) (framing : AnswerFraming) (u : ⊤)
+pub reply_behind : (h : Bool) (held slice front body seen rest : List ℕ) (old new : SourceState) (keep : Bool) (p : ParsedResponse) (framing : AnswerFraming) (u : ⊤)
     (r : Result Heard HeardFault)
     → IsHeadAtFront held p → slice ≡ held → Ok framing ≡ framing_of h p.spans.code (fields_of (take p.spans.len slice) p)
     → front ≡ drop p.spans.len held → FindsBody framing front old body rest new (Ok u) → seen ≡ body
@@ -210,18 +211,18 @@ pub says_unread : (status : ℕ) (fields : Fields) (body : List ℕ) (r : Result
 says_unread status fields body r says is = subst (Says status fields body) is says
 
 -- reads before it
-pub reads_after : (h : Bool) (held text rest : List ℕ) (old mid new : Option (List ℕ)) (r : Result Heard HeardFault) (keep : Bool)
+pub reads_after : (h : Bool) (held text rest : List ℕ) (old mid new : SourceState) (r : Result Heard HeardFault) (keep : Bool)
     → Gave old mid held text → ReadsAnswer h text mid rest new r keep → ReadsAnswer h held old rest new r keep
 reads_after h held text rest old mid new r keep gave next = record {
-  given = gave.0 ++ next.given;
-  consumed = consumes_both old mid new gave.0 next.given gave.1 next.consumed;
-  found = subst (λ t. FindsAnswer h t rest new r keep) (ap (λ t. t ++ next.given) gave.2 ∙ append_assoc held gave.0 next.given) next.found;
+  given = gave.given ++ next.given;
+  consumed = consumes_both old.remaining mid.remaining new.remaining gave.given next.given gave.consumed next.consumed;
+  found = subst (λ t. FindsAnswer h t rest new r keep) (ap (λ t. t ++ next.given) gave.joined ∙ append_assoc held gave.given next.given) next.found;
 }
 
-pub found_after : (h : Bool) (held text rest : List ℕ) (old new : Option (List ℕ)) (r : Result Heard HeardFault) (keep : Bool)
+pub found_after : (h : Bool) (held text rest : List ℕ) (old new : SourceState) (r : Result Heard HeardFault) (keep : Bool)
     → Gave old new held text → FindsAnswer h text rest new r keep → ReadsAnswer h held old rest new r keep
 found_after h held text rest old new r keep gave found =
-    record { given = gave.0; consumed = gave.1; found = subst (λ t. FindsAnswer h t rest new r keep) gave.2 found }
+    record { given = gave.given; consumed = gave.consumed; found = subst (λ t. FindsAnswer h t rest new r keep) gave.joined found }
 
 -- a fault of the head
 -- there is no head in no byte
@@ -232,13 +233,11 @@ unfinished text (inl e) = record {
 }
 unfinished text (inr u) = u.1
 
-pub head_over : (h : Bool) (text rest : List ℕ) (new : Option (List ℕ)) (keep : Bool) → (text ≡ []) × IsAtEnd new
+pub head_over : (h : Bool) (text rest : List ℕ) (new : SourceState) (keep : Bool) → (text ≡ []) × IsAtEnd new.remaining
     → FindsAnswer h text rest new (Err Fault.Truncated) keep
 head_over h text rest new keep b = (b.1, inl (unfinished text (inl b.0)))
 
-pub head_fault : (h : Bool) (text rest : List ℕ) (new : Option (List ℕ)) (keep : Bool) (fault : WireFault) → FindsHead response_spans text new (Err fault)
-    → FindsAnswer h text rest new (Err (fault_of fault)) keep
-head_fault h text rest new keep Wire.Truncated b = (b.1, inl b.0.1)
-head_fault h text rest new keep Wire.Read b = inl (unfinished text b)
-head_fault h text rest new keep Wire.NoMemory b = absurd b
-head_fault h text rest new keep Wire.Ended b = absurd b
+pub head_fault : (h : Bool) (text rest : List ℕ) (new : SourceState) (keep : Bool) (fault : InputFault) → FindsHead response_spans text new (Err fault)
+    → FindsAnswer h text rest new (Err (heard_of_input fault)) keep
+head_fault h text rest new keep Input.Truncated b = (b.1, inl b.0.1)
+head_fault h text rest new keep Input.Read b = inl (unfinished text b)

@@ -14,13 +14,14 @@ use Rattle.upload_wire.specs.declared.connection.ConnEnd.TheVariants.{Clean, Aft
 use Rattle.upload_wire.specs.declared.connection.ConnFault.TheVariants as Conn
 use Rattle.upload_wire.specs.RequestText.{ReadsNext}
 use Rattle.upload_wire.specs.ReplyText.{reply}
-use Rattle.http_wire.specs.Writing.{Sink, TookAll}
-use Rattle.upload_wire.specs.Conversation.{Moves, Exchange, Source, IsKept, messages, replies, Answers, Serves, EndsWith, ReadsFail, IsConversation}
+use Rattle.http_wire.specs.States.{SourceState, SinkState}
+use Rattle.http_wire.specs.Writing.{TookAll}
+use Rattle.upload_wire.specs.Conversation.{Moves, Exchange, IsKept, messages, replies, Answers, Serves, EndsWith, ReadsFail, IsConversation}
 use Rattle.upload_wire.specs.ConversationSteps.{AnswersOne, GoesOn, Stops}
 use Rattle.http_wire.proofs.GaveLemmas.{consumes_none, consumes_both}
 use Rattle.http_wire.proofs.WritingLemmas.{appends_none, took_both}
 
-pub took_none : (a : Sink) → TookAll a a []
+pub took_none : (a : SinkState) → TookAll a a []
 took_none a = record { grown = appends_none a.contents; unfailed = refl }
 
 pub ok_not_err : {T E : Type 0} (value : T) (error : E) → ◌≡◌ {A = Result T E} (Ok value) (Err error) → ⊥
@@ -28,10 +29,10 @@ ok_not_err value error same = cc
 
 -- ---- one
 
-module _ {D : Type 0} (step : Moves D) (max count : ℕ) (held rest : List ℕ) (first left : Source) (ask : Ask) (style : Style)
-    (at new : D) (mid after : Sink) where
-  pub one_more : (r : Option ConnEnd) → ReadsNext max held first.remaining rest left.remaining (Ok (Request ask style))
-      → left.failed ≡ first.failed → AnswersOne step count ask style at new mid after r → r ≡ None
+module _ {D : Type 0} (step : Moves D) (max count : ℕ) (held rest : List ℕ) (first left : SourceState) (ask : Ask) (style : Style)
+    (at new : D) (mid after : SinkState) where
+  pub one_more : (r : Option ConnEnd) → ReadsNext max held first rest left (Ok (Request ask style))
+      → left.failed_reads ≡ first.failed_reads → AnswersOne step count ask style at new mid after r → r ≡ None
       → GoesOn step max count held rest first left at new mid after
   one_more None n same a e = record {
     given = n.given;
@@ -46,8 +47,8 @@ module _ {D : Type 0} (step : Moves D) (max count : ℕ) (held rest : List ℕ) 
   }
   one_more (Some x) n same a e = absurd (cc)
 
-  pub one_last : (r : Option ConnEnd) → ReadsNext max held first.remaining rest left.remaining (Ok (Request ask style))
-      → left.failed ≡ first.failed → AnswersOne step count ask style at new mid after r
+  pub one_last : (r : Option ConnEnd) → ReadsNext max held first rest left (Ok (Request ask style))
+      → left.failed_reads ≡ first.failed_reads → AnswersOne step count ask style at new mid after r
       → IfSome r (Stops step max count held first left at new mid after)
   one_last None n same a = tt
   one_last (Some Clean) n same a = absurd a
@@ -117,15 +118,15 @@ replies_more xs x =
     flat_map-append (λ x. reply x.answer x.style) xs (x ∷ []) ∙ ap (λ t. replies xs ++ t) (append-nil (reply x.answer x.style))
 
 -- what a connection has done behind so many requests
-pub record SoFar {D : Type 0} (step : Moves D) (max count : ℕ) (first left : Source) (old new : D) (held : List ℕ) (before after : Sink) : Type 0 where
+pub record SoFar {D : Type 0} (step : Moves D) (max count : ℕ) (first left : SourceState) (old new : D) (held : List ℕ) (before after : SinkState) : Type 0 where
   pub given : List ℕ
   pub consumed : Consumes first.remaining left.remaining given
-  pub unfailed : left.failed ≡ first.failed
+  pub unfailed : left.failed_reads ≡ first.failed_reads
   pub exchanges : List Exchange
   pub counted : length exchanges ≡ count
   pub served : Serves step max old new given held before after exchanges
 
-pub starts : {D : Type 0} (step : Moves D) (max : ℕ) (first : Source) (desk : D) (held : List ℕ) (before : Sink) → held ≡ []
+pub starts : {D : Type 0} (step : Moves D) (max : ℕ) (first : SourceState) (desk : D) (held : List ℕ) (before : SinkState) → held ≡ []
     → SoFar step max 0 first first desk desk held before before
 starts step max first desk held before empty = record {
   given = [];
@@ -136,8 +137,8 @@ starts step max first desk held before empty = record {
   served = record { few = lit< tt; read = sym empty; kept = tt; answered = refl; written = took_none before };
 }
 
-pub goes_on : {D : Type 0} (step : Moves D) (max count : ℕ) (first mid left : Source) (old at new : D) (held rest : List ℕ)
-    (before between after : Sink) → SoFar step max count first mid old at held before between
+pub goes_on : {D : Type 0} (step : Moves D) (max count : ℕ) (first mid left : SourceState) (old at new : D) (held rest : List ℕ)
+    (before between after : SinkState) → SoFar step max count first mid old at held before between
     → GoesOn step max count held rest mid left at new between after → SoFar step max (count + 1) first left old new rest before after
 goes_on step max count first mid left old at new held rest before between after s n =
     let counted = s.counted in
@@ -162,13 +163,13 @@ goes_on step max count first mid left old at new held rest before between after 
 reads_fail_from : (end : ConnEnd) (a b c : ℕ) → b ≡ a → ReadsFail end b c → ReadsFail end a c
 reads_fail_from end a b c same h = subst (λ n. ReadsFail end n c) same h
 
-pub ends : {D : Type 0} (step : Moves D) (max count : ℕ) (first mid left : Source) (old at new : D) (held : List ℕ)
-    (before between after : Sink) (end : ConnEnd) → SoFar step max count first mid old at held before between
+pub ends : {D : Type 0} (step : Moves D) (max count : ℕ) (first mid left : SourceState) (old at new : D) (held : List ℕ)
+    (before between after : SinkState) (end : ConnEnd) → SoFar step max count first mid old at held before between
     → Stops step max count held mid left at new between after end → IsConversation step max first left old new before after end
 ends step max count first mid left old at new held before between after end s n = record {
   bytes = s.given ++ n.given;
   consumed = consumes_both first.remaining mid.remaining left.remaining s.given n.given s.consumed n.consumed;
-  reads = reads_fail_from end first.failed mid.failed left.failed s.unfailed n.reads;
+  reads = reads_fail_from end first.failed_reads mid.failed_reads left.failed_reads s.unfailed n.reads;
   exchanges = s.exchanges;
   rest = held ++ n.given;
   at = at;
@@ -180,11 +181,11 @@ ends step max count first mid left old at new held before between after end s n 
     answered = s.served.answered;
     written = s.served.written;
   };
-  ended = subst (λ k. EndsWith step max k at new (held ++ n.given) left.remaining between after end) (sym s.counted) n.ended;
+  ended = subst (λ k. EndsWith step max k at new (held ++ n.given) left between after end) (sym s.counted) n.ended;
 }
 
 -- no buffer could be made
-pub ends_at_once : {D : Type 0} (step : Moves D) (max : ℕ) (first : Source) (desk : D) (before : Sink)
+pub ends_at_once : {D : Type 0} (step : Moves D) (max : ℕ) (first : SourceState) (desk : D) (before : SinkState)
     → IsConversation step max first first desk desk before before (Fault (Conn.Wire Wire.NoMemory))
 ends_at_once step max first desk before = record {
   bytes = [];

@@ -1,6 +1,6 @@
 -- From the spans of a head, and the body behind it, to the request.
 use Rattle.std.proofs.Common.{◌≡◌, ℕ, ◌≤◌, List, [], ◌++◌, length, take, drop, refl, sym, ap, ◌∙◌, subst, arith, append_assoc, length-take, inl, inr}
-use Rattle.std.specs.Prelude.{Option, Result, Ok, Err, bytes_eq, codes}
+use Rattle.std.specs.Prelude.{Result, Ok, Err, bytes_eq, codes}
 use Rattle.std.proofs.lemmas.List.{take-append-drop, append-nil, length-map}
 use Rattle.std.proofs.Math.ListN.{drop_of_length-le}
 use Rattle.httparse.specs.Grammar.{RequestHead, print_request}
@@ -10,8 +10,9 @@ use Rattle.http_wire.specs.RequestFronts.{ReadsHead}
 use Rattle.http_wire.specs.Fields.{head_fields, values_of, keeps_connection}
 use Rattle.http_wire.specs.Body.{framing_of, head_framing}
 use Rattle.upload_wire.specs.Target.{Asks, AsksWhole, extent_of, head_range, with_body}
-use Rattle.http_wire.specs.RequestSpans.{IsHeadAtFront}
+use Rattle.http_wire.specs.RequestSpans.{IsHeadAtFront, request_spans}
 use Rattle.http_wire.specs.FieldReading.{fields_of}
+use Rattle.http_wire.specs.States.{SourceState}
 use Rattle.http_wire.specs.Reading.{Gave}
 use Rattle.http_wire.specs.BodyFinding.{TakesBody, RefusesBodyText, CutsBody, FindsBody}
 use Rattle.upload_wire.specs.RequestReading.{Describes}
@@ -19,6 +20,12 @@ use Rattle.upload_wire.specs.RequestText.{style_of, HasCutBody, FindsNext, Reads
 use Rattle.http_wire.specs.declared.requests.parsed.ParsedRequest.{ParsedRequest}
 use Rattle.http_wire.specs.declared.framing.Framing.{Framing}
 use Rattle.http_wire.specs.declared.fault.Bad.{Bad}
+use Rattle.http_wire.specs.HeadReading.{FindsHead}
+use Rattle.http_wire.specs.Faults.{wire_of_input, wire_of_body}
+use Rattle.http_wire.specs.declared.fault.InputFault.{InputFault}
+use Rattle.http_wire.specs.declared.fault.InputFault.TheVariants as Input
+use Rattle.http_wire.specs.declared.fault.BodyFault.{BodyFault}
+use Rattle.http_wire.specs.declared.fault.BodyFault.TheVariants as Body
 use Rattle.http_wire.specs.declared.fault.WireFault.{WireFault}
 use Rattle.http_wire.specs.declared.fault.WireFault.TheVariants as Fault
 use Rattle.upload_wire.specs.declared.asks.HeadAsk.{HeadAsk}
@@ -97,16 +104,16 @@ style_same text p ask style f d =
     ∙ ap (keeps_connection h.minor) (fields_same text p f) in
     (λ i. record { head = is_head i; keep = keeps i })
 
-pub request_next : (max : ℕ) (old new : Option (List ℕ)) (held rest body : List ℕ) (p : ParsedRequest) (framing : Framing) (ask : HeadAsk) (style : Style)
+pub request_next : (max : ℕ) (old new : SourceState) (held rest body : List ℕ) (p : ParsedRequest) (framing : Framing) (ask : HeadAsk) (style : Style)
     (f : IsHeadAtFront held p) → Ok framing ≡ framing_of max p.spans.version (fields_of (take p.spans.len held) p)
     → Describes (take p.spans.len held) p ask style → TakesBody max framing old (drop p.spans.len held) new rest body
     → ReadsNext max held old rest new (Ok (Request (with_body ask body) style))
 request_next max old new held rest body p framing ask style f framed d b = record {
-  given = b.gave.0;
-  consumed = b.gave.1;
+  given = b.gave.given;
+  consumed = b.gave.consumed;
   found = record {
     message = take p.spans.len held ++ b.text;
-    cut = whole_text held b.gave.0 (b.text ++ rest) p.spans.len b.gave.2 ∙ sym (append_assoc (take p.spans.len held) b.text rest);
+    cut = whole_text held b.gave.given (b.text ++ rest) p.spans.len b.gave.joined ∙ sym (append_assoc (take p.spans.len held) b.text rest);
     request = record {
       head = the_head f;
       rest = b.text;
@@ -121,11 +128,11 @@ request_next max old new held rest body p framing ask style f framed d b = recor
   };
 }
 
-pub bad_framing_next : (max : ℕ) (old : Option (List ℕ)) (held : List ℕ) (p : ParsedRequest) (why : Bad) (f : IsHeadAtFront held p)
+pub bad_framing_next : (max : ℕ) (old : SourceState) (held : List ℕ) (p : ParsedRequest) (why : Bad) (f : IsHeadAtFront held p)
     → Err why ≡ framing_of max p.spans.version (fields_of (take p.spans.len held) p) → ReadsNext max held old held old (Ok (nexts.Bad why))
 bad_framing_next max old held p why f refused = record {
   given = [];
-  consumed = consumes_none old;
+  consumed = consumes_none old.remaining;
   found = inr (inr (inl (record {
     head = the_head f;
     rest = drop p.spans.len held;
@@ -134,16 +141,16 @@ bad_framing_next max old held p why f refused = record {
   })));
 }
 
-pub bad_body_next : (max : ℕ) (old new : Option (List ℕ)) (held rest : List ℕ) (p : ParsedRequest) (framing : Framing) (why : Bad) (f : IsHeadAtFront held p)
+pub bad_body_next : (max : ℕ) (old new : SourceState) (held rest : List ℕ) (p : ParsedRequest) (framing : Framing) (why : Bad) (f : IsHeadAtFront held p)
     → Ok framing ≡ framing_of max p.spans.version (fields_of (take p.spans.len held) p)
     → RefusesBodyText max framing old (drop p.spans.len held) new why → ReadsNext max held old rest new (Ok (nexts.Bad why))
 bad_body_next max old new held rest p framing why f framed b = record {
-  given = b.gave.0;
-  consumed = b.gave.1;
+  given = b.gave.given;
+  consumed = b.gave.consumed;
   found = inr (inr (inr (record {
     head = the_head f;
     rest = b.text;
-    reads = subst (λ t. ReadsHead t (the_head f) b.text) (sym (whole_text held b.gave.0 b.text p.spans.len b.gave.2)) (head_then held b.text p f);
+    reads = subst (λ t. ReadsHead t (the_head f) b.text) (sym (whole_text held b.gave.given b.text p.spans.len b.gave.joined)) (head_then held b.text p f);
     framing = framing;
     framed = framing_same max held p (Ok framing) f framed;
     refused = b.bad;
@@ -151,45 +158,53 @@ bad_body_next max old new held rest p framing why f framed b = record {
 }
 
 -- what came behind the head ends inside the body
-cut_next : (max : ℕ) (old new : Option (List ℕ)) (held : List ℕ) (p : ParsedRequest) (framing : Framing) (f : IsHeadAtFront held p)
+cut_next : (max : ℕ) (old new : SourceState) (held : List ℕ) (p : ParsedRequest) (framing : Framing) (f : IsHeadAtFront held p)
     → Ok framing ≡ framing_of max p.spans.version (fields_of (take p.spans.len held) p)
-    → (b : CutsBody max framing old (drop p.spans.len held) new) → HasCutBody max (held ++ b.gave.0)
+    → (b : CutsBody max framing old (drop p.spans.len held) new) → HasCutBody max (held ++ b.gave.given)
 cut_next max old new held p framing f framed b = record {
   head = the_head f;
   rest = b.text;
-  reads = subst (λ t. ReadsHead t (the_head f) b.text) (sym (whole_text held b.gave.0 b.text p.spans.len b.gave.2)) (head_then held b.text p f);
+  reads = subst (λ t. ReadsHead t (the_head f) b.text) (sym (whole_text held b.gave.given b.text p.spans.len b.gave.joined)) (head_then held b.text p f);
   framing = framing;
   framed = framing_same max held p (Ok framing) f framed;
   short = b.cut;
 }
 
-pub fault_next : (max : ℕ) (old new : Option (List ℕ)) (held rest body : List ℕ) (p : ParsedRequest) (framing : Framing) (e : WireFault) (f : IsHeadAtFront held p)
+pub fault_next : (max : ℕ) (old new : SourceState) (held rest body : List ℕ) (p : ParsedRequest) (framing : Framing) (e : BodyFault) (f : IsHeadAtFront held p)
     → Ok framing ≡ framing_of max p.spans.version (fields_of (take p.spans.len held) p)
-    → FindsBody max framing old (drop p.spans.len held) new rest body (Err e) → ReadsNext max held old rest new (Err e)
-fault_next max old new held rest body p framing Fault.Truncated f framed b = record {
-  given = b.0.gave.0;
-  consumed = b.0.gave.1;
+    → FindsBody max framing old (drop p.spans.len held) new rest body (Err e) → ReadsNext max held old rest new (Err (wire_of_body e))
+fault_next max old new held rest body p framing Body.Truncated f framed b = record {
+  given = b.0.gave.given;
+  consumed = b.0.gave.consumed;
   found = (inr (cut_next max old new held p framing f framed b.0), b.1);
 }
-fault_next max old new held rest body p framing Fault.Read f framed b = record {
-  given = b.gave.0;
-  consumed = b.gave.1;
+fault_next max old new held rest body p framing Body.Read f framed b = record {
+  given = b.gave.given;
+  consumed = b.gave.consumed;
   found = inr (inr (cut_next max old new held p framing f framed b));
 }
-fault_next max old new held rest body p framing Fault.NoMemory f framed b = record { given = b.gave.0; consumed = b.gave.1; found = tt }
-fault_next max old new held rest body p framing Fault.Ended f framed b = absurd b
+fault_next max old new held rest body p framing Body.NoMemory f framed b = record { given = b.gave.given; consumed = b.gave.consumed; found = tt }
 
-pub no_memory_next : (max : ℕ) (old : Option (List ℕ)) (held : List ℕ) (e : WireFault) → e ≡ Fault.NoMemory → ReadsNext max held old held old (Err e)
+pub no_memory_next : (max : ℕ) (old : SourceState) (held : List ℕ) (e : WireFault) → e ≡ Fault.NoMemory → ReadsNext max held old held old (Err e)
 no_memory_next max old held e is =
-    subst (λ x. ReadsNext max held old held old (Err x)) (sym is) (record { given = []; consumed = consumes_none old; found = tt })
+    subst (λ x. ReadsNext max held old held old (Err x)) (sym is) (record { given = []; consumed = consumes_none old.remaining; found = tt })
+
+-- why no head came
+pub head_fault_next : (max : ℕ) (text rest : List ℕ) (new : SourceState) (e : InputFault) → FindsHead request_spans text new (Err e)
+    → FindsNext max text rest new (Err (wire_of_input e))
+head_fault_next max text rest new Input.Truncated h = (inl h.0, h.1)
+head_fault_next max text rest new Input.Read h = elim h [
+  | inl empty ↦ inl empty
+  | inr unfinished ↦ inr (inl unfinished)
+]
 
 -- a read, and then what came next
-pub reads_after : (max : ℕ) (held text rest : List ℕ) (old mid new : Option (List ℕ)) (r : Result Next WireFault)
+pub reads_after : (max : ℕ) (held text rest : List ℕ) (old mid new : SourceState) (r : Result Next WireFault)
     → Gave old mid held text → ReadsNext max text mid rest new r → ReadsNext max held old rest new r
 reads_after max held text rest old mid new r gave next = record {
-  given = gave.0 ++ next.given;
-  consumed = consumes_both old mid new gave.0 next.given gave.1 next.consumed;
-  found = subst (λ t. FindsNext max t rest new r) (ap (λ t. t ++ next.given) gave.2 ∙ append_assoc held gave.0 next.given) next.found;
+  given = gave.given ++ next.given;
+  consumed = consumes_both old.remaining mid.remaining new.remaining gave.given next.given gave.consumed next.consumed;
+  found = subst (λ t. FindsNext max t rest new r) (ap (λ t. t ++ next.given) gave.joined ∙ append_assoc held gave.given next.given) next.found;
 }
 
 pub described : (front : List ℕ) (p : ParsedRequest) (ask : HeadAsk) (style : Style) (method target : List ℕ) (range : Extent)

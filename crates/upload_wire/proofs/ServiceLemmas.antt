@@ -8,8 +8,8 @@ use Rattle.upload_wire.specs.declared.connection.ConnEnd.{ConnEnd}
 use Rattle.upload_wire.specs.declared.connection.ConnEnd.TheVariants.{Clean, AfterClose, AfterBad, TooMany, DeskGone, Fault}
 use Rattle.upload_wire.specs.declared.connection.ConnFault.TheVariants as Conn
 use Rattle.upload_wire.specs.declared.desk.ServiceDesk.{ServiceDesk}
-use Rattle.http_wire.specs.Writing.{Sink}
-use Rattle.upload_wire.specs.Conversation.{Exchange, Source, Answers, EndsWith, IsConversation}
+use Rattle.http_wire.specs.States.{SourceState, SinkState}
+use Rattle.upload_wire.specs.Conversation.{Exchange, Answers, EndsWith, IsConversation}
 use Rattle.upload_wire.specs.ServiceTurns.{StepsService}
 use Rattle.upload_wire.specs.ConnectionRuns.{service_exchange, answered_last, answered, IsRunOfService}
 use Rattle.upload_wire.proofs.ConversationLemmas.{answers_more}
@@ -57,7 +57,7 @@ run_of old new xs end there answers =
     let all = ran old new xs answers in
     record { run = all.run; same_secret = all.same_secret; same_moment = all.same_moment; never_gone = there }
 
-module _ (max_body count : ℕ) (old at new : ServiceDesk) (rest : List ℕ) (left : Option (List ℕ)) (mid after : Sink) (xs : List Exchange)
+module _ (max_body count : ℕ) (old at new : ServiceDesk) (rest : List ℕ) (left : SourceState) (mid after : SinkState) (xs : List Exchange)
     (answers : Answers StepsService old xs at) where
   -- nothing more was asked
   none_more : (end : ConnEnd) → (end ≡ DeskGone → ⊥) → new ≡ at → IsRunOfService old new (xs ++ []) end
@@ -83,8 +83,8 @@ module _ (max_body count : ℕ) (old at new : ServiceDesk) (rest : List ℕ) (le
         | inr h ↦ none_more (Fault Conn.Write) (λ same. cc) h.1.unasked
       ]
 
-pub run_of_conversation : (max_body : ℕ) (first left : Source) (old new : ServiceDesk) (before after : Sink) (end : ConnEnd)
+pub run_of_conversation : (max_body : ℕ) (first left : SourceState) (old new : ServiceDesk) (before after : SinkState) (end : ConnEnd)
     → (c : IsConversation StepsService max_body first left old new before after end)
     → IsRunOfService old new (answered StepsService max_body first left old new before after end c) end
 run_of_conversation max_body first left old new before after end c =
-    ended max_body (length c.exchanges) old c.at new c.rest left.remaining c.mid after c.exchanges c.served.answered end c.ended
+    ended max_body (length c.exchanges) old c.at new c.rest left c.mid after c.exchanges c.served.answered end c.ended

@@ -2,14 +2,15 @@
 use Rattle.std.proofs.Common.{◌≡◌, List, ℕ, Bool, subst, sym, ap, ◌∙◌, length}
 use Rattle.std.specs.Prelude.{Option, Result, ⊤, true, not, ◌==◌}
 use Rattle.upload_service.specs.declared.ask.Ask.{Ask}
-use Rattle.http_wire.specs.Writing.{Sink, Wrote}
+use Rattle.http_wire.specs.States.{SinkState}
+use Rattle.http_wire.specs.Writing.{Wrote}
 use Rattle.upload_wire.specs.AskText.{ask_text, message_of, wants_head}
 use Rattle.upload_wire.specs.TransportText.{AsksOverWire, AsksWhere, HearsBehind, WireState, has_body, stays_open}
 use Rattle.upload_wire.specs.declared.client.heard.Heard.{Heard}
 use Rattle.http_wire.specs.declared.writing.WriteFault.{WriteFault}
 
 -- a request that was written and what was heard behind it, where the host and the body were sliced
-pub exchanges : (old mid new : WireState) (ask : Ask) (host body : List ℕ) (goes empty head : Bool) (sent : Sink) (written : Result ⊤ WriteFault)
+pub exchanges : (old mid new : WireState) (ask : Ask) (host body : List ℕ) (goes empty head : Bool) (sent : SinkState) (written : Result ⊤ WriteFault)
     (heard : Option Heard)
     → mid ≡ old → goes ≡ stays_open old → goes ≡ true → host ≡ mid.host → new.host ≡ mid.host
     → Wrote mid.writer sent (ask_text ask host) written → new.writer ≡ sent

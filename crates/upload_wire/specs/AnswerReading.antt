@@ -1,8 +1,10 @@
 -- What the functions find that read a reply.
 use Rattle.std.specs.Prelude.{◌≡◌, ℕ, ◌<◌, ◌≤◌, List, [], ◌++◌, length, map, min, take, drop, Option, Result, Ok, Err, ⊤}
 use Rattle.std.specs.Io.KnownBytes.{IsAtEnd}
+use Rattle.std.specs.declared.alloc.AllocError.{AllocError}
 use Rattle.httparse.specs.Spans.{header_bytes}
 use Rattle.http_wire.specs.Fields.{Fields}
+use Rattle.http_wire.specs.States.{SourceState}
 use Rattle.http_wire.specs.Reading.{Gave}
 use Rattle.http_wire.specs.BodyReading.{Moved, MovedNone}
 use Rattle.upload_wire.specs.AnswerText.{IsBody, IsHeard, IsMisplaced, IsPlaceOf, location, max_answer, range, upto_of}
@@ -12,8 +14,10 @@ use Rattle.upload_wire.specs.declared.client.framing.AnswerFraming.TheVariants.{
 use Rattle.upload_wire.specs.declared.client.heard.Heard.{Heard}
 use Rattle.upload_wire.specs.declared.client.heard.HeardFault.{HeardFault}
 use Rattle.upload_wire.specs.declared.client.heard.HeardFault.TheVariants as Fault
-use Rattle.http_wire.specs.declared.fault.WireFault.{WireFault}
-use Rattle.http_wire.specs.declared.fault.WireFault.TheVariants as Wire
+use Rattle.http_wire.specs.declared.fault.InputFault.{InputFault}
+use Rattle.http_wire.specs.declared.fault.InputFault.TheVariants as Input
+use Rattle.http_wire.specs.declared.fault.BodyFault.{BodyFault}
+use Rattle.http_wire.specs.declared.fault.BodyFault.TheVariants as Body
 
 -- ---- the head
 
@@ -24,51 +28,45 @@ fields_of head p = map (header_bytes head) (take p.spans.headers p.headers)
 -- ---- the body
 
 -- bytes that were held are moved to the end of a body, as many as there are and no more than are left of it
-abbrev pub Takes : List ℕ → List ℕ → List ℕ → List ℕ → ℕ → Result ℕ HeardFault → Type 0
+abbrev pub Takes : List ℕ → List ℕ → List ℕ → List ℕ → ℕ → Result ℕ AllocError → Type 0
 Takes held before rest after left (Ok count) = (count ≡ min left (length held)) × (rest ≡ drop count held) × (after ≡ before ++ take count held)
-Takes held before rest after left (Err fault) = (fault ≡ Fault.NoMemory) × (rest ≡ held)
+Takes held before rest after left (Err error) = rest ≡ held
+
+-- nothing was moved, and nothing is held
+abbrev pub MovesNothing : SourceState → List ℕ → List ℕ → SourceState → List ℕ → List ℕ → Type 0
+MovesNothing old held before new rest after = Moved old held before new rest after 0 × (rest ≡ [])
 
 -- a part of what is left of a body, or nothing at the end of the input and before a failed read
-abbrev pub MovesPart : Option (List ℕ) → List ℕ → List ℕ → Option (List ℕ) → List ℕ → List ℕ → ℕ → Result ℕ HeardFault → Type 0
-MovesPart old held before new rest after left (Ok count) =
-    Moved old held before new rest after count × (count ≤ left) × (count ≡ 0 → (rest ≡ []) × IsAtEnd new)
-MovesPart old held before new rest after left (Err Fault.Read) = Moved old held before new rest after 0 × (rest ≡ [])
-MovesPart old held before new rest after left (Err Fault.NoMemory) = MovedNone old held new
-MovesPart old held before new rest after left (Err Fault.Truncated) = ⊥
-MovesPart old held before new rest after left (Err Fault.Unreadable) = ⊥
-MovesPart old held before new rest after left (Err Fault.TooLarge) = ⊥
-MovesPart old held before new rest after left (Err Fault.Ended) = ⊥
+abbrev pub MovesPart : SourceState → List ℕ → List ℕ → SourceState → List ℕ → List ℕ → ℕ → Result ℕ BodyFault → Type 0
+MovesPart old held before new rest after left (Ok count) = Moved old held before new rest after count × (0 < count) × (count ≤ left)
+MovesPart old held before new rest after left (Err Body.Truncated) = MovesNothing old held before new rest after × IsAtEnd new.remaining
+MovesPart old held before new rest after left (Err Body.Read) = MovesNothing old held before new rest after
+MovesPart old held before new rest after left (Err Body.NoMemory) = MovedNone old held new
 
 -- all that came was moved, and it is fewer bytes than so many
-pub record MovesAll (old : Option (List ℕ)) (held before : List ℕ) (new : Option (List ℕ)) (rest after : List ℕ) (count : ℕ) : Type 0 where
+pub record MovesAll (old : SourceState) (held before : List ℕ) (new : SourceState) (rest after : List ℕ) (count : ℕ) : Type 0 where
   pub moved : ℕ
   pub bytes : Moved old held before new rest after moved
   pub few : moved < count
   pub none_left : rest ≡ []
 
 -- so many bytes were moved, or all of fewer before the end of the input or a failed read
-abbrev pub MovesUpTo : Option (List ℕ) → List ℕ → List ℕ → Option (List ℕ) → List ℕ → List ℕ → ℕ → Result ⊤ HeardFault → Type 0
+abbrev pub MovesUpTo : SourceState → List ℕ → List ℕ → SourceState → List ℕ → List ℕ → ℕ → Result ⊤ BodyFault → Type 0
 MovesUpTo old held before new rest after count (Ok done) = Moved old held before new rest after count
-MovesUpTo old held before new rest after count (Err Fault.Truncated) = MovesAll old held before new rest after count × IsAtEnd new
-MovesUpTo old held before new rest after count (Err Fault.Read) = MovesAll old held before new rest after count
-MovesUpTo old held before new rest after count (Err Fault.NoMemory) = MovedNone old held new
-MovesUpTo old held before new rest after count (Err Fault.Unreadable) = ⊥
-MovesUpTo old held before new rest after count (Err Fault.TooLarge) = ⊥
-MovesUpTo old held before new rest after count (Err Fault.Ended) = ⊥
+MovesUpTo old held before new rest after count (Err Body.Truncated) = MovesAll old held before new rest after count × IsAtEnd new.remaining
+MovesUpTo old held before new rest after count (Err Body.Read) = MovesAll old held before new rest after count
+MovesUpTo old held before new rest after count (Err Body.NoMemory) = MovedNone old held new
 
 -- what a fault means to a body that goes to the end of the input
-abbrev pub end_of : HeardFault → Result ⊤ HeardFault
-end_of Fault.Truncated = Ok tt
-end_of Fault.Read = Err Fault.Read
-end_of Fault.NoMemory = Err Fault.NoMemory
-end_of Fault.Unreadable = Err Fault.Unreadable
-end_of Fault.TooLarge = Err Fault.TooLarge
-end_of Fault.Ended = Err Fault.Ended
+abbrev pub end_of : BodyFault → Result ⊤ HeardFault
+end_of Body.Truncated = Ok tt
+end_of Body.Read = Err Fault.Read
+end_of Body.NoMemory = Err Fault.NoMemory
 
 -- what was found of a body in the text that was held behind its head and read
-abbrev pub FindsBodyIn : AnswerFraming → List ℕ → List ℕ → List ℕ → Option (List ℕ) → Result ⊤ HeardFault → Type 0
+abbrev pub FindsBodyIn : AnswerFraming → List ℕ → List ℕ → List ℕ → SourceState → Result ⊤ HeardFault → Type 0
 FindsBodyIn framing text body rest new (Ok done) = (text ≡ body ++ rest) × IsBody framing body rest new
-FindsBodyIn (Sized n) text body rest new (Err Fault.Truncated) = (length text < n) × IsAtEnd new
+FindsBodyIn (Sized n) text body rest new (Err Fault.Truncated) = (length text < n) × IsAtEnd new.remaining
 FindsBodyIn ToEnd text body rest new (Err Fault.Truncated) = ⊥
 FindsBodyIn (Sized n) text body rest new (Err Fault.TooLarge) = ⊥
 FindsBodyIn ToEnd text body rest new (Err Fault.TooLarge) = max_answer < length text
@@ -80,7 +78,7 @@ FindsBodyIn framing text body rest new (Err Fault.Ended) = ⊥
 
 -- some bytes were read, and this was found of a body in what was held and read
 pub record FindsBody
-    (framing : AnswerFraming) (held : List ℕ) (old : Option (List ℕ)) (body rest : List ℕ) (new : Option (List ℕ)) (r : Result ⊤ HeardFault)
+    (framing : AnswerFraming) (held : List ℕ) (old : SourceState) (body rest : List ℕ) (new : SourceState) (r : Result ⊤ HeardFault)
     : Type 0 where
   pub text : List ℕ
   pub gave : Gave old new held text
@@ -88,12 +86,15 @@ pub record FindsBody
 
 -- ---- what it says
 
--- the fault that a fault of a read is
-abbrev pub fault_of : WireFault → HeardFault
-fault_of Wire.Truncated = Fault.Truncated
-fault_of Wire.Read = Fault.Read
-fault_of Wire.NoMemory = Fault.NoMemory
-fault_of Wire.Ended = Fault.Ended
+-- the fault of a reply that a fault of its head is, or one of its body
+abbrev pub heard_of_input : InputFault → HeardFault
+heard_of_input Input.Truncated = Fault.Truncated
+heard_of_input Input.Read = Fault.Read
+
+abbrev pub heard_of_body : BodyFault → HeardFault
+heard_of_body Body.Truncated = Fault.Truncated
+heard_of_body Body.Read = Fault.Read
+heard_of_body Body.NoMemory = Fault.NoMemory
 
 -- the path that was read, or the refusal of the value, unless memory was refused
 abbrev pub PlaceUnlessNoMemory : Option (List ℕ) → Result (Option (List ℕ)) HeardFault → Type 0

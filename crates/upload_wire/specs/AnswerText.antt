@@ -11,6 +11,7 @@ use Rattle.serde_json.specs.Data.{Data}
 use Rattle.serde_json.specs.Read.{read}
 use Rattle.serde_json.specs.Find.{get, at, as_str}
 use Rattle.upload_names.specs.ByteRange.{Span, range_of}
+use Rattle.http_wire.specs.States.{SourceState}
 use Rattle.http_wire.specs.Fields.{Fields, values_of, keeps_connection}
 use Rattle.http_wire.specs.Body.{is_number}
 use Rattle.http_wire.specs.ResponseFronts.{ReadsHead, IsRefused, IsTooLong, IsUnfinished}
@@ -122,18 +123,18 @@ pub record ReadsFramed
   pub framed : framing_of head_only (status_code head) (head_fields head) ≡ framing
 
 -- the body is as long as its framing says; one that goes to the end of the input leaves nothing
-abbrev pub IsBody : AnswerFraming → List ℕ → List ℕ → Option (List ℕ) → Type 0
+abbrev pub IsBody : AnswerFraming → List ℕ → List ℕ → SourceState → Type 0
 IsBody (Sized n) body rest new = length body ≡ n
-IsBody ToEnd body rest new = (length body ≤ max_answer) × (rest ≡ []) × IsAtEnd new
+IsBody ToEnd body rest new = (length body ≤ max_answer) × (rest ≡ []) × IsAtEnd new.remaining
 
 -- a whole reply and then rest
-pub record IsWhole (head_only : Bool) (text rest : List ℕ) (new : Option (List ℕ)) (head : ResponseHead) (body : List ℕ) : Type 0 where
+pub record IsWhole (head_only : Bool) (text rest : List ℕ) (new : SourceState) (head : ResponseHead) (body : List ℕ) : Type 0 where
   pub framing : AnswerFraming
   pub framed : ReadsFramed head_only text (Ok framing) head (body ++ rest)
   pub is_body : IsBody framing body rest new
 
 -- a reply of which this is heard, and which keeps the connection or doesn't
-pub record TellsHeard (head_only : Bool) (text rest : List ℕ) (new : Option (List ℕ)) (heard : Heard) (keep : Bool) : Type 0 where
+pub record TellsHeard (head_only : Bool) (text rest : List ℕ) (new : SourceState) (heard : Heard) (keep : Bool) : Type 0 where
   pub head : ResponseHead
   pub body : List ℕ
   pub whole : IsWhole head_only text rest new head body
@@ -141,7 +142,7 @@ pub record TellsHeard (head_only : Bool) (text rest : List ℕ) (new : Option (L
   pub keeps : keep ≡ keeps_on head.minor (head_fields head) whole.framing
 
 -- a reply whose Location or Range is unreadable
-pub record TellsMisplaced (head_only : Bool) (text rest : List ℕ) (new : Option (List ℕ)) : Type 0 where
+pub record TellsMisplaced (head_only : Bool) (text rest : List ℕ) (new : SourceState) : Type 0 where
   pub head : ResponseHead
   pub body : List ℕ
   pub whole : IsWhole head_only text rest new head body
@@ -181,32 +182,29 @@ HoldsNone head_only text = IsUnfinished text ⊎ (HasCutBody head_only text ⊎ 
 
 -- What was found in the text, where the reader holds rest and the source is left as new. Behind a fault nothing is said of whether the
 -- connection stays.
-abbrev pub FindsAnswer : Bool → List ℕ → List ℕ → Option (List ℕ) → Result Heard HeardFault → Bool → Type 0
+abbrev pub FindsAnswer : Bool → List ℕ → List ℕ → SourceState → Result Heard HeardFault → Bool → Type 0
 FindsAnswer head_only text rest new (Ok heard) keep = TellsHeard head_only text rest new heard keep
 FindsAnswer head_only text rest new (Err Fault.Unreadable) keep =
     IsRefused text ⊎ (HasFramingFault head_only text Fault.Unreadable ⊎ TellsMisplaced head_only text rest new)
 FindsAnswer head_only text rest new (Err Fault.TooLarge) keep =
     IsTooLong text ⊎ (HasFramingFault head_only text Fault.TooLarge ⊎ HasLongBody head_only text)
-FindsAnswer head_only text rest new (Err Fault.Truncated) keep = IsAtEnd new × (IsUnfinished text ⊎ HasCutBody head_only text)
+FindsAnswer head_only text rest new (Err Fault.Truncated) keep = IsAtEnd new.remaining × (IsUnfinished text ⊎ HasCutBody head_only text)
 FindsAnswer head_only text rest new (Err Fault.Read) keep = HoldsNone head_only text
 FindsAnswer head_only text rest new (Err Fault.NoMemory) keep = ⊤
 FindsAnswer head_only text rest new (Err Fault.Ended) keep = ⊥
 
 -- so many bytes were read, and this was found in what was held and read
 pub record ReadsAnswer
-    (head_only : Bool) (held : List ℕ) (old : Option (List ℕ)) (rest : List ℕ) (new : Option (List ℕ)) (r : Result Heard HeardFault) (keep : Bool)
+    (head_only : Bool) (held : List ℕ) (old : SourceState) (rest : List ℕ) (new : SourceState) (r : Result Heard HeardFault) (keep : Bool)
     : Type 0 where
   pub given : List ℕ
-  pub consumed : Consumes old new given
+  pub consumed : Consumes old.remaining new.remaining given
   pub found : FindsAnswer head_only (held ++ given) rest new r keep
 
--- what contracts see of a reader of replies: the bytes that were read and not taken, what is known of the source, its
--- counts, whether a fault ended the reading, and whether the connection stays behind the reply that was read last
+-- what contracts see of a reader of replies: the bytes that were read and not taken, the source, whether a fault ended the reading, and whether the connection stays behind the reply that was read last
 pub record AnswerReaderState : Type 0 where
   pub held : List ℕ
-  pub remaining : Option (List ℕ)
-  pub reads : ℕ
-  pub failed_reads : ℕ
+  pub source : SourceState
   pub ended : Bool
   pub keep : Bool
 

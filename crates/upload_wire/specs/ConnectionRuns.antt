@@ -1,10 +1,10 @@
 -- What a conversation asked of its desk; and over a service: its exchanges are a run of the service's machine.
-use Rattle.std.specs.Prelude.{◌≡◌, ℕ, List, [], ◌∷◌, ◌++◌, length, map, Option}
+use Rattle.std.specs.Prelude.{◌≡◌, ℕ, List, [], ◌∷◌, ◌++◌, length, map}
 use Rattle.upload_service.specs.declared.ask.Ask.{Ask}
 use Rattle.upload_service.specs.Run.{Run}
 use Rattle.upload_service.specs.Run as service
-use Rattle.http_wire.specs.Writing.{Sink}
-use Rattle.upload_wire.specs.Conversation.{Moves, Exchange, Source, EndsWith, IsConversation}
+use Rattle.http_wire.specs.States.{SourceState, SinkState}
+use Rattle.upload_wire.specs.Conversation.{Moves, Exchange, EndsWith, IsConversation}
 use Rattle.upload_wire.specs.ServiceTurns.{StepsService}
 use Rattle.upload_wire.specs.declared.connection.ConnEnd.{ConnEnd}
 use Rattle.upload_wire.specs.declared.connection.ConnEnd.TheVariants.{Clean, AfterClose, AfterBad, TooMany, DeskGone, Fault}
@@ -14,7 +14,7 @@ use mathlib.Core.Logic.{⊎_elim}
 
 -- ---- what a conversation asked
 
-module _ {D : Type 0} (step : Moves D) (max_body count : ℕ) (at new : D) (rest : List ℕ) (left : Option (List ℕ)) (mid after : Sink) where
+module _ {D : Type 0} (step : Moves D) (max_body count : ℕ) (at new : D) (rest : List ℕ) (left : SourceState) (mid after : SinkState) where
   -- the exchange inside an end: the request behind all others, where it was answered
   abbrev pub answered_last : (end : ConnEnd) → EndsWith step max_body count at new rest left mid after end → List Exchange
   answered_last Clean e = []
@@ -35,14 +35,14 @@ module _ {D : Type 0} (step : Moves D) (max_body count : ℕ) (at new : D) (rest
   unanswered_last (Fault (Conn.Wire fault)) e = []
   unanswered_last (Fault Conn.Write) e = []
 
-module _ {D : Type 0} (step : Moves D) (max_body : ℕ) (first left : Source) (old new : D) (before after : Sink) (end : ConnEnd)
+module _ {D : Type 0} (step : Moves D) (max_body : ℕ) (first left : SourceState) (old new : D) (before after : SinkState) (end : ConnEnd)
     (c : IsConversation step max_body first left old new before after end) where
   -- all requests that the desk answered, in their order, and the one that it didn't
   abbrev pub answered : List Exchange
-  answered = c.exchanges ++ answered_last step max_body (length c.exchanges) c.at new c.rest left.remaining c.mid after end c.ended
+  answered = c.exchanges ++ answered_last step max_body (length c.exchanges) c.at new c.rest left c.mid after end c.ended
 
   abbrev pub unanswered : List Ask
-  unanswered = unanswered_last step max_body (length c.exchanges) c.at new c.rest left.remaining c.mid after end c.ended
+  unanswered = unanswered_last step max_body (length c.exchanges) c.at new c.rest left c.mid after end c.ended
 
 -- ---- over a service
 
@@ -64,6 +64,6 @@ pub record IsRunOfService (old new : ServiceDesk) (exchanges : List Exchange) (e
 -- every conversation over a desk of a service is a run of the service
 abbrev pub ConversationsRunTheService : Type 0
 ConversationsRunTheService =
-    (max_body : ℕ) (first left : Source) (old new : ServiceDesk) (before after : Sink) (end : ConnEnd)
+    (max_body : ℕ) (first left : SourceState) (old new : ServiceDesk) (before after : SinkState) (end : ConnEnd)
     → (c : IsConversation StepsService max_body first left old new before after end)
     → IsRunOfService old new (answered StepsService max_body first left old new before after end c) end

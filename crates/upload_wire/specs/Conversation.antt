@@ -8,7 +8,8 @@ use Rattle.upload_service.specs.declared.answer.Answer.{Answer}
 use Rattle.http_wire.specs.Counts.{CountsUp}
 use Rattle.upload_wire.specs.RequestText.{IsRequest, IsBad, IsTruncated, HoldsNone}
 use Rattle.upload_wire.specs.ReplyText.{reply, bad}
-use Rattle.http_wire.specs.Writing.{Sink, TookAll, TookFront}
+use Rattle.http_wire.specs.States.{SourceState, SinkState}
+use Rattle.http_wire.specs.Writing.{TookAll, TookFront}
 use Rattle.http_wire.specs.declared.fault.Bad.{Bad}
 use Rattle.http_wire.specs.declared.fault.WireFault.{WireFault}
 use Rattle.http_wire.specs.declared.fault.WireFault.TheVariants as Wire
@@ -20,14 +21,6 @@ use Rattle.upload_wire.specs.declared.connection.ConnFault.TheVariants as Conn
 -- the most requests of a connection
 abbrev pub max_requests : ℕ
 max_requests = 10000
-
--- what contracts see of a source: the bytes that it has left, where they are known, and how many reads failed
-pub record Source : Type 0 where
-  pub remaining : Option (List ℕ)
-  pub failed : ℕ
-
-abbrev pub source : Option (List ℕ) → ℕ → Source
-source remaining failed = record { remaining = remaining; failed = failed }
 
 -- how a desk moves: its state, an ask, an answer or none where it is gone, and its new state
 abbrev pub Moves : Type 0 → Type 1
@@ -64,7 +57,7 @@ Answers {D} step old (x ∷ xs) new = (mid : D) × step old x.ask (Some x.answer
 
 -- The bytes are these requests and then rest; each request wanted the connection to go on, was answered by the desk, and
 -- its reply was written whole.
-pub record Serves {D : Type 0} (step : Moves D) (max_body : ℕ) (old at : D) (bytes rest : List ℕ) (before mid : Sink) (xs : List Exchange) : Type 0 where
+pub record Serves {D : Type 0} (step : Moves D) (max_body : ℕ) (old at : D) (bytes rest : List ℕ) (before mid : SinkState) (xs : List Exchange) : Type 0 where
   pub few : length xs < max_requests
   pub read : bytes ≡ messages xs ++ rest
   pub kept : AllByRecursion (IsKept max_body) xs
@@ -103,21 +96,21 @@ pub record Refuses {D : Type 0} (max_body : ℕ) (at new : D) (rest : List ℕ) 
   pub unasked : new ≡ at
 
 -- the desk wasn't asked, and nothing was written
-pub record IsQuiet {D : Type 0} (at new : D) (mid after : Sink) : Type 0 where
+pub record IsQuiet {D : Type 0} (at new : D) (mid after : SinkState) : Type 0 where
   pub unasked : new ≡ at
   pub unwritten : TookAll mid after []
 
 -- why the reader gave no request: what the bytes say of it, and what the source does
-abbrev pub WireStops : ℕ → List ℕ → Option (List ℕ) → WireFault → Type 0
-WireStops max_body rest left Wire.Truncated = IsTruncated max_body rest × IsAtEnd left
+abbrev pub WireStops : ℕ → List ℕ → SourceState → WireFault → Type 0
+WireStops max_body rest left Wire.Truncated = IsTruncated max_body rest × IsAtEnd left.remaining
 WireStops max_body rest left Wire.Read = HoldsNone max_body rest
 WireStops max_body rest left Wire.NoMemory = ⊤
 WireStops max_body rest left Wire.Ended = ⊥
 
 -- How a conversation ends behind `count` replies, where the desk stands at `at`, rest is what was read and not answered,
 -- the sink stands at mid, and the source is left so.
-abbrev pub EndsWith : {D : Type 0} → Moves D → ℕ → ℕ → D → D → List ℕ → Option (List ℕ) → Sink → Sink → ConnEnd → Type 0
-EndsWith step max_body count at new rest left mid after Clean = (rest ≡ []) × IsAtEnd left × IsQuiet at new mid after
+abbrev pub EndsWith : {D : Type 0} → Moves D → ℕ → ℕ → D → D → List ℕ → SourceState → SinkState → SinkState → ConnEnd → Type 0
+EndsWith step max_body count at new rest left mid after Clean = (rest ≡ []) × IsAtEnd left.remaining × IsQuiet at new mid after
 EndsWith step max_body count at new rest left mid after AfterClose =
     (x : Exchange) × AnswersNext step max_body at new rest x × (x.style.keep ≡ false) × TookAll mid after (last_reply count x)
 EndsWith step max_body count at new rest left mid after AfterBad =
@@ -138,13 +131,13 @@ ReadsFail other old new = new ≡ old
 -- ---- the whole
 
 -- The bytes that were read, the desk's moves, and the bytes that were written are a conversation with this end.
-pub record IsConversation {D : Type 0} (step : Moves D) (max_body : ℕ) (first left : Source) (old new : D) (before after : Sink) (end : ConnEnd) : Type 0 where
+pub record IsConversation {D : Type 0} (step : Moves D) (max_body : ℕ) (first left : SourceState) (old new : D) (before after : SinkState) (end : ConnEnd) : Type 0 where
   pub bytes : List ℕ
   pub consumed : Consumes first.remaining left.remaining bytes
-  pub reads : ReadsFail end first.failed left.failed
+  pub reads : ReadsFail end first.failed_reads left.failed_reads
   pub exchanges : List Exchange
   pub rest : List ℕ
   pub at : D
-  pub mid : Sink
+  pub mid : SinkState
   pub served : Serves step max_body old at bytes rest before mid exchanges
-  pub ended : EndsWith step max_body (length exchanges) at new rest left.remaining mid after end
+  pub ended : EndsWith step max_body (length exchanges) at new rest left mid after end

@@ -1,11 +1,12 @@
 -- One ask over a wire: a request is written, and one reply is heard.
-use Rattle.std.specs.Prelude.{◌≡◌, ◌≢◌, ℕ, Bool, true, false, not, ◌&&◌, ◌==◌, nat_lt, nat_le, List, length, Option, Some, None, Result, Ok, Err, is_err, ⊤, if◌then◌else◌}
+use Rattle.std.specs.Prelude.{◌≡◌, ℕ, Bool, true, false, not, ◌&&◌, ◌==◌, nat_lt, nat_le, List, length, Option, Some, None, Result, Ok, Err, is_err, ⊤, if◌then◌else◌}
 use Rattle.std.specs.Result.{result_ok}
 use Rattle.upload_service.specs.declared.ask.Ask.{Ask}
-use Rattle.http_wire.specs.Writing.{Sink, Wrote}
+use Rattle.http_wire.specs.States.{SinkState}
+use Rattle.http_wire.specs.Writing.{Wrote}
 use Rattle.upload_wire.specs.AskText.{ask_text, message_of, wants_head}
 use Rattle.upload_wire.specs.AnswerText.{AnswerReaderState, ReadsAnswer, most_answer_reads}
-use Rattle.http_wire.specs.Counts.{CountsUp, CountsAtMost}
+use Rattle.http_wire.specs.Reading.{Costs}
 use Rattle.http_wire.specs.declared.writing.WriteFault.{WriteFault}
 use Rattle.upload_wire.specs.declared.client.heard.Heard.{Heard}
 use Rattle.upload_wire.specs.declared.client.heard.HeardFault.{HeardFault}
@@ -14,7 +15,7 @@ use Rattle.upload_wire.specs.declared.client.heard.HeardFault.TheVariants as Fau
 -- what contracts see of a transport over a wire: its reader, what its writer holds, the host, and whether a fault broke it
 pub record WireState : Type 0 where
   pub reader : AnswerReaderState
-  pub writer : Sink
+  pub writer : SinkState
   pub host : List ℕ
   pub broken : Bool
 
@@ -44,10 +45,8 @@ refusal_in (Err fault) = None
 
 -- one reply was read; a failed read is Read, and nothing else is
 pub record ReadsReply (head_only : Bool) (old : AnswerReaderState) (reply : Result Heard HeardFault) (new : AnswerReaderState) : Type 0 where
-  pub read : ReadsAnswer head_only old.held old.remaining new.held new.remaining reply new.keep
-  pub reads : CountsAtMost old.reads new.reads most_answer_reads
-  pub failed : reply ≡ Err Fault.Read → CountsUp old.failed_reads new.failed_reads
-  pub unfailed : reply ≢ Err Fault.Read → new.failed_reads ≡ old.failed_reads
+  pub read : ReadsAnswer head_only old.held old.source new.held new.source reply new.keep
+  pub costs : Costs most_answer_reads (reply ≡ Err Fault.Read) old.source new.source
 
 -- What is heard behind a request, by whether it was written whole and whether it has a body. Where it was, one reply is read and heard, and
 -- a fault of it breaks the transport. Where a write failed the transport is broken in any case; behind a request with a body one reply

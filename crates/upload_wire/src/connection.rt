@@ -1,8 +1,7 @@
 //! A connection, served: requests are read, asked of a desk and replied to, in turn.
 ghost use Rattle.std.specs.Prelude.{◌≡◌, ◌≤◌, ◌<◌, ◌^◌, None, IfSome};
 ghost use Rattle.upload_service.specs.Machine.{AreLawful};
-ghost use Rattle.http_wire.specs.Writing.{sink};
-ghost use Rattle.upload_wire.specs.Conversation.{IsConversation, last_style, source};
+ghost use Rattle.upload_wire.specs.Conversation.{IsConversation, last_style};
 ghost use Rattle.upload_wire.specs.ConversationSteps.{AnswersOne, GoesOn, Stops};
 
 use crate::desk::Desk;
@@ -70,11 +69,8 @@ pub fn serve_connection<S: ByteSource, W: ByteSink, D: Desk>(
     limits: Limits,
 ) -> ConnEnd
     requires { AreLawful limits }
-    ensures { IsConversation D.moves limits.max_body
-        (source (S.remaining reader.old) (S.failed_reads reader.old))
-        (source (S.remaining reader.new) (S.failed_reads reader.new)) desk.old desk.new
-        (sink (W.contents writer.old) (W.failed_writes writer.old))
-        (sink (W.contents writer.new) (W.failed_writes writer.new)) result }
+    ensures { IsConversation D.moves limits.max_body (S.state reader.old) (S.state reader.new)
+        desk.old desk.new (W.state writer.old) (W.state writer.new) result }
 {
     let Ok(mut buffer) = ReadBuffer::new(alloc) else {
         return ConnEnd::Fault(ConnFault::Wire(WireFault::NoMemory));
@@ -94,11 +90,8 @@ pub fn serve_connection_with_buffer<S: ByteSource, W: ByteSink, D: Desk>(
     buffer: &mut ReadBuffer,
 ) -> ConnEnd
     requires { AreLawful limits }
-    ensures { IsConversation D.moves limits.max_body
-        (source (S.remaining reader.old) (S.failed_reads reader.old))
-        (source (S.remaining reader.new) (S.failed_reads reader.new)) desk.old desk.new
-        (sink (W.contents writer.old) (W.failed_writes writer.old))
-        (sink (W.contents writer.new) (W.failed_writes writer.new)) result }
+    ensures { IsConversation D.moves limits.max_body (S.state reader.old) (S.state reader.new)
+        desk.old desk.new (W.state writer.old) (W.state writer.new) result }
 {
     buffer.clear();
     let mut filled = None;
@@ -133,16 +126,10 @@ fn serve_next<S: ByteSource, W: ByteSink, D: Desk>(
 ) -> Option<ConnEnd>
     requires turn { count < MAX_REQUESTS }
     requires limit { max_body ≤ 2 ^ 31 }
-    ensures goes_on { result ≡ None → GoesOn D.moves max_body count buffer.old buffer.new
-        (source (S.remaining reader.old) (S.failed_reads reader.old))
-        (source (S.remaining reader.new) (S.failed_reads reader.new)) desk.old desk.new
-        (sink (W.contents writer.old) (W.failed_writes writer.old))
-        (sink (W.contents writer.new) (W.failed_writes writer.new)) }
-    ensures stops { IfSome result (Stops D.moves max_body count buffer.old
-        (source (S.remaining reader.old) (S.failed_reads reader.old))
-        (source (S.remaining reader.new) (S.failed_reads reader.new)) desk.old desk.new
-        (sink (W.contents writer.old) (W.failed_writes writer.old))
-        (sink (W.contents writer.new) (W.failed_writes writer.new))) }
+    ensures goes_on { result ≡ None → GoesOn D.moves max_body count buffer.old buffer.new (S.state reader.old)
+        (S.state reader.new) desk.old desk.new (W.state writer.old) (W.state writer.new) }
+    ensures stops { IfSome result (Stops D.moves max_body count buffer.old (S.state reader.old)
+        (S.state reader.new) desk.old desk.new (W.state writer.old) (W.state writer.new)) }
 {
     match read_next(alloc, reader, buffer, max_body, *filled) {
         Ok(Next::Request { ask, style }) => answer_one(writer, desk, ask, style, count, filled),
@@ -165,9 +152,7 @@ fn answer_one<W: ByteSink, D: Desk>(
     filled: &mut Option<UploadRef>,
 ) -> Option<ConnEnd>
     requires { count < MAX_REQUESTS }
-    ensures { AnswersOne D.moves count ask style desk.old desk.new
-        (sink (W.contents writer.old) (W.failed_writes writer.old))
-        (sink (W.contents writer.new) (W.failed_writes writer.new)) result }
+    ensures { AnswersOne D.moves count ask style desk.old desk.new (W.state writer.old) (W.state writer.new) result }
 {
     let Some(answer) = desk.ask(ask) else {
         return Some(ConnEnd::DeskGone);

@@ -1,7 +1,7 @@
 //! A reader of requests.
-ghost use Rattle.std.specs.Prelude.{◌≡◌, ◌≢◌, [], Ok, Err, IfOk};
+ghost use Rattle.std.specs.Prelude.{◌≡◌, [], Ok, Err, IfOk};
 ghost use Rattle.upload_service.specs.Machine.{AreLawful};
-ghost use Rattle.http_wire.specs.Counts.{CountsUp, CountsAtMost};
+ghost use Rattle.http_wire.specs.Reading.{Costs};
 ghost use Rattle.upload_wire.specs.RequestText.{ReadsNext};
 ghost use Rattle.upload_wire.specs.Phases.{phase_after, most_reads};
 
@@ -40,9 +40,7 @@ impl<S: ByteSource> Model for RequestReader<S> {
 
     ghost view = { λ r. record {
       held = r.buffer;
-      remaining = S.remaining r.source;
-      reads = S.reads r.source;
-      failed_reads = S.failed_reads r.source;
+      source = S.state r.source;
       max_body = r.max_body;
       phase = r.phase;
     } };
@@ -57,9 +55,7 @@ impl<S: ByteSource + Drop> RequestReader<S> {
         requires { AreLawful limits }
         ensures { IfOk result (λ reader. reader ≡ record {
           held = [];
-          remaining = S.remaining source;
-          reads = S.reads source;
-          failed_reads = S.failed_reads source;
+          source = S.state source;
           max_body = limits.max_body;
           phase = Phase.Ready;
         }) }
@@ -82,17 +78,14 @@ impl<S: ByteSource> RequestReader<S> {
     /// where the input ended inside a request, `NoMemory` where a growth was refused.
     pub fn next_request(&mut self) -> Result<Next, WireFault>
         ensures ready { self.old.phase ≡ Phase.Ready → ReadsNext self.old.max_body self.old.held
-            self.old.remaining self.new.held self.new.remaining result }
+            self.old.source self.new.held self.new.source result }
         ensures over { self.old.phase ≡ Phase.Over → (result ≡ Ok Next.Over) × (self.new ≡ self.old) }
         ensures ended { self.old.phase ≡ Phase.Ended
             → (result ≡ Err WireFault.Ended) × (self.new ≡ self.old) }
         ensures phase { self.new.phase ≡ phase_after result }
         ensures limit { self.new.max_body ≡ self.old.max_body }
-        ensures reads { CountsAtMost self.old.reads self.new.reads (most_reads self.old.max_body) }
-        ensures failed { result ≡ Err WireFault.Read
-            → CountsUp self.old.failed_reads self.new.failed_reads }
-        ensures unfailed { result ≢ Err WireFault.Read
-            → self.new.failed_reads ≡ self.old.failed_reads }
+        ensures costs { Costs (most_reads self.old.max_body) (result ≡ Err WireFault.Read)
+            self.old.source self.new.source }
     {
         match self.phase {
             Phase::Over => return Ok(Next::Over),

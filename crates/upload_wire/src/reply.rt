@@ -1,7 +1,7 @@
 //! Replies (RFC 9112, section 4; OCI Distribution Specification 1.1, sections "Push" and "Error Codes").
 ghost use Rattle.std.specs.Prelude.{◌≡◌, IsTrue, OnOk};
 ghost use Rattle.std.specs.List.{concat};
-ghost use Rattle.http_wire.specs.Writing.{Wrote, sink};
+ghost use Rattle.http_wire.specs.Writing.{Wrote};
 ghost use Rattle.http_wire.specs.Gathering.{Puts};
 ghost use Rattle.upload_wire.specs.ReplyText.{bad, reply, reply_of};
 
@@ -26,9 +26,8 @@ pub fn write_reply<W: ByteSink>(
     answer: &Answer,
     style: Style,
 ) -> Result<(), WriteFault>
-    ensures wrote { Wrote (sink (W.contents writer.old) (W.failed_writes writer.old))
-        (sink (W.contents writer.new) (W.failed_writes writer.new)) (reply answer.now style) result }
-    ensures flushed { OnOk result (IsTrue (W.is_flushed writer.new)) }
+    ensures wrote { Wrote (W.state writer.old) (W.state writer.new) (reply answer.now style) result }
+    ensures flushed { OnOk result (IsTrue ((W.state writer.new).flushed)) }
 {
     let mut head = Gather::new();
     put_reply_head(&mut head, writer, answer, style.keep);
@@ -42,9 +41,8 @@ pub fn write_reply<W: ByteSink>(
 /// Writes the reply to what is no request, by what is bad in it, and flushes it. It takes no memory. `Ok` comes
 /// only where all of it was written and handed on, and no call of the writer failed; else a front of it was written.
 pub fn write_bad<W: ByteSink>(writer: &mut W, why: Bad) -> Result<(), WriteFault>
-    ensures wrote { Wrote (sink (W.contents writer.old) (W.failed_writes writer.old))
-        (sink (W.contents writer.new) (W.failed_writes writer.new)) (bad why) result }
-    ensures flushed { OnOk result (IsTrue (W.is_flushed writer.new)) }
+    ensures wrote { Wrote (W.state writer.old) (W.state writer.new) (bad why) result }
+    ensures flushed { OnOk result (IsTrue ((W.state writer.new).flushed)) }
 {
     let mut head = Gather::new();
     put_bad_head(&mut head, writer, why);
@@ -53,8 +51,7 @@ pub fn write_bad<W: ByteSink>(writer: &mut W, why: Bad) -> Result<(), WriteFault
 
 /// Puts the body of a reply behind its head. What fits leaves in the same write.
 fn put_body<W: ByteSink>(head: &mut Gather, writer: &mut W, answer: &Answer)
-    ensures { Puts (sink (W.contents writer.old) (W.failed_writes writer.old)) head.old
-        (sink (W.contents writer.new) (W.failed_writes writer.new)) head.new (reply_of answer.now).body }
+    ensures { Puts (W.state writer.old) head.old (W.state writer.new) head.new (reply_of answer.now).body }
 {
     match answer {
         Answer::Blob {
@@ -71,8 +68,7 @@ fn put_body<W: ByteSink>(head: &mut Gather, writer: &mut W, answer: &Answer)
 
 /// Puts the parts of a blob, one after another.
 fn put_parts<W: ByteSink>(head: &mut Gather, writer: &mut W, parts: &[Part])
-    ensures { Puts (sink (W.contents writer.old) (W.failed_writes writer.old)) head.old
-        (sink (W.contents writer.new) (W.failed_writes writer.new)) head.new (concat parts.now) }
+    ensures { Puts (W.state writer.old) head.old (W.state writer.new) head.new (concat parts.now) }
 {
     for part in parts {
         head.put(writer, part.as_slice());

@@ -1,6 +1,6 @@
 //! Requests, one after another.
-ghost use Rattle.std.specs.Prelude.{◌≡◌, ◌≢◌, ◌+◌, ◌*◌, ◌^◌, ◌≤◌, Ok, Err, IfOk, IfErr, codes};
-ghost use Rattle.http_wire.specs.Counts.{CountsUp, CountsAtMost};
+ghost use Rattle.std.specs.Prelude.{◌≡◌, ◌+◌, ◌*◌, ◌^◌, ◌≤◌, Err, IfOk, IfErr, codes};
+ghost use Rattle.http_wire.specs.Reading.{Costs};
 ghost use Rattle.http_wire.specs.Fields.{values_of};
 ghost use Rattle.upload_wire.specs.Target.{extent_of};
 ghost use Rattle.http_wire.specs.RequestSpans.{IsHeadOf, IsHeadAtFront};
@@ -90,13 +90,8 @@ fn read_request<S: ByteSource>(
 ) -> Result<Next, WireFault>
     requires limit { max_body ≤ 2 ^ 31 }
     requires head { IsHeadAtFront buffer.old parsed.now }
-    ensures found { ReadsNext max_body buffer.old (S.remaining source.old)
-        buffer.new (S.remaining source.new) result }
-    ensures reads { CountsAtMost (S.reads source.old) (S.reads source.new) (12 + 13 * max_body) }
-    ensures failed { result ≡ Err WireFault.Read
-        → CountsUp (S.failed_reads source.old) (S.failed_reads source.new) }
-    ensures unfailed { result ≢ Err WireFault.Read
-        → S.failed_reads source.new ≡ S.failed_reads source.old }
+    ensures found { ReadsNext max_body buffer.old (S.state source.old) buffer.new (S.state source.new) result }
+    ensures costs { Costs (12 + 13 * max_body) (result ≡ Err WireFault.Read) (S.state source.old) (S.state source.new) }
 {
     let head = &buffer.as_slice()[..parsed.spans.len];
     let framing = match framing_of(head, parsed, max_body) {
@@ -129,13 +124,8 @@ pub fn read_next<S: ByteSource>(
     filled: Option<UploadRef>,
 ) -> Result<Next, WireFault>
     requires { max_body ≤ 2 ^ 31 }
-    ensures found { ReadsNext max_body buffer.old (S.remaining source.old)
-        buffer.new (S.remaining source.new) result }
-    ensures reads { CountsAtMost (S.reads source.old) (S.reads source.new) (16396 + 13 * max_body) }
-    ensures failed { result ≡ Err WireFault.Read
-        → CountsUp (S.failed_reads source.old) (S.failed_reads source.new) }
-    ensures unfailed { result ≢ Err WireFault.Read
-        → S.failed_reads source.new ≡ S.failed_reads source.old }
+    ensures found { ReadsNext max_body buffer.old (S.state source.old) buffer.new (S.state source.new) result }
+    ensures costs { Costs (16396 + 13 * max_body) (result ≡ Err WireFault.Read) (S.state source.old) (S.state source.new) }
 {
     match read_head::<Requests, S>(source, buffer)? {
         HeadRead::Head(parsed) => read_request(alloc, source, buffer, &parsed, max_body, filled),

@@ -1,5 +1,5 @@
 //! Ends over memory for the tests: slow ones, and ones that fail.
-ghost use Rattle.std.specs.Prelude.{◌<◌, Some};
+ghost use Rattle.std.specs.Prelude.{◌<◌, true, Some};
 
 use upload_wire::{ByteSink, ByteSource, Failed};
 
@@ -35,11 +35,11 @@ impl<'a> MemorySource<'a> {
 }
 
 impl ByteSource for MemorySource<'_> {
-    ghost remaining = { λ s. Some s.left.now };
-
-    ghost reads = { λ s. s.reads };
-
-    ghost failed_reads = { λ s. s.failed_reads };
+    ghost state = { λ s. record {
+      remaining = Some s.left.now;
+      reads = s.reads;
+      failed_reads = s.failed_reads;
+    } };
 
     fn read(&mut self, buf: &mut [u8]) -> Result<usize, Failed> {
         self.reads = self.reads.saturating_add(1);
@@ -87,11 +87,12 @@ impl MemorySink {
 }
 
 impl ByteSink for MemorySink {
-    ghost contents = { λ s. Some s.items.items };
-
-    ghost writes = { λ s. s.writes };
-
-    ghost failed_writes = { λ s. s.failed_writes };
+    ghost state = { λ s. record {
+      contents = Some s.items.items;
+      writes = s.writes;
+      failed_writes = s.failed_writes;
+      flushed = true;
+    } };
 
     fn write(&mut self, buf: &[u8]) -> Result<usize, Failed> {
         self.writes = self.writes.saturating_add(1);

@@ -216,13 +216,9 @@ struct Counting {
 }
 
 impl ByteSink for Counting {
-    ghost use Rattle.std.specs.Prelude.{None, ◌^◌};
+    ghost use Rattle.std.specs.Prelude.{None, true, ◌^◌};
 
-    ghost contents = { λ _. None };
-
-    ghost writes = { λ _. 2 ^ 64 };
-
-    ghost failed_writes = { λ _. 0 };
+    ghost state = { λ _. record { contents = None; writes = 2 ^ 64; failed_writes = 0; flushed = true } };
 
     fn write(&mut self, buf: &[u8]) -> Result<usize, Failed> {
         self.writes = self.writes.saturating_add(1);

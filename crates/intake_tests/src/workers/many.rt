@@ -21,11 +21,7 @@ struct Short {
 }
 
 impl ByteSource for Short {
-    ghost remaining = { λ s. None };
-
-    ghost reads = { λ s. s.reads };
-
-    ghost failed_reads = { λ s. 0 };
+    ghost state = { λ s. record { remaining = None; reads = s.reads; failed_reads = 0 } };
 
     fn read(&mut self, buf: &mut [u8]) -> Result<usize, Failed> {
         self.reads = self.reads.saturating_add(1);

@@ -1,6 +1,6 @@
 //! The moments that a clock told, and what becomes of a session: it takes no chunk after more than `max_idle` seconds
 //! without one.
-ghost use Rattle.std.specs.Prelude.{◌≡◌, None, IfSome};
+ghost use Rattle.std.specs.Prelude.{◌≡◌, true, None, IfSome};
 
 use super::Text;
 use crate::checks::check;
@@ -61,11 +61,7 @@ fn status_of(text: &[u8]) -> u64 {
 }
 
 impl<'a> ByteSink for Statuses<'a> {
-    ghost contents = { λ s. None };
-
-    ghost writes = { λ s. s.writes };
-
-    ghost failed_writes = { λ s. 0 };
+    ghost state = { λ s. record { contents = None; writes = s.writes; failed_writes = 0; flushed = true } };
 
     fn write(&mut self, buf: &[u8]) -> Result<usize, Failed> {
         self.writes = self.writes.saturating_add(1);

@@ -56,11 +56,7 @@ struct OneByOne<'r> {
 }
 
 impl ByteSource for OneByOne<'_> {
-    ghost remaining = { λ s. Some s.left.now };
-
-    ghost reads = { λ s. s.reads };
-
-    ghost failed_reads = { λ _. 0 };
+    ghost state = { λ s. record { remaining = Some s.left.now; reads = s.reads; failed_reads = 0 } };
 
     fn read(&mut self, buf: &mut [u8]) -> Result<usize, Failed> {
         self.reads = self.reads.saturating_add(1);

@@ -1,16 +1,16 @@
 //! Replies, read from a source of bytes.
-ghost use Rattle.std.specs.Prelude.{◌≡◌, ◌≢◌, ℕ, ◌+◌, ◌<◌, ◌≤◌, ◌==◌, List, [], ◌∷◌, ◌++◌, length, drop, take, map, All, Option, Some, None, option_map, Ok, Err, IfOk, IfErr, false, true, is_err};
+ghost use Rattle.std.specs.Prelude.{◌≡◌, ℕ, ◌+◌, ◌<◌, ◌≤◌, ◌==◌, List, [], ◌∷◌, ◌++◌, length, drop, take, map, All, Option, Some, None, option_map, Ok, Err, IfOk, IfErr, false, true, is_err};
 ghost use Rattle.std.specs.Option.{option_copied};
 ghost use Rattle.std.specs.Io.KnownBytes.{IsAtEnd};
 ghost use Rattle.httparse.specs.Spans.{IsHeaderWithin, header_bytes};
 ghost use Rattle.serde_json.specs.View.{view};
-ghost use Rattle.http_wire.specs.Counts.{CountsUp, CountsAtMost};
+ghost use Rattle.http_wire.specs.Reading.{Costs};
 ghost use Rattle.http_wire.specs.Fields.{Fields, values_of};
 ghost use Rattle.upload_wire.specs.AnswerText.{ReadsAnswer, code_in, code_of, first_of, framing_of, framing_by_length, keeps_on, most_answer_reads, upto_of};
 ghost use Rattle.http_wire.specs.ResponseSpans.{IsHeadAtFront, IsHeadOf};
 ghost use Rattle.upload_wire.specs.AnswerReading.{IsSmall, IsFramingFault, PlaceUnlessNoMemory, Says, SaysBare, fields_of};
 
-use crate::client::body::{MAX_ANSWER, fault_of, read_body};
+use crate::client::body::{MAX_ANSWER, read_body};
 use crate::client::framing::AnswerFraming;
 use crate::client::heard::{Heard, HeardFault};
 use http_uri::{Uri, UriError};
@@ -236,12 +236,8 @@ fn read_framed<S: ByteSource>(
     keep: &mut bool,
 ) -> Result<Heard, HeardFault>
     requires { IsHeadAtFront buffer.old parsed.now }
-    ensures found { ReadsAnswer head_only buffer.old (S.remaining source.old) buffer.new (S.remaining source.new) result keep.new }
-    ensures reads { CountsAtMost (S.reads source.old) (S.reads source.new) 65537 }
-    ensures failed { result ≡ Err HeardFault.Read
-        → CountsUp (S.failed_reads source.old) (S.failed_reads source.new) }
-    ensures unfailed { result ≢ Err HeardFault.Read
-        → S.failed_reads source.new ≡ S.failed_reads source.old }
+    ensures found { ReadsAnswer head_only buffer.old (S.state source.old) buffer.new (S.state source.new) result keep.new }
+    ensures costs { Costs 65537 (result ≡ Err HeardFault.Read) (S.state source.old) (S.state source.new) }
 {
     let head = &buffer.as_slice()[..parsed.spans.len];
     let framing = match framing_of(head_only, head, parsed) {
@@ -267,21 +263,14 @@ fn read_answer<S: ByteSource>(
     head_only: bool,
     keep: &mut bool,
 ) -> Result<Heard, HeardFault>
-    ensures found { ReadsAnswer head_only buffer.old (S.remaining source.old) buffer.new (S.remaining source.new) result keep.new }
-    ensures reads { CountsAtMost (S.reads source.old) (S.reads source.new) most_answer_reads }
-    ensures failed { result ≡ Err HeardFault.Read
-        → CountsUp (S.failed_reads source.old) (S.failed_reads source.new) }
-    ensures unfailed { result ≢ Err HeardFault.Read
-        → S.failed_reads source.new ≡ S.failed_reads source.old }
+    ensures found { ReadsAnswer head_only buffer.old (S.state source.old) buffer.new (S.state source.new) result keep.new }
+    ensures costs { Costs most_answer_reads (result ≡ Err HeardFault.Read) (S.state source.old) (S.state source.new) }
 {
-    match read_head::<Responses, S>(source, buffer) {
-        Ok(HeadRead::Head(parsed)) => {
-            read_framed(alloc, source, buffer, &parsed, head_only, keep)
-        }
-        Ok(HeadRead::Over) => Err(HeardFault::Truncated),
-        Ok(HeadRead::Refused) => Err(HeardFault::Unreadable),
-        Ok(HeadRead::TooLong) => Err(HeardFault::TooLarge),
-        Err(fault) => Err(fault_of(fault)),
+    match read_head::<Responses, S>(source, buffer)? {
+        HeadRead::Head(parsed) => read_framed(alloc, source, buffer, &parsed, head_only, keep),
+        HeadRead::Over => Err(HeardFault::Truncated),
+        HeadRead::Refused => Err(HeardFault::Unreadable),
+        HeadRead::TooLong => Err(HeardFault::TooLarge),
     }
 }
 
@@ -302,9 +291,7 @@ impl<S: ByteSource> Model for AnswerReader<S> {
 
     ghost view = { λ r. record {
       held = r.buffer;
-      remaining = S.remaining r.source;
-      reads = S.reads r.source;
-      failed_reads = S.failed_reads r.source;
+      source = S.state r.source;
       ended = r.ended;
       keep = r.keep;
     } };
@@ -317,9 +304,7 @@ impl<S: ByteSource> AnswerReader<S> {
         S: Drop,
         ensures { IfOk result (λ reader. reader ≡ record {
           held = [];
-          remaining = S.remaining source;
-          reads = S.reads source;
-          failed_reads = S.failed_reads source;
+          source = S.state source;
           ended = false;
           keep = true;
         }) }
@@ -350,11 +335,9 @@ impl<S: ByteSource> AnswerReader<S> {
     pub fn next_answer(&mut self, head: bool) -> Result<Heard, HeardFault>
         ensures ended { self.old.ended ≡ true → (result ≡ Err HeardFault.Ended) × (self.new ≡ self.old) }
         ensures found { self.old.ended ≡ false
-            → ReadsAnswer head self.old.held self.old.remaining self.new.held self.new.remaining result self.new.keep }
+            → ReadsAnswer head self.old.held self.old.source self.new.held self.new.source result self.new.keep }
         ensures ends { self.new.ended ≡ is_err result }
-        ensures reads { CountsAtMost self.old.reads self.new.reads most_answer_reads }
-        ensures failed { result ≡ Err HeardFault.Read → CountsUp self.old.failed_reads self.new.failed_reads }
-        ensures unfailed { result ≢ Err HeardFault.Read → self.new.failed_reads ≡ self.old.failed_reads }
+        ensures costs { Costs most_answer_reads (result ≡ Err HeardFault.Read) self.old.source self.new.source }
     {
         if self.ended {
             return Err(HeardFault::Ended);

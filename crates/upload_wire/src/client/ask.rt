@@ -1,6 +1,6 @@
 //! Asks, written as requests.
 ghost use Rattle.std.specs.Prelude.{◌≡◌, ◌++◌, List, ℕ, IsTrue, OnOk, Some, codes, flat_map};
-ghost use Rattle.http_wire.specs.Writing.{Wrote, sink};
+ghost use Rattle.http_wire.specs.Writing.{Wrote};
 ghost use Rattle.http_wire.specs.Gathering.{Puts};
 ghost use Rattle.upload_wire.specs.AskText.{CanBeWritten, IsAbsentOrGiven, ask_of_chunk, ask_text, body_fields, digest_or_nothing, digest_query, host_text, is_host, look_method, message_of, query_text, range_fields, request_line, section_text};
 ghost use Rattle.upload_wire.specs.ReplyText.{print_field};
@@ -19,9 +19,8 @@ use upload_service::{Ask, Extent};
 pub fn write_ask<W: ByteSink>(writer: &mut W, ask: &Ask, host: &[u8]) -> Result<(), WriteFault>
     requires writable { CanBeWritten ask.now }
     requires host { IsTrue (is_host host.now) }
-    ensures wrote { Wrote (sink (W.contents writer.old) (W.failed_writes writer.old))
-        (sink (W.contents writer.new) (W.failed_writes writer.new)) (ask_text ask.now host.now) result }
-    ensures flushed { OnOk result (IsTrue (W.is_flushed writer.new)) }
+    ensures wrote { Wrote (W.state writer.old) (W.state writer.new) (ask_text ask.now host.now) result }
+    ensures flushed { OnOk result (IsTrue ((W.state writer.new).flushed)) }
 {
     let mut head = Gather::new();
     put_request_line(&mut head, writer, ask);
@@ -38,9 +37,9 @@ pub(crate) fn write_chunk<W: ByteSink>(
 ) -> Result<(), WriteFault>
     requires writable { CanBeWritten (ask_of_chunk chunk.now) }
     requires host { IsTrue (is_host host.now) }
-    ensures wrote { Wrote (sink (W.contents writer.old) (W.failed_writes writer.old))
-        (sink (W.contents writer.new) (W.failed_writes writer.new)) (ask_text (ask_of_chunk chunk.now) host.now) result }
-    ensures flushed { OnOk result (IsTrue (W.is_flushed writer.new)) }
+    ensures wrote { Wrote (W.state writer.old)
+        (W.state writer.new) (ask_text (ask_of_chunk chunk.now) host.now) result }
+    ensures flushed { OnOk result (IsTrue ((W.state writer.new).flushed)) }
 {
     let mut head = Gather::new();
     put_path(
@@ -71,8 +70,7 @@ pub(crate) fn body_of(ask: &Ask) -> &[u8]
 /// Puts the method and the target.
 fn put_request_line<W: ByteSink>(head: &mut Gather, writer: &mut W, ask: &Ask)
     requires { CanBeWritten ask.now }
-    ensures { Puts (sink (W.contents writer.old) (W.failed_writes writer.old)) head.old
-        (sink (W.contents writer.new) (W.failed_writes writer.new)) head.new (request_line (message_of ask.now)) }
+    ensures { Puts (W.state writer.old) head.old (W.state writer.new) head.new (request_line (message_of ask.now)) }
 {
     match ask {
         Ask::Base => head.put(writer, b"GET /v2/"),
@@ -130,8 +128,7 @@ fn put_path<W: ByteSink>(
     kind: &[u8],
     tail: &[u8],
 )
-    ensures { Puts (sink (W.contents writer.old) (W.failed_writes writer.old)) head.old
-        (sink (W.contents writer.new) (W.failed_writes writer.new)) head.new
+    ensures { Puts (W.state writer.old) head.old (W.state writer.new) head.new
         (method.now ++ (codes " /v2/" ++ (name.now ++ (kind.now ++ tail.now)))) }
 {
     head.put(writer, method);
@@ -148,8 +145,8 @@ fn put_single<W: ByteSink>(
     name: &RepoName,
     digest: &Option<BlobDigest>,
 )
-    ensures { Puts (sink (W.contents writer.old) (W.failed_writes writer.old)) head.old
-        (sink (W.contents writer.new) (W.failed_writes writer.new)) head.new
+    ensures { Puts (W.state writer.old) head.old
+        (W.state writer.new) head.new
         (codes "POST" ++ (codes " /v2/" ++ (name.now ++ (codes "/blobs/uploads/" ++ (codes "?digest=" ++ digest_or_nothing digest.now))))) }
 {
     put_path(head, writer, b"POST", name, b"/blobs/uploads/", b"?digest=");
@@ -164,8 +161,8 @@ fn put_mount<W: ByteSink>(
     digest: &BlobDigest,
     source: &RepoName,
 )
-    ensures { Puts (sink (W.contents writer.old) (W.failed_writes writer.old)) head.old
-        (sink (W.contents writer.new) (W.failed_writes writer.new)) head.new
+    ensures { Puts (W.state writer.old) head.old
+        (W.state writer.new) head.new
         (codes "POST" ++ (codes " /v2/" ++ (name.now ++ (codes "/blobs/uploads/" ++ (codes "?mount=" ++ (digest_or_nothing (Some digest.now) ++ (codes "&from=" ++ source.now))))))) }
 {
     put_path(head, writer, b"POST", name, b"/blobs/uploads/", b"?mount=");
@@ -176,8 +173,7 @@ fn put_mount<W: ByteSink>(
 
 /// Puts the text of a digest, or nothing.
 fn put_digest<W: ByteSink>(head: &mut Gather, writer: &mut W, digest: &Option<BlobDigest>)
-    ensures { Puts (sink (W.contents writer.old) (W.failed_writes writer.old)) head.old
-        (sink (W.contents writer.new) (W.failed_writes writer.new)) head.new (digest_or_nothing digest.now) }
+    ensures { Puts (W.state writer.old) head.old (W.state writer.new) head.new (digest_or_nothing digest.now) }
 {
     match digest {
         Some(digest) => head.put(writer, digest.text().as_bytes()),
@@ -187,8 +183,8 @@ fn put_digest<W: ByteSink>(head: &mut Gather, writer: &mut W, digest: &Option<Bl
 
 /// Puts the query of a close, where it has a digest.
 fn put_query<W: ByteSink>(head: &mut Gather, writer: &mut W, digest: &Option<BlobDigest>)
-    ensures { Puts (sink (W.contents writer.old) (W.failed_writes writer.old)) head.old
-        (sink (W.contents writer.new) (W.failed_writes writer.new)) head.new (query_text (digest_query digest.now)) }
+    ensures { Puts (W.state writer.old) head.old
+        (W.state writer.new) head.new (query_text (digest_query digest.now)) }
 {
     match digest {
         Some(digest) => {
@@ -201,8 +197,7 @@ fn put_query<W: ByteSink>(head: &mut Gather, writer: &mut W, digest: &Option<Blo
 
 /// Puts the version and the host.
 fn put_host<W: ByteSink>(head: &mut Gather, writer: &mut W, host: &[u8])
-    ensures { Puts (sink (W.contents writer.old) (W.failed_writes writer.old)) head.old
-        (sink (W.contents writer.new) (W.failed_writes writer.new)) head.new (host_text host.now) }
+    ensures { Puts (W.state writer.old) head.old (W.state writer.new) head.new (host_text host.now) }
 {
     head.put(writer, b" HTTP/1.1\r\nHost: ");
     head.put(writer, host);
@@ -212,8 +207,8 @@ fn put_host<W: ByteSink>(head: &mut Gather, writer: &mut W, host: &[u8])
 /// Puts the fields behind the host, and the empty line.
 fn put_section<W: ByteSink>(head: &mut Gather, writer: &mut W, ask: &Ask)
     requires { CanBeWritten ask.now }
-    ensures { Puts (sink (W.contents writer.old) (W.failed_writes writer.old)) head.old
-        (sink (W.contents writer.new) (W.failed_writes writer.new)) head.new (section_text (message_of ask.now).fields) }
+    ensures { Puts (W.state writer.old) head.old
+        (W.state writer.new) head.new (section_text (message_of ask.now).fields) }
 {
     match ask {
         Ask::Base | Ask::Has { .. } | Ask::Status { .. } => head.put(writer, b"\r\n"),
@@ -234,8 +229,8 @@ fn put_section<W: ByteSink>(head: &mut Gather, writer: &mut W, ask: &Ask)
 /// Puts the fields of a range and of a body, and the empty line.
 fn put_upload_section<W: ByteSink>(head: &mut Gather, writer: &mut W, range: &Extent, body: &[u8])
     requires { IsAbsentOrGiven range.now }
-    ensures { Puts (sink (W.contents writer.old) (W.failed_writes writer.old)) head.old
-        (sink (W.contents writer.new) (W.failed_writes writer.new)) head.new (section_text (range_fields range.now ++ body_fields body.now)) }
+    ensures { Puts (W.state writer.old) head.old
+        (W.state writer.new) head.new (section_text (range_fields range.now ++ body_fields body.now)) }
 {
     put_range_field(head, writer, range);
     put_body_fields(head, writer, body)
@@ -244,8 +239,8 @@ fn put_upload_section<W: ByteSink>(head: &mut Gather, writer: &mut W, range: &Ex
 /// Puts the field of a range, where one is given.
 fn put_range_field<W: ByteSink>(head: &mut Gather, writer: &mut W, range: &Extent)
     requires { IsAbsentOrGiven range.now }
-    ensures { Puts (sink (W.contents writer.old) (W.failed_writes writer.old)) head.old
-        (sink (W.contents writer.new) (W.failed_writes writer.new)) head.new (flat_map print_field (range_fields range.now)) }
+    ensures { Puts (W.state writer.old) head.old
+        (W.state writer.new) head.new (flat_map print_field (range_fields range.now)) }
 {
     match range {
         Extent::Given(range) => {
@@ -262,8 +257,7 @@ fn put_range_field<W: ByteSink>(head: &mut Gather, writer: &mut W, range: &Exten
 
 /// Puts the fields of a body, and the empty line.
 fn put_body_fields<W: ByteSink>(head: &mut Gather, writer: &mut W, body: &[u8])
-    ensures { Puts (sink (W.contents writer.old) (W.failed_writes writer.old)) head.old
-        (sink (W.contents writer.new) (W.failed_writes writer.new)) head.new (section_text (body_fields body.now)) }
+    ensures { Puts (W.state writer.old) head.old (W.state writer.new) head.new (section_text (body_fields body.now)) }
 {
     head.put(
         writer,

@@ -1,69 +1,43 @@
 //! The body of a reply, read behind its head.
-ghost use Rattle.std.specs.Prelude.{◌≡◌, ◌≢◌, ◌<◌, [], Err};
-ghost use Rattle.http_wire.specs.Counts.{CountsUp, CountsAtMost};
-ghost use Rattle.upload_wire.specs.AnswerReading.{FindsBody, IsSmall, MovesPart, MovesUpTo, Takes, end_of, fault_of};
+ghost use Rattle.std.specs.Prelude.{◌≡◌, ◌<◌, [], Err};
+ghost use Rattle.http_wire.specs.Reading.{Costs};
+ghost use Rattle.upload_wire.specs.AnswerReading.{FindsBody, IsSmall, MovesPart, MovesUpTo, Takes, end_of};
 
 use crate::client::framing::AnswerFraming;
 use crate::client::heard::HeardFault;
-use http_wire::{ByteSource, ReadBuffer, WireFault, has_byte};
+use http_wire::{BodyFault, ByteSource, ReadBuffer, has_byte};
+use std::alloc::AllocError;
 
 /// The most bytes of a reply's body.
 pub const MAX_ANSWER: usize = 65_536;
 
-/// The fault of a read.
-pub fn fault_of(fault: WireFault) -> HeardFault
-    ensures { result ≡ fault_of fault }
-{
-    match fault {
-        WireFault::Truncated => HeardFault::Truncated,
-        WireFault::Read => HeardFault::Read,
-        WireFault::NoMemory => HeardFault::NoMemory,
-        WireFault::Ended => HeardFault::Ended,
-    }
-}
-
 /// Moves bytes that the buffer holds to the end of a body, no more than are left of it, and says how
 /// many.
-fn take_held(buffer: &mut ReadBuffer, body: &mut Vec<u8>, left: usize) -> Result<usize, HeardFault>
+fn take_held(buffer: &mut ReadBuffer, body: &mut Vec<u8>, left: usize) -> Result<usize, AllocError>
     ensures { Takes buffer.old body.old.items buffer.new body.new.items left result }
 {
     let count = left.min(buffer.len());
-    let (front, _) = buffer.as_slice().split_at(count);
-    match body.extend_from_slice(front) {
-        Ok(()) => {
-            buffer.consume(count);
-            Ok(count)
-        }
-        Err(_) => Err(HeardFault::NoMemory),
-    }
+    body.extend_from_slice(&buffer.as_slice()[..count])?;
+    buffer.consume(count);
+    Ok(count)
 }
 
-/// Moves some bytes to the end of a body, at least one and no more than are left of it. 0 is the end.
+/// Moves some bytes to the end of a body, at least one and no more than are left of it.
 fn move_part<S: ByteSource>(
     source: &mut S,
     buffer: &mut ReadBuffer,
     body: &mut Vec<u8>,
     left: usize,
-) -> Result<usize, HeardFault>
+) -> Result<usize, BodyFault>
     requires { 0 < left }
-    ensures found { MovesPart (S.remaining source.old) buffer.old body.old.items (S.remaining source.new)
+    ensures found { MovesPart (S.state source.old) buffer.old body.old.items (S.state source.new)
         buffer.new body.new.items left result }
-    ensures reads { CountsAtMost (S.reads source.old) (S.reads source.new) 1 }
-    ensures failed { result ≡ Err HeardFault.Read
-        → CountsUp (S.failed_reads source.old) (S.failed_reads source.new) }
-    ensures unfailed { result ≢ Err HeardFault.Read
-        → S.failed_reads source.new ≡ S.failed_reads source.old }
+    ensures costs { Costs 1 (result ≡ Err BodyFault.Read) (S.state source.old) (S.state source.new) }
 {
-    match has_byte(source, buffer, 0) {
-        Ok(there) => {
-            if there {
-                take_held(buffer, body, left)
-            } else {
-                Ok(0)
-            }
-        }
-        Err(_) => Err(HeardFault::Read),
+    if !has_byte(source, buffer, 0)? {
+        return Err(BodyFault::Truncated);
     }
+    Ok(take_held(buffer, body, left)?)
 }
 
 /// Moves so many bytes to the end of a body, or all up to the end of the input where that comes
@@ -73,22 +47,14 @@ fn move_bytes<S: ByteSource>(
     buffer: &mut ReadBuffer,
     body: &mut Vec<u8>,
     count: usize,
-) -> Result<(), HeardFault>
-    ensures found { MovesUpTo (S.remaining source.old) buffer.old body.old.items (S.remaining source.new)
+) -> Result<(), BodyFault>
+    ensures found { MovesUpTo (S.state source.old) buffer.old body.old.items (S.state source.new)
         buffer.new body.new.items count result }
-    ensures reads { CountsAtMost (S.reads source.old) (S.reads source.new) count }
-    ensures failed { result ≡ Err HeardFault.Read
-        → CountsUp (S.failed_reads source.old) (S.failed_reads source.new) }
-    ensures unfailed { result ≢ Err HeardFault.Read
-        → S.failed_reads source.new ≡ S.failed_reads source.old }
+    ensures costs { Costs count (result ≡ Err BodyFault.Read) (S.state source.old) (S.state source.new) }
 {
     let mut left = count;
     while left > 0 {
-        let part = move_part(source, buffer, body, left)?;
-        if part == 0 {
-            return Err(HeardFault::Truncated);
-        }
-        left -= part;
+        left -= move_part(source, buffer, body, left)?;
     }
     Ok(())
 }
@@ -100,12 +66,8 @@ fn read_to_end<S: ByteSource>(
     body: &mut Vec<u8>,
 ) -> Result<(), HeardFault>
     requires { body.old.items ≡ [] }
-    ensures found { FindsBody AnswerFraming.ToEnd buffer.old (S.remaining source.old) body.new.items buffer.new (S.remaining source.new) result }
-    ensures reads { CountsAtMost (S.reads source.old) (S.reads source.new) 65537 }
-    ensures failed { result ≡ Err HeardFault.Read
-        → CountsUp (S.failed_reads source.old) (S.failed_reads source.new) }
-    ensures unfailed { result ≢ Err HeardFault.Read
-        → S.failed_reads source.new ≡ S.failed_reads source.old }
+    ensures found { FindsBody AnswerFraming.ToEnd buffer.old (S.state source.old) body.new.items buffer.new (S.state source.new) result }
+    ensures costs { Costs 65537 (result ≡ Err HeardFault.Read) (S.state source.old) (S.state source.new) }
 {
     match move_bytes(source, buffer, body, MAX_ANSWER + 1) {
         Ok(()) => Err(HeardFault::TooLarge),
@@ -114,12 +76,13 @@ fn read_to_end<S: ByteSource>(
 }
 
 /// What a fault means to a body that goes to the end of the input.
-fn end_of(fault: HeardFault) -> Result<(), HeardFault>
+fn end_of(fault: BodyFault) -> Result<(), HeardFault>
     ensures { result ≡ end_of fault }
 {
     match fault {
-        HeardFault::Truncated => Ok(()),
-        _ => Err(fault),
+        BodyFault::Truncated => Ok(()),
+        BodyFault::Read => Err(HeardFault::Read),
+        BodyFault::NoMemory => Err(HeardFault::NoMemory),
     }
 }
 
@@ -132,15 +95,14 @@ pub fn read_body<S: ByteSource>(
 ) -> Result<(), HeardFault>
     requires small { IsSmall framing }
     requires empty { body.old.items ≡ [] }
-    ensures found { FindsBody framing buffer.old (S.remaining source.old) body.new.items buffer.new (S.remaining source.new) result }
-    ensures reads { CountsAtMost (S.reads source.old) (S.reads source.new) 65537 }
-    ensures failed { result ≡ Err HeardFault.Read
-        → CountsUp (S.failed_reads source.old) (S.failed_reads source.new) }
-    ensures unfailed { result ≢ Err HeardFault.Read
-        → S.failed_reads source.new ≡ S.failed_reads source.old }
+    ensures found { FindsBody framing buffer.old (S.state source.old) body.new.items buffer.new (S.state source.new) result }
+    ensures costs { Costs 65537 (result ≡ Err HeardFault.Read) (S.state source.old) (S.state source.new) }
 {
     match framing {
-        AnswerFraming::Sized(length) => move_bytes(source, buffer, body, length as usize),
+        AnswerFraming::Sized(length) => {
+            move_bytes(source, buffer, body, length as usize)?;
+            Ok(())
+        }
         AnswerFraming::ToEnd => read_to_end(source, buffer, body),
     }
 }

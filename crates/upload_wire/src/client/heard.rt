@@ -4,6 +4,7 @@ ghost use Rattle.std.specs.Option.{option_copied};
 ghost use Rattle.upload_wire.specs.Heard.{reply_heard, of_upload, bare, after_front, place_in};
 
 use crate::reply::{ErrorCode, refusal_code, refusal_status};
+use http_wire::{BodyFault, InputFault};
 use std::alloc::{AllocError, Global};
 use std::fmt;
 use upload_names::{Bytes, RepoName, UploadRef};
@@ -58,6 +59,35 @@ impl fmt::Display for HeardFault {
 }
 
 impl std::error::Error for HeardFault {}
+
+impl From<InputFault> for HeardFault {
+    ghost use Rattle.std.specs.Prelude.{◌≡◌};
+    ghost use Rattle.upload_wire.specs.AnswerReading.{heard_of_input};
+
+    ghost from_gives = { λ fault heard. heard ≡ heard_of_input fault };
+
+    fn from(fault: InputFault) -> HeardFault {
+        match fault {
+            InputFault::Truncated => HeardFault::Truncated,
+            InputFault::Read => HeardFault::Read,
+        }
+    }
+}
+
+impl From<BodyFault> for HeardFault {
+    ghost use Rattle.std.specs.Prelude.{◌≡◌};
+    ghost use Rattle.upload_wire.specs.AnswerReading.{heard_of_body};
+
+    ghost from_gives = { λ fault heard. heard ≡ heard_of_body fault };
+
+    fn from(fault: BodyFault) -> HeardFault {
+        match fault {
+            BodyFault::Truncated => HeardFault::Truncated,
+            BodyFault::Read => HeardFault::Read,
+            BodyFault::NoMemory => HeardFault::NoMemory,
+        }
+    }
+}
 
 /// What is heard in the reply to an answer, or want of memory for its texts.
 pub fn heard_of(alloc: Global, answer: &Answer) -> Result<Heard, AllocError>

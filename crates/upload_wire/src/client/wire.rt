@@ -1,7 +1,6 @@
 //! A transport over a reader and a writer of bytes.
 ghost use Rattle.std.specs.Prelude.{◌≡◌, IfOk, IsTrue, [], false, true};
 ghost use Rattle.upload_service.specs.declared.ask.Ask.{Ask as AskModel};
-ghost use Rattle.http_wire.specs.Writing.{sink};
 ghost use Rattle.upload_wire.specs.AskText.{CanBeWritten, ask_of_chunk, is_host, wants_head};
 ghost use Rattle.upload_wire.specs.TransportText.{AsksOverWire, HearsBehind, is_refusal, refusal_in, stays_open};
 
@@ -30,7 +29,6 @@ pub struct WireTransport<S: ByteSource, W: ByteSink> {
 
 impl<S: ByteSource, W: ByteSink> Model for WireTransport<S, W> {
     ghost use Rattle.std.specs.Prelude.{IsTrue};
-    ghost use Rattle.http_wire.specs.Writing.{sink};
     ghost use Rattle.upload_wire.specs.AskText.{is_host};
     ghost use Rattle.upload_wire.specs.TransportText.{GoesOn, WireState};
 
@@ -38,7 +36,7 @@ impl<S: ByteSource, W: ByteSink> Model for WireTransport<S, W> {
 
     ghost view = { λ t. record {
       reader = t.reader;
-      writer = sink (W.contents t.writer) (W.failed_writes t.writer);
+      writer = W.state t.writer;
       host = t.host;
       broken = t.broken;
     } };
@@ -61,13 +59,11 @@ impl<S: ByteSource, W: ByteSink> WireTransport<S, W> {
         ensures { IfOk result (λ transport. transport ≡ record {
           reader = record {
             held = [];
-            remaining = S.remaining source;
-            reads = S.reads source;
-            failed_reads = S.failed_reads source;
+            source = S.state source;
             ended = false;
             keep = true;
           };
-          writer = sink (W.contents writer) (W.failed_writes writer);
+          writer = W.state writer;
           host = host.now;
           broken = false;
         }) }

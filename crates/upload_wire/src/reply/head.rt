@@ -2,7 +2,6 @@
 ghost use Rattle.std.specs.Prelude.{◌≡◌, ◌++◌, codes, flat_map};
 ghost use Rattle.httparse.specs.Ascii.{crlf_bytes};
 ghost use Rattle.http_wire.specs.Gathering.{Puts};
-ghost use Rattle.http_wire.specs.Writing.{sink};
 ghost use Rattle.upload_wire.specs.ReplyText.{allow_fields, bad, bad_status, blob_location, closing_fields, error_fields, length_field, print_field, range_fields, reply_head, reply_of, upload_fields, upload_location};
 
 use super::error::ErrorCode;
@@ -14,8 +13,7 @@ use upload_service::{Answer, Refusal};
 
 /// Adds a field.
 fn put_field<W: ByteSink>(head: &mut Gather, writer: &mut W, name: &[u8], value: &[u8])
-    ensures { Puts (sink (W.contents writer.old) (W.failed_writes writer.old)) head.old
-        (sink (W.contents writer.new) (W.failed_writes writer.new)) head.new (print_field (name.now, value.now)) }
+    ensures { Puts (W.state writer.old) head.old (W.state writer.new) head.new (print_field (name.now, value.now)) }
 {
     head.put(writer, name);
     head.put(writer, b": ");
@@ -25,8 +23,7 @@ fn put_field<W: ByteSink>(head: &mut Gather, writer: &mut W, name: &[u8], value:
 
 /// Adds the length of the body.
 fn put_length<W: ByteSink>(head: &mut Gather, writer: &mut W, size: u64)
-    ensures { Puts (sink (W.contents writer.old) (W.failed_writes writer.old)) head.old
-        (sink (W.contents writer.new) (W.failed_writes writer.new)) head.new (print_field (length_field size)) }
+    ensures { Puts (W.state writer.old) head.old (W.state writer.new) head.new (print_field (length_field size)) }
 {
     head.put(writer, b"Content-Length: ");
     head.put_number(writer, size);
@@ -40,8 +37,8 @@ fn put_upload_location<W: ByteSink>(
     name: &RepoName,
     at: UploadRef,
 )
-    ensures { Puts (sink (W.contents writer.old) (W.failed_writes writer.old)) head.old
-        (sink (W.contents writer.new) (W.failed_writes writer.new)) head.new (print_field (codes "Location", upload_location name.now at)) }
+    ensures { Puts (W.state writer.old) head.old
+        (W.state writer.new) head.new (print_field (codes "Location", upload_location name.now at)) }
 {
     head.put(writer, b"Location: /v2/");
     head.put(writer, name.as_str().as_bytes());
@@ -57,8 +54,8 @@ fn put_blob_location<W: ByteSink>(
     name: &RepoName,
     digest: BlobDigest,
 )
-    ensures { Puts (sink (W.contents writer.old) (W.failed_writes writer.old)) head.old
-        (sink (W.contents writer.new) (W.failed_writes writer.new)) head.new (print_field (codes "Location", blob_location name.now digest)) }
+    ensures { Puts (W.state writer.old) head.old
+        (W.state writer.new) head.new (print_field (codes "Location", blob_location name.now digest)) }
 {
     head.put(writer, b"Location: /v2/");
     head.put(writer, name.as_str().as_bytes());
@@ -69,8 +66,8 @@ fn put_blob_location<W: ByteSink>(
 
 /// Adds how many bytes an upload has, where it has some.
 fn put_range<W: ByteSink>(head: &mut Gather, writer: &mut W, next: u64)
-    ensures { Puts (sink (W.contents writer.old) (W.failed_writes writer.old)) head.old
-        (sink (W.contents writer.new) (W.failed_writes writer.new)) head.new (flat_map print_field (range_fields next)) }
+    ensures { Puts (W.state writer.old) head.old
+        (W.state writer.new) head.new (flat_map print_field (range_fields next)) }
 {
     if next == 0 {
         return;
@@ -88,8 +85,8 @@ fn put_upload<W: ByteSink>(
     at: UploadRef,
     next: u64,
 )
-    ensures { Puts (sink (W.contents writer.old) (W.failed_writes writer.old)) head.old
-        (sink (W.contents writer.new) (W.failed_writes writer.new)) head.new (flat_map print_field (upload_fields name.now at next)) }
+    ensures { Puts (W.state writer.old) head.old
+        (W.state writer.new) head.new (flat_map print_field (upload_fields name.now at next)) }
 {
     put_upload_location(head, writer, name, at);
     put_range(head, writer, next);
@@ -97,8 +94,8 @@ fn put_upload<W: ByteSink>(
 
 /// Adds the kind and the length of the body that names an error.
 fn put_error<W: ByteSink>(head: &mut Gather, writer: &mut W, code: ErrorCode)
-    ensures { Puts (sink (W.contents writer.old) (W.failed_writes writer.old)) head.old
-        (sink (W.contents writer.new) (W.failed_writes writer.new)) head.new (flat_map print_field (error_fields code)) }
+    ensures { Puts (W.state writer.old) head.old
+        (W.state writer.new) head.new (flat_map print_field (error_fields code)) }
 {
     put_field(head, writer, b"Content-Type", b"application/json");
     put_length(head, writer, code.body().len() as u64);
@@ -106,8 +103,8 @@ fn put_error<W: ByteSink>(head: &mut Gather, writer: &mut W, code: ErrorCode)
 
 /// Adds the methods of the form, where a method was refused.
 fn put_allow<W: ByteSink>(head: &mut Gather, writer: &mut W, refusal: Refusal)
-    ensures { Puts (sink (W.contents writer.old) (W.failed_writes writer.old)) head.old
-        (sink (W.contents writer.new) (W.failed_writes writer.new)) head.new (flat_map print_field (allow_fields refusal)) }
+    ensures { Puts (W.state writer.old) head.old
+        (W.state writer.new) head.new (flat_map print_field (allow_fields refusal)) }
 {
     if let Refusal::Method(form) = refusal {
         put_field(head, writer, b"Allow", methods(form).as_bytes());
@@ -116,8 +113,8 @@ fn put_allow<W: ByteSink>(head: &mut Gather, writer: &mut W, refusal: Refusal)
 
 /// Adds the field that closes the connection, where it closes, and the empty line.
 fn put_end<W: ByteSink>(head: &mut Gather, writer: &mut W, keep: bool)
-    ensures { Puts (sink (W.contents writer.old) (W.failed_writes writer.old)) head.old
-        (sink (W.contents writer.new) (W.failed_writes writer.new)) head.new (flat_map print_field (closing_fields keep) ++ crlf_bytes) }
+    ensures { Puts (W.state writer.old) head.old
+        (W.state writer.new) head.new (flat_map print_field (closing_fields keep) ++ crlf_bytes) }
 {
     if !keep {
         put_field(head, writer, b"Connection", b"close");
@@ -142,8 +139,8 @@ fn status_of(answer: &Answer) -> Status
 
 /// Adds the fields of a reply, but for the one that closes the connection.
 fn put_fields<W: ByteSink>(head: &mut Gather, writer: &mut W, answer: &Answer)
-    ensures { Puts (sink (W.contents writer.old) (W.failed_writes writer.old)) head.old
-        (sink (W.contents writer.new) (W.failed_writes writer.new)) head.new (flat_map print_field (reply_of answer.now).fields) }
+    ensures { Puts (W.state writer.old) head.old
+        (W.state writer.new) head.new (flat_map print_field (reply_of answer.now).fields) }
 {
     match answer {
         Answer::Base | Answer::NoMemory => put_length(head, writer, 0),
@@ -188,8 +185,7 @@ pub(super) fn put_reply_head<W: ByteSink>(
     answer: &Answer,
     keep: bool,
 )
-    ensures { Puts (sink (W.contents writer.old) (W.failed_writes writer.old)) head.old
-        (sink (W.contents writer.new) (W.failed_writes writer.new)) head.new (reply_head answer.now keep) }
+    ensures { Puts (W.state writer.old) head.old (W.state writer.new) head.new (reply_head answer.now keep) }
 {
     head.put(writer, status_of(answer).line().as_bytes());
     put_fields(head, writer, answer);
@@ -210,8 +206,7 @@ fn bad_status(why: Bad) -> Status
 
 /// Puts the reply to what is no request.
 pub(super) fn put_bad_head<W: ByteSink>(head: &mut Gather, writer: &mut W, why: Bad)
-    ensures { Puts (sink (W.contents writer.old) (W.failed_writes writer.old)) head.old
-        (sink (W.contents writer.new) (W.failed_writes writer.new)) head.new (bad why) }
+    ensures { Puts (W.state writer.old) head.old (W.state writer.new) head.new (bad why) }
 {
     head.put(writer, bad_status(why).line().as_bytes());
     put_length(head, writer, 0);

@@ -167,13 +167,14 @@ struct FailingFlush {
 }
 
 impl ByteSink for FailingFlush {
-    ghost use Rattle.std.specs.Prelude.{None, ◌^◌};
+    ghost use Rattle.std.specs.Prelude.{None, true, ◌^◌};
 
-    ghost contents = { λ _. None };
-
-    ghost writes = { λ _. 2 ^ 64 };
-
-    ghost failed_writes = { λ s. s.failed };
+    ghost state = { λ s. record {
+      contents = None;
+      writes = 2 ^ 64;
+      failed_writes = s.failed;
+      flushed = true;
+    } };
 
     fn write(&mut self, buf: &[u8]) -> Result<usize, Failed> {
         if self.items.extend_from_slice(buf).is_err() {

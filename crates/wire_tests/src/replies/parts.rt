@@ -176,13 +176,14 @@ struct Stumbling {
 }
 
 impl ByteSink for Stumbling {
-    ghost use Rattle.std.specs.Prelude.{Some};
+    ghost use Rattle.std.specs.Prelude.{Some, true};
 
-    ghost contents = { λ s. Some s.items.items };
-
-    ghost writes = { λ s. s.writes };
-
-    ghost failed_writes = { λ s. s.failed };
+    ghost state = { λ s. record {
+      contents = Some s.items.items;
+      writes = s.writes;
+      failed_writes = s.failed;
+      flushed = true;
+    } };
 
     fn write(&mut self, buf: &[u8]) -> Result<usize, Failed> {
         let is_failing = self.writes == self.before;

@@ -16,12 +16,12 @@ loop-left-preserved g c =
     let done : (count - left) + part ≡ count - (left - part) = omega (arith, within, few) in
     record {
       within = omega (arith, within);
-      moved = subst (λ n. Moved (g.S.ByteSource.remaining c.args.source.now) c.args.buffer.now (g.B.BodyBuffer.bytes c.args.body.now)
-          (g.S.ByteSource.remaining c.read_part.new.source) c.read_part.new.buffer (g.B.BodyBuffer.bytes c.read_part.new.body) n) done
+      moved = subst (λ n. Moved (g.S.ByteSource.state c.args.source.now) c.args.buffer.now (g.B.BodyBuffer.bytes c.args.body.now)
+          (g.S.ByteSource.state c.read_part.new.source) c.read_part.new.buffer (g.B.BodyBuffer.bytes c.read_part.new.body) n) done
           (moved_both _ _ _ _ _ _ _ _ _ (count - left) part c.loop-left.invariant.moved found.0);
       reads = λ low. let before = c.loop-left.invariant.reads (omega (arith, low, done)) in
-          let one = c.read_part.ensures.reads (omega (arith, low, before, done, some)) in omega (arith, one, before, done, some);
-      unfailed = c.in_ok-left.ensures.unfailed (λ e. cc) ∙ c.loop-left.invariant.unfailed;
+          let one = c.read_part.ensures.costs.reads (omega (arith, low, before, done, some)) in omega (arith, one, before, done, some);
+      unfailed = c.in_ok-left.ensures.costs.unfailed (λ e. cc) ∙ c.loop-left.invariant.unfailed;
     }
 
 pub returns-in_err-left-clause-found : goal.returns-in_err-left-clause-found

@@ -6,5 +6,4 @@ pub returns-in_err-has_byte-clause-found : goal.returns-in_err-has_byte-clause-f
 returns-in_err-has_byte-clause-found g c =
     let p = err_from_is_err_and c.from_residual.result c.from_residual.ensures.1 in
     rw (p.1, p.2)
-    (part_fault _ _ c.args.buffer.now c.has_byte.new.buffer (g.B.BodyBuffer.bytes c.args.body.now) (g.B.BodyBuffer.bytes c.args.body.now) c.args.left c.in_err-has_byte.field-0.0
-    c.in_err-has_byte.ensures.error c.in_err-has_byte.ensures.gave c.in_err-has_byte.ensures.kept.0)
+    (part_fault _ _ c.args.buffer.now c.has_byte.new.buffer c.in_err-has_byte.ensures.gave c.in_err-has_byte.ensures.kept.0)

@@ -11,7 +11,7 @@ ok-not-err a b e = cc
 
 pub loop-chunk-init : goal.loop-chunk-init
 loop-chunk-init g c = record {
-  taken = subst (λ body. AreTaken c.args.max_body (g.S.ByteSource.remaining c.args.source.now) c.args.buffer.now (g.S.ByteSource.remaining c.args.source.now) c.args.buffer.now body)
+  taken = subst (λ body. AreTaken c.args.max_body (g.S.ByteSource.state c.args.source.now) c.args.buffer.now (g.S.ByteSource.state c.args.source.now) c.args.buffer.now body)
       (sym c.requires.empty) (taken_nothing c.args.max_body _ c.args.buffer.now);
   filled = omega arith;
   reads = λ _. omega arith;
@@ -20,9 +20,9 @@ loop-chunk-init g c = record {
 
 pub loop-chunk-preserved : goal.loop-chunk-preserved
 loop-chunk-preserved g c =
-    let h : TakesChunk (c.args.max_body - c.len.result) (g.S.ByteSource.remaining c.loop-chunk.source) c.loop-chunk.buffer (g.B.BodyBuffer.bytes c.loop-chunk.body)
-    (g.S.ByteSource.remaining c.read_chunk.new.source) c.read_chunk.new.buffer (g.B.BodyBuffer.bytes c.read_chunk.new.body) = subst (λ r. FindsChunk (c.args.max_body - c.len.result) (g.S.ByteSource.remaining c.loop-chunk.source) c.loop-chunk.buffer (g.B.BodyBuffer.bytes c.loop-chunk.body)
-    (g.S.ByteSource.remaining c.read_chunk.new.source) c.read_chunk.new.buffer (g.B.BodyBuffer.bytes c.read_chunk.new.body) (Ok r))
+    let h : TakesChunk (c.args.max_body - c.len.result) (g.S.ByteSource.state c.loop-chunk.source) c.loop-chunk.buffer (g.B.BodyBuffer.bytes c.loop-chunk.body)
+    (g.S.ByteSource.state c.read_chunk.new.source) c.read_chunk.new.buffer (g.B.BodyBuffer.bytes c.read_chunk.new.body) = subst (λ r. FindsChunk (c.args.max_body - c.len.result) (g.S.ByteSource.state c.loop-chunk.source) c.loop-chunk.buffer (g.B.BodyBuffer.bytes c.loop-chunk.body)
+    (g.S.ByteSource.state c.read_chunk.new.source) c.read_chunk.new.buffer (g.B.BodyBuffer.bytes c.read_chunk.new.body) (Ok r))
     c.in-More.is c.in_ok-read_chunk.ensures.found in
     let taken = c.loop-chunk.invariant.taken in
     let filled = c.loop-chunk.invariant.filled in
@@ -35,21 +35,21 @@ loop-chunk-preserved g c =
       filled = omega (arith, filled, some, grown);
       reads = λ low. let before = c.loop-chunk.invariant.reads (omega (arith, low, grown)) in
           let one = c.in_ok-read_chunk.ensures.few (ap Ok c.in-More.is) (omega (arith, low, before, grown, some)) in omega (arith, one, before, grown, some);
-      unfailed = c.in_ok-read_chunk.ensures.unfailed (λ e. ok-not-err _ _ e) ∙ c.loop-chunk.invariant.unfailed;
+      unfailed = c.in_ok-read_chunk.ensures.costs.unfailed (λ e. ok-not-err _ _ e) ∙ c.loop-chunk.invariant.unfailed;
     }
 
 pub returns-in-Last-clause-found : goal.returns-in-Last-clause-found
 returns-in-Last-clause-found g c =
-    let found = subst (λ r. FindsChunk (c.args.max_body - c.len.result) (g.S.ByteSource.remaining c.loop-chunk.source) c.loop-chunk.buffer (g.B.BodyBuffer.bytes c.loop-chunk.body)
-    (g.S.ByteSource.remaining c.read_chunk.new.source) c.read_chunk.new.buffer (g.B.BodyBuffer.bytes c.read_chunk.new.body) (Ok r))
+    let found = subst (λ r. FindsChunk (c.args.max_body - c.len.result) (g.S.ByteSource.state c.loop-chunk.source) c.loop-chunk.buffer (g.B.BodyBuffer.bytes c.loop-chunk.body)
+    (g.S.ByteSource.state c.read_chunk.new.source) c.read_chunk.new.buffer (g.B.BodyBuffer.bytes c.read_chunk.new.body) (Ok r))
     c.in-Last.is c.in_ok-read_chunk.ensures.found in
     body_whole c.args.max_body _ _ _ c.args.buffer.now c.loop-chunk.buffer c.read_chunk.new.buffer (g.B.BodyBuffer.bytes c.loop-chunk.body) (g.B.BodyBuffer.bytes c.read_chunk.new.body)
     c.loop-chunk.invariant.taken found
 
 pub returns-in-Refused-clause-found : goal.returns-in-Refused-clause-found
 returns-in-Refused-clause-found g c =
-    let found = subst (λ r. FindsChunk (c.args.max_body - c.len.result) (g.S.ByteSource.remaining c.loop-chunk.source) c.loop-chunk.buffer (g.B.BodyBuffer.bytes c.loop-chunk.body)
-    (g.S.ByteSource.remaining c.read_chunk.new.source) c.read_chunk.new.buffer (g.B.BodyBuffer.bytes c.read_chunk.new.body) (Ok r))
+    let found = subst (λ r. FindsChunk (c.args.max_body - c.len.result) (g.S.ByteSource.state c.loop-chunk.source) c.loop-chunk.buffer (g.B.BodyBuffer.bytes c.loop-chunk.body)
+    (g.S.ByteSource.state c.read_chunk.new.source) c.read_chunk.new.buffer (g.B.BodyBuffer.bytes c.read_chunk.new.body) (Ok r))
     c.in-Refused.is c.in_ok-read_chunk.ensures.found in
     body_refused c.args.max_body _ _ _ _ c.args.buffer.now c.loop-chunk.buffer (g.B.BodyBuffer.bytes c.loop-chunk.body) c.in-Refused.bad
     (omega arith) c.loop-chunk.invariant.taken found

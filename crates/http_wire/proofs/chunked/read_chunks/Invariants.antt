@@ -5,8 +5,8 @@ use Rattle.http_wire.proofs.chunked.read_chunks.Given as goal
 
 abbrev pub invariant-loop-chunk : goal.invariant-loop-chunk
 invariant-loop-chunk g l = record {
-  taken : AreTaken l.max_body (g.S.ByteSource.remaining l.initial.source) l.initial.buffer (g.S.ByteSource.remaining l.source) l.buffer (g.B.BodyBuffer.bytes l.body);
+  taken : AreTaken l.max_body (g.S.ByteSource.state l.initial.source) l.initial.buffer (g.S.ByteSource.state l.source) l.buffer (g.B.BodyBuffer.bytes l.body);
   filled : l._chunk ≤ length (g.B.BodyBuffer.bytes l.body);
-  reads : CountsAtMost (g.S.ByteSource.reads l.initial.source) (g.S.ByteSource.reads l.source) (13 * length (g.B.BodyBuffer.bytes l.body));
-  unfailed : g.S.ByteSource.failed_reads l.source ≡ g.S.ByteSource.failed_reads l.initial.source;
+  reads : CountsAtMost (g.S.ByteSource.state l.initial.source).reads (g.S.ByteSource.state l.source).reads (13 * length (g.B.BodyBuffer.bytes l.body));
+  unfailed : (g.S.ByteSource.state l.source).failed_reads ≡ (g.S.ByteSource.state l.initial.source).failed_reads;
 }

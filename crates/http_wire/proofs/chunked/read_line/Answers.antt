@@ -4,7 +4,7 @@ use Rattle.http_wire.specs.SizeLines.{StandsAt}
 use Rattle.http_wire.specs.ChunkReading.{TakesLine}
 use Rattle.http_wire.proofs.GaveLemmas.{gave_both}
 use Rattle.http_wire.proofs.HeadLemmas.{take-next}
-use Rattle.http_wire.proofs.LineReadLemmas.{bounded, front_kept, line_taken, line_broken, line_cut, line_fault}
+use Rattle.http_wire.proofs.LineReadLemmas.{bounded, front_kept, line_taken, line_broken, line_cut}
 use Rattle.http_wire.proofs.chunked.read_line.Goals as goal
 
 pub returns-in_err-has_byte-clause-found : goal.returns-in_err-has_byte-clause-found
@@ -15,9 +15,8 @@ returns-in_err-has_byte-clause-found g c =
     let stands : StandsAt (take at text) c.loop-at.state = subst (λ t. StandsAt t c.loop-at.state) (sym kept) c.loop-at.invariant.stands in
     let p = err_from_is_err_and c.from_residual.result c.from_residual.ensures.1 in
     rw (p.1, p.2)
-    (line_fault _ _ c.args.buffer.now text c.in_err-has_byte.field-0.0 c.in_err-has_byte.ensures.error
     (line_cut _ _ c.args.buffer.now text at c.loop-at.state (gave_both _ _ _ _ _ _ c.loop-at.invariant.gave c.in_err-has_byte.ensures.gave)
-    c.in_err-has_byte.ensures.kept.0 stands))
+    c.in_err-has_byte.ensures.kept.0 stands)
 
 pub line_step-requires : goal.line_step-requires
 line_step-requires g c = bounded (take c.loop-at.at c.loop-at.buffer) c.loop-at.state c.loop-at.invariant.stands
@@ -32,7 +31,7 @@ returns-in-Whole-clause-found g c =
     let byte = get_or c.as_slice.result.now at 0 in
     let next : take (at + 1) text ≡ take at text ++ byte ∷ [] =
     take-next text at there ∙ ap (λ t. take at text ++ get_or t at 0 ∷ []) (sym c.as_slice.ensures) in
-    subst (λ rest. TakesLine (g.S.ByteSource.remaining c.args.source.now) c.args.buffer.now (g.S.ByteSource.remaining c.has_byte.new.source) rest c.in-Whole.size)
+    subst (λ rest. TakesLine (g.S.ByteSource.state c.args.source.now) c.args.buffer.now (g.S.ByteSource.state c.has_byte.new.source) rest c.in-Whole.size)
     (sym c.consume.ensures)
     (line_taken _ _ c.args.buffer.now text (take at text) at byte c.in-Whole.size
     (gave_both _ _ _ _ _ _ c.loop-at.invariant.gave c.has_byte.ensures.gave) next (c.in-Whole.ensures (take at text) stands))
@@ -65,6 +64,6 @@ loop-at-preserved g c =
       within = omega (arith, there);
       stands = subst (λ t. StandsAt t c.in-More.next) (sym next) (c.in-More.ensures (take at text) stands);
       reads = λ low. let before = c.loop-at.invariant.reads (omega (arith, low)) in
-          let one = c.has_byte.ensures.reads (omega (arith, low, before)) in omega (arith, one, before);
-      unfailed = c.in_ok-has_byte.ensures.unfailed (λ e. cc) ∙ c.loop-at.invariant.unfailed;
+          let one = c.has_byte.ensures.costs.reads (omega (arith, low, before)) in omega (arith, one, before);
+      unfailed = c.in_ok-has_byte.ensures.costs.unfailed (λ e. cc) ∙ c.loop-at.invariant.unfailed;
     }

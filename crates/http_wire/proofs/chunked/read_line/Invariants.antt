@@ -6,9 +6,9 @@ use Rattle.http_wire.proofs.chunked.read_line.Given as goal
 
 abbrev pub invariant-loop-at : goal.invariant-loop-at
 invariant-loop-at g l = record {
-  gave : Gave (g.S.ByteSource.remaining l.initial.source) (g.S.ByteSource.remaining l.source) l.initial.buffer l.buffer;
+  gave : Gave (g.S.ByteSource.state l.initial.source) (g.S.ByteSource.state l.source) l.initial.buffer l.buffer;
   within : l.at ≤ length l.buffer;
   stands : StandsAt (take l.at l.buffer) l.state;
-  reads : CountsAtMost (g.S.ByteSource.reads l.initial.source) (g.S.ByteSource.reads l.source) l.at;
-  unfailed : g.S.ByteSource.failed_reads l.source ≡ g.S.ByteSource.failed_reads l.initial.source;
+  reads : CountsAtMost (g.S.ByteSource.state l.initial.source).reads (g.S.ByteSource.state l.source).reads l.at;
+  unfailed : (g.S.ByteSource.state l.source).failed_reads ≡ (g.S.ByteSource.state l.initial.source).failed_reads;
 }

@@ -1,9 +1,9 @@
 use Rattle.std.proofs.Common.{◌≡◌, ◌∙◌, sym, ap, arith, refl, ◌+◌, ◌<◌, ◌++◌, ◌∷◌, [], take, drop, length, get_or, inl, inr}
 use Rattle.std.proofs.lemmas.List.{take-append-drop}
 use Rattle.std.proofs.lemmas.Result.{err_from_is_err_and}
-use Rattle.http_wire.proofs.GaveLemmas.{gave_both}
+use Rattle.http_wire.proofs.GaveLemmas.{gave_as, gave_both}
 use Rattle.http_wire.proofs.HeadLemmas.{take-next}
-use Rattle.http_wire.proofs.LineReadLemmas.{front_kept, never_first, never_second, end_broken, end_cut, end_fault}
+use Rattle.http_wire.proofs.LineReadLemmas.{front_kept, never_first, never_second, end_broken, end_cut}
 use Rattle.http_wire.proofs.chunked.read_line_end.Goals as goal
 
 pub returns-then-as_slice-ne13-clause-found : goal.returns-then-as_slice-ne13-clause-found
@@ -40,9 +40,8 @@ returns-in_err-has_byte-2-clause-found g c =
     let kept = front_kept _ _ old text 1 c.has_byte-2.ensures.gave (omega (arith, there)) in
     let p = err_from_is_err_and c.from_residual-in_err-has_byte-2.result c.from_residual-in_err-has_byte-2.ensures.1 in
     rw (p.1, p.2)
-    (end_fault _ _ c.args.buffer.now text c.in_err-has_byte-2.field-0.0 c.in_err-has_byte-2.ensures.error
     (end_cut _ _ c.args.buffer.now text (13 ∷ []) 1 (gave_both _ _ _ _ _ _ c.has_byte.ensures.gave c.has_byte-2.ensures.gave)
-    c.in_err-has_byte-2.ensures.kept.0 (kept ∙ first) (inr refl)))
+    c.in_err-has_byte-2.ensures.kept.0 (kept ∙ first) (inr refl))
 
 pub returns-then-as_slice-ne10-clause-found : goal.returns-then-as_slice-ne10-clause-found
 returns-then-as_slice-ne10-clause-found g c =
@@ -71,8 +70,5 @@ returns-clause-found g c =
     let next : take (1 + 1) text ≡ 13 ∷ 10 ∷ [] =
     take-next text 1 second ∙ ap (λ t. t ++ get_or text 1 0 ∷ []) (kept ∙ first) ∙ ap (λ t. (13 ∷ []) ++ get_or t 1 0 ∷ []) (sym c.as_slice-2.ensures)
     ∙ ap (λ b. 13 ∷ b ∷ []) c.if-as_slice-ne10.false in
-    let gave = gave_both _ _ _ _ _ _ c.has_byte.ensures.gave c.has_byte-2.ensures.gave in (
-      gave.0,
-      gave.1,
-      ap (λ rest. 13 ∷ 10 ∷ rest) c.consume.ensures ∙ ap (λ t. t ++ drop 2 text) (sym next) ∙ take-append-drop 2 text ∙ gave.2,
-    )
+    gave_as (ap (λ rest. 13 ∷ 10 ∷ rest) c.consume.ensures ∙ ap (λ t. t ++ drop 2 text) (sym next) ∙ take-append-drop 2 text)
+    (gave_both _ _ _ _ _ _ c.has_byte.ensures.gave c.has_byte-2.ensures.gave)

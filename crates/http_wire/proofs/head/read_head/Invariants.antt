@@ -9,7 +9,7 @@ invariant-loop-at g l = record {
   within : l.at ≤ length l.buffer;
   counted : l.lines ≡ line_feeds (take l.at l.buffer);
   none : HasNone g.G.Grammar.spans.words (take l.at l.buffer);
-  gave : Gave (g.S.ByteSource.remaining l.initial.source) (g.S.ByteSource.remaining l.source) l.initial.buffer l.buffer;
-  reads : CountsAtMost (g.S.ByteSource.reads l.initial.source) (g.S.ByteSource.reads l.source) l.at;
-  unfailed : g.S.ByteSource.failed_reads l.source ≡ g.S.ByteSource.failed_reads l.initial.source;
+  gave : Gave (g.S.ByteSource.state l.initial.source) (g.S.ByteSource.state l.source) l.initial.buffer l.buffer;
+  reads : CountsAtMost (g.S.ByteSource.state l.initial.source).reads (g.S.ByteSource.state l.source).reads l.at;
+  unfailed : (g.S.ByteSource.state l.source).failed_reads ≡ (g.S.ByteSource.state l.initial.source).failed_reads;
 }

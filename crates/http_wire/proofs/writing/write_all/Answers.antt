@@ -13,7 +13,7 @@ loop-at-preserved g c =
     let lt = c.loop-at-test.true in (
       omega (arith, bound, lt, length-drop at bytes, length-take (length bytes - at) (drop at bytes)),
       record {
-        grown = subst (Appends (g.W.ByteSink.contents c.args.writer.now) (g.W.ByteSink.contents c.write.new.self)) (sym (taken_more bytes at c.in-Ok.count))
+        grown = subst (Appends (g.W.ByteSink.state c.args.writer.now).contents (g.W.ByteSink.state c.write.new.self).contents) (sym (taken_more bytes at c.in-Ok.count))
             (appends_both _ _ _ _ _ c.loop-at.invariant.1.grown c.in-Ok.ensures.bytes);
         unfailed = c.in-Ok.ensures.ok ∙ c.loop-at.invariant.1.unfailed;
       },
@@ -25,5 +25,5 @@ returns-in-Err g c = record {
   back = drop c.loop-at.at c.args.bytes.now;
   cut = sym (take-append-drop c.loop-at.at c.args.bytes.now);
   grown = appends_kept _ _ _ _ c.loop-at.invariant.1.grown c.in-Err.ensures.bytes;
-  failed = subst (λ n. CountsUp n (g.W.ByteSink.failed_writes c.write.new.self)) c.loop-at.invariant.1.unfailed c.in-Err.ensures.err;
+  failed = subst (λ n. CountsUp n (g.W.ByteSink.state c.write.new.self).failed_writes) c.loop-at.invariant.1.unfailed c.in-Err.ensures.err;
 }

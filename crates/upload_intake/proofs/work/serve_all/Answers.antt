@@ -9,7 +9,7 @@ use Rattle.upload_intake.proofs.work.serve_all.Goals.{in-None, in-Some+in_defaul
 
 pub loop-init : goal.loop-init
 loop-init g c =
-    let m = means g.C.Conns.gives g.C.In.ByteSource.remaining g.C.In.ByteSource.failed_reads g.C.Out.ByteSink.contents g.C.Out.ByteSink.failed_writes g.S.Secrets.draws in (
+    let m = means g.C.Conns.gives g.C.In.ByteSource.state g.C.Out.ByteSink.state g.S.Secrets.draws in (
       subst (λ s. IsSameSeat c.args.seat s) (sym c.new.ensures.seat) (same_seat c.args.seat),
       subst (λ (d : SeatState × g.row.S.Denot). Working m c.args.limits.max_body c.args.worker.conns (c.args.seat, c.args.worker.secrets) c.args.worker.conns d 0 0)
           (λ i. (sym c.new.ensures.seat i, sym c.new.ensures.secrets i))
@@ -18,7 +18,7 @@ loop-init g c =
 
 pub loop-preserved : goal.loop-preserved
 loop-preserved g c =
-    let m = means g.C.Conns.gives g.C.In.ByteSource.remaining g.C.In.ByteSource.failed_reads g.C.Out.ByteSink.contents g.C.Out.ByteSink.failed_writes g.S.Secrets.draws in (
+    let m = means g.C.Conns.gives g.C.In.ByteSource.state g.C.Out.ByteSink.state g.S.Secrets.draws in (
       same_seat_twice _ _ _ c.loop.invariant.0 (gated_same g.S.Secrets.draws _ _ _ _ _ _ _ _ c.serve_connection_with_buffer-ended.ensures),
       talked m c.args.limits.max_body c.args.worker.conns (c.args.seat, c.args.worker.secrets) c.loop.conns (seat_of c.loop.desk.desk, secrets_of c.loop.desk.desk) c.loop.end.conns c.loop.end.clean c.loop.invariant.1
           (talk_of m c.args.limits.max_body c.in-Some-next_conn.source c.serve_connection_with_buffer-ended.new.reader c.in-Some-next_conn.sink c.serve_connection_with_buffer-ended.new.writer c.loop.desk c.serve_connection_with_buffer-ended.new.desk c.serve_connection_with_buffer-ended.result c.serve_connection_with_buffer-ended.ensures)
@@ -39,7 +39,7 @@ returns-clause-seat g c =
 
 pub returns-clause-worked : goal.returns-clause-worked
 returns-clause-worked g c =
-    let m = means g.C.Conns.gives g.C.In.ByteSource.remaining g.C.In.ByteSource.failed_reads g.C.Out.ByteSink.contents g.C.Out.ByteSink.failed_writes g.S.Secrets.draws in
+    let m = means g.C.Conns.gives g.C.In.ByteSource.state g.C.Out.ByteSink.state g.S.Secrets.draws in
     let worked : IsWorked m c.args.limits.max_body c.args.worker.conns c.args.worker.secrets c.args.seat (seat_of c.match-next.desk.desk) c.match-next.end.conns c.match-next.end.clean = elim c.match-next.branch [
       | in-None w ↦ absurd (true≢false (sym w.in-None.ensures.steps))
       | in-Some+in_default w ↦

@@ -7,5 +7,5 @@ use Rattle.upload_intake.proofs.work.serve_all.Given as goal
 abbrev pub invariant-loop : goal.invariant-loop
 invariant-loop g l =
     IsSameSeat l.fn.seat (seat_of l.desk.desk)
-    × Working (means g.C.Conns.gives g.C.In.ByteSource.remaining g.C.In.ByteSource.failed_reads g.C.Out.ByteSink.contents g.C.Out.ByteSink.failed_writes g.S.Secrets.draws)
+    × Working (means g.C.Conns.gives g.C.In.ByteSource.state g.C.Out.ByteSink.state g.S.Secrets.draws)
     l.limits.max_body l.fn.worker.conns (l.fn.seat, l.fn.worker.secrets) l.conns (seat_of l.desk.desk, secrets_of l.desk.desk) l.end.conns l.end.clean

@@ -21,12 +21,12 @@ returns-clause-gave g c =
     let value : c.deref_mut.result.now ≡ x.bytes.items = c.deref_mut.ensures.value in
     let items : (with_items x.bytes c.read_behind.new.bytes).items ≡ c.read_behind.new.bytes =
     with_items_is x.bytes c.read_behind.new.bytes (omega (arith, c.deref_mut.ensures.len, c.read_behind.auto.bytes)) in
-    let gave = c.in_ok-count.ensures.gave in (
-      gave.0,
-      gave.1,
-      ap (λ t. slice_range t x.start (x.end + c.in_ok-count.count)) items
-          ∙ window_grows x c.args.self.now c.read_behind.new.bytes gave.0 c.in_ok-count.count at (gave.2 ∙ ap (λ t. take x.end t ++ gave.0) value),
-    )
+    let gave = c.in_ok-count.ensures.gave in record {
+      given = gave.given;
+      consumed = gave.consumed;
+      joined = ap (λ t. slice_range t x.start (x.end + c.in_ok-count.count)) items
+          ∙ window_grows x c.args.self.now c.read_behind.new.bytes gave.given c.in_ok-count.count at (gave.joined ∙ ap (λ t. take x.end t ++ gave.given) value);
+    }
 
 pub returns-in_err-count-clause-gave : goal.returns-in_err-count-clause-gave
 returns-in_err-count-clause-gave g c =
@@ -43,12 +43,12 @@ returns-in_err-count-clause-gave g c =
     let value : c.deref_mut.result.now ≡ x.bytes.items = c.deref_mut.ensures.value in
     let items : (with_items x.bytes c.read_behind.new.bytes).items ≡ c.read_behind.new.bytes =
     with_items_is x.bytes c.read_behind.new.bytes (omega (arith, c.deref_mut.ensures.len, c.read_behind.auto.bytes)) in
-    let gave = c.in_err-count.ensures.gave in (
-      gave.0,
-      gave.1,
-      ap (λ t. slice_range t x.start x.end) items ∙ ap (λ n. slice_range c.read_behind.new.bytes x.start n) (omega arith)
-          ∙ window_grows x c.args.self.now c.read_behind.new.bytes gave.0 0 at (gave.2 ∙ ap (λ t. take x.end t ++ gave.0) value),
-    )
+    let gave = c.in_err-count.ensures.gave in record {
+      given = gave.given;
+      consumed = gave.consumed;
+      joined = ap (λ t. slice_range t x.start x.end) items ∙ ap (λ n. slice_range c.read_behind.new.bytes x.start n) (omega arith)
+          ∙ window_grows x c.args.self.now c.read_behind.new.bytes gave.given 0 at (gave.joined ∙ ap (λ t. take x.end t ++ gave.given) value);
+    }
 
 pub returns-in_err-count-clause-kept : goal.returns-in_err-count-clause-kept
 returns-in_err-count-clause-kept g c =

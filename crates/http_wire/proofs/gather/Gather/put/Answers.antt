@@ -1,5 +1,5 @@
 use Rattle.std.proofs.Common.{◌∙◌, sym, ap, subst, ◌++◌}
-use Rattle.http_wire.specs.Writing.{sink, Wrote}
+use Rattle.http_wire.specs.Writing.{Wrote}
 use Rattle.http_wire.specs.Gathering.{Held}
 use Rattle.http_wire.proofs.GatherLemmas.{put_failed, put_held, write_held, gathered_after, given_ok, given_err}
 use Rattle.http_wire.proofs.gather.Gather.put.Goals as goal
@@ -19,8 +19,8 @@ returns-then-is_ok g c = λ start before held.
 pub returns : goal.returns
 returns g c = λ start before held.
     let failed = sym (ap (λ (h : Held). h.failed) c.self.view_is) ∙ c.if-self.false in
-    let now = sink (g.W.ByteSink.contents c.args.writer.now) (g.W.ByteSink.failed_writes c.args.writer.now) in
-    let new = sink (g.W.ByteSink.contents c.then_write.new.writer) (g.W.ByteSink.failed_writes c.then_write.new.writer) in
+    let now = g.W.ByteSink.state c.args.writer.now in
+    let new = g.W.ByteSink.state c.then_write.new.writer in
     let same = given_err _ (sym c.is_ok.ensures.value ∙ c.if-is_ok.false) c.try_extend_from_slice.ensures.err in
     let bytes = c.as_slice.ensures.value ∙ ap (λ v. v.items) same ∙ ap (λ (h : Held). h.bytes) c.self.view_is in
     let both = c.then_write.ensures _ _ c.write_all-done.ensures in

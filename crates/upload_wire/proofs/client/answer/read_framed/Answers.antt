@@ -12,10 +12,14 @@ returns-in-Ok-read_body-clause-found g c =
     reply_behind c.args.head_only c.args.buffer.now _ _ _ _ _ _ _ _ p c.in-Ok.framing tt c.with_code.result c.requires c.as_slice.ensures c.in-Ok.ensures.framing
     c.consume.ensures c.in-Ok-read_body.ensures.found c.deref.ensures.value says c.keeps_on.ensures
 
-pub returns-in-Ok-read_body-clause-failed : goal.returns-in-Ok-read_body-clause-failed
-returns-in-Ok-read_body-clause-failed g c e =
+pub returns-in-Ok-read_body-clause-costs : goal.returns-in-Ok-read_body-clause-costs
+returns-in-Ok-read_body-clause-costs g c =
     let p = c.args.parsed.now in
-    absurd (says_unread p.spans.code _ _ c.with_code.result (c.with_code.ensures p.spans.code _ c.said_of-said.ensures) e)
+    record {
+      reads = c.in-Ok-read_body.ensures.costs.reads;
+      failed = λ e. absurd (says_unread p.spans.code _ _ c.with_code.result (c.with_code.ensures p.spans.code _ c.said_of-said.ensures) e);
+      unfailed = λ _. c.in-Ok-read_body.ensures.costs.unfailed (λ e. cc);
+    }
 
 pub returns-in-Err-read_body-clause-found : goal.returns-in-Err-read_body-clause-found
 returns-in-Err-read_body-clause-found g c =

@@ -1,5 +1,4 @@
 use Rattle.std.proofs.Common.{◌∙◌, subst, append_assoc}
-use Rattle.http_wire.specs.Writing.{sink}
 use Rattle.http_wire.specs.Gathering.{Gathered}
 use Rattle.upload_wire.proofs.client.ask.put_mount.Goals as goal
 
@@ -8,5 +7,5 @@ returns g c = λ start before held.
     let digest = c.as_bytes.ensures ∙ c.text.ensures.text in
     let source = c.as_bytes-2.ensures.value ∙ c.as_str.ensures.text in
     let put = c.put-3.ensures start _ (c.put-2.ensures start _ (c.put.ensures start _ (c.put_path.ensures start before held))) in
-    subst (Gathered start (sink (g.W.ByteSink.contents c.put-3.new.writer) (g.W.ByteSink.failed_writes c.put-3.new.writer)) c.put-3.new.self)
+    subst (Gathered start (g.W.ByteSink.state c.put-3.new.writer) c.put-3.new.self)
     (rw (digest, source) (simp append_assoc)) put

@@ -1,5 +1,5 @@
 use Rattle.std.proofs.Common.{sym, subst, [], refl}
-use Rattle.http_wire.specs.Writing.{sink, Wrote}
+use Rattle.http_wire.specs.Writing.{Wrote}
 use Rattle.http_wire.specs.Gathering.{Gathered}
 use Rattle.http_wire.proofs.WritingLemmas.{appends_none}
 use Rattle.upload_wire.proofs.AskTextLemmas.{whole_chunk}
@@ -7,8 +7,8 @@ use Rattle.upload_wire.proofs.client.ask.write_chunk.Goals as goal
 
 pub returns-clause-wrote : goal.returns-clause-wrote
 returns-clause-wrote g c =
-    let start = sink (g.W.ByteSink.contents c.args.writer.now) (g.W.ByteSink.failed_writes c.args.writer.now) in
-    let new = sink (g.W.ByteSink.contents c.finish.new.writer) (g.W.ByteSink.failed_writes c.finish.new.writer) in
+    let start = g.W.ByteSink.state c.args.writer.now in
+    let new = g.W.ByteSink.state c.finish.new.writer in
     let nothing : Gathered start start c.new-head.result [] =
     subst (λ h. Gathered start start h []) (sym c.new-head.ensures) ([], record { grown = appends_none start.contents; unfailed = refl }, refl) in
     let wrote = c.finish.ensures.wrote start _ (c.put_upload_section.ensures start _ (c.put_host.ensures start _ (c.put_path.ensures start [] nothing))) in

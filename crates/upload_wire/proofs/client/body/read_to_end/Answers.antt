@@ -10,9 +10,9 @@ returns-in-Ok-clause-found g c = long_body _ _ _ _ _ _ c.in-Ok.ensures.found
 pub returns-in-Err-clause-found : goal.returns-in-Err-clause-found
 returns-in-Err-clause-found g c = rw c.end_of.ensures (end_found _ _ _ _ _ _ c.in-Err.fault c.requires c.in-Err.ensures.found)
 
-pub returns-in-Err-clause-failed : goal.returns-in-Err-clause-failed
-returns-in-Err-clause-failed g c = λ e. c.in-Err.ensures.failed (ap Err (end_read c.in-Err.fault (sym c.end_of.ensures ∙ e)))
-
-pub returns-in-Err-clause-unfailed : goal.returns-in-Err-clause-unfailed
-returns-in-Err-clause-unfailed g c = λ other.
-    c.in-Err.ensures.unfailed (λ e. other (c.end_of.ensures ∙ ap end_of (err_same _ _ e)))
+pub returns-in-Err-clause-costs : goal.returns-in-Err-clause-costs
+returns-in-Err-clause-costs g c = record {
+  reads = c.in-Err.ensures.costs.reads;
+  failed = λ e. c.in-Err.ensures.costs.failed (ap Err (end_read c.in-Err.fault (sym c.end_of.ensures ∙ e)));
+  unfailed = λ other. c.in-Err.ensures.costs.unfailed (λ e. other (c.end_of.ensures ∙ ap end_of (err_same _ _ e)));
+}

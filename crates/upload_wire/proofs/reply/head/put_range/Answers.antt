@@ -1,6 +1,5 @@
 use Rattle.std.proofs.Common.{subst}
 use Rattle.std.proofs.lemmas.List.{append-nil}
-use Rattle.http_wire.specs.Writing.{sink}
 use Rattle.http_wire.specs.Gathering.{Gathered}
 use Rattle.upload_wire.proofs.ReplyLemmas.{range_text}
 use Rattle.upload_wire.proofs.reply.head.put_range.Goals as goal
@@ -10,6 +9,6 @@ returns-then-next-eq0 g c = λ start before held. rw (c.if-next-eq0.true, append
 
 pub returns : goal.returns
 returns g c = λ start before held.
-    subst (Gathered start (sink (g.W.ByteSink.contents c.put-2.new.writer) (g.W.ByteSink.failed_writes c.put-2.new.writer)) c.put-2.new.self)
+    subst (Gathered start (g.W.ByteSink.state c.put-2.new.writer) c.put-2.new.self)
     (range_text before c.args.next c.if-next-eq0.false)
     (c.put-2.ensures start _ (c.put_number.ensures start _ (c.put.ensures start before held)))

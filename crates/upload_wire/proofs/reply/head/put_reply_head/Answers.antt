@@ -1,7 +1,6 @@
 use Rattle.std.proofs.Common.{◌∙◌, ap, subst}
 use Rattle.upload_wire.specs.ReplyText.{reply_of, status_line}
 use Rattle.upload_wire.proofs.ReplyLemmas.{head_text}
-use Rattle.http_wire.specs.Writing.{sink}
 use Rattle.http_wire.specs.Gathering.{Gathered}
 use Rattle.upload_wire.proofs.reply.head.put_reply_head.Goals as goal
 
@@ -9,6 +8,6 @@ pub returns : goal.returns
 returns g c = λ start before held.
     let line = c.as_bytes.ensures.value ∙ c.line.ensures.line ∙ ap status_line c.status_of.ensures in
     let parts = reply_of c.args.answer.now in
-    subst (Gathered start (sink (g.W.ByteSink.contents c.put_end.new.writer) (g.W.ByteSink.failed_writes c.put_end.new.writer)) c.put_end.new.head)
+    subst (Gathered start (g.W.ByteSink.state c.put_end.new.writer) c.put_end.new.head)
     (head_text before parts.status parts.fields c.args.keep line)
     (c.put_end.ensures start _ (c.put_fields.ensures start _ (c.put.ensures start before held)))

@@ -6,8 +6,8 @@ use Rattle.upload_intake.proofs.pair.fn.serve_pair.scope.Goals as goal
 
 pub returns : goal.returns
 returns g c =
-    let l = means g.LC.Conns.gives g.LC.In.ByteSource.remaining g.LC.In.ByteSource.failed_reads g.LC.Out.ByteSink.contents g.LC.Out.ByteSink.failed_writes g.LS.Secrets.draws in
-    let r = means g.RC.Conns.gives g.RC.In.ByteSource.remaining g.RC.In.ByteSource.failed_reads g.RC.Out.ByteSink.contents g.RC.Out.ByteSink.failed_writes g.RS.Secrets.draws in
+    let l = means g.LC.Conns.gives g.LC.In.ByteSource.state g.LC.Out.ByteSink.state g.LS.Secrets.draws in
+    let r = means g.RC.Conns.gives g.RC.In.ByteSource.state g.RC.Out.ByteSink.state g.RS.Secrets.draws in
     let p = c.in-Ok-spawn_with.ensures.ok in
     let q = c.in-Ok-spawn_with-2.ensures.ok in
     record {
