@@ -8,7 +8,7 @@ use Rattle.std.specs.Str.Parse.{digits_value}
 use Rattle.http_wire.specs.States.{SourceState}
 use Rattle.http_wire.specs.Reading.{Gave}
 use Rattle.http_wire.specs.Body.{Chunk, print_chunk, IsChunk, chunks_text, chunks_data, NeverChunked, IsBadBody, IsCutBody}
-use Rattle.http_wire.specs.BodyReading.{Moved, StopsBefore, ReadsBytes}
+use Rattle.http_wire.specs.BodyReading.{Moved, ReadsBytes}
 use Rattle.http_wire.specs.ChunkReading.{TakesLine, BreaksLine, CutsLine, FindsLine, BreaksEnd, CutsEnd, FindsEnd, TakesChunk, TakesLast, RefusesChunk, CutsChunk, FindsChunk}
 use Rattle.http_wire.specs.ChunksRead.{AreTaken}
 use Rattle.http_wire.specs.BodyFinding.{TakesBody, RefusesBodyText, CutsBody, FindsBody}
@@ -20,6 +20,7 @@ use Rattle.http_wire.specs.declared.fault.InputFault.{InputFault}
 use Rattle.http_wire.specs.declared.fault.InputFault.TheVariants as Input
 use Rattle.http_wire.specs.declared.fault.BodyFault.{BodyFault}
 use Rattle.http_wire.specs.declared.fault.BodyFault.TheVariants as Fault
+use Rattle.http_wire.proofs.MovedLemmas.{StopsBefore, stops}
 use Rattle.http_wire.proofs.GaveLemmas.{gave_none, gave_as, gave_after}
 use Rattle.http_wire.proofs.ChunkLemmas.{never_from_line, never_after, front_after, under_after, over_after, under_inside, never_end, empty_of}
 use Rattle.http_wire.proofs.FrontLemmas.{front_line, front_data, front_data_end, under_line}
@@ -99,8 +100,9 @@ chunk_data_cut room a b c held mid value h fits end =
 pub chunk_data_fault : (room : ℕ) (a b c : SourceState) (held mid rest x y : List ℕ) (value : ℕ) (e : BodyFault)
     → TakesLine a held b mid value → value ≤ room → ReadsBytes b mid x c rest y value (Err e) → FindsChunk room a held x c rest y (Err e)
 chunk_data_fault room a b c held mid rest x y value Fault.Truncated h fits end =
-    (chunk_data_cut room a b c held mid value h fits end.0, end.1)
-chunk_data_fault room a b c held mid rest x y value Fault.Read h fits stop = chunk_data_cut room a b c held mid value h fits stop
+    (chunk_data_cut room a b c held mid value h fits (stops b c mid x rest y value end.0), end.1)
+chunk_data_fault room a b c held mid rest x y value Fault.Read h fits end =
+    chunk_data_cut room a b c held mid value h fits (stops b c mid x rest y value end)
 chunk_data_fault room a b c held mid rest x y value Fault.NoMemory h fits none =
     record { text = h.line ++ none.text; gave = gave_after a b c held h.line mid none.text h.gave none.gave }
 
@@ -315,6 +317,8 @@ length_whole max n a b held rest y m = record { text = m.bytes; gave = m.gave; w
 
 pub length_fault : (max n : ℕ) (a b : SourceState) (held rest y : List ℕ) (e : BodyFault) → ReadsBytes a held [] b rest y n (Err e)
     → FindsBody max (Length n) a held b rest y (Err e)
-length_fault max n a b held rest y Fault.Truncated h = (record { text = h.0.text; gave = h.0.gave; cut = h.0.short }, h.1)
-length_fault max n a b held rest y Fault.Read h = record { text = h.text; gave = h.gave; cut = h.short }
+length_fault max n a b held rest y Fault.Truncated h =
+    let end = stops a b held [] rest y n h.0 in (record { text = end.text; gave = end.gave; cut = end.short }, h.1)
+length_fault max n a b held rest y Fault.Read h =
+    let end = stops a b held [] rest y n h in record { text = end.text; gave = end.gave; cut = end.short }
 length_fault max n a b held rest y Fault.NoMemory h = h

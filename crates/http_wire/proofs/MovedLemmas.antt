@@ -1,12 +1,12 @@
 -- Bytes of a body, moved a part at a time.
-use Rattle.std.proofs.Common.{◌≡◌, ℕ, ◌+◌, ◌≤◌, List, [], ◌++◌, length, take, drop, refl, sym, ap, ◌∙◌, arith, append_assoc, length-append, length-take}
+use Rattle.std.proofs.Common.{◌≡◌, ℕ, ◌+◌, ◌<◌, ◌≤◌, List, [], ◌∷◌, ◌++◌, length, take, drop, refl, sym, ap, ◌∙◌, arith, append_assoc, length-append, length-take}
 use Rattle.std.specs.Prelude.{Err}
 use Rattle.std.proofs.lemmas.List.{take-append-drop, append-nil}
 use Rattle.http_wire.specs.States.{SourceState}
 use Rattle.http_wire.specs.Reading.{Gave}
 use Rattle.http_wire.specs.declared.fault.BodyFault.{BodyFault}
 use Rattle.http_wire.specs.declared.fault.BodyFault.TheVariants as Fault
-use Rattle.http_wire.specs.BodyReading.{Moved, MovedNone, StopsBefore, ReadsPart, ReadsBytes}
+use Rattle.http_wire.specs.BodyReading.{Moved, MovedNone, MovedNothing, MovedAll, ReadsPart, ReadsBytes}
 use Rattle.http_wire.proofs.GaveLemmas.{gave_none, gave_as, gave_after}
 
 pub moved_part : (old new : SourceState) (held buf before after : List ℕ) (count : ℕ) → Gave old new held buf
@@ -39,22 +39,6 @@ moved_both a b c held mid rest x y z n m first then =
       counted = omega (arith, counted, more, length-append first.bytes then.bytes);
     }
 
-pub stops_after : (a b c : SourceState) (held mid x y : List ℕ) (n m : ℕ)
-    → Moved a held x b mid y n → StopsBefore b mid c m → StopsBefore a held c (n + m)
-stops_after a b c held mid x y n m first end =
-    let counted = first.counted in
-    let short = end.short in
-    record {
-      text = first.bytes ++ end.text;
-      gave = gave_after a b c held first.bytes mid end.text first.gave end.gave;
-      short = omega (arith, counted, short, length-append first.bytes end.text);
-    }
-
-pub stops_sooner : (old new : SourceState) (held : List ℕ) (n m : ℕ) → n ≤ m → StopsBefore old held new n → StopsBefore old held new m
-stops_sooner old new held n m le end =
-    let short = end.short in
-    record { text = end.text; gave = end.gave; short = omega (arith, short, le) }
-
 pub none_after : (a b c : SourceState) (held mid x y : List ℕ) (n : ℕ)
     → Moved a held x b mid y n → MovedNone b mid c → MovedNone a held c
 none_after a b c held mid x y n first none = record {
@@ -62,15 +46,45 @@ none_after a b c held mid x y n first none = record {
   gave = gave_after a b c held first.bytes mid none.text first.gave none.gave;
 }
 
--- a read failed before a part
-pub part_fault : (a b : SourceState) (held rest : List ℕ) → Gave a b held rest → length rest ≡ 0 → StopsBefore a held b 1
-part_fault a b held rest gave none = record { text = rest; gave = gave; short = omega (arith, none) }
+empty_of : (xs : List ℕ) → length xs ≡ 0 → xs ≡ []
+empty_of [] none = refl
+empty_of (x ∷ xs) none = absurd (omega arith)
 
--- and of all parts
+-- nothing came before a part
+pub nothing_came : (a b : SourceState) (held rest body : List ℕ) → Gave a b held rest → length rest ≡ 0 → MovedNothing a held body b rest body
+nothing_came a b held rest body gave none =
+    (record { bytes = []; gave = gave; joined = sym (append-nil body); counted = refl }, empty_of rest none)
+
+-- nothing more came behind the parts
+all_moved : (a b c : SourceState) (held mid rest x y z : List ℕ) (n count : ℕ) → Moved a held x b mid y n → MovedNothing b mid y c rest z → n < count
+    → MovedAll a held x c rest z count
+all_moved a b c held mid rest x y z n count first end few = record {
+  moved = n + 0;
+  bytes = moved_both a b c held mid rest x y z n 0 first end.0;
+  few = omega (arith, few);
+  none_left = end.1;
+}
+
+-- a fault of a part, behind the parts before it
 pub bytes_fault : (a b c : SourceState) (held mid rest x y z : List ℕ) (n left count : ℕ) (e : BodyFault)
-    → Moved a held x b mid y n → n + 1 ≤ count → ReadsPart b mid y c rest z left (Err e) → ReadsBytes a held x c rest z count (Err e)
-bytes_fault a b c held mid rest x y z n left count Fault.Truncated first fits end =
-    (stops_sooner a c held (n + 1) count fits (stops_after a b c held mid x y n 1 first end.0), end.1)
-bytes_fault a b c held mid rest x y z n left count Fault.Read first fits stop =
-    stops_sooner a c held (n + 1) count fits (stops_after a b c held mid x y n 1 first stop)
-bytes_fault a b c held mid rest x y z n left count Fault.NoMemory first fits none = none_after a b c held mid x y n first none
+    → Moved a held x b mid y n → n < count → ReadsPart b mid y c rest z left (Err e) → ReadsBytes a held x c rest z count (Err e)
+bytes_fault a b c held mid rest x y z n left count Fault.Truncated first few end = (all_moved a b c held mid rest x y z n count first end.0 few, end.1)
+bytes_fault a b c held mid rest x y z n left count Fault.Read first few end = all_moved a b c held mid rest x y z n count first end few
+bytes_fault a b c held mid rest x y z n left count Fault.NoMemory first few none = none_after a b c held mid x y n first none
+
+-- fewer than so many bytes came
+pub record StopsBefore (old : SourceState) (held : List ℕ) (new : SourceState) (count : ℕ) : Type 0 where
+  pub text : List ℕ
+  pub gave : Gave old new held text
+  pub short : length text < count
+
+pub stops : (old new : SourceState) (held before rest after : List ℕ) (n : ℕ) → MovedAll old held before new rest after n → StopsBefore old held new n
+stops old new held before rest after n m =
+    let none = ap length m.none_left in
+    let few = m.few in
+    let counted = m.bytes.counted in
+    record {
+      text = m.bytes.bytes ++ rest;
+      gave = m.bytes.gave;
+      short = omega (arith, none, few, counted, length-append m.bytes.bytes rest);
+    }

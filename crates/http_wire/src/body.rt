@@ -28,6 +28,18 @@ pub trait BodyBuffer {
         ensures { result ≡ length (bytes self.now) };
 }
 
+impl BodyBuffer for Vec<u8> {
+    ghost bytes = { λ v. v.items };
+
+    fn extend(&mut self, piece: &[u8]) -> Result<(), AllocError> {
+        self.extend_from_slice(piece)
+    }
+
+    fn len(&self) -> usize {
+        self.as_slice().len()
+    }
+}
+
 /// How the reading of a body ended.
 #[derive(Clone, Copy, Debug, PartialEq, Eq)]
 pub enum BodyEnd {
@@ -58,7 +70,8 @@ fn read_part<S: ByteSource, B: BodyBuffer>(
     Ok(count)
 }
 
-/// Moves so many bytes to the end of a body, which grows as they come.
+/// Moves so many bytes to the end of a body, which grows as they come, or all up to the end of the input where that
+/// comes before them, which is `Truncated`.
 pub fn read_bytes<S: ByteSource, B: BodyBuffer>(
     source: &mut S,
     buffer: &mut ReadBuffer,

@@ -21,7 +21,7 @@ mod requests;
 mod responses;
 mod writing;
 
-pub use body::{BodyBuffer, BodyEnd, read_body};
+pub use body::{BodyBuffer, BodyEnd, read_body, read_bytes};
 pub use buffer::{CAPACITY, ReadBuffer};
 pub use bytes::{ByteSink, ByteSource, Failed, FromRead, ToWrite};
 pub use fault::{Bad, BodyFault, InputFault, WireFault};

@@ -1,12 +1,10 @@
 -- What the functions find that read a reply.
-use Rattle.std.specs.Prelude.{◌≡◌, ℕ, ◌<◌, ◌≤◌, List, [], ◌++◌, length, map, min, take, drop, Option, Result, Ok, Err, ⊤}
+use Rattle.std.specs.Prelude.{◌≡◌, ℕ, ◌<◌, ◌≤◌, List, ◌++◌, length, map, take, Option, Result, Ok, Err, ⊤}
 use Rattle.std.specs.Io.KnownBytes.{IsAtEnd}
-use Rattle.std.specs.declared.alloc.AllocError.{AllocError}
 use Rattle.httparse.specs.Spans.{header_bytes}
 use Rattle.http_wire.specs.Fields.{Fields}
 use Rattle.http_wire.specs.States.{SourceState}
 use Rattle.http_wire.specs.Reading.{Gave}
-use Rattle.http_wire.specs.BodyReading.{Moved, MovedNone}
 use Rattle.upload_wire.specs.AnswerText.{IsBody, IsHeard, IsMisplaced, IsPlaceOf, location, max_answer, range, upto_of}
 use Rattle.http_wire.specs.declared.responses.parsed.ParsedResponse.{ParsedResponse}
 use Rattle.upload_wire.specs.declared.client.framing.AnswerFraming.{AnswerFraming}
@@ -26,36 +24,6 @@ abbrev pub fields_of : List ℕ → ParsedResponse → Fields
 fields_of head p = map (header_bytes head) (take p.spans.headers p.headers)
 
 -- ---- the body
-
--- bytes that were held are moved to the end of a body, as many as there are and no more than are left of it
-abbrev pub Takes : List ℕ → List ℕ → List ℕ → List ℕ → ℕ → Result ℕ AllocError → Type 0
-Takes held before rest after left (Ok count) = (count ≡ min left (length held)) × (rest ≡ drop count held) × (after ≡ before ++ take count held)
-Takes held before rest after left (Err error) = rest ≡ held
-
--- nothing was moved, and nothing is held
-abbrev pub MovesNothing : SourceState → List ℕ → List ℕ → SourceState → List ℕ → List ℕ → Type 0
-MovesNothing old held before new rest after = Moved old held before new rest after 0 × (rest ≡ [])
-
--- a part of what is left of a body, or nothing at the end of the input and before a failed read
-abbrev pub MovesPart : SourceState → List ℕ → List ℕ → SourceState → List ℕ → List ℕ → ℕ → Result ℕ BodyFault → Type 0
-MovesPart old held before new rest after left (Ok count) = Moved old held before new rest after count × (0 < count) × (count ≤ left)
-MovesPart old held before new rest after left (Err Body.Truncated) = MovesNothing old held before new rest after × IsAtEnd new.remaining
-MovesPart old held before new rest after left (Err Body.Read) = MovesNothing old held before new rest after
-MovesPart old held before new rest after left (Err Body.NoMemory) = MovedNone old held new
-
--- all that came was moved, and it is fewer bytes than so many
-pub record MovesAll (old : SourceState) (held before : List ℕ) (new : SourceState) (rest after : List ℕ) (count : ℕ) : Type 0 where
-  pub moved : ℕ
-  pub bytes : Moved old held before new rest after moved
-  pub few : moved < count
-  pub none_left : rest ≡ []
-
--- so many bytes were moved, or all of fewer before the end of the input or a failed read
-abbrev pub MovesUpTo : SourceState → List ℕ → List ℕ → SourceState → List ℕ → List ℕ → ℕ → Result ⊤ BodyFault → Type 0
-MovesUpTo old held before new rest after count (Ok done) = Moved old held before new rest after count
-MovesUpTo old held before new rest after count (Err Body.Truncated) = MovesAll old held before new rest after count × IsAtEnd new.remaining
-MovesUpTo old held before new rest after count (Err Body.Read) = MovesAll old held before new rest after count
-MovesUpTo old held before new rest after count (Err Body.NoMemory) = MovedNone old held new
 
 -- what a fault means to a body that goes to the end of the input
 abbrev pub end_of : BodyFault → Result ⊤ HeardFault
