@@ -8,13 +8,14 @@ use Rattle.http_wire.specs.SizeLines.{NeverLine}
 use Rattle.http_wire.proofs.LineLemmas.{stops_at}
 
 -- the same size line, and then the same bytes
-lines_same : (ds es r q : List ℕ) → IsSize ds → IsSize es → ds ++ (13 ∷ 10 ∷ r) ≡ es ++ (13 ∷ 10 ∷ q) → (ds ≡ es) × (r ≡ q)
+pub lines_same : (ds es r q : List ℕ) → IsSize ds → IsSize es → ds ++ (13 ∷ 10 ∷ r) ≡ es ++ (13 ∷ 10 ∷ q) → (ds ≡ es) × (r ≡ q)
 lines_same ds es r q d e cut =
     let s = stops_at ds es (10 ∷ r) (10 ∷ q) 13 d.hex e.hex refl cut in
     let tail = s.2 in
     (s.0, cc)
 
-same_front : (a b r q : List ℕ) → length a ≡ length b → a ++ r ≡ b ++ q → (a ≡ b) × (r ≡ q)
+-- two fronts of one length
+pub same_front : (a b r q : List ℕ) → length a ≡ length b → a ++ r ≡ b ++ q → (a ≡ b) × (r ≡ q)
 same_front [] [] r q l e = (refl, e)
 same_front [] (y ∷ b) r q l e = absurd (omega arith)
 same_front (x ∷ a) [] r q l e = absurd (omega arith)

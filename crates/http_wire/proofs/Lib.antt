@@ -16,3 +16,5 @@ pub mod ChunkLemmas
 pub mod FrontLemmas
 pub mod LineReadLemmas
 pub mod ChunkReadLemmas
+pub mod UnambiguousHeads
+pub mod UnambiguousBodies

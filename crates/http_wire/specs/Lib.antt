@@ -19,3 +19,4 @@ pub mod SizeLines
 pub mod ChunkReading
 pub mod ChunksRead
 pub mod BodyFinding
+pub mod Unambiguous

@@ -17,6 +17,7 @@ mod fields;
 mod framing;
 mod gather;
 mod head;
+mod laws;
 mod requests;
 mod responses;
 mod writing;
@@ -31,6 +32,7 @@ pub use fields::{
 pub use framing::{Framing, framing_of, length_of};
 pub use gather::Gather;
 pub use head::{Grammar, HeadRead, MAX_FIELDS, MAX_HEAD, Verdict, has_byte, read_head};
+pub use laws::{bodies_are_unambiguous, heads_are_unambiguous};
 pub use requests::{ParsedRequest, Requests};
 pub use responses::{ParsedResponse, Responses};
 pub use writing::{WriteFault, then_flush, then_write, write_all};

@@ -19,3 +19,7 @@ pub mod WrittenQueries
 pub mod WrittenHeads
 pub mod WrittenFields
 pub mod WrittenRequests
+pub mod UnambiguousTargets
+pub mod UnambiguousRequests
+pub mod UnambiguousReplies
+pub mod DeterminedLemmas

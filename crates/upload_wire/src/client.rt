@@ -12,6 +12,6 @@ mod wire;
 pub use answer::AnswerReader;
 pub use ask::write_ask;
 pub use heard::{Heard, HeardFault, heard_of, read_place};
-pub use laws::{written_asks_are_read, written_places_are_read};
+pub use laws::{replies_are_unambiguous, written_asks_are_read, written_places_are_read};
 pub use transport::{LentChunk, Transport};
 pub use wire::WireTransport;

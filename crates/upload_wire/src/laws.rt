@@ -1,9 +1,32 @@
 //! What follows from the contracts of the parts.
 ghost use Rattle.upload_wire.specs.ConnectionRuns.{ConversationsRunTheService};
+ghost use Rattle.upload_wire.specs.Determined.{ConversationsAreDetermined, IsDeterministic};
+ghost use Rattle.upload_wire.specs.ServiceTurns.{StepsService};
+ghost use Rattle.upload_wire.specs.Unambiguous.{RequestsAreUnambiguous};
+
+use crate::desk::Desk;
 
 /// Whatever is read on a connection over a service, the requests that were answered, the one inside its end among them,
 /// are a run of the service's machine, one turn for each, with the desk's one secret and at its one moment, and the desk
 /// is never gone.
 pub fn connections_run_the_service()
     ensures { ConversationsRunTheService }
+{}
+
+/// A text is read in one way: as one request and what stands behind it, or as bad for one reason, or as cut short. Only its head may be
+/// refused too, and not where it begins with one of at most 66 lines.
+pub fn requests_are_unambiguous()
+    ensures { RequestsAreUnambiguous }
+{}
+
+/// What is asked on a connection is determined by the bytes that were read, whatever the desk answers, unless it was gone. What is answered
+/// and written is so too, where the desk is deterministic and memory wasn't wanting. Neither is said where a request wanted memory, a write
+/// failed, or a head was refused.
+pub fn conversations_are_determined<D: Desk>()
+    ensures { ConversationsAreDetermined D.moves }
+{}
+
+/// A service of one's own is such a desk.
+pub fn service_desks_are_deterministic()
+    ensures { IsDeterministic StepsService }
 {}

@@ -19,14 +19,17 @@ mod target;
 
 pub use client::{
     AnswerReader, Heard, HeardFault, LentChunk, Transport, WireTransport, heard_of, read_place,
-    write_ask, written_asks_are_read, written_places_are_read,
+    replies_are_unambiguous, write_ask, written_asks_are_read, written_places_are_read,
 };
 pub use connection::{ConnEnd, ConnFault, serve_connection, serve_connection_with_buffer};
 pub use desk::{Desk, ServiceDesk};
 pub use http_wire::{
     Bad, ByteSink, ByteSource, Failed, FromRead, ReadBuffer, ToWrite, WireFault, WriteFault,
 };
-pub use laws::connections_run_the_service;
+pub use laws::{
+    connections_run_the_service, conversations_are_determined, requests_are_unambiguous,
+    service_desks_are_deterministic,
+};
 pub use reader::RequestReader;
 pub use reply::{write_bad, write_reply};
 pub use request::{Next, Style};

@@ -1,0 +1,17 @@
+//! A text is read in one way.
+ghost use Rattle.http_wire.specs.RequestFronts.{requests};
+ghost use Rattle.http_wire.specs.ResponseFronts.{responses};
+ghost use Rattle.http_wire.specs.Unambiguous.{HeadsAreUnambiguous, BodiesAreUnambiguous};
+
+/// A text begins with at most one head of a request, and with at most one of a reply. One that may be refused begins with none, but for
+/// one of more than 66 lines.
+pub fn heads_are_unambiguous()
+    ensures requests { HeadsAreUnambiguous requests }
+    ensures responses { HeadsAreUnambiguous responses }
+{}
+
+/// Behind a head stands at most one body, of one length. Where there is a whole one, it is neither refused nor cut short, and
+/// what is refused is so for one reason.
+pub fn bodies_are_unambiguous()
+    ensures { BodiesAreUnambiguous }
+{}
