@@ -53,6 +53,7 @@ module _ {D E : Type 0} (step : Moves D) (seen : Moves E) (see : D → E)
       kept = c.served.kept;
       answered = see_answers c.exchanges old c.at c.served.answered;
       written = c.served.written;
+      handed_on = c.served.handed_on;
     };
     ended = see_end max_body (length c.exchanges) c.at new c.rest left c.mid after end c.ended;
   }

@@ -16,7 +16,7 @@ use Rattle.upload_wire.specs.RequestText.{ReadsNext}
 use Rattle.upload_wire.specs.ReplyText.{reply}
 use Rattle.http_wire.specs.States.{SourceState, SinkState}
 use Rattle.http_wire.specs.Writing.{TookAll}
-use Rattle.upload_wire.specs.Conversation.{Moves, Exchange, IsKept, messages, replies, Answers, Serves, EndsWith, ReadsFail, IsConversation}
+use Rattle.upload_wire.specs.Conversation.{Moves, Exchange, IsKept, messages, replies, Answers, HandedOn, HandedOnEach, Serves, EndsWith, ReadsFail, IsConversation}
 use Rattle.upload_wire.specs.ConversationSteps.{AnswersOne, GoesOn, Stops}
 use Rattle.http_wire.proofs.GaveLemmas.{consumes_none, consumes_both}
 use Rattle.http_wire.proofs.WritingLemmas.{appends_none, took_both}
@@ -104,6 +104,11 @@ pub answers_more : {D : Type 0} (step : Moves D) (old mid new : D) (xs : List Ex
 answers_more step old mid new [] x h k = (new, subst (λ d. step d x.ask (Some x.answer) new) (sym h) k, refl)
 answers_more step old mid new (y ∷ xs) x h k = (h.0, h.1, answers_more step h.0 mid new xs x h.2 k)
 
+pub handed_on_more : (old mid new : SinkState) (xs : List Exchange) (x : Exchange) → HandedOnEach old xs mid
+    → HandedOn mid new (reply x.answer x.style) → HandedOnEach old (xs ++ x ∷ []) new
+handed_on_more old mid new [] x h k = (new, subst (λ s. HandedOn s new (reply x.answer x.style)) (sym h) k, refl)
+handed_on_more old mid new (y ∷ xs) x h k = (h.0, h.1, handed_on_more h.0 mid new xs x h.2 k)
+
 pub kept_more : (max : ℕ) (xs : List Exchange) (x : Exchange) → AllByRecursion (IsKept max) xs → IsKept max x
     → AllByRecursion (IsKept max) (xs ++ x ∷ [])
 kept_more max [] x h k = (k, tt)
@@ -134,7 +139,7 @@ starts step max first desk held before empty = record {
   unfailed = refl;
   exchanges = [];
   counted = refl;
-  served = record { few = lit< tt; read = sym empty; kept = tt; answered = refl; written = took_none before };
+  served = record { few = lit< tt; read = sym empty; kept = tt; answered = refl; written = took_none before; handed_on = refl };
 }
 
 pub goes_on : {D : Type 0} (step : Moves D) (max count : ℕ) (first mid left : SourceState) (old at new : D) (held rest : List ℕ)
@@ -156,7 +161,8 @@ goes_on step max count first mid left old at new held rest before between after 
         kept = kept_more max s.exchanges n.exchange s.served.kept n.kept;
         answered = answers_more step old at new s.exchanges n.exchange s.served.answered n.answered;
         written = subst (TookAll before after) (sym (replies_more s.exchanges n.exchange))
-            (took_both before between after (replies s.exchanges) (reply n.exchange.answer n.exchange.style) s.served.written n.written);
+            (took_both before between after (replies s.exchanges) (reply n.exchange.answer n.exchange.style) s.served.written n.written.took);
+        handed_on = handed_on_more before between after s.exchanges n.exchange s.served.handed_on n.written;
       };
     }
 
@@ -180,6 +186,7 @@ ends step max count first mid left old at new held before between after end s n 
     kept = s.served.kept;
     answered = s.served.answered;
     written = s.served.written;
+    handed_on = s.served.handed_on;
   };
   ended = subst (λ k. EndsWith step max k at new (held ++ n.given) left between after end) (sym s.counted) n.ended;
 }
@@ -195,6 +202,6 @@ ends_at_once step max first desk before = record {
   rest = [];
   at = desk;
   mid = before;
-  served = record { few = lit< tt; read = refl; kept = tt; answered = refl; written = took_none before };
-  ended = (tt, record { unasked = refl; unwritten = took_none before });
+  served = record { few = lit< tt; read = refl; kept = tt; answered = refl; written = took_none before; handed_on = refl };
+  ended = (tt, record { unasked = refl; unwritten = refl });
 }

@@ -25,6 +25,7 @@ use Rattle.upload_wire.specs.ConnectionRuns.{answered_last}
 use Rattle.upload_wire.specs.Unambiguous.{RequestParse, request, bad, cut, nothing, ParsesAs}
 use Rattle.upload_wire.specs.Determined.{Dialogue, all_answered, asked, IsUndecided, IsDecided, IsDeterministic, HasMemory, AskTheSame, AreTheSame, ConversationsAreDetermined}
 use Rattle.http_wire.proofs.WritingLemmas.{took_both}
+use Rattle.upload_wire.proofs.ConversationLemmas.{took_none}
 use Rattle.upload_wire.proofs.UnambiguousRequests.{requests_are_unambiguous}
 
 -- ---- requests in a row
@@ -145,15 +146,19 @@ record Ends {D : Type 0} (step : Moves D) (max count : ℕ) (rest : List ℕ) (a
   took : TookAll mid after text
 
 module _ {D : Type 0} (step : Moves D) (max count : ℕ) (at new : D) (rest : List ℕ) (left : SourceState) (mid after : SinkState) where
+  -- a sink that stands as it stood took nothing
+  unwritten : after ≡ mid → TookAll mid after []
+  unwritten same = subst (λ s. TookAll mid s []) (sym same) (took_none mid)
+
   ends_wire : (fault : WireFault) → EndsWith step max count at new rest left mid after (Fault (Conn.Wire fault)) → ¬ (IsUndecided max rest (Fault (Conn.Wire fault)))
       → Ends step max count rest at new mid after (Fault (Conn.Wire fault)) []
   ends_wire Wire.Truncated e decided =
-      record { parse = cut; parses = e.0.0; no_bad_head = λ s. absurd (cc); text = []; last = (refl, e.1.unasked, refl); took = e.1.unwritten }
+      record { parse = cut; parses = e.0.0; no_bad_head = λ s. absurd (cc); text = []; last = (refl, e.1.unasked, refl); took = unwritten e.1.unwritten }
   ends_wire Wire.Read e decided = elim e.0 [
     | inl none ↦
-        record { parse = nothing; parses = none; no_bad_head = λ s. absurd (cc); text = []; last = (refl, e.1.unasked, refl); took = e.1.unwritten }
+        record { parse = nothing; parses = none; no_bad_head = λ s. absurd (cc); text = []; last = (refl, e.1.unasked, refl); took = unwritten e.1.unwritten }
     | inr short ↦
-        record { parse = cut; parses = short; no_bad_head = λ s. absurd (cc); text = []; last = (refl, e.1.unasked, refl); took = e.1.unwritten }
+        record { parse = cut; parses = short; no_bad_head = λ s. absurd (cc); text = []; last = (refl, e.1.unasked, refl); took = unwritten e.1.unwritten }
   ]
   ends_wire Wire.NoMemory e decided = absurd (decided tt)
   ends_wire Wire.Ended e decided = absurd e.0
@@ -172,24 +177,24 @@ module _ {D : Type 0} (step : Moves D) (max count : ℕ) (at new : D) (rest : Li
   ends : (end : ConnEnd) (e : EndsWith step max count at new rest left mid after end) → ¬ (IsUndecided max rest end)
       → Ends step max count rest at new mid after end (answered_last step max count at new rest left mid after end e)
   ends Clean e decided =
-      record { parse = nothing; parses = e.0; no_bad_head = λ s. absurd (cc); text = []; last = (refl, e.2.unasked, refl); took = e.2.unwritten }
-  ends AfterClose e decided = ends_answered AfterClose e.0 e.1 e.3
+      record { parse = nothing; parses = e.0; no_bad_head = λ s. absurd (cc); text = []; last = (refl, e.2.unasked, refl); took = unwritten e.2.unwritten }
+  ends AfterClose e decided = ends_answered AfterClose e.0 e.1 e.3.took
   ends AfterBad e decided = record {
     parse = bad e.0;
     parses = e.1.bad;
     no_bad_head = λ s. decided (subst (IsBad max rest) (why_same e.0 Head s) e.1.bad);
     text = bad_reply e.0;
     last = (refl, e.1.unasked, refl);
-    took = e.2;
+    took = e.2.took;
   }
-  ends TooMany e decided = ends_answered TooMany e.0 e.1 e.4
+  ends TooMany e decided = ends_answered TooMany e.0 e.1 e.4.took
   ends DeskGone e decided = record {
     parse = request e.0.ask e.0.style e.0.more;
     parses = record { message = e.0.message; cut = e.0.read; request = e.0.request };
     no_bad_head = no_head e.0.ask e.0.style e.0.more;
     text = [];
     last = inr (refl, e.0.gone, refl, refl);
-    took = e.1;
+    took = unwritten e.1;
   }
   ends (Fault (Conn.Wire fault)) e decided = ends_wire fault e decided
   ends (Fault Conn.Write) e decided = absurd (decided tt)

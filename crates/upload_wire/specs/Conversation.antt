@@ -1,6 +1,6 @@
 -- A connection as a conversation (RFC 9112, section 9.3): requests that were read one after another, each answered by
 -- the desk and replied to, and an end.
-use Rattle.std.specs.Prelude.{◌≡◌, ℕ, ◌+◌, ◌<◌, ◌⊎◌, ◌==◌, ◌&&◌, not, true, false, List, [], ◌∷◌, ◌++◌, length, flat_map, Option, Some, None, ⊤}
+use Rattle.std.specs.Prelude.{◌≡◌, ℕ, ◌+◌, ◌<◌, ◌⊎◌, ◌==◌, ◌&&◌, not, true, false, List, [], ◌∷◌, ◌++◌, length, flat_map, IsTrue, Option, Some, None, ⊤}
 use Rattle.std.specs.List.{AllByRecursion}
 use Rattle.std.specs.Io.KnownBytes.{Consumes, IsAtEnd}
 use Rattle.upload_service.specs.declared.ask.Ask.{Ask}
@@ -55,14 +55,25 @@ abbrev pub Answers : {D : Type 0} → Moves D → D → List Exchange → D → 
 Answers step old [] new = old ≡ new
 Answers {D} step old (x ∷ xs) new = (mid : D) × step old x.ask (Some x.answer) mid × Answers step mid xs new
 
+-- the sink took the whole text, no call failed, and all that was written was handed on
+pub record HandedOn (old new : SinkState) (text : List ℕ) : Type 0 where
+  pub took : TookAll old new text
+  pub flushed : IsTrue new.flushed
+
+-- each reply was written whole and handed on before the next was begun
+abbrev pub HandedOnEach : SinkState → List Exchange → SinkState → Type 0
+HandedOnEach before [] mid = before ≡ mid
+HandedOnEach before (x ∷ xs) mid = (next : SinkState) × HandedOn before next (reply x.answer x.style) × HandedOnEach next xs mid
+
 -- The bytes are these requests and then rest; each request wanted the connection to go on, was answered by the desk, and
--- its reply was written whole.
+-- its reply was written whole and handed on.
 pub record Serves {D : Type 0} (step : Moves D) (max_body : ℕ) (old at : D) (bytes rest : List ℕ) (before mid : SinkState) (xs : List Exchange) : Type 0 where
   pub few : length xs < max_requests
   pub read : bytes ≡ messages xs ++ rest
   pub kept : AllByRecursion (IsKept max_body) xs
   pub answered : Answers step old xs at
   pub written : TookAll before mid (replies xs)
+  pub handed_on : HandedOnEach before xs mid
 
 -- ---- ends
 
@@ -95,10 +106,10 @@ pub record Refuses {D : Type 0} (max_body : ℕ) (at new : D) (rest : List ℕ) 
   pub bad : IsBad max_body rest why
   pub unasked : new ≡ at
 
--- the desk wasn't asked, and nothing was written
+-- the desk wasn't asked, and the sink stands as it stood
 pub record IsQuiet {D : Type 0} (at new : D) (mid after : SinkState) : Type 0 where
   pub unasked : new ≡ at
-  pub unwritten : TookAll mid after []
+  pub unwritten : after ≡ mid
 
 -- why the reader gave no request: what the bytes say of it, and what the source does
 abbrev pub WireStops : ℕ → List ℕ → SourceState → WireFault → Type 0
@@ -112,12 +123,12 @@ WireStops max_body rest left Wire.Ended = ⊥
 abbrev pub EndsWith : {D : Type 0} → Moves D → ℕ → ℕ → D → D → List ℕ → SourceState → SinkState → SinkState → ConnEnd → Type 0
 EndsWith step max_body count at new rest left mid after Clean = (rest ≡ []) × IsAtEnd left.remaining × IsQuiet at new mid after
 EndsWith step max_body count at new rest left mid after AfterClose =
-    (x : Exchange) × AnswersNext step max_body at new rest x × (x.style.keep ≡ false) × TookAll mid after (last_reply count x)
+    (x : Exchange) × AnswersNext step max_body at new rest x × (x.style.keep ≡ false) × HandedOn mid after (last_reply count x)
 EndsWith step max_body count at new rest left mid after AfterBad =
-    (why : Bad) × Refuses max_body at new rest why × TookAll mid after (bad why)
+    (why : Bad) × Refuses max_body at new rest why × HandedOn mid after (bad why)
 EndsWith step max_body count at new rest left mid after TooMany =
-    (x : Exchange) × AnswersNext step max_body at new rest x × (x.style.keep ≡ true) × (count + 1 ≡ max_requests) × TookAll mid after (last_reply count x)
-EndsWith step max_body count at new rest left mid after DeskGone = FindsNoDesk step max_body at new rest × TookAll mid after []
+    (x : Exchange) × AnswersNext step max_body at new rest x × (x.style.keep ≡ true) × (count + 1 ≡ max_requests) × HandedOn mid after (last_reply count x)
+EndsWith step max_body count at new rest left mid after DeskGone = FindsNoDesk step max_body at new rest × (after ≡ mid)
 EndsWith step max_body count at new rest left mid after (Fault (Conn.Wire fault)) = WireStops max_body rest left fault × IsQuiet at new mid after
 EndsWith step max_body count at new rest left mid after (Fault Conn.Write) =
     ((x : Exchange) × AnswersNext step max_body at new rest x × TookFront mid after (last_reply count x))

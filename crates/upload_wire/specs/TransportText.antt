@@ -1,5 +1,5 @@
 -- One ask over a wire: a request is written, and one reply is heard.
-use Rattle.std.specs.Prelude.{◌≡◌, ℕ, Bool, true, false, not, ◌&&◌, ◌==◌, nat_lt, nat_le, List, length, Option, Some, None, Result, Ok, Err, is_err, ⊤, if◌then◌else◌}
+use Rattle.std.specs.Prelude.{◌≡◌, ℕ, Bool, true, false, not, ◌&&◌, ◌==◌, nat_lt, nat_le, List, length, IsTrue, OnOk, Option, Some, None, Result, Ok, Err, is_err, ⊤, if◌then◌else◌}
 use Rattle.std.specs.Result.{result_ok}
 use Rattle.upload_service.specs.declared.ask.Ask.{Ask}
 use Rattle.http_wire.specs.States.{SinkState}
@@ -58,10 +58,11 @@ HearsBehind (Err fault) true head_only old heard new broken =
     (reply : Result Heard HeardFault) × ReadsReply head_only old reply new × (heard ≡ refusal_in reply) × (broken ≡ true)
 HearsBehind (Err fault) false head_only old heard new broken = (heard ≡ None) × (new ≡ old) × (broken ≡ true)
 
--- the request was written, or a front of it where a write failed, and this was heard behind it
+-- the request was written and handed on, or a front of it was written where a write failed, and this was heard behind it
 pub record Exchanges (old : WireState) (ask : Ask) (heard : Option Heard) (new : WireState) : Type 0 where
   pub written : Result ⊤ WriteFault
   pub wrote : Wrote old.writer new.writer (ask_text ask old.host) written
+  pub flushed : OnOk written (IsTrue new.writer.flushed)
   pub hears : HearsBehind written (has_body ask) (wants_head ask) old.reader heard new.reader new.broken
   pub same_host : new.host ≡ old.host
 

@@ -1,6 +1,7 @@
 //! Connections over memory, against bytes written by hand.
 ghost use Rattle.std.specs.Prelude.{◌<◌};
 
+mod buffered;
 mod disturbed;
 mod growths;
 mod hashed;
