@@ -3,19 +3,22 @@
 
     pushes.py PROGRAM
 
-It tries what a push prints and what it leaves; servers that start again, that can't serve, or whose replies are odd; a close whose reply is lost; more chunks
+It tries what a push prints, on a terminal too, and what it leaves; servers that start again, that can't serve, or whose replies are odd; a close whose reply is lost; more chunks
 than one connection takes; pushes at once.
 
 Prints a line for each check that fails, and 'N passed, M failed' as the last.
 """
 import concurrent.futures
+import contextlib
 import os
 import random
+import re
 import socket
+import subprocess
 import threading
 import time
 
-from harness import suite
+from harness import running, suite
 from harness.running import Server, pull, run, sha256
 from harness.suite import check
 
@@ -72,6 +75,42 @@ def pushes_and_their_lines(folder):
         check("a missing file goes before the name", push(server.addr, "A", missing, 2) == no_file)
         a_folder = ("fault: file\n", 3, f"blobd: can't push {folder}: Is a directory (os error 21)\n")
         check("a folder in place of a file", push(server.addr, "lib/a", folder, 2) == a_folder)
+
+
+def on_a_terminal(*words):
+    """Standard output and the exit status of a run whose standard error is a terminal, and what was drawn there."""
+    terminal, inner = os.openpty()
+    drawn = []
+    with subprocess.Popen([running.PROGRAM, *words], stdout=subprocess.PIPE, stderr=inner, text=True) as ran:
+        os.close(inner)
+        # a terminal that nobody has open any more ends with an error
+        with contextlib.suppress(OSError):
+            while part := os.read(terminal, 65536):
+                drawn.append(part)
+        told = ran.stdout.read(), ran.wait(timeout=60)
+    os.close(terminal)
+    return told, b"".join(drawn).decode()
+
+
+def a_bar_on_a_terminal(folder):
+    """Standard error that is a terminal gets a bar, which is gone at the end; standard output is what it is without one."""
+    content = random.Random(11).randbytes(64 * MIB)
+    path = written(folder, content)
+    with Server(100) as server:
+        told, drawn = on_a_terminal("push", server.addr, "lib/a", path, str(MIB))
+        check("what a push prints beside its bar", told == pushed(content)[:2], told)
+        begun, *lines = drawn.split("\r")
+        check("each line is drawn from its start, and clears what is behind it", not begun and all(l.endswith("\x1b[K") for l in lines), drawn)
+        lines = [line.removesuffix("\x1b[K") for line in lines]
+        check("the last line is cleared", lines[-1] == "", lines)
+        count = r"[0-9]+(\.[0-9] [KMG]i| )B"
+        line = re.compile(rf"(hashing|sending)  {count} of 64\.0 MiB(  {count}/s  [0-9]+ s left)?")
+        check("each line says how far it is", all(line.fullmatch(drawn) for drawn in lines[:-1]), lines)
+        words = [line.split(" ")[0] for line in lines[:-1]]
+        check("it hashes and then sends", "hashing" in words and "sending" in words and words == sorted(words), words)
+        check("each line has room", max(map(len, lines)) < 80, lines)
+        told, drawn = on_a_terminal("push", server.addr, "A", path, str(MIB))
+        check("a name that isn't one has no bar", (told, drawn) == (("refused: name\n", 1), ""), (told, drawn))
 
 
 def servers_that_come_again(folder):
@@ -247,6 +286,7 @@ def pushes_over_cut_connections(folder):
 def load_tests(*_):
     return suite.cases(
         pushes_and_their_lines,
+        a_bar_on_a_terminal,
         servers_that_come_again,
         strange_servers,
         a_lost_reply_to_the_close,

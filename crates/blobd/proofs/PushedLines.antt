@@ -1,113 +1,104 @@
--- The line that a push prints: its digest is that of the file.
-use Rattle.std.proofs.Common.{◌≡◌, ℕ, ◌<◌, List, [], ◌∷◌, ◌++◌, length, Option, Some, None, ◌⊎◌, inl, inr, refl, sym, ap, subst, arith, ◌∙◌}
-use Rattle.std.specs.Prelude.{Result, Ok, Err, codes, unwrap_or}
+-- The line that a push prints.
+use Rattle.std.proofs.Common.{◌≡◌, ℕ, ◌<◌, List, [], ◌∷◌, length, Option, Some, None, inl, inr, refl, sym, ap, subst, arith, ◌∙◌}
+use Rattle.std.specs.Prelude.{Result, Ok, Err, codes}
+use Rattle.std.specs.Io.KnownBytes.{Appends}
+use Rattle.std.specs.Net.Text.{socket_text}
+use Rattle.std.specs.declared.net.socket_addr.SocketAddr.{SocketAddr}
 use Rattle.upload_names.specs.Name.{IsName, IsInGrammar, longest_name}
-use Rattle.upload_names.specs.Digest.{Digest, content_digest, digest_text}
+use Rattle.upload_names.specs.Digest.{Digest, content_digest}
 use Rattle.upload_names.specs.declared.digest.Algorithm.TheVariants.{Sha256}
 use Rattle.upload_service.specs.declared.ask.Ask.{Ask}
 use Rattle.upload_wire.specs.declared.client.heard.Heard.{Heard}
-use Rattle.upload_push.specs.Steps.{ask_at}
-use Rattle.upload_push.specs.Slices.{Push, Exchange, IsPush, IsEnd, Leads, push_of, plan_of, request, logged, log_of, after_all}
-use Rattle.upload_push.specs.declared.pusher.PushAsk.{PushAsk}
-use Rattle.upload_push.specs.declared.pusher.PushAsk.TheVariants as asks
+use Rattle.upload_wire.specs.TransportText.{WireState}
+use Rattle.upload_push.specs.Slices.{Push, Exchange, IsPush, IsEnd, Leads, log_of, push_of, push_under}
 use Rattle.upload_push.specs.declared.pusher.Outcome.{Outcome}
-use Rattle.upload_push.specs.declared.pusher.Why.{Why}
 use Rattle.upload_push.specs.declared.pushing.PushFault.{PushFault}
 use Rattle.upload_push.specs.declared.pushing.PushFault.TheVariants as faults
+use Rattle.upload_push.specs.declared.pusher.Phase.{Phase}
 use Rattle.upload_push.specs.declared.pusher.Phase.TheVariants.{Done, GaveUp}
-use Rattle.blobd.specs.Status.{IsPrinted}
-use Rattle.blobd.specs.Pushed.{IsPushed, IsTold, digest_after, outcome_word, why_text}
+use Rattle.blobd.specs.Status.{IsPrinted, line}
+use Rattle.blobd.specs.Dialed.{AsksDialed}
+use Rattle.blobd.specs.Pushed.{IsPushed, IsSent, IsEndLine, IsTold}
 
--- no digest, or this one
-abbrev pub IsNoneOr : Digest → Option Digest → Type 0
-IsNoneOr digest found = (found ≡ None) ⊎ (found ≡ Some digest)
+-- what an ask says of the host and of the connection that is kept
+abbrev pub KeepsDialing : {S : Type 0} → (S → Ask → Option Heard → S → Type 0) → (S → List ℕ) → (S → Option WireState) → Type 0
+KeepsDialing {S} asked host wire = (s : S) (ask : Ask) (heard : Option Heard) (t : S) → asked s ask heard t
+    → AsksDialed (host s) (wire s) ask heard (wire t) × (host t ≡ host s)
 
--- what an ask says of the digest that was asked for last
-abbrev pub Keeps : {S : Type 0} → (S → Ask → Option Heard → S → Type 0) → (S → Option Digest) → Type 0
-Keeps {S} asked digest = (s : S) (ask : Ask) (heard : Option Heard) (t : S) → asked s ask heard t → digest t ≡ digest_after ask (digest s)
+-- over a whole push the asks went over its connections
+dialed : {S : Type 0} (asked : S → Ask → Option Heard → S → Type 0) (host : S → List ℕ) (wire : S → Option WireState) → KeepsDialing asked host wire
+    → (at : List ℕ) (old : S) → host old ≡ at → (log : List Exchange) (new : S) → Leads asked old log new
+    → Leads (AsksDialed at) (wire old) log (wire new) × (host new ≡ at)
+dialed asked host wire keeps at old same [] new leads = (ap wire leads, ap host leads ∙ same)
+dialed asked host wire keeps at old same (e ∷ log) new leads =
+    let earlier = dialed asked host wire keeps at old same log leads.0 leads.1 in
+    let step = keeps leads.0 e.ask e.heard new leads.2 in
+    ((wire leads.0, earlier.0, subst (λ h. AsksDialed h (wire leads.0) e.ask e.heard (wire new)) earlier.1 step.0), step.1 ∙ earlier.1)
 
-after_request : (p : Push) (ask : PushAsk) (found : Option Digest) → IsNoneOr p.digest found → IsNoneOr p.digest (digest_after (request p ask) found)
-after_request p asks.Opening found h = h
-after_request p (asks.Chunk at range) found h = h
-after_request p (asks.Status at) found h = h
-after_request p (asks.Close at) found h = inr refl
-after_request p asks.Head found h = inr refl
+pub sent : {S : Type 0} {asked : S → Ask → Option Heard → S → Type 0} (host : S → List ℕ) (wire : S → Option WireState) → KeepsDialing asked host wire
+    → {p : Push} {old new : S} {end : Result Outcome PushFault} {at : List ℕ} → IsPush asked p old new end → host old ≡ at → wire old ≡ None
+    → IsSent at p end
+sent {asked = asked} host wire keeps {p} {old} {new} {end} {at} push same none = (
+  wire new,
+  record {
+    heard = push.heard;
+    leads = subst (λ w. Leads (AsksDialed at) w (log_of p push.heard) (wire new)) none
+        (dialed asked host wire keeps at old same (log_of p push.heard) new push.leads).0;
+    ends = push.ends;
+  },
+)
 
-after_logged : {S : Type 0} (asked : S → Ask → Option Heard → S → Type 0) (digest : S → Option Digest) → Keeps asked digest
-    → (p : Push) (old : S) (log : List Exchange) → ((t : S) → Leads asked old log t → IsNoneOr p.digest (digest t))
-    → (ask : Option PushAsk) (heard : Option Heard) (new : S) → Leads asked old (logged p ask heard log) new → IsNoneOr p.digest (digest new)
-after_logged asked digest keeps p old log earlier None heard new leads = earlier new leads
-after_logged asked digest keeps p old log earlier (Some ask) heard new leads =
-    subst (IsNoneOr p.digest) (sym (keeps leads.0 (request p ask) heard new leads.2))
-    (after_request p ask (digest leads.0) (earlier leads.0 leads.1))
+-- the same push, of a name that is equal, of the file's digest, and to an equal host
+same_push : (at host own name file : List ℕ) (chunk : ℕ) (digest : Digest) (end : Result Outcome PushFault)
+    → at ≡ host → own ≡ name → digest ≡ content_digest Sha256 file → IsSent at (push_under digest own file chunk 5) end
+    → IsSent host (push_of Sha256 name file chunk 5) end
+same_push at host own name file chunk digest end same_host same its_digest h =
+    subst (λ t. IsSent t (push_of Sha256 name file chunk 5) end) same_host
+    (subst (λ n. IsSent at (push_of Sha256 n file chunk 5) end) same (subst (λ d. IsSent at (push_under d own file chunk 5) end) its_digest h))
 
--- over a whole push no other digest than its own is asked for
-own_digest : {S : Type 0} (asked : S → Ask → Option Heard → S → Type 0) (digest : S → Option Digest) → Keeps asked digest
-    → (p : Push) (old : S) → digest old ≡ None
-    → (heard : List (Option Heard)) (new : S) → Leads asked old (log_of p heard) new → IsNoneOr p.digest (digest new)
-own_digest asked digest keeps p old none [] new leads = inl (ap digest leads ∙ none)
-own_digest asked digest keeps p old none (h ∷ heard) new leads =
-    after_logged asked digest keeps p old (log_of p heard) (own_digest asked digest keeps p old none heard)
-    (ask_at (plan_of p) (after_all p heard).phase) h new leads
-
-found_or_own : (own : Digest) (found : Option Digest) → IsNoneOr own found → unwrap_or found own ≡ own
-found_or_own own found (inl none) = ap (λ o. unwrap_or o own) none
-found_or_own own found (inr same) = ap (λ o. unwrap_or o own) same
-
--- a push that ended well
-pub done : {S : Type 0} {asked : S → Ask → Option Heard → S → Type 0} (digest : S → Option Digest) → Keeps asked digest
-    → {own name file : List ℕ} {chunk : ℕ} {old new : S} {end : Result Outcome PushFault} {outcome : Outcome}
-    → IsPush asked (push_of Sha256 own file chunk 5) old new end → end ≡ Ok outcome → own ≡ name → IsName name → digest old ≡ None
-    → (word : List ℕ) (told : Digest) (before after : Option (List ℕ)) (result : ℕ)
-    → word ≡ outcome_word outcome → told ≡ unwrap_or (digest new) (content_digest Sha256 file)
-    → IsPrinted (Some (word ++ (codes " " ++ digest_text told))) before after 0 result
-    → IsPushed name file chunk before after result
-done digest keeps push is same named none word told before after result its_word its_digest (inr fault) = inr fault
-done {asked = asked} digest keeps {own} {name} {file} {chunk} {old} {new} {end} {outcome} push is same named none word told before after result its_word its_digest (inl (zero, printed)) =
-    let sum = content_digest Sha256 file in
-    let found : told ≡ sum =
-    its_digest ∙ found_or_own sum (digest new) (own_digest asked digest keeps (push_of Sha256 own file chunk 5) old none push.heard new push.leads) in
-    let text = word ++ (codes " " ++ digest_text told) in
-    let spelled : text ≡ outcome_word outcome ++ (codes " " ++ digest_text sum) =
-    ap (λ w. w ++ (codes " " ++ digest_text told)) its_word ∙ ap (λ d. outcome_word outcome ++ (codes " " ++ digest_text d)) found in
-    let phase = (after_all (push_of Sha256 own file chunk 5) push.heard).phase in
-    let ended : phase ≡ Done outcome = subst (λ e. IsEnd phase e) is push.ends in
-    subst (λ n. IsPushed n file chunk before after result) same (inl (inr (
-      subst IsName (sym same) named,
+-- the line of the end of a push
+lined : (addr : SocketAddr) (name file : List ℕ) (chunk : ℕ) (end : Result Outcome PushFault) (phase : Phase) (text : List ℕ) (before after : Option (List ℕ)) (result : ℕ)
+    → IsSent (socket_text addr) (push_of Sha256 name file chunk 5) end → ((p : Phase) → IsEnd p end → p ≡ phase) → IsName name
+    → IsTold (content_digest Sha256 file) phase result text → Appends before after (line text)
+    → IsPushed addr name file chunk before after result
+lined addr name file chunk end phase text before after result (last, push) at named told printed =
+    inl (inr (
+      named,
       record {
         heard = push.heard;
+        last = last;
+        over = push.leads;
         text = text;
-        told = subst (λ p. IsTold sum p result text) (sym ended) (zero, spelled);
+        told = subst (λ p. IsTold (content_digest Sha256 file) p result text) (sym (at _ push.ends)) told;
         printed = printed;
       },
-    )))
+    ))
 
--- a push that was given up
-pub gave_up : {S : Type 0} {asked : S → Ask → Option Heard → S → Type 0}
-    → {own name file : List ℕ} {chunk : ℕ} {old new : S} {end : Result Outcome PushFault} {why : Why}
-    → IsPush asked (push_of Sha256 own file chunk 5) old new end → end ≡ Err (faults.GaveUp why) → own ≡ name → IsName name
-    → (before after : Option (List ℕ)) (result : ℕ) → IsPrinted (Some (why_text why)) before after 1 result
-    → IsPushed name file chunk before after result
-gave_up push is same named before after result (inr fault) = inr fault
-gave_up {own = own} {name} {file} {chunk} {old} {new} {end} {why} push is same named before after result (inl (one, printed)) =
-    let phase = (after_all (push_of Sha256 own file chunk 5) push.heard).phase in
-    let ended : phase ≡ GaveUp why = subst (λ e. IsEnd phase e) is push.ends in
-    subst (λ n. IsPushed n file chunk before after result) same (inl (inr (
-      subst IsName (sym same) named,
-      record {
-        heard = push.heard;
-        text = why_text why;
-        told = subst (λ p. IsTold (content_digest Sha256 file) p result (why_text why)) (sym ended) (one, refl);
-        printed = printed;
-      },
-    )))
+by_end : (addr : SocketAddr) (name file : List ℕ) (chunk : ℕ) (end : Result Outcome PushFault) (before after : Option (List ℕ)) (result : ℕ)
+    → IsSent (socket_text addr) (push_of Sha256 name file chunk 5) end → IsName name → IsEndLine (content_digest Sha256 file) end before after result
+    → IsPushed addr name file chunk before after result
+by_end addr name file chunk (Ok outcome) before after result push named (inr fault) = inr fault
+by_end addr name file chunk (Ok outcome) before after result push named (inl (zero, printed)) =
+    lined addr name file chunk (Ok outcome) (Done outcome) _ before after result push (λ p ends. ends) named (zero, refl) printed
+by_end addr name file chunk (Err (faults.GaveUp why)) before after result push named (inr fault) = inr fault
+by_end addr name file chunk (Err (faults.GaveUp why)) before after result push named (inl (one, printed)) =
+    lined addr name file chunk (Err (faults.GaveUp why)) (GaveUp why) _ before after result push (λ p ends. ends) named (one, refl) printed
+by_end addr name file chunk (Err faults.NoMemory) before after result push named fault = inr fault
+
+-- a push that was sent, and the line of its end
+pub pushed : {addr : SocketAddr} {at own name file : List ℕ} {chunk : ℕ} {digest : Digest} {end : Result Outcome PushFault}
+    → IsSent at (push_under digest own file chunk 5) end → at ≡ socket_text addr → own ≡ name → IsName name → digest ≡ content_digest Sha256 file
+    → (before after : Option (List ℕ)) (result : ℕ) → IsEndLine digest end before after result → IsPushed addr name file chunk before after result
+pushed {addr} {at} {own} {name} {file} {chunk} {digest} {end} push same_host same named its_digest before after result told =
+    by_end addr name file chunk end before after result (same_push at (socket_text addr) own name file chunk digest end same_host same its_digest push) named
+    (subst (λ d. IsEndLine d end before after result) its_digest told)
 
 -- a name that isn't one
-pub no_name : (name file : List ℕ) (chunk : ℕ) (before after : Option (List ℕ)) (result : ℕ)
+pub no_name : (addr : SocketAddr) (name file : List ℕ) (chunk : ℕ) (before after : Option (List ℕ)) (result : ℕ)
     → ¬ (IsName name) → IsPrinted (Some (codes "refused: name")) before after 1 result
-    → IsPushed name file chunk before after result
-no_name name file chunk before after result unnamed (inr fault) = inr fault
-no_name name file chunk before after result unnamed (inl (one, printed)) = inl (inl (unnamed, one, printed))
+    → IsPushed addr name file chunk before after result
+no_name addr name file chunk before after result unnamed (inr fault) = inr fault
+no_name addr name file chunk before after result unnamed (inl (one, printed)) = inl (inl (unnamed, one, printed))
 
 -- a text that isn't of the grammar is no name, nor is one that is too long
 pub outside : (text : List ℕ) → ¬ (IsInGrammar text) → ¬ (IsName text)

@@ -1,3 +1,4 @@
+pub mod Dialed
 pub mod Halves
 pub mod Once
 pub mod Pushed

@@ -1,28 +1,26 @@
 -- What a push prints, and the exit status that goes with it.
-use Rattle.std.specs.Prelude.{◌≡◌, ℕ, nat_lt, Bool, ◌&&◌, ◌⊎◌, List, ◌++◌, length, codes, decimal, Option, Some, None, if◌then◌else◌}
+use Rattle.std.specs.Prelude.{◌≡◌, ℕ, nat_lt, Bool, ◌&&◌, ◌⊎◌, List, ◌++◌, length, codes, decimal, Result, Ok, Err, Option, Some, None, if◌then◌else◌}
 use Rattle.std.specs.List.{list_all}
 use Rattle.std.specs.Char.{is_ascii_graphic}
 use Rattle.std.specs.Io.KnownBytes.{Appends}
+use Rattle.std.specs.Net.Text.{socket_text}
+use Rattle.std.specs.declared.net.socket_addr.SocketAddr.{SocketAddr}
 use Rattle.upload_names.specs.Name.{IsName}
 use Rattle.upload_names.specs.Digest.{Digest, content_digest, digest_text}
 use Rattle.upload_names.specs.declared.digest.Algorithm.TheVariants.{Sha256}
-use Rattle.upload_service.specs.declared.ask.Ask.{Ask}
-use Rattle.upload_service.specs.declared.ask.Ask.TheVariants.{Has, Close}
 use Rattle.upload_wire.specs.declared.client.heard.Heard.{Heard}
-use Rattle.upload_push.specs.Slices.{push_of, after_all}
+use Rattle.upload_wire.specs.TransportText.{WireState}
+use Rattle.upload_push.specs.Slices.{Push, IsPush, Leads, push_of, log_of, after_all}
 use Rattle.upload_push.specs.declared.pusher.Outcome.{Outcome}
 use Rattle.upload_push.specs.declared.pusher.Outcome.TheVariants.{Pushed, Already}
 use Rattle.upload_push.specs.declared.pusher.Why.{Why}
 use Rattle.upload_push.specs.declared.pusher.Why.TheVariants.{Refused, BadServer, OutOfTries}
+use Rattle.upload_push.specs.declared.pushing.PushFault.{PushFault}
+use Rattle.upload_push.specs.declared.pushing.PushFault.TheVariants as faults
 use Rattle.upload_push.specs.declared.pusher.Phase.{Phase}
 use Rattle.upload_push.specs.declared.pusher.Phase.TheVariants.{Done, GaveUp}
-use Rattle.blobd.specs.Status.{line}
-
--- the digest that was asked for last, after one more ask
-abbrev pub digest_after : Ask → Option Digest → Option Digest
-digest_after (Close name at range digest body) before = digest
-digest_after (Has name digest head) before = Some digest
-digest_after other before = before
+use Rattle.blobd.specs.Status.{IsPrinted, line}
+use Rattle.blobd.specs.Dialed.{AsksDialed}
 
 -- one or more bytes, all of them visible ASCII
 abbrev pub is_word : List ℕ → Bool
@@ -50,10 +48,22 @@ IsTold digest (Done outcome) status text = (status ≡ 0) × (text ≡ outcome_w
 IsTold digest (GaveUp why) status text = (status ≡ 1) × (text ≡ why_text why)
 IsTold digest other status text = ⊥
 
--- There is something that a push of this file under this name, with 5 tries, could hear; the line of that push's end was printed and
--- nothing else.
-pub record IsPushLine (name file : List ℕ) (chunk : ℕ) (before after : Option (List ℕ)) (status : ℕ) : Type 0 where
+-- The line of this end of a push was printed and nothing else, with its status; or the status is that of a fault.
+abbrev pub IsEndLine : Digest → Result Outcome PushFault → Option (List ℕ) → Option (List ℕ) → ℕ → Type 0
+IsEndLine digest (Ok outcome) before after status = IsPrinted (Some (outcome_word outcome ++ (codes " " ++ digest_text digest))) before after 0 status
+IsEndLine digest (Err (faults.GaveUp why)) before after status = IsPrinted (Some (why_text why)) before after 1 status
+IsEndLine digest (Err faults.NoMemory) before after status = status ≡ 3
+
+-- The push was sent to this host, and ended so: there is all that was heard, each over the connection that was kept or over a new one.
+abbrev pub IsSent : List ℕ → Push → Result Outcome PushFault → Type 0
+IsSent host p end = (last : Option WireState) × IsPush (AsksDialed host) p None last end
+
+-- There is all that a push of this file under this name to this address heard, with 5 tries: its asks in turn went over the connection
+-- that was kept or over a new one, and this was heard there. The line of that push's end was printed and nothing else.
+pub record IsPushLine (addr : SocketAddr) (name file : List ℕ) (chunk : ℕ) (before after : Option (List ℕ)) (status : ℕ) : Type 0 where
   pub heard : List (Option Heard)
+  pub last : Option WireState
+  pub over : Leads (AsksDialed (socket_text addr)) None (log_of (push_of Sha256 name file chunk 5) heard) last
   pub text : List ℕ
   pub told : IsTold (content_digest Sha256 file) (after_all (push_of Sha256 name file chunk 5) heard).phase status text
   pub printed : Appends before after (line text)
@@ -63,6 +73,6 @@ abbrev pub IsNameLine : List ℕ → Option (List ℕ) → Option (List ℕ) →
 IsNameLine name before after status = ¬ (IsName name) × (status ≡ 1) × Appends before after (line (codes "refused: name"))
 
 -- The name isn't one, or the line of a push's end was printed, with its status; or the status is that of a fault.
-abbrev pub IsPushed : List ℕ → List ℕ → ℕ → Option (List ℕ) → Option (List ℕ) → ℕ → Type 0
-IsPushed name file chunk before after status =
-    (IsNameLine name before after status ⊎ (IsName name × IsPushLine name file chunk before after status)) ⊎ (status ≡ 3)
+abbrev pub IsPushed : SocketAddr → List ℕ → List ℕ → ℕ → Option (List ℕ) → Option (List ℕ) → ℕ → Type 0
+IsPushed addr name file chunk before after status =
+    (IsNameLine name before after status ⊎ (IsName name × IsPushLine addr name file chunk before after status)) ⊎ (status ≡ 3)

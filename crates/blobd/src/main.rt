@@ -9,6 +9,8 @@
 ghost use Rattle.std.specs.Prelude.{◌≤◌};
 
 mod accept;
+mod bar;
+mod dialer;
 mod limits;
 mod once;
 mod push;
@@ -90,7 +92,7 @@ where
     }
 }
 
-fn push_file<R>(rt: &R, addr: SocketAddr, name: &str, path: &str, chunk: u64) -> u8
+fn push_file<R>(rt: &R, addr: SocketAddr, name: &str, path: &str, chunk: u64, seen: bool) -> u8
 where
     R: AllocGlobal + Clock + Files + Print + Eprint + Net<Stream = TcpStream>,
     requires { (1 ≤ chunk) × (chunk ≤ 2147483648) }
@@ -98,7 +100,7 @@ where
     let mut out = io::writer(rt);
     let fault = match fs::read(rt, path) {
         Ok(file) if file.len() <= LARGEST_FILE => {
-            return run_push(rt, addr, name.as_bytes(), &file, chunk, &mut out);
+            return run_push(rt, addr, name.as_bytes(), &file, chunk, seen, &mut out);
         }
         Ok(_) => io::Error::from(ErrorKind::FileTooLarge),
         Err(error) => error,
@@ -136,11 +138,11 @@ fn main(rt: HostRuntime) -> ExitCode {
     else {
         return ExitCode::from(print_no_memory(&rt));
     };
+    // Whether somebody looks on.
+    let seen = rt.stderr().is_terminal();
     ExitCode::from(match read_words(&words) {
         Some(Command::Once) => serve_input(&rt),
-        Some(Command::Serve { addr, count }) => {
-            listen(&rt, addr, count, rt.stderr().is_terminal())
-        }
+        Some(Command::Serve { addr, count }) => { listen(&rt, addr, count, seen) }
         Some(
             Command::Push {
                 addr,
@@ -148,7 +150,7 @@ fn main(rt: HostRuntime) -> ExitCode {
                 file,
                 chunk,
             },
-        ) => push_file(&rt, addr, name, file, chunk),
+        ) => push_file(&rt, addr, name, file, chunk, seen),
         None => print_usage(&rt),
     })
 }

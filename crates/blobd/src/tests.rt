@@ -19,10 +19,10 @@ type Printed = (Vec<u8>, u8);
 
 fn pushed<R>(rt: &R, addr: SocketAddr, name: &[u8]) -> Printed
 where
-    R: Net<Stream = TcpStream> + AllocGlobal + Clock,
+    R: Net<Stream = TcpStream> + AllocGlobal + Clock + Eprint,
 {
     let mut out = Vec::new(rt.alloc());
-    let status = run_push(rt, addr, name, b"abc", 2, &mut out);
+    let status = run_push(rt, addr, name, b"abc", 2, false, &mut out);
     (out, status)
 }
 

@@ -3,6 +3,7 @@ ghost use Rattle.std.specs.Prelude.{◌≡◌, ◌≢◌, MatchOption, ◌↔◌
 ghost use Rattle.std.specs.Cmp.{partial_equiv_from_equiv};
 ghost use Rattle.std.specs.List.{list_all};
 ghost use Rattle.hex.specs.Hex.{encode_lower};
+ghost use Rattle.sha2.specs.Hashers.{Holds256};
 ghost use Rattle.upload_names.specs.Digest.{Digest as DigestModel, IsDigest, SpellsDigest, content_digest, digest_of, digest_text, digits_read, is_lower_digit, hash_size};
 
 use crate::bytes::Bytes;
@@ -243,6 +244,15 @@ impl BlobDigest {
             }
         }
         BlobDigest::of(algorithm, body.as_slice())
+    }
+
+    /// The SHA-256 digest of what was hashed so far, piece by piece.
+    pub fn of_hashed(hash: Sha256) -> BlobDigest
+        requires { (content : List ℕ) × Holds256 hash content }
+        ensures { (content : List ℕ) → Holds256 hash content → result ≡ content_digest Algorithm.Sha256 content }
+    {
+        let sum = Sum::Sha256(hash.finalize());
+        BlobDigest { sum }
     }
 
     /// The SHA-256 digest of a content.

@@ -25,10 +25,13 @@ pub record Push : Type 0 where
   pub chunk : ℕ
   pub tries : ℕ
 
--- the push of a file under a name and under its digest by an algorithm
+-- the push of a file under a name and under a digest
+abbrev pub push_under : Digest → List ℕ → List ℕ → ℕ → ℕ → Push
+push_under digest name file chunk tries = record { name = name; digest = digest; file = file; chunk = chunk; tries = tries }
+
+-- the same under its digest by an algorithm
 abbrev pub push_of : Algorithm → List ℕ → List ℕ → ℕ → ℕ → Push
-push_of algorithm name file chunk tries =
-    record { name = name; digest = content_digest algorithm file; file = file; chunk = chunk; tries = tries }
+push_of algorithm name file chunk tries = push_under (content_digest algorithm file) name file chunk tries
 
 -- at most 2^40 bytes, in chunks of 1 to 2^31 bytes
 pub record IsLawfulPush (p : Push) : Type 0 where

@@ -12,5 +12,5 @@ mod world;
 
 pub use laws::{every_push, push_promise, pushes_rule_out};
 pub use pusher::{Outcome, PushAsk, PushStep, Pusher, Why};
-pub use pushing::{PushFault, push, push_with};
+pub use pushing::{PushFault, push, push_under, push_with};
 pub use world::{Event, LossyWorld};

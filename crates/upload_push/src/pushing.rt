@@ -2,7 +2,7 @@
 ghost use Rattle.std.specs.Prelude.{◌≡◌, ◌≤◌, ◌^◌, IfOk, OnErr, length};
 ghost use Rattle.upload_names.specs.declared.digest.Algorithm.{Algorithm};
 ghost use Rattle.upload_push.specs.Steps.{IsAskWithin};
-ghost use Rattle.upload_push.specs.Slices.{IsPush, push_of, request_of};
+ghost use Rattle.upload_push.specs.Slices.{IsPush, push_of, push_under, request_of};
 
 use crate::pusher::{Outcome, PushAsk, PushStep, Pusher, Why};
 use std::alloc::{AllocError, Global};
@@ -59,9 +59,7 @@ pub fn push<T: Transport>(
     )
 }
 
-/// Pushes a file of at most 2^40 bytes under a name and its digest by an algorithm, in chunks of at most `chunk` bytes
-/// (1 to 2^31), and answers how that ended. The transport is asked what one run of the pusher asks, and nothing else.
-/// `GaveUp` comes with the reason of that run's end, `NoMemory` only where a growth was refused.
+/// Pushes a file under its digest by an algorithm: `push_under` that digest, with its errors.
 pub fn push_with<T: Transport>(
     alloc: Global,
     transport: &mut T,
@@ -77,6 +75,26 @@ pub fn push_with<T: Transport>(
     ensures { IsPush T.asked (push_of algorithm name.now file.now chunk tries) transport.old transport.new result }
 {
     let digest = BlobDigest::of(algorithm, file);
+    push_under(alloc, transport, file, name, chunk, tries, digest)
+}
+
+/// Pushes a file of at most 2^40 bytes under a name and a digest, which should be the file's, in chunks of at most `chunk`
+/// bytes (1 to 2^31), and answers how that ended. The transport is asked what one run of the pusher asks, and nothing else.
+/// `GaveUp` comes with the reason of that run's end, `NoMemory` only where a growth was refused.
+pub fn push_under<T: Transport>(
+    alloc: Global,
+    transport: &mut T,
+    file: &[u8],
+    name: &RepoName,
+    chunk: u64,
+    tries: u32,
+    digest: BlobDigest,
+) -> Result<Outcome, PushFault>
+    requires size { length file.now ≤ 2 ^ 40 }
+    requires chunk { (1 ≤ chunk) × (chunk ≤ 2 ^ 31) }
+    requires tries { tries ≤ 1000 }
+    ensures { IsPush T.asked (push_under digest name.now file.now chunk tries) transport.old transport.new result }
+{
     let Ok(own) = name.copy(alloc) else {
         return Err(PushFault::NoMemory);
     };

@@ -1,5 +1,5 @@
 //! A transport over a reader and a writer of bytes.
-ghost use Rattle.std.specs.Prelude.{◌≡◌, IfOk, IsTrue, [], false, true};
+ghost use Rattle.std.specs.Prelude.{◌≡◌, IfOk, IsOk, OnErr, IsTrue, [], false, true};
 ghost use Rattle.upload_service.specs.declared.ask.Ask.{Ask as AskModel};
 ghost use Rattle.upload_wire.specs.AskText.{CanBeWritten, ask_of_chunk, is_host, wants_head};
 ghost use Rattle.upload_wire.specs.TransportText.{AsksOverWire, HearsBehind, is_refusal, refusal_in, stays_open};
@@ -172,8 +172,13 @@ impl<S: ByteSource, W: ByteSink> Transport for WireTransport<S, W> {
         self.exchange(&ask)
     }
 
-    /// The chunk is written from the bytes that are lent.
-    fn ask_chunk(&mut self, chunk: &LentChunk<'_>) -> Result<Option<Heard>, AllocError> {
+    /// The chunk is written from the bytes that are lent, so no memory is wanted for a copy.
+    fn ask_chunk(&mut self, chunk: &LentChunk<'_>) -> Result<Option<Heard>, AllocError>
+        requires { CanBeWritten (ask_of_chunk chunk.now) }
+        ensures asked { IfOk result (λ heard. AsksOverWire self.old (ask_of_chunk chunk.now) heard self.new) }
+        ensures unasked { OnErr result (self.new ≡ self.old) }
+        ensures answered { IsOk result }
+    {
         Ok(self.exchange_chunk(chunk))
     }
 }

@@ -1,9 +1,10 @@
+use Rattle.std.proofs.Common.{refl}
 use Rattle.upload_push.proofs.Underway.{started, moved, fewer, ended, unasked, sent, within_file, step_says}
-use Rattle.upload_push.specs.Slices.{push_of, IsLawfulPush}
-use Rattle.upload_push.proofs.pushing.push_with.Goals as goal
+use Rattle.upload_push.specs.Slices.{push_under, IsLawfulPush}
+use Rattle.upload_push.proofs.pushing.push_under.Goals as goal
 
 pub asks-init : goal.asks-init
-asks-init g c = started _ _ _ _ _ _ c.in-Ok.ensures c.of-digest.ensures c.new-pusher.ensures
+asks-init g c = started _ _ _ _ _ _ c.in-Ok.ensures refl c.new-pusher.ensures
 
 pub returns-in-Done : goal.returns-in-Done
 returns-in-Done g c = ended _ _ _ _ _ _ c.asks.invariant (step_says c.asks.pusher.plan c.asks.pusher.stand.phase _ c.in-Done.ensures.step)
@@ -16,11 +17,11 @@ returns-in_default-ask_once g c = unasked _ _ _ _ _ _ _ c.asks.invariant c.in_de
 
 pub asks-smaller : goal.asks-smaller
 asks-smaller g c =
-    let lawful : IsLawfulPush (push_of c.args.algorithm c.args.name.now c.args.file.now c.args.chunk c.args.tries) =
+    let lawful : IsLawfulPush (push_under c.args.digest c.args.name.now c.args.file.now c.args.chunk c.args.tries) =
     record { size = c.requires.size; chunk_least = c.requires.chunk.0; chunk_most = c.requires.chunk.1 } in
     fewer _ _ _ _ _ _ _ c.in-Ok-ask_once.heard lawful c.asks.invariant c.in-Ask.ensures.step c.heard.ensures
 
 pub asks-preserved : goal.asks-preserved
 asks-preserved g c =
     moved _ _ _ _ _ _ _ _ c.in-Ok-ask_once.heard c.asks.invariant c.in-Ask.ensures.step
-    (sent g.T.Transport.asked (push_of c.args.algorithm c.args.name.now c.args.file.now c.args.chunk c.args.tries) _ _ c.of-digest.result c.in-Ask.ask c.in-Ok-ask_once.heard c.of-digest.ensures c.in-Ok-ask_once.ensures.asked) c.heard.ensures
+    (sent g.T.Transport.asked (push_under c.args.digest c.args.name.now c.args.file.now c.args.chunk c.args.tries) _ _ c.args.digest c.in-Ask.ask c.in-Ok-ask_once.heard refl c.in-Ok-ask_once.ensures.asked) c.heard.ensures
