@@ -214,6 +214,41 @@ def tells_a_terminal_how_to_stop():
     os.close(terminal)
 
 
+def logs_requests():
+    """A line for each request on standard error, where the environment asks for it, and none where it doesn't."""
+    missing = sha256(b"nothing")
+    for value in (None, "0", "1"):
+        env = {name: word for name, word in os.environ.items() if name != "BLOBD_LOG"} | ({"BLOBD_LOG": value} if value else {})
+        with Server(5, env=env, stderr=subprocess.PIPE) as server:
+            place = opened(server, "lib/a")
+            ask_alone(server, "PATCH", place, b"abc")
+            ask_alone(server, "PUT", f"{place}?digest={sha256(b'abc')}")
+            ask_alone(server, "GET", f"/v2/lib/a/blobs/{sha256(b'abc')}")
+            ask_alone(server, "HEAD", f"/v2/lib/a/blobs/{sha256(b'abc')}")
+            body = ask_alone(server, "GET", f"/v2/lib/a/blobs/{missing}")[2]
+            ask_alone(server, "HEAD", f"/v2/lib/a/blobs/{missing}")
+            ask_alone(server, "GET", "/v2/lib/a/tags/list")
+            ended = server.end()
+            check(f"what a server prints with BLOBD_LOG={value}", ended == ("served\n", 0), ended)
+            lines = server.process.stderr.read().splitlines()
+        wanted = [
+            "POST /v2/lib/a/blobs/uploads/ 202 0",
+            f"PATCH {place} 202 0",
+            f"PUT {place}?digest={sha256(b'abc')} 201 0",
+            f"GET /v2/lib/a/blobs/{sha256(b'abc')} 200 3",
+            f"HEAD /v2/lib/a/blobs/{sha256(b'abc')} 200 0",
+            f"GET /v2/lib/a/blobs/{missing} 404 {len(body)}",
+            f"HEAD /v2/lib/a/blobs/{missing} 404 0",
+        ]
+        if value != "1":
+            check(f"no log with BLOBD_LOG={value}", not lines, lines)
+            continue
+        check("each line of a log ends with a time", all(re.fullmatch(r".* [0-9]+ms", line) for line in lines), lines)
+        told = [line.rsplit(" ", 1)[0] for line in lines]
+        check("a line for each request", told[:-1] == wanted, told)
+        check("a refused request has no target", re.fullmatch(r"- 404 [0-9]+", told[-1]), told)
+
+
 def first_references():
     """Two servers draw secrets of their own: the references of their first sessions differ."""
     places = []
@@ -628,6 +663,7 @@ def load_tests(*_):
         words,
         serves_until_it_is_ended,
         tells_a_terminal_how_to_stop,
+        logs_requests,
         faults,
         descriptors_come_again,
         within_seconds,

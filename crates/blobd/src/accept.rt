@@ -20,6 +20,8 @@ pub struct Terms {
     pub count: u64,
     /// How long one may be silent, more than zero: its reads and writes that move no byte for so long fail.
     pub silence: Duration,
+    /// Whether each request is told on standard error.
+    pub logged: bool,
 }
 
 /// The connections of one worker: the next ones that the listener accepts, up to a count.

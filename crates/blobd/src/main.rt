@@ -14,6 +14,7 @@ mod dialer;
 mod limits;
 mod once;
 mod push;
+mod request_log;
 mod serve;
 mod sockets;
 mod status;
@@ -49,6 +50,9 @@ const LARGEST_FILE: usize = 1_099_511_627_776;
 /// How long a connection that is served may be silent, in seconds.
 const SILENCE_SECONDS: u64 = 60;
 
+/// The variable of the environment that is 1 where a server is to log its requests.
+const LOG: &str = "BLOBD_LOG";
+
 /// More connections than ever come.
 const ENDLESS: u64 = u64::MAX;
 
@@ -70,7 +74,7 @@ fn print_stop<R: Eprint>(rt: &R, seen: bool) {
     }
 }
 
-fn listen<R>(rt: &R, addr: SocketAddr, count: Option<u64>, seen: bool) -> u8
+fn listen<R>(rt: &R, addr: SocketAddr, count: Option<u64>, seen: bool, logged: bool) -> u8
 where
     R: Threads + Wait + Sync + AllocGlobal + Clock + RandomSource + Print + Eprint,
     R: Net<Listener = TcpListener, Stream = TcpStream>,
@@ -79,6 +83,7 @@ where
     let terms = Terms {
         count: count.unwrap_or(ENDLESS),
         silence: Duration::from_secs(SILENCE_SECONDS),
+        logged,
     };
     match TcpListener::bind(rt, addr) {
         Ok(listener) => {
@@ -114,6 +119,14 @@ fn args_of(rt: &HostRuntime) -> io::Result<Vec<String>> {
     Ok(env::args(rt)?.skip(1).collect::<Vec<String>>(rt.alloc())?)
 }
 
+/// Whether a server is to log its requests: the environment says so.
+fn wants_log(rt: &HostRuntime) -> bool {
+    match env::var(rt, LOG) {
+        Ok(value) => value.as_str() == "1",
+        Err(_) => false,
+    }
+}
+
 fn print_no_memory(rt: &HostRuntime) -> u8 {
     print_line(&mut io::writer(rt), "fault: memory", FAULT)
 }
@@ -142,7 +155,7 @@ fn main(rt: HostRuntime) -> ExitCode {
     let seen = rt.stderr().is_terminal();
     ExitCode::from(match read_words(&words) {
         Some(Command::Once) => serve_input(&rt),
-        Some(Command::Serve { addr, count }) => { listen(&rt, addr, count, seen) }
+        Some(Command::Serve { addr, count }) => { listen(&rt, addr, count, seen, wants_log(&rt)) }
         Some(
             Command::Push {
                 addr,

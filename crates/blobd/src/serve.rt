@@ -4,6 +4,7 @@ ghost use Rattle.blobd.specs.Status.{IsServed};
 
 use crate::accept::{Accepted, Terms};
 use crate::limits::limits;
+use crate::request_log::RequestLog;
 use crate::status::{DONE, FAULT, print_line};
 use rand::rngs::StdRng;
 use std::alloc::Global;
@@ -15,7 +16,7 @@ use std::rt::Clock;
 use std::sync::Wait;
 use std::thread::Threads;
 use std::time::Instant;
-use upload_intake::{DrawnSecrets, Moments, NoGate, ServeFault, Worker, serve_pair};
+use upload_intake::{DrawnSecrets, Moments, ServeFault, Worker, serve_pair};
 use upload_service::Service;
 
 /// Secrets of the system's random numbers.
@@ -62,7 +63,7 @@ where
     let worker = |secrets: SystemSecrets| Worker {
         conns: Accepted::new(rt, listener, terms),
         secrets,
-        gate: NoGate,
+        gate: RequestLog::new(rt, alloc, terms.logged),
     };
     let mut moments = SinceStart {
         rt,
@@ -132,6 +133,7 @@ mod tests {
         Terms {
             count: 1,
             silence: Duration::from_millis(200),
+            logged: false,
         }
     }
 

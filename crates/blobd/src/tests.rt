@@ -31,7 +31,11 @@ where
     R: Threads + Wait + Sync + AllocGlobal + Clock + RandomSource + Eprint,
 {
     let mut out = Vec::new(rt.alloc());
-    let terms = Terms { count: 1, silence };
+    let terms = Terms {
+        count: 1,
+        silence,
+        logged: false,
+    };
     let status = run_serve(rt, listener, terms, &mut out);
     (out, status)
 }

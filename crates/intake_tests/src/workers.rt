@@ -15,7 +15,7 @@ use std::thread::Threads;
 use std::{thread, vec};
 use upload_intake::{Conns, Gate, Moments, Pair, ServeFault, Worker, ZeroSecrets, serve_pair};
 use upload_names::{BlobDigest, RepoName};
-use upload_service::{Limits, Service};
+use upload_service::{Answer, Ask, Limits, Service};
 use upload_wire::{ByteSink, ByteSource, Failed};
 
 /// How often a gate yields before it gives up.
@@ -120,7 +120,7 @@ impl<'a> Meeting<'a> {
 }
 
 impl<'a> Gate for Meeting<'a> {
-    fn before_ask(&mut self, turn: u64) {
+    fn before_ask(&mut self, turn: u64, _ask: &Ask) {
         if turn == 1 {
             self.called.store(1, Ordering::SeqCst);
             self.wait_for(self.awaited);
@@ -128,7 +128,7 @@ impl<'a> Gate for Meeting<'a> {
         }
     }
 
-    fn after_answer(&mut self, turn: u64) {
+    fn after_answer(&mut self, turn: u64, _answer: &Answer) {
         if turn == 1 {
             self.answered.store(1, Ordering::SeqCst);
         }

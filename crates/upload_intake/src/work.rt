@@ -108,9 +108,9 @@ impl<'a, R: Wait, S: Secrets, G: Gate> Desk for GatedDesk<'a, R, S, G> {
 
     fn ask(&mut self, ask: Ask) -> Option<Answer> {
         self.turn = self.turn.saturating_add(1);
-        self.gate.before_ask(self.turn);
+        self.gate.before_ask(self.turn, &ask);
         let answer = self.desk.ask(ask)?;
-        self.gate.after_answer(self.turn);
+        self.gate.after_answer(self.turn, &answer);
         Some(answer)
     }
 }

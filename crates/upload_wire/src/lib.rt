@@ -11,6 +11,7 @@ mod client;
 mod connection;
 mod desk;
 mod laws;
+mod logged;
 mod query;
 mod reader;
 mod reply;
@@ -30,6 +31,7 @@ pub use laws::{
     connections_run_the_service, conversations_are_determined, requests_are_unambiguous,
     service_desks_are_deterministic,
 };
+pub use logged::{RequestLine, body_size, reply_status};
 pub use reader::RequestReader;
 pub use reply::{write_bad, write_reply};
 pub use request::{Next, Style};

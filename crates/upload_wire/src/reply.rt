@@ -16,6 +16,7 @@ mod refusal;
 mod status;
 
 pub(crate) use error::ErrorCode;
+pub(crate) use head::status_of;
 pub(crate) use refusal::{refusal_code, refusal_status};
 
 /// Writes the reply to an answer, and flushes it: its head in one write, with its body where that is short,

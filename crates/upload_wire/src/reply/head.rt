@@ -123,7 +123,7 @@ fn put_end<W: ByteSink>(head: &mut Gather, writer: &mut W, keep: bool)
 }
 
 /// The status of a reply.
-fn status_of(answer: &Answer) -> Status
+pub(crate) fn status_of(answer: &Answer) -> Status
     ensures { result ≡ (reply_of answer.now).status }
 {
     match answer {
