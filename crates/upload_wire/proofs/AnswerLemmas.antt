@@ -16,11 +16,15 @@ use Rattle.http_wire.proofs.ResponseLaws.{head_ends}
 use Rattle.upload_wire.specs.AnswerText.{framing_of, head_fields, keeps_on, ReadsFramed, IsWhole, FindsAnswer, ReadsAnswer}
 use Rattle.http_wire.specs.ResponseSpans.{IsHeadOf, IsHeadAtFront, response_spans}
 use Rattle.http_wire.specs.HeadReading.{FindsHead}
-use Rattle.upload_wire.specs.AnswerReading.{fields_of, FindsBody, FindsBodyIn, IsFramingFault, Says, heard_of_input}
+use Rattle.upload_wire.specs.AnswerReading.{fields_of, FindsBody, FindsBodyIn, Says, heard_of_input, heard_of_framing, heard_of_said}
 use Rattle.http_wire.specs.declared.responses.parsed.ParsedResponse.{ParsedResponse}
 use Rattle.upload_wire.specs.declared.client.framing.AnswerFraming.{AnswerFraming}
 use Rattle.upload_wire.specs.declared.client.framing.AnswerFraming.TheVariants.{Sized, ToEnd}
+use Rattle.upload_wire.specs.declared.client.framing.FramingFault.{FramingFault}
+use Rattle.upload_wire.specs.declared.client.framing.FramingFault.TheVariants as Framing
 use Rattle.upload_wire.specs.declared.client.heard.Heard.{Heard}
+use Rattle.upload_wire.specs.declared.client.heard.SaidFault.{SaidFault}
+use Rattle.upload_wire.specs.declared.client.heard.SaidFault.TheVariants as Said
 use Rattle.upload_wire.specs.declared.client.heard.HeardFault.{HeardFault}
 use Rattle.upload_wire.specs.declared.client.heard.HeardFault.TheVariants as Fault
 use Rattle.http_wire.specs.declared.fault.InputFault.{InputFault}
@@ -72,7 +76,7 @@ head_kept text more p f =
     }
 
 -- the framing of the head at the front
-framed : (h : Bool) (text : List ℕ) (p : ParsedResponse) (r : Result AnswerFraming HeardFault) (f : IsHeadAtFront text p)
+framed : (h : Bool) (text : List ℕ) (p : ParsedResponse) (r : Result AnswerFraming FramingFault) (f : IsHeadAtFront text p)
     → framing_of h p.spans.code (fields_of (take p.spans.len text) p) ≡ r → ReadsFramed h text r (the_head f) (drop p.spans.len text)
 framed h text p r f e = record {
   reads = head_reads text p f;
@@ -81,16 +85,12 @@ framed h text p r f e = record {
 }
 
 -- a refused framing
-unframed : (h : Bool) (text rest : List ℕ) (new : SourceState) (keep : Bool) (p : ParsedResponse) (e : HeardFault) → IsHeadAtFront text p
-    → framing_of h p.spans.code (fields_of (take p.spans.len text) p) ≡ Err e → IsFramingFault e → FindsAnswer h text rest new (Err e) keep
-unframed h text rest new keep p Fault.Unreadable f e is =
-    inr (inl (record { head = the_head f; rest = drop p.spans.len text; framed = framed h text p (Err Fault.Unreadable) f e }))
-unframed h text rest new keep p Fault.TooLarge f e is =
-    inr (inl (record { head = the_head f; rest = drop p.spans.len text; framed = framed h text p (Err Fault.TooLarge) f e }))
-unframed h text rest new keep p Fault.Truncated f e is = absurd is
-unframed h text rest new keep p Fault.Read f e is = absurd is
-unframed h text rest new keep p Fault.NoMemory f e is = absurd is
-unframed h text rest new keep p Fault.Ended f e is = absurd is
+unframed : (h : Bool) (text rest : List ℕ) (new : SourceState) (keep : Bool) (p : ParsedResponse) (e : FramingFault) → IsHeadAtFront text p
+    → framing_of h p.spans.code (fields_of (take p.spans.len text) p) ≡ Err e → FindsAnswer h text rest new (Err (heard_of_framing e)) keep
+unframed h text rest new keep p Framing.Unreadable f e =
+    inr (inl (record { head = the_head f; rest = drop p.spans.len text; framed = framed h text p (Err Framing.Unreadable) f e }))
+unframed h text rest new keep p Framing.TooLarge f e =
+    inr (inl (record { head = the_head f; rest = drop p.spans.len text; framed = framed h text p (Err Framing.TooLarge) f e }))
 
 pub found_at_once : (h : Bool) (held rest : List ℕ) (known : SourceState) (r : Result Heard HeardFault) (keep : Bool)
     → FindsAnswer h held rest known r keep → ReadsAnswer h held known rest known r keep
@@ -115,18 +115,19 @@ body_found h text after body rest new keep p framing Fault.NoMemory f r b = tt
 body_found h text after body rest new keep p framing Fault.Unreadable f r b = absurd b
 body_found h text after body rest new keep p framing Fault.Ended f r b = absurd b
 
+-- what is heard by what a reply says
+abbrev pub heard_by : Result Heard SaidFault → Result Heard HeardFault
+heard_by (Ok heard) = Ok heard
+heard_by (Err fault) = Err (heard_of_said fault)
+
 -- what a whole reply says
-says_found : (h : Bool) (text rest : List ℕ) (new : SourceState) (head : ResponseHead) (body : List ℕ) (r : Result Heard HeardFault) (keep : Bool)
+says_found : (h : Bool) (text rest : List ℕ) (new : SourceState) (head : ResponseHead) (body : List ℕ) (r : Result Heard SaidFault) (keep : Bool)
     (whole : IsWhole h text rest new head body) → Says (status_code head) (head_fields head) body r
-    → keep ≡ keeps_on head.minor (head_fields head) whole.framing → FindsAnswer h text rest new r keep
+    → keep ≡ keeps_on head.minor (head_fields head) whole.framing → FindsAnswer h text rest new (heard_by r) keep
 says_found h text rest new head body (Ok heard) keep whole says keeps =
     record { head = head; body = body; whole = whole; says = says; keeps = keeps }
-says_found h text rest new head body (Err Fault.Unreadable) keep whole says keeps = inr (inr (record { head = head; body = body; whole = whole; misplaced = says }))
-says_found h text rest new head body (Err Fault.NoMemory) keep whole says keeps = tt
-says_found h text rest new head body (Err Fault.Truncated) keep whole says keeps = absurd says
-says_found h text rest new head body (Err Fault.Read) keep whole says keeps = absurd says
-says_found h text rest new head body (Err Fault.TooLarge) keep whole says keeps = absurd says
-says_found h text rest new head body (Err Fault.Ended) keep whole says keeps = absurd says
+says_found h text rest new head body (Err Said.Unreadable) keep whole says keeps = inr (inr (record { head = head; body = body; whole = whole; misplaced = says }))
+says_found h text rest new head body (Err Said.NoMemory) keep whole says keeps = tt
 
 module _ (h : Bool) (held rest body : List ℕ) (old new : SourceState) (keep : Bool) (p : ParsedResponse) (framing : AnswerFraming) (f : IsHeadAtFront held p)
     (is : Ok framing ≡ framing_of h p.spans.code (fields_of (take p.spans.len held) p)) where
@@ -148,9 +149,9 @@ module _ (h : Bool) (held rest body : List ℕ) (old new : SourceState) (keep : 
     found = body_found h (held ++ b.gave.given) b.text body rest new keep p framing e (head_kept held b.gave.given p f) (framed_on b.gave.given b.text b.gave.joined) b.found;
   }
 
-  pub reply_found : (u : ⊤) (r : Result Heard HeardFault) → FindsBody framing (drop p.spans.len held) old body rest new (Ok u)
+  pub reply_found : (u : ⊤) (r : Result Heard SaidFault) → FindsBody framing (drop p.spans.len held) old body rest new (Ok u)
       → Says p.spans.code (fields_of (take p.spans.len held) p) body r
-      → keep ≡ keeps_on p.spans.version (fields_of (take p.spans.len held) p) framing → ReadsAnswer h held old rest new r keep
+      → keep ≡ keeps_on p.spans.version (fields_of (take p.spans.len held) p) framing → ReadsAnswer h held old rest new (heard_by r) keep
   reply_found u r b says keeps =
       let given = b.gave.given in
       let text = held ++ given in
@@ -174,15 +175,15 @@ module _ (h : Bool) (held rest body : List ℕ) (old new : SourceState) (keep : 
 -- ---- the same, where the head was sliced and then taken out of the buffer
 
 -- where the framing of the sliced head is that of the head at the front
-framing_at : (h : Bool) (held slice : List ℕ) (p : ParsedResponse) (r : Result AnswerFraming HeardFault) → slice ≡ held
+framing_at : (h : Bool) (held slice : List ℕ) (p : ParsedResponse) (r : Result AnswerFraming FramingFault) → slice ≡ held
     → r ≡ framing_of h p.spans.code (fields_of (take p.spans.len slice) p) → r ≡ framing_of h p.spans.code (fields_of (take p.spans.len held) p)
 framing_at h held slice p r slice_is is = subst (λ t. r ≡ framing_of h p.spans.code (fields_of (take p.spans.len t) p)) slice_is is
 
 -- a refused framing of the head
-pub framing_refused : (h : Bool) (held slice rest : List ℕ) (known : SourceState) (keep : Bool) (p : ParsedResponse) (e : HeardFault) → IsHeadAtFront held p → slice ≡ held
-    → Err e ≡ framing_of h p.spans.code (fields_of (take p.spans.len slice) p) → IsFramingFault e → ReadsAnswer h held known rest known (Err e) keep
-framing_refused h held slice rest known keep p e f slice_is is fault =
-    found_at_once h held rest known (Err e) keep (unframed h held rest known keep p e f (sym (framing_at h held slice p (Err e) slice_is is)) fault)
+pub framing_refused : (h : Bool) (held slice rest : List ℕ) (known : SourceState) (keep : Bool) (p : ParsedResponse) (e : FramingFault) → IsHeadAtFront held p → slice ≡ held
+    → Err e ≡ framing_of h p.spans.code (fields_of (take p.spans.len slice) p) → ReadsAnswer h held known rest known (Err (heard_of_framing e)) keep
+framing_refused h held slice rest known keep p e f slice_is is =
+    found_at_once h held rest known (Err (heard_of_framing e)) keep (unframed h held rest known keep p e f (sym (framing_at h held slice p (Err e) slice_is is)))
 
 -- a fault of the body behind the head
 pub fault_behind : (h : Bool) (held slice front body rest : List ℕ) (old new : SourceState) (keep : Bool) (p : ParsedResponse) (framing : AnswerFraming) (e : HeardFault)
@@ -194,21 +195,17 @@ fault_behind h held slice front body rest old new keep p framing e f slice_is is
 
 -- a body behind the head
 pub reply_behind : (h : Bool) (held slice front body seen rest : List ℕ) (old new : SourceState) (keep : Bool) (p : ParsedResponse) (framing : AnswerFraming) (u : ⊤)
-    (r : Result Heard HeardFault)
+    (r : Result Heard SaidFault)
     → IsHeadAtFront held p → slice ≡ held → Ok framing ≡ framing_of h p.spans.code (fields_of (take p.spans.len slice) p)
     → front ≡ drop p.spans.len held → FindsBody framing front old body rest new (Ok u) → seen ≡ body
     → Says p.spans.code (fields_of (take p.spans.len slice) p) seen r
-    → keep ≡ keeps_on p.spans.version (fields_of (take p.spans.len slice) p) framing → ReadsAnswer h held old rest new r keep
+    → keep ≡ keeps_on p.spans.version (fields_of (take p.spans.len slice) p) framing → ReadsAnswer h held old rest new (heard_by r) keep
 reply_behind h held slice front body seen rest old new keep p framing u r f slice_is is front_is b seen_is says keeps =
     let at_slice = subst (λ t. Says p.spans.code (fields_of (take p.spans.len t) p) seen r) slice_is says in
     reply_found h held rest body old new keep p framing f (framing_at h held slice p (Ok framing) slice_is is) u r
     (subst (λ t. FindsBody framing t old body rest new (Ok u)) front_is b)
     (subst (λ t. Says p.spans.code (fields_of (take p.spans.len held) p) t r) seen_is at_slice)
     (subst (λ t. keep ≡ keeps_on p.spans.version (fields_of (take p.spans.len t) p) framing) slice_is keeps)
-
--- what is said is no failed read
-pub says_unread : (status : ℕ) (fields : Fields) (body : List ℕ) (r : Result Heard HeardFault) → Says status fields body r → r ≡ Err Fault.Read → ⊥
-says_unread status fields body r says is = subst (Says status fields body) is says
 
 -- reads before it
 pub reads_after : (h : Bool) (held text rest : List ℕ) (old mid new : SourceState) (r : Result Heard HeardFault) (keep : Bool)

@@ -13,8 +13,9 @@ use Rattle.upload_wire.specs.UnambiguousReplies.{ReplyParse, heard, refused, unr
 use Rattle.upload_wire.specs.declared.client.framing.AnswerFraming.{AnswerFraming}
 use Rattle.upload_wire.specs.declared.client.framing.AnswerFraming.TheVariants.{Sized, ToEnd}
 use Rattle.upload_wire.specs.declared.client.heard.Heard.{Heard}
-use Rattle.upload_wire.specs.declared.client.heard.HeardFault.{HeardFault}
-use Rattle.upload_wire.specs.declared.client.heard.HeardFault.TheVariants as Fault
+use Rattle.upload_wire.specs.declared.client.framing.FramingFault.{FramingFault}
+use Rattle.upload_wire.specs.declared.client.framing.FramingFault.TheVariants as Fault
+use Rattle.upload_wire.specs.declared.client.heard.SaidFault.TheVariants as Said
 use Rattle.upload_wire.proofs.UnambiguousTargets.{path_unique}
 
 -- ---- what is heard
@@ -23,7 +24,7 @@ place_unique : (value a b : Option (List ℕ)) → IsPlaceOf value (Ok a) → Is
 place_unique None a b x y = cc
 place_unique (Some value) a b x y = x.2 ∙ ap Some (path_unique value x.0 y.0 x.1 y.1) ∙ sym y.2
 
-place_not_bad : (value a : Option (List ℕ)) → IsPlaceOf value (Ok a) → IsPlaceOf value (Err Fault.Unreadable) → ⊥
+place_not_bad : (value a : Option (List ℕ)) → IsPlaceOf value (Ok a) → IsPlaceOf value (Err Said.Unreadable) → ⊥
 place_not_bad None a x y = absurd (cc)
 place_not_bad (Some value) a x y = y.1 _ _ _ x.1
 
@@ -68,7 +69,7 @@ abbrev FromEnd : ResponseHead → List ℕ → ReplyParse → Type 0
 FromEnd h behind p =
     ((max_answer < length behind) × (p ≡ too_large)) ⊎ ((length behind ≤ max_answer) × Says h ToEnd behind [] p)
 
-abbrev FromFraming : ResponseHead → Result AnswerFraming HeardFault → List ℕ → ReplyParse → Type 0
+abbrev FromFraming : ResponseHead → Result AnswerFraming FramingFault → List ℕ → ReplyParse → Type 0
 FromFraming h (Ok (Sized n)) behind p = FromSized n h behind p
 FromFraming h (Ok ToEnd) behind p = FromEnd h behind p
 FromFraming h (Err fault) behind p = ((fault ≡ Fault.Unreadable) × (p ≡ unreadable)) ⊎ ((fault ≡ Fault.TooLarge) × (p ≡ too_large))
@@ -100,7 +101,7 @@ from_end h behind p q (inl x) (inr y) = let over = x.0 in let under = y.0 in abs
 from_end h behind p q (inr x) (inl y) = let over = y.0 in let under = x.0 in absurd (omega (arith, over, under))
 from_end h behind p q (inr x) (inr y) = says_one h ToEnd behind [] p q x.1 y.1
 
-from_fault : (fault : HeardFault) (p q : ReplyParse)
+from_fault : (fault : FramingFault) (p q : ReplyParse)
     → ((fault ≡ Fault.Unreadable) × (p ≡ unreadable)) ⊎ ((fault ≡ Fault.TooLarge) × (p ≡ too_large))
     → ((fault ≡ Fault.Unreadable) × (q ≡ unreadable)) ⊎ ((fault ≡ Fault.TooLarge) × (q ≡ too_large)) → p ≡ q
 from_fault fault p q (inl x) (inl y) = x.1 ∙ sym y.1
@@ -108,7 +109,7 @@ from_fault fault p q (inl x) (inr y) = let one = x.0 in let two = y.0 in absurd 
 from_fault fault p q (inr x) (inl y) = let one = x.0 in let two = y.0 in absurd (cc)
 from_fault fault p q (inr x) (inr y) = x.1 ∙ sym y.1
 
-from_framing : (h : ResponseHead) (framing : Result AnswerFraming HeardFault) (behind : List ℕ) (p q : ReplyParse)
+from_framing : (h : ResponseHead) (framing : Result AnswerFraming FramingFault) (behind : List ℕ) (p q : ReplyParse)
     → FromFraming h framing behind p → FromFraming h framing behind q → p ≡ q
 from_framing h (Ok (Sized n)) behind p q x y = from_sized n h behind p q x y
 from_framing h (Ok ToEnd) behind p q x y = from_end h behind p q x y
@@ -144,7 +145,7 @@ parsed_whole head_only text rest new h body p w says = record {
   from = subst (λ r. FromFraming h r (body ++ rest) p) (sym w.framed.framed) (from_body h w.framing body rest new p w.is_body says);
 }
 
-parsed_fault : (head_only : Bool) (text : List ℕ) (fault : HeardFault) (p : ReplyParse) → HasFramingFault head_only text fault
+parsed_fault : (head_only : Bool) (text : List ℕ) (fault : FramingFault) (p : ReplyParse) → HasFramingFault head_only text fault
     → ((fault ≡ Fault.Unreadable) × (p ≡ unreadable)) ⊎ ((fault ≡ Fault.TooLarge) × (p ≡ too_large)) → Parsed head_only text p
 parsed_fault head_only text fault p x why = record {
   front = head x.head x.rest;

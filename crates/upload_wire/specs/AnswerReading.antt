@@ -9,7 +9,11 @@ use Rattle.upload_wire.specs.AnswerText.{IsBody, IsHeard, IsMisplaced, IsPlaceOf
 use Rattle.http_wire.specs.declared.responses.parsed.ParsedResponse.{ParsedResponse}
 use Rattle.upload_wire.specs.declared.client.framing.AnswerFraming.{AnswerFraming}
 use Rattle.upload_wire.specs.declared.client.framing.AnswerFraming.TheVariants.{Sized, ToEnd}
+use Rattle.upload_wire.specs.declared.client.framing.FramingFault.{FramingFault}
+use Rattle.upload_wire.specs.declared.client.framing.FramingFault.TheVariants as Framing
 use Rattle.upload_wire.specs.declared.client.heard.Heard.{Heard}
+use Rattle.upload_wire.specs.declared.client.heard.SaidFault.{SaidFault}
+use Rattle.upload_wire.specs.declared.client.heard.SaidFault.TheVariants as Said
 use Rattle.upload_wire.specs.declared.client.heard.HeardFault.{HeardFault}
 use Rattle.upload_wire.specs.declared.client.heard.HeardFault.TheVariants as Fault
 use Rattle.http_wire.specs.declared.fault.InputFault.{InputFault}
@@ -64,25 +68,27 @@ heard_of_body Body.Truncated = Fault.Truncated
 heard_of_body Body.Read = Fault.Read
 heard_of_body Body.NoMemory = Fault.NoMemory
 
+-- or one of its framing
+abbrev pub heard_of_framing : FramingFault → HeardFault
+heard_of_framing Framing.Unreadable = Fault.Unreadable
+heard_of_framing Framing.TooLarge = Fault.TooLarge
+
+-- or one of what it says
+abbrev pub heard_of_said : SaidFault → HeardFault
+heard_of_said Said.Unreadable = Fault.Unreadable
+heard_of_said Said.NoMemory = Fault.NoMemory
+
 -- the path that was read, or the refusal of the value, unless memory was refused
-abbrev pub PlaceUnlessNoMemory : Option (List ℕ) → Result (Option (List ℕ)) HeardFault → Type 0
+abbrev pub PlaceUnlessNoMemory : Option (List ℕ) → Result (Option (List ℕ)) SaidFault → Type 0
 PlaceUnlessNoMemory value (Ok place) = IsPlaceOf value (Ok place)
-PlaceUnlessNoMemory value (Err Fault.Unreadable) = IsPlaceOf value (Err Fault.Unreadable)
-PlaceUnlessNoMemory value (Err Fault.NoMemory) = ⊤
-PlaceUnlessNoMemory value (Err Fault.Truncated) = ⊥
-PlaceUnlessNoMemory value (Err Fault.Read) = ⊥
-PlaceUnlessNoMemory value (Err Fault.TooLarge) = ⊥
-PlaceUnlessNoMemory value (Err Fault.Ended) = ⊥
+PlaceUnlessNoMemory value (Err Said.Unreadable) = IsPlaceOf value (Err Said.Unreadable)
+PlaceUnlessNoMemory value (Err Said.NoMemory) = ⊤
 
 -- what a reply says: what is heard, or that a Location or a Range is unreadable
-abbrev pub Says : ℕ → Fields → List ℕ → Result Heard HeardFault → Type 0
+abbrev pub Says : ℕ → Fields → List ℕ → Result Heard SaidFault → Type 0
 Says status fields body (Ok heard) = IsHeard status fields body heard
-Says status fields body (Err Fault.Unreadable) = IsMisplaced fields
-Says status fields body (Err Fault.NoMemory) = ⊤
-Says status fields body (Err Fault.Truncated) = ⊥
-Says status fields body (Err Fault.Read) = ⊥
-Says status fields body (Err Fault.TooLarge) = ⊥
-Says status fields body (Err Fault.Ended) = ⊥
+Says status fields body (Err Said.Unreadable) = IsMisplaced fields
+Says status fields body (Err Said.NoMemory) = ⊤
 
 -- what a head says, with no code: what is heard, or that a Location or a Range is unreadable
 pub record IsHeardBare (status : ℕ) (fields : Fields) (heard : Heard) : Type 0 where
@@ -90,25 +96,12 @@ pub record IsHeardBare (status : ℕ) (fields : Fields) (heard : Heard) : Type 0
   pub place_is : IsPlaceOf (location fields) (Ok heard.place)
   pub upto_is : upto_of (range fields) ≡ Ok heard.upto
 
-abbrev pub SaysBare : ℕ → Fields → Result Heard HeardFault → Type 0
+abbrev pub SaysBare : ℕ → Fields → Result Heard SaidFault → Type 0
 SaysBare status fields (Ok heard) = IsHeardBare status fields heard
-SaysBare status fields (Err Fault.Unreadable) = IsMisplaced fields
-SaysBare status fields (Err Fault.NoMemory) = ⊤
-SaysBare status fields (Err Fault.Truncated) = ⊥
-SaysBare status fields (Err Fault.Read) = ⊥
-SaysBare status fields (Err Fault.TooLarge) = ⊥
-SaysBare status fields (Err Fault.Ended) = ⊥
+SaysBare status fields (Err Said.Unreadable) = IsMisplaced fields
+SaysBare status fields (Err Said.NoMemory) = ⊤
 
 -- a body that isn't longer than the limit
 abbrev pub IsSmall : AnswerFraming → Type 0
 IsSmall (Sized n) = n ≤ max_answer
 IsSmall ToEnd = ⊤
-
--- the faults of a framing
-abbrev pub IsFramingFault : HeardFault → Type 0
-IsFramingFault Fault.Unreadable = ⊤
-IsFramingFault Fault.TooLarge = ⊤
-IsFramingFault Fault.Truncated = ⊥
-IsFramingFault Fault.Read = ⊥
-IsFramingFault Fault.NoMemory = ⊥
-IsFramingFault Fault.Ended = ⊥

@@ -17,7 +17,11 @@ use Rattle.http_wire.specs.Body.{is_number}
 use Rattle.http_wire.specs.ResponseFronts.{ReadsHead, IsRefused, IsTooLong, IsUnfinished}
 use Rattle.upload_wire.specs.declared.client.framing.AnswerFraming.{AnswerFraming}
 use Rattle.upload_wire.specs.declared.client.framing.AnswerFraming.TheVariants.{Sized, ToEnd}
+use Rattle.upload_wire.specs.declared.client.framing.FramingFault.{FramingFault}
+use Rattle.upload_wire.specs.declared.client.framing.FramingFault.TheVariants as Framing
 use Rattle.upload_wire.specs.declared.client.heard.Heard.{Heard}
+use Rattle.upload_wire.specs.declared.client.heard.SaidFault.{SaidFault}
+use Rattle.upload_wire.specs.declared.client.heard.SaidFault.TheVariants as Said
 use Rattle.upload_wire.specs.declared.client.heard.HeardFault.{HeardFault}
 use Rattle.upload_wire.specs.declared.client.heard.HeardFault.TheVariants as Fault
 
@@ -28,29 +32,29 @@ abbrev pub max_answer : ℕ
 max_answer = 65536
 
 -- a length over the limit is too large
-abbrev pub sized : ℕ → Result AnswerFraming HeardFault
-sized n = if nat_lt max_answer n then Err Fault.TooLarge else Ok (Sized n)
+abbrev pub sized : ℕ → Result AnswerFraming FramingFault
+sized n = if nat_lt max_answer n then Err Framing.TooLarge else Ok (Sized n)
 
 -- by the values of Content-Length, for a reply that has no body and for one that has
-abbrev pub framing_by_length : Bool → List (List ℕ) → Result AnswerFraming HeardFault
+abbrev pub framing_by_length : Bool → List (List ℕ) → Result AnswerFraming FramingFault
 framing_by_length empty [] = if empty then Ok (Sized 0) else Ok ToEnd
 framing_by_length empty (value ∷ []) =
-    if is_number value then (if empty then Ok (Sized 0) else sized (digits_value 10 value)) else Err Fault.Unreadable
-framing_by_length empty (value ∷ other ∷ values) = Err Fault.Unreadable
+    if is_number value then (if empty then Ok (Sized 0) else sized (digits_value 10 value)) else Err Framing.Unreadable
+framing_by_length empty (value ∷ other ∷ values) = Err Framing.Unreadable
 
 -- by the values of Transfer-Encoding: there is none
-abbrev pub framing_without_coding : List (List ℕ) → Result AnswerFraming HeardFault → Result AnswerFraming HeardFault
+abbrev pub framing_without_coding : List (List ℕ) → Result AnswerFraming FramingFault → Result AnswerFraming FramingFault
 framing_without_coding [] framing = framing
-framing_without_coding (coding ∷ codings) framing = Err Fault.Unreadable
+framing_without_coding (coding ∷ codings) framing = Err Framing.Unreadable
 
 -- the reply to a HEAD, a 204 and a 304 have no body
 abbrev pub is_empty : Bool → ℕ → Bool
 is_empty head status = head || (status == 204) || (status == 304)
 
 -- how far the body goes, by the method's being HEAD, the status and the fields; a status below 200 is no reply
-abbrev pub framing_of : Bool → ℕ → Fields → Result AnswerFraming HeardFault
+abbrev pub framing_of : Bool → ℕ → Fields → Result AnswerFraming FramingFault
 framing_of head status fields =
-    if nat_lt status 200 then Err Fault.Unreadable
+    if nat_lt status 200 then Err Framing.Unreadable
     else framing_without_coding (values_of (codes "transfer-encoding") fields)
     (framing_by_length (is_empty head status) (values_of (codes "content-length") fields))
 
@@ -68,18 +72,18 @@ first_of [] = None
 first_of (value ∷ values) = Some value
 
 -- the path of a Location, in origin form or in absolute form
-abbrev pub IsPlaceOf : Option (List ℕ) → Result (Option (List ℕ)) HeardFault → Type 0
+abbrev pub IsPlaceOf : Option (List ℕ) → Result (Option (List ℕ)) SaidFault → Type 0
 IsPlaceOf None r = r ≡ Ok None
 IsPlaceOf (Some value) (Ok place) = (uri : Uri) × Spells value uri × (place ≡ Some (uri_path uri))
-IsPlaceOf (Some value) (Err e) = (e ≡ Fault.Unreadable) × SpellsNone value
+IsPlaceOf (Some value) (Err e) = (e ≡ Said.Unreadable) × SpellsNone value
 
 -- the last position of a range that begins at 0
-abbrev pub last_from_zero : Option Span → Result (Option ℕ) HeardFault
-last_from_zero None = Err Fault.Unreadable
-last_from_zero (Some range) = if range.first == 0 then Ok (Some range.last) else Err Fault.Unreadable
+abbrev pub last_from_zero : Option Span → Result (Option ℕ) SaidFault
+last_from_zero None = Err Said.Unreadable
+last_from_zero (Some range) = if range.first == 0 then Ok (Some range.last) else Err Said.Unreadable
 
 -- the last position of a Range
-abbrev pub upto_of : Option (List ℕ) → Result (Option ℕ) HeardFault
+abbrev pub upto_of : Option (List ℕ) → Result (Option ℕ) SaidFault
 upto_of None = Ok None
 upto_of (Some value) = last_from_zero (range_of value)
 
@@ -107,7 +111,7 @@ pub record IsHeard (status : ℕ) (fields : Fields) (body : List ℕ) (heard : H
 -- the Location or the Range is unreadable
 abbrev pub IsMisplaced : Fields → Type 0
 IsMisplaced fields =
-    IsPlaceOf (location fields) (Err Fault.Unreadable) ⊎ (upto_of (range fields) ≡ Err Fault.Unreadable)
+    IsPlaceOf (location fields) (Err Said.Unreadable) ⊎ (upto_of (range fields) ≡ Err Said.Unreadable)
 
 -- ---- replies
 
@@ -117,7 +121,7 @@ head_fields head = map name_and_value head.fields
 
 -- the text begins with a head whose body goes so far, and then comes rest
 pub record ReadsFramed
-    (head_only : Bool) (text : List ℕ) (framing : Result AnswerFraming HeardFault) (head : ResponseHead) (rest : List ℕ)
+    (head_only : Bool) (text : List ℕ) (framing : Result AnswerFraming FramingFault) (head : ResponseHead) (rest : List ℕ)
     : Type 0 where
   pub reads : ReadsHead text head rest
   pub framed : framing_of head_only (status_code head) (head_fields head) ≡ framing
@@ -149,7 +153,7 @@ pub record TellsMisplaced (head_only : Bool) (text rest : List ℕ) (new : Sourc
   pub misplaced : IsMisplaced (head_fields head)
 
 -- a head whose framing is this fault
-pub record HasFramingFault (head_only : Bool) (text : List ℕ) (fault : HeardFault) : Type 0 where
+pub record HasFramingFault (head_only : Bool) (text : List ℕ) (fault : FramingFault) : Type 0 where
   pub head : ResponseHead
   pub rest : List ℕ
   pub framed : ReadsFramed head_only text (Err fault) head rest
@@ -185,9 +189,9 @@ HoldsNone head_only text = IsUnfinished text ⊎ (HasCutBody head_only text ⊎ 
 abbrev pub FindsAnswer : Bool → List ℕ → List ℕ → SourceState → Result Heard HeardFault → Bool → Type 0
 FindsAnswer head_only text rest new (Ok heard) keep = TellsHeard head_only text rest new heard keep
 FindsAnswer head_only text rest new (Err Fault.Unreadable) keep =
-    IsRefused text ⊎ (HasFramingFault head_only text Fault.Unreadable ⊎ TellsMisplaced head_only text rest new)
+    IsRefused text ⊎ (HasFramingFault head_only text Framing.Unreadable ⊎ TellsMisplaced head_only text rest new)
 FindsAnswer head_only text rest new (Err Fault.TooLarge) keep =
-    IsTooLong text ⊎ (HasFramingFault head_only text Fault.TooLarge ⊎ HasLongBody head_only text)
+    IsTooLong text ⊎ (HasFramingFault head_only text Framing.TooLarge ⊎ HasLongBody head_only text)
 FindsAnswer head_only text rest new (Err Fault.Truncated) keep = IsAtEnd new.remaining × (IsUnfinished text ⊎ HasCutBody head_only text)
 FindsAnswer head_only text rest new (Err Fault.Read) keep = HoldsNone head_only text
 FindsAnswer head_only text rest new (Err Fault.NoMemory) keep = ⊤
@@ -201,7 +205,8 @@ pub record ReadsAnswer
   pub consumed : Consumes old.remaining new.remaining given
   pub found : FindsAnswer head_only (held ++ given) rest new r keep
 
--- what contracts see of a reader of replies: the bytes that were read and not taken, the source, whether a fault ended the reading, and whether the connection stays behind the reply that was read last
+-- what contracts see of a reader of replies: the bytes that were read and not taken, the source, whether a fault ended the reading,
+-- and whether the connection stays behind the reply that was read last
 pub record AnswerReaderState : Type 0 where
   pub held : List ℕ
   pub source : SourceState

@@ -67,7 +67,9 @@ HandedOnEach before (x ∷ xs) mid = (next : SinkState) × HandedOn before next 
 
 -- The bytes are these requests and then rest; each request wanted the connection to go on, was answered by the desk, and
 -- its reply was written whole and handed on.
-pub record Serves {D : Type 0} (step : Moves D) (max_body : ℕ) (old at : D) (bytes rest : List ℕ) (before mid : SinkState) (xs : List Exchange) : Type 0 where
+pub record Serves
+    {D : Type 0} (step : Moves D) (max_body : ℕ) (old at : D) (bytes rest : List ℕ) (before mid : SinkState) (xs : List Exchange)
+    : Type 0 where
   pub few : length xs < max_requests
   pub read : bytes ≡ messages xs ++ rest
   pub kept : AllByRecursion (IsKept max_body) xs
@@ -142,7 +144,9 @@ ReadsFail other old new = new ≡ old
 -- ---- the whole
 
 -- The bytes that were read, the desk's moves, and the bytes that were written are a conversation with this end.
-pub record IsConversation {D : Type 0} (step : Moves D) (max_body : ℕ) (first left : SourceState) (old new : D) (before after : SinkState) (end : ConnEnd) : Type 0 where
+pub record IsConversation
+    {D : Type 0} (step : Moves D) (max_body : ℕ) (first left : SourceState) (old new : D) (before after : SinkState) (end : ConnEnd)
+    : Type 0 where
   pub bytes : List ℕ
   pub consumed : Consumes first.remaining left.remaining bytes
   pub reads : ReadsFail end first.failed_reads left.failed_reads

@@ -29,7 +29,9 @@ AnswersOne step count ask style old new mid after (Some (Fault Conn.Write)) =
     (answer : Answer) × step old ask (Some answer) new × TookFront mid after (reply answer (last_style count style))
 
 -- The next request was read and answered, its reply was handed on, and the connection goes on.
-pub record GoesOn {D : Type 0} (step : Moves D) (max_body count : ℕ) (held rest : List ℕ) (first left : SourceState) (at new : D) (mid after : SinkState) : Type 0 where
+pub record GoesOn
+    {D : Type 0} (step : Moves D) (max_body count : ℕ) (held rest : List ℕ) (first left : SourceState) (at new : D) (mid after : SinkState)
+    : Type 0 where
   pub given : List ℕ
   pub consumed : Consumes first.remaining left.remaining given
   pub unfailed : left.failed_reads ≡ first.failed_reads
@@ -41,7 +43,9 @@ pub record GoesOn {D : Type 0} (step : Moves D) (max_body count : ℕ) (held res
   pub few : count + 1 < max_requests
 
 -- What came next in the input ended the connection.
-pub record Stops {D : Type 0} (step : Moves D) (max_body count : ℕ) (held : List ℕ) (first left : SourceState) (at new : D) (mid after : SinkState) (end : ConnEnd) : Type 0 where
+pub record Stops
+    {D : Type 0} (step : Moves D) (max_body count : ℕ) (held : List ℕ) (first left : SourceState) (at new : D) (mid after : SinkState) (end : ConnEnd)
+    : Type 0 where
   pub given : List ℕ
   pub consumed : Consumes first.remaining left.remaining given
   pub reads : ReadsFail end first.failed_reads left.failed_reads

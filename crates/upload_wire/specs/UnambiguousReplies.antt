@@ -6,7 +6,7 @@ use Rattle.http_wire.specs.ResponseFronts.{ReadsHead, IsRefused, IsTooLong, IsUn
 use Rattle.http_wire.specs.States.{SourceState}
 use Rattle.upload_wire.specs.AnswerText.{TellsHeard, TellsMisplaced, HasFramingFault, HasLongBody, HasCutBody}
 use Rattle.upload_wire.specs.declared.client.heard.Heard.{Heard}
-use Rattle.upload_wire.specs.declared.client.heard.HeardFault.TheVariants as Fault
+use Rattle.upload_wire.specs.declared.client.framing.FramingFault.TheVariants as Fault
 
 -- what a text holds first: a reply of which this is heard, whether it keeps the connection, and then rest; one that is unreadable, by its
 -- head or behind it; one that is too large; or a front of one

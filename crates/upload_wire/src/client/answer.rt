@@ -8,11 +8,11 @@ ghost use Rattle.http_wire.specs.Reading.{Costs};
 ghost use Rattle.http_wire.specs.Fields.{Fields, values_of};
 ghost use Rattle.upload_wire.specs.AnswerText.{ReadsAnswer, code_in, code_of, first_of, framing_of, framing_by_length, keeps_on, most_answer_reads, upto_of};
 ghost use Rattle.http_wire.specs.ResponseSpans.{IsHeadAtFront, IsHeadOf};
-ghost use Rattle.upload_wire.specs.AnswerReading.{IsSmall, IsFramingFault, PlaceUnlessNoMemory, Says, SaysBare, fields_of};
+ghost use Rattle.upload_wire.specs.AnswerReading.{IsSmall, PlaceUnlessNoMemory, Says, SaysBare, fields_of};
 
 use crate::client::body::{MAX_ANSWER, read_body};
-use crate::client::framing::AnswerFraming;
-use crate::client::heard::{Heard, HeardFault};
+use crate::client::framing::{AnswerFraming, FramingFault};
+use crate::client::heard::{Heard, HeardFault, SaidFault};
 use http_uri::{Uri, UriError};
 use http_wire::{
     Bad, ByteSource, HeadRead, Occurrence, ParsedResponse, ReadBuffer, Responses, field_among,
@@ -93,19 +93,18 @@ fn first_named<'b>(head: &'b [u8], headers: &[HeaderSpan], name: &[u8]) -> Optio
 }
 
 /// How far a body of a said length goes.
-fn sized(value: &[u8], empty: bool) -> Result<AnswerFraming, HeardFault>
+fn sized(value: &[u8], empty: bool) -> Result<AnswerFraming, FramingFault>
     ensures framing { result ≡ framing_by_length empty (value.now ∷ []) }
     ensures small { IfOk result IsSmall }
-    ensures error { IfErr result IsFramingFault }
 {
     match length_of(value, MAX_ANSWER as u64) {
         Ok(length) => Ok(AnswerFraming::Sized(if empty { 0 } else { length })),
-        Err(Bad::Length) => Err(HeardFault::Unreadable),
+        Err(Bad::Length) => Err(FramingFault::Unreadable),
         Err(_) => {
             if empty {
                 Ok(AnswerFraming::Sized(0))
             } else {
-                Err(HeardFault::TooLarge)
+                Err(FramingFault::TooLarge)
             }
         }
     }
@@ -117,20 +116,19 @@ fn framing_of(
     head_only: bool,
     head: &[u8],
     parsed: &ParsedResponse,
-) -> Result<AnswerFraming, HeardFault>
+) -> Result<AnswerFraming, FramingFault>
     requires { IsHeadOf head.now parsed.now }
     ensures framing { result ≡ framing_of head_only parsed.now.spans.code (fields_of head.now parsed.now) }
     ensures small { IfOk result IsSmall }
-    ensures error { IfErr result IsFramingFault }
 {
     let status = parsed.spans.code;
     if status < 200 {
-        return Err(HeardFault::Unreadable);
+        return Err(FramingFault::Unreadable);
     }
     let headers = &parsed.headers[..parsed.spans.headers];
     match field_among(head, headers, b"transfer-encoding") {
         Occurrence::Absent => {}
-        _ => return Err(HeardFault::Unreadable),
+        _ => return Err(FramingFault::Unreadable),
     }
     let empty = head_only || status == 204 || status == 304;
     match field_among(head, headers, b"content-length") {
@@ -140,7 +138,7 @@ fn framing_of(
             AnswerFraming::ToEnd
         }),
         Occurrence::Once(value) => sized(value, empty),
-        Occurrence::Repeated => Err(HeardFault::Unreadable),
+        Occurrence::Repeated => Err(FramingFault::Unreadable),
     }
 }
 
@@ -159,7 +157,7 @@ fn keeps_on(head: &[u8], parsed: &ParsedResponse, framing: AnswerFraming) -> boo
 }
 
 /// The path of a Location.
-fn place_of(alloc: Global, value: Option<&[u8]>) -> Result<Option<Bytes>, HeardFault>
+fn place_of(alloc: Global, value: Option<&[u8]>) -> Result<Option<Bytes>, SaidFault>
     ensures { PlaceUnlessNoMemory (option_map (λ v. v.now) value.entry) result }
 {
     let Some(value) = value else {
@@ -167,17 +165,17 @@ fn place_of(alloc: Global, value: Option<&[u8]>) -> Result<Option<Bytes>, HeardF
     };
     let uri = match Uri::from_bytes(alloc, value) {
         Ok(uri) => uri,
-        Err(UriError::Invalid(_)) => return Err(HeardFault::Unreadable),
-        Err(UriError::OutOfMemory) => return Err(HeardFault::NoMemory),
+        Err(UriError::Invalid(_)) => return Err(SaidFault::Unreadable),
+        Err(UriError::OutOfMemory) => return Err(SaidFault::NoMemory),
     };
     match Vec::from_slice(alloc, uri.path().as_bytes()) {
         Ok(path) => Ok(Some(Bytes::of(path))),
-        Err(_) => Err(HeardFault::NoMemory),
+        Err(_) => Err(SaidFault::NoMemory),
     }
 }
 
 /// The last position of a Range, which begins at 0.
-fn upto_of(value: Option<&[u8]>) -> Result<Option<u64>, HeardFault>
+fn upto_of(value: Option<&[u8]>) -> Result<Option<u64>, SaidFault>
     ensures { result ≡ upto_of (option_map (λ v. v.now) value.entry) }
 {
     let Some(value) = value else {
@@ -188,15 +186,15 @@ fn upto_of(value: Option<&[u8]>) -> Result<Option<u64>, HeardFault>
             if range.first == 0 {
                 Ok(Some(range.last))
             } else {
-                Err(HeardFault::Unreadable)
+                Err(SaidFault::Unreadable)
             }
         }
-        None => Err(HeardFault::Unreadable),
+        None => Err(SaidFault::Unreadable),
     }
 }
 
 /// What a head says, with no code yet.
-fn said_of(alloc: Global, head: &[u8], parsed: &ParsedResponse) -> Result<Heard, HeardFault>
+fn said_of(alloc: Global, head: &[u8], parsed: &ParsedResponse) -> Result<Heard, SaidFault>
     requires { IsHeadOf head.now parsed.now }
     ensures { SaysBare parsed.now.spans.code (fields_of head.now parsed.now) result }
 {
@@ -212,17 +210,13 @@ fn said_of(alloc: Global, head: &[u8], parsed: &ParsedResponse) -> Result<Heard,
 }
 
 /// What a head said, and the code of the body.
-fn with_code(
-    alloc: Global,
-    said: Result<Heard, HeardFault>,
-    body: &[u8],
-) -> Result<Heard, HeardFault>
+fn with_code(alloc: Global, said: Result<Heard, SaidFault>, body: &[u8]) -> Result<Heard, SaidFault>
     ensures { (status : ℕ) (fields : Fields) → SaysBare status fields said → Says status fields body.now result }
 {
     let said = said?;
     match code_of(alloc, body) {
         Ok(code) => Ok(Heard { code, ..said }),
-        Err(_) => Err(HeardFault::NoMemory),
+        Err(_) => Err(SaidFault::NoMemory),
     }
 }
 
@@ -240,17 +234,14 @@ fn read_framed<S: ByteSource>(
     ensures costs { Costs 65537 (result ≡ Err HeardFault.Read) (S.state source.old) (S.state source.new) }
 {
     let head = &buffer.as_slice()[..parsed.spans.len];
-    let framing = match framing_of(head_only, head, parsed) {
-        Ok(framing) => framing,
-        Err(fault) => return Err(fault),
-    };
+    let framing = framing_of(head_only, head, parsed)?;
     // What the head says is heard once the body is there.
     let said = said_of(alloc, head, parsed);
     *keep = keeps_on(head, parsed, framing);
     buffer.consume(parsed.spans.len);
     let mut body = Vec::new(alloc);
     match read_body(source, buffer, &mut body, framing) {
-        Ok(()) => with_code(alloc, said, &body),
+        Ok(()) => Ok(with_code(alloc, said, &body)?),
         Err(fault) => Err(fault),
     }
 }

@@ -17,7 +17,8 @@ fn read_to_end<S: ByteSource>(
     body: &mut Vec<u8>,
 ) -> Result<(), HeardFault>
     requires { body.old.items ≡ [] }
-    ensures found { FindsBody AnswerFraming.ToEnd buffer.old (S.state source.old) body.new.items buffer.new (S.state source.new) result }
+    ensures found { FindsBody AnswerFraming.ToEnd buffer.old (S.state source.old) body.new.items
+        buffer.new (S.state source.new) result }
     ensures costs { Costs 65537 (result ≡ Err HeardFault.Read) (S.state source.old) (S.state source.new) }
 {
     match read_bytes(source, buffer, body, MAX_ANSWER + 1) {

@@ -8,3 +8,12 @@ pub enum AnswerFraming {
     /// All up to the end of the input.
     ToEnd,
 }
+
+/// Why no body is read behind a head.
+#[derive(Clone, Copy, Debug, Drop, PartialEq, Eq)]
+pub enum FramingFault {
+    /// The head frames no body that is read.
+    Unreadable,
+    /// Its body is over 65,536 bytes.
+    TooLarge,
+}

@@ -3,6 +3,7 @@ ghost use Rattle.std.specs.Prelude.{◌≡◌, ◌++◌, IfOk, codes};
 ghost use Rattle.std.specs.Option.{option_copied};
 ghost use Rattle.upload_wire.specs.Heard.{reply_heard, of_upload, bare, after_front, place_in};
 
+use crate::client::framing::FramingFault;
 use crate::reply::{ErrorCode, refusal_code, refusal_status};
 use http_wire::{BodyFault, InputFault};
 use std::alloc::{AllocError, Global};
@@ -85,6 +86,43 @@ impl From<BodyFault> for HeardFault {
             BodyFault::Truncated => HeardFault::Truncated,
             BodyFault::Read => HeardFault::Read,
             BodyFault::NoMemory => HeardFault::NoMemory,
+        }
+    }
+}
+
+/// Why nothing is heard in a reply that came whole.
+#[derive(Clone, Copy, Debug, Drop, PartialEq, Eq)]
+pub enum SaidFault {
+    /// Its Location or its Range is of no form that is read.
+    Unreadable,
+    /// There was no memory for its texts.
+    NoMemory,
+}
+
+impl From<FramingFault> for HeardFault {
+    ghost use Rattle.std.specs.Prelude.{◌≡◌};
+    ghost use Rattle.upload_wire.specs.AnswerReading.{heard_of_framing};
+
+    ghost from_gives = { λ fault heard. heard ≡ heard_of_framing fault };
+
+    fn from(fault: FramingFault) -> HeardFault {
+        match fault {
+            FramingFault::Unreadable => HeardFault::Unreadable,
+            FramingFault::TooLarge => HeardFault::TooLarge,
+        }
+    }
+}
+
+impl From<SaidFault> for HeardFault {
+    ghost use Rattle.std.specs.Prelude.{◌≡◌};
+    ghost use Rattle.upload_wire.specs.AnswerReading.{heard_of_said};
+
+    ghost from_gives = { λ fault heard. heard ≡ heard_of_said fault };
+
+    fn from(fault: SaidFault) -> HeardFault {
+        match fault {
+            SaidFault::Unreadable => HeardFault::Unreadable,
+            SaidFault::NoMemory => HeardFault::NoMemory,
         }
     }
 }
