@@ -37,10 +37,10 @@ pub record IsOnce (first left : SourceState) (before after : SinkState) (status 
   pub conversation : IsConversation StepsService program_limits.max_body first left first_desk desk before after end
   pub run : Run first_desk.service
       (service_exchanges first_desk
-        (answered StepsService program_limits.max_body first left first_desk desk before after end conversation))
+      (answered StepsService program_limits.max_body first left first_desk desk before after end conversation))
       desk.service
   pub headline : Headline first_desk.service
       (service_exchanges first_desk
-        (answered StepsService program_limits.max_body first left first_desk desk before after end conversation))
+      (answered StepsService program_limits.max_body first left first_desk desk before after end conversation))
       desk.service
   pub is_status : status ≡ status_of end
