@@ -50,7 +50,7 @@ class Scripted:
         for script in self.connections:
             self.asked.append([])
             client, _ = self.listener.accept()
-            client.settimeout(20)
+            client.settimeout(running.PATIENCE)
             with client:
                 try:
                     self.converse(client, script)

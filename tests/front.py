@@ -92,7 +92,7 @@ class Client:
 
     def connect(self):
         self.socket = socket.socket()
-        self.socket.settimeout(60)
+        self.socket.settimeout(running.PATIENCE)
         if self.room:
             self.socket.setsockopt(socket.SOL_SOCKET, socket.SO_RCVBUF, self.room)
         self.socket.connect(self.place)
@@ -287,26 +287,34 @@ def logins_are_asked_for(site):
         warnings.simplefilter("ignore")
         old.maximum_version = ssl.TLSVersion.TLSv1_1
     try:
-        old.wrap_socket(socket.create_connection(servers.place(site.haproxy.tls), timeout=10), server_hostname="127.0.0.1").close()
+        old.wrap_socket(running.connected(servers.place(site.haproxy.tls)), server_hostname="127.0.0.1").close()
         check("TLS 1.1 is refused", False)
     except (ssl.SSLError, ConnectionError):
         check("TLS 1.1 is refused", True)
 
 
+def expecting(site, who, status):
+    """What a client is told that may wait for the word to send a body, and the seconds until then. Its body goes behind a 100."""
+    place = site.local().ask("POST", "/v2/lib/continued/blobs/uploads/")[1]["Location"]
+    client = Client(site.haproxy.plain, who)
+    begun = time.monotonic()
+    client.write("PATCH", place, 2 * MIB, {"Expect": "100-continue"})
+    first = client.socket.recv(4096)
+    waited = time.monotonic() - begun
+    check(f"{status} to a body that is expected", first.startswith(b"HTTP/1.1 %d" % status), first)
+    if status == 100:
+        client.socket.sendall(bytes(2 * MIB))
+        check("the body behind a 100 is taken", client.heard("PATCH")[0] == 202)
+    client.close()
+    return waited
+
+
 def continue_is_said(site):
     """100 comes at once to who may go on, and never to who may not."""
     for who, status in ((LOGIN, 100), (("alice", "wrong"), 401)):
-        place = site.local().ask("POST", "/v2/lib/continued/blobs/uploads/")[1]["Location"]
-        client = Client(site.haproxy.plain, who)
-        begun = time.monotonic()
-        client.write("PATCH", place, 2 * MIB, {"Expect": "100-continue"})
-        first = client.socket.recv(4096)
-        waited = time.monotonic() - begun
-        check(f"{status} to a body that is expected", first.startswith(b"HTTP/1.1 %d" % status) and waited < 0.5, (first, waited))
-        if status == 100:
-            client.socket.sendall(bytes(2 * MIB))
-            check("the body behind a 100 is taken", client.heard("PATCH")[0] == 202)
-        client.close()
+        # the soonest of three: the machine may halt for a moment
+        waited = min(expecting(site, who, status) for _ in range(3))
+        check(f"{status} comes at once", waited < 0.5, waited)
 
 
 def large_bodies_are_refused(site):
@@ -455,7 +463,7 @@ def skopeo(site, *words):
 
 
 def told_by(words, **options):
-    ran = subprocess.run(words, capture_output=True, text=True, timeout=120, check=False, **options)
+    ran = subprocess.run(words, capture_output=True, text=True, timeout=running.PATIENCE, check=False, **options)
     return ran.returncode, (ran.stdout + ran.stderr)[-500:]
 
 
@@ -498,7 +506,7 @@ def many_clients_keep_connections(site):
         client, longest, right = site.client(), 0.0, 0
         content = f"the blob of client {number}".encode() * 500
         client.ask("GET", "/v2/")
-        meeting.wait(timeout=60)
+        meeting.wait(timeout=running.PATIENCE)
         for turn in range(rounds):
             begun = time.monotonic()
             right += client.push(f"team{number}/app", content + bytes([turn])) == [202, 202, 201]
@@ -620,7 +628,7 @@ class Uploads:
     def end(self):
         self.ending.set()
         for one in self.work:
-            one.result(timeout=120)
+            one.result(timeout=running.PATIENCE)
         self.pool.shutdown()
         return self.told
 
@@ -743,7 +751,7 @@ def the_newcomers_registry():
         check("and takes an image", push_image(client, "lib/new") == ([[202, 202, 201]] * 2, 201))
         registry.send_signal(signal.SIGINT)
         rest = registry.stdout.read()
-        check("it ends well", registry.wait(timeout=20) == 0 and rest.strip() == "ended", rest)
+        check("it ends well", registry.wait(timeout=running.PATIENCE) == 0 and rest.strip() == "ended", rest)
     check("its folder is gone", not os.path.exists(folder))
     for address in (tls, store):
         with contextlib.closing(socket.socket()) as probe:

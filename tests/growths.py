@@ -50,7 +50,7 @@ def run_refused(library, command, sent, number):
         given.write(sent)
         given.seek(0)
         try:
-            ran = subprocess.run(command, stdin=given, capture_output=True, env=env, pass_fds=[teller], timeout=60, check=False)
+            ran = subprocess.run(command, stdin=given, capture_output=True, env=env, pass_fds=[teller], timeout=running.PATIENCE, check=False)
             written, status = ran.stdout, ran.returncode
         except subprocess.TimeoutExpired:
             written, status = b"", None

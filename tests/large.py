@@ -12,7 +12,6 @@ import tempfile
 import unittest
 
 from harness import running, suite
-from harness.wire import PATIENCE
 
 MIB = 1 << 20
 # No multiple of any buffer's size.
@@ -41,7 +40,7 @@ class Large(unittest.TestCase):
 
     def ask(self, method, target, body, **fields):
         """The reply to a request whose body comes in pieces: its status and its fields."""
-        client = self.server.client(PATIENCE)
+        client = self.server.client()
         self.addCleanup(client.close)
         headers = {name.replace("_", "-"): value for name, value in fields.items()}
         client.request(method, target, body, {"Connection": "close", **headers}, encode_chunked="Transfer-Encoding" in headers)
@@ -51,7 +50,7 @@ class Large(unittest.TestCase):
 
     def pulled(self, digest):
         """How long the blob is, by its field and by its bytes, and their digest."""
-        client = self.server.client(PATIENCE)
+        client = self.server.client()
         self.addCleanup(client.close)
         client.request("GET", f"/v2/lib/a/blobs/{digest}", headers={"Connection": "close"})
         reply = client.getresponse()
@@ -89,7 +88,7 @@ class Large(unittest.TestCase):
         with tempfile.NamedTemporaryFile() as file:
             file.writelines(pieces(3))
             file.flush()
-            printed = running.run("push", self.server.addr, "lib/a", file.name, str(WHOLE_FILE), timeout=PATIENCE)
+            printed = running.run("push", self.server.addr, "lib/a", file.name, str(WHOLE_FILE))
         self.assertEqual((f"pushed {digest}\n", 0, ""), printed)
         self.comes_back(digest)
 

@@ -16,7 +16,7 @@ import unittest
 import model
 from harness import running, suite
 from harness.running import sha256
-from harness.wire import PATIENCE, request_text
+from harness.wire import request_text
 
 ZERO_REFERENCE = model.reference_of(1)
 PLACE = f"/v2/a/blobs/uploads/{ZERO_REFERENCE}"
@@ -62,7 +62,7 @@ def rounds(place, reference, count):
     replies = [turn.text for turn in model.conversation(b"".join(FIRST + ROUND))[0]][len(FIRST) :]
     sent, wanted = (b"".join(texts).replace(ZERO_REFERENCE.encode(), reference.encode()) for texts in (ROUND, replies))
     while count:
-        with running.connected(place, PATIENCE) as connection:
+        with running.connected(place) as connection:
             left = min(count, ROUNDS_OF_A_CONNECTION)
             count -= left
             while left:
@@ -76,7 +76,7 @@ def rounds(place, reference, count):
 def small_blobs(place, numbers):
     """Stores a small blob for each number. Gives whether all were answered as the model does."""
     for first in range(numbers.start, numbers.stop, model.MAX_REQUESTS // 2):
-        with running.connected(place, PATIENCE) as connection:
+        with running.connected(place) as connection:
             last = min(first + model.MAX_REQUESTS // 2, numbers.stop)
             for begin in range(first, last, 100):
                 bodies = [b"%d" % number for number in range(begin, min(begin + 100, last))]
@@ -93,7 +93,7 @@ class LongRuns(unittest.TestCase):
         self.addCleanup(self.server.stop)
 
     def test_memory_stays_level(self):
-        with self.server.connect(PATIENCE) as connection:
+        with self.server.connect() as connection:
             connection.sendall(FIRST[0])
             reference = connection.recv(1 << 16).split(b"\r\n")[1].decode().rsplit("/", 1)[1]
             connection.sendall(FIRST[1].replace(ZERO_REFERENCE.encode(), reference.encode()) + FIRST[2])

@@ -48,7 +48,7 @@ def upload(server, name, content, piece, meeting):
     try:
         status, fields, _ = ask(client, "POST", f"/v2/{name}/blobs/uploads/")
         place = fields["Location"]
-        meeting.wait(timeout=20)
+        meeting.wait(timeout=running.PATIENCE)
         replies = [status]
         for first in range(0, len(content), piece):
             chunk = content[first : first + piece]
@@ -175,7 +175,7 @@ def kept_connections():
             check("a third connection waits", False, "it was answered")
         except TimeoutError:
             check("a third connection waits", True)
-        third.sock.settimeout(20)
+        third.sock.settimeout(running.PATIENCE)
         status, fields, _ = ask(first, "GET", "/v2/", Connection="close")
         check("a request that asks to close", (status, fields["Connection"]) == (200, "close"), fields.items())
         check("a third connection once one has ended", third.getresponse().status == 200)
@@ -284,7 +284,7 @@ def one_worker_alone():
             reply = rest_of(connection)
             check("no reply of a worker alone", reply == b"", reply)
         try:
-            ended = server.process.wait(timeout=10), server.process.stdout.read()
+            ended = server.process.wait(timeout=running.PATIENCE), server.process.stdout.read()
         except subprocess.TimeoutExpired:
             ended = "it goes on"
         check("a worker alone stops", ended == (3, "fault: workers\n"), ended)
@@ -383,7 +383,7 @@ def faults():
             check("no memory for a worker", server.end() == ("fault: workers\n", 3))
         one_worker_alone()
     with open("/dev/full", "w", encoding="utf-8") as full:
-        ended = subprocess.run([running.PROGRAM, "serve", "127.0.0.1:0", "1"], stdout=full, timeout=20, check=False)
+        ended = subprocess.run([running.PROGRAM, "serve", "127.0.0.1:0", "1"], stdout=full, timeout=running.PATIENCE, check=False)
         check("a line that can't be printed", ended.returncode == 3, ended.returncode)
 
 
@@ -486,7 +486,7 @@ def skopeo_copies(folder):
     with Server(1000) as server:
         words = ["skopeo", "--insecure-policy", "copy", "--dest-tls-verify=false", "--preserve-digests"]
         words += ["--dest-no-creds", "--dest-compress=false", f"oci:{layout}", f"docker://{server.addr}/lib/image:one"]
-        ran = subprocess.run(words, capture_output=True, text=True, timeout=30, check=False)
+        ran = subprocess.run(words, capture_output=True, text=True, timeout=running.PATIENCE, check=False)
         check("skopeo stops at the manifest", ran.returncode != 0 and "manifest" in ran.stderr, ran.stderr)
         for digest in digests:
             got = pull(server, "lib/image", digest)

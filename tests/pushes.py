@@ -87,7 +87,7 @@ def on_a_terminal(*words):
         with contextlib.suppress(OSError):
             while part := os.read(terminal, 65536):
                 drawn.append(part)
-        told = ran.stdout.read(), ran.wait(timeout=60)
+        told = ran.stdout.read(), ran.wait(timeout=running.PATIENCE)
     os.close(terminal)
     return told, b"".join(drawn).decode()
 

@@ -14,21 +14,24 @@ import subprocess
 # The built program: the first word of every script.
 PROGRAM = ""
 
+# Seconds after which what is waited for is taken to hang. No test tells speed by it: a machine that is slow for a while passes.
+PATIENCE = 300
+
 
 def once(sent):
     """What `blobd once` writes over this connection, and its exit status."""
-    ran = subprocess.run([PROGRAM, "once"], input=sent, capture_output=True, timeout=60, check=False)
+    ran = subprocess.run([PROGRAM, "once"], input=sent, capture_output=True, timeout=PATIENCE, check=False)
     return ran.stdout, ran.returncode
 
 
-def run(*words, timeout=60, **options):
-    """Standard output, the exit status and standard error of a run of the program that ends by itself, in so many seconds."""
-    ran = subprocess.run([PROGRAM, *words], capture_output=True, text=True, timeout=timeout, check=False, **options)
+def run(*words, **options):
+    """Standard output, the exit status and standard error of a run of the program that ends by itself."""
+    ran = subprocess.run([PROGRAM, *words], capture_output=True, text=True, timeout=PATIENCE, check=False, **options)
     return ran.stdout, ran.returncode, ran.stderr
 
 
-def connected(place, timeout=20):
-    return socket.create_connection(place, timeout=timeout)
+def connected(place):
+    return socket.create_connection(place, timeout=PATIENCE)
 
 
 def processes(count=None):
@@ -70,11 +73,11 @@ class Server:
         host, port = self.addr.rsplit(":", 1)
         return host, int(port)
 
-    def connect(self, timeout=20):
-        return connected(self.place(), timeout)
+    def connect(self):
+        return connected(self.place())
 
-    def client(self, timeout=20):
-        return http.client.HTTPConnection(*self.place(), timeout=timeout)
+    def client(self):
+        return http.client.HTTPConnection(*self.place(), timeout=PATIENCE)
 
     def memory(self):
         """The bytes of its memory that are resident."""
@@ -83,7 +86,7 @@ class Server:
 
     def ended(self):
         """What else was printed and the exit status, once it has ended by itself."""
-        status = self.process.wait(timeout=100)
+        status = self.process.wait(timeout=PATIENCE)
         return self.process.stdout.read(), status
 
     def told(self, seconds):
@@ -106,7 +109,7 @@ class Server:
                 self.connect().close()
             except OSError:
                 break
-        return self.process.stdout.read(), self.process.wait(timeout=30)
+        return self.process.stdout.read(), self.process.wait(timeout=PATIENCE)
 
 
 def ask(client, method, target, body=b"", **fields):

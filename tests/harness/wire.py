@@ -3,9 +3,7 @@ import dataclasses
 import http.client
 
 from . import running
-
-# Nobody waits longer for anything: what takes longer is hung.
-PATIENCE = 120
+from .running import PATIENCE
 
 
 class Complaint(Exception):
@@ -55,7 +53,7 @@ class Connection:
     """One connection, over which requests are sent one after the other."""
 
     def __init__(self, place):
-        self.socket = running.connected(place, PATIENCE)
+        self.socket = running.connected(place)
         self.is_open = True
 
     def send(self, text):
