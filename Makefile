@@ -18,7 +18,7 @@ CPU = $(if $(LEVEL),--cpu=$(LEVEL))
 
 help:
 	@echo 'make try     a whole upload over one connection, through `blobd once`, interpreted and unproved: a minute'
-	@echo 'make once    the same, proved and built: 9 to 18 minutes the first time on four cores, seconds from then on'
+	@echo 'make once    the same, proved and built: 10 to 25 minutes the first time on four cores, seconds from then on'
 	@echo 'make serve   the service at $(ADDR), until it is interrupted (ADDR=.. takes another address, COUNT=.. so many connections of each worker)'
 	@echo 'make upload  pushes $(FILE) to that service (FILE=.. takes another), pulls it back and compares, in another shell'
 	@echo 'make registry a registry to push images to: TLS and a login, with HAProxy in front of the service (docs/OPERATIONS.md)'
@@ -52,7 +52,7 @@ native: proved
 
 # Shows how far it is: so many of the functions of one crate after the other.
 proved:
-	@echo 'Proves what changed since the last time: from nothing that takes 9 to 18 minutes on four cores, crate by crate.' >&2
+	@echo 'Proves what changed since the last time: from nothing that takes 10 to 25 minutes on four cores, crate by crate.' >&2
 	@cd crates/blobd && rt check >&2
 
 serve: native

@@ -44,6 +44,7 @@ def grouped(axes, names, series):
         axes.bar_label(bars, labels=[f"{value:.0f}" if value >= 10 else f"{value:.1f}" for _, value in there], fontsize=7, padding=1)
     axes.set_xticks(range(len(names)), names.values(), fontsize=8)
     axes.spines[["top", "right"]].set_visible(False)
+    axes.margins(y=0.25)  # room for the legend
     axes.legend(frameon=False, fontsize=8)
 
 
@@ -56,8 +57,8 @@ def speeds(told, names):
     return {server: values for server, values in series.items() if values}
 
 
-def waits(told):
-    return {row["what"]: row["longest_wait_seconds"] * 1000 for row in told["rows"] if row["kind"] == "waiting" and row["server"] == "blobd"}
+def waits(told, server):
+    return {row["what"]: row["longest_wait_seconds"] * 1000 for row in told["rows"] if row["kind"] == "waiting" and row["server"] == server}
 
 
 def draw(told, before, picture):
@@ -66,12 +67,13 @@ def draw(told, before, picture):
     uploads.set_title("uploads, MiB a second", fontsize=10)
     grouped(pulls, PULLS, speeds(told, PULLS))
     pulls.set_title("pulls, MiB a second", fontsize=10)
-    series = {"before": waits(before)} if before else {}
-    series["blobd"] = waits(told)
+    series = {"before": waits(before, "blobd")} if before else {}
+    series |= {server: waits(told, server) for server in ("blobd", "docker-registry")}
     names = {what: what.replace(" in one body", "\nin one body").replace(" of ", "\nof ") for what in series["blobd"]}
-    grouped(waiting, names, series)
-    waiting.set_yscale("log")
-    waiting.set_title("longest wait for GET /v2/, ms (log)", fontsize=10)
+    grouped(waiting, names, {label: values for label, values in series.items() if values})
+    waiting.set_title("longest wait for GET /v2/, ms", fontsize=10)
+    if before:
+        waiting.set_yscale("log")
     figure.savefig(picture, metadata={"Date": None})
 
 

@@ -27,7 +27,6 @@ import socket
 import subprocess
 import sys
 import tempfile
-import threading
 import time
 
 import raw
@@ -99,12 +98,13 @@ class Measured:
 
 class Blobd(Measured):
     name = "blobd"
+    stderr = None
 
     def __init__(self, settings):
         self.settings = settings
 
     def begun(self):
-        server = running.Server(1_000_000, env=os.environ | self.settings)
+        server = running.Server(1_000_000, env=os.environ | self.settings, stderr=self.stderr)
         if not server.first_line.startswith("listening "):
             server.stop()
             sys.exit(f"{running.PROGRAM} serve: {server.first_line.strip() or 'it says nothing'}")
@@ -112,6 +112,16 @@ class Blobd(Measured):
 
     def place(self):
         return self.server.place()
+
+
+class BlobdWithLog(Blobd):
+    """The same with a line of a log for each request, which nobody reads."""
+
+    name = "blobd with its log"
+    stderr = subprocess.DEVNULL
+
+    def __init__(self, settings):
+        super().__init__(settings | {"BLOBD_LOG": "1"})
 
 
 class DockerRegistry(Measured):
@@ -166,39 +176,50 @@ def seconds(work):
     return time.monotonic() - start
 
 
-class Beside(threading.Thread):
-    """Work that goes on beside the caller's, from the start of a `with` to its end. What it raises ends this program."""
+class Beside:
+    """Work that goes on beside the caller's, from the start of a `with` to its end. What fails in it ends this program.
+
+    It has a process of its own, which waits for the `with`: of two threads of Python the one that takes a body would hold up the other.
+    """
 
     def __init__(self, work):
-        super().__init__(daemon=True)
-        self.work = work
-        self.fault = None
+        self.ready, self.begun, self.over = FORK.Event(), FORK.Event(), FORK.Event()
+        self.process = FORK.Process(target=self.run, args=(work,), daemon=True)
+        self.process.start()
+        self.ready.wait(PATIENCE)
 
-    def run(self):
+    def run(self, work):
+        self.ready.set()
+        self.begun.wait()
         try:
-            self.work()
-        except (Exception, SystemExit) as fault:  # told by the thread that waits for this one
-            self.fault = fault
+            work()
+        finally:
+            self.over.set()
+
+    def is_alive(self):
+        return not self.over.is_set()
 
     def __enter__(self):
-        self.start()
+        self.begun.set()
         return self
 
     def __exit__(self, *_):
-        self.join(PATIENCE)
-        if self.is_alive() or self.fault:
-            sys.exit(f"work beside another failed: {self.fault or 'it did not end'}")
+        self.over.wait(PATIENCE)
+        self.process.join(PATIENCE)
+        if self.process.exitcode != 0:
+            sys.exit("work beside another failed")
 
 
 def seconds_of_both(works):
     """Seconds from the start of the first to the end of the last of several that run at once."""
-
-    def both():
-        with contextlib.ExitStack() as at_once:
-            for work in works:
-                at_once.enter_context(Beside(work))
-
-    return seconds(both)
+    waiting = [Beside(work) for work in works]
+    with contextlib.ExitStack() as at_once:
+        start = time.monotonic()
+        for work in waiting:
+            at_once.enter_context(work)
+        for work in waiting:
+            work.over.wait(PATIENCE)
+        return time.monotonic() - start
 
 
 def ran(words):
@@ -472,6 +493,10 @@ def server_rows(server, blob, large):
     yield "at once", "two pulls", pulls_at_once_row(server, blob, 2)
     for what, pulled in (("an upload in one body", False), ("a pull", True)):
         yield "waiting", f"beside {what} of {large.size // MIB} MiB", waiting_row(server, large, pulled)
+    yield from small_rows(server)
+
+
+def small_rows(server):
     small = {
         "GET /v2/": ("GET", "/v2/", 200, {}, SMALL_REQUESTS),
         "opening": ("POST", "/v2/lib/a/blobs/uploads/", 202, {"Content_Length": 0}, OPENINGS),
@@ -597,8 +622,8 @@ def read_words():
 def measure(program, settings, blob, large, folder):
     """The rows of each server, and those of the client."""
     running.PROGRAM = program
-    blobd = Blobd(settings)
-    measured = [(blobd, server_rows(blobd, blob, large)), (blobd, push_rows(blobd, blob))]
+    blobd, with_log = Blobd(settings), BlobdWithLog(settings)
+    measured = [(blobd, server_rows(blobd, blob, large)), (with_log, small_rows(with_log)), (blobd, push_rows(blobd, blob))]
     if not servers.missing("docker-registry"):
         registry = DockerRegistry(folder)
         measured.append((registry, server_rows(registry, blob, large)))
