@@ -1,15 +1,11 @@
--- Requests of one moment: what one more does, and that their moments don't fall.
-use Rattle.std.proofs.Common.{◌≡◌, ℕ, List, [], ◌∷◌, ◌++◌, Result, Ok, Err, Vec, Global, IfOk, refl, sym, ap, subst, replicate, arith}
+-- Requests of one moment: their moments don't fall.
+use Rattle.std.proofs.Common.{◌≡◌, ℕ, List, [], ◌∷◌, Result, Ok, Err, Vec, Global, IfOk, sym, subst, arith}
 use Rattle.upload_service.specs.declared.ask.Ask.{Ask}
 use Rattle.upload_service.specs.declared.answer.Answer.{Answer}
 use Rattle.upload_service.specs.Machine.{State}
 use Rattle.upload_service.specs.Run.{NeverFall, exchanges}
 use Rattle.upload_service.specs.Headline.{Headline}
 use Rattle.embed_service.specs.AtOnce.{at_once}
-
-pub at_once-push : (asks : List Ask) (ask : Ask) → at_once asks ++ (ask, replicate 12 0, 0) ∷ [] ≡ at_once (asks ++ ask ∷ [])
-at_once-push [] ask = refl
-at_once-push (x ∷ asks) ask = ap (λ jobs. (x, replicate 12 0, 0) ∷ jobs) (at_once-push asks ask)
 
 at_once-never_fall : (asks : List Ask) (answers : List Answer) → NeverFall (exchanges (at_once asks) answers)
 at_once-never_fall [] answers = tt

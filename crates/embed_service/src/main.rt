@@ -1,21 +1,15 @@
-//! A service in one's own process: a blob goes up in two chunks and is read back. The program prints the digest that it
-//! was stored under, and the digest of the bytes that came back.
+//! A service in one's own process: a blob is stored and read back. The program prints the digest of what came back.
 #![tactic(auto)]
 
-ghost use Rattle.std.specs.Prelude.{◌≡◌, IfOk, OnErr};
-ghost use Rattle.std.specs.List.{concat};
-ghost use Rattle.upload_names.specs.Digest.{content_digest};
+ghost use Rattle.std.specs.Prelude.{◌≡◌, length, IfOk, OnErr};
 ghost use Rattle.upload_service.specs.Run.{exchanges};
 ghost use Rattle.upload_service.specs.Headline.{Headline};
 ghost use Rattle.embed_service.specs.AtOnce.{at_once};
 
-mod upload;
-
-use crate::upload::{SECRET, upload};
 use std::alloc::{AllocError, Global};
-use std::io;
-use upload_names::{Algorithm, BlobDigest, Bytes};
-use upload_service::{Answer, Ask, Limits, Part, Service};
+use std::io::{self, ErrorKind};
+use upload_names::{BlobDigest, Bytes, RepoName};
+use upload_service::{Answer, Ask, Limits, Service};
 
 /// 1 MiB a blob and a body, 16 open sessions, an hour without a chunk.
 const LIMITS: Limits = Limits {
@@ -27,48 +21,37 @@ const LIMITS: Limits = Limits {
 
 /// Serves requests in order, all at the moment 0: the headline holds of them and their answers. An `Err` changes nothing.
 fn serve(service: &mut Service, alloc: Global, asks: Vec<Ask>) -> Result<Vec<Answer>, AllocError>
+    ensures count { IfOk result (λ answers. length answers.items ≡ length asks.items) }
     ensures headline { IfOk result (λ answers. Headline service.old (exchanges (at_once asks.items) answers.items) service.new) }
     ensures err { OnErr result (service.new ≡ service.old) }
 {
-    let mut jobs = Vec::new(alloc);
-    for ask in asks {
-        jobs.push((ask, SECRET, 0))?;
-    }
-    service.run_all(alloc, jobs)
-}
-
-/// The SHA-256 digest of a blob in parts, which are taken together.
-fn digest_of(alloc: Global, parts: &[Part]) -> Result<BlobDigest, AllocError>
-    ensures { IfOk result (λ digest. digest ≡ content_digest Algorithm.Sha256 (concat parts.now)) }
-{
-    let mut bytes = Bytes::begin(alloc, Some(Algorithm::Sha256));
-    for part in parts {
-        bytes.extend(part.as_slice())?;
-    }
-    Ok(BlobDigest::of_body(Algorithm::Sha256, &bytes))
-}
-
-fn print_digest(rt: &HostRuntime, word: &str, digest: BlobDigest) -> io::Result<()> {
-    println!(rt; "{word} {digest}")
-}
-
-fn print_answer(rt: &HostRuntime, answer: &Answer) -> io::Result<()> {
-    match answer {
-        Answer::Stored { digest, .. } => print_digest(rt, "stored", *digest),
-        Answer::Blob {
-            bytes: Some(blob),
-            ..
-        } => print_digest(rt, "read", digest_of(rt.alloc(), blob.parts())?),
-        _ => Ok(()),
-    }
+    // The secret goes into the references of sessions. A server draws it at random.
+    let jobs = asks.into_iter().map(|ask| (ask, [0; 12], 0));
+    service.run_all(alloc, jobs.collect(alloc)?)
 }
 
 fn main(rt: HostRuntime) -> io::Result<()> {
-    let mut service = Service::new(rt.alloc(), LIMITS);
-    let asks = upload(rt.alloc(), BlobDigest::of_sha256(b"hello, world\n"))?;
-    let answers = serve(&mut service, rt.alloc(), asks)?;
+    let (alloc, text) = (rt.alloc(), b"hello, world\n");
+    let repository = RepoName::read(alloc, b"lib/a").map_err(|_| ErrorKind::OutOfMemory)?;
+    let digest = BlobDigest::of_sha256(text);
+    let (name, head) = (repository.copy(alloc)?, false);
+    let get = Ask::Has { name, digest, head };
+    let (name, digest, body) = (repository, Some(digest), Bytes::of(text.to_vec(alloc)?));
+    let post = Ask::Single { name, digest, body };
+    let mut service = Service::new(alloc, LIMITS);
+    let answers = serve(&mut service, alloc, vec![in alloc; post, get]?)?;
     for answer in &answers {
-        print_answer(&rt, answer)?;
+        if let Answer::Blob {
+            bytes: Some(blob),
+            ..
+        } = answer
+        {
+            let mut bytes = Bytes::begin(alloc, None);
+            for part in blob.parts() {
+                bytes.extend(part.as_slice())?;
+            }
+            println!(rt; "{}", BlobDigest::of_sha256(bytes.as_slice()))?;
+        }
     }
     Ok(())
 }

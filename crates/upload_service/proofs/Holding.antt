@@ -72,6 +72,20 @@ pub new_key : {V : Type 0} (es es' : List (List ℕ × V)) (key : List ℕ) (ite
     → (name : List ℕ) → key ≡ name → list_any (same name) (keys_of es') ≡ true
 new_key es es' key item h name e = any_key (same name) es' ∙ ap is_some (h name) ∙ ap (λ b. is_some (cond b (Some item) (lookup (same name) es))) (same_from_eq key name e)
 
+-- the keys are those that were there and the new one
+pub one_key : {V : Type 0} (es es' : List (List ℕ × V)) (key : List ℕ) (item : V) → ((q : List ℕ) → lookup (same q) es' ≡ cond (same key q) (Some item) (lookup (same q) es))
+    → (name : List ℕ) → key ≡ name → (q : List ℕ) → list_any (same q) (keys_of es') ≡ (same q name || list_any (same q) (keys_of es))
+one_key es es' key item h name e q =
+    any_key (same q) es'
+    ∙ ap is_some (h q)
+    ∙ either (same key q)
+    ∙ (λ i. tied_flips nat_list_cmp_total key q i || list_any (same q) (keys_of es))
+    ∙ ap (λ k. same q k || list_any (same q) (keys_of es)) e
+  where
+    either : (b : Bool) → is_some (cond b (Some item) (lookup (same q) es)) ≡ (b || list_any (same q) (keys_of es))
+    either true = refl
+    either false = sym (any_key (same q) es)
+
 module _ {Z : Type 0} where
   -- what a look-up of a shared name gives
   pub is_name : (es : List (List ℕ × Arc (List ℕ) Z)) (name : List ℕ) → AreShared es → (r : Option (Bor (Arc (List ℕ) Z))) → option_copied r ≡ lookup (same name) es → IfSome r (λ shared. arc_value shared.now ≡ name)

@@ -1,4 +1,4 @@
-//! A stored blob: the segments that a session received and a last body.
+//! A stored blob: a small one by itself, a larger one in parts that can be shared.
 ghost use Rattle.std.specs.Prelude.{◌≡◌, ◌+◌, ◌<◌, ◌^◌, ◌++◌, [], ℕ, List, length, box_value, IfOk};
 ghost use Rattle.upload_service.specs.Kept.Parts.{whole};
 
@@ -7,6 +7,10 @@ use crate::shared::{BlobBytes, Part};
 use std::alloc::{AllocError, Global};
 use std::marker::Model;
 use upload_names::Bytes;
+
+/// The most bytes of a blob that is kept by itself, so that a GET copies them. An `Arc` round so few bytes would take a
+/// good part of what the blob takes in all.
+const SMALL_SIZE: usize = 4_096;
 
 /// What a session received, and the last body behind it.
 #[derive(Drop)]
@@ -18,12 +22,13 @@ pub struct Several {
 /// What a blob is kept in.
 #[derive(Drop)]
 pub enum Shape {
-    Nothing,
+    Small(Vec<u8>),
     One(Part),
     Several(Box<Several>),
 }
 
-/// A blob, seen as its bytes. It is kept in the parts that it came in; of one part it keeps just that part.
+/// A blob, seen as its bytes. It is kept in the parts that it came in. Of one part it keeps just that part, and of a
+/// small one just the bytes.
 #[derive(Drop)]
 pub struct Blob {
     shape: Shape,
@@ -46,16 +51,16 @@ impl Model for Blob {
 
 impl Blob {
     /// A blob of no bytes. It takes no memory.
-    pub fn empty() -> Blob
+    pub fn empty(alloc: Global) -> Blob
         ensures { result ≡ [] }
     {
         Blob {
-            shape: Shape::Nothing,
+            shape: Shape::Small(Vec::new(alloc)),
         }
     }
 
     /// What was received and a last body, in a place where the last body is already. It takes no memory.
-    pub fn of_parts(mut segments: Segments, mut place: Box<Several>) -> Blob
+    pub fn of_parts(alloc: Global, mut segments: Segments, mut place: Box<Several>) -> Blob
         requires { length (whole segments) + length (box_value place).last < 2 ^ 64 }
         ensures { result ≡ whole segments ++ (box_value place).last }
     {
@@ -65,9 +70,7 @@ impl Blob {
         }
         if segments.total() == 0 {
             let several = Box::into_inner(place);
-            return Blob {
-                shape: Shape::One(several.last),
-            };
+            return Blob::of_part(alloc, several.last);
         }
         place.before = segments;
         Blob {
@@ -75,17 +78,35 @@ impl Blob {
         }
     }
 
+    /// A blob of one part, whose bytes it takes out where they are few and have no other owner. It takes no memory.
+    fn of_part(alloc: Global, mut part: Part) -> Blob
+        ensures { result ≡ part }
+    {
+        let size = part.as_slice().len();
+        let mut bytes = Vec::new(alloc);
+        if size <= SMALL_SIZE && part.trade(&mut bytes) {
+            return Blob {
+                shape: Shape::Small(bytes),
+            };
+        }
+        Blob {
+            shape: Shape::One(part),
+        }
+    }
+
     /// A blob of one body, which is moved and not copied.
     pub fn of(alloc: Global, body: Bytes) -> Result<Blob, AllocError>
         ensures { IfOk result (λ blob. blob ≡ body) }
     {
-        let Ok(last) = Part::of(alloc, body.into_vec()) else {
-            return Err(AllocError);
-        };
-        let _size = last.as_slice().len();
-        Ok(Blob {
-            shape: Shape::One(last),
-        })
+        if body.len() <= SMALL_SIZE {
+            return Ok(Blob {
+                shape: Shape::Small(body.into_vec()),
+            });
+        }
+        match Part::of(alloc, body.into_vec()) {
+            Ok(part) => Ok(Blob::of_part(alloc, part)),
+            Err(_) => Err(AllocError),
+        }
     }
 
     /// How many bytes it has.
@@ -93,19 +114,22 @@ impl Blob {
         ensures { result ≡ length self.now }
     {
         match &self.shape {
-            Shape::Nothing => 0,
+            Shape::Small(bytes) => bytes.len() as u64,
             Shape::One(last) => last.as_slice().len() as u64,
             Shape::Several(parts) => parts.before.total() + parts.last.as_slice().len() as u64,
         }
     }
 
-    /// Its bytes, in the parts that it is kept in, which are shared and not copied. Of the last segment of a session,
-    /// which is small, they are a copy.
+    /// Its bytes, in the parts that it is kept in, which are shared and not copied. Of a small blob and of the last
+    /// segment of a session, which is small too, they are a copy.
     pub fn share(&self, alloc: Global) -> Result<BlobBytes, AllocError>
         ensures { IfOk result (λ bytes. bytes ≡ self.now) }
     {
         match &self.shape {
-            Shape::Nothing => Ok(BlobBytes::of_parts(Vec::new(alloc))),
+            Shape::Small(bytes) => {
+                let copy = Vec::from_slice(alloc, bytes.as_slice())?;
+                BlobBytes::of(alloc, Bytes::of(copy))
+            }
             Shape::One(last) => share_part(alloc, last),
             Shape::Several(parts) => share_parts(alloc, &parts.before, &parts.last),
         }

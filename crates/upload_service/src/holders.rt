@@ -49,11 +49,14 @@ impl Names {
         self.shared.get(name)
     }
 
-    /// One more owner of a name. The name is copied where it is the first.
+    /// One more owner of a name, which is copied where it is the first. It is among the names then, and no other that wasn't.
+    /// An `Err` changes nothing.
     pub fn share(&mut self, name: &RepoName) -> Result<Arc<RepoName, Global>, AllocError>
         ensures shared { IfOk result (λ shared. arc_value shared ≡ name.now) }
         ensures known { OnOk result (list_any (same name.now) self.new ≡ true) }
         ensures kept { (q : List ℕ) → list_any (same q) self.old ≡ true → list_any (same q) self.new ≡ true }
+        ensures names { OnOk result ((q : List ℕ) → list_any (same q) self.new ≡ (same q name.now || list_any (same q) self.old)) }
+        ensures err { OnErr result (self.new ≡ self.old) }
     {
         if let Some(shared) = self.shared.get(name) {
             return Arc::try_clone(shared);

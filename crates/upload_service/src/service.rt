@@ -121,7 +121,8 @@ impl Service {
     ) -> Result<Vec<Answer>, AllocError>
         ensures count { IfOk result (λ answers. length answers.items ≡ length jobs.items) }
         ensures run { IfOk result (λ answers. Run self.old (exchanges jobs.items answers.items) self.new) }
-        ensures headline { IfOk result (λ answers. NeverFall (exchanges jobs.items answers.items) → Headline self.old (exchanges jobs.items answers.items) self.new) }
+        ensures headline { IfOk result (λ answers. NeverFall (exchanges jobs.items answers.items)
+            → Headline self.old (exchanges jobs.items answers.items) self.new) }
         ensures err { OnErr result (self.new ≡ self.old) }
     {
         // Opens the service: that it is lawful is what the headline starts from.

@@ -81,7 +81,8 @@ impl Sessions {
         ensures found { IfSome result (λ session. map.get self.now at.now ≡ Some (session_of session.now)) }
         ensures awake { IfSome result (λ session. unless_idle max_idle now (map.get self.now at.now) ≡ Some (session_of session.now)) }
         ensures named { IfSome result (λ session. session.now.name ≡ name.now) }
-        ensures none { IfNone result ((session : Session) → unless_idle max_idle now (map.get self.now at.now) ≡ Some session → session.name ≢ name.now) }
+        ensures none { IfNone result ((session : Session) → unless_idle max_idle now (map.get self.now at.now) ≡ Some session
+            → session.name ≢ name.now) }
     {
         let session = self.find(at)?;
         if session.is_idle(max_idle, now) {
@@ -164,7 +165,8 @@ impl Sessions {
     /// Nothing that is seen changes.
     pub fn has_digest(&mut self, at: &UploadRef, digest: &BlobDigest, body: &Bytes) -> bool
         requires { IsSome (map.get self.old at.now) }
-        ensures is { (session : Session) → map.get self.old at.now ≡ Some session → (IsTrue result ↔ HasDigest (session.received ++ body.now) digest.now) }
+        ensures is { (session : Session) → map.get self.old at.now ≡ Some session
+            → (IsTrue result ↔ HasDigest (session.received ++ body.now) digest.now) }
         ensures same { self.new ≡ self.old }
     {
         let Some(session) = self.open.get_mut(at) else {

@@ -1,4 +1,4 @@
-//! Bytes with several owners, in any threads: what a GET hands out is what is stored, and no copy.
+//! Bytes with several owners, in any threads: what a GET hands out of a large blob is what is stored, and no copy.
 ghost use Rattle.std.specs.Prelude.{◌≡◌, IsTrue, IsFalse, IfOk, OnErr, IfErr};
 ghost use Rattle.std.specs.List.{concat};
 

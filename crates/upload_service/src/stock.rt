@@ -138,7 +138,8 @@ impl Stock {
     ) -> Result<(), AllocError>
         requires open { IsSome (map.get sessions.old at.now) }
         requires fits { (session : Session) → map.get sessions.old at.now ≡ Some session → length session.received + length body < 2 ^ 64 }
-        ensures blobs { OnOk result ((session : Session) → map.get sessions.old at.now ≡ Some session → self.new.blobs ≡ map.insert self.old.blobs digest (session.received ++ body)) }
+        ensures blobs { OnOk result ((session : Session) → map.get sessions.old at.now ≡ Some session
+            → self.new.blobs ≡ map.insert self.old.blobs digest (session.received ++ body)) }
         ensures sessions { OnOk result (sessions.new ≡ map.remove sessions.old at.now) }
         ensures pairs { OnOk result (self.new.pairs ≡ set.insert self.old.pairs (name.now, digest)) }
         ensures err { OnErr result ((self.new ≡ self.old) × (sessions.new ≡ sessions.old)) }
@@ -153,7 +154,7 @@ impl Stock {
         let Ok(()) = self.hold(name, digest) else {
             return Err(AllocError);
         };
-        let blob = blob_of(sessions, at, place);
+        let blob = blob_of(self.alloc, sessions, at, place);
         self.put(digest, blob);
         Ok(())
     }
@@ -240,7 +241,8 @@ fn hold_under<const N: usize>(
     name: Arc<RepoName, Global>,
 ) -> Result<(), AllocError>
     ensures blobs { OnOk result ((q : List ℕ) → blob_in (lookup (same q) items.new.entries)
-        ≡ cond (same q key.now) (Some (or_empty (blob_in (lookup (same key.now) items.old.entries)))) (blob_in (lookup (same q) items.old.entries))) }
+        ≡ cond (same q key.now) (Some (or_empty (blob_in (lookup (same key.now) items.old.entries))))
+        (blob_in (lookup (same q) items.old.entries))) }
     ensures held { OnOk result ((q n : List ℕ) → is_held n (lookup (same q) items.new.entries)
         ≡ ((same q key.now && same n (arc_value name)) || is_held n (lookup (same q) items.old.entries))) }
     ensures err { OnErr result ((q : List ℕ) → lookup (same q) items.new.entries ≡ lookup (same q) items.old.entries) }
@@ -249,7 +251,7 @@ fn hold_under<const N: usize>(
         return item.holders.add(alloc, name);
     }
     let item = Item {
-        blob: Blob::empty(),
+        blob: Blob::empty(alloc),
         holders: Holders::of(name),
     };
     items.insert(*key, item)?;
@@ -259,7 +261,8 @@ fn hold_under<const N: usize>(
 /// Puts a blob in the place of the one under a key.
 fn put_under<const N: usize>(items: &mut BTreeMap<[u8; N], Item>, key: &[u8; N], blob: Blob)
     requires { IsSome (blob_in (lookup (same key.now) items.old.entries)) }
-    ensures blobs { (q : List ℕ) → blob_in (lookup (same q) items.new.entries) ≡ cond (same q key.now) (Some blob) (blob_in (lookup (same q) items.old.entries)) }
+    ensures blobs { (q : List ℕ) → blob_in (lookup (same q) items.new.entries)
+        ≡ cond (same q key.now) (Some blob) (blob_in (lookup (same q) items.old.entries)) }
     ensures held { (q n : List ℕ) → is_held n (lookup (same q) items.new.entries) ≡ is_held n (lookup (same q) items.old.entries) }
 {
     let Some(item) = items.get_mut(key) else {
@@ -270,9 +273,10 @@ fn put_under<const N: usize>(items: &mut BTreeMap<[u8; N], Item>, key: &[u8; N],
 
 /// Closes an open session, and makes a blob of what it received and a last body, in a place where that body is
 /// already. It takes no memory.
-fn blob_of(sessions: &mut Sessions, at: &UploadRef, place: Box<Several>) -> Blob
+fn blob_of(alloc: Global, sessions: &mut Sessions, at: &UploadRef, place: Box<Several>) -> Blob
     requires open { IsSome (map.get sessions.old at.now) }
-    requires fits { (session : Session) → map.get sessions.old at.now ≡ Some session → length session.received + length (box_value place).last < 2 ^ 64 }
+    requires fits { (session : Session) → map.get sessions.old at.now ≡ Some session
+        → length session.received + length (box_value place).last < 2 ^ 64 }
     ensures blob { (session : Session) → map.get sessions.old at.now ≡ Some session → result ≡ session.received ++ (box_value place).last }
     ensures closed { sessions.new ≡ map.remove sessions.old at.now }
 {
@@ -280,5 +284,5 @@ fn blob_of(sessions: &mut Sessions, at: &UploadRef, place: Box<Several>) -> Blob
         unreachable!();
     };
     let segments = session.received.into_segments();
-    Blob::of_parts(segments, place)
+    Blob::of_parts(alloc, segments, place)
 }

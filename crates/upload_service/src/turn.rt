@@ -57,7 +57,9 @@ fn judge(max_blob: u64, next: u64, range: Extent, size: u64) -> Verdict
 
 /// Tells a session's offset.
 fn status(limits: Limits, tables: &Tables, name: RepoName, at: UploadRef, now: u64) -> Answer
-    ensures { Comes (state_of limits tables.now) now (at_session limits.max_blob (awake (state_of limits tables.now) now at) name (Ask.Status name at)) result (state_of limits tables.now) }
+    ensures { Comes (state_of limits tables.now) now
+        (at_session limits.max_blob (awake (state_of limits tables.now) now at) name (Ask.Status name at))
+        result (state_of limits tables.now) }
 {
     let sessions = &tables.sessions;
     let Some(session) = sessions.find_awake(&name, &at, limits.max_idle, now) else {
@@ -77,7 +79,9 @@ fn chunk(
     body: Bytes,
     now: u64,
 ) -> Answer
-    ensures { Comes (state_of limits tables.old) now (at_session limits.max_blob (awake (state_of limits tables.old) now at) name (Ask.Chunk name at range body)) result (state_of limits tables.new) }
+    ensures { Comes (state_of limits tables.old) now
+        (at_session limits.max_blob (awake (state_of limits tables.old) now at) name (Ask.Chunk name at range body))
+        result (state_of limits tables.new) }
 {
     let sessions = &tables.sessions;
     let Some(session) = sessions.find_awake(&name, &at, limits.max_idle, now) else {
@@ -108,7 +112,9 @@ fn close(
     body: Bytes,
     now: u64,
 ) -> Answer
-    ensures { Comes (state_of limits tables.old) now (at_session limits.max_blob (awake (state_of limits tables.old) now at) name (Ask.Close name at range digest body)) result (state_of limits tables.new) }
+    ensures { Comes (state_of limits tables.old) now
+        (at_session limits.max_blob (awake (state_of limits tables.old) now at) name (Ask.Close name at range digest body))
+        result (state_of limits tables.new) }
 {
     let sessions = &tables.sessions;
     let Some(session) = sessions.find_awake(&name, &at, limits.max_idle, now) else {
@@ -189,7 +195,8 @@ fn has(
     digest: BlobDigest,
     head: bool,
 ) -> Answer
-    ensures { (secret : List ℕ) (now : ℕ) → Turn (state_of limits tables.now) (Ask.Has name digest head) secret now result (state_of limits tables.now) }
+    ensures { (secret : List ℕ) (now : ℕ)
+        → Turn (state_of limits tables.now) (Ask.Has name digest head) secret now result (state_of limits tables.now) }
 {
     if !tables.stock.contains(&name, &digest) {
         return Answer::Refused(Refusal::NoBlob);
@@ -225,7 +232,8 @@ fn single(
     digest: Option<BlobDigest>,
     body: Bytes,
 ) -> Answer
-    ensures { (secret : List ℕ) (now : ℕ) → Turn (state_of limits tables.old) (Ask.Single name digest body) secret now result (state_of limits tables.new) }
+    ensures { (secret : List ℕ) (now : ℕ)
+        → Turn (state_of limits tables.old) (Ask.Single name digest body) secret now result (state_of limits tables.new) }
 {
     if body.as_slice().len() as u64 > limits.max_blob {
         return Answer::Refused(Refusal::TooLarge);

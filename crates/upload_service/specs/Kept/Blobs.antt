@@ -6,12 +6,12 @@ use Rattle.upload_service.specs.Kept.Parts.{whole}
 
 -- the bytes before its last part
 abbrev pub before_in : Shape → List ℕ
-before_in shapes.Nothing = []
+before_in (shapes.Small bytes) = []
 before_in (shapes.One last) = []
 before_in (shapes.Several several) = whole (box_value several).before
 
 -- the bytes of its last part
 abbrev pub last_in : Shape → List ℕ
-last_in shapes.Nothing = []
+last_in (shapes.Small bytes) = bytes.items
 last_in (shapes.One last) = last
 last_in (shapes.Several several) = (box_value several).last

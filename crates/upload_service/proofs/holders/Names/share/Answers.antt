@@ -1,9 +1,9 @@
 use Rattle.std.proofs.Common.{sym, ◌∙◌, ap}
-use Rattle.std.specs.Prelude.{is_some}
+use Rattle.std.specs.Prelude.{is_some, ◌||◌}
 use Rattle.std.specs.List.{list_any}
 use Rattle.std.proofs.lemmas.Result.{IfOk-weaker}
 use Rattle.upload_service.specs.Machine.{same}
-use Rattle.upload_service.proofs.Holding.{shared_more, any_key, still_key, new_key, always}
+use Rattle.upload_service.proofs.Holding.{shared_more, any_key, still_key, new_key, one_key, known_one, always}
 use Rattle.upload_service.proofs.holders.Names.share.Goals as goal
 
 pub returns-in-Some-clause-shared : goal.returns-in-Some-clause-shared
@@ -24,3 +24,13 @@ returns-clause-known c = new_key c.self.inside.shared.entries c.insert.new.self.
 pub returns-clause-kept : goal.returns-clause-kept
 returns-clause-kept c = λ q e.
     still_key c.self.inside.shared.entries c.insert.new.self.entries c.in_ok-kept.kept c.in-Ok.shared c.in_ok-insert.ensures.updates.0 q (ap (list_any (same q)) c.self.view_is ∙ e)
+
+pub returns-in-Some-clause-names : goal.returns-in-Some-clause-names
+returns-in-Some-clause-names c = always c.try_clone.result
+    (known_one c.args.self.now c.args.name.now
+    (ap (list_any (same c.args.name.now)) (sym c.self.view_is) ∙ any_key (same c.args.name.now) c.self.inside.shared.entries ∙ ap is_some (sym c.in-Some.ensures.value)))
+
+pub returns-clause-names : goal.returns-clause-names
+returns-clause-names c = λ q.
+    one_key c.self.inside.shared.entries c.insert.new.self.entries c.in_ok-kept.kept c.in-Ok.shared c.in_ok-insert.ensures.updates.0 c.args.name.now c.in_ok-kept.ensures q
+    ∙ ap (λ names. same q c.args.name.now || list_any (same q) names) c.self.view_is
