@@ -1,5 +1,5 @@
 #!/usr/bin/env python3
-"""Writes the stored connections as the rows that the tests of disturbed streams take, in crates/wire_tests.
+"""Writes the stored connections as the rows that the tests of disturbed streams take, in crates/connection_tests.
 
     stored.py
 
@@ -13,7 +13,7 @@ import model
 
 TOP = os.path.dirname(os.path.dirname(os.path.abspath(__file__)))
 FOLDER = os.path.join(TOP, "tests", "connections")
-ROWS = "crates/wire_tests/src/connections/stored.rt"
+ROWS = "crates/connection_tests/src/connections/stored.rt"
 # The tests of disturbed streams make these themselves.
 LONGEST_HEADS = {"head-of-16384-bytes", "head-of-16385-bytes"}
 # Tests take these by name.

@@ -1,5 +1,5 @@
 -- The line that a push prints.
-use Rattle.std.proofs.Common.{◌≡◌, ℕ, ◌<◌, List, [], ◌∷◌, length, Option, Some, None, inl, inr, refl, sym, ap, subst, arith, ◌∙◌}
+use Rattle.std.proofs.Common.{◌≡◌, ℕ, ◌<◌, List, [], ◌∷◌, length, Option, Some, None, inl, inr, ◌⊎◌, refl, sym, ap, subst, arith, ◌∙◌}
 use Rattle.std.specs.Prelude.{Result, Ok, Err, codes}
 use Rattle.std.specs.Io.KnownBytes.{Appends}
 use Rattle.std.specs.Net.Text.{socket_text}
@@ -10,15 +10,17 @@ use Rattle.upload_names.specs.declared.digest.Algorithm.TheVariants.{Sha256}
 use Rattle.upload_service.specs.declared.ask.Ask.{Ask}
 use Rattle.upload_wire.specs.declared.client.heard.Heard.{Heard}
 use Rattle.upload_wire.specs.TransportText.{WireState}
-use Rattle.upload_push.specs.Slices.{Push, Exchange, IsPush, IsEnd, Leads, log_of, push_of, push_under}
+use Rattle.upload_push.specs.Slices.{Push, Exchange, IsPush, IsEnd, Leads, log_of, push_of, push_under, after_all}
 use Rattle.upload_push.specs.declared.pusher.Outcome.{Outcome}
 use Rattle.upload_push.specs.declared.pushing.PushFault.{PushFault}
 use Rattle.upload_push.specs.declared.pushing.PushFault.TheVariants as faults
 use Rattle.upload_push.specs.declared.pusher.Phase.{Phase}
-use Rattle.upload_push.specs.declared.pusher.Phase.TheVariants.{Done, GaveUp}
+use Rattle.upload_push.specs.declared.pusher.Phase.TheVariants.{Opening, Done, GaveUp}
+use Rattle.upload_push.specs.declared.pusher.Why.TheVariants.{OutOfTries}
+use Rattle.upload_push.proofs.Sound.{unheard_waits}
 use Rattle.blobd.specs.Status.{IsPrinted, line}
 use Rattle.blobd.specs.Dialed.{AsksDialed}
-use Rattle.blobd.specs.Pushed.{IsPushed, IsSent, IsEndLine, IsTold}
+use Rattle.blobd.specs.Pushed.{IsPushed, IsSent, IsEndLine, IsTold, why_text}
 
 -- what an ask says of the host and of the connection that is kept
 abbrev pub KeepsDialing : {S : Type 0} → (S → Ask → Option Heard → S → Type 0) → (S → List ℕ) → (S → Option WireState) → Type 0
@@ -56,12 +58,21 @@ same_push at host own name file chunk digest end same_host same its_digest h =
     subst (λ t. IsSent t (push_of Sha256 name file chunk 5) end) same_host
     (subst (λ n. IsSent at (push_of Sha256 n file chunk 5) end) same (subst (λ d. IsSent at (push_under d own file chunk 5) end) its_digest h))
 
+-- a push to which nothing was said is told as out of tries
+untold : (digest : Digest) (phase : Phase) (status : ℕ) (text : List ℕ) → (phase ≡ Opening) ⊎ (phase ≡ GaveUp OutOfTries)
+    → IsTold digest phase status text → (status ≡ 1) × (text ≡ why_text OutOfTries)
+untold digest phase status text (inl is) told = absurd (subst (λ (p : Phase). IsTold digest p status text) is told)
+untold digest phase status text (inr is) told = subst (λ (p : Phase). IsTold digest p status text) is told
+
 -- the line of the end of a push
 lined : (addr : SocketAddr) (name file : List ℕ) (chunk : ℕ) (end : Result Outcome PushFault) (phase : Phase) (text : List ℕ) (before after : Option (List ℕ)) (result : ℕ)
     → IsSent (socket_text addr) (push_of Sha256 name file chunk 5) end → ((p : Phase) → IsEnd p end → p ≡ phase) → IsName name
     → IsTold (content_digest Sha256 file) phase result text → Appends before after (line text)
     → IsPushed addr name file chunk before after result
 lined addr name file chunk end phase text before after result (last, push) at named told printed =
+    let p : Push = push_of Sha256 name file chunk 5 in
+    let at_the_end : IsTold (content_digest Sha256 file) (after_all p push.heard).phase result text =
+    subst (λ q. IsTold (content_digest Sha256 file) q result text) (sym (at _ push.ends)) told in
     inl (inr (
       named,
       record {
@@ -69,7 +80,8 @@ lined addr name file chunk end phase text before after result (last, push) at na
         last = last;
         over = push.leads;
         text = text;
-        told = subst (λ p. IsTold (content_digest Sha256 file) p result text) (sym (at _ push.ends)) told;
+        unheard = λ none. untold (content_digest Sha256 file) (after_all p push.heard).phase result text (unheard_waits p push.heard none) at_the_end;
+        told = at_the_end;
         printed = printed;
       },
     ))

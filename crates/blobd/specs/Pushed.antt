@@ -10,7 +10,7 @@ use Rattle.upload_names.specs.Digest.{Digest, content_digest, digest_text}
 use Rattle.upload_names.specs.declared.digest.Algorithm.TheVariants.{Sha256}
 use Rattle.upload_wire.specs.declared.client.heard.Heard.{Heard}
 use Rattle.upload_wire.specs.TransportText.{WireState}
-use Rattle.upload_push.specs.Slices.{Push, IsPush, Leads, push_of, log_of, after_all}
+use Rattle.upload_push.specs.Slices.{Push, IsPush, Leads, AreUnheard, push_of, log_of, after_all}
 use Rattle.upload_push.specs.declared.pusher.Outcome.{Outcome}
 use Rattle.upload_push.specs.declared.pusher.Outcome.TheVariants.{Pushed, Already}
 use Rattle.upload_push.specs.declared.pusher.Why.{Why}
@@ -65,6 +65,8 @@ pub record IsPushLine (addr : SocketAddr) (name file : List ℕ) (chunk : ℕ) (
   pub last : Option WireState
   pub over : Leads (AsksDialed (socket_text addr)) None (log_of (push_of Sha256 name file chunk 5) heard) last
   pub text : List ℕ
+  -- where nothing was heard, as where no connection could be made, the line tells no status: it says that the tries are used up
+  pub unheard : AreUnheard heard → (status ≡ 1) × (text ≡ why_text OutOfTries)
   pub told : IsTold (content_digest Sha256 file) (after_all (push_of Sha256 name file chunk 5) heard).phase status text
   pub printed : Appends before after (line text)
 

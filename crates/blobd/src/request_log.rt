@@ -1,5 +1,5 @@
 //! A log of requests: a line for each, on standard error.
-ghost use Rattle.std.specs.Prelude.{◌≡◌};
+ghost use Rattle.std.specs.Prelude.{◌≡◌, false};
 
 use std::alloc::Global;
 use std::io::Eprint;
@@ -65,6 +65,9 @@ impl<'a, R: Clock + Eprint> RequestLog<'a, R> {
 }
 
 impl<'a, R: Clock + Eprint> Gate for RequestLog<'a, R> {
+    // One that isn't wanted keeps nothing of what it is told. Nothing is said of what is written.
+    ghost watches = { λ old turn notice new. (new.is_on ≡ old.is_on) × (old.is_on ≡ false → new ≡ old) };
+
     fn before_ask(&mut self, _turn: u64, ask: &Ask) {
         if self.is_on {
             let line = RequestLine { ask };

@@ -1,10 +1,13 @@
 //! `blobd serve`: a listener, and two workers that take connections from it.
-ghost use Rattle.std.specs.Prelude.{◌≡◌, None};
+ghost use Rattle.std.specs.Prelude.{◌≡◌, true, None, IfOk};
+ghost use Rattle.upload_intake.specs.Working.{means};
+ghost use Rattle.blobd.specs.Serving.{HasServed};
 ghost use Rattle.blobd.specs.Status.{IsServed};
 
 use crate::accept::{Accepted, Terms};
 use crate::limits::limits;
 use crate::request_log::RequestLog;
+use crate::sockets::{Reader, Writer};
 use crate::status::{DONE, FAULT, print_line};
 use rand::rngs::StdRng;
 use std::alloc::Global;
@@ -16,8 +19,11 @@ use std::rt::Clock;
 use std::sync::Wait;
 use std::thread::Threads;
 use std::time::Instant;
-use upload_intake::{DrawnSecrets, Moments, ServeFault, Worker, serve_pair};
+use upload_intake::{
+    Conns, DrawnSecrets, Gate, Moments, Pair, Secrets, ServeFault, Worker, serve_pair,
+};
 use upload_service::Service;
+use upload_wire::{ByteSink, ByteSource};
 
 /// Secrets of the system's random numbers.
 type SystemSecrets = DrawnSecrets<StdRng>;
@@ -48,17 +54,28 @@ fn system_secrets<R: RandomSource>(rt: &R) -> io::Result<SystemSecrets> {
     Ok(DrawnSecrets::new(rand::make_rng(rt)?))
 }
 
+/// Whether each worker took all of its connections.
+fn took_all(pair: &Pair, count: u64) -> bool
+    ensures { result ≡ true → (pair.now.left.conns ≡ count) × (pair.now.right.conns ≡ count) }
+{
+    pair.left.conns == count && pair.right.conns == count
+}
+
 /// How the workers ended: `Ok(true)` where each took all of its connections, and `Ok(false)` where one couldn't be taken.
-fn serve_workers<R>(
-    rt: &R,
+fn serve_workers<'a, R>(
+    rt: &'a R,
     alloc: Global,
-    listener: &TcpListener,
+    listener: &'a TcpListener,
     terms: Terms,
     left: SystemSecrets,
     right: SystemSecrets,
 ) -> Result<bool, ServeFault>
 where
     R: Threads + Wait + Sync + Clock + Eprint,
+    ensures { IfOk result (λ done. done ≡ true → HasServed
+        (means ⟦<Accepted<'a, R> as Conns>⟧.gives ⟦<Reader as ByteSource>⟧.state ⟦<Writer as ByteSink>⟧.state
+        ⟦<SystemSecrets as Secrets>⟧.draws ⟦<RequestLog<'a, R> as Gate>⟧.watches)
+        ⟦<SinceStart<'a, R> as Moments>⟧.tells terms.count) }
 {
     let worker = |secrets: SystemSecrets| Worker {
         conns: Accepted::new(rt, listener, terms),
@@ -78,7 +95,7 @@ where
         worker(right),
         &mut moments,
     )?;
-    Ok(pair.left.conns == terms.count && pair.right.conns == terms.count)
+    Ok(took_all(&pair, terms.count))
 }
 
 /// Serves a listener: two workers take connections on these terms. Prints `listening` and the local address, and `served`
@@ -89,11 +106,15 @@ where
 /// couldn't be started (once a worker that was started has ended, which it does behind the first request that comes to it),
 /// and `fault: accept` where a worker couldn't take a connection, once the other worker has ended too; that one is told on
 /// standard error at once. A line that can't be printed ends the program with status 3.
-pub fn run_serve<R, W>(rt: &R, listener: &TcpListener, terms: Terms, out: &mut W) -> u8
+pub fn run_serve<'a, R, W>(rt: &'a R, listener: &'a TcpListener, terms: Terms, out: &mut W) -> u8
 where
     R: Threads + Wait + Sync + AllocGlobal + Clock + RandomSource + Eprint,
     W: Write,
-    ensures { IsServed (W.contents out.old) (W.contents out.new) result }
+    ensures { IsServed (HasServed
+        (means ⟦<Accepted<'a, R> as Conns>⟧.gives ⟦<Reader as ByteSource>⟧.state ⟦<Writer as ByteSink>⟧.state
+        ⟦<SystemSecrets as Secrets>⟧.draws ⟦<RequestLog<'a, R> as Gate>⟧.watches)
+        ⟦<SinceStart<'a, R> as Moments>⟧.tells terms.count)
+        (W.contents out.old) (W.contents out.new) result }
 {
     let Ok(addr) = listener.local_addr() else {
         return print_line(out, "fault: listen", FAULT);

@@ -10,9 +10,6 @@ use std::io;
 use upload_service::{Answer, Ask, Limits, Service};
 use upload_wire::{ByteSink, ByteSource, ConnEnd, Desk, FromRead, ToWrite, serve_connection};
 
-/// A server draws it at random, so that nobody guesses a session's reference.
-const SECRET: [u8; 12] = [0; 12];
-
 const LIMITS: Limits = Limits {
     max_blob: 1 << 30,
     max_body: 1 << 20,
@@ -28,18 +25,16 @@ struct CountingDesk {
 }
 
 impl Desk for CountingDesk {
-    ghost use Rattle.embed_connection.specs.Counting.{StepsAndCounts};
-
     ghost moves = { StepsAndCounts };
 
     fn ask(&mut self, ask: Ask) -> Option<Answer> {
         self.asked = self.asked.saturating_add(1);
-        Some(self.service.step(ask, SECRET, 0))
+        // A server draws the secret at random, so that nobody guesses a session's reference.
+        Some(self.service.step(ask, [0; 12], 0))
     }
 }
 
-/// Serves one connection: what is read and written is a conversation, in which each request that was read is one turn
-/// of the service, counted, and its answer is what is written.
+/// Serves one connection: each request that is read is one turn of the service, counted, and its answer is written.
 fn serve<R: ByteSource, W: ByteSink>(
     alloc: Global,
     reader: &mut R,

@@ -4,7 +4,7 @@ use Rattle.std.proofs.lemmas.List.Elements.{All-head, All-tail, All-cons, All-ap
 use Rattle.std.proofs.lemmas.Grind.{flat_map-append}
 use Rattle.std.specs.Str.Parse.{digits_value}
 use Rattle.http_wire.specs.Body.{IsSize, Chunk, print_chunk, IsChunk, IsZero, chunks_text, chunks_data, IsChunked, NeverChunked, IsFrontOfChunked, IsOver}
-use Rattle.http_wire.specs.SizeLines.{NeverLine}
+use Rattle.http_wire.specs.Inner.SizeLines.{NeverLine}
 use Rattle.http_wire.proofs.LineLemmas.{stops_at}
 
 -- the same size line, and then the same bytes

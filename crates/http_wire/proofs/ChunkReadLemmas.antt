@@ -8,10 +8,10 @@ use Rattle.std.specs.Str.Parse.{digits_value}
 use Rattle.http_wire.specs.States.{SourceState}
 use Rattle.http_wire.specs.Reading.{Gave}
 use Rattle.http_wire.specs.Body.{Chunk, print_chunk, IsChunk, chunks_text, chunks_data, NeverChunked, IsBadBody, IsCutBody}
-use Rattle.http_wire.specs.BodyReading.{Moved, ReadsBytes}
-use Rattle.http_wire.specs.ChunkReading.{TakesLine, BreaksLine, CutsLine, FindsLine, BreaksEnd, CutsEnd, FindsEnd, TakesChunk, TakesLast, RefusesChunk, CutsChunk, FindsChunk}
-use Rattle.http_wire.specs.ChunksRead.{AreTaken}
-use Rattle.http_wire.specs.BodyFinding.{TakesBody, RefusesBodyText, CutsBody, FindsBody}
+use Rattle.http_wire.specs.Inner.BodyReading.{Moved, ReadsBytes}
+use Rattle.http_wire.specs.Inner.ChunkReading.{TakesLine, BreaksLine, CutsLine, FindsLine, BreaksEnd, CutsEnd, FindsEnd, TakesChunk, TakesLast, RefusesChunk, CutsChunk, FindsChunk}
+use Rattle.http_wire.specs.Inner.ChunksRead.{AreTaken}
+use Rattle.http_wire.specs.Inner.BodyFinding.{TakesBody, RefusesBodyText, CutsBody, FindsBody}
 use Rattle.http_wire.specs.declared.framing.Framing.TheVariants.{Length, Chunked}
 use Rattle.http_wire.specs.declared.fault.Bad.{Bad}
 use Rattle.http_wire.specs.declared.fault.Bad.TheVariants as bads
@@ -91,7 +91,7 @@ chunk_data_cut room a b c held mid value h fits end =
     record {
       text = h.line ++ end.text;
       gave = gave_after a b c held h.line mid end.text h.gave end.gave;
-      cut = subst (IsCutBody room Chunked) (sym (line_text h.line l.digits end.text l.cut)) (
+      cut = subst (IsCutBody (Chunked room)) (sym (line_text h.line l.digits end.text l.cut)) (
         front_data l.digits end.text l.size (omega (arith, short, valued)),
         under_inside room l.digits end.text l.size (omega (arith, valued, fits)) (omega (arith, short, valued)),
       );
@@ -158,7 +158,7 @@ chunk_end_cut room a b c d held mid rest x y value h fits m e =
     record {
       text = h.line ++ (m.bytes ++ e.text);
       gave = gave_chunk a b c d held mid rest e.text x y value h m e.gave;
-      cut = subst (IsCutBody room Chunked) (sym (line_text h.line l.digits (m.bytes ++ e.text) l.cut)) (
+      cut = subst (IsCutBody (Chunked room)) (sym (line_text h.line l.digits (m.bytes ++ e.text) l.cut)) (
         front_data_end l.digits m.bytes e.text front.1 l.size same front.2 front.3,
         under_inside room l.digits (m.bytes ++ e.text) l.size (omega (arith, valued, fits))
             (omega (arith, same, len, some, length-append m.bytes e.text, length-append e.text front.1)),
@@ -239,7 +239,7 @@ taken_more max room a b c held mid rest x y left t h =
     }
 
 pub body_whole : (max : ℕ) (a b c : SourceState) (held mid rest x y : List ℕ) → AreTaken max a held b mid x
-    → TakesLast b mid x c rest y → TakesBody max Chunked a held c rest y
+    → TakesLast b mid x c rest y → TakesBody (Chunked max) a held c rest y
 body_whole max a b c held mid rest x y t h =
     let fits = t.fits in
     let same = ap length h.joined in
@@ -259,7 +259,7 @@ room_left : (max room : ℕ) (x : List ℕ) (chunks : List Chunk) → room ≡ m
 room_left max room x chunks left same = left ∙ ap (λ t. max - length t) same
 
 pub bad_after : (max : ℕ) (chunks : List Chunk) (text : List ℕ) (why : Bad) → All IsChunk chunks → length (chunks_data chunks) ≤ max
-    → IsBadBody (max - length (chunks_data chunks)) Chunked text why → IsBadBody max Chunked (chunks_text chunks ++ text) why
+    → IsBadBody (Chunked (max - length (chunks_data chunks))) text why → IsBadBody (Chunked max) (chunks_text chunks ++ text) why
 bad_after max chunks text why each fits bad = elim bad [
   | inl b ↦ inl (b.0, over_after max chunks text each fits b.1)
   | inr b ↦
@@ -280,7 +280,7 @@ bad_after max chunks text why each fits bad = elim bad [
 ]
 
 pub body_refused : (max room : ℕ) (a b c : SourceState) (held mid x : List ℕ) (why : Bad) → room ≡ max - length x → AreTaken max a held b mid x
-    → RefusesChunk room b mid c why → RefusesBodyText max Chunked a held c why
+    → RefusesChunk room b mid c why → RefusesBodyText (Chunked max) a held c why
 body_refused max room a b c held mid x why left t h =
     let fits = t.fits in
     let same = ap length t.joined in
@@ -288,15 +288,15 @@ body_refused max room a b c held mid x why left t h =
       text = chunks_text t.chunks ++ h.text;
       gave = gave_after a b c held (chunks_text t.chunks) mid h.text t.gave h.gave;
       bad = bad_after max t.chunks h.text why t.each (omega (arith, fits, same))
-          (subst (λ n. IsBadBody n Chunked h.text why) (room_left max room x t.chunks left t.joined) h.bad);
+          (subst (λ n. IsBadBody (Chunked n) h.text why) (room_left max room x t.chunks left t.joined) h.bad);
     }
 
 body_cut : (max room : ℕ) (a b c : SourceState) (held mid x : List ℕ) → room ≡ max - length x → AreTaken max a held b mid x
-    → CutsChunk room b mid c → CutsBody max Chunked a held c
+    → CutsChunk room b mid c → CutsBody (Chunked max) a held c
 body_cut max room a b c held mid x left t h =
     let fits = t.fits in
     let same = ap length t.joined in
-    let cut = subst (λ n. IsCutBody n Chunked h.text) (room_left max room x t.chunks left t.joined) h.cut in
+    let cut = subst (λ n. IsCutBody (Chunked n) h.text) (room_left max room x t.chunks left t.joined) h.cut in
     record {
       text = chunks_text t.chunks ++ h.text;
       gave = gave_after a b c held (chunks_text t.chunks) mid h.text t.gave h.gave;
@@ -304,7 +304,7 @@ body_cut max room a b c held mid x left t h =
     }
 
 pub body_fault : (max room : ℕ) (a b c : SourceState) (held mid rest x y : List ℕ) (e : BodyFault) → room ≡ max - length x → AreTaken max a held b mid x
-    → FindsChunk room b mid x c rest y (Err e) → FindsBody max Chunked a held c rest y (Err e)
+    → FindsChunk room b mid x c rest y (Err e) → FindsBody (Chunked max) a held c rest y (Err e)
 body_fault max room a b c held mid rest x y Fault.Truncated left t h = (body_cut max room a b c held mid x left t h.0, h.1)
 body_fault max room a b c held mid rest x y Fault.Read left t h = body_cut max room a b c held mid x left t h
 body_fault max room a b c held mid rest x y Fault.NoMemory left t h =
@@ -312,13 +312,13 @@ body_fault max room a b c held mid rest x y Fault.NoMemory left t h =
 
 -- ---- a body of a length
 
-pub length_whole : (max n : ℕ) (a b : SourceState) (held rest y : List ℕ) → Moved a held [] b rest y n → TakesBody max (Length n) a held b rest y
-length_whole max n a b held rest y m = record { text = m.bytes; gave = m.gave; written = (sym m.joined, ap length m.joined ∙ m.counted) }
+pub length_whole : (n : ℕ) (a b : SourceState) (held rest y : List ℕ) → Moved a held [] b rest y n → TakesBody (Length n) a held b rest y
+length_whole n a b held rest y m = record { text = m.bytes; gave = m.gave; written = (sym m.joined, ap length m.joined ∙ m.counted) }
 
-pub length_fault : (max n : ℕ) (a b : SourceState) (held rest y : List ℕ) (e : BodyFault) → ReadsBytes a held [] b rest y n (Err e)
-    → FindsBody max (Length n) a held b rest y (Err e)
-length_fault max n a b held rest y Fault.Truncated h =
+pub length_fault : (n : ℕ) (a b : SourceState) (held rest y : List ℕ) (e : BodyFault) → ReadsBytes a held [] b rest y n (Err e)
+    → FindsBody (Length n) a held b rest y (Err e)
+length_fault n a b held rest y Fault.Truncated h =
     let end = stops a b held [] rest y n h.0 in (record { text = end.text; gave = end.gave; cut = end.short }, h.1)
-length_fault max n a b held rest y Fault.Read h =
+length_fault n a b held rest y Fault.Read h =
     let end = stops a b held [] rest y n h in record { text = end.text; gave = end.gave; cut = end.short }
-length_fault max n a b held rest y Fault.NoMemory h = h
+length_fault n a b held rest y Fault.NoMemory h = h

@@ -6,7 +6,7 @@ use Rattle.std.proofs.lemmas.List.Sums.{AllPass-from_list_all}
 use Rattle.std.specs.Str.Parse.{digits_value}
 use Rattle.std.specs.Char.{is_ascii_hexdigit}
 use Rattle.http_wire.specs.Body.{IsSize, Chunk, IsChunk, IsChunked, IsFrontOfChunked, IsOver}
-use Rattle.http_wire.specs.SizeLines.{StandsAt}
+use Rattle.http_wire.specs.Inner.SizeLines.{StandsAt}
 use Rattle.http_wire.specs.declared.chunked.LineState.{LineState}
 use Rattle.http_wire.specs.declared.chunked.LineState.TheVariants.{Digits, Ended}
 use Rattle.http_wire.proofs.ChunkLemmas.{chunk_more, chunk_flat, empty_of, over_has_line}

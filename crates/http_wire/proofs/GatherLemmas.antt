@@ -5,7 +5,7 @@ use Rattle.std.proofs.lemmas.List.{append-nil}
 use Rattle.http_wire.specs.declared.writing.WriteFault.{WriteFault}
 use Rattle.http_wire.specs.States.{SinkState}
 use Rattle.http_wire.specs.Writing.{TookFront, Wrote}
-use Rattle.http_wire.specs.Gathering.{Held, GatheredUnless, Gathered}
+use Rattle.http_wire.specs.Inner.Gathering.{Held, GatheredUnless, Gathered}
 use Rattle.http_wire.proofs.WritingLemmas.{appends_none, wrote_more}
 
 pub took_less : (a b : SinkState) (text more : List ℕ) → TookFront a b text → TookFront a b (text ++ more)

@@ -12,7 +12,7 @@ use Rattle.httparse.specs.declared.Error.{Error}
 use Rattle.httparse.specs.declared.Error.TheVariants.{HeaderName, HeaderValue, NewLine, Status, Token, TooManyHeaders, Version}
 use Rattle.http_wire.specs.declared.head.Verdict.{Verdict}
 use Rattle.http_wire.specs.declared.head.Verdict.TheVariants.{Complete, Refused, Open}
-use Rattle.http_wire.specs.HeadReading.{Spans, AreLawful, IsHeadAtFront, Judges, JudgesAt}
+use Rattle.http_wire.specs.Inner.HeadReading.{Spans, AreLawful, IsHeadAtFront, Judges, JudgesAt}
 use Rattle.http_wire.specs.Fronts.{Words, Reads, HasNone, NeverHas, IsRefused, IsTooLong, line_feeds, max_fields, MayBeRefused}
 
 -- ---- lists

@@ -2,6 +2,7 @@ pub mod BufferLemmas
 pub mod GaveLemmas
 pub mod WritingLemmas
 pub mod GatherLemmas
+pub mod HeadTextLemmas
 pub mod HeadLemmas
 pub mod LineEnds
 pub mod RequestHeads
@@ -10,7 +11,9 @@ pub mod ResponseHeads
 pub mod ResponseLaws
 pub mod ElementLemmas
 pub mod FieldLemmas
+pub mod FirstFieldLemmas
 pub mod MovedLemmas
+pub mod ResponseBodyLemmas
 pub mod LineLemmas
 pub mod ChunkLemmas
 pub mod FrontLemmas

@@ -5,7 +5,7 @@ use Rattle.std.proofs.lemmas.Bool.{cases_Bool}
 use Rattle.std.specs.Char.{is_ascii_hexdigit, digit_value}
 use Rattle.httparse.proofs.ChunkLemmas.{digits_value_after_push}
 use Rattle.http_wire.specs.Body.{IsSize}
-use Rattle.http_wire.specs.SizeLines.{AreDigits, NeverLine}
+use Rattle.http_wire.specs.Inner.SizeLines.{AreDigits, NeverLine}
 
 abbrev pub IsHex : ℕ → Type 0
 IsHex b = IsTrue (is_ascii_hexdigit b)

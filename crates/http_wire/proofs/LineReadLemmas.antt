@@ -11,8 +11,8 @@ use Rattle.std.specs.Str.Parse.{digits_value, AllDigits}
 use Rattle.std.specs.Char.{is_ascii_hexdigit, digit_value}
 use Rattle.http_wire.specs.States.{SourceState}
 use Rattle.http_wire.specs.Reading.{Gave}
-use Rattle.http_wire.specs.SizeLines.{StandsAt, IsLine, IsBounded, NeverLine}
-use Rattle.http_wire.specs.ChunkReading.{TakesLine, BreaksLine, CutsLine, NeverEnd, BreaksEnd, CutsEnd}
+use Rattle.http_wire.specs.Inner.SizeLines.{StandsAt, IsLine, IsBounded, NeverLine}
+use Rattle.http_wire.specs.Inner.ChunkReading.{TakesLine, BreaksLine, CutsLine, NeverEnd, BreaksEnd, CutsEnd}
 use Rattle.http_wire.specs.declared.chunked.LineState.{LineState}
 use Rattle.http_wire.specs.declared.chunked.LineState.TheVariants.{Digits, Ended}
 use Rattle.http_wire.proofs.LineLemmas.{IsHex}

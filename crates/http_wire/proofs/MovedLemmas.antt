@@ -6,7 +6,7 @@ use Rattle.http_wire.specs.States.{SourceState}
 use Rattle.http_wire.specs.Reading.{Gave}
 use Rattle.http_wire.specs.declared.fault.BodyFault.{BodyFault}
 use Rattle.http_wire.specs.declared.fault.BodyFault.TheVariants as Fault
-use Rattle.http_wire.specs.BodyReading.{Moved, MovedNone, MovedNothing, MovedAll, ReadsPart, ReadsBytes}
+use Rattle.http_wire.specs.Inner.BodyReading.{Moved, MovedNone, MovedNothing, MovedAll, ReadsPart, ReadsBytes}
 use Rattle.http_wire.proofs.GaveLemmas.{gave_none, gave_as, gave_after}
 
 pub moved_part : (old new : SourceState) (held buf before after : List ℕ) (count : ℕ) → Gave old new held buf

@@ -3,8 +3,8 @@ use Rattle.std.proofs.Common.{◌≡◌, ℕ, List, [], ◌∷◌, ◌++◌, sym
 use Rattle.std.specs.List.{flat_map}
 use Rattle.httparse.specs.Ascii.{line_feed}
 use Rattle.httparse.specs.Grammar.{print_end, print_blank, print_version, print_reason, print_field, ResponseHead, print_response}
-use Rattle.http_wire.specs.ResponseSpans.{response_spans}
-use Rattle.http_wire.specs.HeadReading.{AreLawful}
+use Rattle.http_wire.specs.Inner.ResponseSpans.{response_spans}
+use Rattle.http_wire.specs.Inner.HeadReading.{AreLawful}
 use Rattle.http_wire.proofs.LineEnds.{end_is_line_feed}
 
 pub head_ends : (h : ResponseHead) → (front : List ℕ) × (print_response h ≡ front ++ line_feed ∷ [])

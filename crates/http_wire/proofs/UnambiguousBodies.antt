@@ -213,55 +213,55 @@ whole_not_cut t body a x y =
 
 -- ---- parses
 
-whole_not_bad : (max : ℕ) (t body a : List ℕ) (why : Bad) → IsChunked t body → length body ≤ max → IsBadBody max Chunked (t ++ a) why → ⊥
+whole_not_bad : (max : ℕ) (t body a : List ℕ) (why : Bad) → IsChunked t body → length body ≤ max → IsBadBody (Chunked max) (t ++ a) why → ⊥
 whole_not_bad max t body a why x fits (inl y) = whole_not_over max t body a x fits y.1
 whole_not_bad max t body a why x fits (inr y) = whole_not_broken max t body a x y.1
 
-one_bad : (max : ℕ) (text : List ℕ) (why other : Bad) → IsBadBody max Chunked text why → IsBadBody max Chunked text other → why ≡ other
+one_bad : (max : ℕ) (text : List ℕ) (why other : Bad) → IsBadBody (Chunked max) text why → IsBadBody (Chunked max) text other → why ≡ other
 one_bad max text why other (inl x) (inl y) = x.0 ∙ sym y.0
 one_bad max text why other (inl x) (inr y) = absurd (over_not_broken max text x.1 y.1)
 one_bad max text why other (inr x) (inl y) = absurd (over_not_broken max text y.1 x.1)
 one_bad max text why other (inr x) (inr y) = x.0 ∙ sym y.0
 
-bad_not_cut : (max : ℕ) (text : List ℕ) (why : Bad) → IsBadBody max Chunked text why → IsCutBody max Chunked text → ⊥
+bad_not_cut : (max : ℕ) (text : List ℕ) (why : Bad) → IsBadBody (Chunked max) text why → IsCutBody (Chunked max) text → ⊥
 bad_not_cut max text why (inl x) y = y.1 x.1
 bad_not_cut max text why (inr x) y = broken_never max text y.0.more y.0.body x.1 y.0.chunked
 
-sized_parse : (max n : ℕ) (text : List ℕ) (parse other : BodyParse)
-    → IsReadAs max (Length n) text parse → IsReadAs max (Length n) text other → parse ≡ other
-sized_parse max n text (whole body rest) (whole other more) x y =
+sized_parse : (n : ℕ) (text : List ℕ) (parse other : BodyParse)
+    → IsReadAs (Length n) text parse → IsReadAs (Length n) text other → parse ≡ other
+sized_parse n text (whole body rest) (whole other more) x y =
     let one = ap length x.written.0 in
     let two = ap length y.written.0 in
     let long = x.written.1 in
     let same_long = y.written.1 in
     let s = same_front x.message y.message rest more (omega (arith, one, two, long, same_long)) (sym x.split ∙ y.split) in
     λ i. whole ((sym x.written.0 ∙ s.0 ∙ y.written.0) i) (s.1 i)
-sized_parse max n text (whole body rest) (refused why) x y = absurd y
-sized_parse max n text (whole body rest) cut x y =
+sized_parse n text (whole body rest) (refused why) x y = absurd y
+sized_parse n text (whole body rest) cut x y =
     let one = ap length x.written.0 in
     let long = x.written.1 in
     let all = ap length x.split in
     absurd (omega (arith, one, long, all, y, length-append x.message rest))
-sized_parse max n text (refused why) other x y = absurd x
-sized_parse max n text cut (whole body rest) x y =
+sized_parse n text (refused why) other x y = absurd x
+sized_parse n text cut (whole body rest) x y =
     let one = ap length y.written.0 in
     let long = y.written.1 in
     let all = ap length y.split in
     absurd (omega (arith, one, long, all, x, length-append y.message rest))
-sized_parse max n text cut (refused why) x y = absurd y
-sized_parse max n text cut cut x y = refl
+sized_parse n text cut (refused why) x y = absurd y
+sized_parse n text cut cut x y = refl
 
 chunked_parse : (max : ℕ) (text : List ℕ) (parse other : BodyParse)
-    → IsReadAs max Chunked text parse → IsReadAs max Chunked text other → parse ≡ other
+    → IsReadAs (Chunked max) text parse → IsReadAs (Chunked max) text other → parse ≡ other
 chunked_parse max text (whole body rest) (whole other more) x y =
     let s = same_body x.message y.message body other rest more x.written.0 y.written.0 (sym x.split ∙ y.split) in
     λ i. whole (s.joined i) (s.rest i)
 chunked_parse max text (whole body rest) (refused why) x y =
-    absurd (whole_not_bad max x.message body rest why x.written.0 x.written.1 (subst (λ t. IsBadBody max Chunked t why) x.split y))
+    absurd (whole_not_bad max x.message body rest why x.written.0 x.written.1 (subst (λ t. IsBadBody (Chunked max) t why) x.split y))
 chunked_parse max text (whole body rest) cut x y =
     absurd (whole_not_cut x.message body rest x.written.0 (subst IsFrontOfChunked x.split y.0))
 chunked_parse max text (refused why) (whole other more) x y =
-    absurd (whole_not_bad max y.message other more why y.written.0 y.written.1 (subst (λ t. IsBadBody max Chunked t why) y.split x))
+    absurd (whole_not_bad max y.message other more why y.written.0 y.written.1 (subst (λ t. IsBadBody (Chunked max) t why) y.split x))
 chunked_parse max text (refused why) (refused other) x y = ap refused (one_bad max text why other x y)
 chunked_parse max text (refused why) cut x y = absurd (bad_not_cut max text why x y)
 chunked_parse max text cut (whole other more) x y =
@@ -270,5 +270,5 @@ chunked_parse max text cut (refused other) x y = absurd (bad_not_cut max text ot
 chunked_parse max text cut cut x y = refl
 
 pub bodies_unambiguous : BodiesAreUnambiguous
-bodies_unambiguous max (Length n) text parse other x y = sized_parse max n text parse other x y
-bodies_unambiguous max Chunked text parse other x y = chunked_parse max text parse other x y
+bodies_unambiguous (Length n) text parse other x y = sized_parse n text parse other x y
+bodies_unambiguous (Chunked max) text parse other x y = chunked_parse max text parse other x y

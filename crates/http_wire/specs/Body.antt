@@ -1,6 +1,6 @@
 -- The body of a request: how its head frames it (RFC 9112, section 6), and the text of a chunked one
 -- (section 7.1), which has no chunk extensions and no trailers here.
-use Rattle.std.specs.Prelude.{◌≡◌, ℕ, ◌+◌, ◌<◌, ◌≤◌, ◌⊎◌, ◌==◌, nat_lt, Bool, ◌&&◌, List, [], ◌∷◌, ◌++◌, length, codes, All, if◌then◌else◌, Result, Ok, Err, ⊤}
+use Rattle.std.specs.Prelude.{◌≡◌, ℕ, ◌+◌, ◌<◌, ◌≤◌, ◌⊎◌, ◌==◌, nat_lt, Bool, ◌&&◌, List, [], ◌∷◌, ◌++◌, length, codes, All, if◌then◌else◌, Result, Ok, Err}
 use Rattle.std.specs.List.{flat_map, list_all}
 use Rattle.std.specs.Char.{is_ascii_digit, is_ascii_hexdigit}
 use Rattle.std.specs.Str.Parse.{digits_value}
@@ -35,15 +35,16 @@ framing_by_length max_body (value ∷ []) = sized (length_of max_body value)
 framing_by_length max_body (value ∷ other ∷ values) = Err bads.Length
 
 -- by the values of Transfer-Encoding: HTTP/1.1 has `chunked` once, and all else is a bad coding
-abbrev pub framing_by_coding : ℕ → List (List ℕ) → Result Framing Bad
-framing_by_coding minor [] = Err bads.Coding
-framing_by_coding minor (coding ∷ []) = if (minor == 1) && same_word coding (codes "chunked") then Ok Chunked else Err bads.Coding
-framing_by_coding minor (coding ∷ other ∷ codings) = Err bads.Coding
+abbrev pub framing_by_coding : ℕ → ℕ → List (List ℕ) → Result Framing Bad
+framing_by_coding max_body minor [] = Err bads.Coding
+framing_by_coding max_body minor (coding ∷ []) =
+    if (minor == 1) && same_word coding (codes "chunked") then Ok (Chunked max_body) else Err bads.Coding
+framing_by_coding max_body minor (coding ∷ other ∷ codings) = Err bads.Coding
 
 -- by both: a Transfer-Encoding beside a Content-Length is as bad as an unreadable one, before anything else
 abbrev pub framing_by : ℕ → ℕ → List (List ℕ) → List (List ℕ) → Result Framing Bad
 framing_by max_body minor [] lengths = framing_by_length max_body lengths
-framing_by max_body minor (coding ∷ codings) [] = framing_by_coding minor (coding ∷ codings)
+framing_by max_body minor (coding ∷ codings) [] = framing_by_coding max_body minor (coding ∷ codings)
 framing_by max_body minor (coding ∷ codings) (value ∷ values) = Err bads.Length
 
 -- how the fields frame the body, or what is bad in them
@@ -54,10 +55,10 @@ framing_of max_body minor fields =
 abbrev pub head_framing : ℕ → RequestHead → Result Framing Bad
 head_framing max_body head = framing_of max_body head.minor (head_fields head)
 
--- a length keeps the limit
-abbrev pub IsFraming : ℕ → Framing → Type 0
-IsFraming max_body (Length n) = n ≤ max_body
-IsFraming max_body Chunked = ⊤
+-- the most bytes of a body of that framing
+abbrev pub most_of : Framing → ℕ
+most_of (Length n) = n
+most_of (Chunked most) = most
 
 -- ---- chunked texts
 
@@ -136,16 +137,16 @@ pub record IsBroken (max_body : ℕ) (text : List ℕ) : Type 0 where
 -- ---- bodies
 
 -- the text is a whole body of that framing
-abbrev pub IsBodyText : ℕ → Framing → List ℕ → List ℕ → Type 0
-IsBodyText max_body (Length n) text body = (text ≡ body) × (length body ≡ n)
-IsBodyText max_body Chunked text body = IsChunked text body × (length body ≤ max_body)
+abbrev pub IsBodyText : Framing → List ℕ → List ℕ → Type 0
+IsBodyText (Length n) text body = (text ≡ body) × (length body ≡ n)
+IsBodyText (Chunked most) text body = IsChunked text body × (length body ≤ most)
 
 -- the text is refused as a body of that framing, and so bad
-abbrev pub IsBadBody : ℕ → Framing → List ℕ → Bad → Type 0
-IsBadBody max_body (Length n) text bad = ⊥
-IsBadBody max_body Chunked text bad = ((bad ≡ bads.TooLarge) × IsOver max_body text) ⊎ ((bad ≡ bads.Chunks) × IsBroken max_body text)
+abbrev pub IsBadBody : Framing → List ℕ → Bad → Type 0
+IsBadBody (Length n) text bad = ⊥
+IsBadBody (Chunked most) text bad = ((bad ≡ bads.TooLarge) × IsOver most text) ⊎ ((bad ≡ bads.Chunks) × IsBroken most text)
 
 -- the text ends inside a body of that framing
-abbrev pub IsCutBody : ℕ → Framing → List ℕ → Type 0
-IsCutBody max_body (Length n) text = length text < n
-IsCutBody max_body Chunked text = IsFrontOfChunked text × ¬ (IsOver max_body text)
+abbrev pub IsCutBody : Framing → List ℕ → Type 0
+IsCutBody (Length n) text = length text < n
+IsCutBody (Chunked most) text = IsFrontOfChunked text × ¬ (IsOver most text)

@@ -1,5 +1,5 @@
 -- The fields of a head (RFC 9110, section 5), and those that say whether the connection stays (RFC 9112, section 9).
-use Rattle.std.specs.Prelude.{ℕ, Bool, not, ◌&&◌, ◌==◌, List, map, filter, codes, bytes_eq}
+use Rattle.std.specs.Prelude.{ℕ, Bool, not, ◌&&◌, ◌==◌, List, [], ◌∷◌, map, filter, codes, bytes_eq, Option, Some, None}
 use Rattle.std.specs.List.{list_any}
 use Rattle.std.specs.Char.{to_ascii_lowercase}
 use Rattle.httparse.specs.Ascii.{comma}
@@ -26,6 +26,11 @@ same_word text other = bytes_eq (lowercase text) (lowercase other)
 -- the values of the fields of that name, without regard to case
 unfoldable pub values_of : List ℕ → Fields → List (List ℕ)
 values_of name fields = map (λ f. f.1) (filter (λ f. same_word f.0 name) fields)
+
+-- the first of the values
+abbrev pub first_of : List (List ℕ) → Option (List ℕ)
+first_of [] = None
+first_of (value ∷ values) = Some value
 
 -- a value's elements between the commas, without the white space around them
 abbrev pub elements : List ℕ → List (List ℕ)

@@ -35,19 +35,19 @@ pub data BodyParse : Type 0 where
   cut : BodyParse
 
 -- the text is a whole body of that framing, and then rest
-pub record BeginsWithBody (max_body : ℕ) (framing : Framing) (text body rest : List ℕ) : Type 0 where
+pub record BeginsWithBody (framing : Framing) (text body rest : List ℕ) : Type 0 where
   pub message : List ℕ
   pub split : text ≡ message ++ rest
-  pub written : IsBodyText max_body framing message body
+  pub written : IsBodyText framing message body
 
 -- the text is read so, as a body of that framing
-abbrev pub IsReadAs : ℕ → Framing → List ℕ → BodyParse → Type 0
-IsReadAs max_body framing text (whole body rest) = BeginsWithBody max_body framing text body rest
-IsReadAs max_body framing text (refused why) = IsBadBody max_body framing text why
-IsReadAs max_body framing text cut = IsCutBody max_body framing text
+abbrev pub IsReadAs : Framing → List ℕ → BodyParse → Type 0
+IsReadAs framing text (whole body rest) = BeginsWithBody framing text body rest
+IsReadAs framing text (refused why) = IsBadBody framing text why
+IsReadAs framing text cut = IsCutBody framing text
 
--- under one framing and limit a text is read in one way
+-- under one framing, which has the limit, a text is read in one way
 abbrev pub BodiesAreUnambiguous : Type 0
 BodiesAreUnambiguous =
-    (max_body : ℕ) (framing : Framing) (text : List ℕ) (parse other : BodyParse)
-    → IsReadAs max_body framing text parse → IsReadAs max_body framing text other → parse ≡ other
+    (framing : Framing) (text : List ℕ) (parse other : BodyParse)
+    → IsReadAs framing text parse → IsReadAs framing text other → parse ≡ other

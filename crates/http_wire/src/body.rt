@@ -1,9 +1,9 @@
 //! Bodies (RFC 9112, section 6), read behind their heads.
 ghost use Rattle.std.specs.Prelude.{◌≡◌, ℕ, ◌+◌, ◌*◌, ◌^◌, ◌<◌, ◌≤◌, List, [], ◌++◌, length, Err, OnOk, OnErr};
 ghost use Rattle.http_wire.specs.Reading.{Costs};
-ghost use Rattle.http_wire.specs.BodyReading.{ReadsPart, ReadsBytes};
-ghost use Rattle.http_wire.specs.BodyFinding.{FindsBody};
-ghost use Rattle.http_wire.specs.Body.{IsFraming};
+ghost use Rattle.http_wire.specs.Inner.BodyReading.{ReadsPart, ReadsBytes};
+ghost use Rattle.http_wire.specs.Inner.BodyFinding.{FindsBody};
+ghost use Rattle.http_wire.specs.Body.{most_of};
 
 use crate::buffer::ReadBuffer;
 use crate::bytes::ByteSource;
@@ -96,20 +96,17 @@ pub fn read_body<S: ByteSource, B: BodyBuffer>(
     buffer: &mut ReadBuffer,
     body: &mut B,
     framing: Framing,
-    max_body: u64,
 ) -> Result<BodyEnd, BodyFault>
-    requires limit { max_body ≤ 2 ^ 31 }
-    requires framing { IsFraming max_body framing }
+    requires limit { most_of framing ≤ 2 ^ 31 }
     requires empty { B.bytes body.old ≡ [] }
-    ensures found { FindsBody max_body framing (S.state source.old) buffer.old (S.state source.new)
-        buffer.new (B.bytes body.new) result }
-    ensures costs { Costs (12 + 13 * max_body) (result ≡ Err BodyFault.Read) (S.state source.old) (S.state source.new) }
+    ensures found { FindsBody framing (S.state source.old) buffer.old (S.state source.new) buffer.new (B.bytes body.new) result }
+    ensures costs { Costs (12 + 13 * most_of framing) (result ≡ Err BodyFault.Read) (S.state source.old) (S.state source.new) }
 {
     match framing {
         Framing::Length(length) => {
             read_bytes(source, buffer, body, length as usize)?;
             Ok(BodyEnd::Whole)
         }
-        Framing::Chunked => read_chunks(source, buffer, body, max_body),
+        Framing::Chunked { most } => read_chunks(source, buffer, body, most),
     }
 }

@@ -4,9 +4,9 @@ ghost use Rattle.std.specs.Prelude.{◌≡◌, ℕ, ◌+◌, ◌*◌, ◌-◌, �
 ghost use Rattle.std.specs.Char.{is_ascii_hexdigit, digit_value};
 ghost use Rattle.http_wire.specs.Counts.{CountsAtMost};
 ghost use Rattle.http_wire.specs.Reading.{Costs};
-ghost use Rattle.http_wire.specs.SizeLines.{StandsAt, StepSays, IsBounded};
-ghost use Rattle.http_wire.specs.ChunkReading.{FindsLine, FindsEnd, FindsChunk};
-ghost use Rattle.http_wire.specs.BodyFinding.{FindsBody};
+ghost use Rattle.http_wire.specs.Inner.SizeLines.{StandsAt, StepSays, IsBounded};
+ghost use Rattle.http_wire.specs.Inner.ChunkReading.{FindsLine, FindsEnd, FindsChunk};
+ghost use Rattle.http_wire.specs.Inner.BodyFinding.{FindsBody};
 
 use crate::body::{BodyBuffer, BodyEnd, read_bytes};
 use crate::buffer::ReadBuffer;
@@ -170,22 +170,22 @@ fn read_chunk<S: ByteSource, B: BodyBuffer>(
     }
 }
 
-/// Reads chunks up to the end, and puts their data into an empty buffer.
+/// Reads chunks up to the end, and puts their data, of at most so many bytes, into an empty buffer.
 pub fn read_chunks<S: ByteSource, B: BodyBuffer>(
     source: &mut S,
     buffer: &mut ReadBuffer,
     body: &mut B,
-    max_body: u64,
+    most: u64,
 ) -> Result<BodyEnd, BodyFault>
-    requires limit { max_body ≤ 2 ^ 31 }
+    requires limit { most ≤ 2 ^ 31 }
     requires empty { B.bytes body.old ≡ [] }
-    ensures found { FindsBody max_body Framing.Chunked (S.state source.old) buffer.old (S.state source.new)
+    ensures found { FindsBody (Framing.Chunked most) (S.state source.old) buffer.old (S.state source.new)
         buffer.new (B.bytes body.new) result }
-    ensures costs { Costs (12 + 13 * max_body) (result ≡ Err BodyFault.Read) (S.state source.old) (S.state source.new) }
+    ensures costs { Costs (12 + 13 * most) (result ≡ Err BodyFault.Read) (S.state source.old) (S.state source.new) }
 {
     // Each chunk but the last has a byte, so there are at most one more than the most bytes of a body.
-    for _chunk in 0..max_body + 1 {
-        let room = max_body - body.len() as u64;
+    for _chunk in 0..most + 1 {
+        let room = most - body.len() as u64;
         match read_chunk(source, buffer, body, room)? {
             ChunkRead::More => {}
             ChunkRead::Last => return Ok(BodyEnd::Whole),

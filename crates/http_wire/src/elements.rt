@@ -3,7 +3,7 @@ ghost use Rattle.std.specs.Prelude.{◌≡◌, length, reverse};
 ghost use Rattle.std.specs.Iterator.{YieldsFirstRef, item_count};
 ghost use Rattle.httparse.specs.Grammar.{skip_ows, trim_ows};
 ghost use Rattle.http_wire.specs.Fields.{elements};
-ghost use Rattle.http_wire.specs.FieldReading.{elements_left};
+ghost use Rattle.http_wire.specs.Inner.FieldReading.{elements_left};
 
 use httparse::is_space_or_tab;
 

@@ -1,10 +1,10 @@
 //! The fields of a head: which there are, and whether the connection stays.
-ghost use Rattle.std.specs.Prelude.{◌≡◌, ℕ, ◌≤◌, List, ◌∷◌, [], ◌++◌, length, map, take, All, codes};
+ghost use Rattle.std.specs.Prelude.{◌≡◌, ℕ, ◌≤◌, List, ◌∷◌, [], ◌++◌, length, map, take, All, codes, option_map};
 ghost use Rattle.std.specs.List.{list_any};
 ghost use Rattle.httparse.specs.Spans.{IsHeaderWithin, header_bytes};
-ghost use Rattle.http_wire.specs.Fields.{Fields, same_word, values_of, lists_close, keeps_connection};
-ghost use Rattle.http_wire.specs.RequestSpans.{IsHeadOf};
-ghost use Rattle.http_wire.specs.FieldReading.{IsOccurrence, fields_of};
+ghost use Rattle.http_wire.specs.Fields.{Fields, first_of, same_word, values_of, lists_close, keeps_connection};
+ghost use Rattle.http_wire.specs.Inner.RequestSpans.{IsHeadOf};
+ghost use Rattle.http_wire.specs.Inner.FieldReading.{IsOccurrence, fields_of};
 
 use crate::elements::Elements;
 use crate::requests::ParsedRequest;
@@ -113,4 +113,39 @@ pub fn keeps_connection(head: &[u8], parsed: &ParsedRequest) -> bool
     ensures { result ≡ keeps_connection parsed.now.spans.version (fields_of head.now parsed.now) }
 {
     parsed.spans.version == 1 && !lists_close(head, &parsed.headers[..parsed.spans.headers])
+}
+
+/// The first value of a name, with one more field.
+fn with_first<'b>(
+    found: Option<&'b [u8]>,
+    head: &'b [u8],
+    header: HeaderSpan,
+    name: &[u8],
+) -> Option<&'b [u8]>
+    requires { IsHeaderWithin (length head.now) header }
+    ensures { (fields : Fields) → option_map (λ v. v.now) found.entry ≡ first_of (values_of name.now fields)
+        → option_map (λ v. v.now) result ≡ first_of (values_of name.now (fields ++ header_bytes head.now header ∷ [])) }
+{
+    match found {
+        Some(value) => Some(value),
+        None => {
+            if is_same_word(header.name.of(head), name) {
+                Some(header.value.of(head))
+            } else {
+                None
+            }
+        }
+    }
+}
+
+/// The value of the first field of that name, where there is one.
+pub fn first_among<'b>(head: &'b [u8], headers: &[HeaderSpan], name: &[u8]) -> Option<&'b [u8]>
+    requires { All (IsHeaderWithin (length head.now)) headers.now }
+    ensures { option_map (λ v. v.now) result ≡ first_of (values_of name.now (map (header_bytes head.now) headers.now)) }
+{
+    let mut found = None;
+    for header in headers {
+        found = with_first(found, head, *header, name);
+    }
+    found
 }

@@ -1,8 +1,8 @@
 //! How long a body is, and how it is written.
 ghost use Rattle.std.specs.Prelude.{◌≡◌, ◌^◌, ◌≤◌, IfOk};
-ghost use Rattle.http_wire.specs.Body.{length_of, framing_of, IsFraming};
-ghost use Rattle.http_wire.specs.RequestSpans.{IsHeadOf};
-ghost use Rattle.http_wire.specs.FieldReading.{fields_of};
+ghost use Rattle.http_wire.specs.Body.{length_of, framing_of, most_of};
+ghost use Rattle.http_wire.specs.Inner.RequestSpans.{IsHeadOf};
+ghost use Rattle.http_wire.specs.Inner.FieldReading.{fields_of};
 
 use crate::fault::Bad;
 use crate::fields::{Occurrence, field_named, is_same_word};
@@ -13,8 +13,8 @@ use crate::requests::ParsedRequest;
 pub enum Framing {
     /// So many bytes.
     Length(u64),
-    /// Chunks, each behind its size.
-    Chunked,
+    /// Chunks, each behind its size, with at most so many bytes in all.
+    Chunked { most: u64 },
 }
 
 /// The number that the digits of a Content-Length write. `Length`: they are none. `TooLarge`: it is over the limit.
@@ -41,13 +41,13 @@ pub fn length_of(value: &[u8], max_body: u64) -> Result<u64, Bad>
     Ok(total)
 }
 
-/// How the body behind a head is written. `Length`: its length is unreadable or said twice, or it has a coding
+/// How the body behind a head is written, which has at most `max_body` bytes. `Length`: its length is unreadable or said twice, or it has a coding
 /// too. `TooLarge`: its length is over the limit. `Coding`: a coding other than one `chunked` in HTTP/1.1.
 pub fn framing_of(head: &[u8], parsed: &ParsedRequest, max_body: u64) -> Result<Framing, Bad>
     requires limit { max_body ≤ 2 ^ 31 }
     requires head { IsHeadOf head.now parsed.now }
     ensures framed { result ≡ framing_of max_body parsed.now.spans.version (fields_of head.now parsed.now) }
-    ensures kept { IfOk result (IsFraming max_body) }
+    ensures kept { IfOk result (λ framing. most_of framing ≤ max_body) }
 {
     let coding = field_named(head, parsed, b"transfer-encoding");
     let length = field_named(head, parsed, b"content-length");
@@ -59,7 +59,7 @@ pub fn framing_of(head: &[u8], parsed: &ParsedRequest, max_body: u64) -> Result<
         (Occurrence::Absent, Occurrence::Repeated) => Err(Bad::Length),
         (Occurrence::Once(coding), Occurrence::Absent)
             if parsed.spans.version == 1 && is_same_word(coding, b"chunked") => {
-            Ok(Framing::Chunked)
+            Ok(Framing::Chunked { most: max_body })
         }
         (_, Occurrence::Absent) => Err(Bad::Coding),
         (_, _) => Err(Bad::Length),

@@ -1,8 +1,10 @@
 //! The head of a message, gathered so that it leaves in one write where it is short.
-ghost use Rattle.std.specs.Prelude.{◌≡◌, ◌++◌, ℕ, List, [], false, decimal, IsTrue, OnOk};
+ghost use Rattle.std.specs.Prelude.{◌≡◌, ◌++◌, ℕ, List, [], false, decimal, flat_map, IsTrue, OnOk};
 ghost use Rattle.http_wire.specs.States.{SinkState};
+ghost use Rattle.httparse.specs.Ascii.{crlf_bytes};
+ghost use Rattle.http_wire.specs.HeadText.{closing_fields, length_field, print_field};
 ghost use Rattle.http_wire.specs.Writing.{Wrote};
-ghost use Rattle.http_wire.specs.Gathering.{Gathered, Puts};
+ghost use Rattle.http_wire.specs.Inner.Gathering.{Gathered, Puts};
 
 use crate::bytes::ByteSink;
 use crate::writing::{WriteFault, then_flush, then_write, write_all};
@@ -19,7 +21,7 @@ pub struct Gather {
 }
 
 impl Model for Gather {
-    ghost use Rattle.http_wire.specs.Gathering.{Held};
+    ghost use Rattle.http_wire.specs.Inner.Gathering.{Held};
 
     ghost Value = { Held };
 
@@ -59,6 +61,36 @@ impl Gather {
         let mut digits = Buffer::new();
         let text = digits.format(number);
         self.put(writer, text.as_bytes());
+    }
+
+    /// Puts a field.
+    pub fn put_field<W: ByteSink>(&mut self, writer: &mut W, name: &[u8], value: &[u8])
+        ensures { Puts (W.state writer.old) self.old (W.state writer.new) self.new (print_field (name.now, value.now)) }
+    {
+        self.put(writer, name);
+        self.put(writer, b": ");
+        self.put(writer, value);
+        self.put(writer, b"\r\n");
+    }
+
+    /// Puts the length of the body.
+    pub fn put_length<W: ByteSink>(&mut self, writer: &mut W, size: u64)
+        ensures { Puts (W.state writer.old) self.old (W.state writer.new) self.new (print_field (length_field size)) }
+    {
+        self.put(writer, b"Content-Length: ");
+        self.put_number(writer, size);
+        self.put(writer, b"\r\n");
+    }
+
+    /// Puts the field that closes the connection, where it closes, and the empty line.
+    pub fn put_end<W: ByteSink>(&mut self, writer: &mut W, keep: bool)
+        ensures { Puts (W.state writer.old) self.old
+            (W.state writer.new) self.new (flat_map print_field (closing_fields keep) ++ crlf_bytes) }
+    {
+        if !keep {
+            self.put_field(writer, b"Connection", b"close");
+        }
+        self.put(writer, b"\r\n");
     }
 
     /// Writes what it has and the body behind it, and flushes.

@@ -3,7 +3,7 @@ ghost use Rattle.std.specs.Prelude.{◌≡◌, ℕ, ◌+◌, ◌<◌, ◌≤◌,
 ghost use Rattle.std.specs.Io.KnownBytes.{IsAtEnd};
 ghost use Rattle.http_wire.specs.Fronts.{line_feeds, HasNone};
 ghost use Rattle.http_wire.specs.Reading.{Gave, Costs};
-ghost use Rattle.http_wire.specs.HeadReading.{Spans, AreLawful, Judges, JudgesAt, FindsHead};
+ghost use Rattle.http_wire.specs.Inner.HeadReading.{Spans, AreLawful, Judges, JudgesAt, FindsHead};
 
 use crate::buffer::{CAPACITY, ReadBuffer};
 use crate::bytes::{ByteSource, Failed};

@@ -1,14 +1,18 @@
-//! The grammar of replies.
-ghost use Rattle.http_wire.specs.ResponseSpans.{response_spans};
+//! Responses: the grammar of their heads, and how far their bodies go.
+ghost use Rattle.http_wire.specs.Inner.ResponseSpans.{response_spans};
 
+mod body;
+mod framing;
 mod parsed;
 
 use crate::head::{Grammar, MAX_FIELDS, Verdict};
+pub use body::{ResponseBodyEnd, read_response_body};
+pub use framing::{FramingFault, ResponseFraming, response_framing, response_keeps_connection};
 use httparse::Status;
 use httparse::spans::{EMPTY_HEADER_SPAN, parse_response};
 pub use parsed::ParsedResponse;
 
-/// The heads of replies.
+/// The heads of responses.
 pub struct Responses;
 
 impl Grammar for Responses {

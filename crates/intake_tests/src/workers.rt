@@ -120,6 +120,9 @@ impl<'a> Meeting<'a> {
 }
 
 impl<'a> Gate for Meeting<'a> {
+    // Its flags are raised, and it stays the same.
+    ghost watches = { λ old turn notice new. new ≡ old };
+
     fn before_ask(&mut self, turn: u64, _ask: &Ask) {
         if turn == 1 {
             self.called.store(1, Ordering::SeqCst);

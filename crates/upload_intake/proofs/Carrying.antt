@@ -1,11 +1,11 @@
 -- What one side's steps are, once all ends are back.
-use Rattle.std.proofs.Common.{◌≡◌, ℕ, Bool, true, false, List, [], ◌∷◌, ◌++◌, map, filter, cond, sym, refl, ap, ◌∙◌, subst, inl, inr, ◌⊎◌, ⊎_elim, append-nil}
+use Rattle.std.proofs.Common.{◌≡◌, Bool, true, false, List, [], ◌∷◌, ◌++◌, map, filter, cond, sym, refl, ap, ◌∙◌, inl, inr, ⊎_elim, append-nil}
 use Rattle.std.proofs.lemmas.List.{append_cancel_right}
 use Rattle.upload_service.specs.declared.ask.Ask.{Ask}
 use Rattle.upload_service.specs.declared.answer.Answer.{Answer}
 use Rattle.upload_intake.specs.declared.line.Side.{Side}
 use Rattle.upload_intake.specs.Line.{same_side}
-use Rattle.upload_intake.specs.Log.{Job, TakenJob, Step, job_of, taken_by, jobs_of, answers_to}
+use Rattle.upload_intake.specs.Log.{TakenJob, Step, job_of, taken_by, jobs_of}
 use Rattle.upload_intake.specs.Seats.{SeatState, IsFresh}
 use Rattle.upload_intake.specs.Settled.{Heard}
 use Rattle.upload_intake.specs.SeatConversations.{Adds, asks_of, answers_of, asks_in}

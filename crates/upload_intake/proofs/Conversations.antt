@@ -7,6 +7,8 @@ use Rattle.upload_intake.specs.declared.gone.Gone.TheVariants.{NotSent, NoAnswer
 use Rattle.upload_intake.specs.Seats.{SeatState, Asks, IsSameSeat}
 use Rattle.upload_intake.specs.SeatMoves.{AsksWithDrawn}
 use Rattle.upload_intake.specs.Desks.{seat_of, secrets_of}
+use Rattle.upload_intake.specs.Notices.{Watching}
+use Rattle.upload_intake.specs.Watched.{WatchesOne}
 use Rattle.upload_intake.specs.declared.work.GatedDesk.{GatedDesk}
 use Rattle.upload_wire.specs.declared.connection.ConnEnd.{ConnEnd}
 use Rattle.upload_wire.specs.declared.connection.ConnEnd.TheVariants.{Clean, AfterClose, AfterBad, TooMany, DeskGone, Fault}
@@ -51,14 +53,19 @@ same_seat seat = record { jobs = refl; replies = refl; side = refl }
 pub same_seat_twice : (a b c : SeatState) → IsSameSeat a b → IsSameSeat b c → IsSameSeat a c
 same_seat_twice a b c p q = record { jobs = q.jobs ∙ p.jobs; replies = q.replies ∙ p.replies; side = q.side ∙ p.side }
 
--- a worker's desk has the same seat behind a conversation
-pub gated_same : {R S G : Type 0} (draws : S → List ℕ → S → Type 0) (max_body : ℕ) (first left : SourceState) (old new : GatedDesk R S G) (before after : SinkState) (end : ConnEnd)
-    → IsConversation (λ a ask answer b. AsksWithDrawn draws (seat_of a.desk) (secrets_of a.desk) ask answer (seat_of b.desk) (secrets_of b.desk)) max_body first left old new before after end
+-- how a worker's desk moves
+abbrev pub GatedSteps : {R S G : Type 0} → (S → List ℕ → S → Type 0) → Watching G → Moves (GatedDesk R S G)
+GatedSteps draws watches a ask answer b =
+    AsksWithDrawn draws (seat_of a.desk) (secrets_of a.desk) ask answer (seat_of b.desk) (secrets_of b.desk) × WatchesOne watches a.gate a.turn ask answer b.gate b.turn
+
+-- it has the same seat behind a conversation
+pub gated_same : {R S G : Type 0} (draws : S → List ℕ → S → Type 0) (watches : Watching G) (max_body : ℕ) (first left : SourceState) (old new : GatedDesk R S G) (before after : SinkState) (end : ConnEnd)
+    → IsConversation (GatedSteps {R = R} draws watches) max_body first left old new before after end
     → IsSameSeat (seat_of old.desk) (seat_of new.desk)
-gated_same {R} {S} {G} draws max_body first left old new before after end c =
-    kept_by {D = GatedDesk R S G} (λ a ask answer b. AsksWithDrawn draws (seat_of a.desk) (secrets_of a.desk) ask answer (seat_of b.desk) (secrets_of b.desk))
+gated_same {R} {S} {G} draws watches max_body first left old new before after end c =
+    kept_by {D = GatedDesk R S G} (GatedSteps {R = R} draws watches)
     (λ a b. IsSameSeat (seat_of a.desk) (seat_of b.desk))
     (λ d. same_seat (seat_of d.desk))
     (λ x y z p q. same_seat_twice (seat_of x.desk) (seat_of y.desk) (seat_of z.desk) p q)
-    (λ a ask answer b m. drawn_same draws (seat_of a.desk) (secrets_of a.desk) ask answer (seat_of b.desk) (secrets_of b.desk) m)
+    (λ a ask answer b m. drawn_same draws (seat_of a.desk) (secrets_of a.desk) ask answer (seat_of b.desk) (secrets_of b.desk) m.0)
     max_body first left old new before after end c

@@ -2,9 +2,11 @@ pub mod Carrying
 pub mod Conversations
 pub mod KeeperMoves
 pub mod LineMoves
+pub mod Orders
 pub mod Pairing
 pub mod SeatConversations
 pub mod SeatMoves
 pub mod Settling
 pub mod Walks
+pub mod Watching
 pub mod Working

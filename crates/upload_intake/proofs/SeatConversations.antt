@@ -1,13 +1,11 @@
 -- What a conversation over a seat added to it.
-use Rattle.std.proofs.Common.{◌≡◌, ℕ, List, [], ◌∷◌, ◌++◌, map, length, Option, Some, None, Ok, Err, sym, refl, ap, ◌∙◌, subst, inl, inr, ⊎_elim, append-nil, append_assoc}
+use Rattle.std.proofs.Common.{◌≡◌, ℕ, List, [], ◌∷◌, ◌++◌, length, Ok, Err, sym, refl, ap, ◌∙◌, inl, inr, ⊎_elim, append-nil, append_assoc}
 use Rattle.std.proofs.lemmas.List.{map-append}
 use Rattle.upload_service.specs.declared.ask.Ask.{Ask}
-use Rattle.upload_service.specs.declared.answer.Answer.{Answer}
 use Rattle.upload_intake.specs.declared.gone.Gone.{Gone}
 use Rattle.upload_intake.specs.declared.gone.Gone.TheVariants.{NotSent, NoAnswer}
 use Rattle.upload_intake.specs.Log.{Job}
 use Rattle.upload_intake.specs.Seats.{SeatState, Asks}
-use Rattle.upload_intake.specs.SeatMoves.{AsksWithDrawn}
 use Rattle.upload_intake.specs.SeatConversations.{asks_of, answers_of, asks_in, Adds, SeatSteps, ConversationsFillTheSeat}
 use Rattle.upload_wire.specs.ConnectionRuns.{answered_last, unanswered_last, answered, unanswered}
 use Rattle.upload_wire.specs.States.{SourceState, SinkState}

@@ -1,19 +1,21 @@
 -- What a worker's loop keeps, and what all its conversations added to its seat.
-use Rattle.std.proofs.Common.{◌≡◌, ℕ, ◌+◌, min, Bool, true, false, true≢false, List, [], ◌∷◌, ◌++◌, length, filter, cond, Option, Some, None, sym, refl, ap, ◌∙◌, subst, inl, inr, ◌⊎◌, ⊎_elim, append-nil, length-append, arith}
+use Rattle.std.proofs.Common.{◌≡◌, ℕ, ◌+◌, min, Bool, true, false, true≢false, List, [], ◌∷◌, ◌++◌, length, filter, cond, Option, Some, None, sym, refl, ap, ◌∙◌, subst, inl, inr, ◌⊎◌, ⊎_elim, append-nil, append_assoc, length-append, arith}
 use Rattle.std.proofs.lemmas.List.Elements.{filter-append}
 use Rattle.upload_service.specs.declared.ask.Ask.{Ask}
 use Rattle.upload_service.specs.declared.answer.Answer.{Answer}
 use Rattle.upload_intake.specs.Seats.{SeatState}
-use Rattle.upload_intake.specs.SeatMoves.{AsksWithDrawn}
+use Rattle.upload_intake.specs.Watched.{WatchesEach, WatchesLast}
 use Rattle.upload_intake.specs.Desks.{seat_of, secrets_of}
 use Rattle.upload_intake.specs.declared.work.GatedDesk.{GatedDesk}
 use Rattle.upload_intake.specs.Settled.{count_limit}
 use Rattle.upload_intake.specs.SeatConversations.{Adds}
 use Rattle.upload_intake.specs.Working.{Means, Behind, is_clean, is_gone, Serves, Talk, steps, answered_on, unanswered_on, all_answered, all_unanswered, count_clean, IsWorked}
+use Rattle.upload_intake.proofs.Conversations.{GatedSteps}
 use Rattle.upload_intake.proofs.SeatConversations.{adds_none, adds_twice, fills}
+use Rattle.upload_intake.proofs.Watching.{each_twice, watched_on, watched_lost}
 use Rattle.upload_wire.specs.States.{SourceState, SinkState}
 use Rattle.upload_wire.specs.Conversation.{Moves, Exchange, Answers, EndsWith, IsConversation}
-use Rattle.upload_wire.specs.ConnectionRuns.{unanswered_last}
+use Rattle.upload_wire.specs.ConnectionRuns.{answered_last, unanswered_last, answered, unanswered}
 use Rattle.upload_wire.specs.declared.connection.ConnEnd.{ConnEnd}
 use Rattle.upload_wire.specs.declared.connection.ConnEnd.TheVariants.{Clean, AfterClose, AfterBad, TooMany, DeskGone, Fault}
 use Rattle.upload_wire.specs.declared.connection.ConnFault.TheVariants as Conn
@@ -57,6 +59,30 @@ module _ {D E : Type 0} (step : Moves D) (seen : Moves E) (see : D → E)
     };
     ended = see_end max_body (length c.exchanges) c.at new c.rest left c.mid after end c.ended;
   }
+
+  -- the same is answered and unanswered there
+  see_answered : (max_body count : ℕ) (at new : D) (rest : List ℕ) (left : SourceState) (mid after : SinkState) (end : ConnEnd) (e : EndsWith step max_body count at new rest left mid after end)
+      → answered_last seen max_body count (see at) (see new) rest left mid after end (see_end max_body count at new rest left mid after end e) ≡ answered_last step max_body count at new rest left mid after end e
+  unfolding see_end
+  see_answered max_body count at new rest left mid after Clean e = refl
+  see_answered max_body count at new rest left mid after AfterClose e = refl
+  see_answered max_body count at new rest left mid after AfterBad e = refl
+  see_answered max_body count at new rest left mid after TooMany e = refl
+  see_answered max_body count at new rest left mid after DeskGone e = refl
+  see_answered max_body count at new rest left mid after (Fault (Conn.Wire fault)) e = refl
+  see_answered max_body count at new rest left mid after (Fault Conn.Write) (inl s) = refl
+  see_answered max_body count at new rest left mid after (Fault Conn.Write) (inr s) = refl
+
+  see_unanswered : (max_body count : ℕ) (at new : D) (rest : List ℕ) (left : SourceState) (mid after : SinkState) (end : ConnEnd) (e : EndsWith step max_body count at new rest left mid after end)
+      → unanswered_last seen max_body count (see at) (see new) rest left mid after end (see_end max_body count at new rest left mid after end e) ≡ unanswered_last step max_body count at new rest left mid after end e
+  unfolding see_end
+  see_unanswered max_body count at new rest left mid after Clean e = refl
+  see_unanswered max_body count at new rest left mid after AfterClose e = refl
+  see_unanswered max_body count at new rest left mid after AfterBad e = refl
+  see_unanswered max_body count at new rest left mid after TooMany e = refl
+  see_unanswered max_body count at new rest left mid after DeskGone e = refl
+  see_unanswered max_body count at new rest left mid after (Fault (Conn.Wire fault)) e = refl
+  see_unanswered max_body count at new rest left mid after (Fault Conn.Write) e = refl
 
 -- ---- ends
 
@@ -102,7 +128,7 @@ module _ {D : Type 0} (step : Moves D) (max_body count : ℕ) (at new : D) (rest
 
 -- ---- the history
 
-module _ {C In Out S : Type 0} (m : Means C In Out S) (max_body : ℕ) where
+module _ {C In Out S G : Type 0} (m : Means C In Out S G) (max_body : ℕ) where
   -- what a worker has served where it goes on
   abbrev pub SoFar : C → SeatState × S → List (Talk m max_body) → C → SeatState × S → Type 0
   SoFar conns desk [] conns' desk' = (conns' ≡ conns) × (desk' ≡ desk)
@@ -149,12 +175,22 @@ module _ {C In Out S : Type 0} (m : Means C In Out S) (max_body : ℕ) where
       (adds_all s.0 t.new ts new x.1)))
       (behind t.end ((ts ≡ []) × (new ≡ t.new)) (Serves m max_body s.0 t.new ts new) s.3)
 
-  -- ---- the counts
+  -- ---- what the gate is told, and the counts
 
-  -- a worker that goes on, with its counts
-  pub record Working (conns : C) (desk : SeatState × S) (conns' : C) (desk' : SeatState × S) (taken clean : ℕ) : Type 0 where
+  answered_more : (ts : List (Talk m max_body)) (t : Talk m max_body) → all_answered m max_body (ts ++ t ∷ []) ≡ all_answered m max_body ts ++ answered_on m max_body t
+  answered_more [] t = append-nil (answered_on m max_body t)
+  answered_more (u ∷ us) t = ap (λ l. answered_on m max_body u ++ l) (answered_more us t) ∙ sym (append_assoc (answered_on m max_body u) (all_answered m max_body us) (answered_on m max_body t))
+
+  unanswered_more : (ts : List (Talk m max_body)) (t : Talk m max_body) → all_unanswered m max_body (ts ++ t ∷ []) ≡ all_unanswered m max_body ts ++ unanswered_on m max_body t
+  unanswered_more [] t = append-nil (unanswered_on m max_body t)
+  unanswered_more (u ∷ us) t = ap (λ l. unanswered_on m max_body u ++ l) (unanswered_more us t) ∙ sym (append_assoc (unanswered_on m max_body u) (all_unanswered m max_body us) (unanswered_on m max_body t))
+
+  -- a worker that goes on, with its gate, the turns so far and its counts
+  pub record Working (conns : C) (desk : SeatState × S) (gate : G) (conns' : C) (desk' : SeatState × S) (gate' : G) (turn taken clean : ℕ) : Type 0 where
     pub talks : List (Talk m max_body)
     pub so_far : SoFar conns desk talks conns' desk'
+    pub watched : WatchesEach m.watches gate 0 (all_answered m max_body talks) gate' turn
+    pub none_lost : all_unanswered m max_body talks ≡ []
     pub counted : taken ≡ min (length talks) count_limit
     pub clean_ones : clean ≡ min (count_clean m max_body talks) count_limit
 
@@ -168,14 +204,21 @@ module _ {C In Out S : Type 0} (m : Means C In Out S) (max_body : ℕ) where
       ∙ length-append (filter (λ (t : Talk m max_body). is_clean t.end) ts) (filter (λ (t : Talk m max_body). is_clean t.end) (t ∷ []))
       ∙ ap (λ n. count_clean m max_body ts + n) (clean_step (is_clean t.end) t)
 
-  pub begins : (conns : C) (desk : SeatState × S) → Working conns desk conns desk 0 0
-  begins conns desk = record { talks = []; so_far = (refl, refl); counted = refl; clean_ones = refl }
+  pub begins : (conns : C) (desk : SeatState × S) (gate : G) → Working conns desk gate conns desk gate 0 0 0
+  begins conns desk gate = record { talks = []; so_far = (refl, refl); watched = (refl, refl); none_lost = refl; counted = refl; clean_ones = refl }
 
-  module _ (conns : C) (desk : SeatState × S) (conns' : C) (desk' : SeatState × S) (taken clean : ℕ) (w : Working conns desk conns' desk' taken clean) where
-    pub ends_at_none : (left : C) → m.gives conns' None left → IsWorked m max_body conns desk.1 desk.0 desk'.0 taken clean
-    ends_at_none left given = record { talks = w.talks; secrets_left = desk'.1; served = none_came conns desk w.talks conns' desk' w.so_far left given; counted = w.counted; clean_ones = w.clean_ones }
+  module _ (conns : C) (desk : SeatState × S) (gate : G) (conns' : C) (desk' : SeatState × S) (gate' : G) (turn taken clean : ℕ) (w : Working conns desk gate conns' desk' gate' turn taken clean) where
+    pub ends_at_none : (left : C) → m.gives conns' None left → IsWorked m max_body conns desk.1 gate desk.0 desk'.0 taken clean
+    ends_at_none left given = record {
+      talks = w.talks;
+      secrets_left = desk'.1;
+      served = none_came conns desk w.talks conns' desk' w.so_far left given;
+      watched = record { behind = gate'; turn = turn; left = gate'; each = w.watched; last = subst (λ l. WatchesLast m.watches gate' turn l gate') (sym w.none_lost) refl };
+      counted = w.counted;
+      clean_ones = w.clean_ones;
+    }
 
-    module _ (t : Talk m max_body) (mid : C) (taken' clean' : ℕ) (given : m.gives conns' (Some (t.reader, t.writer)) mid) (stands : t.old ≡ desk')
+    module _ (t : Talk m max_body) (mid : C) (new_gate : G) (taken' clean' : ℕ) (given : m.gives conns' (Some (t.reader, t.writer)) mid) (stands : t.old ≡ desk')
         (conns_count : taken' ≡ min (taken + 1) count_limit) (clean_count : clean' ≡ min (clean + cond (is_clean t.end) 1 0) count_limit) where
       counted : taken' ≡ min (length (w.talks ++ t ∷ [])) count_limit
       counted = let n = w.counted in let l = length-append w.talks (t ∷ []) in omega arith
@@ -183,36 +226,86 @@ module _ {C In Out S : Type 0} (m : Means C In Out S) (max_body : ℕ) where
       clean_ones : clean' ≡ min (count_clean m max_body (w.talks ++ t ∷ [])) count_limit
       clean_ones = let n = w.clean_ones in let l = count_more w.talks t in omega arith
 
-      pub talked : (t.end ≡ DeskGone → ⊥) → Working conns desk mid t.new taken' clean'
-      talked there = record { talks = w.talks ++ t ∷ []; so_far = one_more conns desk w.talks conns' desk' w.so_far t mid given stands there; counted = counted; clean_ones = clean_ones }
+      -- with what the gate was told on this connection
+      told_too : (at : G) (now : ℕ) → WatchesEach m.watches gate' turn (answered_on m max_body t) at now → WatchesEach m.watches gate 0 (all_answered m max_body (w.talks ++ t ∷ [])) at now
+      told_too at now told = subst (λ l. WatchesEach m.watches gate 0 l at now) (sym (answered_more w.talks t)) (each_twice m.watches gate gate' at 0 turn now (all_answered m max_body w.talks) (answered_on m max_body t) w.watched told)
 
-      pub ends_gone : t.end ≡ DeskGone → IsWorked m max_body conns desk.1 desk.0 t.new.0 taken' clean'
-      ends_gone gone = record { talks = w.talks ++ t ∷ []; secrets_left = t.new.1; served = gone_at conns desk w.talks conns' desk' w.so_far t mid given stands gone; counted = counted; clean_ones = clean_ones }
+      lost_too : all_unanswered m max_body (w.talks ++ t ∷ []) ≡ unanswered_on m max_body t
+      lost_too = unanswered_more w.talks t ∙ ap (λ l. l ++ unanswered_on m max_body t) w.none_lost
+
+      pub talked : (now : ℕ) → WatchesEach m.watches gate' turn (answered_on m max_body t) new_gate now → (t.end ≡ DeskGone → ⊥) → Working conns desk gate mid t.new new_gate now taken' clean'
+      talked now told there = record {
+        talks = w.talks ++ t ∷ [];
+        so_far = one_more conns desk w.talks conns' desk' w.so_far t mid given stands there;
+        watched = told_too new_gate now told;
+        none_lost = lost_too ∙ all_heard (steps m max_body) max_body (length t.conversation.exchanges) t.conversation.at t.new t.conversation.rest (m.reads t.reader_left) t.conversation.mid (m.writes t.writer_left) t.end t.conversation.ended there;
+        counted = counted;
+        clean_ones = clean_ones;
+      }
+
+      pub ends_gone : (at : G) (now : ℕ) → WatchesEach m.watches gate' turn (answered_on m max_body t) at now → WatchesLast m.watches at now (unanswered_on m max_body t) new_gate
+          → t.end ≡ DeskGone → IsWorked m max_body conns desk.1 gate desk.0 t.new.0 taken' clean'
+      ends_gone at now told last gone = record {
+        talks = w.talks ++ t ∷ [];
+        secrets_left = t.new.1;
+        served = gone_at conns desk w.talks conns' desk' w.so_far t mid given stands gone;
+        watched = record { behind = at; turn = now; left = new_gate; each = told_too at now told; last = subst (λ l. WatchesLast m.watches at now l new_gate) (sym lost_too) last };
+        counted = counted;
+        clean_ones = clean_ones;
+      }
 
   -- ---- the same, seen from elsewhere
 
-  -- a conversation over a gated desk is one over its seat
-  abbrev pub talk_of : {R G : Type 0} (reader reader_left : In) (writer writer_left : Out) (old new : GatedDesk R S G) (end : ConnEnd)
-      → IsConversation (λ a ask answer b. AsksWithDrawn m.draws (seat_of a.desk) (secrets_of a.desk) ask answer (seat_of b.desk) (secrets_of b.desk)) max_body (m.reads reader) (m.reads reader_left) old new (m.writes writer) (m.writes writer_left) end
-      → Talk m max_body
-  talk_of {R} {G} reader reader_left writer writer_left old new end c = record {
-    reader = reader;
-    writer = writer;
-    reader_left = reader_left;
-    writer_left = writer_left;
-    old = (seat_of old.desk, secrets_of old.desk);
-    new = (seat_of new.desk, secrets_of new.desk);
-    end = end;
-    conversation = seen_as {D = GatedDesk R S G} {E = SeatState × S} (λ a ask answer b. AsksWithDrawn m.draws (seat_of a.desk) (secrets_of a.desk) ask answer (seat_of b.desk) (secrets_of b.desk)) (steps m max_body)
-        (λ d. (seat_of d.desk, secrets_of d.desk)) (λ a ask answer b moved. moved) max_body (m.reads reader) (m.reads reader_left) old new (m.writes writer) (m.writes writer_left) end c;
-  }
+  module _ {R : Type 0} (reader reader_left : In) (writer writer_left : Out) (old new : GatedDesk R S G) (end : ConnEnd) (limit : ℕ) (same : limit ≡ max_body)
+      (served : IsConversation (GatedSteps {R = R} m.draws m.watches) limit (m.reads reader) (m.reads reader_left) old new (m.writes writer) (m.writes writer_left) end) where
+    abbrev c : IsConversation (GatedSteps {R = R} m.draws m.watches) max_body (m.reads reader) (m.reads reader_left) old new (m.writes writer) (m.writes writer_left) end
+    c = subst (λ n. IsConversation (GatedSteps {R = R} m.draws m.watches) n (m.reads reader) (m.reads reader_left) old new (m.writes writer) (m.writes writer_left) end) same served
 
-  pub worked_as : (conns : C) (secrets : S) (seat new new' : SeatState) (taken taken' clean clean' : ℕ) → IsWorked m max_body conns secrets seat new taken clean
-      → new' ≡ new → taken' ≡ taken → clean' ≡ clean → IsWorked m max_body conns secrets seat new' taken' clean'
-  worked_as conns secrets seat new new' taken taken' clean clean' w p q r =
-      subst (λ (x : SeatState × (ℕ × ℕ)). IsWorked m max_body conns secrets seat x.0 x.1.0 x.1.1) (λ i. (sym p i, (sym q i, sym r i))) w
+    abbrev see : GatedDesk R S G → SeatState × S
+    see d = (seat_of d.desk, secrets_of d.desk)
 
-pub promised : {C In Out S : Type 0} (m : Means C In Out S) (max_body max_body' : ℕ) (conns conns' : C) (secrets secrets' : S) (seat seat' new : SeatState) (taken clean : ℕ)
-    → max_body ≡ max_body' → conns ≡ conns' → secrets ≡ secrets' → seat ≡ seat' → IsWorked m max_body conns secrets seat new taken clean → IsWorked m max_body' conns' secrets' seat' new taken clean
-promised {C} {In} {Out} {S} m max_body max_body' conns conns' secrets secrets' seat seat' new taken clean p q r s w =
-    subst (λ (x : ℕ × (C × (S × SeatState))). IsWorked m x.0 x.1.0 x.1.1.0 x.1.1.1 new taken clean) (λ i. (p i, (q i, (r i, s i)))) w
+    -- a conversation over a gated desk is one over its seat
+    abbrev pub talk_of : Talk m max_body
+    talk_of = record {
+      reader = reader;
+      writer = writer;
+      reader_left = reader_left;
+      writer_left = writer_left;
+      old = see old;
+      new = see new;
+      end = end;
+      conversation = seen_as {D = GatedDesk R S G} {E = SeatState × S} (GatedSteps {R = R} m.draws m.watches) (steps m max_body) see (λ a ask answer b moved. moved.0)
+          max_body (m.reads reader) (m.reads reader_left) old new (m.writes writer) (m.writes writer_left) end c;
+    }
+
+    same_answered : answered_on m max_body talk_of ≡ answered (GatedSteps {R = R} m.draws m.watches) max_body (m.reads reader) (m.reads reader_left) old new (m.writes writer) (m.writes writer_left) end c
+    unfolding seen_as
+    same_answered = ap (λ l. c.exchanges ++ l) (see_answered {D = GatedDesk R S G} {E = SeatState × S} (GatedSteps {R = R} m.draws m.watches) (steps m max_body) see (λ a ask answer b moved. moved.0)
+        max_body (length c.exchanges) c.at new c.rest (m.reads reader_left) c.mid (m.writes writer_left) end c.ended)
+
+    same_unanswered : unanswered_on m max_body talk_of ≡ unanswered (GatedSteps {R = R} m.draws m.watches) max_body (m.reads reader) (m.reads reader_left) old new (m.writes writer) (m.writes writer_left) end c
+    unfolding seen_as
+    same_unanswered = see_unanswered {D = GatedDesk R S G} {E = SeatState × S} (GatedSteps {R = R} m.draws m.watches) (steps m max_body) see (λ a ask answer b moved. moved.0)
+        max_body (length c.exchanges) c.at new c.rest (m.reads reader_left) c.mid (m.writes writer_left) end c.ended
+
+    -- and the gate was told of it
+    pub told_on : (end ≡ DeskGone → ⊥) → WatchesEach m.watches old.gate old.turn (answered_on m max_body talk_of) new.gate new.turn
+    told_on there = subst (λ l. WatchesEach m.watches old.gate old.turn l new.gate new.turn) (sym same_answered)
+        (watched_on {D = GatedDesk R S G} m.watches (GatedSteps {R = R} m.draws m.watches) (λ d. d.gate) (λ d. d.turn) (λ a ask answer b moved. moved.1)
+        max_body (m.reads reader) (m.reads reader_left) old new (m.writes writer) (m.writes writer_left) end c there)
+
+    pub told_gone : end ≡ DeskGone → (at : G) × (now : ℕ) × WatchesEach m.watches old.gate old.turn (answered_on m max_body talk_of) at now × WatchesLast m.watches at now (unanswered_on m max_body talk_of) new.gate
+    told_gone gone =
+        let l = watched_lost {D = GatedDesk R S G} m.watches (GatedSteps {R = R} m.draws m.watches) (λ d. d.gate) (λ d. d.turn) (λ a ask answer b moved. moved.1)
+        max_body (m.reads reader) (m.reads reader_left) old new (m.writes writer) (m.writes writer_left) end c gone in
+        (l.0, l.1, subst (λ xs. WatchesEach m.watches old.gate old.turn xs l.0 l.1) (sym same_answered) l.2, subst (λ us. WatchesLast m.watches l.0 l.1 us new.gate) (sym same_unanswered) l.3)
+
+  pub worked_as : (conns : C) (secrets : S) (gate : G) (seat new new' : SeatState) (taken taken' clean clean' : ℕ) → IsWorked m max_body conns secrets gate seat new taken clean
+      → new' ≡ new → taken' ≡ taken → clean' ≡ clean → IsWorked m max_body conns secrets gate seat new' taken' clean'
+  worked_as conns secrets gate seat new new' taken taken' clean clean' w p q r =
+      subst (λ (x : SeatState × (ℕ × ℕ)). IsWorked m max_body conns secrets gate seat x.0 x.1.0 x.1.1) (λ i. (sym p i, (sym q i, sym r i))) w
+
+pub promised : {C In Out S G : Type 0} (m : Means C In Out S G) (max_body max_body' : ℕ) (conns conns' : C) (secrets secrets' : S) (gate gate' : G) (seat seat' new : SeatState) (taken clean : ℕ)
+    → max_body ≡ max_body' → conns ≡ conns' → secrets ≡ secrets' → gate ≡ gate' → seat ≡ seat' → IsWorked m max_body conns secrets gate seat new taken clean → IsWorked m max_body' conns' secrets' gate' seat' new taken clean
+promised {C} {In} {Out} {S} {G} m max_body max_body' conns conns' secrets secrets' gate gate' seat seat' new taken clean p q r g s w =
+    subst (λ (x : ℕ × (C × (S × (G × SeatState)))). IsWorked m x.0 x.1.0 x.1.1.0 x.1.1.1.0 x.1.1.1.1 new taken clean) (λ i. (p i, (q i, (r i, (g i, s i))))) w

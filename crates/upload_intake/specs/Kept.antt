@@ -2,7 +2,7 @@
 use Rattle.std.specs.Prelude.{◌≡◌, ℕ, min, Bool, true, false, List, [], ◌∷◌, ◌++◌, length}
 use Rattle.upload_service.specs.declared.answer.Answer.{Answer}
 use Rattle.upload_service.specs.Machine.{State, IsLawful}
-use Rattle.upload_service.specs.Run.{Exchange, Run, NeverFall}
+use Rattle.upload_service.specs.Run.{Run, NeverFall}
 use Rattle.upload_intake.specs.declared.line.Side.{Side}
 use Rattle.upload_intake.specs.declared.line.Side.TheVariants.{Left, Right}
 use Rattle.upload_intake.specs.declared.line.Item.{Item}

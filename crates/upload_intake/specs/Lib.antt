@@ -1,8 +1,10 @@
 pub mod Desks
+pub mod Determined
 pub mod Generators
 pub mod Kept
 pub mod Line
 pub mod Log
+pub mod Notices
 pub mod Passes
 pub mod SeatConversations
 pub mod SeatMoves
@@ -12,5 +14,6 @@ pub mod Served
 pub mod ServedPair
 pub mod Settled
 pub mod Told
+pub mod Watched
 pub mod Working
 pub mod FaultTexts

@@ -5,22 +5,25 @@ use Rattle.upload_service.specs.declared.ask.Ask.{Ask}
 use Rattle.upload_intake.specs.Seats.{SeatState}
 use Rattle.upload_intake.specs.SeatConversations.{SeatSteps}
 use Rattle.upload_intake.specs.Settled.{count_limit}
+use Rattle.upload_intake.specs.Notices.{Watching}
+use Rattle.upload_intake.specs.Watched.{IsWatched}
 use Rattle.upload_wire.specs.States.{SourceState, SinkState}
 use Rattle.upload_wire.specs.Conversation.{Moves, Exchange, IsConversation}
 use Rattle.upload_wire.specs.ConnectionRuns.{answered, unanswered}
 use Rattle.upload_wire.specs.declared.connection.ConnEnd.{ConnEnd}
 use Rattle.upload_wire.specs.declared.connection.ConnEnd.TheVariants.{Clean, AfterClose, DeskGone}
 
--- How a worker is given connections, what contracts see of a reader and of a writer, and how secrets are drawn.
-pub record Means (C In Out S : Type 0) : Type 1 where
+-- How a worker is given connections, what contracts see of a reader and of a writer, how secrets are drawn, and how its gate watches.
+pub record Means (C In Out S G : Type 0) : Type 1 where
   pub gives : C → Option (In × Out) → C → Type 0
   pub reads : In → SourceState
   pub writes : Out → SinkState
   pub draws : S → List ℕ → S → Type 0
+  pub watches : Watching G
 
-abbrev pub means : {C In Out S : Type 0} → (C → Option (In × Out) → C → Type 0) → (In → SourceState) → (Out → SinkState)
-    → (S → List ℕ → S → Type 0) → Means C In Out S
-means gives reads writes draws = record { gives = gives; reads = reads; writes = writes; draws = draws }
+abbrev pub means : {C In Out S G : Type 0} → (C → Option (In × Out) → C → Type 0) → (In → SourceState) → (Out → SinkState)
+    → (S → List ℕ → S → Type 0) → Watching G → Means C In Out S G
+means gives reads writes draws watches = record { gives = gives; reads = reads; writes = writes; draws = draws; watches = watches }
 
 -- the ends that a worker counts as clean
 abbrev pub is_clean : ConnEnd → Bool
@@ -37,7 +40,7 @@ abbrev pub Behind : ConnEnd → Type 0 → Type 0 → Type 0
 Behind DeskGone gone on = gone
 Behind other gone on = on
 
-module _ {C In Out S : Type 0} (m : Means C In Out S) (max_body : ℕ) where
+module _ {C In Out S G : Type 0} (m : Means C In Out S G) (max_body : ℕ) where
   -- how a worker's desk moves: its seat is asked with the secret drawn next
   abbrev pub steps : Moves (SeatState × S)
   steps = SeatSteps {D = SeatState × S} {S = S} m.draws (λ d. d.0) (λ d. d.1)
@@ -52,16 +55,19 @@ module _ {C In Out S : Type 0} (m : Means C In Out S) (max_body : ℕ) where
     pub old : SeatState × S
     pub new : SeatState × S
     pub end : ConnEnd
-    pub conversation : IsConversation steps max_body (m.reads reader) (m.reads reader_left) old new (m.writes writer) (m.writes writer_left) end
+    pub conversation : IsConversation steps max_body
+        (m.reads reader) (m.reads reader_left) old new (m.writes writer) (m.writes writer_left) end
 
   -- what was asked and answered on these connections, in order; and the request at which the desk was gone
   abbrev pub answered_on : Talk → List Exchange
   answered_on t =
-      answered steps max_body (m.reads t.reader) (m.reads t.reader_left) t.old t.new (m.writes t.writer) (m.writes t.writer_left) t.end t.conversation
+      answered steps max_body (m.reads t.reader) (m.reads t.reader_left) t.old t.new (m.writes t.writer) (m.writes t.writer_left) t.end
+      t.conversation
 
   abbrev pub unanswered_on : Talk → List Ask
   unanswered_on t =
-      unanswered steps max_body (m.reads t.reader) (m.reads t.reader_left) t.old t.new (m.writes t.writer) (m.writes t.writer_left) t.end t.conversation
+      unanswered steps max_body (m.reads t.reader) (m.reads t.reader_left) t.old t.new (m.writes t.writer) (m.writes t.writer_left) t.end
+      t.conversation
 
   abbrev pub all_answered : List Talk → List Exchange
   all_answered ts = flat_map answered_on ts
@@ -80,10 +86,12 @@ module _ {C In Out S : Type 0} (m : Means C In Out S) (max_body : ℕ) where
       (mid : C) × m.gives conns (Some (t.reader, t.writer)) mid × (t.old ≡ desk)
       × Behind t.end ((ts ≡ []) × (new ≡ t.new)) (Serves mid t.new ts new)
 
-  -- What a worker did over its seat: what it served, how many connections it took, and how many of them ended clean.
-  pub record IsWorked (conns : C) (secrets : S) (seat new : SeatState) (taken clean : ℕ) : Type 0 where
+  -- What a worker did over its seat: what it served, what its gate was told of that, how many connections it took, and how many of them
+  -- ended clean.
+  pub record IsWorked (conns : C) (secrets : S) (gate : G) (seat new : SeatState) (taken clean : ℕ) : Type 0 where
     pub talks : List Talk
     pub secrets_left : S
     pub served : Serves conns (seat, secrets) talks (new, secrets_left)
+    pub watched : IsWatched m.watches gate (all_answered talks) (all_unanswered talks)
     pub counted : taken ≡ min (length talks) count_limit
     pub clean_ones : clean ≡ min (count_clean talks) count_limit

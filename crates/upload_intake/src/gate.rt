@@ -1,15 +1,23 @@
 //! What is told of each request of a worker.
+ghost use Rattle.std.specs.Prelude.{◌≡◌, ℕ};
+ghost use Rattle.upload_intake.specs.Notices.{Notice};
+ghost use Rattle.upload_intake.specs.Notices.Notice.{Asking, Answered};
 
 use upload_service::{Answer, Ask};
 
 /// Stands between a worker and its seat: what logs requests stands there, and a test may hold a worker there. It is told
 /// which of the worker's requests it is, counted from 1; the count stays at 2^64 - 1 once there.
 pub trait Gate {
+    // Holds of the state before, which request it is, what is told of it, and the state after.
+    ghost watches: { Self → ℕ → Notice → Self → Type 0 };
+
     /// This request is about to be asked.
-    fn before_ask(&mut self, turn: u64, ask: &Ask);
+    fn before_ask(&mut self, turn: u64, ask: &Ask)
+        ensures { watches self.old turn (Asking ask.now) self.new };
 
     /// The request was answered so. Where the keeper is gone this isn't called.
-    fn after_answer(&mut self, turn: u64, answer: &Answer);
+    fn after_answer(&mut self, turn: u64, answer: &Answer)
+        ensures { watches self.old turn (Answered answer.now) self.new };
 }
 
 /// Holds nobody.
@@ -17,6 +25,8 @@ pub trait Gate {
 pub struct NoGate;
 
 impl Gate for NoGate {
+    ghost watches = { λ old turn notice new. new ≡ old };
+
     fn before_ask(&mut self, _turn: u64, _ask: &Ask) {}
 
     fn after_answer(&mut self, _turn: u64, _answer: &Answer) {}

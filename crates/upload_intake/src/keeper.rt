@@ -114,7 +114,9 @@ impl ReplyLine {
         requires { SendsReplies (known self.old.replies.pass) }
         ensures line { self.new.replies.sender ≡ self.old.replies.sender }
         ensures done { self.new.is_done ≡ self.old.is_done }
-        ensures sent { Replies answer (record { is_open = self.old.replies.is_open; view = known self.old.replies.pass }) (record { is_open = self.new.replies.is_open; view = known self.new.replies.pass }) }
+        ensures sent { Replies answer
+            (record { is_open = self.old.replies.is_open; view = known self.old.replies.pass })
+            (record { is_open = self.new.replies.is_open; view = known self.new.replies.pass }) }
     {
         if !self.replies.is_open() {
             return;
@@ -146,7 +148,14 @@ impl Keeper {
         requires jobs { known jobs.pass ≡ taker_view [] }
         requires left { known left.pass ≡ only_sender_view [] }
         requires right { known right.pass ≡ only_sender_view [] }
-        ensures { result ≡ record { jobs = line_of (receives_on jobs.receiver); left = line_of (sends_on left.sender); right = line_of (sends_on right.sender); start = service; service = service; log = [] } }
+        ensures { result ≡ record {
+          jobs = line_of (receives_on jobs.receiver);
+          left = line_of (sends_on left.sender);
+          right = line_of (sends_on right.sender);
+          start = service;
+          service = service;
+          log = [];
+        } }
     {
         // Each service is lawful, and this call says so.
         let _ = service.limits();

@@ -29,7 +29,7 @@ pub use desk::SeatDesk;
 pub use gate::{Gate, NoGate};
 pub use gone::Gone;
 pub use keeper::{Keeper, Served};
-pub use laws::conversations_fill_the_seat;
+pub use laws::{conversations_fill_the_seat, served_orders_are_determined};
 pub use moments::Moments;
 pub use pair::{Pair, ServeFault, serve_pair};
 pub use seat::{Seat, SeatEnd};

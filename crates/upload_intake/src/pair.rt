@@ -16,8 +16,8 @@ use std::alloc::{AllocError, Global};
 use std::sync::Wait;
 use std::thread::Threads;
 use std::{fmt, thread};
-use upload_service::Service;
-use upload_wire::ReadBuffer;
+use upload_service::{Limits, Service};
+use upload_wire::ConnectionServer;
 
 /// How many jobs of both workers wait at most.
 const CAPACITY: usize = 2;
@@ -58,10 +58,17 @@ impl fmt::Display for ServeFault {
 
 impl std::error::Error for ServeFault {}
 
-/// A buffer for each worker, for all its connections.
-fn buffers(alloc: Global) -> Result<(ReadBuffer, ReadBuffer), AllocError> {
-    let left = ReadBuffer::new(alloc)?;
-    let right = ReadBuffer::new(alloc)?;
+/// A server for each worker, for all its connections.
+fn servers(
+    alloc: Global,
+    limits: Limits,
+) -> Result<(ConnectionServer, ConnectionServer), AllocError>
+    requires { AreLawful limits }
+    ensures left { IfOk result (λ servers. servers.0.max_body ≡ limits.max_body) }
+    ensures right { IfOk result (λ servers. servers.1.max_body ≡ limits.max_body) }
+{
+    let left = ConnectionServer::new(alloc, limits)?;
+    let right = ConnectionServer::new(alloc, limits)?;
     Ok((left, right))
 }
 
@@ -90,9 +97,10 @@ where
     RS: Secrets + Send + Drop,
     RG: Gate + Send + Drop,
     ensures served { IfOk result (λ pair. IsServedPair
-        (means LC.gives LC.In.state LC.Out.state LS.draws)
-        (means RC.gives RC.In.state RC.Out.state RS.draws)
-        M.tells service moments.old (left.conns, left.secrets) (right.conns, right.secrets)
+        (means LC.gives LC.In.state LC.Out.state LS.draws LG.watches)
+        (means RC.gives RC.In.state RC.Out.state RS.draws RG.watches)
+        M.tells service moments.old
+        (left.conns, (left.secrets, left.gate)) (right.conns, (right.secrets, right.gate))
         pair.service (pair.left.conns, pair.left.clean) (pair.right.conns, pair.right.clean)) }
     ensures lawful { IfOk result (λ pair. IsLawful pair.service) }
 {
@@ -110,31 +118,26 @@ where
             requires same_limits { limits ≡ keeper.start.limits }
             requires fresh { keeper.log ≡ [] }
             ensures served { IfOk result (λ pair. IsServedPair
-                (means LC.gives LC.In.state LC.Out.state LS.draws)
-                (means RC.gives RC.In.state RC.Out.state RS.draws)
-                M.tells keeper.start moments.entry.now (left.conns, left.secrets) (right.conns, right.secrets)
+                (means LC.gives LC.In.state LC.Out.state LS.draws LG.watches)
+                (means RC.gives RC.In.state RC.Out.state RS.draws RG.watches)
+                M.tells keeper.start moments.entry.now
+                (left.conns, (left.secrets, left.gate)) (right.conns, (right.secrets, right.gate))
                 pair.service (pair.left.conns, pair.left.clean) (pair.right.conns, pair.right.clean)) }
             ensures lawful { IfOk result (λ pair. IsLawful pair.service) }
         {
-            let Ok((mut left_buffer, mut right_buffer)) = buffers(alloc) else {
+            let Ok((left_server, right_server)) = servers(alloc, limits) else {
                 return Err(ServeFault::NoMemory);
             };
-            let of_left = Work::of(&left_seat, &left, limits);
-            let of_right = Work::of(&right_seat, &right, limits);
-            let Ok(left) = scope.spawn_with(
-                of_left,
-                move ||
-                    requires { AreLawful limits }
-                { serve_all(rt, alloc, limits, left_seat, left, &mut left_buffer) },
-            ) else {
+            let of_left = Work::of(&left_seat, &left, &left_server);
+            let of_right = Work::of(&right_seat, &right, &right_server);
+            let Ok(left) = scope.spawn_with(of_left, move || {
+                serve_all(rt, left_seat, left, left_server)
+            }) else {
                 return Err(ServeFault::NoThread);
             };
-            let Ok(right) = scope.spawn_with(
-                of_right,
-                move ||
-                    requires { AreLawful limits }
-                { serve_all(rt, alloc, limits, right_seat, right, &mut right_buffer) },
-            ) else {
+            let Ok(right) = scope.spawn_with(of_right, move || {
+                serve_all(rt, right_seat, right, right_server)
+            }) else {
                 drop(keeper);
                 left.join(rt);
                 return Err(ServeFault::NoThread);

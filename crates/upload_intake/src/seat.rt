@@ -83,7 +83,14 @@ impl Seat {
     pub(crate) fn new(side: Side, jobs: SendEnd<Message>, replies: TakeEnd<Answer>) -> Seat
         requires jobs { known jobs.pass ≡ sender_view side [] }
         requires replies { known replies.pass ≡ taker_view [] }
-        ensures { result ≡ record { jobs = line_of (sends_on jobs.sender); replies = line_of (receives_on replies.receiver); side = side; sent = []; heard = []; gone = false } }
+        ensures { result ≡ record {
+          jobs = line_of (sends_on jobs.sender);
+          replies = line_of (receives_on replies.receiver);
+          side = side;
+          sent = [];
+          heard = [];
+          gone = false;
+        } }
     {
         Seat {
             side,

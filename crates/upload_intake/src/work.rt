@@ -1,6 +1,5 @@
 //! A worker, which serves connections one after the other over its seat.
 ghost use Rattle.std.specs.Prelude.{◌≡◌, ◌+◌, min, if◌then◌else◌};
-ghost use Rattle.upload_service.specs.Machine.{AreLawful};
 ghost use Rattle.upload_intake.specs.Seats.{IsSameSeat};
 ghost use Rattle.upload_intake.specs.Settled.{count_limit};
 ghost use Rattle.upload_intake.specs.Working.{IsWorked, is_clean, is_gone, means};
@@ -10,12 +9,11 @@ use crate::desk::SeatDesk;
 use crate::gate::Gate;
 use crate::seat::{Seat, SeatEnd};
 use crate::secrets::Secrets;
-use std::alloc::Global;
 use std::snapshot::Snapshot;
 use std::sync::Wait;
 use std::thread::Promise;
-use upload_service::{Answer, Ask, Limits};
-use upload_wire::{ConnEnd, Desk, ReadBuffer, serve_connection_with_buffer};
+use upload_service::{Answer, Ask};
+use upload_wire::{ConnEnd, ConnectionServer, Desk};
 
 /// What a worker serves, with which secrets, and what is told of it.
 #[derive(Drop)]
@@ -61,35 +59,43 @@ fn is_gone(end: ConnEnd) -> bool
 }
 
 /// What the thread of a worker promises: the end comes of this seat, and over it these connections were served, with these
-/// secrets.
+/// secrets and by this server, and this gate was told of it.
 #[derive(Drop)]
-pub(crate) struct Work<C, S> {
+pub(crate) struct Work<C, S, G> {
     seat: Snapshot<Seat>,
     conns: Snapshot<C>,
     secrets: Snapshot<S>,
-    limits: Limits,
+    gate: Snapshot<G>,
+    server: Snapshot<ConnectionServer>,
 }
 
-impl<C: Conns, S: Secrets> Work<C, S> {
-    pub(crate) fn of<G>(seat: &Seat, worker: &Worker<C, S, G>, limits: Limits) -> Work<C, S>
+impl<C: Conns, S: Secrets, G: Gate> Work<C, S, G> {
+    pub(crate) fn of(
+        seat: &Seat,
+        worker: &Worker<C, S, G>,
+        server: &ConnectionServer,
+    ) -> Work<C, S, G>
         ensures seat { result.seat.value ≡ seat.now }
         ensures conns { result.conns.value ≡ worker.now.conns }
         ensures secrets { result.secrets.value ≡ worker.now.secrets }
-        ensures limits { result.limits ≡ limits }
+        ensures gate { result.gate.value ≡ worker.now.gate }
+        ensures server { result.server.value ≡ server.now }
     {
         Work {
             seat: Snapshot::of(seat),
             conns: Snapshot::of(&worker.conns),
             secrets: Snapshot::of(&worker.secrets),
-            limits,
+            gate: Snapshot::of(&worker.gate),
+            server: Snapshot::of(server),
         }
     }
 }
 
-impl<C: Conns, S: Secrets> Promise<(SeatEnd, WorkerEnd)> for Work<C, S> {
+impl<C: Conns, S: Secrets, G: Gate> Promise<(SeatEnd, WorkerEnd)> for Work<C, S, G> {
     ghost kept_by = { λ promise end. IsSameSeat promise.seat.value end.0
-        × IsWorked (means C.gives C.In.state C.Out.state S.draws)
-        promise.limits.max_body promise.conns.value promise.secrets.value promise.seat.value end.0 end.1.conns end.1.clean };
+        × IsWorked (means C.gives C.In.state C.Out.state S.draws G.watches)
+        promise.server.value.max_body promise.conns.value promise.secrets.value promise.gate.value
+        promise.seat.value end.0 end.1.conns end.1.clean };
 }
 
 // A seat's desk behind a gate, and how many requests were asked there.
@@ -103,8 +109,11 @@ struct GatedDesk<'a, R: Wait, S, G> {
 impl<'a, R: Wait, S: Secrets, G: Gate> Desk for GatedDesk<'a, R, S, G> {
     ghost use Rattle.upload_intake.specs.Desks.{seat_of, secrets_of};
     ghost use Rattle.upload_intake.specs.SeatMoves.{AsksWithDrawn};
+    ghost use Rattle.upload_intake.specs.Watched.{WatchesOne};
 
-    ghost moves = { λ old ask answer new. AsksWithDrawn S.draws (seat_of old.desk) (secrets_of old.desk) ask answer (seat_of new.desk) (secrets_of new.desk) };
+    ghost moves = { λ old ask answer new.
+        AsksWithDrawn S.draws (seat_of old.desk) (secrets_of old.desk) ask answer (seat_of new.desk) (secrets_of new.desk)
+        × WatchesOne G.watches old.gate old.turn ask answer new.gate new.turn };
 
     fn ask(&mut self, ask: Ask) -> Option<Answer> {
         self.turn = self.turn.saturating_add(1);
@@ -115,20 +124,17 @@ impl<'a, R: Wait, S: Secrets, G: Gate> Desk for GatedDesk<'a, R, S, G> {
     }
 }
 
-/// Serves a worker's connections one after the other, none behind one that ended `DeskGone`, and finishes its seat. All are
-/// read through one buffer, so that none is turned away for want of it.
+/// Serves a worker's connections one after the other, none behind one that ended `DeskGone`, and finishes its seat. One
+/// server serves them all, so that none is turned away for want of a buffer.
 pub(crate) fn serve_all<R: Wait, C: Conns + Drop, S: Secrets + Drop, G: Gate + Drop>(
     rt: &R,
-    alloc: Global,
-    limits: Limits,
     seat: Seat,
     worker: Worker<C, S, G>,
-    buffer: &mut ReadBuffer,
+    mut server: ConnectionServer,
 ) -> (SeatEnd, WorkerEnd)
-    requires { AreLawful limits }
     ensures seat { IsSameSeat seat result.0 }
-    ensures worked { IsWorked (means C.gives C.In.state C.Out.state S.draws)
-        limits.max_body worker.conns worker.secrets seat result.0 result.1.conns result.1.clean }
+    ensures worked { IsWorked (means C.gives C.In.state C.Out.state S.draws G.watches)
+        server.max_body worker.conns worker.secrets worker.gate seat result.0 result.1.conns result.1.clean }
 {
     let Worker {
         mut conns,
@@ -145,14 +151,7 @@ pub(crate) fn serve_all<R: Wait, C: Conns + Drop, S: Secrets + Drop, G: Gate + D
         let Some((mut source, mut sink)) = conns.next_conn() else {
             break;
         };
-        let ended = serve_connection_with_buffer(
-            alloc,
-            &mut source,
-            &mut sink,
-            &mut desk,
-            limits,
-            buffer,
-        );
+        let ended = server.serve(&mut source, &mut sink, &mut desk);
         end.count(ended);
         // A desk that is gone stays gone: the next client would get no reply.
         if is_gone(ended) {

@@ -1,14 +1,15 @@
 -- Each request is right after what was asked and heard before it.
-use Rattle.std.proofs.Common.{◌≡◌, ℕ, ◌+◌, ◌-◌, ◌<◌, ◌≤◌, true, false, ◌==◌, nat_lt, nat_le, if◌then◌else◌, List, [], ◌∷◌, length, Option, Some, None, refl, arith, subst, sym, ◌∙◌}
+use Rattle.std.proofs.Common.{◌≡◌, ℕ, ◌+◌, ◌-◌, ◌<◌, ◌≤◌, true, false, ◌==◌, nat_lt, nat_le, if◌then◌else◌, List, [], ◌∷◌, length, Option, Some, None, refl, arith, subst, sym, inl, inr, ◌⊎◌, ◌∙◌}
 use Rattle.std.proofs.lemmas.Bool.{eqb-true, ne_eqb, ltb-true, ltb-false}
 use Rattle.upload_push.proofs.Cases.{cond_case, cond_case_both, cond_yes, cond_no}
 use Rattle.upload_push.proofs.Count.{all_within}
 use Rattle.upload_push.specs.Steps.{Plan, Stand, IsOver, IsWithin, turn, turn_at, answered, unheard, retry, send_from, opened, taken, place_of, refused, to_phase, chunk_end, count_to, ask_at}
-use Rattle.upload_push.specs.Slices.{Push, IsLawfulPush, Exchange, after_all, log_of, logged, plan_of, request, heard_offset, heard_place, place_after, IsSound, EndsWith, IsClose, IsHead}
+use Rattle.upload_push.specs.Slices.{Push, IsLawfulPush, Exchange, after_all, log_of, logged, plan_of, request, heard_offset, heard_place, place_after, IsSound, EndsWith, EndsRefused, AreUnheard, IsClose, IsHead}
 use Rattle.upload_wire.specs.declared.client.heard.Heard.{Heard}
 use Rattle.upload_push.specs.declared.pusher.PushAsk.{PushAsk}
 use Rattle.upload_push.specs.declared.pusher.PushAsk.TheVariants as asks
 use Rattle.upload_push.specs.declared.pusher.Outcome.TheVariants.{Pushed, Already}
+use Rattle.upload_push.specs.declared.pusher.Why.TheVariants.{Refused, BadServer, OutOfTries}
 use Rattle.upload_push.specs.declared.pusher.Phase.{Phase}
 use Rattle.upload_push.specs.declared.pusher.Phase.TheVariants.{Opening, Sending, Asking, Looking, Done, GaveUp}
 
@@ -20,7 +21,9 @@ Tracks p log (Asking at) = heard_place p.name log ≡ Some at
 Tracks p log Looking = Unit {0}
 Tracks p log (Done Pushed) = EndsWith IsClose 201 log
 Tracks p log (Done Already) = EndsWith IsHead 200 log
-Tracks p log (GaveUp why) = Unit {0}
+Tracks p log (GaveUp (Refused status code)) = EndsRefused status code log
+Tracks p log (GaveUp BadServer) = Unit {0}
+Tracks p log (GaveUp OutOfTries) = Unit {0}
 
 -- the log as a record of its newest exchange
 abbrev pub grown : Push → PushAsk → Option Heard → List Exchange → List Exchange
@@ -86,7 +89,7 @@ chunk_next p log s at offset h tracks =
     (λ not. cond_case (Next p log (Some h) (Some chunk)) (h.status == 416) _ _
     (λ ok. retry_follows p now s _
     (send_from_follows p now at (count_to h.upto) (cond_no _ _ not ∙ tracks.0) (cond_no _ _ not ∙ cond_yes _ _ ok)))
-    (λ not. tt))
+    (λ not. (refl, refl)))
 
 pub answered_next : (p : Push) (log : List Exchange) (s : Stand) (phase : Phase) (h : Heard) → s.phase ≡ phase → Tracks p log phase
     → Next p log (Some h) (ask_at (plan_of p) phase) (answered (plan_of p) s phase h)
@@ -94,22 +97,22 @@ unfolding Next Follows
 answered_next p log s Opening h is tracks =
     cond_case (Next p log (Some h) (Some asks.Opening)) (h.status == 202) _ _
     (λ ok. opened_follows p (grown p asks.Opening (Some h) log) (place_of p.name h) (cond_yes _ _ ok) (cond_yes _ _ ok))
-    (λ not. tt)
+    (λ not. (refl, refl))
 answered_next p log s (Sending at offset) h is tracks =
     cond_case_both (Next p log (Some h)) (nat_lt offset (length p.file)) _ _ _ _
     (λ lt. chunk_next p log s at offset h tracks)
     (λ ge. cond_case (Next p log (Some h) (Some (asks.Close at))) (h.status == 201) _ _
     (λ ok. (tt, eqb-true h.status 201 ok))
-    (λ not. tt))
+    (λ not. (refl, refl)))
 answered_next p log s (Asking at) h is tracks =
     cond_case (Next p log (Some h) (Some (asks.Status at))) (h.status == 204) _ _
     (λ ok. send_from_follows p (grown p (asks.Status at) (Some h) log) at (count_to h.upto)
     (cond_no _ _ (other h.status 204 202 ok (λ e. omega arith)) ∙ tracks) (cond_yes _ _ ok))
-    (λ not. cond_case (Next p log (Some h) (Some (asks.Status at))) (h.status == 404) _ _ (λ ok. tt) (λ not. tt))
+    (λ not. cond_case (Next p log (Some h) (Some (asks.Status at))) (h.status == 404) _ _ (λ ok. tt) (λ not. (refl, refl)))
 answered_next p log s Looking h is tracks =
     cond_case (Next p log (Some h) (Some asks.Head)) (h.status == 200) _ _
     (λ ok. (refl, eqb-true h.status 200 ok))
-    (λ not. tt)
+    (λ not. (refl, refl))
 answered_next p log s (Done outcome) h is tracks = subst (Tracks p log) (sym is) tracks
 answered_next p log s (GaveUp why) h is tracks = subst (Tracks p log) (sym is) tracks
 
@@ -168,6 +171,26 @@ pushed_last p heard is = subst (Tracks p (log_of p heard)) is (all_tracks p hear
 
 pub already_last : (p : Push) (heard : List (Option Heard)) → (after_all p heard).phase ≡ Done Already → EndsWith IsHead 200 (log_of p heard)
 already_last p heard is = subst (Tracks p (log_of p heard)) is (all_tracks p heard)
+
+pub refused_last : (p : Push) (heard : List (Option Heard)) (status : ℕ) (code : Option (List ℕ))
+    → (after_all p heard).phase ≡ GaveUp (Refused status code) → EndsRefused status code (log_of p heard)
+refused_last p heard status code is = subst (Tracks p (log_of p heard)) is (all_tracks p heard)
+
+-- a push to which nothing was said
+abbrev Waits : Stand → Type 0
+Waits s = (s.phase ≡ Opening) ⊎ (s.phase ≡ GaveUp OutOfTries)
+
+waits_on : (p : Plan) (s : Stand) → Waits s → Waits (turn_at p s s.phase None)
+waits_on p s (inl is) =
+    subst (λ (phase : Phase). Waits (turn_at p s phase None)) (sym is)
+    (cond_case Waits (s.tries == 0) _ _ (λ _. inr refl) (λ _. inl refl))
+waits_on p s (inr is) = subst (λ (phase : Phase). Waits (turn_at p s phase None)) (sym is) (inr is)
+
+pub unheard_waits : (p : Push) (heard : List (Option Heard)) → AreUnheard heard → Waits (after_all p heard)
+unheard_waits p [] none = inl refl
+unheard_waits p (h ∷ earlier) none =
+    subst (λ (g : Option Heard). Waits (turn (plan_of p) (after_all p earlier) g)) (sym none.0)
+    (waits_on (plan_of p) (after_all p earlier) (unheard_waits p earlier none.1))
 
 -- once a push has ended, nothing changes it
 over_at : (p : Plan) (s : Stand) (phase : Phase) (heard : Option Heard) → IsOver phase → turn_at p s phase heard ≡ s

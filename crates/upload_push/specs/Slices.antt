@@ -1,5 +1,6 @@
 -- Whole pushes: the list of what was asked and heard, the newest first, and what is true of each such list.
 use Rattle.std.specs.Prelude.{Result, Ok, Err, ◌≡◌, ℕ, ◌+◌, ◌-◌, ◌*◌, ◌/◌, ◌^◌, ◌<◌, ◌≤◌, true, ◌==◌, if◌then◌else◌, List, [], ◌∷◌, length, slice_range, Option, Some, None}
+use Rattle.std.specs.List.{AllByRecursion}
 use Rattle.upload_names.specs.Digest.{Digest, content_digest}
 use Rattle.upload_names.specs.ByteRange.{Span}
 use Rattle.upload_names.specs.declared.digest.Algorithm.{Algorithm}
@@ -140,6 +141,20 @@ HeardStatus (Some h) status = h.status ≡ status
 abbrev pub EndsWith : (Ask → Type 0) → ℕ → List Exchange → Type 0
 EndsWith P status [] = ⊥
 EndsWith P status (e ∷ log) = P e.ask × HeardStatus e.heard status
+
+-- a reply with this status and this code was heard
+abbrev pub IsHeardAs : Option Heard → ℕ → Option (List ℕ) → Type 0
+IsHeardAs None status code = ⊥
+IsHeardAs (Some h) status code = (h.status ≡ status) × (h.code ≡ code)
+
+-- the last exchange heard such a reply
+abbrev pub EndsRefused : ℕ → Option (List ℕ) → List Exchange → Type 0
+EndsRefused status code [] = ⊥
+EndsRefused status code (e ∷ log) = IsHeardAs e.heard status code
+
+-- nothing was heard to any request
+abbrev pub AreUnheard : List (Option Heard) → Type 0
+AreUnheard heard = AllByRecursion (λ (h : Option Heard). h ≡ None) heard
 
 abbrev pub IsClose : Ask → Type 0
 IsClose (Close name at range digest body) = Unit {0}

@@ -1,23 +1,29 @@
 //! What is true of every push, as laws: functions that do nothing and whose contracts are the laws.
-ghost use Rattle.std.specs.Prelude.{◌≡◌, ◌≤◌, List, Option, length};
+ghost use Rattle.std.specs.Prelude.{◌≡◌, ◌≤◌, ℕ, ◌⊎◌, List, Option, length};
 ghost use Rattle.upload_wire.specs.declared.client.heard.Heard.{Heard};
 ghost use Rattle.upload_push.specs.Promise.{PushPromise, AloneIsQuiet};
 ghost use Rattle.upload_push.specs.RuledOut.{PushesRuleOut};
 ghost use Rattle.upload_push.specs.Steps.{Plan, Stand, turn, IsOver};
-ghost use Rattle.upload_push.specs.Slices.{Push, IsLawfulPush, IsSound, IsClose, IsHead, EndsWith, after_all, log_of, most_asks};
+ghost use Rattle.upload_push.specs.Slices.{Push, IsLawfulPush, IsSound, IsClose, IsHead, EndsWith, EndsRefused, AreUnheard, after_all, log_of, most_asks};
 
-use crate::pusher::{Outcome, Phase};
+use crate::pusher::{Outcome, Phase, Why};
 use upload_service::{headline_holds, others_leave_a_session};
 use upload_wire::written_places_are_read;
 
 /// Whatever is heard: each request is sound, a push ends well only after the reply that says so, and it makes no more
-/// requests than (tries + 1) * (chunks of the file + 2). Once it has ended, nothing that is heard changes it.
+/// requests than (tries + 1) * (chunks of the file + 2). Where it ends refused, the last reply had that status and that
+/// code; where nothing is heard it waits for its opening, or is out of tries. Once it has ended, nothing that is heard
+/// changes it.
 pub fn every_push()
     ensures sound { (p : Push) (heard : List (Option Heard)) → IsLawfulPush p → IsSound p (log_of p heard) }
     ensures pushed { (p : Push) (heard : List (Option Heard)) → (after_all p heard).phase ≡ Phase.Done Outcome.Pushed
         → EndsWith IsClose 201 (log_of p heard) }
     ensures already { (p : Push) (heard : List (Option Heard)) → (after_all p heard).phase ≡ Phase.Done Outcome.Already
         → EndsWith IsHead 200 (log_of p heard) }
+    ensures refused { (p : Push) (heard : List (Option Heard)) (status : ℕ) (code : Option (List ℕ))
+        → (after_all p heard).phase ≡ Phase.GaveUp (Why.Refused status code) → EndsRefused status code (log_of p heard) }
+    ensures unheard { (p : Push) (heard : List (Option Heard)) → AreUnheard heard
+        → ((after_all p heard).phase ≡ Phase.Opening) ⊎ ((after_all p heard).phase ≡ Phase.GaveUp Why.OutOfTries) }
     ensures over { (p : Plan) (s : Stand) (heard : Option Heard) → IsOver s.phase → turn p s heard ≡ s }
     ensures count { (p : Push) (heard : List (Option Heard)) → IsLawfulPush p → length (log_of p heard) ≤ most_asks p }
 {}

@@ -11,7 +11,7 @@ use Rattle.upload_service.specs.declared.ask.Ask.TheVariants.{Single, Mount, Chu
 use Rattle.upload_service.specs.declared.ask.Extent.{Extent}
 use Rattle.upload_service.specs.declared.ask.Extent.TheVariants.{Given}
 use Rattle.upload_wire.specs.AskText.{message_of, request_line, query_text, digest_or_nothing, digest_query, section_text, range_fields, body_fields, ask_text, host_text}
-use Rattle.upload_wire.specs.ReplyText.{print_field}
+use Rattle.http_wire.specs.HeadText.{print_field}
 
 pub single_line : (name : List ℕ) (digest : Option Digest) (body : List ℕ)
     → codes "POST" ++ (codes " /v2/" ++ (name ++ (codes "/blobs/uploads/" ++ (codes "?digest=" ++ digest_or_nothing digest))))
@@ -22,6 +22,12 @@ pub mount_line : (name : List ℕ) (digest : Digest) (source : List ℕ)
     → codes "POST" ++ (codes " /v2/" ++ (name ++ (codes "/blobs/uploads/" ++ (codes "?mount=" ++ (digest_or_nothing (Some digest) ++ (codes "&from=" ++ source))))))
     ≡ request_line (message_of (Mount name digest source))
 mount_line name digest source = simp append_assoc
+
+pub mount_put : (before name : List ℕ) (digest : Digest) (source : List ℕ)
+    → (before ++ (codes "POST" ++ (codes " /v2/" ++ (name ++ (codes "/blobs/uploads/" ++ codes "?mount=")))))
+    ++ (digest_or_nothing (Some digest) ++ (codes "&from=" ++ source))
+    ≡ before ++ request_line (message_of (Mount name digest source))
+mount_put before name digest source = simp append_assoc
 
 pub chunk_line : (name at : List ℕ) (range : Extent) (body text : List ℕ) → text ≡ reference_text at
     → codes "PATCH" ++ (codes " /v2/" ++ (name ++ (codes "/blobs/uploads/" ++ text))) ≡ request_line (message_of (Chunk name at range body))

@@ -1,23 +1,27 @@
 -- One exchange after another.
-use Rattle.std.proofs.Common.{◌≡◌, ℕ, ◌+◌, List, [], ◌∷◌, ◌++◌, length, refl, sym, ap, ◌∙◌, subst, append_assoc, inl, arith, length-append, lit<}
+use Rattle.std.proofs.Common.{◌≡◌, ℕ, ◌+◌, List, [], ◌∷◌, ◌++◌, length, refl, sym, ap, ◌∙◌, subst, append_assoc, inl, inr, arith, length-append, lit<}
 use Rattle.std.specs.Prelude.{Option, Some, None, IfSome, Result, Ok, Err}
 use Rattle.std.specs.List.{AllByRecursion}
 use Rattle.std.proofs.lemmas.List.{append-nil}
 use Rattle.std.proofs.lemmas.Grind.{flat_map-append}
 use Rattle.std.specs.Io.KnownBytes.{Consumes}
 use Rattle.upload_service.specs.declared.ask.Ask.{Ask}
+use Rattle.upload_service.specs.declared.answer.Answer.{Answer}
+use Rattle.http_wire.specs.declared.fault.Bad.{Bad}
 use Rattle.http_wire.specs.declared.fault.WireFault.TheVariants as Wire
 use Rattle.upload_wire.specs.declared.request.Style.{Style}
 use Rattle.upload_wire.specs.declared.request.Next.TheVariants.{Request}
+use Rattle.upload_wire.specs.declared.request.Next.TheVariants as nexts
 use Rattle.upload_wire.specs.declared.connection.ConnEnd.{ConnEnd}
 use Rattle.upload_wire.specs.declared.connection.ConnEnd.TheVariants.{Clean, AfterClose, AfterBad, TooMany, DeskGone, Fault}
 use Rattle.upload_wire.specs.declared.connection.ConnFault.TheVariants as Conn
 use Rattle.upload_wire.specs.RequestText.{ReadsNext}
 use Rattle.upload_wire.specs.ReplyText.{reply}
+use Rattle.http_wire.specs.HeadText.{bad}
 use Rattle.http_wire.specs.States.{SourceState, SinkState}
-use Rattle.http_wire.specs.Writing.{TookAll}
-use Rattle.upload_wire.specs.Conversation.{Moves, Exchange, IsKept, messages, replies, Answers, HandedOn, HandedOnEach, Serves, EndsWith, ReadsFail, IsConversation}
-use Rattle.upload_wire.specs.ConversationSteps.{AnswersOne, GoesOn, Stops}
+use Rattle.http_wire.specs.Writing.{TookAll, TookFront}
+use Rattle.upload_wire.specs.Conversation.{Moves, Exchange, IsKept, messages, replies, Answers, HandedOn, HandedOnEach, Serves, AnswersNext, EndsWith, ReadsFail, IsConversation}
+use Rattle.upload_wire.specs.Inner.ConversationSteps.{Replies, GoesOn, Stops}
 use Rattle.http_wire.proofs.GaveLemmas.{consumes_none, consumes_both}
 use Rattle.http_wire.proofs.WritingLemmas.{appends_none, took_both}
 
@@ -30,72 +34,56 @@ ok_not_err value error same = cc
 -- ---- one
 
 module _ {D : Type 0} (step : Moves D) (max count : ℕ) (held rest : List ℕ) (first left : SourceState) (ask : Ask) (style : Style)
-    (at new : D) (mid after : SinkState) where
-  pub one_more : (r : Option ConnEnd) → ReadsNext max held first rest left (Ok (Request ask style))
-      → left.failed_reads ≡ first.failed_reads → AnswersOne step count ask style at new mid after r → r ≡ None
-      → GoesOn step max count held rest first left at new mid after
-  one_more None n same a e = record {
+    (at new : D) (mid : SinkState) (answer : Answer) (after : SinkState) where
+  pub one_more : (kept : List ℕ) → kept ≡ rest → (r : Option ConnEnd) → ReadsNext max held first rest left (Ok (Request ask style))
+      → left.failed_reads ≡ first.failed_reads → step at ask (Some answer) new → Replies count answer style mid after r → r ≡ None
+      → GoesOn step max count held kept first left at new mid after
+  one_more kept stays None n same answered a e = record {
     given = n.given;
     consumed = n.consumed;
     unfailed = same;
-    exchange = record { message = n.found.message; ask = ask; style = style; answer = a.0 };
-    read = n.found.cut;
-    kept = (n.found.request, a.3);
-    answered = a.1;
-    written = a.2;
-    few = a.4;
+    exchange = record { message = n.found.message; ask = ask; style = style; answer = answer };
+    read = n.found.cut ∙ ap (λ t. n.found.message ++ t) (sym stays);
+    kept = (n.found.request, a.1);
+    answered = answered;
+    written = a.0;
+    few = a.2;
   }
-  one_more (Some x) n same a e = absurd (cc)
+  one_more kept stays (Some x) n same answered a e = absurd (cc)
 
-  pub one_last : (r : Option ConnEnd) → ReadsNext max held first rest left (Ok (Request ask style))
-      → left.failed_reads ≡ first.failed_reads → AnswersOne step count ask style at new mid after r
+  -- the exchange that ended the connection
+  abbrev last_exchange : ReadsNext max held first rest left (Ok (Request ask style)) → Exchange
+  last_exchange n = record { message = n.found.message; ask = ask; style = style; answer = answer }
+
+  answers_next : (n : ReadsNext max held first rest left (Ok (Request ask style))) → step at ask (Some answer) new
+      → AnswersNext step max at new (held ++ n.given) (last_exchange n)
+  answers_next n answered = record { more = rest; read = n.found.cut; request = n.found.request; answered = answered }
+
+  pub one_last : (r : Option ConnEnd) → ReadsNext max held first rest left (Ok (Request ask style)) → left.failed_reads ≡ first.failed_reads
+      → step at ask (Some answer) new → Replies count answer style mid after r
       → IfSome r (Stops step max count held first left at new mid after)
-  one_last None n same a = tt
-  one_last (Some Clean) n same a = absurd a
-  one_last (Some AfterClose) n same a = record {
-    given = n.given;
-    consumed = n.consumed;
-    reads = same;
-    ended = (
-      record { message = n.found.message; ask = ask; style = style; answer = a.0 },
-      record { more = rest; read = n.found.cut; request = n.found.request; answered = a.1 },
-      a.3,
-      a.2,
-    );
-  }
-  one_last (Some AfterBad) n same a = absurd a
-  one_last (Some TooMany) n same a = record {
-    given = n.given;
-    consumed = n.consumed;
-    reads = same;
-    ended = (
-      record { message = n.found.message; ask = ask; style = style; answer = a.0 },
-      record { more = rest; read = n.found.cut; request = n.found.request; answered = a.1 },
-      a.3,
-      a.4,
-      a.2,
-    );
-  }
-  one_last (Some DeskGone) n same a = record {
-    given = n.given;
-    consumed = n.consumed;
-    reads = same;
-    ended = (
-      record { message = n.found.message; more = rest; ask = ask; style = style; read = n.found.cut; request = n.found.request; gone = a.0 },
-      a.1,
-    );
-  }
-  one_last (Some (Fault (Conn.Wire f))) n same a = absurd a
-  one_last (Some (Fault Conn.Write)) n same a = record {
-    given = n.given;
-    consumed = n.consumed;
-    reads = same;
-    ended = inl (
-      record { message = n.found.message; ask = ask; style = style; answer = a.0 },
-      record { more = rest; read = n.found.cut; request = n.found.request; answered = a.1 },
-      a.2,
-    );
-  }
+  one_last None n same answered a = tt
+  one_last (Some Clean) n same answered a = absurd a
+  one_last (Some AfterClose) n same answered a =
+      record { given = n.given; consumed = n.consumed; reads = same; ended = (last_exchange n, answers_next n answered, a.1, a.0) }
+  one_last (Some AfterBad) n same answered a = absurd a
+  one_last (Some TooMany) n same answered a =
+      record { given = n.given; consumed = n.consumed; reads = same; ended = (last_exchange n, answers_next n answered, a.1, a.2, a.0) }
+  one_last (Some DeskGone) n same answered a = absurd a
+  one_last (Some (Fault (Conn.Wire f))) n same answered a = absurd a
+  one_last (Some (Fault Conn.Write)) n same answered a =
+      record { given = n.given; consumed = n.consumed; reads = same; ended = inl (last_exchange n, answers_next n answered, a) }
+
+module _ {D : Type 0} (step : Moves D) (max count : ℕ) (held rest : List ℕ) (first left : SourceState) (why : Bad) (at : D) (mid after : SinkState) where
+  pub after_bad : ReadsNext max held first rest left (Ok (nexts.Bad why)) → left.failed_reads ≡ first.failed_reads → HandedOn mid after (bad why)
+      → Stops step max count held first left at at mid after AfterBad
+  after_bad n same told =
+      record { given = n.given; consumed = n.consumed; reads = same; ended = (why, record { bad = n.found; unasked = refl }, told) }
+
+  pub bad_unwritten : ReadsNext max held first rest left (Ok (nexts.Bad why)) → left.failed_reads ≡ first.failed_reads → TookFront mid after (bad why)
+      → Stops step max count held first left at at mid after (Fault Conn.Write)
+  bad_unwritten n same front =
+      record { given = n.given; consumed = n.consumed; reads = same; ended = inr (why, record { bad = n.found; unasked = refl }, front) }
 
 -- ---- many
 
@@ -142,17 +130,18 @@ starts step max first desk held before empty = record {
   served = record { few = lit< tt; read = sym empty; kept = tt; answered = refl; written = took_none before; handed_on = refl };
 }
 
-pub goes_on : {D : Type 0} (step : Moves D) (max count : ℕ) (first mid left : SourceState) (old at new : D) (held rest : List ℕ)
-    (before between after : SinkState) → SoFar step max count first mid old at held before between
-    → GoesOn step max count held rest mid left at new between after → SoFar step max (count + 1) first left old new rest before after
-goes_on step max count first mid left old at new held rest before between after s n =
+pub goes_on : {D : Type 0} (step : Moves D) (max limit count next : ℕ) (first mid left : SourceState) (old at new : D) (held rest : List ℕ)
+    (before between after : SinkState) → limit ≡ max → next ≡ count + 1 → SoFar step max count first mid old at held before between
+    → GoesOn step limit count held rest mid left at new between after → SoFar step max next first left old new rest before after
+goes_on step max limit count next first mid left old at new held rest before between after same one s more =
     let counted = s.counted in
+    let n = subst (λ k. GoesOn step k count held rest mid left at new between after) same more in
     record {
       given = s.given ++ n.given;
       consumed = consumes_both first.remaining mid.remaining left.remaining s.given n.given s.consumed n.consumed;
       unfailed = n.unfailed ∙ s.unfailed;
       exchanges = s.exchanges ++ n.exchange ∷ [];
-      counted = omega (arith, counted, length-append s.exchanges (n.exchange ∷ []));
+      counted = omega (arith, counted, one, length-append s.exchanges (n.exchange ∷ []));
       served = record {
         few = omega (arith, counted, n.few, length-append s.exchanges (n.exchange ∷ []));
         read = ap (λ t. t ++ n.given) s.served.read ∙ append_assoc (messages s.exchanges) held n.given
@@ -169,27 +158,29 @@ goes_on step max count first mid left old at new held rest before between after 
 reads_fail_from : (end : ConnEnd) (a b c : ℕ) → b ≡ a → ReadsFail end b c → ReadsFail end a c
 reads_fail_from end a b c same h = subst (λ n. ReadsFail end n c) same h
 
-pub ends : {D : Type 0} (step : Moves D) (max count : ℕ) (first mid left : SourceState) (old at new : D) (held : List ℕ)
-    (before between after : SinkState) (end : ConnEnd) → SoFar step max count first mid old at held before between
-    → Stops step max count held mid left at new between after end → IsConversation step max first left old new before after end
-ends step max count first mid left old at new held before between after end s n = record {
-  bytes = s.given ++ n.given;
-  consumed = consumes_both first.remaining mid.remaining left.remaining s.given n.given s.consumed n.consumed;
-  reads = reads_fail_from end first.failed_reads mid.failed_reads left.failed_reads s.unfailed n.reads;
-  exchanges = s.exchanges;
-  rest = held ++ n.given;
-  at = at;
-  mid = between;
-  served = record {
-    few = s.served.few;
-    read = ap (λ t. t ++ n.given) s.served.read ∙ append_assoc (messages s.exchanges) held n.given;
-    kept = s.served.kept;
-    answered = s.served.answered;
-    written = s.served.written;
-    handed_on = s.served.handed_on;
-  };
-  ended = subst (λ k. EndsWith step max k at new (held ++ n.given) left between after end) (sym s.counted) n.ended;
-}
+pub ends : {D : Type 0} (step : Moves D) (max limit count : ℕ) (first mid left : SourceState) (old at new : D) (held : List ℕ)
+    (before between after : SinkState) (end : ConnEnd) → limit ≡ max → SoFar step max count first mid old at held before between
+    → Stops step limit count held mid left at new between after end → IsConversation step max first left old new before after end
+ends step max limit count first mid left old at new held before between after end same s stopped =
+    let n = subst (λ k. Stops step k count held mid left at new between after end) same stopped in
+    record {
+      bytes = s.given ++ n.given;
+      consumed = consumes_both first.remaining mid.remaining left.remaining s.given n.given s.consumed n.consumed;
+      reads = reads_fail_from end first.failed_reads mid.failed_reads left.failed_reads s.unfailed n.reads;
+      exchanges = s.exchanges;
+      rest = held ++ n.given;
+      at = at;
+      mid = between;
+      served = record {
+        few = s.served.few;
+        read = ap (λ t. t ++ n.given) s.served.read ∙ append_assoc (messages s.exchanges) held n.given;
+        kept = s.served.kept;
+        answered = s.served.answered;
+        written = s.served.written;
+        handed_on = s.served.handed_on;
+      };
+      ended = subst (λ k. EndsWith step max k at new (held ++ n.given) left between after end) (sym s.counted) n.ended;
+    }
 
 -- no buffer could be made
 pub ends_at_once : {D : Type 0} (step : Moves D) (max : ℕ) (first : SourceState) (desk : D) (before : SinkState)

@@ -20,7 +20,7 @@ use Rattle.upload_wire.specs.RequestText.{IsBad, IsRequest}
 use Rattle.http_wire.specs.States.{SourceState, SinkState}
 use Rattle.http_wire.specs.Writing.{TookAll}
 use Rattle.upload_wire.specs.Conversation.{Moves, Exchange, IsKept, IsRead, messages, replies, last_reply, Answers, EndsWith, AnswersNext, FindsNoDesk, max_requests}
-use Rattle.upload_wire.specs.ReplyText.{bad as bad_reply}
+use Rattle.http_wire.specs.HeadText.{bad as bad_reply}
 use Rattle.upload_wire.specs.ConnectionRuns.{answered_last}
 use Rattle.upload_wire.specs.Unambiguous.{RequestParse, request, bad, cut, nothing, ParsesAs}
 use Rattle.upload_wire.specs.Determined.{Dialogue, all_answered, asked, IsUndecided, IsDecided, IsDeterministic, HasMemory, AskTheSame, AreTheSame, ConversationsAreDetermined}

@@ -10,7 +10,6 @@ pub mod PlaceFronts
 pub mod PlaceLemmas
 pub mod AskTextLemmas
 pub mod CodeLemmas
-pub mod AnswerBodyLemmas
 pub mod AnswerLemmas
 pub mod TransportLemmas
 pub mod PlainTexts

@@ -6,8 +6,9 @@ use Rattle.std.specs.Prelude.{Bool, true, false, ◌==◌, if◌then◌else◌, 
 use Rattle.std.proofs.lemmas.List.{append-nil}
 use Rattle.httparse.specs.Ascii.{crlf_bytes}
 use Rattle.upload_wire.specs.Target.{blob_path, upload_path}
-use Rattle.upload_wire.specs.declared.reply.status.Status.{Status}
-use Rattle.upload_wire.specs.ReplyText.{ReplyField, body_fields, closing_fields, length_field, print_field, print_head, range_fields, status_line}
+use Rattle.http_wire.specs.declared.status.Status.{Status}
+use Rattle.http_wire.specs.HeadText.{HeadField, closing_fields, length_field, print_field, print_head, status_line}
+use Rattle.upload_wire.specs.ReplyText.{body_fields, range_fields}
 
 pub upload_text : (before : List ℕ) {name text at reference : List ℕ} → name ≡ text → at ≡ reference
     → ((((before ++ codes "Location: /v2/") ++ name) ++ codes "/blobs/uploads/") ++ at) ++ crlf_bytes
@@ -44,30 +45,24 @@ found_text before size sum =
     (λ i. ((before ++ print_field (codes "Docker-Content-Digest", sum i)) ++ print_field (codes "Content-Type", codes "application/octet-stream"))
     ++ print_field (length_field size)) ∙ simp (append_assoc, append-nil)
 
-pub two_fields : (before : List ℕ) (first second : ReplyField)
+pub two_fields : (before : List ℕ) (first second : HeadField)
     → (before ++ print_field first) ++ print_field second ≡ before ++ flat_map print_field (first ∷ second ∷ [])
 two_fields before first second = simp (append_assoc, append-nil)
 
 -- some fields, and then one
-pub fields_and : (before : List ℕ) (fields : List ReplyField) (field : ReplyField)
+pub fields_and : (before : List ℕ) (fields : List HeadField) (field : HeadField)
     → (before ++ flat_map print_field fields) ++ print_field field ≡ before ++ flat_map print_field (fields ++ field ∷ [])
 fields_and before fields field = simp (append_assoc, flat_map-append, append-nil)
 
-pub fields_both : (before : List ℕ) (fields others : List ReplyField)
+pub fields_both : (before : List ℕ) (fields others : List HeadField)
     → (before ++ flat_map print_field fields) ++ flat_map print_field others ≡ before ++ flat_map print_field (fields ++ others)
 fields_both before fields others = simp (append_assoc, flat_map-append)
 
 -- The whole of a head.
 
-pub head_text : (before : List ℕ) {line : List ℕ} (status : Status) (fields : List ReplyField) (keep : Bool) → line ≡ status_line status
+pub head_text : (before : List ℕ) {line : List ℕ} (status : Status) (fields : List HeadField) (keep : Bool) → line ≡ status_line status
     → ((before ++ line) ++ flat_map print_field fields) ++ (flat_map print_field (closing_fields keep) ++ crlf_bytes)
     ≡ before ++ print_head status fields keep
 head_text before status fields keep line =
     (λ i. ((before ++ line i) ++ flat_map print_field fields) ++ (flat_map print_field (closing_fields keep) ++ crlf_bytes))
     ∙ simp (append_assoc, flat_map-append)
-
-pub bad_text : (before : List ℕ) {line : List ℕ} (status : Status) → line ≡ status_line status
-    → ((before ++ line) ++ print_field (length_field 0)) ++ (flat_map print_field (closing_fields false) ++ crlf_bytes)
-    ≡ before ++ print_head status (length_field 0 ∷ []) false
-bad_text before status line =
-    (λ i. ((before ++ line i) ++ print_field (length_field 0)) ++ (flat_map print_field (closing_fields false) ++ crlf_bytes)) ∙ simp append_assoc

@@ -10,17 +10,17 @@ use Rattle.http_wire.specs.RequestFronts.{ReadsHead}
 use Rattle.http_wire.specs.Fields.{head_fields, values_of, keeps_connection}
 use Rattle.http_wire.specs.Body.{framing_of, head_framing}
 use Rattle.upload_wire.specs.Target.{Asks, AsksWhole, extent_of, head_range, with_body}
-use Rattle.http_wire.specs.RequestSpans.{IsHeadAtFront, request_spans}
-use Rattle.http_wire.specs.FieldReading.{fields_of}
+use Rattle.http_wire.specs.Inner.RequestSpans.{IsHeadAtFront, request_spans}
+use Rattle.http_wire.specs.Inner.FieldReading.{fields_of}
 use Rattle.http_wire.specs.States.{SourceState}
 use Rattle.http_wire.specs.Reading.{Gave}
-use Rattle.http_wire.specs.BodyFinding.{TakesBody, RefusesBodyText, CutsBody, FindsBody}
-use Rattle.upload_wire.specs.RequestReading.{Describes}
+use Rattle.http_wire.specs.Inner.BodyFinding.{CutsBody, FindsBody}
+use Rattle.upload_wire.specs.Inner.RequestReading.{DescribesAll, FindsRequest}
 use Rattle.upload_wire.specs.RequestText.{style_of, HasCutBody, FindsNext, ReadsNext}
 use Rattle.http_wire.specs.declared.requests.parsed.ParsedRequest.{ParsedRequest}
 use Rattle.http_wire.specs.declared.framing.Framing.{Framing}
 use Rattle.http_wire.specs.declared.fault.Bad.{Bad}
-use Rattle.http_wire.specs.HeadReading.{FindsHead}
+use Rattle.http_wire.specs.Inner.HeadReading.{FindsHead}
 use Rattle.http_wire.specs.Faults.{wire_of_input, wire_of_body}
 use Rattle.http_wire.specs.declared.fault.InputFault.{InputFault}
 use Rattle.http_wire.specs.declared.fault.InputFault.TheVariants as Input
@@ -28,10 +28,9 @@ use Rattle.http_wire.specs.declared.fault.BodyFault.{BodyFault}
 use Rattle.http_wire.specs.declared.fault.BodyFault.TheVariants as Body
 use Rattle.http_wire.specs.declared.fault.WireFault.{WireFault}
 use Rattle.http_wire.specs.declared.fault.WireFault.TheVariants as Fault
-use Rattle.upload_wire.specs.declared.asks.HeadAsk.{HeadAsk}
-use Rattle.upload_wire.specs.declared.request.Style.{Style}
+use Rattle.upload_wire.specs.declared.request.Described.{Described}
 use Rattle.upload_wire.specs.declared.request.Next.{Next}
-use Rattle.upload_wire.specs.declared.request.Next.TheVariants.{Request}
+use Rattle.upload_wire.specs.declared.request.Next.TheVariants.{Request, Over}
 use Rattle.upload_wire.specs.declared.request.Next.TheVariants as nexts
 use Rattle.http_wire.proofs.GaveLemmas.{consumes_none, consumes_both}
 
@@ -71,66 +70,43 @@ head_then text more p f =
 
 -- what the fields of the spans frame, the head frames
 framing_same : (max : ℕ) (text : List ℕ) (p : ParsedRequest) (r : Result Framing Bad) (f : IsHeadAtFront text p)
-    → r ≡ framing_of max p.spans.version (fields_of (take p.spans.len text) p) → head_framing max (the_head f) ≡ r
+    → framing_of max p.spans.version (fields_of (take p.spans.len text) p) ≡ r → head_framing max (the_head f) ≡ r
 framing_same max text p r f framed =
     ap (λ n. framing_of max n (head_fields (the_head f))) (sym f.head.1.1.version)
-    ∙ ap (framing_of max p.spans.version) (sym (fields_same text p f)) ∙ sym framed
+    ∙ ap (framing_of max p.spans.version) (sym (fields_same text p f)) ∙ framed
 
 -- the text in front of the body, what was read of the body, and what was read in all
 whole_text : (text given more : List ℕ) (n : ℕ) → more ≡ drop n text ++ given → text ++ given ≡ take n text ++ more
 whole_text text given more n same =
     ap (λ t. t ++ given) (sym (take-append-drop n text)) ∙ append_assoc (take n text) (drop n text) given ∙ ap (λ t. take n text ++ t) (sym same)
 
-asks_same : (text body : List ℕ) (p : ParsedRequest) (ask : HeadAsk) (style : Style) (f : IsHeadAtFront text p)
-    → Describes (take p.spans.len text) p ask style → AsksWhole (the_head f) body (with_body ask body)
-asks_same text body p ask style f d =
+asks_same : (max : ℕ) (text body : List ℕ) (p : ParsedRequest) (d : Described) (f : IsHeadAtFront text p)
+    → DescribesAll max (take p.spans.len text) p d → AsksWhole (the_head f) body (with_body d.ask body)
+asks_same max text body p d f says =
     let h = the_head f in
     let front : List ℕ = take p.spans.len text in
     let range : extent_of (values_of (codes "content-range") (fields_of front p)) ≡ head_range h =
     ap (λ fields. extent_of (values_of (codes "content-range") fields)) (fields_same text p f) in
-    let by_range : Asks (span_bytes front p.spans.method) (span_bytes front p.spans.path) (head_range h) ask =
-    subst (λ r. Asks (span_bytes front p.spans.method) (span_bytes front p.spans.path) r ask) range d.asks in
-    let by_target : Asks (span_bytes front p.spans.method) h.target (head_range h) ask =
-    subst (λ t. Asks (span_bytes front p.spans.method) t (head_range h) ask) f.head.1.1.path by_range in
-    (ask, subst (λ m. Asks m h.target (head_range h) ask) f.head.1.1.method by_target, refl)
+    let by_range : Asks (span_bytes front p.spans.method) (span_bytes front p.spans.path) (head_range h) d.ask =
+    subst (λ r. Asks (span_bytes front p.spans.method) (span_bytes front p.spans.path) r d.ask) range says.asks in
+    let by_target : Asks (span_bytes front p.spans.method) h.target (head_range h) d.ask =
+    subst (λ t. Asks (span_bytes front p.spans.method) t (head_range h) d.ask) f.head.1.1.path by_range in
+    (d.ask, subst (λ m. Asks m h.target (head_range h) d.ask) f.head.1.1.method by_target, refl)
 
-style_same : (text : List ℕ) (p : ParsedRequest) (ask : HeadAsk) (style : Style) (f : IsHeadAtFront text p)
-    → Describes (take p.spans.len text) p ask style → style ≡ style_of (the_head f)
-style_same text p ask style f d =
+style_same : (max : ℕ) (text : List ℕ) (p : ParsedRequest) (d : Described) (f : IsHeadAtFront text p)
+    → DescribesAll max (take p.spans.len text) p d → d.style ≡ style_of (the_head f)
+style_same max text p d f says =
     let h = the_head f in
-    let is_head : style.head ≡ bytes_eq h.method (codes "HEAD") = d.is_head ∙ ap (λ m. bytes_eq m (codes "HEAD")) f.head.1.1.method in
-    let keeps : style.keep ≡ keeps_connection h.minor (head_fields h) =
-    d.keeps ∙ ap (λ n. keeps_connection n (fields_of (take p.spans.len text) p)) f.head.1.1.version
+    let is_head : d.style.head ≡ bytes_eq h.method (codes "HEAD") = says.is_head ∙ ap (λ m. bytes_eq m (codes "HEAD")) f.head.1.1.method in
+    let keeps : d.style.keep ≡ keeps_connection h.minor (head_fields h) =
+    says.keeps ∙ ap (λ n. keeps_connection n (fields_of (take p.spans.len text) p)) f.head.1.1.version
     ∙ ap (keeps_connection h.minor) (fields_same text p f) in
     (λ i. record { head = is_head i; keep = keeps i })
 
-pub request_next : (max : ℕ) (old new : SourceState) (held rest body : List ℕ) (p : ParsedRequest) (framing : Framing) (ask : HeadAsk) (style : Style)
-    (f : IsHeadAtFront held p) → Ok framing ≡ framing_of max p.spans.version (fields_of (take p.spans.len held) p)
-    → Describes (take p.spans.len held) p ask style → TakesBody max framing old (drop p.spans.len held) new rest body
-    → ReadsNext max held old rest new (Ok (Request (with_body ask body) style))
-request_next max old new held rest body p framing ask style f framed d b = record {
-  given = b.gave.given;
-  consumed = b.gave.consumed;
-  found = record {
-    message = take p.spans.len held ++ b.text;
-    cut = whole_text held b.gave.given (b.text ++ rest) p.spans.len b.gave.joined ∙ sym (append_assoc (take p.spans.len held) b.text rest);
-    request = record {
-      head = the_head f;
-      rest = b.text;
-      reads = head_then held b.text p f;
-      framing = framing;
-      framed = framing_same max held p (Ok framing) f framed;
-      body = body;
-      written = b.written;
-      asks = asks_same held body p ask style f d;
-      styled = style_same held p ask style f d;
-    };
-  };
-}
-
-pub bad_framing_next : (max : ℕ) (old : SourceState) (held : List ℕ) (p : ParsedRequest) (why : Bad) (f : IsHeadAtFront held p)
-    → Err why ≡ framing_of max p.spans.version (fields_of (take p.spans.len held) p) → ReadsNext max held old held old (Ok (nexts.Bad why))
-bad_framing_next max old held p why f refused = record {
+-- a head of bad framing
+pub bad_framing_next : (max : ℕ) (old : SourceState) (held rest : List ℕ) (p : ParsedRequest) (why : Bad) (f : IsHeadAtFront held p)
+    → framing_of max p.spans.version (fields_of (take p.spans.len held) p) ≡ Err why → ReadsNext max held old rest old (Ok (nexts.Bad why))
+bad_framing_next max old held rest p why f refused = record {
   given = [];
   consumed = consumes_none old.remaining;
   found = inr (inr (inl (record {
@@ -141,49 +117,75 @@ bad_framing_next max old held p why f refused = record {
   })));
 }
 
-pub bad_body_next : (max : ℕ) (old new : SourceState) (held rest : List ℕ) (p : ParsedRequest) (framing : Framing) (why : Bad) (f : IsHeadAtFront held p)
-    → Ok framing ≡ framing_of max p.spans.version (fields_of (take p.spans.len held) p)
-    → RefusesBodyText max framing old (drop p.spans.len held) new why → ReadsNext max held old rest new (Ok (nexts.Bad why))
-bad_body_next max old new held rest p framing why f framed b = record {
+-- what came behind the head ends inside the body
+cut_next : (max : ℕ) (old new : SourceState) (held : List ℕ) (p : ParsedRequest) (d : Described) (f : IsHeadAtFront held p)
+    → DescribesAll max (take p.spans.len held) p d
+    → (b : CutsBody d.framing old (drop p.spans.len held) new) → HasCutBody max (held ++ b.gave.given)
+cut_next max old new held p d f says b = record {
+  head = the_head f;
+  rest = b.text;
+  reads = subst (λ t. ReadsHead t (the_head f) b.text) (sym (whole_text held b.gave.given b.text p.spans.len b.gave.joined)) (head_then held b.text p f);
+  framing = d.framing;
+  framed = framing_same max held p (Ok d.framing) f says.framed;
+  short = b.cut;
+}
+
+-- what comes next, by what was found behind the head
+pub request_next : (max : ℕ) (old new : SourceState) (held rest : List ℕ) (p : ParsedRequest) (d : Described) (r : Result Next WireFault)
+    (f : IsHeadAtFront held p) → DescribesAll max (take p.spans.len held) p d → FindsRequest d old (drop p.spans.len held) new rest r
+    → ReadsNext max held old rest new r
+request_next max old new held rest p d (Ok (Request ask style)) f says b = record {
+  given = b.taken.gave.given;
+  consumed = b.taken.gave.consumed;
+  found = record {
+    message = take p.spans.len held ++ b.taken.text;
+    cut = whole_text held b.taken.gave.given (b.taken.text ++ rest) p.spans.len b.taken.gave.joined
+        ∙ sym (append_assoc (take p.spans.len held) b.taken.text rest);
+    request = record {
+      head = the_head f;
+      rest = b.taken.text;
+      reads = head_then held b.taken.text p f;
+      framing = d.framing;
+      framed = framing_same max held p (Ok d.framing) f says.framed;
+      body = b.body;
+      written = b.taken.written;
+      asks = subst (λ ask. AsksWhole (the_head f) b.body ask) (sym b.asked) (asks_same max held b.body p d f says);
+      styled = b.styled ∙ style_same max held p d f says;
+    };
+  };
+}
+request_next max old new held rest p d (Ok Over) f says b = absurd b
+request_next max old new held rest p d (Ok (nexts.Bad why)) f says b = record {
   given = b.gave.given;
   consumed = b.gave.consumed;
   found = inr (inr (inr (record {
     head = the_head f;
     rest = b.text;
     reads = subst (λ t. ReadsHead t (the_head f) b.text) (sym (whole_text held b.gave.given b.text p.spans.len b.gave.joined)) (head_then held b.text p f);
-    framing = framing;
-    framed = framing_same max held p (Ok framing) f framed;
+    framing = d.framing;
+    framed = framing_same max held p (Ok d.framing) f says.framed;
     refused = b.bad;
   })));
 }
-
--- what came behind the head ends inside the body
-cut_next : (max : ℕ) (old new : SourceState) (held : List ℕ) (p : ParsedRequest) (framing : Framing) (f : IsHeadAtFront held p)
-    → Ok framing ≡ framing_of max p.spans.version (fields_of (take p.spans.len held) p)
-    → (b : CutsBody max framing old (drop p.spans.len held) new) → HasCutBody max (held ++ b.gave.given)
-cut_next max old new held p framing f framed b = record {
-  head = the_head f;
-  rest = b.text;
-  reads = subst (λ t. ReadsHead t (the_head f) b.text) (sym (whole_text held b.gave.given b.text p.spans.len b.gave.joined)) (head_then held b.text p f);
-  framing = framing;
-  framed = framing_same max held p (Ok framing) f framed;
-  short = b.cut;
-}
-
-pub fault_next : (max : ℕ) (old new : SourceState) (held rest body : List ℕ) (p : ParsedRequest) (framing : Framing) (e : BodyFault) (f : IsHeadAtFront held p)
-    → Ok framing ≡ framing_of max p.spans.version (fields_of (take p.spans.len held) p)
-    → FindsBody max framing old (drop p.spans.len held) new rest body (Err e) → ReadsNext max held old rest new (Err (wire_of_body e))
-fault_next max old new held rest body p framing Body.Truncated f framed b = record {
+request_next max old new held rest p d (Err Fault.Truncated) f says b = record {
   given = b.0.gave.given;
   consumed = b.0.gave.consumed;
-  found = (inr (cut_next max old new held p framing f framed b.0), b.1);
+  found = (inr (cut_next max old new held p d f says b.0), b.1);
 }
-fault_next max old new held rest body p framing Body.Read f framed b = record {
+request_next max old new held rest p d (Err Fault.Read) f says b = record {
   given = b.gave.given;
   consumed = b.gave.consumed;
-  found = inr (inr (cut_next max old new held p framing f framed b));
+  found = inr (inr (cut_next max old new held p d f says b));
 }
-fault_next max old new held rest body p framing Body.NoMemory f framed b = record { given = b.gave.given; consumed = b.gave.consumed; found = tt }
+request_next max old new held rest p d (Err Fault.NoMemory) f says b = record { given = b.gave.given; consumed = b.gave.consumed; found = tt }
+request_next max old new held rest p d (Err Fault.Ended) f says b = absurd b
+
+-- what is found behind a head where its body stopped
+pub body_fault : (d : Described) (old new : SourceState) (held rest body : List ℕ) (e : BodyFault)
+    → FindsBody d.framing old held new rest body (Err e) → FindsRequest d old held new rest (Err (wire_of_body e))
+body_fault d old new held rest body Body.Truncated b = b
+body_fault d old new held rest body Body.Read b = b
+body_fault d old new held rest body Body.NoMemory b = b
 
 pub no_memory_next : (max : ℕ) (old : SourceState) (held : List ℕ) (e : WireFault) → e ≡ Fault.NoMemory → ReadsNext max held old held old (Err e)
 no_memory_next max old held e is =
@@ -207,15 +209,16 @@ reads_after max held text rest old mid new r gave next = record {
   found = subst (λ t. FindsNext max t rest new r) (ap (λ t. t ++ next.given) gave.joined ∙ append_assoc held gave.given next.given) next.found;
 }
 
-pub described : (front : List ℕ) (p : ParsedRequest) (ask : HeadAsk) (style : Style) (method target : List ℕ) (range : Extent)
+pub described : (max : ℕ) (front : List ℕ) (p : ParsedRequest) (d : Described) (method target : List ℕ) (range : Extent)
     → method ≡ span_bytes front p.spans.method → target ≡ span_bytes front p.spans.path
-    → range ≡ extent_of (values_of (codes "content-range") (fields_of front p)) → Asks method target range ask
-    → style.head ≡ bytes_eq method (codes "HEAD") → style.keep ≡ keeps_connection p.spans.version (fields_of front p)
-    → Describes front p ask style
-described front p ask style method target range m t r asks is_head keeps = record {
-  asks = subst (λ x. Asks x (span_bytes front p.spans.path) (extent_of (values_of (codes "content-range") (fields_of front p))) ask) m
-      (subst (λ x. Asks method x (extent_of (values_of (codes "content-range") (fields_of front p))) ask) t
-      (subst (λ x. Asks method target x ask) r asks));
+    → range ≡ extent_of (values_of (codes "content-range") (fields_of front p)) → Asks method target range d.ask
+    → d.style.head ≡ bytes_eq method (codes "HEAD") → d.style.keep ≡ keeps_connection p.spans.version (fields_of front p)
+    → Ok d.framing ≡ framing_of max p.spans.version (fields_of front p) → DescribesAll max front p d
+described max front p d method target range m t r asks is_head keeps framed = record {
+  asks = subst (λ x. Asks x (span_bytes front p.spans.path) (extent_of (values_of (codes "content-range") (fields_of front p))) d.ask) m
+      (subst (λ x. Asks method x (extent_of (values_of (codes "content-range") (fields_of front p))) d.ask) t
+      (subst (λ x. Asks method target x d.ask) r asks));
   is_head = is_head ∙ ap (λ x. bytes_eq x (codes "HEAD")) m;
   keeps = keeps;
+  framed = sym framed;
 }

@@ -8,13 +8,14 @@ use Rattle.http_wire.specs.Fields.{Fields}
 use Rattle.http_wire.specs.Unambiguous.{HeadParse, head, long, unfinished, BeginsWith}
 use Rattle.http_wire.proofs.ChunkLemmas.{same_front}
 use Rattle.http_wire.proofs.UnambiguousHeads.{responses_unambiguous}
-use Rattle.upload_wire.specs.AnswerText.{max_answer, framing_of, keeps_on, IsPlaceOf, location, IsHeard, IsMisplaced, head_fields, IsBody, IsWhole, HasFramingFault}
+use Rattle.http_wire.specs.ResponseBody.{IsBody, framing_of, head_fields, keeps_on}
+use Rattle.upload_wire.specs.AnswerText.{max_answer, IsPlaceOf, location, IsHeard, IsMisplaced, IsWhole, HasFramingFault}
 use Rattle.upload_wire.specs.UnambiguousReplies.{ReplyParse, heard, refused, unreadable, too_large, cut, ParsesAs, RepliesAreUnambiguous}
-use Rattle.upload_wire.specs.declared.client.framing.AnswerFraming.{AnswerFraming}
-use Rattle.upload_wire.specs.declared.client.framing.AnswerFraming.TheVariants.{Sized, ToEnd}
+use Rattle.http_wire.specs.declared.responses.framing.ResponseFraming.{ResponseFraming}
+use Rattle.http_wire.specs.declared.responses.framing.ResponseFraming.TheVariants.{Length, ToEnd}
 use Rattle.upload_wire.specs.declared.client.heard.Heard.{Heard}
-use Rattle.upload_wire.specs.declared.client.framing.FramingFault.{FramingFault}
-use Rattle.upload_wire.specs.declared.client.framing.FramingFault.TheVariants as Fault
+use Rattle.http_wire.specs.declared.responses.framing.FramingFault.{FramingFault}
+use Rattle.http_wire.specs.declared.responses.framing.FramingFault.TheVariants as Fault
 use Rattle.upload_wire.specs.declared.client.heard.SaidFault.TheVariants as Said
 use Rattle.upload_wire.proofs.UnambiguousTargets.{path_unique}
 
@@ -43,12 +44,12 @@ heard_not_misplaced status fields body a x (inl place) = place_not_bad (location
 heard_not_misplaced status fields body a x (inr upto) = let one = x.upto_is in absurd (cc)
 
 -- what a whole reply with this body, and then rest, makes of the text
-abbrev Says : ResponseHead → AnswerFraming → List ℕ → List ℕ → ReplyParse → Type 0
+abbrev Says : ResponseHead → ResponseFraming → List ℕ → List ℕ → ReplyParse → Type 0
 Says h framing body rest p =
     ((a : Heard) × IsHeard (status_code h) (head_fields h) body a × (p ≡ heard a (keeps_on h.minor (head_fields h) framing) rest))
     ⊎ (IsMisplaced (head_fields h) × (p ≡ unreadable))
 
-says_one : (h : ResponseHead) (framing : AnswerFraming) (body rest : List ℕ) (p q : ReplyParse) → Says h framing body rest p → Says h framing body rest q → p ≡ q
+says_one : (h : ResponseHead) (framing : ResponseFraming) (body rest : List ℕ) (p q : ReplyParse) → Says h framing body rest p → Says h framing body rest q → p ≡ q
 says_one h framing body rest p q (inl x) (inl y) =
     let same = heard_unique (status_code h) (head_fields h) body x.0 y.0 x.1 y.1 in
     x.2 ∙ ap (λ a. heard a (keeps_on h.minor (head_fields h) framing) rest) same ∙ sym y.2
@@ -62,20 +63,20 @@ says_one h framing body rest p q (inr x) (inr y) = x.1 ∙ sym y.1
 abbrev FromSized : ℕ → ResponseHead → List ℕ → ReplyParse → Type 0
 FromSized n h behind p =
     ((length behind < n) × (p ≡ cut))
-    ⊎ ((body : List ℕ) × (rest : List ℕ) × (behind ≡ body ++ rest) × (length body ≡ n) × Says h (Sized n) body rest p)
+    ⊎ ((body : List ℕ) × (rest : List ℕ) × (behind ≡ body ++ rest) × (length body ≡ n) × Says h (Length n) body rest p)
 
 -- what one that goes to the end of the input makes of it
-abbrev FromEnd : ResponseHead → List ℕ → ReplyParse → Type 0
-FromEnd h behind p =
-    ((max_answer < length behind) × (p ≡ too_large)) ⊎ ((length behind ≤ max_answer) × Says h ToEnd behind [] p)
+abbrev FromEnd : ℕ → ResponseHead → List ℕ → ReplyParse → Type 0
+FromEnd most h behind p =
+    ((most < length behind) × (p ≡ too_large)) ⊎ ((length behind ≤ most) × Says h (ToEnd most) behind [] p)
 
-abbrev FromFraming : ResponseHead → Result AnswerFraming FramingFault → List ℕ → ReplyParse → Type 0
-FromFraming h (Ok (Sized n)) behind p = FromSized n h behind p
-FromFraming h (Ok ToEnd) behind p = FromEnd h behind p
+abbrev FromFraming : ResponseHead → Result ResponseFraming FramingFault → List ℕ → ReplyParse → Type 0
+FromFraming h (Ok (Length n)) behind p = FromSized n h behind p
+FromFraming h (Ok (ToEnd most)) behind p = FromEnd most h behind p
 FromFraming h (Err fault) behind p = ((fault ≡ Fault.Unreadable) × (p ≡ unreadable)) ⊎ ((fault ≡ Fault.TooLarge) × (p ≡ too_large))
 
 abbrev FromHead : Bool → HeadParse responses → ReplyParse → Type 0
-FromHead head_only (head h behind) p = FromFraming h (framing_of head_only (status_code h) (head_fields h)) behind p
+FromHead head_only (head h behind) p = FromFraming h (framing_of max_answer head_only (status_code h) (head_fields h)) behind p
 FromHead head_only long p = p ≡ too_large
 FromHead head_only unfinished p = p ≡ cut
 
@@ -93,13 +94,13 @@ from_sized n h behind p q (inr x) (inl y) =
     absurd (omega (arith, short, all, long, length-append x.0 x.1))
 from_sized n h behind p q (inr x) (inr y) =
     let same = same_front x.0 y.0 x.1 y.1 (x.3 ∙ sym y.3) (sym x.2 ∙ y.2) in
-    says_one h (Sized n) y.0 y.1 p q (subst₂ (λ body rest. Says h (Sized n) body rest p) same.0 same.1 x.4) y.4
+    says_one h (Length n) y.0 y.1 p q (subst₂ (λ body rest. Says h (Length n) body rest p) same.0 same.1 x.4) y.4
 
-from_end : (h : ResponseHead) (behind : List ℕ) (p q : ReplyParse) → FromEnd h behind p → FromEnd h behind q → p ≡ q
-from_end h behind p q (inl x) (inl y) = x.1 ∙ sym y.1
-from_end h behind p q (inl x) (inr y) = let over = x.0 in let under = y.0 in absurd (omega (arith, over, under))
-from_end h behind p q (inr x) (inl y) = let over = y.0 in let under = x.0 in absurd (omega (arith, over, under))
-from_end h behind p q (inr x) (inr y) = says_one h ToEnd behind [] p q x.1 y.1
+from_end : (most : ℕ) (h : ResponseHead) (behind : List ℕ) (p q : ReplyParse) → FromEnd most h behind p → FromEnd most h behind q → p ≡ q
+from_end most h behind p q (inl x) (inl y) = x.1 ∙ sym y.1
+from_end most h behind p q (inl x) (inr y) = let over = x.0 in let under = y.0 in absurd (omega (arith, over, under))
+from_end most h behind p q (inr x) (inl y) = let over = y.0 in let under = x.0 in absurd (omega (arith, over, under))
+from_end most h behind p q (inr x) (inr y) = says_one h (ToEnd most) behind [] p q x.1 y.1
 
 from_fault : (fault : FramingFault) (p q : ReplyParse)
     → ((fault ≡ Fault.Unreadable) × (p ≡ unreadable)) ⊎ ((fault ≡ Fault.TooLarge) × (p ≡ too_large))
@@ -109,14 +110,14 @@ from_fault fault p q (inl x) (inr y) = let one = x.0 in let two = y.0 in absurd 
 from_fault fault p q (inr x) (inl y) = let one = x.0 in let two = y.0 in absurd (cc)
 from_fault fault p q (inr x) (inr y) = x.1 ∙ sym y.1
 
-from_framing : (h : ResponseHead) (framing : Result AnswerFraming FramingFault) (behind : List ℕ) (p q : ReplyParse)
+from_framing : (h : ResponseHead) (framing : Result ResponseFraming FramingFault) (behind : List ℕ) (p q : ReplyParse)
     → FromFraming h framing behind p → FromFraming h framing behind q → p ≡ q
-from_framing h (Ok (Sized n)) behind p q x y = from_sized n h behind p q x y
-from_framing h (Ok ToEnd) behind p q x y = from_end h behind p q x y
+from_framing h (Ok (Length n)) behind p q x y = from_sized n h behind p q x y
+from_framing h (Ok (ToEnd most)) behind p q x y = from_end most h behind p q x y
 from_framing h (Err fault) behind p q x y = from_fault fault p q x y
 
 from_head : (head_only : Bool) (front : HeadParse responses) (p q : ReplyParse) → FromHead head_only front p → FromHead head_only front q → p ≡ q
-from_head head_only (head h behind) p q x y = from_framing h (framing_of head_only (status_code h) (head_fields h)) behind p q x y
+from_head head_only (head h behind) p q x y = from_framing h (framing_of max_answer head_only (status_code h) (head_fields h)) behind p q x y
 from_head head_only long p q x y = x ∙ sym y
 from_head head_only unfinished p q x y = x ∙ sym y
 
@@ -128,14 +129,14 @@ record Parsed (head_only : Bool) (text : List ℕ) (p : ReplyParse) : Type 0 whe
   begins : BeginsWith responses text front
   from : FromHead head_only front p
 
-from_body : (h : ResponseHead) (framing : AnswerFraming) (body rest : List ℕ) (new : SourceState) (p : ReplyParse)
+from_body : (h : ResponseHead) (framing : ResponseFraming) (body rest : List ℕ) (new : SourceState) (p : ReplyParse)
     → IsBody framing body rest new → Says h framing body rest p → FromFraming h (Ok framing) (body ++ rest) p
-from_body h (Sized n) body rest new p is says = inr (body, rest, refl, is, says)
-from_body h ToEnd body rest new p is says =
+from_body h (Length n) body rest new p is says = inr (body, rest, refl, is, says)
+from_body h (ToEnd most) body rest new p is says =
     let all : body ≡ body ++ rest = sym (ap (λ r. body ++ r) is.1 ∙ append-nil body) in
     let long = ap length all in
     let small = is.0 in
-    inr (omega (arith, long, small), subst₂ (λ b r. Says h ToEnd b r p) all is.1 says)
+    inr (omega (arith, long, small), subst₂ (λ b r. Says h (ToEnd most) b r p) all is.1 says)
 
 parsed_whole : (head_only : Bool) (text rest : List ℕ) (new : SourceState) (h : ResponseHead) (body : List ℕ) (p : ReplyParse)
     (w : IsWhole head_only text rest new h body) → Says h w.framing body rest p → Parsed head_only text p

@@ -31,30 +31,30 @@ length_no_head true true n e = absurd (cc)
 length_no_head true false n e = absurd (cc)
 length_no_head false over n e = absurd (cc)
 
-coding_no_head : (known : Bool) → ◌≡◌ {A = Result Framing Bad} (if known then Ok Chunked else Err bads.Coding) (Err bads.Head) → ⊥
-coding_no_head true e = absurd (cc)
-coding_no_head false e = absurd (cc)
+coding_no_head : (max : ℕ) (known : Bool) → ◌≡◌ {A = Result Framing Bad} (if known then Ok (Chunked max) else Err bads.Coding) (Err bads.Head) → ⊥
+coding_no_head max true e = absurd (cc)
+coding_no_head max false e = absurd (cc)
 
 -- nor is a framing
 framing_no_head : (max minor : ℕ) (codings lengths : List (List ℕ)) → framing_by max minor codings lengths ≡ Err bads.Head → ⊥
 framing_no_head max minor [] [] e = absurd (cc)
 framing_no_head max minor [] (value ∷ []) e = length_no_head (is_number value) (nat_lt max (digits_value 10 value)) (digits_value 10 value) e
 framing_no_head max minor [] (value ∷ other ∷ values) e = absurd (cc)
-framing_no_head max minor (coding ∷ []) [] e = coding_no_head ((minor == 1) && same_word coding (codes "chunked")) e
+framing_no_head max minor (coding ∷ []) [] e = coding_no_head max ((minor == 1) && same_word coding (codes "chunked")) e
 framing_no_head max minor (coding ∷ other ∷ codings) [] e = absurd (cc)
 framing_no_head max minor (coding ∷ codings) (value ∷ values) e = absurd (cc)
 
-body_no_head : (max : ℕ) (framing : Framing) (text : List ℕ) → IsBadBody max framing text bads.Head → ⊥
-body_no_head max (Length n) text x = x
-body_no_head max Chunked text (inl x) = let e = x.0 in absurd (cc)
-body_no_head max Chunked text (inr x) = let e = x.0 in absurd (cc)
+body_no_head : (framing : Framing) (text : List ℕ) → IsBadBody framing text bads.Head → ⊥
+body_no_head (Length n) text x = x
+body_no_head (Chunked most) text (inl x) = let e = x.0 in absurd (cc)
+body_no_head (Chunked most) text (inr x) = let e = x.0 in absurd (cc)
 
 refused_head : (max : ℕ) (text : List ℕ) → IsBad max text bads.Head → IsRefused text
 refused_head max text (inl x) = x.1
 refused_head max text (inr (inl x)) = let e = x.0 in absurd (cc)
 refused_head max text (inr (inr (inl x))) = absurd (framing_no_head max x.head.minor
     (values_of (codes "transfer-encoding") (head_fields x.head)) (values_of (codes "content-length") (head_fields x.head)) x.refused)
-refused_head max text (inr (inr (inr x))) = absurd (body_no_head max x.framing x.rest x.refused)
+refused_head max text (inr (inr (inr x))) = absurd (body_no_head x.framing x.rest x.refused)
 
 -- ---- what stands behind a head
 
@@ -65,13 +65,13 @@ FromBody h (refused why) p = p ≡ bad why
 FromBody h cut_body p = p ≡ cut
 
 -- what its framing makes of it
-abbrev FromFraming : ℕ → RequestHead → Result Framing Bad → List ℕ → RequestParse → Type 0
-FromFraming max h (Ok framing) rest p = (body : BodyParse) × IsReadAs max framing rest body × FromBody h body p
-FromFraming max h (Err why) rest p = p ≡ bad why
+abbrev FromFraming : RequestHead → Result Framing Bad → List ℕ → RequestParse → Type 0
+FromFraming h (Ok framing) rest p = (body : BodyParse) × IsReadAs framing rest body × FromBody h body p
+FromFraming h (Err why) rest p = p ≡ bad why
 
 -- what the head makes of it
 abbrev FromHead : ℕ → List ℕ → HeadParse requests → RequestParse → Type 0
-FromHead max text (head h rest) p = FromFraming max h (head_framing max h) rest p
+FromHead max text (head h rest) p = FromFraming h (head_framing max h) rest p
 FromHead max text long p = p ≡ bad bads.LongHead
 FromHead max text unfinished p = ((p ≡ cut) × (0 < length text)) ⊎ ((p ≡ nothing) × (text ≡ []))
 
@@ -82,16 +82,16 @@ from_body h (whole body rest) p q x y =
 from_body h (refused why) p q x y = x ∙ sym y
 from_body h cut_body p q x y = x ∙ sym y
 
-from_framing : (max : ℕ) (h : RequestHead) (framing : Result Framing Bad) (rest : List ℕ) (p q : RequestParse)
-    → FromFraming max h framing rest p → FromFraming max h framing rest q → p ≡ q
-from_framing max h (Ok framing) rest p q x y =
-    let same = bodies_unambiguous max framing rest x.0 y.0 x.1 y.1 in
+from_framing : (h : RequestHead) (framing : Result Framing Bad) (rest : List ℕ) (p q : RequestParse)
+    → FromFraming h framing rest p → FromFraming h framing rest q → p ≡ q
+from_framing h (Ok framing) rest p q x y =
+    let same = bodies_unambiguous framing rest x.0 y.0 x.1 y.1 in
     from_body h y.0 p q (subst (λ body. FromBody h body p) same x.2) y.2
-from_framing max h (Err why) rest p q x y = x ∙ sym y
+from_framing h (Err why) rest p q x y = x ∙ sym y
 
 from_head : (max : ℕ) (text : List ℕ) (front : HeadParse requests) (p q : RequestParse)
     → FromHead max text front p → FromHead max text front q → p ≡ q
-from_head max text (head h rest) p q x y = from_framing max h (head_framing max h) rest p q x y
+from_head max text (head h rest) p q x y = from_framing h (head_framing max h) rest p q x y
 from_head max text long p q x y = x ∙ sym y
 from_head max text unfinished p q (inl x) (inl y) = x.0 ∙ sym y.0
 from_head max text unfinished p q (inl x) (inr y) = let none = ap length y.1 in let some = x.1 in absurd (omega (arith, some, none))
@@ -118,8 +118,8 @@ request_head max text rest ask style x =
     }
 
 behind : (max : ℕ) (h : RequestHead) (framing : Framing) (rest : List ℕ) (body : BodyParse) (p : RequestParse)
-    → head_framing max h ≡ Ok framing → IsReadAs max framing rest body → FromBody h body p → FromFraming max h (head_framing max h) rest p
-behind max h framing rest body p framed x from = subst (λ r. FromFraming max h r rest p) (sym framed) (body, x, from)
+    → head_framing max h ≡ Ok framing → IsReadAs framing rest body → FromBody h body p → FromFraming h (head_framing max h) rest p
+behind max h framing rest body p framed x from = subst (λ r. FromFraming h r rest p) (sym framed) (body, x, from)
 
 parsed_bad : (max : ℕ) (text : List ℕ) (why : Bad) → IsBad max text why → bad why ≢ bad bads.Head → Parsed max text (bad why)
 parsed_bad max text why (inl x) other = absurd (other (ap bad x.0))
@@ -127,7 +127,7 @@ parsed_bad max text why (inr (inl x)) other = record { front = long; begins = x.
 parsed_bad max text why (inr (inr (inl x))) other = record {
   front = head x.head x.rest;
   begins = x.reads;
-  from = subst (λ r. FromFraming max x.head r x.rest (bad why)) (sym x.refused) refl;
+  from = subst (λ r. FromFraming x.head r x.rest (bad why)) (sym x.refused) refl;
 }
 parsed_bad max text why (inr (inr (inr x))) other = record {
   front = head x.head x.rest;

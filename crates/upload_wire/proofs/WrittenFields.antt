@@ -19,7 +19,7 @@ use Rattle.http_wire.specs.Body.{framing_of, is_number, length_of}
 use Rattle.http_wire.specs.declared.framing.Framing.TheVariants.{Length}
 use Rattle.upload_wire.specs.Target.{extent_of, given_range}
 use Rattle.upload_wire.specs.AskText.{is_host, range_text, range_fields, body_fields, IsAbsentOrGiven}
-use Rattle.upload_wire.specs.ReplyText.{length_field}
+use Rattle.http_wire.specs.HeadText.{length_field}
 use Rattle.upload_wire.specs.WrittenAsks.{HasSpan}
 use Rattle.upload_wire.proofs.PlainTexts.{AllPass-append, AllPass-cons, AllPass-nil, AllPass-weaker}
 use Rattle.upload_wire.proofs.WrittenHeads.{IsPlainField}

@@ -14,7 +14,7 @@ use Rattle.http_wire.specs.Fronts.{max_head, max_fields}
 use Rattle.http_wire.specs.RequestFronts.{ReadsHead}
 use Rattle.http_wire.specs.Fields.{Fields}
 use Rattle.upload_wire.specs.AskText.{Message, print_message, target_of, request_line, host_text, section_text}
-use Rattle.upload_wire.specs.ReplyText as written
+use Rattle.http_wire.specs.HeadText as written
 use Rattle.upload_wire.proofs.PlainTexts.{AllPass-cons, AllPass-weaker}
 
 abbrev pub field_of : List ℕ × List ℕ → Field

@@ -9,7 +9,7 @@ use Rattle.std.specs.List.{list_all}
 use Rattle.form_urlencoded.specs.Form.{raw_pairs, decode, split_once, split_pair}
 use Rattle.form_urlencoded.specs.Form as form
 use Rattle.form_urlencoded.proofs.FormLemmas.{raw_pairs-nil, raw_pairs_first, split_once_before_at, split_once_after_at, split_once_before_none, split_once_after_none, decode_plain}
-use Rattle.upload_wire.specs.Query.{parameter, first_value, decoded}
+use Rattle.http_wire.specs.Query.{parameter, first_value, decoded}
 use Rattle.upload_wire.proofs.PlainTexts.{IsPlain, IsParameters, Lacks, is_plain_byte, is_parameter_byte, lacks, AllPass-each, AllPass-append, IsParameters-plain, IsTarget-plain, ascii_bytes}
 
 -- a plain text decodes to itself

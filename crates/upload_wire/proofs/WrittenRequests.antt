@@ -22,7 +22,7 @@ use Rattle.upload_wire.specs.declared.target.PathForm.{PathForm}
 use Rattle.upload_wire.specs.declared.target.PathForm.TheVariants as Path
 use Rattle.http_wire.specs.declared.framing.Framing.TheVariants.{Length}
 use Rattle.http_wire.specs.Fronts.{max_head}
-use Rattle.upload_wire.specs.Query.{parameter}
+use Rattle.http_wire.specs.Query.{parameter}
 use Rattle.http_wire.specs.Fields.{values_of, keeps_connection, head_fields}
 use Rattle.http_wire.specs.Body.{framing_of}
 use Rattle.upload_wire.specs.RequestText.{IsRequest}

@@ -1,10 +1,8 @@
--- A reply as a text: its head, its body (RFC 9112, section 6.3), and what a client hears in them.
-use Rattle.std.specs.Prelude.{◌≡◌, ℕ, ◌+◌, ◌<◌, ◌≤◌, ◌⊎◌, Bool, false, ◌||◌, ◌==◌, nat_lt, List, [], ◌∷◌, ◌++◌, length, map, codes, Option, Some, None, option_and_then, if◌then◌else◌, Result, Ok, Err, ⊤}
+-- A reply as a text: its head, its body, and what a client hears in them.
+use Rattle.std.specs.Prelude.{◌≡◌, ℕ, ◌+◌, ◌<◌, ◌≤◌, ◌⊎◌, Bool, ◌==◌, List, ◌++◌, length, codes, Option, Some, None, option_and_then, if◌then◌else◌, Result, Ok, Err, ⊤}
 use Rattle.std.specs.Str.{is_utf8}
-use Rattle.std.specs.Str.Parse.{digits_value}
 use Rattle.std.specs.Io.KnownBytes.{Consumes, IsAtEnd}
 use Rattle.httparse.specs.Grammar.{ResponseHead, status_code}
-use Rattle.httparse.specs.Spans.{name_and_value}
 use Rattle.http_uri.specs.declared.uri.Uri.{Uri}
 use Rattle.http_uri.specs.Uri.{Spells, SpellsNone, uri_path}
 use Rattle.serde_json.specs.Data.{Data}
@@ -12,64 +10,24 @@ use Rattle.serde_json.specs.Read.{read}
 use Rattle.serde_json.specs.Find.{get, at, as_str}
 use Rattle.upload_names.specs.ByteRange.{Span, range_of}
 use Rattle.http_wire.specs.States.{SourceState}
-use Rattle.http_wire.specs.Fields.{Fields, values_of, keeps_connection}
-use Rattle.http_wire.specs.Body.{is_number}
+use Rattle.http_wire.specs.Fields.{Fields, first_of, values_of}
+use Rattle.http_wire.specs.ResponseBody.{IsBody, framing_of, head_fields, keeps_on}
 use Rattle.http_wire.specs.ResponseFronts.{ReadsHead, IsRefused, IsTooLong, IsUnfinished}
-use Rattle.upload_wire.specs.declared.client.framing.AnswerFraming.{AnswerFraming}
-use Rattle.upload_wire.specs.declared.client.framing.AnswerFraming.TheVariants.{Sized, ToEnd}
-use Rattle.upload_wire.specs.declared.client.framing.FramingFault.{FramingFault}
-use Rattle.upload_wire.specs.declared.client.framing.FramingFault.TheVariants as Framing
+use Rattle.http_wire.specs.declared.responses.framing.ResponseFraming.{ResponseFraming}
+use Rattle.http_wire.specs.declared.responses.framing.ResponseFraming.TheVariants.{Length, ToEnd}
+use Rattle.http_wire.specs.declared.responses.framing.FramingFault.{FramingFault}
+use Rattle.http_wire.specs.declared.responses.framing.FramingFault.TheVariants as Framing
 use Rattle.upload_wire.specs.declared.client.heard.Heard.{Heard}
 use Rattle.upload_wire.specs.declared.client.heard.SaidFault.{SaidFault}
 use Rattle.upload_wire.specs.declared.client.heard.SaidFault.TheVariants as Said
 use Rattle.upload_wire.specs.declared.client.heard.HeardFault.{HeardFault}
 use Rattle.upload_wire.specs.declared.client.heard.HeardFault.TheVariants as Fault
 
--- ---- how far the body goes
-
 -- the most bytes of a reply's body
 abbrev pub max_answer : ℕ
 max_answer = 65536
 
--- a length over the limit is too large
-abbrev pub sized : ℕ → Result AnswerFraming FramingFault
-sized n = if nat_lt max_answer n then Err Framing.TooLarge else Ok (Sized n)
-
--- by the values of Content-Length, for a reply that has no body and for one that has
-abbrev pub framing_by_length : Bool → List (List ℕ) → Result AnswerFraming FramingFault
-framing_by_length empty [] = if empty then Ok (Sized 0) else Ok ToEnd
-framing_by_length empty (value ∷ []) =
-    if is_number value then (if empty then Ok (Sized 0) else sized (digits_value 10 value)) else Err Framing.Unreadable
-framing_by_length empty (value ∷ other ∷ values) = Err Framing.Unreadable
-
--- by the values of Transfer-Encoding: there is none
-abbrev pub framing_without_coding : List (List ℕ) → Result AnswerFraming FramingFault → Result AnswerFraming FramingFault
-framing_without_coding [] framing = framing
-framing_without_coding (coding ∷ codings) framing = Err Framing.Unreadable
-
--- the reply to a HEAD, a 204 and a 304 have no body
-abbrev pub is_empty : Bool → ℕ → Bool
-is_empty head status = head || (status == 204) || (status == 304)
-
--- how far the body goes, by the method's being HEAD, the status and the fields; a status below 200 is no reply
-abbrev pub framing_of : Bool → ℕ → Fields → Result AnswerFraming FramingFault
-framing_of head status fields =
-    if nat_lt status 200 then Err Framing.Unreadable
-    else framing_without_coding (values_of (codes "transfer-encoding") fields)
-    (framing_by_length (is_empty head status) (values_of (codes "content-length") fields))
-
--- whether the connection stays behind the reply (RFC 9112, sections 6.3 and 9.3): its version and its fields keep it, and its body doesn't
--- go to the end of the input
-abbrev pub keeps_on : ℕ → Fields → AnswerFraming → Bool
-keeps_on minor fields (Sized n) = keeps_connection minor fields
-keeps_on minor fields ToEnd = false
-
 -- ---- what is heard
-
--- the first of the values
-abbrev pub first_of : List (List ℕ) → Option (List ℕ)
-first_of [] = None
-first_of (value ∷ values) = Some value
 
 -- the path of a Location, in origin form or in absolute form
 abbrev pub IsPlaceOf : Option (List ℕ) → Result (Option (List ℕ)) SaidFault → Type 0
@@ -115,25 +73,16 @@ IsMisplaced fields =
 
 -- ---- replies
 
--- the fields of a head, in their order
-abbrev pub head_fields : ResponseHead → Fields
-head_fields head = map name_and_value head.fields
-
 -- the text begins with a head whose body goes so far, and then comes rest
 pub record ReadsFramed
-    (head_only : Bool) (text : List ℕ) (framing : Result AnswerFraming FramingFault) (head : ResponseHead) (rest : List ℕ)
+    (head_only : Bool) (text : List ℕ) (framing : Result ResponseFraming FramingFault) (head : ResponseHead) (rest : List ℕ)
     : Type 0 where
   pub reads : ReadsHead text head rest
-  pub framed : framing_of head_only (status_code head) (head_fields head) ≡ framing
-
--- the body is as long as its framing says; one that goes to the end of the input leaves nothing
-abbrev pub IsBody : AnswerFraming → List ℕ → List ℕ → SourceState → Type 0
-IsBody (Sized n) body rest new = length body ≡ n
-IsBody ToEnd body rest new = (length body ≤ max_answer) × (rest ≡ []) × IsAtEnd new.remaining
+  pub framed : framing_of max_answer head_only (status_code head) (head_fields head) ≡ framing
 
 -- a whole reply and then rest
 pub record IsWhole (head_only : Bool) (text rest : List ℕ) (new : SourceState) (head : ResponseHead) (body : List ℕ) : Type 0 where
-  pub framing : AnswerFraming
+  pub framing : ResponseFraming
   pub framed : ReadsFramed head_only text (Ok framing) head (body ++ rest)
   pub is_body : IsBody framing body rest new
 
@@ -162,23 +111,25 @@ pub record HasFramingFault (head_only : Bool) (text : List ℕ) (fault : Framing
 pub record HasLongBody (head_only : Bool) (text : List ℕ) : Type 0 where
   pub head : ResponseHead
   pub rest : List ℕ
-  pub framed : ReadsFramed head_only text (Ok ToEnd) head rest
-  pub long : max_answer < length rest
+  pub most : ℕ
+  pub framed : ReadsFramed head_only text (Ok (ToEnd most)) head rest
+  pub long : most < length rest
 
 -- the text ends inside a body
 pub record HasCutBody (head_only : Bool) (text : List ℕ) : Type 0 where
   pub head : ResponseHead
   pub rest : List ℕ
   pub size : ℕ
-  pub framed : ReadsFramed head_only text (Ok (Sized size)) head rest
+  pub framed : ReadsFramed head_only text (Ok (Length size)) head rest
   pub cut : length rest < size
 
 -- the text ends inside a body that goes to the end of the input, and is not over the limit
 pub record HasOpenBody (head_only : Bool) (text : List ℕ) : Type 0 where
   pub head : ResponseHead
   pub rest : List ℕ
-  pub framed : ReadsFramed head_only text (Ok ToEnd) head rest
-  pub small : length rest ≤ max_answer
+  pub most : ℕ
+  pub framed : ReadsFramed head_only text (Ok (ToEnd most)) head rest
+  pub small : length rest ≤ most
 
 -- the text holds no whole reply: it has no head yet, or ends inside a body
 abbrev pub HoldsNone : Bool → List ℕ → Type 0

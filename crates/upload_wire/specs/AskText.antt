@@ -12,14 +12,14 @@ use Rattle.upload_service.specs.declared.ask.Extent.{Extent}
 use Rattle.upload_service.specs.declared.ask.Extent.TheVariants.{Absent, Bad, Given}
 use Rattle.upload_wire.specs.declared.client.transport.LentChunk.{LentChunk}
 use Rattle.upload_wire.specs.Target.{blob_path, upload_path}
-use Rattle.upload_wire.specs.ReplyText.{ReplyField, print_field, length_field}
+use Rattle.http_wire.specs.HeadText.{HeadField, print_field, length_field}
 
 -- what a request is made of, beside its Host
 pub record Message : Type 0 where
   pub method : List ℕ
   pub path : List ℕ
   pub query : Option (List ℕ)
-  pub fields : List ReplyField
+  pub fields : List HeadField
   pub body : List ℕ
 
 -- ?<query>
@@ -40,7 +40,7 @@ abbrev pub host_text : List ℕ → List ℕ
 host_text host = codes " HTTP/1.1\r\nHost: " ++ (host ++ crlf_bytes)
 
 -- the fields and an empty line
-abbrev pub section_text : List ReplyField → List ℕ
+abbrev pub section_text : List HeadField → List ℕ
 section_text fields = flat_map print_field fields ++ crlf_bytes
 
 -- the request to a host
@@ -48,7 +48,7 @@ abbrev pub print_message : Message → List ℕ → List ℕ
 print_message m host = request_line m ++ (host_text host ++ (section_text m.fields ++ m.body))
 
 -- the fields of a body
-abbrev pub body_fields : List ℕ → List ReplyField
+abbrev pub body_fields : List ℕ → List HeadField
 body_fields body = (codes "Content-Type", codes "application/octet-stream") ∷ length_field (length body) ∷ []
 
 -- <first>-<last>
@@ -56,7 +56,7 @@ abbrev pub range_text : Span → List ℕ
 range_text range = decimal range.first ++ (codes "-" ++ decimal range.last)
 
 -- Content-Range, where a range is given
-abbrev pub range_fields : Extent → List ReplyField
+abbrev pub range_fields : Extent → List HeadField
 range_fields Absent = []
 range_fields Bad = []
 range_fields (Given range) = (codes "Content-Range", range_text range) ∷ []

@@ -7,7 +7,8 @@ use Rattle.upload_service.specs.declared.ask.Ask.{Ask}
 use Rattle.upload_service.specs.declared.answer.Answer.{Answer}
 use Rattle.http_wire.specs.Counts.{CountsUp}
 use Rattle.upload_wire.specs.RequestText.{IsRequest, IsBad, IsTruncated, HoldsNone}
-use Rattle.upload_wire.specs.ReplyText.{reply, bad}
+use Rattle.http_wire.specs.HeadText.{bad}
+use Rattle.upload_wire.specs.ReplyText.{reply}
 use Rattle.http_wire.specs.States.{SourceState, SinkState}
 use Rattle.http_wire.specs.Writing.{TookAll, TookFront}
 use Rattle.http_wire.specs.declared.fault.Bad.{Bad}

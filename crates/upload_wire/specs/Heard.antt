@@ -8,10 +8,9 @@ use Rattle.upload_names.specs.Reference.{reference_text, reference_of}
 use Rattle.upload_service.specs.declared.answer.Answer.{Answer}
 use Rattle.upload_service.specs.declared.answer.Answer.TheVariants.{Base, Blob, Begun, Stored, Taken, Standing, Misplaced, Refused, NoMemory}
 use Rattle.upload_service.specs.declared.answer.Refusal.{Refusal}
+use Rattle.http_wire.specs.HeadText.{status_number}
 use Rattle.upload_wire.specs.Target.{blob_path, upload_path}
 use Rattle.upload_wire.specs.ReplyText.{refusal_status, refusal_code, code_text}
-use Rattle.upload_wire.specs.declared.reply.status.Status.{Status}
-use Rattle.upload_wire.specs.declared.reply.status.Status.TheVariants as statuses
 use Rattle.upload_wire.specs.declared.reply.error.ErrorCode.TheVariants.{BlobUploadInvalid}
 use Rattle.upload_wire.specs.declared.client.heard.Heard.{Heard}
 
@@ -31,22 +30,6 @@ of_upload status name at next = record {
   upto = last_below next;
   code = None;
 }
-
--- the number of a status
-abbrev pub status_number : Status → ℕ
-status_number statuses.Ok = 200
-status_number statuses.Created = 201
-status_number statuses.Accepted = 202
-status_number statuses.NoContent = 204
-status_number statuses.BadRequest = 400
-status_number statuses.NotFound = 404
-status_number statuses.MethodNotAllowed = 405
-status_number statuses.LengthRequired = 411
-status_number statuses.ContentTooLarge = 413
-status_number statuses.RangeNotSatisfiable = 416
-status_number statuses.TooManyRequests = 429
-status_number statuses.HeaderFieldsTooLarge = 431
-status_number statuses.ServiceUnavailable = 503
 
 -- an error's status and its code
 abbrev pub of_refusal : Refusal → Heard

@@ -1,7 +1,5 @@
--- The replies (RFC 9112, sections 4 and 5; RFC 9110, section 15, for the reasons; OCI Distribution Specification 1.1,
--- sections "Push" and "Error Codes").
-use Rattle.std.specs.Prelude.{ℕ, ◌-◌, Bool, false, ◌==◌, List, [], ◌∷◌, ◌++◌, length, codes, decimal, flat_map, unwrap_or, if◌then◌else◌}
-use Rattle.httparse.specs.Ascii.{crlf_bytes}
+-- The replies (OCI Distribution Specification 1.1, sections "Push" and "Error Codes").
+use Rattle.std.specs.Prelude.{ℕ, ◌-◌, Bool, ◌==◌, List, [], ◌∷◌, ◌++◌, length, codes, decimal, unwrap_or, if◌then◌else◌}
 use Rattle.upload_names.specs.Digest.{Digest, digest_text}
 use Rattle.upload_names.specs.Reference.{reference_text}
 use Rattle.upload_service.specs.declared.answer.Answer.{Answer}
@@ -10,67 +8,13 @@ use Rattle.upload_service.specs.declared.answer.Form.{Form}
 use Rattle.upload_service.specs.declared.answer.Form.TheVariants as forms
 use Rattle.upload_service.specs.declared.answer.Refusal.{Refusal}
 use Rattle.upload_service.specs.declared.answer.Refusal.TheVariants as refusals
-use Rattle.http_wire.specs.declared.fault.Bad.{Bad}
-use Rattle.http_wire.specs.declared.fault.Bad.TheVariants as bads
 use Rattle.upload_wire.specs.declared.request.Style.{Style}
+use Rattle.http_wire.specs.HeadText.{HeadField, print_head, length_field}
 use Rattle.upload_wire.specs.Target.{blob_path, upload_path}
-use Rattle.upload_wire.specs.declared.reply.status.Status.{Status}
-use Rattle.upload_wire.specs.declared.reply.status.Status.TheVariants as statuses
+use Rattle.http_wire.specs.declared.status.Status.{Status}
+use Rattle.http_wire.specs.declared.status.Status.TheVariants as statuses
 use Rattle.upload_wire.specs.declared.reply.error.ErrorCode.{ErrorCode}
 use Rattle.upload_wire.specs.declared.reply.error.ErrorCode.TheVariants as errors
-
--- a field, as its name and its value
-abbrev pub ReplyField : Type 0
-ReplyField = List ℕ × List ℕ
-
--- name: value
-abbrev pub print_field : ReplyField → List ℕ
-print_field (name, value) = name ++ (codes ": " ++ (value ++ crlf_bytes))
-
--- the number and the reason of a status
-abbrev pub status_text : Status → List ℕ
-status_text statuses.Ok = codes "200 OK"
-status_text statuses.Created = codes "201 Created"
-status_text statuses.Accepted = codes "202 Accepted"
-status_text statuses.NoContent = codes "204 No Content"
-status_text statuses.BadRequest = codes "400 Bad Request"
-status_text statuses.NotFound = codes "404 Not Found"
-status_text statuses.MethodNotAllowed = codes "405 Method Not Allowed"
-status_text statuses.LengthRequired = codes "411 Length Required"
-status_text statuses.ContentTooLarge = codes "413 Content Too Large"
-status_text statuses.RangeNotSatisfiable = codes "416 Range Not Satisfiable"
-status_text statuses.TooManyRequests = codes "429 Too Many Requests"
-status_text statuses.HeaderFieldsTooLarge = codes "431 Request Header Fields Too Large"
-status_text statuses.ServiceUnavailable = codes "503 Service Unavailable"
-
--- HTTP/1.1 <status>
-abbrev pub status_line : Status → List ℕ
-status_line status = codes "HTTP/1.1 " ++ (status_text status ++ crlf_bytes)
-
--- the field that closes the connection
-abbrev pub closing_fields : Bool → List ReplyField
-closing_fields keep = if keep then [] else (codes "Connection", codes "close") ∷ []
-
--- the status line, the fields, and an empty line
-abbrev pub print_head : Status → List ReplyField → Bool → List ℕ
-print_head status fields keep = status_line status ++ (flat_map print_field (fields ++ closing_fields keep) ++ crlf_bytes)
-
--- Content-Length: <count>
-abbrev pub length_field : ℕ → ReplyField
-length_field count = (codes "Content-Length", decimal count)
-
--- the status of the reply to what is no request, by what is bad in it
-abbrev pub bad_status : Bad → Status
-bad_status bads.Head = statuses.BadRequest
-bad_status bads.LongHead = statuses.HeaderFieldsTooLarge
-bad_status bads.Length = statuses.BadRequest
-bad_status bads.TooLarge = statuses.ContentTooLarge
-bad_status bads.Coding = statuses.LengthRequired
-bad_status bads.Chunks = statuses.BadRequest
-
--- the reply to what is no request
-abbrev pub bad : Bad → List ℕ
-bad why = print_head (bad_status why) (length_field 0 ∷ []) false
 
 -- a code of the OCI Distribution Specification
 abbrev pub code_text : ErrorCode → List ℕ
@@ -136,7 +80,7 @@ methods forms.Uploads = codes "POST"
 methods forms.Upload = codes "GET, HEAD, PATCH, PUT"
 
 -- Allow, where the method is not of the form
-abbrev pub allow_fields : Refusal → List ReplyField
+abbrev pub allow_fields : Refusal → List HeadField
 allow_fields (refusals.Method form) = (codes "Allow", methods form) ∷ []
 allow_fields other = []
 
@@ -148,30 +92,30 @@ abbrev pub blob_location : List ℕ → Digest → List ℕ
 blob_location name digest = blob_path name (digest_text digest)
 
 -- Range: 0-<last>, where there are bytes
-abbrev pub range_fields : ℕ → List ReplyField
+abbrev pub range_fields : ℕ → List HeadField
 range_fields next = if next == 0 then [] else (codes "Range", codes "0-" ++ decimal (next - 1)) ∷ []
 
 -- where an upload is, and how far it has come
-abbrev pub upload_fields : List ℕ → List ℕ → ℕ → List ReplyField
+abbrev pub upload_fields : List ℕ → List ℕ → ℕ → List HeadField
 upload_fields name at next = (codes "Location", upload_location name at) ∷ range_fields next
 
 -- the kind and the length of a body
-abbrev pub body_fields : List ℕ → ℕ → List ReplyField
+abbrev pub body_fields : List ℕ → ℕ → List HeadField
 body_fields kind size = (codes "Content-Type", kind) ∷ length_field size ∷ []
 
-abbrev pub error_fields : ErrorCode → List ReplyField
+abbrev pub error_fields : ErrorCode → List HeadField
 error_fields code = body_fields (codes "application/json") (length (error_body code))
 
 -- a reply, but for the field that closes the connection
 pub record Reply : Type 0 where
   pub status : Status
-  pub fields : List ReplyField
+  pub fields : List HeadField
   pub body : List ℕ
 
-abbrev pub without_body : Status → List ReplyField → Reply
+abbrev pub without_body : Status → List HeadField → Reply
 without_body status fields = record { status = status; fields = fields; body = [] }
 
-abbrev pub with_error : Status → List ReplyField → ErrorCode → Reply
+abbrev pub with_error : Status → List HeadField → ErrorCode → Reply
 with_error status fields code = record { status = status; fields = fields ++ error_fields code; body = error_body code }
 
 -- the reply to each answer

@@ -33,7 +33,7 @@ pub record IsRequest (max_body : ℕ) (text : List ℕ) (ask : Ask) (style : Sty
   pub framing : Framing
   pub framed : head_framing max_body head ≡ Ok framing
   pub body : List ℕ
-  pub written : IsBodyText max_body framing rest body
+  pub written : IsBodyText framing rest body
   pub asks : AsksWhole head body ask
   pub styled : style ≡ style_of head
 
@@ -51,7 +51,7 @@ pub record RefusesBody (max_body : ℕ) (text : List ℕ) (why : Bad) : Type 0 w
   pub reads : ReadsHead text head rest
   pub framing : Framing
   pub framed : head_framing max_body head ≡ Ok framing
-  pub refused : IsBadBody max_body framing rest why
+  pub refused : IsBadBody framing rest why
 
 -- the input that begins with the text is no request, and this is bad in it
 abbrev pub IsBad : ℕ → List ℕ → Bad → Type 0
@@ -66,7 +66,7 @@ pub record HasCutBody (max_body : ℕ) (text : List ℕ) : Type 0 where
   pub reads : ReadsHead text head rest
   pub framing : Framing
   pub framed : head_framing max_body head ≡ Ok framing
-  pub short : IsCutBody max_body framing rest
+  pub short : IsCutBody framing rest
 
 -- the input that is no more than the text ends inside a request
 abbrev pub IsTruncated : ℕ → List ℕ → Type 0

@@ -16,7 +16,7 @@ use Rattle.upload_service.specs.declared.answer.Refusal.{Refusal}
 use Rattle.upload_service.specs.declared.answer.Refusal.TheVariants as refusals
 use Rattle.upload_service.specs.declared.answer.Form.TheVariants as Form
 use Rattle.http_wire.specs.Fields.{head_fields, values_of}
-use Rattle.upload_wire.specs.Query.{parameter}
+use Rattle.http_wire.specs.Query.{parameter}
 use Rattle.upload_wire.specs.declared.asks.Method.{Method}
 use Rattle.upload_wire.specs.declared.asks.Method.TheVariants.{Get, Head, Post, Patch, Put, Other}
 use Rattle.upload_wire.specs.declared.asks.HeadAsk.{HeadAsk}

@@ -1,12 +1,12 @@
 -- A text is read in one way, as a reply.
-use Rattle.std.specs.Prelude.{◌≡◌, ◌≢◌, ℕ, ◌+◌, ◌<◌, ◌⊎◌, Bool, List, Option}
+use Rattle.std.specs.Prelude.{◌≡◌, ◌≢◌, ℕ, ◌+◌, ◌<◌, ◌⊎◌, Bool, List}
 use Rattle.httparse.specs.Grammar.{ResponseHead, print_response}
 use Rattle.http_wire.specs.Fronts.{line_feeds, max_fields}
 use Rattle.http_wire.specs.ResponseFronts.{ReadsHead, IsRefused, IsTooLong, IsUnfinished}
 use Rattle.http_wire.specs.States.{SourceState}
 use Rattle.upload_wire.specs.AnswerText.{TellsHeard, TellsMisplaced, HasFramingFault, HasLongBody, HasCutBody}
 use Rattle.upload_wire.specs.declared.client.heard.Heard.{Heard}
-use Rattle.upload_wire.specs.declared.client.framing.FramingFault.TheVariants as Fault
+use Rattle.http_wire.specs.declared.responses.framing.FramingFault.TheVariants as Fault
 
 -- what a text holds first: a reply of which this is heard, whether it keeps the connection, and then rest; one that is unreadable, by its
 -- head or behind it; one that is too large; or a front of one

@@ -2,13 +2,12 @@
 ghost use Rattle.std.specs.Prelude.{◌≡◌, IfOk, option_and_then, codes};
 ghost use Rattle.upload_names.specs.Digest.{digest_of};
 ghost use Rattle.upload_names.specs.Reference.{reference_of};
-ghost use Rattle.upload_wire.specs.Query.{parameter};
+ghost use Rattle.http_wire.specs.Query.{parameter};
 ghost use Rattle.upload_wire.specs.Target.{method_of, named, base_ask, blob_ask, mount_ask, uploads_ask, upload_ask, with_body, AsksAt, Asks};
 
-use crate::query::parameter;
 use crate::target::{PathForm, form_of};
 use http_uri::{Uri, UriError};
-use http_wire::Framing;
+use http_wire::{Framing, parameter};
 use std::alloc::{AllocError, Global};
 use upload_names::{Algorithm, BlobDigest, Bytes, NameFault, RepoName, UploadRef};
 use upload_service::{Ask, Extent, Form, Refusal};

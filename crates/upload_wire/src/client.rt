@@ -2,8 +2,6 @@
 
 mod answer;
 mod ask;
-mod body;
-mod framing;
 mod heard;
 mod laws;
 mod transport;

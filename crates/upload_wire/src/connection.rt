@@ -1,17 +1,18 @@
 //! A connection, served: requests are read, asked of a desk and replied to, in turn.
-ghost use Rattle.std.specs.Prelude.{◌≡◌, ◌≤◌, ◌<◌, ◌^◌, None, IfSome};
+ghost use Rattle.std.specs.Prelude.{◌≡◌, ◌+◌, ◌<◌, None, IfOk, IfSome};
 ghost use Rattle.upload_service.specs.Machine.{AreLawful};
 ghost use Rattle.upload_wire.specs.Conversation.{IsConversation, last_style};
-ghost use Rattle.upload_wire.specs.ConversationSteps.{AnswersOne, GoesOn, Stops};
+ghost use Rattle.upload_wire.specs.Inner.ConversationSteps.{Replies, GoesOn, Stops};
 
 use crate::desk::Desk;
 use crate::reply::{write_bad, write_reply};
 use crate::request::{Next, Style, read_next};
 use http_wire::{ByteSink, ByteSource, ReadBuffer, WireFault};
-use std::alloc::Global;
+use std::alloc::{AllocError, Global};
 use std::fmt;
+use std::marker::Model;
 use upload_names::UploadRef;
-use upload_service::{Answer, Ask, Limits};
+use upload_service::{Answer, Limits};
 
 /// The most requests that are answered on one connection.
 const MAX_REQUESTS: usize = 10_000;
@@ -72,115 +73,143 @@ pub fn serve_connection<S: ByteSource, W: ByteSink, D: Desk>(
     ensures { IsConversation D.moves limits.max_body (S.state reader.old) (S.state reader.new)
         desk.old desk.new (W.state writer.old) (W.state writer.new) result }
 {
-    let Ok(mut buffer) = ReadBuffer::new(alloc) else {
+    let Ok(mut server) = ConnectionServer::new(alloc, limits) else {
         return ConnEnd::Fault(ConnFault::Wire(WireFault::NoMemory));
     };
-    serve_connection_with_buffer(alloc, reader, writer, desk, limits, &mut buffer)
+    server.serve(reader, writer, desk)
 }
 
-/// As `serve_connection`, with a buffer that is lent. What it holds of another connection is forgotten first. So who
-/// serves one connection after the other takes a buffer once. Only a request may then want memory.
-#[tactic(auto, using(crate::proofs::ConversationLemmas::starts))]
-pub fn serve_connection_with_buffer<S: ByteSource, W: ByteSink, D: Desk>(
+/// Serves one connection after the other through one buffer, so that only a request may want memory.
+#[derive(Drop)]
+pub struct ConnectionServer {
     alloc: Global,
-    reader: &mut S,
-    writer: &mut W,
-    desk: &mut D,
-    limits: Limits,
-    buffer: &mut ReadBuffer,
-) -> ConnEnd
-    requires { AreLawful limits }
-    ensures { IsConversation D.moves limits.max_body (S.state reader.old) (S.state reader.new)
-        desk.old desk.new (W.state writer.old) (W.state writer.new) result }
-{
-    buffer.clear();
-    let mut filled = None;
-    for count in 0..MAX_REQUESTS {
-        if let Some(end) = serve_next(
+    max_body: u64,
+    buffer: ReadBuffer,
+    /// How many requests of the connection were answered.
+    answered: usize,
+    /// The upload that was last answered to have bytes.
+    filled: Option<UploadRef>,
+}
+
+impl Model for ConnectionServer {
+    ghost use Rattle.std.specs.Prelude.{◌<◌, ◌≤◌, ◌^◌};
+    ghost use Rattle.upload_wire.specs.ServerState.{ServerState};
+
+    ghost Value = { ServerState };
+
+    ghost view = { λ s. record { max_body = s.max_body; held = s.buffer; answered = s.answered } };
+
+    ghost invariant = { λ s. (s.max_body ≤ 2 ^ 31) × (s.answered < 10000) };
+}
+
+impl ConnectionServer {
+    /// A server of connections, whose requests have bodies of at most `limits.max_body` bytes. It makes its one buffer
+    /// of 64 KiB, or answers that there is no memory for it.
+    pub fn new(alloc: Global, limits: Limits) -> Result<ConnectionServer, AllocError>
+        requires { AreLawful limits }
+        ensures { IfOk result (λ server. server.max_body ≡ limits.max_body) }
+    {
+        let buffer = ReadBuffer::new(alloc)?;
+        Ok(ConnectionServer {
             alloc,
-            reader,
+            max_body: limits.max_body,
             buffer,
-            limits.max_body,
-            writer,
-            desk,
-            count,
-            &mut filled,
-        ) {
-            return end;
+            answered: 0,
+            filled: None,
+        })
+    }
+
+    /// Serves a connection, as `serve_connection` does. What the buffer holds of another is forgotten first.
+    #[tactic(auto, using(crate::proofs::ConversationLemmas::starts))]
+    pub fn serve<S: ByteSource, W: ByteSink, D: Desk>(
+        &mut self,
+        reader: &mut S,
+        writer: &mut W,
+        desk: &mut D,
+    ) -> ConnEnd
+        ensures conversation { IsConversation D.moves self.old.max_body (S.state reader.old) (S.state reader.new)
+            desk.old desk.new (W.state writer.old) (W.state writer.new) result }
+        ensures limit { self.new.max_body ≡ self.old.max_body }
+    {
+        self.buffer.clear();
+        self.answered = 0;
+        self.filled = None;
+        loop {
+            if let Some(end) = self.serve_next(reader, writer, desk) {
+                return end;
+            }
         }
     }
-    unreachable!()
+
+    /// Serves what comes next. `None`: the connection goes on.
+    fn serve_next<S: ByteSource, W: ByteSink, D: Desk>(
+        &mut self,
+        reader: &mut S,
+        writer: &mut W,
+        desk: &mut D,
+    ) -> Option<ConnEnd>
+        ensures goes_on { result ≡ None → GoesOn D.moves self.old.max_body self.old.answered self.old.held self.new.held
+            (S.state reader.old) (S.state reader.new) desk.old desk.new (W.state writer.old) (W.state writer.new) }
+        ensures stops { IfSome result (Stops D.moves self.old.max_body self.old.answered self.old.held
+            (S.state reader.old) (S.state reader.new) desk.old desk.new (W.state writer.old) (W.state writer.new)) }
+        ensures counted { result ≡ None → self.new.answered ≡ self.old.answered + 1 }
+        ensures limit { self.new.max_body ≡ self.old.max_body }
+    {
+        match read_next(
+            self.alloc,
+            reader,
+            &mut self.buffer,
+            self.max_body,
+            self.filled,
+        ) {
+            Ok(Next::Request { ask, style }) => match desk.ask(ask) {
+                Some(answer) => self.reply(writer, &answer, style),
+                None => Some(ConnEnd::DeskGone),
+            },
+            Ok(Next::Over) => Some(ConnEnd::Clean),
+            Ok(Next::Bad(why)) => match write_bad(writer, why) {
+                Ok(()) => Some(ConnEnd::AfterBad),
+                Err(_) => Some(ConnEnd::Fault(ConnFault::Write)),
+            },
+            Err(fault) => Some(ConnEnd::Fault(ConnFault::Wire(fault))),
+        }
+    }
+
+    /// Replies to a request behind those that were answered. `None`: the connection goes on.
+    fn reply<W: ByteSink>(
+        &mut self,
+        writer: &mut W,
+        answer: &Answer,
+        style: Style,
+    ) -> Option<ConnEnd>
+        ensures replies { Replies self.old.answered answer.now style (W.state writer.old) (W.state writer.new) result }
+        ensures counted { result ≡ None → self.new.answered ≡ self.old.answered + 1 }
+        ensures held { self.new.held ≡ self.old.held }
+        ensures limit { self.new.max_body ≡ self.old.max_body }
+    {
+        self.filled = filled_by(answer).or(self.filled);
+        if write_reply(writer, answer, last_style(style, self.answered)).is_err() {
+            return Some(ConnEnd::Fault(ConnFault::Write));
+        }
+        if !style.keep {
+            return Some(ConnEnd::AfterClose);
+        }
+        if self.answered + 1 == MAX_REQUESTS {
+            return Some(ConnEnd::TooMany);
+        }
+        self.answered += 1;
+        None
+    }
 }
 
-/// Serves what comes next, behind `count` requests. `None`: the connection goes on. `filled` is the upload that was last
-/// answered to have bytes.
-fn serve_next<S: ByteSource, W: ByteSink, D: Desk>(
-    alloc: Global,
-    reader: &mut S,
-    buffer: &mut ReadBuffer,
-    max_body: u64,
-    writer: &mut W,
-    desk: &mut D,
-    count: usize,
-    filled: &mut Option<UploadRef>,
-) -> Option<ConnEnd>
-    requires turn { count < MAX_REQUESTS }
-    requires limit { max_body ≤ 2 ^ 31 }
-    ensures goes_on { result ≡ None → GoesOn D.moves max_body count buffer.old buffer.new (S.state reader.old)
-        (S.state reader.new) desk.old desk.new (W.state writer.old) (W.state writer.new) }
-    ensures stops { IfSome result (Stops D.moves max_body count buffer.old (S.state reader.old)
-        (S.state reader.new) desk.old desk.new (W.state writer.old) (W.state writer.new)) }
-{
-    match read_next(alloc, reader, buffer, max_body, *filled) {
-        Ok(Next::Request { ask, style }) => answer_one(writer, desk, ask, style, count, filled),
-        Ok(Next::Over) => Some(ConnEnd::Clean),
-        Ok(Next::Bad(why)) => match write_bad(writer, why) {
-            Ok(()) => Some(ConnEnd::AfterBad),
-            Err(_) => Some(ConnEnd::Fault(ConnFault::Write)),
-        },
-        Err(fault) => Some(ConnEnd::Fault(ConnFault::Wire(fault))),
-    }
-}
-
-/// Asks the desk and replies, behind `count` requests. `None`: the connection goes on.
-fn answer_one<W: ByteSink, D: Desk>(
-    writer: &mut W,
-    desk: &mut D,
-    ask: Ask,
-    style: Style,
-    count: usize,
-    filled: &mut Option<UploadRef>,
-) -> Option<ConnEnd>
-    requires { count < MAX_REQUESTS }
-    ensures { AnswersOne D.moves count ask style desk.old desk.new (W.state writer.old) (W.state writer.new) result }
-{
-    let Some(answer) = desk.ask(ask) else {
-        return Some(ConnEnd::DeskGone);
-    };
-    note_filled(&answer, filled);
-    if write_reply(writer, &answer, last_style(style, count)).is_err() {
-        return Some(ConnEnd::Fault(ConnFault::Write));
-    }
-    if !style.keep {
-        return Some(ConnEnd::AfterClose);
-    }
-    if count + 1 == MAX_REQUESTS {
-        return Some(ConnEnd::TooMany);
-    }
-    None
-}
-
-/// Notes the upload that an answer says to have bytes: a hash of a further body alone would be of no use to it.
-fn note_filled(answer: &Answer, filled: &mut Option<UploadRef>) {
+/// The upload that an answer says to have bytes: a hash of a further body alone would be of no use to it.
+fn filled_by(answer: &Answer) -> Option<UploadRef> {
     match answer {
         Answer::Taken { at, next, .. }
         | Answer::Standing { at, next, .. }
-        | Answer::Misplaced { at, next, .. } => {
-            if *next > 0 {
-                *filled = Some(*at);
-            }
-        }
-        _ => {}
+        | Answer::Misplaced { at, next, .. }
+            if *next > 0 => Some(*at),
+        _ => None,
     }
 }
 

@@ -1,7 +1,7 @@
 //! HTTP/1.1 requests and replies of the blob-upload service, from bytes and to bytes.
 //!
-//! A request goes through `request`, which has `http_wire` read its head, and reads what it asks (`target`, `query`,
-//! `asks`) and its body (`body`, `chunked`). `connection` asks a `desk`, and `reply` gathers the head of the reply and
+//! A request goes through `request`, which has `http_wire` read its head, and reads what it asks (`target`, `asks`) and
+//! its body (`body`). `connection` asks a `desk`, and `reply` gathers the head of the reply and
 //! has it written with its body.
 #![tactic(auto)]
 
@@ -12,7 +12,6 @@ mod connection;
 mod desk;
 mod laws;
 mod logged;
-mod query;
 mod reader;
 mod reply;
 mod request;
@@ -22,7 +21,7 @@ pub use client::{
     AnswerReader, Heard, HeardFault, LentChunk, Transport, WireTransport, heard_of, read_place,
     replies_are_unambiguous, write_ask, written_asks_are_read, written_places_are_read,
 };
-pub use connection::{ConnEnd, ConnFault, serve_connection, serve_connection_with_buffer};
+pub use connection::{ConnEnd, ConnFault, ConnectionServer, serve_connection};
 pub use desk::{Desk, ServiceDesk};
 pub use http_wire::{
     Bad, ByteSink, ByteSource, Failed, FromRead, ReadBuffer, ToWrite, WireFault, WriteFault,

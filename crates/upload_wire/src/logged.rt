@@ -1,6 +1,6 @@
 //! What a log tells of a request and of its reply.
 ghost use Rattle.std.specs.Prelude.{◌≡◌};
-ghost use Rattle.upload_wire.specs.Heard.{status_number};
+ghost use Rattle.http_wire.specs.HeadText.{status_number};
 ghost use Rattle.upload_wire.specs.Logged.{body_size};
 ghost use Rattle.upload_wire.specs.ReplyText.{reply_of};
 

@@ -2,21 +2,21 @@
 ghost use Rattle.std.specs.Prelude.{◌≡◌, IsTrue, OnOk};
 ghost use Rattle.std.specs.List.{concat};
 ghost use Rattle.http_wire.specs.Writing.{Wrote};
-ghost use Rattle.http_wire.specs.Gathering.{Puts};
-ghost use Rattle.upload_wire.specs.ReplyText.{bad, reply, reply_of};
+ghost use Rattle.http_wire.specs.Inner.Gathering.{Puts};
+ghost use Rattle.upload_wire.specs.ReplyText.{reply, reply_of};
 
 use crate::request::Style;
-use head::{put_bad_head, put_reply_head};
-use http_wire::{Bad, ByteSink, Gather, WriteFault};
+use head::put_reply_head;
+use http_wire::{ByteSink, Gather, WriteFault};
 use upload_service::{Answer, Part};
 
 mod error;
 mod head;
 mod refusal;
-mod status;
 
 pub(crate) use error::ErrorCode;
 pub(crate) use head::status_of;
+pub use http_wire::write_bad;
 pub(crate) use refusal::{refusal_code, refusal_status};
 
 /// Writes the reply to an answer, and flushes it: its head in one write, with its body where that is short,
@@ -39,17 +39,6 @@ pub fn write_reply<W: ByteSink>(
     head.finish(writer, b"")
 }
 
-/// Writes the reply to what is no request, by what is bad in it, and flushes it. It takes no memory. `Ok` comes
-/// only where all of it was written and handed on, and no call of the writer failed; else a front of it was written.
-pub fn write_bad<W: ByteSink>(writer: &mut W, why: Bad) -> Result<(), WriteFault>
-    ensures wrote { Wrote (W.state writer.old) (W.state writer.new) (bad why) result }
-    ensures flushed { OnOk result (IsTrue ((W.state writer.new).flushed)) }
-{
-    let mut head = Gather::new();
-    put_bad_head(&mut head, writer, why);
-    head.finish(writer, b"")
-}
-
 /// Puts the body of a reply behind its head. What fits leaves in the same write.
 fn put_body<W: ByteSink>(head: &mut Gather, writer: &mut W, answer: &Answer)
     ensures { Puts (W.state writer.old) head.old (W.state writer.new) head.new (reply_of answer.now).body }
@@ -63,7 +52,7 @@ fn put_body<W: ByteSink>(head: &mut Gather, writer: &mut W, answer: &Answer)
             head.put(writer, ErrorCode::BlobUploadInvalid.body().as_bytes())
         }
         Answer::Refused(refusal) => { head.put(writer, refusal_code(*refusal).body().as_bytes()) }
-        _ => head.put(writer, b""),
+        _ => {}
     }
 }
 

@@ -1,18 +1,19 @@
 //! Requests, one after another.
-ghost use Rattle.std.specs.Prelude.{◌≡◌, ◌+◌, ◌*◌, ◌^◌, ◌≤◌, Err, IfOk, IfErr, codes};
+ghost use Rattle.std.specs.Prelude.{◌≡◌, ◌+◌, ◌*◌, ◌^◌, ◌≤◌, Err, IfOk, codes};
+ghost use Rattle.http_wire.specs.Body.{most_of};
 ghost use Rattle.http_wire.specs.Reading.{Costs};
 ghost use Rattle.http_wire.specs.Fields.{values_of};
 ghost use Rattle.upload_wire.specs.Target.{extent_of};
-ghost use Rattle.http_wire.specs.RequestSpans.{IsHeadOf, IsHeadAtFront};
-ghost use Rattle.http_wire.specs.FieldReading.{fields_of};
+ghost use Rattle.http_wire.specs.Inner.RequestSpans.{IsHeadOf};
+ghost use Rattle.http_wire.specs.Inner.FieldReading.{fields_of};
 ghost use Rattle.upload_wire.specs.RequestText.{ReadsNext};
-ghost use Rattle.upload_wire.specs.RequestReading.{Describes};
+ghost use Rattle.upload_wire.specs.Inner.RequestReading.{Describes, FindsRequest};
 
 use crate::asks::{HeadAsk, ask_of};
 use crate::body::Body;
 use http_wire::{
-    Bad, BodyEnd, ByteSource, HeadRead, Occurrence, ParsedRequest, ReadBuffer, Requests, WireFault,
-    field_named, framing_of, keeps_connection, read_body, read_head,
+    Bad, BodyEnd, ByteSource, Framing, HeadRead, Occurrence, ParsedRequest, ReadBuffer, Requests,
+    WireFault, field_named, framing_of, keeps_connection, read_body, read_head,
 };
 use std::alloc::Global;
 use upload_names::{ByteRange, UploadRef};
@@ -39,11 +40,12 @@ pub enum Next {
     Bad(Bad),
 }
 
-/// What a head asks, and how it wants its reply.
+/// What a head describes: what it asks, how it wants its reply, and how its body is written.
 #[derive(Drop)]
 struct Described {
     ask: HeadAsk,
     style: Style,
+    framing: Framing,
 }
 
 /// The range that a head gives.
@@ -61,12 +63,22 @@ fn range_of(head: &[u8], parsed: &ParsedRequest) -> Extent
     }
 }
 
-/// What a head asks. The error is a want of memory.
-fn describe(alloc: Global, head: &[u8], parsed: &ParsedRequest) -> Result<Described, WireFault>
-    requires { IsHeadOf head.now parsed.now }
-    ensures found { IfOk result (λ d. Describes head.now parsed.now d.ask d.style) }
-    ensures error { IfErr result (λ e. e ≡ WireFault.NoMemory) }
+/// What a head describes, or what is bad in how it frames its body. The error is a want of memory.
+fn describe(
+    alloc: Global,
+    head: &[u8],
+    parsed: &ParsedRequest,
+    max_body: u64,
+) -> Result<Result<Described, Bad>, WireFault>
+    requires limit { max_body ≤ 2 ^ 31 }
+    requires head { IsHeadOf head.now parsed.now }
+    ensures found { Describes max_body head.now parsed.now result }
+    ensures kept { IfOk result (λ head. IfOk head (λ described. most_of described.framing ≤ max_body)) }
 {
+    let framing = match framing_of(head, parsed, max_body) {
+        Ok(framing) => framing,
+        Err(bad) => return Ok(Err(bad)),
+    };
     let method = parsed.spans.method.of(head);
     let target = parsed.spans.path.of(head);
     let Ok(ask) = ask_of(alloc, method, target, range_of(head, parsed)) else {
@@ -76,32 +88,33 @@ fn describe(alloc: Global, head: &[u8], parsed: &ParsedRequest) -> Result<Descri
         head: method == b"HEAD".as_slice(),
         keep: keeps_connection(head, parsed),
     };
-    Ok(Described { ask, style })
+    Ok(Ok(Described {
+        ask,
+        style,
+        framing,
+    }))
 }
 
-/// Reads the request of the head that the buffer begins with, where `filled` is an upload that is known to have bytes.
+/// Reads the request whose head describes this, and was taken. `filled` is an upload that is known to have bytes.
 fn read_request<S: ByteSource>(
     alloc: Global,
     source: &mut S,
     buffer: &mut ReadBuffer,
-    parsed: &ParsedRequest,
-    max_body: u64,
+    described: Described,
     filled: Option<UploadRef>,
 ) -> Result<Next, WireFault>
-    requires limit { max_body ≤ 2 ^ 31 }
-    requires head { IsHeadAtFront buffer.old parsed.now }
-    ensures found { ReadsNext max_body buffer.old (S.state source.old) buffer.new (S.state source.new) result }
-    ensures costs { Costs (12 + 13 * max_body) (result ≡ Err WireFault.Read) (S.state source.old) (S.state source.new) }
+    requires { most_of described.framing ≤ 2 ^ 31 }
+    ensures found { FindsRequest described (S.state source.old) buffer.old (S.state source.new) buffer.new result }
+    ensures costs { Costs (12 + 13 * most_of described.framing) (result ≡ Err WireFault.Read)
+        (S.state source.old) (S.state source.new) }
 {
-    let head = &buffer.as_slice()[..parsed.spans.len];
-    let framing = match framing_of(head, parsed, max_body) {
-        Ok(framing) => framing,
-        Err(bad) => return Ok(Next::Bad(bad)),
-    };
-    let Described { ask, style } = describe(alloc, head, parsed)?;
-    buffer.consume(parsed.spans.len);
+    let Described {
+        ask,
+        style,
+        framing,
+    } = described;
     let mut body = Body::begin(alloc, ask.hash_wanted(framing, filled));
-    match read_body(source, buffer, &mut body, framing, max_body)? {
+    match read_body(source, buffer, &mut body, framing)? {
         BodyEnd::Whole => {
             // It may stay as long as its blob does, so the room that it grew by in advance goes.
             body.bytes.shrink_to_fit();
@@ -128,7 +141,16 @@ pub fn read_next<S: ByteSource>(
     ensures costs { Costs (16396 + 13 * max_body) (result ≡ Err WireFault.Read) (S.state source.old) (S.state source.new) }
 {
     match read_head::<Requests, S>(source, buffer)? {
-        HeadRead::Head(parsed) => read_request(alloc, source, buffer, &parsed, max_body, filled),
+        HeadRead::Head(parsed) => {
+            let head = &buffer.as_slice()[..parsed.spans.len];
+            match describe(alloc, head, &parsed, max_body)? {
+                Ok(described) => {
+                    buffer.consume(parsed.spans.len);
+                    read_request(alloc, source, buffer, described, filled)
+                }
+                Err(bad) => Ok(Next::Bad(bad)),
+            }
+        }
         HeadRead::Over => Ok(Next::Over),
         HeadRead::Refused => Ok(Next::Bad(Bad::Head)),
         HeadRead::TooLong => Ok(Next::Bad(Bad::LongHead)),

@@ -6,7 +6,7 @@ mod growths;
 
 use crate::answers::{Said, answer_of, lib_a};
 use crate::expect::{holds, same, same_bytes};
-use crate::memory::{MemorySink, MemorySource};
+use memory_ends::{MemorySink, MemorySource};
 use std::alloc::{AllocError, Global};
 use std::fmt::Display;
 use std::process::Abort;

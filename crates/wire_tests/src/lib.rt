@@ -1,5 +1,5 @@
-//! Tests of `upload_wire`, in a crate of their own: the prover goes through a crate with tests twice, and its must-fail
-//! edits wait for both.
+//! Tests of the requests and replies of `upload_wire`, the server's and the client's, in a crate of their own: the prover
+//! goes through a crate with tests twice, and its must-fail edits wait for both.
 #![tactic(auto)]
 
 #[cfg(test)]
@@ -7,16 +7,10 @@ mod answers;
 #[cfg(test)]
 mod client;
 #[cfg(test)]
-mod connections;
-#[cfg(test)]
 mod content;
 #[cfg(test)]
 mod expect;
 #[cfg(test)]
-mod memory;
-#[cfg(test)]
 mod reading;
-#[cfg(test)]
-mod reads;
 #[cfg(test)]
 mod replies;

@@ -5,7 +5,7 @@ mod growths;
 mod hashed;
 
 use crate::expect::{holds, same};
-use crate::memory::MemorySource;
+use memory_ends::MemorySource;
 use std::alloc::{AllocError, Global};
 use std::process::Abort;
 use std::test::Fail;

@@ -1,28 +1,25 @@
 //! Replies, read from a source of bytes.
-ghost use Rattle.std.specs.Prelude.{◌≡◌, ℕ, ◌+◌, ◌<◌, ◌≤◌, ◌==◌, List, [], ◌∷◌, ◌++◌, length, drop, take, map, All, Option, Some, None, option_map, Ok, Err, IfOk, IfErr, false, true, is_err};
-ghost use Rattle.std.specs.Option.{option_copied};
-ghost use Rattle.std.specs.Io.KnownBytes.{IsAtEnd};
-ghost use Rattle.httparse.specs.Spans.{IsHeaderWithin, header_bytes};
+ghost use Rattle.std.specs.Prelude.{◌≡◌, ℕ, ◌==◌, [], length, option_map, Err, IfOk, false, true, is_err};
 ghost use Rattle.serde_json.specs.View.{view};
 ghost use Rattle.http_wire.specs.Reading.{Costs};
-ghost use Rattle.http_wire.specs.Fields.{Fields, values_of};
-ghost use Rattle.upload_wire.specs.AnswerText.{ReadsAnswer, code_in, code_of, first_of, framing_of, framing_by_length, keeps_on, most_answer_reads, upto_of};
-ghost use Rattle.http_wire.specs.ResponseSpans.{IsHeadAtFront, IsHeadOf};
-ghost use Rattle.upload_wire.specs.AnswerReading.{IsSmall, PlaceUnlessNoMemory, Says, SaysBare, fields_of};
+ghost use Rattle.http_wire.specs.Fields.{Fields};
+ghost use Rattle.upload_wire.specs.AnswerText.{ReadsAnswer, code_in, code_of, most_answer_reads, upto_of};
+ghost use Rattle.http_wire.specs.Inner.ResponseSpans.{IsHeadAtFront, IsHeadOf, fields_of};
+ghost use Rattle.upload_wire.specs.Inner.AnswerReading.{FindsReply, PlaceUnlessNoMemory, Says, SaysBare};
 
-use crate::client::body::{MAX_ANSWER, read_body};
-use crate::client::framing::{AnswerFraming, FramingFault};
 use crate::client::heard::{Heard, HeardFault, SaidFault};
 use http_uri::{Uri, UriError};
 use http_wire::{
-    Bad, ByteSource, HeadRead, Occurrence, ParsedResponse, ReadBuffer, Responses, field_among,
-    is_same_word, length_of, lists_close, read_head,
+    ByteSource, HeadRead, ParsedResponse, ReadBuffer, ResponseBodyEnd, Responses, first_among,
+    read_head, read_response_body, response_framing, response_keeps_connection,
 };
-use httparse::spans::HeaderSpan;
 use serde_json::Value;
 use std::alloc::{AllocError, Global};
 use std::marker::Model;
 use upload_names::{ByteRange, Bytes};
+
+/// The most bytes of a reply's body.
+const MAX_ANSWER: u64 = 65_536;
 
 /// The first error code of a body.
 fn code_of(alloc: Global, body: &[u8]) -> Result<Option<Bytes>, AllocError>
@@ -55,105 +52,6 @@ fn first_code(value: &Value) -> Option<&str>
     first
         .and_then(|first| first.get("code"))
         .and_then(Value::as_str)
-}
-
-/// The first value of a name, with one more field.
-fn with_first<'b>(
-    found: Option<&'b [u8]>,
-    head: &'b [u8],
-    header: HeaderSpan,
-    name: &[u8],
-) -> Option<&'b [u8]>
-    requires { IsHeaderWithin (length head.now) header }
-    ensures { (fields : Fields) → option_map (λ v. v.now) found.entry ≡ first_of (values_of name.now fields)
-        → option_map (λ v. v.now) result ≡ first_of (values_of name.now (fields ++ header_bytes head.now header ∷ [])) }
-{
-    match found {
-        Some(value) => Some(value),
-        None => {
-            if is_same_word(header.name.of(head), name) {
-                Some(header.value.of(head))
-            } else {
-                None
-            }
-        }
-    }
-}
-
-/// The value of the first field of that name.
-fn first_named<'b>(head: &'b [u8], headers: &[HeaderSpan], name: &[u8]) -> Option<&'b [u8]>
-    requires { All (IsHeaderWithin (length head.now)) headers.now }
-    ensures { option_map (λ v. v.now) result ≡ first_of (values_of name.now (map (header_bytes head.now) headers.now)) }
-{
-    let mut found = None;
-    for header in headers {
-        found = with_first(found, head, *header, name);
-    }
-    found
-}
-
-/// How far a body of a said length goes.
-fn sized(value: &[u8], empty: bool) -> Result<AnswerFraming, FramingFault>
-    ensures framing { result ≡ framing_by_length empty (value.now ∷ []) }
-    ensures small { IfOk result IsSmall }
-{
-    match length_of(value, MAX_ANSWER as u64) {
-        Ok(length) => Ok(AnswerFraming::Sized(if empty { 0 } else { length })),
-        Err(Bad::Length) => Err(FramingFault::Unreadable),
-        Err(_) => {
-            if empty {
-                Ok(AnswerFraming::Sized(0))
-            } else {
-                Err(FramingFault::TooLarge)
-            }
-        }
-    }
-}
-
-/// How far the body of a reply goes. `Unreadable`: a status below 200, a coding, or a length that is
-/// unreadable or said twice. `TooLarge`: a length over the limit, of a reply that has a body.
-fn framing_of(
-    head_only: bool,
-    head: &[u8],
-    parsed: &ParsedResponse,
-) -> Result<AnswerFraming, FramingFault>
-    requires { IsHeadOf head.now parsed.now }
-    ensures framing { result ≡ framing_of head_only parsed.now.spans.code (fields_of head.now parsed.now) }
-    ensures small { IfOk result IsSmall }
-{
-    let status = parsed.spans.code;
-    if status < 200 {
-        return Err(FramingFault::Unreadable);
-    }
-    let headers = &parsed.headers[..parsed.spans.headers];
-    match field_among(head, headers, b"transfer-encoding") {
-        Occurrence::Absent => {}
-        _ => return Err(FramingFault::Unreadable),
-    }
-    let empty = head_only || status == 204 || status == 304;
-    match field_among(head, headers, b"content-length") {
-        Occurrence::Absent => Ok(if empty {
-            AnswerFraming::Sized(0)
-        } else {
-            AnswerFraming::ToEnd
-        }),
-        Occurrence::Once(value) => sized(value, empty),
-        Occurrence::Repeated => Err(FramingFault::Unreadable),
-    }
-}
-
-/// Whether the connection stays behind a reply (RFC 9112, sections 6.3 and 9.3).
-fn keeps_on(head: &[u8], parsed: &ParsedResponse, framing: AnswerFraming) -> bool
-    requires { IsHeadOf head.now parsed.now }
-    ensures { result ≡ keeps_on parsed.now.spans.version (fields_of head.now parsed.now) framing }
-{
-    match framing {
-        AnswerFraming::Sized(_) => {
-            let headers = &parsed.headers[..parsed.spans.headers];
-            parsed.spans.version == 1 && !lists_close(head, headers)
-        }
-        AnswerFraming::ToEnd => false,
-    }
 }
 
 /// The path of a Location.
@@ -199,8 +97,8 @@ fn said_of(alloc: Global, head: &[u8], parsed: &ParsedResponse) -> Result<Heard,
     ensures { SaysBare parsed.now.spans.code (fields_of head.now parsed.now) result }
 {
     let headers = &parsed.headers[..parsed.spans.headers];
-    let place = place_of(alloc, first_named(head, headers, b"location"))?;
-    let upto = upto_of(first_named(head, headers, b"range"))?;
+    let place = place_of(alloc, first_among(head, headers, b"location"))?;
+    let upto = upto_of(first_among(head, headers, b"range"))?;
     Ok(Heard {
         status: parsed.spans.code,
         place,
@@ -220,45 +118,54 @@ fn with_code(alloc: Global, said: Result<Heard, SaidFault>, body: &[u8]) -> Resu
     }
 }
 
-/// Reads the body behind a head, takes the reply out of the buffer, and notes whether it keeps the connection.
+/// A reply, read whole.
+#[derive(Drop)]
+struct ReplyRead {
+    heard: Heard,
+    /// Whether the connection stays behind it.
+    keep: bool,
+}
+
+/// Reads the body behind a head, and takes the reply out of the buffer.
 fn read_framed<S: ByteSource>(
     alloc: Global,
     source: &mut S,
     buffer: &mut ReadBuffer,
     parsed: &ParsedResponse,
     head_only: bool,
-    keep: &mut bool,
-) -> Result<Heard, HeardFault>
+) -> Result<ReplyRead, HeardFault>
     requires { IsHeadAtFront buffer.old parsed.now }
-    ensures found { ReadsAnswer head_only buffer.old (S.state source.old) buffer.new (S.state source.new) result keep.new }
+    ensures found { FindsReply head_only buffer.old (S.state source.old) buffer.new (S.state source.new) result }
     ensures costs { Costs 65537 (result ≡ Err HeardFault.Read) (S.state source.old) (S.state source.new) }
 {
     let head = &buffer.as_slice()[..parsed.spans.len];
-    let framing = framing_of(head_only, head, parsed)?;
+    let framing = response_framing(head, parsed, head_only, MAX_ANSWER)?;
     // What the head says is heard once the body is there.
     let said = said_of(alloc, head, parsed);
-    *keep = keeps_on(head, parsed, framing);
+    let keep = response_keeps_connection(head, parsed, framing);
     buffer.consume(parsed.spans.len);
     let mut body = Vec::new(alloc);
-    match read_body(source, buffer, &mut body, framing) {
-        Ok(()) => Ok(with_code(alloc, said, &body)?),
-        Err(fault) => Err(fault),
+    match read_response_body(source, buffer, &mut body, framing)? {
+        ResponseBodyEnd::Whole => {
+            let heard = with_code(alloc, said, &body)?;
+            Ok(ReplyRead { heard, keep })
+        }
+        ResponseBodyEnd::TooLarge => Err(HeardFault::TooLarge),
     }
 }
 
-/// Reads the next reply, behind what the buffer holds of it, and notes whether it keeps the connection.
+/// Reads the next reply, behind what the buffer holds of it.
 fn read_answer<S: ByteSource>(
     alloc: Global,
     source: &mut S,
     buffer: &mut ReadBuffer,
     head_only: bool,
-    keep: &mut bool,
-) -> Result<Heard, HeardFault>
-    ensures found { ReadsAnswer head_only buffer.old (S.state source.old) buffer.new (S.state source.new) result keep.new }
+) -> Result<ReplyRead, HeardFault>
+    ensures found { FindsReply head_only buffer.old (S.state source.old) buffer.new (S.state source.new) result }
     ensures costs { Costs most_answer_reads (result ≡ Err HeardFault.Read) (S.state source.old) (S.state source.new) }
 {
     match read_head::<Responses, S>(source, buffer)? {
-        HeadRead::Head(parsed) => read_framed(alloc, source, buffer, &parsed, head_only, keep),
+        HeadRead::Head(parsed) => read_framed(alloc, source, buffer, &parsed, head_only),
         HeadRead::Over => Err(HeardFault::Truncated),
         HeadRead::Refused => Err(HeardFault::Unreadable),
         HeadRead::TooLong => Err(HeardFault::TooLarge),
@@ -333,15 +240,11 @@ impl<S: ByteSource> AnswerReader<S> {
         if self.ended {
             return Err(HeardFault::Ended);
         }
-        let heard = read_answer(
-            self.alloc,
-            &mut self.source,
-            &mut self.buffer,
-            head,
-            &mut self.keep,
-        );
-        self.ended = heard.is_err();
-        heard
+        let reply = read_answer(self.alloc, &mut self.source, &mut self.buffer, head);
+        self.ended = reply.is_err();
+        let reply = reply?;
+        self.keep = reply.keep;
+        Ok(reply.heard)
     }
 
     /// Whether the connection stays behind the reply that was read last: its version is HTTP/1.1, no `Connection` field lists

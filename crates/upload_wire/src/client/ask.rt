@@ -1,9 +1,9 @@
 //! Asks, written as requests.
 ghost use Rattle.std.specs.Prelude.{◌≡◌, ◌++◌, List, ℕ, IsTrue, OnOk, Some, codes, flat_map};
 ghost use Rattle.http_wire.specs.Writing.{Wrote};
-ghost use Rattle.http_wire.specs.Gathering.{Puts};
+ghost use Rattle.http_wire.specs.Inner.Gathering.{Puts};
 ghost use Rattle.upload_wire.specs.AskText.{CanBeWritten, IsAbsentOrGiven, ask_of_chunk, ask_text, body_fields, digest_or_nothing, digest_query, host_text, is_host, look_method, message_of, query_text, range_fields, request_line, section_text};
-ghost use Rattle.upload_wire.specs.ReplyText.{print_field};
+ghost use Rattle.http_wire.specs.HeadText.{print_field};
 
 use crate::client::transport::LentChunk;
 use http_wire::{ByteSink, Gather, WriteFault};
@@ -42,14 +42,13 @@ pub(crate) fn write_chunk<W: ByteSink>(
     ensures flushed { OnOk result (IsTrue ((W.state writer.new).flushed)) }
 {
     let mut head = Gather::new();
-    put_path(
-        &mut head,
-        writer,
-        b"PATCH",
-        chunk.name,
-        b"/blobs/uploads/",
-        &chunk.at.text(),
-    );
+    let text = chunk.at.text();
+    let upload = Target {
+        name: chunk.name,
+        kind: b"/blobs/uploads/",
+        behind: &text,
+    };
+    put_target(&mut head, writer, b"PATCH", upload);
     put_host(&mut head, writer, host);
     put_upload_section(&mut head, writer, &chunk.range, chunk.body);
     head.finish(writer, chunk.body)
@@ -67,6 +66,14 @@ pub(crate) fn body_of(ask: &Ask) -> &[u8]
     }
 }
 
+/// A target in a repository: `/v2/`, its name, and these two behind it.
+#[derive(Clone, Copy)]
+struct Target<'a> {
+    name: &'a RepoName,
+    kind: &'a [u8],
+    behind: &'a [u8],
+}
+
 /// Puts the method and the target.
 fn put_request_line<W: ByteSink>(head: &mut Gather, writer: &mut W, ask: &Ask)
     requires { CanBeWritten ask.now }
@@ -78,26 +85,54 @@ fn put_request_line<W: ByteSink>(head: &mut Gather, writer: &mut W, ask: &Ask)
             name,
             digest,
             head: look,
-        } => put_path(
-            head,
-            writer,
-            look_method(*look),
-            name,
-            b"/blobs/",
-            digest.text().as_bytes(),
-        ),
-        Ask::Opening { name } => put_path(head, writer, b"POST", name, b"/blobs/uploads/", b""),
+        } => {
+            let text = digest.text();
+            let blob = Target {
+                name,
+                kind: b"/blobs/",
+                behind: text.as_bytes(),
+            };
+            put_target(head, writer, look_method(*look), blob)
+        }
+        Ask::Opening { name } => {
+            let uploads = Target {
+                name,
+                kind: b"/blobs/uploads/",
+                behind: b"",
+            };
+            put_target(head, writer, b"POST", uploads)
+        }
         Ask::Single { name, digest, .. } => put_single(head, writer, name, digest),
         Ask::Mount {
             name,
             digest,
             source,
-        } => put_mount(head, writer, name, digest, source),
+        } => {
+            let uploads = Target {
+                name,
+                kind: b"/blobs/uploads/",
+                behind: b"?mount=",
+            };
+            put_target(head, writer, b"POST", uploads);
+            put_mounted(head, writer, digest, source)
+        }
         Ask::Chunk { name, at, .. } => {
-            put_path(head, writer, b"PATCH", name, b"/blobs/uploads/", &at.text())
+            let text = at.text();
+            let upload = Target {
+                name,
+                kind: b"/blobs/uploads/",
+                behind: &text,
+            };
+            put_target(head, writer, b"PATCH", upload)
         }
         Ask::Status { name, at } => {
-            put_path(head, writer, b"GET", name, b"/blobs/uploads/", &at.text())
+            let text = at.text();
+            let upload = Target {
+                name,
+                kind: b"/blobs/uploads/",
+                behind: &text,
+            };
+            put_target(head, writer, b"GET", upload)
         }
         Ask::Close {
             name,
@@ -105,7 +140,13 @@ fn put_request_line<W: ByteSink>(head: &mut Gather, writer: &mut W, ask: &Ask)
             digest,
             ..
         } => {
-            put_path(head, writer, b"PUT", name, b"/blobs/uploads/", &at.text());
+            let text = at.text();
+            let upload = Target {
+                name,
+                kind: b"/blobs/uploads/",
+                behind: &text,
+            };
+            put_target(head, writer, b"PUT", upload);
             put_query(head, writer, digest)
         }
         Ask::Refused(_) => unreachable!(),
@@ -119,23 +160,16 @@ fn look_method(head: bool) -> &'static [u8]
     if head { b"HEAD" } else { b"GET" }
 }
 
-/// Puts a method and a path of the repository.
-fn put_path<W: ByteSink>(
-    head: &mut Gather,
-    writer: &mut W,
-    method: &[u8],
-    name: &RepoName,
-    kind: &[u8],
-    tail: &[u8],
-)
+/// Puts a method and a target.
+fn put_target<W: ByteSink>(head: &mut Gather, writer: &mut W, method: &[u8], target: Target<'_>)
     ensures { Puts (W.state writer.old) head.old (W.state writer.new) head.new
-        (method.now ++ (codes " /v2/" ++ (name.now ++ (kind.now ++ tail.now)))) }
+        (method.now ++ (codes " /v2/" ++ (target.entry.name.now ++ (target.entry.kind.now ++ target.entry.behind.now)))) }
 {
     head.put(writer, method);
     head.put(writer, b" /v2/");
-    head.put(writer, name.as_str().as_bytes());
-    head.put(writer, kind);
-    head.put(writer, tail);
+    head.put(writer, target.name.as_str().as_bytes());
+    head.put(writer, target.kind);
+    head.put(writer, target.behind);
 }
 
 /// Puts the line of a single POST.
@@ -149,36 +183,30 @@ fn put_single<W: ByteSink>(
         (W.state writer.new) head.new
         (codes "POST" ++ (codes " /v2/" ++ (name.now ++ (codes "/blobs/uploads/" ++ (codes "?digest=" ++ digest_or_nothing digest.now))))) }
 {
-    put_path(head, writer, b"POST", name, b"/blobs/uploads/", b"?digest=");
-    put_digest(head, writer, digest)
+    let uploads = Target {
+        name,
+        kind: b"/blobs/uploads/",
+        behind: b"?digest=",
+    };
+    put_target(head, writer, b"POST", uploads);
+    if let Some(digest) = digest {
+        head.put(writer, digest.text().as_bytes());
+    }
 }
 
-/// Puts the line of a mount.
-fn put_mount<W: ByteSink>(
+/// Puts the digest and the source of a mount.
+fn put_mounted<W: ByteSink>(
     head: &mut Gather,
     writer: &mut W,
-    name: &RepoName,
     digest: &BlobDigest,
     source: &RepoName,
 )
     ensures { Puts (W.state writer.old) head.old
-        (W.state writer.new) head.new
-        (codes "POST" ++ (codes " /v2/" ++ (name.now ++ (codes "/blobs/uploads/" ++ (codes "?mount=" ++ (digest_or_nothing (Some digest.now) ++ (codes "&from=" ++ source.now))))))) }
+        (W.state writer.new) head.new (digest_or_nothing (Some digest.now) ++ (codes "&from=" ++ source.now)) }
 {
-    put_path(head, writer, b"POST", name, b"/blobs/uploads/", b"?mount=");
     head.put(writer, digest.text().as_bytes());
     head.put(writer, b"&from=");
     head.put(writer, source.as_str().as_bytes());
-}
-
-/// Puts the text of a digest, or nothing.
-fn put_digest<W: ByteSink>(head: &mut Gather, writer: &mut W, digest: &Option<BlobDigest>)
-    ensures { Puts (W.state writer.old) head.old (W.state writer.new) head.new (digest_or_nothing digest.now) }
-{
-    match digest {
-        Some(digest) => head.put(writer, digest.text().as_bytes()),
-        None => head.put(writer, b""),
-    }
 }
 
 /// Puts the query of a close, where it has a digest.
@@ -191,7 +219,7 @@ fn put_query<W: ByteSink>(head: &mut Gather, writer: &mut W, digest: &Option<Blo
             head.put(writer, b"?digest=");
             head.put(writer, digest.text().as_bytes())
         }
-        None => head.put(writer, b""),
+        None => {}
     }
 }
 
@@ -250,7 +278,7 @@ fn put_range_field<W: ByteSink>(head: &mut Gather, writer: &mut W, range: &Exten
             head.put_number(writer, range.last);
             head.put(writer, b"\r\n")
         }
-        Extent::Absent => head.put(writer, b""),
+        Extent::Absent => {}
         Extent::Bad => unreachable!(),
     }
 }

@@ -3,9 +3,8 @@ ghost use Rattle.std.specs.Prelude.{◌≡◌, ◌++◌, IfOk, codes};
 ghost use Rattle.std.specs.Option.{option_copied};
 ghost use Rattle.upload_wire.specs.Heard.{reply_heard, of_upload, bare, after_front, place_in};
 
-use crate::client::framing::FramingFault;
 use crate::reply::{ErrorCode, refusal_code, refusal_status};
-use http_wire::{BodyFault, InputFault};
+use http_wire::{BodyFault, FramingFault, InputFault};
 use std::alloc::{AllocError, Global};
 use std::fmt;
 use upload_names::{Bytes, RepoName, UploadRef};
@@ -63,7 +62,7 @@ impl std::error::Error for HeardFault {}
 
 impl From<InputFault> for HeardFault {
     ghost use Rattle.std.specs.Prelude.{◌≡◌};
-    ghost use Rattle.upload_wire.specs.AnswerReading.{heard_of_input};
+    ghost use Rattle.upload_wire.specs.Inner.AnswerReading.{heard_of_input};
 
     ghost from_gives = { λ fault heard. heard ≡ heard_of_input fault };
 
@@ -77,7 +76,7 @@ impl From<InputFault> for HeardFault {
 
 impl From<BodyFault> for HeardFault {
     ghost use Rattle.std.specs.Prelude.{◌≡◌};
-    ghost use Rattle.upload_wire.specs.AnswerReading.{heard_of_body};
+    ghost use Rattle.upload_wire.specs.Inner.AnswerReading.{heard_of_body};
 
     ghost from_gives = { λ fault heard. heard ≡ heard_of_body fault };
 
@@ -101,7 +100,7 @@ pub enum SaidFault {
 
 impl From<FramingFault> for HeardFault {
     ghost use Rattle.std.specs.Prelude.{◌≡◌};
-    ghost use Rattle.upload_wire.specs.AnswerReading.{heard_of_framing};
+    ghost use Rattle.upload_wire.specs.Inner.AnswerReading.{heard_of_framing};
 
     ghost from_gives = { λ fault heard. heard ≡ heard_of_framing fault };
 
@@ -115,7 +114,7 @@ impl From<FramingFault> for HeardFault {
 
 impl From<SaidFault> for HeardFault {
     ghost use Rattle.std.specs.Prelude.{◌≡◌};
-    ghost use Rattle.upload_wire.specs.AnswerReading.{heard_of_said};
+    ghost use Rattle.upload_wire.specs.Inner.AnswerReading.{heard_of_said};
 
     ghost from_gives = { λ fault heard. heard ≡ heard_of_said fault };
 

@@ -135,50 +135,33 @@ impl<S: ByteSource, W: ByteSink> WireTransport<S, W> {
             None
         }
     }
-
-    /// Writes the request, reads its reply, and says what was heard of it.
-    fn exchange(&mut self, ask: &Ask) -> Option<Heard>
-        requires { CanBeWritten ask.now }
-        ensures { AsksOverWire self.old ask.now result self.new }
-    {
-        if !self.stays_open() {
-            self.broken = true;
-            return None;
-        }
-        let written = write_ask(&mut self.writer, ask, self.host.as_slice());
-        self.hear(written, !body_of(ask).is_empty(), wants_head(ask))
-    }
-}
-
-impl<S: ByteSource, W: ByteSink> WireTransport<S, W> {
-    /// The same of a chunk, from the bytes that are lent.
-    fn exchange_chunk(&mut self, chunk: &LentChunk<'_>) -> Option<Heard>
-        requires { CanBeWritten (ask_of_chunk chunk.now) }
-        ensures { AsksOverWire self.old (ask_of_chunk chunk.now) result self.new }
-    {
-        if !self.stays_open() {
-            self.broken = true;
-            return None;
-        }
-        let written = write_chunk(&mut self.writer, chunk, self.host.as_slice());
-        self.hear(written, !chunk.body.is_empty(), false)
-    }
 }
 
 impl<S: ByteSource, W: ByteSink> Transport for WireTransport<S, W> {
     ghost asked = { AsksOverWire };
 
+    /// Writes the request, reads its reply, and says what was heard of it.
     fn ask(&mut self, ask: Ask) -> Option<Heard> {
-        self.exchange(&ask)
+        if !self.stays_open() {
+            self.broken = true;
+            return None;
+        }
+        let written = write_ask(&mut self.writer, &ask, self.host.as_slice());
+        self.hear(written, !body_of(&ask).is_empty(), wants_head(&ask))
     }
 
-    /// The chunk is written from the bytes that are lent, so no memory is wanted for a copy.
+    /// The same of a chunk, which is written from the bytes that are lent, so no memory is wanted for a copy.
     fn ask_chunk(&mut self, chunk: &LentChunk<'_>) -> Result<Option<Heard>, AllocError>
         requires { CanBeWritten (ask_of_chunk chunk.now) }
         ensures asked { IfOk result (λ heard. AsksOverWire self.old (ask_of_chunk chunk.now) heard self.new) }
         ensures unasked { OnErr result (self.new ≡ self.old) }
         ensures answered { IsOk result }
     {
-        Ok(self.exchange_chunk(chunk))
+        if !self.stays_open() {
+            self.broken = true;
+            return Ok(None);
+        }
+        let written = write_chunk(&mut self.writer, chunk, self.host.as_slice());
+        Ok(self.hear(written, !chunk.body.is_empty(), false))
     }
 }

@@ -1,9 +1,9 @@
 //! What the replies to refused requests say (OCI Distribution Specification 1.1, section "Error Codes").
-ghost use Rattle.std.specs.Prelude.{◌≡◌, ◌≤◌, length};
+ghost use Rattle.std.specs.Prelude.{◌≡◌};
 ghost use Rattle.upload_wire.specs.ReplyText.{methods, refusal_code, refusal_status};
 
 use super::error::ErrorCode;
-use super::status::Status;
+use http_wire::Status;
 use upload_service::{Form, Refusal};
 
 /// The status of the reply to a refused request.
@@ -43,8 +43,7 @@ pub(crate) fn refusal_code(refusal: Refusal) -> ErrorCode
 
 /// The methods that a form of path takes.
 pub(super) fn methods(form: Form) -> &'static str
-    ensures methods { result.now ≡ methods form }
-    ensures short { length result.now ≤ 21 }
+    ensures { result.now ≡ methods form }
 {
     match form {
         Form::Base | Form::Blob => "GET, HEAD",

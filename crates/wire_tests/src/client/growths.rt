@@ -4,7 +4,7 @@
 use super::{Told, as_told};
 use crate::answers::{Said, answer_of};
 use crate::expect::{holds, same, same_bytes};
-use crate::memory::MemorySource;
+use memory_ends::MemorySource;
 use std::alloc::{AllocError, Global};
 use std::process::Abort;
 use std::test::Fail;

@@ -3,7 +3,7 @@
 
 use super::{Kind, kind_of, reader_of};
 use crate::expect::same;
-use crate::memory::MemorySource;
+use memory_ends::MemorySource;
 use std::alloc::{AllocError, Global};
 use std::process::Abort;
 use std::test::Fail;

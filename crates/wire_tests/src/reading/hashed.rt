@@ -5,7 +5,7 @@ ghost use Rattle.std.specs.Prelude.{◌<◌};
 use super::{DIGEST, OPENING, UPLOAD};
 use crate::content::content;
 use crate::expect::same;
-use crate::memory::{MemorySink, MemorySource};
+use memory_ends::{MemorySink, MemorySource};
 use std::alloc::Global;
 use std::process::Abort;
 use std::test::Fail;

@@ -6,7 +6,7 @@ use super::{KEPT, counted};
 use crate::answers::lib_a;
 use crate::content::content;
 use crate::expect::{holds, same, same_bytes};
-use crate::memory::MemorySink;
+use memory_ends::MemorySink;
 use std::alloc::{AllocError, Global};
 use std::process::Abort;
 use std::test::Fail;

@@ -1,8 +1,8 @@
 use Rattle.std.proofs.Common.{sym, subst}
 use Rattle.std.specs.Prelude.{Err}
 use Rattle.std.proofs.lemmas.Result.{err_from_is_err_and}
-use Rattle.http_wire.specs.BodyReading.{Moved, ReadsBytes}
-use Rattle.http_wire.specs.BodyFinding.{TakesBody, FindsBody}
+use Rattle.http_wire.specs.Inner.BodyReading.{Moved, ReadsBytes}
+use Rattle.http_wire.specs.Inner.BodyFinding.{TakesBody, FindsBody}
 use Rattle.http_wire.proofs.ChunkReadLemmas.{length_whole, length_fault}
 use Rattle.http_wire.proofs.body.read_body.Goals as goal
 
@@ -10,9 +10,9 @@ pub returns-in_ok-read_bytes-in-Length-clause-found : goal.returns-in_ok-read_by
 returns-in_ok-read_bytes-in-Length-clause-found g c =
     let moved = subst (λ body. Moved (g.S.ByteSource.state c.args.source.now) c.args.buffer.now body
     (g.S.ByteSource.state c.read_bytes.new.source) c.read_bytes.new.buffer (g.B.BodyBuffer.bytes c.read_bytes.new.body) c.in-Length.length) c.requires.empty c.in_ok-read_bytes-in-Length.ensures.found in
-    subst (λ f. TakesBody c.args.max_body f (g.S.ByteSource.state c.args.source.now) c.args.buffer.now
+    subst (λ f. TakesBody f (g.S.ByteSource.state c.args.source.now) c.args.buffer.now
     (g.S.ByteSource.state c.read_bytes.new.source) c.read_bytes.new.buffer (g.B.BodyBuffer.bytes c.read_bytes.new.body)) (sym c.in-Length.is)
-    (length_whole c.args.max_body c.in-Length.length _ _ c.args.buffer.now c.read_bytes.new.buffer (g.B.BodyBuffer.bytes c.read_bytes.new.body) moved)
+    (length_whole c.in-Length.length _ _ c.args.buffer.now c.read_bytes.new.buffer (g.B.BodyBuffer.bytes c.read_bytes.new.body) moved)
 
 pub returns-in_err-read_bytes-in-Length-clause-found : goal.returns-in_err-read_bytes-in-Length-clause-found
 returns-in_err-read_bytes-in-Length-clause-found g c =
@@ -21,6 +21,6 @@ returns-in_err-read_bytes-in-Length-clause-found g c =
     (g.S.ByteSource.state c.read_bytes.new.source) c.read_bytes.new.buffer (g.B.BodyBuffer.bytes c.read_bytes.new.body) c.in-Length.length (Err c.in_err-read_bytes-in-Length.field-0.0))
     c.requires.empty c.in_err-read_bytes-in-Length.ensures.found in
     rw (p.1, p.2)
-    (subst (λ f. FindsBody c.args.max_body f (g.S.ByteSource.state c.args.source.now) c.args.buffer.now
+    (subst (λ f. FindsBody f (g.S.ByteSource.state c.args.source.now) c.args.buffer.now
     (g.S.ByteSource.state c.read_bytes.new.source) c.read_bytes.new.buffer (g.B.BodyBuffer.bytes c.read_bytes.new.body) (Err c.in_err-read_bytes-in-Length.field-0.0)) (sym c.in-Length.is)
-    (length_fault c.args.max_body c.in-Length.length _ _ c.args.buffer.now c.read_bytes.new.buffer (g.B.BodyBuffer.bytes c.read_bytes.new.body) c.in_err-read_bytes-in-Length.field-0.0 found))
+    (length_fault c.in-Length.length _ _ c.args.buffer.now c.read_bytes.new.buffer (g.B.BodyBuffer.bytes c.read_bytes.new.body) c.in_err-read_bytes-in-Length.field-0.0 found))

@@ -1,6 +1,6 @@
 use Rattle.std.proofs.Common.{◌≡◌, ◌-◌, ◌+◌, arith, subst, ◌∙◌}
 use Rattle.std.proofs.lemmas.Result.{err_from_is_err_and}
-use Rattle.http_wire.specs.BodyReading.{Moved}
+use Rattle.http_wire.specs.Inner.BodyReading.{Moved}
 use Rattle.http_wire.proofs.MovedLemmas.{moved_both, bytes_fault}
 use Rattle.http_wire.proofs.body.read_bytes.Goals as goal
 

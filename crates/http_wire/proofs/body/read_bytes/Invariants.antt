@@ -1,6 +1,6 @@
 use Rattle.std.proofs.Common.{◌≡◌, ◌-◌, ◌≤◌}
 use Rattle.http_wire.specs.Counts.{CountsAtMost}
-use Rattle.http_wire.specs.BodyReading.{Moved}
+use Rattle.http_wire.specs.Inner.BodyReading.{Moved}
 use Rattle.http_wire.proofs.body.read_bytes.Given as goal
 
 abbrev pub invariant-loop-left : goal.invariant-loop-left

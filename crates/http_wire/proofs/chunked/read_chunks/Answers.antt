@@ -1,8 +1,8 @@
 use Rattle.std.proofs.Common.{◌≡◌, ◌∙◌, arith, ◌-◌, ◌+◌, length, ap, sym, subst, refl, length-append}
 use Rattle.std.specs.Prelude.{Ok, Err}
 use Rattle.std.proofs.lemmas.Result.{err_from_is_err_and}
-use Rattle.http_wire.specs.ChunkReading.{FindsChunk, TakesChunk}
-use Rattle.http_wire.specs.ChunksRead.{AreTaken}
+use Rattle.http_wire.specs.Inner.ChunkReading.{FindsChunk, TakesChunk}
+use Rattle.http_wire.specs.Inner.ChunksRead.{AreTaken}
 use Rattle.http_wire.proofs.ChunkReadLemmas.{taken_nothing, taken_more, body_whole, body_refused, body_fault}
 use Rattle.http_wire.proofs.chunked.read_chunks.Goals as goal
 
@@ -11,8 +11,8 @@ ok-not-err a b e = cc
 
 pub loop-chunk-init : goal.loop-chunk-init
 loop-chunk-init g c = record {
-  taken = subst (λ body. AreTaken c.args.max_body (g.S.ByteSource.state c.args.source.now) c.args.buffer.now (g.S.ByteSource.state c.args.source.now) c.args.buffer.now body)
-      (sym c.requires.empty) (taken_nothing c.args.max_body _ c.args.buffer.now);
+  taken = subst (λ body. AreTaken c.args.most (g.S.ByteSource.state c.args.source.now) c.args.buffer.now (g.S.ByteSource.state c.args.source.now) c.args.buffer.now body)
+      (sym c.requires.empty) (taken_nothing c.args.most _ c.args.buffer.now);
   filled = omega arith;
   reads = λ _. omega arith;
   unfailed = refl;
@@ -20,8 +20,8 @@ loop-chunk-init g c = record {
 
 pub loop-chunk-preserved : goal.loop-chunk-preserved
 loop-chunk-preserved g c =
-    let h : TakesChunk (c.args.max_body - c.len.result) (g.S.ByteSource.state c.loop-chunk.source) c.loop-chunk.buffer (g.B.BodyBuffer.bytes c.loop-chunk.body)
-    (g.S.ByteSource.state c.read_chunk.new.source) c.read_chunk.new.buffer (g.B.BodyBuffer.bytes c.read_chunk.new.body) = subst (λ r. FindsChunk (c.args.max_body - c.len.result) (g.S.ByteSource.state c.loop-chunk.source) c.loop-chunk.buffer (g.B.BodyBuffer.bytes c.loop-chunk.body)
+    let h : TakesChunk (c.args.most - c.len.result) (g.S.ByteSource.state c.loop-chunk.source) c.loop-chunk.buffer (g.B.BodyBuffer.bytes c.loop-chunk.body)
+    (g.S.ByteSource.state c.read_chunk.new.source) c.read_chunk.new.buffer (g.B.BodyBuffer.bytes c.read_chunk.new.body) = subst (λ r. FindsChunk (c.args.most - c.len.result) (g.S.ByteSource.state c.loop-chunk.source) c.loop-chunk.buffer (g.B.BodyBuffer.bytes c.loop-chunk.body)
     (g.S.ByteSource.state c.read_chunk.new.source) c.read_chunk.new.buffer (g.B.BodyBuffer.bytes c.read_chunk.new.body) (Ok r))
     c.in-More.is c.in_ok-read_chunk.ensures.found in
     let taken = c.loop-chunk.invariant.taken in
@@ -30,7 +30,7 @@ loop-chunk-preserved g c =
     let grown : length (g.B.BodyBuffer.bytes c.read_chunk.new.body) ≡ length (g.B.BodyBuffer.bytes c.loop-chunk.body) + length h.chunk.data_bytes =
     ap length h.joined ∙ length-append (g.B.BodyBuffer.bytes c.loop-chunk.body) h.chunk.data_bytes in
     record {
-      taken = taken_more c.args.max_body _ _ _ _ c.args.buffer.now c.loop-chunk.buffer c.read_chunk.new.buffer (g.B.BodyBuffer.bytes c.loop-chunk.body) (g.B.BodyBuffer.bytes c.read_chunk.new.body)
+      taken = taken_more c.args.most _ _ _ _ c.args.buffer.now c.loop-chunk.buffer c.read_chunk.new.buffer (g.B.BodyBuffer.bytes c.loop-chunk.body) (g.B.BodyBuffer.bytes c.read_chunk.new.body)
           (omega arith) taken h;
       filled = omega (arith, filled, some, grown);
       reads = λ low. let before = c.loop-chunk.invariant.reads (omega (arith, low, grown)) in
@@ -40,23 +40,23 @@ loop-chunk-preserved g c =
 
 pub returns-in-Last-clause-found : goal.returns-in-Last-clause-found
 returns-in-Last-clause-found g c =
-    let found = subst (λ r. FindsChunk (c.args.max_body - c.len.result) (g.S.ByteSource.state c.loop-chunk.source) c.loop-chunk.buffer (g.B.BodyBuffer.bytes c.loop-chunk.body)
+    let found = subst (λ r. FindsChunk (c.args.most - c.len.result) (g.S.ByteSource.state c.loop-chunk.source) c.loop-chunk.buffer (g.B.BodyBuffer.bytes c.loop-chunk.body)
     (g.S.ByteSource.state c.read_chunk.new.source) c.read_chunk.new.buffer (g.B.BodyBuffer.bytes c.read_chunk.new.body) (Ok r))
     c.in-Last.is c.in_ok-read_chunk.ensures.found in
-    body_whole c.args.max_body _ _ _ c.args.buffer.now c.loop-chunk.buffer c.read_chunk.new.buffer (g.B.BodyBuffer.bytes c.loop-chunk.body) (g.B.BodyBuffer.bytes c.read_chunk.new.body)
+    body_whole c.args.most _ _ _ c.args.buffer.now c.loop-chunk.buffer c.read_chunk.new.buffer (g.B.BodyBuffer.bytes c.loop-chunk.body) (g.B.BodyBuffer.bytes c.read_chunk.new.body)
     c.loop-chunk.invariant.taken found
 
 pub returns-in-Refused-clause-found : goal.returns-in-Refused-clause-found
 returns-in-Refused-clause-found g c =
-    let found = subst (λ r. FindsChunk (c.args.max_body - c.len.result) (g.S.ByteSource.state c.loop-chunk.source) c.loop-chunk.buffer (g.B.BodyBuffer.bytes c.loop-chunk.body)
+    let found = subst (λ r. FindsChunk (c.args.most - c.len.result) (g.S.ByteSource.state c.loop-chunk.source) c.loop-chunk.buffer (g.B.BodyBuffer.bytes c.loop-chunk.body)
     (g.S.ByteSource.state c.read_chunk.new.source) c.read_chunk.new.buffer (g.B.BodyBuffer.bytes c.read_chunk.new.body) (Ok r))
     c.in-Refused.is c.in_ok-read_chunk.ensures.found in
-    body_refused c.args.max_body _ _ _ _ c.args.buffer.now c.loop-chunk.buffer (g.B.BodyBuffer.bytes c.loop-chunk.body) c.in-Refused.bad
+    body_refused c.args.most _ _ _ _ c.args.buffer.now c.loop-chunk.buffer (g.B.BodyBuffer.bytes c.loop-chunk.body) c.in-Refused.bad
     (omega arith) c.loop-chunk.invariant.taken found
 
 pub returns-in_err-read_chunk-clause-found : goal.returns-in_err-read_chunk-clause-found
 returns-in_err-read_chunk-clause-found g c =
     let p = err_from_is_err_and c.from_residual.result c.from_residual.ensures.1 in
     rw (p.1, p.2)
-    (body_fault c.args.max_body _ _ _ _ c.args.buffer.now c.loop-chunk.buffer c.read_chunk.new.buffer (g.B.BodyBuffer.bytes c.loop-chunk.body) (g.B.BodyBuffer.bytes c.read_chunk.new.body)
+    (body_fault c.args.most _ _ _ _ c.args.buffer.now c.loop-chunk.buffer c.read_chunk.new.buffer (g.B.BodyBuffer.bytes c.loop-chunk.body) (g.B.BodyBuffer.bytes c.read_chunk.new.body)
     c.in_err-read_chunk.field-0.0 (omega arith) c.loop-chunk.invariant.taken c.in_err-read_chunk.ensures.found)

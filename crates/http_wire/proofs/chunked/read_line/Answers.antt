@@ -1,7 +1,7 @@
 use Rattle.std.proofs.Common.{◌≡◌, ◌∙◌, sym, ap, subst, arith, ◌+◌, ◌<◌, ◌++◌, ◌∷◌, [], take, length, get_or}
 use Rattle.std.proofs.lemmas.Result.{err_from_is_err_and}
-use Rattle.http_wire.specs.SizeLines.{StandsAt}
-use Rattle.http_wire.specs.ChunkReading.{TakesLine}
+use Rattle.http_wire.specs.Inner.SizeLines.{StandsAt}
+use Rattle.http_wire.specs.Inner.ChunkReading.{TakesLine}
 use Rattle.http_wire.proofs.GaveLemmas.{gave_both}
 use Rattle.http_wire.proofs.HeadLemmas.{take-next}
 use Rattle.http_wire.proofs.LineReadLemmas.{bounded, front_kept, line_taken, line_broken, line_cut}

@@ -1,7 +1,7 @@
 use Rattle.std.proofs.Common.{take, ◌≡◌, ◌≤◌, length}
 use Rattle.http_wire.specs.Counts.{CountsAtMost}
 use Rattle.http_wire.specs.Reading.{Gave}
-use Rattle.http_wire.specs.SizeLines.{StandsAt}
+use Rattle.http_wire.specs.Inner.SizeLines.{StandsAt}
 use Rattle.http_wire.proofs.chunked.read_line.Given as goal
 
 abbrev pub invariant-loop-at : goal.invariant-loop-at

@@ -3,7 +3,7 @@ use Rattle.std.specs.Prelude.{codes}
 use Rattle.std.proofs.lemmas.Iterator.Consumers.{YieldsList-from_first}
 use Rattle.std.proofs.lemmas.Iterator.Search.{any_from_yields_List}
 use Rattle.http_wire.specs.Fields.{same_word, lists_close}
-use Rattle.http_wire.specs.FieldReading.{elements_left}
+use Rattle.http_wire.specs.Inner.FieldReading.{elements_left}
 use Rattle.http_wire.proofs.fields.has_close.Goals as goal
 
 pub returns : goal.returns

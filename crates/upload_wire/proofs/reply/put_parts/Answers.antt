@@ -2,7 +2,7 @@ use Rattle.std.proofs.Common.{◌≡◌, ◌++◌, ◌+◌, List, ℕ, length, t
 use Rattle.std.specs.List.{concat}
 use Rattle.std.proofs.lemmas.List.{append-nil}
 use Rattle.std.proofs.Math.Seq.{take-length}
-use Rattle.http_wire.specs.Gathering.{Gathered}
+use Rattle.http_wire.specs.Inner.Gathering.{Gathered}
 use Rattle.http_wire.proofs.WritingLemmas.{concat-take_next}
 use Rattle.upload_wire.proofs.reply.put_parts.Goals as goal
 

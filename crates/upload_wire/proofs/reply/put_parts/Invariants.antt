@@ -1,7 +1,7 @@
 use Rattle.std.proofs.Common.{List, ℕ, ◌++◌, take}
 use Rattle.std.specs.List.{concat}
 use Rattle.http_wire.specs.States.{SinkState}
-use Rattle.http_wire.specs.Gathering.{Gathered}
+use Rattle.http_wire.specs.Inner.Gathering.{Gathered}
 use Rattle.upload_wire.proofs.reply.put_parts.Given as goal
 
 abbrev pub invariant-loop-part : goal.invariant-loop-part

@@ -1,19 +1,38 @@
-use Rattle.std.proofs.Common.{◌++◌, subst}
-use Rattle.std.specs.Prelude.{Err}
+use Rattle.std.proofs.Common.{◌++◌, subst, take}
+use Rattle.std.specs.Prelude.{Ok, Err}
 use Rattle.std.proofs.lemmas.Result.{err_from_is_err_and}
-use Rattle.http_wire.specs.RequestSpans.{request_spans}
-use Rattle.http_wire.specs.HeadReading.{FindsHead}
-use Rattle.upload_wire.proofs.RequestLemmas.{head_fault_next, reads_after}
+use Rattle.http_wire.specs.Inner.RequestSpans.{IsHeadAtFront, request_spans}
+use Rattle.http_wire.specs.Inner.HeadReading.{FindsHead}
+use Rattle.upload_wire.specs.Inner.RequestReading.{Describes, FindsRequest}
+use Rattle.upload_wire.specs.declared.request.Next.TheVariants.{Bad}
+use Rattle.upload_wire.proofs.RequestLemmas.{head_fault_next, bad_framing_next, request_next, reads_after}
 use Rattle.http_wire.proofs.RequestLaws.{request_laws}
 use Rattle.upload_wire.proofs.request.read_next.Goals as goal
 
 pub read_head-requires : goal.read_head-requires
 read_head-requires g c = record { lawful = request_laws }
 
-pub returns-in-Head-clause-found : goal.returns-in-Head-clause-found
-returns-in-Head-clause-found g c =
-    reads_after c.args.max_body c.args.buffer.now c.read_head.new.buffer c.read_request.new.buffer
-    _ _ _ c.read_request.result c.in_ok-parsed.ensures.gave c.read_request.ensures.found
+pub returns-in-Ok-clause-found : goal.returns-in-Ok-clause-found
+returns-in-Ok-clause-found g c =
+    let p = c.in-Head.parsed in
+    let text = c.read_head.new.buffer in
+    let front : IsHeadAtFront text p = subst (λ r. FindsHead request_spans text (g.S.ByteSource.state c.read_head.new.source) (Ok r)) c.in-Head.is c.in_ok-parsed.ensures.found in
+    let says = subst (λ t. Describes c.args.max_body (take p.spans.len t) p (Ok (Ok c.in-Ok.described))) c.as_slice.ensures
+    (subst (λ r. Describes c.args.max_body (take p.spans.len c.as_slice.result.now) p (Ok r)) c.in-Ok.is c.in_ok-described-in-Head.ensures.found) in
+    let found = subst (λ t. FindsRequest c.in-Ok.described (g.S.ByteSource.state c.read_head.new.source) t
+    (g.S.ByteSource.state c.read_request.new.source) c.read_request.new.buffer c.read_request.result) c.consume.ensures c.read_request.ensures.found in
+    reads_after c.args.max_body c.args.buffer.now text c.read_request.new.buffer _ _ _ c.read_request.result c.in_ok-parsed.ensures.gave
+    (request_next c.args.max_body _ _ text c.read_request.new.buffer p c.in-Ok.described c.read_request.result front says found)
+
+pub returns-in-Err-clause-found : goal.returns-in-Err-clause-found
+returns-in-Err-clause-found g c =
+    let p = c.in-Head.parsed in
+    let text = c.read_head.new.buffer in
+    let front : IsHeadAtFront text p = subst (λ r. FindsHead request_spans text (g.S.ByteSource.state c.read_head.new.source) (Ok r)) c.in-Head.is c.in_ok-parsed.ensures.found in
+    let refused = subst (λ t. Describes c.args.max_body (take p.spans.len t) p (Ok (Err c.in-Err.bad))) c.as_slice.ensures
+    (subst (λ r. Describes c.args.max_body (take p.spans.len c.as_slice.result.now) p (Ok r)) c.in-Err.is c.in_ok-described-in-Head.ensures.found) in
+    reads_after c.args.max_body c.args.buffer.now text text _ _ _ (Ok (Bad c.in-Err.bad)) c.in_ok-parsed.ensures.gave
+    (bad_framing_next c.args.max_body _ text text p c.in-Err.bad front refused)
 
 pub returns-in_err-parsed-clause-found : goal.returns-in_err-parsed-clause-found
 returns-in_err-parsed-clause-found g c =

@@ -1,6 +1,6 @@
 use Rattle.std.proofs.Common.{◌∙◌, sym, ap, subst, ◌++◌}
 use Rattle.http_wire.specs.Writing.{Wrote}
-use Rattle.http_wire.specs.Gathering.{Held}
+use Rattle.http_wire.specs.Inner.Gathering.{Held}
 use Rattle.http_wire.proofs.GatherLemmas.{end_failed, write_held}
 use Rattle.http_wire.proofs.gather.Gather.finish.Goals as goal
 

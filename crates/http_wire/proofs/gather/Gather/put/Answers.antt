@@ -1,6 +1,6 @@
 use Rattle.std.proofs.Common.{◌∙◌, sym, ap, subst, ◌++◌}
 use Rattle.http_wire.specs.Writing.{Wrote}
-use Rattle.http_wire.specs.Gathering.{Held}
+use Rattle.http_wire.specs.Inner.Gathering.{Held}
 use Rattle.http_wire.proofs.GatherLemmas.{put_failed, put_held, write_held, gathered_after, given_ok, given_err}
 use Rattle.http_wire.proofs.gather.Gather.put.Goals as goal
 

@@ -1,5 +1,5 @@
 use Rattle.std.proofs.Common.{subst, append_assoc}
-use Rattle.http_wire.specs.Gathering.{Gathered}
+use Rattle.http_wire.specs.Inner.Gathering.{Gathered}
 use Rattle.upload_wire.proofs.client.ask.put_body_fields.Goals as goal
 
 pub returns : goal.returns

@@ -1,9 +1,9 @@
 use Rattle.std.proofs.Common.{◌∙◌, sym, ap, subst, ◌++◌}
 use Rattle.std.specs.Prelude.{flat_map}
 use Rattle.upload_names.specs.ByteRange.{Span}
-use Rattle.http_wire.specs.Gathering.{Gathered}
+use Rattle.http_wire.specs.Inner.Gathering.{Gathered}
 use Rattle.upload_wire.specs.AskText.{range_fields}
-use Rattle.upload_wire.specs.ReplyText.{print_field}
+use Rattle.http_wire.specs.HeadText.{print_field}
 use Rattle.upload_wire.proofs.AskTextLemmas.{range_text_is}
 use Rattle.upload_wire.proofs.client.ask.put_range_field.Goals as goal
 

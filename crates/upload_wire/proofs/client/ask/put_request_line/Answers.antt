@@ -1,7 +1,7 @@
 use Rattle.std.proofs.Common.{◌∙◌, sym, ap, subst, ◌++◌}
-use Rattle.http_wire.specs.Gathering.{Gathered}
+use Rattle.http_wire.specs.Inner.Gathering.{Gathered}
 use Rattle.upload_wire.specs.AskText.{request_line, message_of}
-use Rattle.upload_wire.proofs.AskTextLemmas.{single_line, mount_line, chunk_line, status_line, close_line}
+use Rattle.upload_wire.proofs.AskTextLemmas.{single_line, mount_put, chunk_line, status_line, close_line}
 use Rattle.upload_wire.proofs.client.ask.put_request_line.Goals as goal
 
 pub returns-in-Single : goal.returns-in-Single
@@ -11,24 +11,25 @@ returns-in-Single g c = λ start before held.
 
 pub returns-in-Mount : goal.returns-in-Mount
 returns-in-Mount g c = λ start before held.
-    subst (λ t. Gathered start (g.W.ByteSink.state c.put_mount.new.writer) c.put_mount.new.head (before ++ t))
-    (mount_line c.in-Mount.name c.in-Mount.digest c.in-Mount.source ∙ ap (λ a. request_line (message_of a)) (sym c.in-Mount.is)) (c.put_mount.ensures start before held)
+    let put = c.put_mounted.ensures start _ (c.put_target-in-Mount.ensures start before held) in
+    subst (Gathered start (g.W.ByteSink.state c.put_mounted.new.writer) c.put_mounted.new.head)
+    (mount_put before c.in-Mount.name c.in-Mount.digest c.in-Mount.source ∙ ap (λ a. before ++ request_line (message_of a)) (sym c.in-Mount.is)) put
 
 pub returns-in-Chunk : goal.returns-in-Chunk
 returns-in-Chunk g c = λ start before held.
-    subst (λ t. Gathered start (g.W.ByteSink.state c.put_path-in-Chunk.new.writer) c.put_path-in-Chunk.new.head (before ++ t))
-    (chunk_line c.in-Chunk.name c.in-Chunk.at c.in-Chunk.range c.in-Chunk.body c.text-in-Chunk.result c.text-in-Chunk.ensures.text ∙ ap (λ a. request_line (message_of a)) (sym c.in-Chunk.is))
-    (c.put_path-in-Chunk.ensures start before held)
+    subst (λ t. Gathered start (g.W.ByteSink.state c.put_target-in-Chunk.new.writer) c.put_target-in-Chunk.new.head (before ++ t))
+    (chunk_line c.in-Chunk.name c.in-Chunk.at c.in-Chunk.range c.in-Chunk.body c.text-text-in-Chunk.result c.text-text-in-Chunk.ensures.text ∙ ap (λ a. request_line (message_of a)) (sym c.in-Chunk.is))
+    (c.put_target-in-Chunk.ensures start before held)
 
 pub returns-in-Status : goal.returns-in-Status
 returns-in-Status g c = λ start before held.
-    subst (λ t. Gathered start (g.W.ByteSink.state c.put_path-in-Status.new.writer) c.put_path-in-Status.new.head (before ++ t))
-    (status_line c.in-Status.name c.in-Status.at c.text-in-Status.result c.text-in-Status.ensures.text ∙ ap (λ a. request_line (message_of a)) (sym c.in-Status.is))
-    (c.put_path-in-Status.ensures start before held)
+    subst (λ t. Gathered start (g.W.ByteSink.state c.put_target-in-Status.new.writer) c.put_target-in-Status.new.head (before ++ t))
+    (status_line c.in-Status.name c.in-Status.at c.text-text-in-Status.result c.text-text-in-Status.ensures.text ∙ ap (λ a. request_line (message_of a)) (sym c.in-Status.is))
+    (c.put_target-in-Status.ensures start before held)
 
 pub returns-in-Close : goal.returns-in-Close
 returns-in-Close g c = λ start before held.
-    let put = c.put_query.ensures start _ (c.put_path-in-Close.ensures start before held) in
+    let put = c.put_query.ensures start _ (c.put_target-in-Close.ensures start before held) in
     subst (Gathered start (g.W.ByteSink.state c.put_query.new.writer) c.put_query.new.head)
-    (close_line before c.in-Close.name c.in-Close.at c.in-Close.range c.in-Close.digest c.in-Close.body c.text-in-Close.result c.text-in-Close.ensures.text
+    (close_line before c.in-Close.name c.in-Close.at c.in-Close.range c.in-Close.digest c.in-Close.body c.text-text-in-Close.result c.text-text-in-Close.ensures.text
     ∙ ap (λ a. before ++ request_line (message_of a)) (sym c.in-Close.is)) put

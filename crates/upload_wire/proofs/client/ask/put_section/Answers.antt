@@ -1,5 +1,5 @@
 use Rattle.std.proofs.Common.{sym, ap, subst, ◌++◌, inl, inr}
-use Rattle.http_wire.specs.Gathering.{Gathered}
+use Rattle.http_wire.specs.Inner.Gathering.{Gathered}
 use Rattle.upload_wire.specs.AskText.{message_of, section_text}
 use Rattle.upload_wire.proofs.client.ask.put_section.Goals as goal
 

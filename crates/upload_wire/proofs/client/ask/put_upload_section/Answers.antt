@@ -1,5 +1,5 @@
 use Rattle.std.proofs.Common.{subst}
-use Rattle.http_wire.specs.Gathering.{Gathered}
+use Rattle.http_wire.specs.Inner.Gathering.{Gathered}
 use Rattle.upload_wire.proofs.AskTextLemmas.{upload_section}
 use Rattle.upload_wire.proofs.client.ask.put_upload_section.Goals as goal
 

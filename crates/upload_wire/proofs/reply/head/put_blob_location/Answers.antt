@@ -1,6 +1,6 @@
 use Rattle.std.proofs.Common.{◌∙◌, subst}
 use Rattle.upload_wire.proofs.ReplyLemmas.{blob_text}
-use Rattle.http_wire.specs.Gathering.{Gathered}
+use Rattle.http_wire.specs.Inner.Gathering.{Gathered}
 use Rattle.upload_wire.proofs.reply.head.put_blob_location.Goals as goal
 
 pub returns : goal.returns

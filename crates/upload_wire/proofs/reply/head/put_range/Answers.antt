@@ -1,6 +1,6 @@
 use Rattle.std.proofs.Common.{subst}
 use Rattle.std.proofs.lemmas.List.{append-nil}
-use Rattle.http_wire.specs.Gathering.{Gathered}
+use Rattle.http_wire.specs.Inner.Gathering.{Gathered}
 use Rattle.upload_wire.proofs.ReplyLemmas.{range_text}
 use Rattle.upload_wire.proofs.reply.head.put_range.Goals as goal
 

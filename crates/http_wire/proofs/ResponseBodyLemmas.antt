@@ -1,0 +1,84 @@
+-- The body of a response, from the bytes that were moved.
+use Rattle.std.proofs.Common.{◌≡◌, ℕ, ◌+◌, List, [], ◌++◌, length, refl, sym, ap, ◌∙◌, arith, length-append}
+use Rattle.std.specs.Prelude.{Result, Ok, Err}
+use Rattle.std.specs.Io.KnownBytes.{IsAtEnd}
+use Rattle.http_wire.specs.States.{SourceState}
+use Rattle.http_wire.specs.Inner.BodyReading.{Moved, MovedNone, MovedAll, ReadsBytes}
+use Rattle.http_wire.specs.Inner.ResponseBodyFinding.{FindsBody, end_of}
+use Rattle.http_wire.specs.declared.responses.framing.ResponseFraming.{ResponseFraming}
+use Rattle.http_wire.specs.declared.responses.framing.ResponseFraming.TheVariants.{Length, ToEnd}
+use Rattle.http_wire.specs.declared.responses.body.ResponseBodyEnd.TheVariants.{Whole, TooLarge}
+use Rattle.http_wire.specs.declared.fault.BodyFault.{BodyFault}
+use Rattle.http_wire.specs.declared.fault.BodyFault.TheVariants as Fault
+use Rattle.http_wire.proofs.MovedLemmas.{stops}
+
+pub err_same : {A E : Type 0} (e f : E) → ◌≡◌ {A = Result A E} (Err e) (Err f) → e ≡ f
+err_same e f h = cc
+
+body_is : (before bytes after : List ℕ) → before ≡ [] → after ≡ before ++ bytes → after ≡ bytes
+body_is before bytes after none e = e ∙ ap (λ t. t ++ bytes) none
+
+pub body_whole : (old new : SourceState) (held before rest after : List ℕ) (n : ℕ) → before ≡ [] → Moved old held before new rest after n
+    → FindsBody (Length n) held old after rest new (Ok Whole)
+body_whole old new held before rest after n none m =
+    let same = body_is before m.bytes after none m.joined in
+    record { text = m.bytes ++ rest; gave = m.gave; found = (ap (λ t. t ++ rest) (sym same), ap length same ∙ m.counted) }
+
+body_cut : (old new : SourceState) (held before rest after : List ℕ) (n : ℕ) → MovedAll old held before new rest after n → IsAtEnd new.remaining
+    → FindsBody (Length n) held old after rest new (Err Fault.Truncated)
+body_cut old new held before rest after n m end =
+    let s = stops old new held before rest after n m in record { text = s.text; gave = s.gave; found = (s.short, end) }
+
+body_unread : (old new : SourceState) (held before rest after : List ℕ) (n : ℕ) → MovedAll old held before new rest after n
+    → FindsBody (Length n) held old after rest new (Err Fault.Read)
+body_unread old new held before rest after n m =
+    let s = stops old new held before rest after n m in record { text = s.text; gave = s.gave; found = s.short }
+
+body_unmoved : (framing : ResponseFraming) (old new : SourceState) (held rest after : List ℕ) → MovedNone old held new
+    → FindsBody framing held old after rest new (Err Fault.NoMemory)
+body_unmoved framing old new held rest after m = record { text = m.text; gave = m.gave; found = tt }
+
+-- a body of a said length that didn't come whole
+pub length_fault : (old new : SourceState) (held before rest after : List ℕ) (n : ℕ) (e : BodyFault)
+    → ReadsBytes old held before new rest after n (Err e) → FindsBody (Length n) held old after rest new (Err e)
+length_fault old new held before rest after n Fault.Truncated m = body_cut old new held before rest after n m.0 m.1
+length_fault old new held before rest after n Fault.Read m = body_unread old new held before rest after n m
+length_fault old new held before rest after n Fault.NoMemory m = body_unmoved (Length n) old new held rest after m
+
+-- a body up to the end
+pub long_body : (old new : SourceState) (held before rest after : List ℕ) (most : ℕ) → Moved old held before new rest after (most + 1)
+    → FindsBody (ToEnd most) held old after rest new (Ok TooLarge)
+long_body old new held before rest after most m =
+    let counted = m.counted in
+    record { text = m.bytes ++ rest; gave = m.gave; found = omega (arith, counted, length-append m.bytes rest) }
+
+ended_body : (old new : SourceState) (held before rest after : List ℕ) (most : ℕ) → before ≡ [] → MovedAll old held before new rest after (most + 1)
+    → IsAtEnd new.remaining → FindsBody (ToEnd most) held old after rest new (Ok Whole)
+ended_body old new held before rest after most none m end =
+    let same = body_is before m.bytes.bytes after none m.bytes.joined in
+    let lengths = ap length same in
+    let few = m.few in
+    let counted = m.bytes.counted in
+    record {
+      text = m.bytes.bytes ++ rest;
+      gave = m.bytes.gave;
+      found = (ap (λ t. t ++ rest) (sym same), (omega (arith, lengths, few, counted), m.none_left, end));
+    }
+
+open_body : (old new : SourceState) (held before rest after : List ℕ) (most : ℕ) → MovedAll old held before new rest after (most + 1)
+    → FindsBody (ToEnd most) held old after rest new (Err Fault.Read)
+open_body old new held before rest after most m =
+    let s = stops old new held before rest after (most + 1) m in
+    let short = s.short in record { text = s.text; gave = s.gave; found = omega (arith, short) }
+
+pub end_found : (old new : SourceState) (held before rest after : List ℕ) (most : ℕ) (e : BodyFault) → before ≡ []
+    → ReadsBytes old held before new rest after (most + 1) (Err e) → FindsBody (ToEnd most) held old after rest new (end_of e)
+end_found old new held before rest after most Fault.Truncated none m = ended_body old new held before rest after most none m.0 m.1
+end_found old new held before rest after most Fault.Read none m = open_body old new held before rest after most m
+end_found old new held before rest after most Fault.NoMemory none m = body_unmoved (ToEnd most) old new held rest after m
+
+-- a failed read stays one
+pub end_read : (e : BodyFault) → end_of e ≡ Err Fault.Read → e ≡ Fault.Read
+end_read Fault.Truncated h = absurd (cc)
+end_read Fault.Read h = refl
+end_read Fault.NoMemory h = absurd (cc)

@@ -1,0 +1,109 @@
+-- What the functions find that read a chunked body.
+use Rattle.std.specs.Prelude.{◌≡◌, ◌≢◌, ℕ, ◌≤◌, ◌⊎◌, Bool, true, false, List, [], ◌∷◌, ◌++◌, length, Result, Ok, Err}
+use Rattle.std.specs.Io.KnownBytes.{IsAtEnd}
+use Rattle.httparse.specs.Ascii.{crlf_bytes}
+use Rattle.http_wire.specs.States.{SourceState}
+use Rattle.http_wire.specs.Reading.{Gave}
+use Rattle.http_wire.specs.Inner.BodyReading.{MovedNone}
+use Rattle.http_wire.specs.Body.{Chunk, IsChunk, print_chunk, IsZero, IsBadBody, IsCutBody}
+use Rattle.http_wire.specs.Inner.SizeLines.{StandsAt, IsLine, NeverLine}
+use Rattle.http_wire.specs.declared.framing.Framing.TheVariants.{Chunked}
+use Rattle.http_wire.specs.declared.chunked.LineState.{LineState}
+use Rattle.http_wire.specs.declared.chunked.LineRead.{LineRead}
+use Rattle.http_wire.specs.declared.chunked.LineRead.TheVariants.{Size, Broken}
+use Rattle.http_wire.specs.declared.chunked.ChunkRead.{ChunkRead}
+use Rattle.http_wire.specs.declared.chunked.ChunkRead.TheVariants.{More, Last, Refused}
+use Rattle.http_wire.specs.declared.fault.Bad.{Bad}
+use Rattle.http_wire.specs.declared.fault.InputFault.{InputFault}
+use Rattle.http_wire.specs.declared.fault.InputFault.TheVariants as Input
+use Rattle.http_wire.specs.declared.fault.BodyFault.{BodyFault}
+use Rattle.http_wire.specs.declared.fault.BodyFault.TheVariants as Fault
+
+-- a whole size line was taken
+pub record TakesLine (old : SourceState) (held : List ℕ) (new : SourceState) (rest : List ℕ) (value : ℕ) : Type 0 where
+  pub line : List ℕ
+  pub is_line : IsLine line value
+  pub gave : Gave old new held (line ++ rest)
+
+-- at a byte the input stops being the front of a size line
+pub record BreaksLine (old : SourceState) (held : List ℕ) (new : SourceState) : Type 0 where
+  pub before : List ℕ
+  pub byte : ℕ
+  pub rest : List ℕ
+  pub gave : Gave old new held (before ++ byte ∷ rest)
+  pub state : LineState
+  pub stands : StandsAt before state
+  pub never : NeverLine (before ++ byte ∷ [])
+
+-- what came is the front of a size line
+pub record CutsLine (old : SourceState) (held : List ℕ) (new : SourceState) : Type 0 where
+  pub text : List ℕ
+  pub gave : Gave old new held text
+  pub state : LineState
+  pub stands : StandsAt text state
+
+abbrev pub FindsLine : SourceState → List ℕ → SourceState → List ℕ → Result LineRead InputFault → Type 0
+FindsLine old held new rest (Ok (Size value)) = TakesLine old held new rest value
+FindsLine old held new rest (Ok Broken) = BreaksLine old held new
+FindsLine old held new rest (Err Input.Truncated) = CutsLine old held new × IsAtEnd new.remaining
+FindsLine old held new rest (Err Input.Read) = CutsLine old held new
+
+-- no continuation begins with CR LF
+abbrev pub NeverEnd : List ℕ → Type 0
+NeverEnd text = (more rest : List ℕ) → text ++ more ≢ crlf_bytes ++ rest
+
+-- at a byte the input stops being the front of CR LF
+pub record BreaksEnd (old : SourceState) (held : List ℕ) (new : SourceState) : Type 0 where
+  pub before : List ℕ
+  pub byte : ℕ
+  pub rest : List ℕ
+  pub gave : Gave old new held (before ++ byte ∷ rest)
+  pub front : (before ≡ []) ⊎ (before ≡ 13 ∷ [])
+  pub never : NeverEnd (before ++ byte ∷ [])
+
+-- what came is the front of CR LF
+pub record CutsEnd (old : SourceState) (held : List ℕ) (new : SourceState) : Type 0 where
+  pub text : List ℕ
+  pub gave : Gave old new held text
+  pub front : (text ≡ []) ⊎ (text ≡ 13 ∷ [])
+
+abbrev pub FindsEnd : SourceState → List ℕ → SourceState → List ℕ → Result Bool InputFault → Type 0
+FindsEnd old held new rest (Ok true) = Gave old new held (crlf_bytes ++ rest)
+FindsEnd old held new rest (Ok false) = BreaksEnd old held new
+FindsEnd old held new rest (Err Input.Truncated) = CutsEnd old held new × IsAtEnd new.remaining
+FindsEnd old held new rest (Err Input.Read) = CutsEnd old held new
+
+-- a whole chunk was taken
+pub record TakesChunk (room : ℕ) (old : SourceState) (held before : List ℕ) (new : SourceState) (rest after : List ℕ) : Type 0 where
+  pub chunk : Chunk
+  pub is_chunk : IsChunk chunk
+  pub fits : length chunk.data_bytes ≤ room
+  pub gave : Gave old new held (print_chunk chunk ++ rest)
+  pub joined : after ≡ before ++ chunk.data_bytes
+
+-- the end was taken
+pub record TakesLast (old : SourceState) (held before : List ℕ) (new : SourceState) (rest after : List ℕ) : Type 0 where
+  pub zeros : List ℕ
+  pub is_zero : IsZero zeros
+  pub gave : Gave old new held ((zeros ++ (crlf_bytes ++ crlf_bytes)) ++ rest)
+  pub joined : after ≡ before
+
+-- what came is no chunked text of so many bytes
+pub record RefusesChunk (room : ℕ) (old : SourceState) (held : List ℕ) (new : SourceState) (why : Bad) : Type 0 where
+  pub text : List ℕ
+  pub gave : Gave old new held text
+  pub bad : IsBadBody (Chunked room) text why
+
+-- what came is the front of a chunked text of so many bytes
+pub record CutsChunk (room : ℕ) (old : SourceState) (held : List ℕ) (new : SourceState) : Type 0 where
+  pub text : List ℕ
+  pub gave : Gave old new held text
+  pub cut : IsCutBody (Chunked room) text
+
+abbrev pub FindsChunk : ℕ → SourceState → List ℕ → List ℕ → SourceState → List ℕ → List ℕ → Result ChunkRead BodyFault → Type 0
+FindsChunk room old held before new rest after (Ok More) = TakesChunk room old held before new rest after
+FindsChunk room old held before new rest after (Ok Last) = TakesLast old held before new rest after
+FindsChunk room old held before new rest after (Ok (Refused why)) = RefusesChunk room old held new why
+FindsChunk room old held before new rest after (Err Fault.Truncated) = CutsChunk room old held new × IsAtEnd new.remaining
+FindsChunk room old held before new rest after (Err Fault.Read) = CutsChunk room old held new
+FindsChunk room old held before new rest after (Err Fault.NoMemory) = MovedNone old held new

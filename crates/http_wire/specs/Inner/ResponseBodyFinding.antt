@@ -1,0 +1,37 @@
+-- What is found behind the head of a response.
+use Rattle.std.specs.Prelude.{◌≡◌, ℕ, ◌<◌, ◌≤◌, List, ◌++◌, length, Result, Ok, Err, ⊤}
+use Rattle.std.specs.Io.KnownBytes.{IsAtEnd}
+use Rattle.http_wire.specs.States.{SourceState}
+use Rattle.http_wire.specs.Reading.{Gave}
+use Rattle.http_wire.specs.ResponseBody.{IsBody}
+use Rattle.http_wire.specs.declared.responses.framing.ResponseFraming.{ResponseFraming}
+use Rattle.http_wire.specs.declared.responses.framing.ResponseFraming.TheVariants.{Length, ToEnd}
+use Rattle.http_wire.specs.declared.responses.body.ResponseBodyEnd.{ResponseBodyEnd}
+use Rattle.http_wire.specs.declared.responses.body.ResponseBodyEnd.TheVariants.{Whole, TooLarge}
+use Rattle.http_wire.specs.declared.fault.BodyFault.{BodyFault}
+use Rattle.http_wire.specs.declared.fault.BodyFault.TheVariants as Fault
+
+-- what a fault means to a body that goes to the end of the input
+abbrev pub end_of : BodyFault → Result ResponseBodyEnd BodyFault
+end_of Fault.Truncated = Ok Whole
+end_of Fault.Read = Err Fault.Read
+end_of Fault.NoMemory = Err Fault.NoMemory
+
+-- what was found of a body in the text that was held behind its head and read
+abbrev pub FindsBodyIn : ResponseFraming → List ℕ → List ℕ → List ℕ → SourceState → Result ResponseBodyEnd BodyFault → Type 0
+FindsBodyIn framing text body rest new (Ok Whole) = (text ≡ body ++ rest) × IsBody framing body rest new
+FindsBodyIn (Length n) text body rest new (Ok TooLarge) = ⊥
+FindsBodyIn (ToEnd most) text body rest new (Ok TooLarge) = most < length text
+FindsBodyIn (Length n) text body rest new (Err Fault.Truncated) = (length text < n) × IsAtEnd new.remaining
+FindsBodyIn (ToEnd most) text body rest new (Err Fault.Truncated) = ⊥
+FindsBodyIn (Length n) text body rest new (Err Fault.Read) = length text < n
+FindsBodyIn (ToEnd most) text body rest new (Err Fault.Read) = length text ≤ most
+FindsBodyIn framing text body rest new (Err Fault.NoMemory) = ⊤
+
+-- some bytes were read, and this was found of a body in what was held and read
+pub record FindsBody
+    (framing : ResponseFraming) (held : List ℕ) (old : SourceState) (body rest : List ℕ) (new : SourceState) (r : Result ResponseBodyEnd BodyFault)
+    : Type 0 where
+  pub text : List ℕ
+  pub gave : Gave old new held text
+  pub found : FindsBodyIn framing text body rest new r

@@ -1,0 +1,71 @@
+//! The body of a response, read behind its head.
+ghost use Rattle.std.specs.Prelude.{◌≡◌, ◌+◌, ◌^◌, ◌≤◌, [], Err};
+ghost use Rattle.http_wire.specs.Reading.{Costs};
+ghost use Rattle.http_wire.specs.ResponseBody.{IsFraming, most_of};
+ghost use Rattle.http_wire.specs.Inner.ResponseBodyFinding.{FindsBody, end_of};
+
+use super::framing::ResponseFraming;
+use crate::body::{BodyBuffer, read_bytes};
+use crate::buffer::ReadBuffer;
+use crate::bytes::ByteSource;
+use crate::fault::BodyFault;
+
+/// How the reading of a response's body ended.
+#[derive(Clone, Copy, Debug, PartialEq, Eq)]
+pub enum ResponseBodyEnd {
+    /// The body came whole.
+    Whole,
+    /// It goes on behind the most bytes that are read of it.
+    TooLarge,
+}
+
+/// Reads a body that goes to the end of the input.
+fn read_to_end<S: ByteSource, B: BodyBuffer>(
+    source: &mut S,
+    buffer: &mut ReadBuffer,
+    body: &mut B,
+    most: u64,
+) -> Result<ResponseBodyEnd, BodyFault>
+    requires small { most ≤ 2 ^ 31 }
+    requires empty { B.bytes body.old ≡ [] }
+    ensures found { FindsBody (ResponseFraming.ToEnd most) buffer.old (S.state source.old) (B.bytes body.new)
+        buffer.new (S.state source.new) result }
+    ensures costs { Costs (most + 1) (result ≡ Err BodyFault.Read) (S.state source.old) (S.state source.new) }
+{
+    match read_bytes(source, buffer, body, most as usize + 1) {
+        Ok(()) => Ok(ResponseBodyEnd::TooLarge),
+        Err(fault) => end_of(fault),
+    }
+}
+
+/// What a fault means to a body that goes to the end of the input.
+fn end_of(fault: BodyFault) -> Result<ResponseBodyEnd, BodyFault>
+    ensures { result ≡ end_of fault }
+{
+    match fault {
+        BodyFault::Truncated => Ok(ResponseBodyEnd::Whole),
+        BodyFault::Read | BodyFault::NoMemory => Err(fault),
+    }
+}
+
+/// Reads the body of that framing into an empty buffer, which grows as it comes. `Truncated`: the input ended inside a body
+/// of a length. `Read`: a read failed. `NoMemory`: a growth was refused.
+pub fn read_response_body<S: ByteSource, B: BodyBuffer>(
+    source: &mut S,
+    buffer: &mut ReadBuffer,
+    body: &mut B,
+    framing: ResponseFraming,
+) -> Result<ResponseBodyEnd, BodyFault>
+    requires small { IsFraming (2 ^ 31) framing }
+    requires empty { B.bytes body.old ≡ [] }
+    ensures found { FindsBody framing buffer.old (S.state source.old) (B.bytes body.new) buffer.new (S.state source.new) result }
+    ensures costs { Costs (most_of framing + 1) (result ≡ Err BodyFault.Read) (S.state source.old) (S.state source.new) }
+{
+    match framing {
+        ResponseFraming::Length(length) => {
+            read_bytes(source, buffer, body, length as usize)?;
+            Ok(ResponseBodyEnd::Whole)
+        }
+        ResponseFraming::ToEnd(most) => read_to_end(source, buffer, body, most),
+    }
+}

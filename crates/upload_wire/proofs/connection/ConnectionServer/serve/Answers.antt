@@ -1,0 +1,36 @@
+use Rattle.std.proofs.Common.{◌∙◌, arith, refl}
+use Rattle.upload_wire.proofs.ConversationLemmas.{goes_on, ends}
+use Rattle.upload_wire.proofs.connection.ConnectionServer.serve.Goals as goal
+
+pub loop-end-preserved : goal.loop-end-preserved
+loop-end-preserved g c = (
+  goes_on g.D.Desk.moves c.self.inside.max_body c.loop-end.self.max_body c.loop-end.self.answered c.serve_next.new.self.answered
+      (g.S.ByteSource.state c.args.reader.now)
+      (g.S.ByteSource.state c.loop-end.reader)
+      (g.S.ByteSource.state c.serve_next.new.reader)
+      c.args.desk.now c.loop-end.desk c.serve_next.new.desk c.loop-end.self.held c.serve_next.new.self.held
+      (g.W.ByteSink.state c.args.writer.now)
+      (g.W.ByteSink.state c.loop-end.writer)
+      (g.W.ByteSink.state c.serve_next.new.writer)
+      c.loop-end.invariant.1 (c.in_default.ensures.counted refl) c.loop-end.invariant.0 (c.in_default.ensures.goes_on refl),
+  c.in_default.ensures.limit ∙ c.loop-end.invariant.1,
+)
+
+pub loop-end-smaller : goal.loop-end-smaller
+loop-end-smaller g c =
+    let counted = c.loop-end.invariant.0.counted in
+    let few = c.loop-end.invariant.0.served.few in
+    let more = c.in_default.ensures.counted refl in
+    omega (arith, counted, few, more)
+
+pub returns-in-Some-clause-conversation : goal.returns-in-Some-clause-conversation
+returns-in-Some-clause-conversation g c = rw (← c.self.view_is)
+    (ends g.D.Desk.moves c.self.inside.max_body c.loop-end.self.max_body c.loop-end.self.answered
+    (g.S.ByteSource.state c.args.reader.now)
+    (g.S.ByteSource.state c.loop-end.reader)
+    (g.S.ByteSource.state c.serve_next.new.reader)
+    c.args.desk.now c.loop-end.desk c.serve_next.new.desk c.loop-end.self.held
+    (g.W.ByteSink.state c.args.writer.now)
+    (g.W.ByteSink.state c.loop-end.writer)
+    (g.W.ByteSink.state c.serve_next.new.writer)
+    c.in-Some.end c.loop-end.invariant.1 c.loop-end.invariant.0 c.in-Some.ensures.stops)

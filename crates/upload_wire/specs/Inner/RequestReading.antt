@@ -1,0 +1,56 @@
+-- What the functions find that read a request.
+use Rattle.std.specs.Prelude.{◌≡◌, ℕ, List, codes, bytes_eq, Result, Ok, Err}
+use Rattle.std.specs.Io.KnownBytes.{IsAtEnd}
+use Rattle.httparse.specs.Spans.{span_bytes}
+use Rattle.upload_service.specs.declared.ask.Ask.{Ask}
+use Rattle.http_wire.specs.States.{SourceState}
+use Rattle.http_wire.specs.Fields.{values_of, keeps_connection}
+use Rattle.http_wire.specs.Body.{framing_of}
+use Rattle.upload_wire.specs.Target.{Asks, extent_of, with_body}
+use Rattle.http_wire.specs.Inner.FieldReading.{fields_of}
+use Rattle.http_wire.specs.Inner.BodyReading.{MovedNone}
+use Rattle.http_wire.specs.Inner.BodyFinding.{TakesBody, RefusesBodyText, CutsBody}
+use Rattle.http_wire.specs.declared.requests.parsed.ParsedRequest.{ParsedRequest}
+use Rattle.http_wire.specs.declared.fault.Bad.{Bad}
+use Rattle.http_wire.specs.declared.fault.WireFault.{WireFault}
+use Rattle.http_wire.specs.declared.fault.WireFault.TheVariants as Fault
+use Rattle.upload_wire.specs.declared.request.Style.{Style}
+use Rattle.upload_wire.specs.declared.request.Next.{Next}
+use Rattle.upload_wire.specs.declared.request.Next.TheVariants.{Request, Over}
+use Rattle.upload_wire.specs.declared.request.Next.TheVariants as nexts
+use Rattle.upload_wire.specs.declared.request.Described.{Described}
+
+-- ---- the head
+
+-- what the spans of a head ask, how they want the reply, and how they frame the body
+pub record DescribesAll (max_body : ℕ) (head : List ℕ) (p : ParsedRequest) (d : Described) : Type 0 where
+  pub asks : Asks (span_bytes head p.spans.method) (span_bytes head p.spans.path)
+      (extent_of (values_of (codes "content-range") (fields_of head p))) d.ask
+  pub is_head : d.style.head ≡ bytes_eq (span_bytes head p.spans.method) (codes "HEAD")
+  pub keeps : d.style.keep ≡ keeps_connection p.spans.version (fields_of head p)
+  pub framed : framing_of max_body p.spans.version (fields_of head p) ≡ Ok d.framing
+
+-- what is made of a head: that, or what is bad in how it frames its body, unless memory was refused
+abbrev pub Describes : ℕ → List ℕ → ParsedRequest → Result (Result Described Bad) WireFault → Type 0
+Describes max_body head p (Ok (Ok d)) = DescribesAll max_body head p d
+Describes max_body head p (Ok (Err why)) = framing_of max_body p.spans.version (fields_of head p) ≡ Err why
+Describes max_body head p (Err fault) = fault ≡ Fault.NoMemory
+
+-- ---- the body behind it
+
+-- a whole body was taken, and this is the request
+pub record TakesRequest (d : Described) (old : SourceState) (held : List ℕ) (new : SourceState) (rest : List ℕ) (ask : Ask) (style : Style)
+    : Type 0 where
+  pub body : List ℕ
+  pub taken : TakesBody d.framing old held new rest body
+  pub asked : ask ≡ with_body d.ask body
+  pub styled : style ≡ d.style
+
+abbrev pub FindsRequest : Described → SourceState → List ℕ → SourceState → List ℕ → Result Next WireFault → Type 0
+FindsRequest d old held new rest (Ok (Request ask style)) = TakesRequest d old held new rest ask style
+FindsRequest d old held new rest (Ok Over) = ⊥
+FindsRequest d old held new rest (Ok (nexts.Bad why)) = RefusesBodyText d.framing old held new why
+FindsRequest d old held new rest (Err Fault.Truncated) = CutsBody d.framing old held new × IsAtEnd new.remaining
+FindsRequest d old held new rest (Err Fault.Read) = CutsBody d.framing old held new
+FindsRequest d old held new rest (Err Fault.NoMemory) = MovedNone old held new
+FindsRequest d old held new rest (Err Fault.Ended) = ⊥
