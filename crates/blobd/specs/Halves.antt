@@ -7,4 +7,4 @@ use Rattle.upload_wire.specs.ToWrite.{ToWrite}
 -- nothing was read and nothing was written
 abbrev pub AreUnused : FromRead TcpStream → ToWrite TcpStream → Type 0
 AreUnused reader writer =
-    (reader.reads ≡ 0) × (reader.failed_reads ≡ 0) × (writer.writes ≡ 0) × (writer.failed_writes ≡ 0)
+    (reader.reads.count ≡ 0) × (reader.failed_reads.count ≡ 0) × (writer.writes.count ≡ 0) × (writer.failed_writes.count ≡ 0)

@@ -1,9 +1,10 @@
 //! Readers and writers of bytes, with contracts that name the bytes and count the calls.
-ghost use Rattle.std.specs.Prelude.{◌≡◌, ◌+◌, ◌-◌, ◌<◌, ◌≤◌, true, IsTrue, length, take, IfOk, OnOk, OnErr};
+ghost use Rattle.std.specs.Prelude.{◌≡◌, ◌+◌, ◌-◌, ◌<◌, ◌≤◌, ◌==◌, IsTrue, length, take, IfOk, OnOk, OnErr};
 ghost use Rattle.std.specs.Io.KnownBytes.{ReadConsumes, WriteAppends, Keeps};
 ghost use Rattle.http_wire.specs.Counts.{CountsUp};
 ghost use Rattle.http_wire.specs.States.{SourceState, SinkState};
 
+use crate::calls::Calls;
 use std::fmt;
 use std::io::{Read, Write};
 
@@ -64,23 +65,23 @@ pub trait ByteSink {
         ensures err { OnErr result (CountsUp (state self.old).failed_writes (state self.new).failed_writes) };
 }
 
-/// A reader of std as a source. The counts stop at the last `u64`.
+/// A reader of std as a source. Its counts are there for contracts alone.
 #[derive(Drop)]
 pub struct FromRead<R> {
     inner: R,
-    reads: u64,
-    failed_reads: u64,
+    reads: Calls,
+    failed_reads: Calls,
 }
 
 impl<R> FromRead<R> {
     /// The source over this reader, with no read counted.
     pub fn new(inner: R) -> FromRead<R>
-        ensures { result ≡ record { inner = inner; reads = 0; failed_reads = 0 } }
+        ensures { result ≡ record { inner = inner; reads = record { count = 0 }; failed_reads = record { count = 0 } } }
     {
         FromRead {
             inner,
-            reads: 0,
-            failed_reads: 0,
+            reads: Calls::none(),
+            failed_reads: Calls::none(),
         }
     }
 }
@@ -88,41 +89,47 @@ impl<R> FromRead<R> {
 impl<R: Read> ByteSource for FromRead<R> {
     ghost state = { λ s. record {
       remaining = R.remaining s.inner;
-      reads = s.reads;
-      failed_reads = s.failed_reads;
+      reads = s.reads.count;
+      failed_reads = s.failed_reads.count;
     } };
 
     fn read(&mut self, buf: &mut [u8]) -> Result<usize, Failed> {
-        self.reads = self.reads.saturating_add(1);
+        self.reads = self.reads.and_one();
         match self.inner.read(buf) {
             Ok(count) => Ok(count),
             Err(_) => {
-                self.failed_reads = self.failed_reads.saturating_add(1);
+                self.failed_reads = self.failed_reads.and_one();
                 Err(Failed)
             }
         }
     }
 }
 
-/// A writer of std as a sink. The counts stop at the last `u64`.
+/// A writer of std as a sink. Its counts are there for contracts alone.
 #[derive(Drop)]
 pub struct ToWrite<W> {
     inner: W,
-    writes: u64,
-    failed_writes: u64,
-    flushed: bool,
+    writes: Calls,
+    failed_writes: Calls,
+    // The writes that no flush has handed on.
+    unflushed: Calls,
 }
 
 impl<W> ToWrite<W> {
     /// The sink over this writer, with no write counted.
     pub fn new(inner: W) -> ToWrite<W>
-        ensures { result ≡ record { inner = inner; writes = 0; failed_writes = 0; flushed = true } }
+        ensures { result ≡ record {
+          inner = inner;
+          writes = record { count = 0 };
+          failed_writes = record { count = 0 };
+          unflushed = record { count = 0 };
+        } }
     {
         ToWrite {
             inner,
-            writes: 0,
-            failed_writes: 0,
-            flushed: true,
+            writes: Calls::none(),
+            failed_writes: Calls::none(),
+            unflushed: Calls::none(),
         }
     }
 
@@ -134,7 +141,7 @@ impl<W> ToWrite<W> {
             inner,
             writes: _,
             failed_writes: _,
-            flushed: _,
+            unflushed: _,
         } = self;
         inner
     }
@@ -143,32 +150,32 @@ impl<W> ToWrite<W> {
 impl<W: Write> ByteSink for ToWrite<W> {
     ghost state = { λ s. record {
       contents = W.contents s.inner;
-      writes = s.writes;
-      failed_writes = s.failed_writes;
-      flushed = s.flushed;
+      writes = s.writes.count;
+      failed_writes = s.failed_writes.count;
+      flushed = s.unflushed.count == 0;
     } };
 
     fn write(&mut self, buf: &[u8]) -> Result<usize, Failed> {
-        self.writes = self.writes.saturating_add(1);
-        self.flushed = false;
+        self.writes = self.writes.and_one();
+        self.unflushed = self.unflushed.and_one();
         match self.inner.write(buf) {
             Ok(count) if count > 0 || buf.is_empty() => Ok(count),
             _ => {
-                self.failed_writes = self.failed_writes.saturating_add(1);
+                self.failed_writes = self.failed_writes.and_one();
                 Err(Failed)
             }
         }
     }
 
     fn flush(&mut self) -> Result<(), Failed> {
-        self.writes = self.writes.saturating_add(1);
+        self.writes = self.writes.and_one();
         match self.inner.flush() {
             Ok(()) => {
-                self.flushed = true;
+                self.unflushed = Calls::none();
                 Ok(())
             }
             Err(_) => {
-                self.failed_writes = self.failed_writes.saturating_add(1);
+                self.failed_writes = self.failed_writes.and_one();
                 Err(Failed)
             }
         }

@@ -10,6 +10,7 @@
 mod body;
 mod buffer;
 mod bytes;
+mod calls;
 mod chunked;
 mod elements;
 mod fault;
