@@ -5,6 +5,7 @@ mod buffered;
 mod disturbed;
 mod growths;
 mod hashed;
+mod heard;
 mod rows;
 mod server;
 mod stored;

@@ -38,7 +38,7 @@ pub use gather::Gather;
 pub use head::{Grammar, HeadRead, MAX_FIELDS, MAX_HEAD, Verdict, has_byte, read_head};
 pub use laws::{bodies_are_unambiguous, heads_are_unambiguous};
 pub use query::parameter;
-pub use refusal::write_bad;
+pub use refusal::{bad_status, write_bad};
 pub use requests::{ParsedRequest, Requests};
 pub use responses::{
     FramingFault, ParsedResponse, ResponseBodyEnd, ResponseFraming, Responses, read_response_body,

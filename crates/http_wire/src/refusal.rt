@@ -10,7 +10,7 @@ use crate::status::Status;
 use crate::writing::WriteFault;
 
 /// The status of the response to what is no request.
-fn bad_status(why: Bad) -> Status
+pub fn bad_status(why: Bad) -> Status
     ensures { result ≡ bad_status why }
 {
     match why {

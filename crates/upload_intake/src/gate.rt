@@ -18,6 +18,16 @@ pub trait Gate {
     /// The request was answered so. Where the keeper is gone this isn't called.
     fn after_answer(&mut self, turn: u64, answer: &Answer)
         ensures { watches self.old turn (Answered answer.now) self.new };
+
+    /// The head of a request has come, as `Desk::hears` says.
+    fn hears(&mut self, _method: &[u8], _target: &[u8])
+        ensures { self.new ≡ self.old }
+    {}
+
+    /// A reply was written, or failed while it was, as `Desk::replied` says.
+    fn replied(&mut self, _status: u16, _size: u64)
+        ensures { self.new ≡ self.old }
+    {}
 }
 
 /// Holds nobody.

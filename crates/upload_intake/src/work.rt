@@ -122,6 +122,14 @@ impl<'a, R: Wait, S: Secrets, G: Gate> Desk for GatedDesk<'a, R, S, G> {
         self.gate.after_answer(self.turn, &answer);
         Some(answer)
     }
+
+    fn hears(&mut self, method: &[u8], target: &[u8]) {
+        self.gate.hears(method, target);
+    }
+
+    fn replied(&mut self, status: u16, size: u64) {
+        self.gate.replied(status, size);
+    }
 }
 
 /// Serves a worker's connections one after the other, none behind one that ended `DeskGone`, and finishes its seat. One

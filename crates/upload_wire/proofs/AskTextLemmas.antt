@@ -42,11 +42,6 @@ pub close_line : (before name at : List ℕ) (range : Extent) (digest : Option D
     ≡ before ++ request_line (message_of (Close name at range digest body))
 close_line before name at range digest body text e = rw e (simp append_assoc)
 
-pub close_shown : (name at : List ℕ) (range : Extent) (digest : Option Digest) (body : List ℕ)
-    → codes "PUT /v2/" ++ (name ++ (codes "/blobs/uploads/" ++ (reference_text at ++ query_text (digest_query digest))))
-    ≡ request_line (message_of (Close name at range digest body))
-close_shown name at range digest body = simp append_assoc
-
 pub range_text_is : (before : List ℕ) (range : Span) (first last : ℕ) → first ≡ range.first → last ≡ range.last
     → ((((before ++ codes "Content-Range: ") ++ decimal first) ++ codes "-") ++ decimal last) ++ codes "\r\n"
     ≡ before ++ flat_map print_field (range_fields (Given range))

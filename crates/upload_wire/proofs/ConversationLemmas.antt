@@ -21,7 +21,7 @@ use Rattle.http_wire.specs.HeadText.{bad}
 use Rattle.http_wire.specs.States.{SourceState, SinkState}
 use Rattle.http_wire.specs.Writing.{TookAll, TookFront}
 use Rattle.upload_wire.specs.Conversation.{Moves, Exchange, IsKept, messages, replies, Answers, HandedOn, HandedOnEach, Serves, AnswersNext, EndsWith, ReadsFail, IsConversation}
-use Rattle.upload_wire.specs.Inner.ConversationSteps.{Replies, GoesOn, Stops}
+use Rattle.upload_wire.specs.Inner.ConversationSteps.{Replies, RefusedWith, GoesOn, Stops}
 use Rattle.http_wire.proofs.GaveLemmas.{consumes_none, consumes_both}
 use Rattle.http_wire.proofs.WritingLemmas.{appends_none, took_both}
 
@@ -74,16 +74,18 @@ module _ {D : Type 0} (step : Moves D) (max count : ℕ) (held rest : List ℕ) 
   one_last (Some (Fault Conn.Write)) n same answered a =
       record { given = n.given; consumed = n.consumed; reads = same; ended = inl (last_exchange n, answers_next n answered, a) }
 
-module _ {D : Type 0} (step : Moves D) (max count : ℕ) (held rest : List ℕ) (first left : SourceState) (why : Bad) (at : D) (mid after : SinkState) where
-  pub after_bad : ReadsNext max held first rest left (Ok (nexts.Bad why)) → left.failed_reads ≡ first.failed_reads → HandedOn mid after (bad why)
-      → Stops step max count held first left at at mid after AfterBad
-  after_bad n same told =
-      record { given = n.given; consumed = n.consumed; reads = same; ended = (why, record { bad = n.found; unasked = refl }, told) }
-
-  pub bad_unwritten : ReadsNext max held first rest left (Ok (nexts.Bad why)) → left.failed_reads ≡ first.failed_reads → TookFront mid after (bad why)
-      → Stops step max count held first left at at mid after (Fault Conn.Write)
-  bad_unwritten n same front =
-      record { given = n.given; consumed = n.consumed; reads = same; ended = inr (why, record { bad = n.found; unasked = refl }, front) }
+pub after_refusal : {D : Type 0} (step : Moves D) (max count : ℕ) (held rest : List ℕ) (first left : SourceState) (why : Bad) (at : D)
+    (mid after : SinkState) (end : ConnEnd) → ReadsNext max held first rest left (Ok (nexts.Bad why)) → left.failed_reads ≡ first.failed_reads
+    → RefusedWith mid after why end → Stops step max count held first left at at mid after end
+after_refusal step max count held rest first left why at mid after AfterBad n same told =
+    record { given = n.given; consumed = n.consumed; reads = same; ended = (why, record { bad = n.found; unasked = refl }, told) }
+after_refusal step max count held rest first left why at mid after (Fault Conn.Write) n same front =
+    record { given = n.given; consumed = n.consumed; reads = same; ended = inr (why, record { bad = n.found; unasked = refl }, front) }
+after_refusal step max count held rest first left why at mid after (Fault (Conn.Wire fault)) n same h = absurd h
+after_refusal step max count held rest first left why at mid after Clean n same h = absurd h
+after_refusal step max count held rest first left why at mid after AfterClose n same h = absurd h
+after_refusal step max count held rest first left why at mid after TooMany n same h = absurd h
+after_refusal step max count held rest first left why at mid after DeskGone n same h = absurd h
 
 -- ---- many
 

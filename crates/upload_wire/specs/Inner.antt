@@ -2,3 +2,4 @@
 pub mod ConversationSteps
 pub mod RequestReading
 pub mod AnswerReading
+pub mod InputState

@@ -2,16 +2,16 @@
 ghost use Rattle.std.specs.Prelude.{◌≡◌, ◌+◌, ◌<◌, None, IfOk, IfSome};
 ghost use Rattle.upload_service.specs.Machine.{AreLawful};
 ghost use Rattle.upload_wire.specs.Conversation.{IsConversation, last_style};
-ghost use Rattle.upload_wire.specs.Inner.ConversationSteps.{Replies, GoesOn, Stops};
+ghost use Rattle.upload_wire.specs.Inner.ConversationSteps.{Replies, RefusedWith, GoesOn, Stops};
 
 use crate::desk::Desk;
-use crate::reply::{write_bad, write_reply};
-use crate::request::{Next, Style, read_next};
-use http_wire::{ByteSink, ByteSource, ReadBuffer, WireFault};
+use crate::input::RequestInput;
+use crate::reply::{body_size, reply_status, write_bad, write_reply};
+use crate::request::{Next, Style};
+use http_wire::{Bad, ByteSink, ByteSource, WireFault, bad_status};
 use std::alloc::{AllocError, Global};
 use std::fmt;
 use std::marker::Model;
-use upload_names::UploadRef;
 use upload_service::{Answer, Limits};
 
 /// The most requests that are answered on one connection.
@@ -82,24 +82,20 @@ pub fn serve_connection<S: ByteSource, W: ByteSink, D: Desk>(
 /// Serves one connection after the other through one buffer, so that only a request may want memory.
 #[derive(Drop)]
 pub struct ConnectionServer {
-    alloc: Global,
-    max_body: u64,
-    buffer: ReadBuffer,
+    input: RequestInput,
     /// How many requests of the connection were answered.
     answered: usize,
-    /// The upload that was last answered to have bytes.
-    filled: Option<UploadRef>,
 }
 
 impl Model for ConnectionServer {
-    ghost use Rattle.std.specs.Prelude.{◌<◌, ◌≤◌, ◌^◌};
+    ghost use Rattle.std.specs.Prelude.{◌<◌};
     ghost use Rattle.upload_wire.specs.ServerState.{ServerState};
 
     ghost Value = { ServerState };
 
-    ghost view = { λ s. record { max_body = s.max_body; held = s.buffer; answered = s.answered } };
+    ghost view = { λ s. record { max_body = s.input.max_body; held = s.input.held; answered = s.answered } };
 
-    ghost invariant = { λ s. (s.max_body ≤ 2 ^ 31) × (s.answered < 10000) };
+    ghost invariant = { λ s. s.answered < 10000 };
 }
 
 impl ConnectionServer {
@@ -109,14 +105,8 @@ impl ConnectionServer {
         requires { AreLawful limits }
         ensures { IfOk result (λ server. server.max_body ≡ limits.max_body) }
     {
-        let buffer = ReadBuffer::new(alloc)?;
-        Ok(ConnectionServer {
-            alloc,
-            max_body: limits.max_body,
-            buffer,
-            answered: 0,
-            filled: None,
-        })
+        let input = RequestInput::new(alloc, limits)?;
+        Ok(ConnectionServer { input, answered: 0 })
     }
 
     /// Serves a connection, as `serve_connection` does. What the buffer holds of another is forgotten first.
@@ -131,9 +121,8 @@ impl ConnectionServer {
             desk.old desk.new (W.state writer.old) (W.state writer.new) result }
         ensures limit { self.new.max_body ≡ self.old.max_body }
     {
-        self.buffer.clear();
+        self.input.begin();
         self.answered = 0;
-        self.filled = None;
         loop {
             if let Some(end) = self.serve_next(reader, writer, desk) {
                 return end;
@@ -155,22 +144,22 @@ impl ConnectionServer {
         ensures counted { result ≡ None → self.new.answered ≡ self.old.answered + 1 }
         ensures limit { self.new.max_body ≡ self.old.max_body }
     {
-        match read_next(
-            self.alloc,
-            reader,
-            &mut self.buffer,
-            self.max_body,
-            self.filled,
-        ) {
+        match self.input.next(reader, desk) {
             Ok(Next::Request { ask, style }) => match desk.ask(ask) {
-                Some(answer) => self.reply(writer, &answer, style),
+                Some(answer) => {
+                    let end = self.reply(writer, &answer, style);
+                    let size = if style.head { 0 } else { body_size(&answer) };
+                    desk.replied(reply_status(&answer), size);
+                    end
+                }
                 None => Some(ConnEnd::DeskGone),
             },
             Ok(Next::Over) => Some(ConnEnd::Clean),
-            Ok(Next::Bad(why)) => match write_bad(writer, why) {
-                Ok(()) => Some(ConnEnd::AfterBad),
-                Err(_) => Some(ConnEnd::Fault(ConnFault::Write)),
-            },
+            Ok(Next::Bad(why)) => {
+                let end = refuse(writer, why);
+                desk.replied(bad_status(why).number(), 0);
+                Some(end)
+            }
             Err(fault) => Some(ConnEnd::Fault(ConnFault::Wire(fault))),
         }
     }
@@ -187,7 +176,7 @@ impl ConnectionServer {
         ensures held { self.new.held ≡ self.old.held }
         ensures limit { self.new.max_body ≡ self.old.max_body }
     {
-        self.filled = filled_by(answer).or(self.filled);
+        self.input.note(answer);
         if write_reply(writer, answer, last_style(style, self.answered)).is_err() {
             return Some(ConnEnd::Fault(ConnFault::Write));
         }
@@ -202,14 +191,13 @@ impl ConnectionServer {
     }
 }
 
-/// The upload that an answer says to have bytes: a hash of a further body alone would be of no use to it.
-fn filled_by(answer: &Answer) -> Option<UploadRef> {
-    match answer {
-        Answer::Taken { at, next, .. }
-        | Answer::Standing { at, next, .. }
-        | Answer::Misplaced { at, next, .. }
-            if *next > 0 => Some(*at),
-        _ => None,
+/// Replies to what is no request.
+fn refuse<W: ByteSink>(writer: &mut W, why: Bad) -> ConnEnd
+    ensures { RefusedWith (W.state writer.old) (W.state writer.new) why result }
+{
+    match write_bad(writer, why) {
+        Ok(()) => ConnEnd::AfterBad,
+        Err(_) => ConnEnd::Fault(ConnFault::Write),
     }
 }
 

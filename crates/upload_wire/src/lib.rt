@@ -1,8 +1,8 @@
 //! HTTP/1.1 requests and replies of the blob-upload service, from bytes and to bytes.
 //!
-//! A request goes through `request`, which has `http_wire` read its head, and reads what it asks (`target`, `asks`) and
-//! its body (`body`). `connection` asks a `desk`, and `reply` gathers the head of the reply and
-//! has it written with its body.
+//! Requests come through `input`, which has `http_wire` read a head, and `request` reads what that asks (`target`, `asks`)
+//! and its body (`body`). `connection` asks a `desk`, and `reply` gathers the head of the reply and has it written with its
+//! body.
 #![tactic(auto)]
 
 mod asks;
@@ -10,8 +10,8 @@ mod body;
 mod client;
 mod connection;
 mod desk;
+mod input;
 mod laws;
-mod logged;
 mod reader;
 mod reply;
 mod request;
@@ -30,7 +30,6 @@ pub use laws::{
     connections_run_the_service, conversations_are_determined, requests_are_unambiguous,
     service_desks_are_deterministic,
 };
-pub use logged::{RequestLine, body_size, reply_status};
 pub use reader::RequestReader;
-pub use reply::{write_bad, write_reply};
+pub use reply::{body_size, reply_status, write_bad, write_reply};
 pub use request::{Next, Style};

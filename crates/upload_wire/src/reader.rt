@@ -5,11 +5,13 @@ ghost use Rattle.http_wire.specs.Reading.{Costs};
 ghost use Rattle.upload_wire.specs.RequestText.{ReadsNext};
 ghost use Rattle.upload_wire.specs.Phases.{phase_after, most_reads};
 
-use crate::request::{Next, read_next};
-use http_wire::{ByteSource, ReadBuffer, WireFault};
+use crate::desk::Desk;
+use crate::input::RequestInput;
+use crate::request::Next;
+use http_wire::{ByteSource, WireFault};
 use std::alloc::{AllocError, Global};
 use std::marker::Model;
-use upload_service::Limits;
+use upload_service::{Answer, Ask, Limits};
 
 /// What a reader does when it is asked again.
 #[derive(Clone, Copy, Debug, PartialEq, Eq)]
@@ -22,30 +24,39 @@ pub enum Phase {
     Ended,
 }
 
+/// A desk of nobody's: a reader tells nobody of the heads that it reads.
+#[derive(Drop)]
+struct Nobody;
+
+impl Desk for Nobody {
+    ghost use Rattle.std.specs.Prelude.{None};
+
+    ghost moves = { λ old ask answer new. answer ≡ None };
+
+    fn ask(&mut self, _ask: Ask) -> Option<Answer> {
+        None
+    }
+}
+
 /// Requests, read from a source one after another.
 #[derive(Drop)]
 pub struct RequestReader<S: ByteSource> {
-    alloc: Global,
+    input: RequestInput,
     source: S,
-    buffer: ReadBuffer,
-    max_body: u64,
     phase: Phase,
 }
 
 impl<S: ByteSource> Model for RequestReader<S> {
-    ghost use Rattle.std.specs.Prelude.{◌≤◌, ◌^◌};
     ghost use Rattle.upload_wire.specs.ReaderState.{ReaderState};
 
     ghost Value = { ReaderState };
 
     ghost view = { λ r. record {
-      held = r.buffer;
+      held = r.input.held;
       source = S.state r.source;
-      max_body = r.max_body;
+      max_body = r.input.max_body;
       phase = r.phase;
     } };
-
-    ghost invariant = { λ r. r.max_body ≤ 2 ^ 31 };
 }
 
 impl<S: ByteSource + Drop> RequestReader<S> {
@@ -60,12 +71,10 @@ impl<S: ByteSource + Drop> RequestReader<S> {
           phase = Phase.Ready;
         }) }
     {
-        let buffer = ReadBuffer::new(alloc)?;
+        let input = RequestInput::new(alloc, limits)?;
         Ok(RequestReader {
-            alloc,
+            input,
             source,
-            buffer,
-            max_body: limits.max_body,
             phase: Phase::Ready,
         })
     }
@@ -92,13 +101,7 @@ impl<S: ByteSource> RequestReader<S> {
             Phase::Ended => return Err(WireFault::Ended),
             Phase::Ready => {}
         }
-        let next = read_next(
-            self.alloc,
-            &mut self.source,
-            &mut self.buffer,
-            self.max_body,
-            None,
-        );
+        let next = self.input.next(&mut self.source, &mut Nobody);
         self.phase = match &next {
             Ok(Next::Request { ask: _, style: _ }) => Phase::Ready,
             Ok(Next::Over) => Phase::Over,

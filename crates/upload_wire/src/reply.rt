@@ -3,6 +3,8 @@ ghost use Rattle.std.specs.Prelude.{◌≡◌, IsTrue, OnOk};
 ghost use Rattle.std.specs.List.{concat};
 ghost use Rattle.http_wire.specs.Writing.{Wrote};
 ghost use Rattle.http_wire.specs.Inner.Gathering.{Puts};
+ghost use Rattle.http_wire.specs.HeadText.{status_number};
+ghost use Rattle.upload_wire.specs.ReplySize.{body_size};
 ghost use Rattle.upload_wire.specs.ReplyText.{reply, reply_of};
 
 use crate::request::Style;
@@ -62,5 +64,28 @@ fn put_parts<W: ByteSink>(head: &mut Gather, writer: &mut W, parts: &[Part])
 {
     for part in parts {
         head.put(writer, part.as_slice());
+    }
+}
+
+/// The status of the reply to an answer.
+pub fn reply_status(answer: &Answer) -> u16
+    ensures { result ≡ status_number (reply_of answer.now).status }
+{
+    status_of(answer).number()
+}
+
+/// How many bytes of body the reply to an answer has, where it isn't one to a HEAD.
+pub fn body_size(answer: &Answer) -> u64
+    ensures { result ≡ body_size answer.now }
+{
+    match answer {
+        Answer::Blob {
+            size,
+            bytes: Some(_),
+            ..
+        } => *size,
+        Answer::Misplaced { .. } => ErrorCode::BlobUploadInvalid.body().len() as u64,
+        Answer::Refused(refusal) => refusal_code(*refusal).body().len() as u64,
+        _ => 0,
     }
 }

@@ -1,4 +1,4 @@
-//! Requests, one after another.
+//! A request: what its head describes, and its body behind it.
 ghost use Rattle.std.specs.Prelude.{◌≡◌, ◌+◌, ◌*◌, ◌^◌, ◌≤◌, Err, IfOk, codes};
 ghost use Rattle.http_wire.specs.Body.{most_of};
 ghost use Rattle.http_wire.specs.Reading.{Costs};
@@ -6,14 +6,13 @@ ghost use Rattle.http_wire.specs.Fields.{values_of};
 ghost use Rattle.upload_wire.specs.Target.{extent_of};
 ghost use Rattle.http_wire.specs.Inner.RequestSpans.{IsHeadOf};
 ghost use Rattle.http_wire.specs.Inner.FieldReading.{fields_of};
-ghost use Rattle.upload_wire.specs.RequestText.{ReadsNext};
 ghost use Rattle.upload_wire.specs.Inner.RequestReading.{Describes, FindsRequest};
 
 use crate::asks::{HeadAsk, ask_of};
 use crate::body::Body;
 use http_wire::{
-    Bad, BodyEnd, ByteSource, Framing, HeadRead, Occurrence, ParsedRequest, ReadBuffer, Requests,
-    WireFault, field_named, framing_of, keeps_connection, read_body, read_head,
+    Bad, BodyEnd, ByteSource, Framing, Occurrence, ParsedRequest, ReadBuffer, WireFault,
+    field_named, framing_of, keeps_connection, read_body,
 };
 use std::alloc::Global;
 use upload_names::{ByteRange, UploadRef};
@@ -42,7 +41,7 @@ pub enum Next {
 
 /// What a head describes: what it asks, how it wants its reply, and how its body is written.
 #[derive(Drop)]
-struct Described {
+pub(crate) struct Described {
     ask: HeadAsk,
     style: Style,
     framing: Framing,
@@ -64,7 +63,7 @@ fn range_of(head: &[u8], parsed: &ParsedRequest) -> Extent
 }
 
 /// What a head describes, or what is bad in how it frames its body. The error is a want of memory.
-fn describe(
+pub(crate) fn describe(
     alloc: Global,
     head: &[u8],
     parsed: &ParsedRequest,
@@ -96,7 +95,7 @@ fn describe(
 }
 
 /// Reads the request whose head describes this, and was taken. `filled` is an upload that is known to have bytes.
-fn read_request<S: ByteSource>(
+pub(crate) fn read_request<S: ByteSource>(
     alloc: Global,
     source: &mut S,
     buffer: &mut ReadBuffer,
@@ -124,35 +123,5 @@ fn read_request<S: ByteSource>(
             })
         }
         BodyEnd::Refused(bad) => Ok(Next::Bad(bad)),
-    }
-}
-
-/// Reads what comes next, behind what the buffer holds of it. A body for the upload that is known to have bytes isn't
-/// hashed as it comes.
-pub fn read_next<S: ByteSource>(
-    alloc: Global,
-    source: &mut S,
-    buffer: &mut ReadBuffer,
-    max_body: u64,
-    filled: Option<UploadRef>,
-) -> Result<Next, WireFault>
-    requires { max_body ≤ 2 ^ 31 }
-    ensures found { ReadsNext max_body buffer.old (S.state source.old) buffer.new (S.state source.new) result }
-    ensures costs { Costs (16396 + 13 * max_body) (result ≡ Err WireFault.Read) (S.state source.old) (S.state source.new) }
-{
-    match read_head::<Requests, S>(source, buffer)? {
-        HeadRead::Head(parsed) => {
-            let head = &buffer.as_slice()[..parsed.spans.len];
-            match describe(alloc, head, &parsed, max_body)? {
-                Ok(described) => {
-                    buffer.consume(parsed.spans.len);
-                    read_request(alloc, source, buffer, described, filled)
-                }
-                Err(bad) => Ok(Next::Bad(bad)),
-            }
-        }
-        HeadRead::Over => Ok(Next::Over),
-        HeadRead::Refused => Ok(Next::Bad(Bad::Head)),
-        HeadRead::TooLong => Ok(Next::Bad(Bad::LongHead)),
     }
 }

@@ -2,6 +2,8 @@
 use Rattle.std.specs.Prelude.{◌≡◌, ℕ, ◌+◌, ◌<◌, true, false, List, ◌++◌, Option, Some, None}
 use Rattle.std.specs.Io.KnownBytes.{Consumes}
 use Rattle.upload_service.specs.declared.answer.Answer.{Answer}
+use Rattle.http_wire.specs.declared.fault.Bad.{Bad}
+use Rattle.http_wire.specs.HeadText.{bad}
 use Rattle.upload_wire.specs.ReplyText.{reply}
 use Rattle.http_wire.specs.States.{SourceState, SinkState}
 use Rattle.http_wire.specs.Writing.{TookFront}
@@ -22,6 +24,12 @@ Replies count answer style mid after (Some TooMany) =
 Replies count answer style mid after (Some DeskGone) = ⊥
 Replies count answer style mid after (Some (Fault (Conn.Wire fault))) = ⊥
 Replies count answer style mid after (Some (Fault Conn.Write)) = TookFront mid after (reply answer (last_style count style))
+
+-- How what is no request was replied to.
+abbrev pub RefusedWith : SinkState → SinkState → Bad → ConnEnd → Type 0
+RefusedWith mid after why AfterBad = HandedOn mid after (bad why)
+RefusedWith mid after why (Fault Conn.Write) = TookFront mid after (bad why)
+RefusedWith mid after why other = ⊥
 
 -- The next request was read and answered, its reply was handed on, and the connection goes on.
 pub record GoesOn

@@ -1,10 +1,10 @@
-use Rattle.std.proofs.Common.{◌∙◌, arith, refl}
+use Rattle.std.proofs.Common.{◌∙◌, ap, arith, refl}
 use Rattle.upload_wire.proofs.ConversationLemmas.{goes_on, ends}
 use Rattle.upload_wire.proofs.connection.ConnectionServer.serve.Goals as goal
 
 pub loop-end-preserved : goal.loop-end-preserved
 loop-end-preserved g c = (
-  goes_on g.D.Desk.moves c.self.inside.max_body c.loop-end.self.max_body c.loop-end.self.answered c.serve_next.new.self.answered
+  goes_on g.D.Desk.moves c.begin.new.self.max_body c.loop-end.self.max_body c.loop-end.self.answered c.serve_next.new.self.answered
       (g.S.ByteSource.state c.args.reader.now)
       (g.S.ByteSource.state c.loop-end.reader)
       (g.S.ByteSource.state c.serve_next.new.reader)
@@ -24,8 +24,8 @@ loop-end-smaller g c =
     omega (arith, counted, few, more)
 
 pub returns-in-Some-clause-conversation : goal.returns-in-Some-clause-conversation
-returns-in-Some-clause-conversation g c = rw (← c.self.view_is)
-    (ends g.D.Desk.moves c.self.inside.max_body c.loop-end.self.max_body c.loop-end.self.answered
+returns-in-Some-clause-conversation g c = rw (← c.self.view_is, ← ap (λ i. i.max_body) c.begin.ensures)
+    (ends g.D.Desk.moves c.begin.new.self.max_body c.loop-end.self.max_body c.loop-end.self.answered
     (g.S.ByteSource.state c.args.reader.now)
     (g.S.ByteSource.state c.loop-end.reader)
     (g.S.ByteSource.state c.serve_next.new.reader)

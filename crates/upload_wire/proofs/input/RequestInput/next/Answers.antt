@@ -7,7 +7,7 @@ use Rattle.upload_wire.specs.Inner.RequestReading.{Describes, FindsRequest}
 use Rattle.upload_wire.specs.declared.request.Next.TheVariants.{Bad}
 use Rattle.upload_wire.proofs.RequestLemmas.{head_fault_next, bad_framing_next, request_next, reads_after}
 use Rattle.http_wire.proofs.RequestLaws.{request_laws}
-use Rattle.upload_wire.proofs.request.read_next.Goals as goal
+use Rattle.upload_wire.proofs.input.RequestInput.next.Goals as goal
 
 pub read_head-requires : goal.read_head-requires
 read_head-requires g c = record { lawful = request_laws }
@@ -17,30 +17,32 @@ returns-in-Ok-clause-found g c =
     let p = c.in-Head.parsed in
     let text = c.read_head.new.buffer in
     let front : IsHeadAtFront text p = subst (λ r. FindsHead request_spans text (g.S.ByteSource.state c.read_head.new.source) (Ok r)) c.in-Head.is c.in_ok-parsed.ensures.found in
-    let says = subst (λ t. Describes c.args.max_body (take p.spans.len t) p (Ok (Ok c.in-Ok.described))) c.as_slice.ensures
-    (subst (λ r. Describes c.args.max_body (take p.spans.len c.as_slice.result.now) p (Ok r)) c.in-Ok.is c.in_ok-described-in-Head.ensures.found) in
+    let says = subst (λ t. Describes c.self.inside.max_body (take p.spans.len t) p (Ok (Ok c.in-Ok.described))) c.as_slice.ensures
+    (subst (λ r. Describes c.self.inside.max_body (take p.spans.len c.as_slice.result.now) p (Ok r)) c.in-Ok.is c.in_ok-described-in-Head.ensures.found) in
     let found = subst (λ t. FindsRequest c.in-Ok.described (g.S.ByteSource.state c.read_head.new.source) t
     (g.S.ByteSource.state c.read_request.new.source) c.read_request.new.buffer c.read_request.result) c.consume.ensures c.read_request.ensures.found in
-    reads_after c.args.max_body c.args.buffer.now text c.read_request.new.buffer _ _ _ c.read_request.result c.in_ok-parsed.ensures.gave
-    (request_next c.args.max_body _ _ text c.read_request.new.buffer p c.in-Ok.described c.read_request.result front says found)
+    rw (← c.self.view_is)
+    (reads_after c.self.inside.max_body c.self.inside.buffer text c.read_request.new.buffer _ _ _ c.read_request.result c.in_ok-parsed.ensures.gave
+    (request_next c.self.inside.max_body _ _ text c.read_request.new.buffer p c.in-Ok.described c.read_request.result front says found))
 
 pub returns-in-Err-clause-found : goal.returns-in-Err-clause-found
 returns-in-Err-clause-found g c =
     let p = c.in-Head.parsed in
     let text = c.read_head.new.buffer in
     let front : IsHeadAtFront text p = subst (λ r. FindsHead request_spans text (g.S.ByteSource.state c.read_head.new.source) (Ok r)) c.in-Head.is c.in_ok-parsed.ensures.found in
-    let refused = subst (λ t. Describes c.args.max_body (take p.spans.len t) p (Ok (Err c.in-Err.bad))) c.as_slice.ensures
-    (subst (λ r. Describes c.args.max_body (take p.spans.len c.as_slice.result.now) p (Ok r)) c.in-Err.is c.in_ok-described-in-Head.ensures.found) in
-    reads_after c.args.max_body c.args.buffer.now text text _ _ _ (Ok (Bad c.in-Err.bad)) c.in_ok-parsed.ensures.gave
-    (bad_framing_next c.args.max_body _ text text p c.in-Err.bad front refused)
+    let refused = subst (λ t. Describes c.self.inside.max_body (take p.spans.len t) p (Ok (Err c.in-Err.bad))) c.as_slice.ensures
+    (subst (λ r. Describes c.self.inside.max_body (take p.spans.len c.as_slice.result.now) p (Ok r)) c.in-Err.is c.in_ok-described-in-Head.ensures.found) in
+    rw (← c.self.view_is)
+    (reads_after c.self.inside.max_body c.self.inside.buffer text text _ _ _ (Ok (Bad c.in-Err.bad)) c.in_ok-parsed.ensures.gave
+    (bad_framing_next c.self.inside.max_body _ text text p c.in-Err.bad front refused))
 
 pub returns-in_err-parsed-clause-found : goal.returns-in_err-parsed-clause-found
 returns-in_err-parsed-clause-found g c =
     let p = err_from_is_err_and c.from_residual.result c.from_residual.ensures.1 in
     let gave = c.in_err-parsed.ensures.gave in
-    rw (p.1, p.2) (record {
+    rw (p.1, p.2, ← c.self.view_is) (record {
       given = gave.given;
       consumed = gave.consumed;
-      found = head_fault_next c.args.max_body (c.args.buffer.now ++ gave.given) c.read_head.new.buffer (g.S.ByteSource.state c.read_head.new.source) c.in_err-parsed.field-0.0
+      found = head_fault_next c.self.inside.max_body (c.self.inside.buffer ++ gave.given) c.read_head.new.buffer (g.S.ByteSource.state c.read_head.new.source) c.in_err-parsed.field-0.0
           (subst (λ t. FindsHead request_spans t (g.S.ByteSource.state c.read_head.new.source) (Err c.in_err-parsed.field-0.0)) gave.joined c.in_err-parsed.ensures.found);
     })

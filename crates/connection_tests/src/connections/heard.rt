@@ -1,0 +1,109 @@
+//! What a desk hears beside what it is asked.
+
+use super::LIMITS;
+use crate::expect::{same, same_bytes};
+use memory_ends::{MemorySink, MemorySource};
+use std::alloc::Global;
+use std::marker::Model;
+use std::process::Abort;
+use std::str;
+use std::test::Fail;
+use upload_service::{Answer, Ask, Service};
+use upload_wire::{ConnEnd, ConnFault, ConnectionServer, Desk, ServiceDesk, WireFault};
+
+/// Has a service answer, and writes down what it hears, a line for each head.
+#[derive(Drop)]
+struct HearingDesk {
+    desk: ServiceDesk,
+    alloc: Global,
+    heard: String,
+}
+
+impl Model for HearingDesk {
+    ghost Value = { Unit {0} };
+
+    ghost view = { λ _. tt };
+}
+
+impl HearingDesk {
+    /// Writes down some more; where there is no memory for it, what was heard is lost.
+    fn note(&mut self, more: &str) {
+        if let Ok(heard) = format!(in self.alloc; "{}{more}", self.heard) {
+            self.heard = heard;
+        }
+    }
+}
+
+impl Desk for HearingDesk {
+    ghost moves = { λ _ _ _ _. Unit {0} };
+
+    fn ask(&mut self, ask: Ask) -> Option<Answer> {
+        self.note(" asked");
+        self.desk.ask(ask)
+    }
+
+    fn hears(&mut self, method: &[u8], target: &[u8]) {
+        for text in [b"\n".as_slice(), method, b" ", target] {
+            self.note(str::from_utf8(text).unwrap_or("?"));
+        }
+    }
+
+    fn replied(&mut self, status: u16, size: u64) {
+        if let Ok(reply) = format!(in self.alloc; " {status} {size}") {
+            self.note(reply.as_str());
+        }
+    }
+}
+
+/// What is sent over connections that are served one behind the other, and how each ends. The second ends inside a body.
+static SENT: [(&str, ConnEnd); 3] = [
+    (
+        "GET /v2/ HTTP/1.1\r\n\r\n\
+POST /v2/lib/a/blobs/uploads/?digest=sha256:ba7816bf8f01cfea414140de5dae2223b00361a396177a9cb410ff61f20015ad HTTP/1.1\r\n\
+Content-Length: 3\r\n\r\nabc\
+GET /v2/lib/a/blobs/sha256:ba7816bf8f01cfea414140de5dae2223b00361a396177a9cb410ff61f20015ad HTTP/1.1\r\n\r\n\
+HEAD /v2/lib/a/blobs/sha256:ba7816bf8f01cfea414140de5dae2223b00361a396177a9cb410ff61f20015ad HTTP/1.1\r\n\r\n\
+DELETE /v2/lib/a/blobs/uploads/?a=%20b HTTP/1.1\r\n\r\n\
+PATCH /v2/lib/a/blobs/uploads/ HTTP/1.1\r\nTransfer-Encoding: gzip\r\n\r\n",
+        ConnEnd::AfterBad,
+    ),
+    (
+        "PUT /v2/ HTTP/1.1\r\nContent-Length: 3\r\n\r\nab",
+        ConnEnd::Fault(ConnFault::Wire(WireFault::Truncated)),
+    ),
+    ("GET /v2/ HTTP/9.9\r\n\r\n", ConnEnd::AfterBad),
+];
+
+/// What is heard of them: of the last one's head that it can't be read.
+const HEARD: &[u8] = b"\n\
+GET /v2/ asked 200 0\n\
+POST /v2/lib/a/blobs/uploads/?digest=sha256:ba7816bf8f01cfea414140de5dae2223b00361a396177a9cb410ff61f20015ad asked 201 0\n\
+GET /v2/lib/a/blobs/sha256:ba7816bf8f01cfea414140de5dae2223b00361a396177a9cb410ff61f20015ad asked 200 3\n\
+HEAD /v2/lib/a/blobs/sha256:ba7816bf8f01cfea414140de5dae2223b00361a396177a9cb410ff61f20015ad asked 200 0\n\
+DELETE /v2/lib/a/blobs/uploads/?a=%20b asked 405 76\n\
+PATCH /v2/lib/a/blobs/uploads/ 411 0\n\
+PUT /v2/\n  400 0";
+
+#[test]
+fn a_desk_hears_of_heads_and_replies(rt: HostRuntime) -> Result<(), Fail> {
+    assert!(rt; LIMITS.lawful());
+    let mut server = ConnectionServer::new(rt.alloc(), LIMITS)?;
+    let mut desk = HearingDesk {
+        desk: ServiceDesk::new(Service::new(rt.alloc(), LIMITS), [0; 12], 0),
+        alloc: rt.alloc(),
+        heard: String::new(rt.alloc()),
+    };
+    for (input, end) in SENT.iter() {
+        let mut reader = MemorySource::new(input.as_bytes(), 65_536, false);
+        let mut writer = MemorySink::new(Vec::new(rt.alloc()), 65_536, 65_536);
+        let ended = server.serve(&mut reader, &mut writer, &mut desk);
+        same(&rt, ended, *end, &"its end");
+    }
+    same_bytes(
+        &rt,
+        desk.heard.as_str().as_bytes(),
+        HEARD,
+        &"what was heard",
+    );
+    Ok(())
+}
