@@ -48,10 +48,14 @@ bounded front (Ended value) h =
 pub front_kept : (a b : SourceState) (old new : List ℕ) (at : ℕ) → Gave a b old new → at ≤ length old → take at new ≡ take at old
 front_kept a b old new at gave le = ap (take at) gave.joined ∙ take-append-le at old gave.given le
 
+pub front_stands : (a b : SourceState) (old new : List ℕ) (at : ℕ) (state : LineState) → Gave a b old new → at ≤ length old
+    → StandsAt (take at old) state → StandsAt (take at new) state
+front_stands a b old new at state gave le = subst (λ t. StandsAt t state) (sym (front_kept a b old new at gave le))
+
 -- one more byte
-pub front_next : (text : List ℕ) (at b : ℕ) → b ≡ get_or text at b → at < length text → take (at + 1) text ≡ take at text ++ b ∷ []
-front_next text at b is lt =
-    ap (λ n. take n text) (add-one at) ∙ take-suc text at b lt ∙ ap (λ x. take at text ++ x ∷ []) (sym is)
+pub front_next : (text : List ℕ) (at byte : ℕ) → (at < length text) × (byte ≡ get_or text at 0) → take (at + 1) text ≡ take at text ++ byte ∷ []
+front_next text at byte there =
+    ap (λ n. take n text) (add-one at) ∙ take-suc text at 0 there.0 ∙ ap (λ b. take at text ++ b ∷ []) (sym there.1)
 
 pub cut_round : (text : List ℕ) (at b : ℕ) → take (at + 1) text ≡ take at text ++ b ∷ [] → take at text ++ b ∷ drop (at + 1) text ≡ text
 cut_round text at b next =

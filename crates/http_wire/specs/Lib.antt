@@ -3,6 +3,7 @@ pub mod States
 pub mod Faults
 pub mod FaultTexts
 pub mod Reading
+pub mod Inputs
 pub mod Writing
 pub mod Fronts
 pub mod RequestFronts

@@ -43,7 +43,7 @@ impl ReadBuffer {
     }
 
     /// The bytes that it holds.
-    pub fn as_slice(&self) -> &[u8]
+    pub(crate) fn as_slice(&self) -> &[u8]
         ensures { result.now ≡ self.now }
     {
         &self.bytes[self.start..self.end]
@@ -57,7 +57,7 @@ impl ReadBuffer {
     }
 
     /// Drops the first bytes.
-    pub fn consume(&mut self, count: usize)
+    pub(crate) fn consume(&mut self, count: usize)
         requires { count ≤ length self.old }
         ensures { self.new ≡ drop count self.old }
     {
@@ -73,7 +73,7 @@ impl ReadBuffer {
     }
 
     /// Reads once, behind what it holds. 0 is the end. A read that failed leaves what it holds.
-    pub fn fill<S: ByteSource>(&mut self, source: &mut S) -> Result<usize, Failed>
+    pub(crate) fn fill<S: ByteSource>(&mut self, source: &mut S) -> Result<usize, Failed>
         requires { length self.old < CAPACITY }
         ensures gave { Gave (S.state source.old) (S.state source.new) self.old self.new }
         ensures count { IfOk result (λ n. length self.new ≡ length self.old + n) }

@@ -3,17 +3,16 @@
 ghost use Rattle.std.specs.Prelude.{◌≡◌, ℕ, ◌+◌, ◌*◌, ◌-◌, ◌^◌, ◌<◌, ◌≤◌, List, [], ◌∷◌, ◌++◌, length, Ok, Err, MatchOption, IsFalse, true};
 ghost use Rattle.std.specs.Char.{is_ascii_hexdigit, digit_value};
 ghost use Rattle.http_wire.specs.Counts.{CountsAtMost};
-ghost use Rattle.http_wire.specs.Reading.{Costs};
+ghost use Rattle.http_wire.specs.Inputs.{ReadsAtMost};
 ghost use Rattle.http_wire.specs.Inner.SizeLines.{StandsAt, StepSays, IsBounded};
 ghost use Rattle.http_wire.specs.Inner.ChunkReading.{FindsLine, FindsEnd, FindsChunk};
 ghost use Rattle.http_wire.specs.Inner.BodyFinding.{FindsBody};
 
 use crate::body::{BodyBuffer, BodyEnd, read_bytes};
-use crate::buffer::ReadBuffer;
 use crate::bytes::ByteSource;
 use crate::fault::{Bad, BodyFault, InputFault};
 use crate::framing::Framing;
-use crate::head::has_byte;
+use crate::input::Input;
 
 /// What was read of a size line.
 #[derive(Clone, Copy)]
@@ -96,20 +95,21 @@ fn line_step(state: LineState, byte: u8) -> LineStep
     }
 }
 
-/// Reads a size line, and takes it out of the buffer.
-fn read_line<S: ByteSource>(source: &mut S, buffer: &mut ReadBuffer) -> Result<LineRead, InputFault>
-    ensures found { FindsLine (S.state source.old) buffer.old (S.state source.new) buffer.new result }
-    ensures costs { Costs 10 (result ≡ Err InputFault.Read) (S.state source.old) (S.state source.new) }
+/// Reads a size line, and takes it.
+fn read_line<S: ByteSource>(input: &mut Input<'_, S>) -> Result<LineRead, InputFault>
+    ensures found { FindsLine (S.state input.old.source.now) input.old.buffer.now
+        (S.state input.new.source.now) input.new.buffer.now result }
+    ensures costs { ReadsAtMost S.state 10 (result ≡ Err InputFault.Read) input.old input.new }
 {
     let mut state = LineState::Digits(0, 0);
     for at in 0..10usize {
-        if !has_byte(source, buffer, at)? {
+        let Some(byte) = input.byte(at)? else {
             return Err(InputFault::Truncated);
-        }
-        match line_step(state, buffer.as_slice()[at]) {
+        };
+        match line_step(state, byte) {
             LineStep::More(next) => state = next,
             LineStep::Whole(size) => {
-                buffer.consume(at + 1);
+                input.take(at + 1);
                 return Ok(LineRead::Size(size));
             }
             LineStep::Broken => return Ok(LineRead::Broken),
@@ -118,49 +118,49 @@ fn read_line<S: ByteSource>(source: &mut S, buffer: &mut ReadBuffer) -> Result<L
     unreachable!()
 }
 
-/// Reads a line end, CR LF, and takes it out of the buffer. `false`: a byte came that isn't one of it.
-fn read_line_end<S: ByteSource>(source: &mut S, buffer: &mut ReadBuffer) -> Result<bool, InputFault>
-    ensures found { FindsEnd (S.state source.old) buffer.old (S.state source.new) buffer.new result }
-    ensures costs { Costs 2 (result ≡ Err InputFault.Read) (S.state source.old) (S.state source.new) }
+/// Reads a line end, CR LF, and takes it. `false`: a byte came that isn't one of it.
+fn read_line_end<S: ByteSource>(input: &mut Input<'_, S>) -> Result<bool, InputFault>
+    ensures found { FindsEnd (S.state input.old.source.now) input.old.buffer.now
+        (S.state input.new.source.now) input.new.buffer.now result }
+    ensures costs { ReadsAtMost S.state 2 (result ≡ Err InputFault.Read) input.old input.new }
 {
-    if !has_byte(source, buffer, 0)? {
+    let Some(first) = input.byte(0)? else {
         return Err(InputFault::Truncated);
-    }
-    if buffer.as_slice()[0] != b'\r' {
+    };
+    if first != b'\r' {
         return Ok(false);
     }
-    if !has_byte(source, buffer, 1)? {
+    let Some(second) = input.byte(1)? else {
         return Err(InputFault::Truncated);
-    }
-    if buffer.as_slice()[1] != b'\n' {
+    };
+    if second != b'\n' {
         return Ok(false);
     }
-    buffer.consume(2);
+    input.take(2);
     Ok(true)
 }
 
 /// Reads one chunk and adds its data to the body, or reads the end.
 fn read_chunk<S: ByteSource, B: BodyBuffer>(
-    source: &mut S,
-    buffer: &mut ReadBuffer,
+    input: &mut Input<'_, S>,
     body: &mut B,
     room: u64,
 ) -> Result<ChunkRead, BodyFault>
     requires { room ≤ 2 ^ 31 }
-    ensures found { FindsChunk room (S.state source.old) buffer.old (B.bytes body.old) (S.state source.new)
-        buffer.new (B.bytes body.new) result }
-    ensures costs { Costs (12 + room) (result ≡ Err BodyFault.Read) (S.state source.old) (S.state source.new) }
-    ensures few { result ≡ Ok ChunkRead.More → CountsAtMost (S.state source.old).reads (S.state source.new).reads
+    ensures found { FindsChunk room (S.state input.old.source.now) input.old.buffer.now (B.bytes body.old)
+        (S.state input.new.source.now) input.new.buffer.now (B.bytes body.new) result }
+    ensures costs { ReadsAtMost S.state (12 + room) (result ≡ Err BodyFault.Read) input.old input.new }
+    ensures few { result ≡ Ok ChunkRead.More → CountsAtMost (S.state input.old.source.now).reads (S.state input.new.source.now).reads
         (12 + (length (B.bytes body.new) - length (B.bytes body.old))) }
 {
-    let LineRead::Size(size) = read_line(source, buffer)? else {
+    let LineRead::Size(size) = read_line(input)? else {
         return Ok(ChunkRead::Refused(Bad::Chunks));
     };
     if size > room {
         return Ok(ChunkRead::Refused(Bad::TooLarge));
     }
-    read_bytes(source, buffer, body, size as usize)?;
-    if !read_line_end(source, buffer)? {
+    read_bytes(input, body, size as usize)?;
+    if !read_line_end(input)? {
         return Ok(ChunkRead::Refused(Bad::Chunks));
     }
     if size == 0 {
@@ -172,21 +172,20 @@ fn read_chunk<S: ByteSource, B: BodyBuffer>(
 
 /// Reads chunks up to the end, and puts their data, of at most so many bytes, into an empty buffer.
 pub fn read_chunks<S: ByteSource, B: BodyBuffer>(
-    source: &mut S,
-    buffer: &mut ReadBuffer,
+    input: &mut Input<'_, S>,
     body: &mut B,
     most: u64,
 ) -> Result<BodyEnd, BodyFault>
     requires limit { most ≤ 2 ^ 31 }
     requires empty { B.bytes body.old ≡ [] }
-    ensures found { FindsBody (Framing.Chunked most) (S.state source.old) buffer.old (S.state source.new)
-        buffer.new (B.bytes body.new) result }
-    ensures costs { Costs (12 + 13 * most) (result ≡ Err BodyFault.Read) (S.state source.old) (S.state source.new) }
+    ensures found { FindsBody (Framing.Chunked most) (S.state input.old.source.now) input.old.buffer.now
+        (S.state input.new.source.now) input.new.buffer.now (B.bytes body.new) result }
+    ensures costs { ReadsAtMost S.state (12 + 13 * most) (result ≡ Err BodyFault.Read) input.old input.new }
 {
     // Each chunk but the last has a byte, so there are at most one more than the most bytes of a body.
     for _chunk in 0..most + 1 {
         let room = most - body.len() as u64;
-        match read_chunk(source, buffer, body, room)? {
+        match read_chunk(input, body, room)? {
             ChunkRead::More => {}
             ChunkRead::Last => return Ok(BodyEnd::Whole),
             ChunkRead::Refused(bad) => return Ok(BodyEnd::Refused(bad)),

@@ -1,13 +1,13 @@
 //! Heads, read from a source of bytes.
-ghost use Rattle.std.specs.Prelude.{◌≡◌, ℕ, ◌+◌, ◌<◌, ◌≤◌, List, length, take, Err, IfOk, OnErr, IsErr, IsTrue, IsFalse};
-ghost use Rattle.std.specs.Io.KnownBytes.{IsAtEnd};
+ghost use Rattle.std.specs.Prelude.{◌≡◌, ◌+◌, ◌<◌, length, take, Err};
 ghost use Rattle.http_wire.specs.Fronts.{line_feeds, HasNone};
-ghost use Rattle.http_wire.specs.Reading.{Gave, Costs};
+ghost use Rattle.http_wire.specs.Reading.{Gave};
+ghost use Rattle.http_wire.specs.Inputs.{ReadsAtMost};
 ghost use Rattle.http_wire.specs.Inner.HeadReading.{Spans, AreLawful, Judges, JudgesAt, FindsHead};
 
-use crate::buffer::{CAPACITY, ReadBuffer};
-use crate::bytes::{ByteSource, Failed};
+use crate::bytes::ByteSource;
 use crate::fault::InputFault;
+use crate::input::Input;
 
 /// The most bytes of a head, with its empty line.
 pub const MAX_HEAD: usize = 16_384;
@@ -86,53 +86,30 @@ pub fn lines_after(text: &[u8], at: usize, lines: usize) -> usize
     if text[at] == b'\n' { lines + 1 } else { lines }
 }
 
-/// Reads until the buffer has a byte at this index. `false`: the input ended before it. A read that
-/// failed leaves what the buffer holds.
-pub fn has_byte<S: ByteSource>(
-    source: &mut S,
-    buffer: &mut ReadBuffer,
-    at: usize,
-) -> Result<bool, Failed>
-    requires near { at ≤ length buffer.old }
-    requires small { at < CAPACITY }
-    ensures gave { Gave (S.state source.old) (S.state source.new) buffer.old buffer.new }
-    ensures there { IfOk result (λ b. IsTrue b → at < length buffer.new) }
-    ensures ended { IfOk result (λ b. IsFalse b → (length buffer.new ≡ at)
-        × (buffer.new ≡ buffer.old) × IsAtEnd (S.state source.new).remaining) }
-    ensures kept { OnErr result ((length buffer.new ≡ at) × (buffer.new ≡ buffer.old)) }
-    ensures costs { Costs 1 (IsErr result) (S.state source.old) (S.state source.new) }
-{
-    if at < buffer.len() {
-        return Ok(true);
-    }
-    Ok(buffer.fill(source)? > 0)
-}
-
-/// Reads a head, behind what the buffer holds of it.
+/// Reads a head, which isn't taken.
 pub fn read_head<G: Grammar, S: ByteSource>(
-    source: &mut S,
-    buffer: &mut ReadBuffer,
+    input: &mut Input<'_, S>,
 ) -> Result<HeadRead<G::Parsed>, InputFault>
     requires lawful { AreLawful G.spans }
-    ensures gave { Gave (S.state source.old) (S.state source.new) buffer.old buffer.new }
-    ensures found { FindsHead G.spans buffer.new (S.state source.new) result }
-    ensures costs { Costs MAX_HEAD (result ≡ Err InputFault.Read) (S.state source.old) (S.state source.new) }
+    ensures gave { Gave (S.state input.old.source.now) (S.state input.new.source.now) input.old.buffer.now input.new.buffer.now }
+    ensures found { FindsHead G.spans input.new.buffer.now (S.state input.new.source.now) result }
+    ensures costs { ReadsAtMost S.state MAX_HEAD (result ≡ Err InputFault.Read) input.old input.new }
 {
     let mut lines = 0;
     for at in 0..MAX_HEAD {
-        if !has_byte(source, buffer, at)? {
+        if input.byte(at)?.is_none() {
             return if at == 0 {
                 Ok(HeadRead::Over)
             } else {
                 Err(InputFault::Truncated)
             };
         }
-        match judge_at::<G>(buffer.as_slice(), at, lines) {
+        match judge_at::<G>(input.unread(), at, lines) {
             Verdict::Complete(parsed) => return Ok(HeadRead::Head(parsed)),
             Verdict::Refused => return Ok(HeadRead::Refused),
             Verdict::Open => {}
         }
-        lines = lines_after(buffer.as_slice(), at, lines);
+        lines = lines_after(input.unread(), at, lines);
     }
     Ok(HeadRead::TooLong)
 }

@@ -18,6 +18,7 @@ mod fields;
 mod framing;
 mod gather;
 mod head;
+mod input;
 mod laws;
 mod query;
 mod refusal;
@@ -35,7 +36,8 @@ pub use fields::{
 };
 pub use framing::{Framing, framing_of, length_of};
 pub use gather::Gather;
-pub use head::{Grammar, HeadRead, MAX_FIELDS, MAX_HEAD, Verdict, has_byte, read_head};
+pub use head::{Grammar, HeadRead, MAX_FIELDS, MAX_HEAD, Verdict, read_head};
+pub use input::Input;
 pub use laws::{bodies_are_unambiguous, heads_are_unambiguous};
 pub use query::parameter;
 pub use refusal::{bad_status, write_bad};

@@ -1,6 +1,7 @@
 //! Requests, one after another.
-ghost use Rattle.std.specs.Prelude.{◌≡◌, [], Err, IfOk};
+ghost use Rattle.std.specs.Prelude.{◌≡◌, ◌^◌, ◌≤◌, [], Err, IfOk};
 ghost use Rattle.http_wire.specs.Reading.{Costs};
+ghost use Rattle.http_wire.specs.Inputs.{ReadsAtMost};
 ghost use Rattle.http_wire.specs.Inner.RequestSpans.{IsHeadOf};
 ghost use Rattle.upload_service.specs.Machine.{AreLawful};
 ghost use Rattle.upload_wire.specs.Phases.{most_reads};
@@ -9,7 +10,7 @@ ghost use Rattle.upload_wire.specs.RequestText.{ReadsNext};
 use crate::desk::Desk;
 use crate::request::{Next, describe, read_request};
 use http_wire::{
-    Bad, ByteSource, HeadRead, ParsedRequest, ReadBuffer, Requests, WireFault, read_head,
+    Bad, ByteSource, HeadRead, Input, ParsedRequest, ReadBuffer, Requests, WireFault, read_head,
 };
 use std::alloc::{AllocError, Global};
 use std::marker::Model;
@@ -79,22 +80,40 @@ impl RequestInput {
         ensures limit { self.new.max_body ≡ self.old.max_body }
         ensures unasked { desk.new ≡ desk.old }
     {
-        match read_head::<Requests, S>(source, &mut self.buffer)? {
-            HeadRead::Head(parsed) => {
-                let head = &self.buffer.as_slice()[..parsed.spans.len];
-                tell(desk, head, &parsed);
-                match describe(self.alloc, head, &parsed, self.max_body)? {
-                    Ok(described) => {
-                        self.buffer.consume(parsed.spans.len);
-                        read_request(self.alloc, source, &mut self.buffer, described, self.filled)
-                    }
-                    Err(bad) => Ok(Next::Bad(bad)),
+        let mut input = Input::new(source, &mut self.buffer);
+        read_next(self.alloc, &mut input, self.max_body, self.filled, desk)
+    }
+}
+
+/// Reads what comes next, with a body of at most `max_body` bytes. `filled` is an upload that is known to have bytes.
+fn read_next<S: ByteSource, D: Desk>(
+    alloc: Global,
+    input: &mut Input<'_, S>,
+    max_body: u64,
+    filled: Option<UploadRef>,
+    desk: &mut D,
+) -> Result<Next, WireFault>
+    requires { max_body ≤ 2 ^ 31 }
+    ensures found { ReadsNext max_body input.old.buffer.now (S.state input.old.source.now)
+        input.new.buffer.now (S.state input.new.source.now) result }
+    ensures costs { ReadsAtMost S.state (most_reads max_body) (result ≡ Err WireFault.Read) input.old input.new }
+    ensures unasked { desk.new ≡ desk.old }
+{
+    match read_head::<Requests, S>(input)? {
+        HeadRead::Head(parsed) => {
+            let head = &input.unread()[..parsed.spans.len];
+            tell(desk, head, &parsed);
+            match describe(alloc, head, &parsed, max_body)? {
+                Ok(described) => {
+                    input.take(parsed.spans.len);
+                    read_request(alloc, input, described, filled)
                 }
+                Err(bad) => Ok(Next::Bad(bad)),
             }
-            HeadRead::Over => Ok(Next::Over),
-            HeadRead::Refused => Ok(unreadable(desk, Bad::Head)),
-            HeadRead::TooLong => Ok(unreadable(desk, Bad::LongHead)),
         }
+        HeadRead::Over => Ok(Next::Over),
+        HeadRead::Refused => Ok(unreadable(desk, Bad::Head)),
+        HeadRead::TooLong => Ok(unreadable(desk, Bad::LongHead)),
     }
 }
 

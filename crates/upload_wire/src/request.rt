@@ -1,7 +1,7 @@
 //! A request: what its head describes, and its body behind it.
 ghost use Rattle.std.specs.Prelude.{◌≡◌, ◌+◌, ◌*◌, ◌^◌, ◌≤◌, Err, IfOk, codes};
 ghost use Rattle.http_wire.specs.Body.{most_of};
-ghost use Rattle.http_wire.specs.Reading.{Costs};
+ghost use Rattle.http_wire.specs.Inputs.{ReadsAtMost};
 ghost use Rattle.http_wire.specs.Fields.{values_of};
 ghost use Rattle.upload_wire.specs.Target.{extent_of};
 ghost use Rattle.http_wire.specs.Inner.RequestSpans.{IsHeadOf};
@@ -11,11 +11,11 @@ ghost use Rattle.upload_wire.specs.Inner.RequestReading.{Describes, FindsRequest
 use crate::asks::{HeadAsk, ask_of};
 use crate::body::Body;
 use http_wire::{
-    Bad, BodyEnd, ByteSource, Framing, Occurrence, ParsedRequest, ReadBuffer, WireFault,
-    field_named, framing_of, keeps_connection, read_body,
+    Bad, BodyEnd, ByteSource, Framing, Input, Occurrence, ParsedRequest, WireFault, field_named,
+    framing_of, keeps_connection, read_body,
 };
 use std::alloc::Global;
-use upload_names::{ByteRange, UploadRef};
+use upload_names::{ByteRange, Bytes, UploadRef};
 use upload_service::{Ask, Extent};
 
 /// How a request wants its reply.
@@ -97,23 +97,24 @@ pub(crate) fn describe(
 /// Reads the request whose head describes this, and was taken. `filled` is an upload that is known to have bytes.
 pub(crate) fn read_request<S: ByteSource>(
     alloc: Global,
-    source: &mut S,
-    buffer: &mut ReadBuffer,
+    input: &mut Input<'_, S>,
     described: Described,
     filled: Option<UploadRef>,
 ) -> Result<Next, WireFault>
     requires { most_of described.framing ≤ 2 ^ 31 }
-    ensures found { FindsRequest described (S.state source.old) buffer.old (S.state source.new) buffer.new result }
-    ensures costs { Costs (12 + 13 * most_of described.framing) (result ≡ Err WireFault.Read)
-        (S.state source.old) (S.state source.new) }
+    ensures found { FindsRequest described (S.state input.old.source.now) input.old.buffer.now
+        (S.state input.new.source.now) input.new.buffer.now result }
+    ensures costs { ReadsAtMost S.state (12 + 13 * most_of described.framing) (result ≡ Err WireFault.Read) input.old input.new }
 {
     let Described {
         ask,
         style,
         framing,
     } = described;
-    let mut body = Body::begin(alloc, ask.hash_wanted(framing, filled));
-    match read_body(source, buffer, &mut body, framing)? {
+    let mut body = Body {
+        bytes: Bytes::begin(alloc, ask.hash_wanted(framing, filled)),
+    };
+    match read_body(input, &mut body, framing)? {
         BodyEnd::Whole => {
             // It may stay as long as its blob does, so the room that it grew by in advance goes.
             body.bytes.shrink_to_fit();

@@ -1,14 +1,14 @@
 //! The body of a response, read behind its head.
 ghost use Rattle.std.specs.Prelude.{◌≡◌, ◌+◌, ◌^◌, ◌≤◌, [], Err};
-ghost use Rattle.http_wire.specs.Reading.{Costs};
+ghost use Rattle.http_wire.specs.Inputs.{ReadsAtMost};
 ghost use Rattle.http_wire.specs.ResponseBody.{IsFraming, most_of};
 ghost use Rattle.http_wire.specs.Inner.ResponseBodyFinding.{FindsBody, end_of};
 
 use super::framing::ResponseFraming;
 use crate::body::{BodyBuffer, read_bytes};
-use crate::buffer::ReadBuffer;
 use crate::bytes::ByteSource;
 use crate::fault::BodyFault;
+use crate::input::Input;
 
 /// How the reading of a response's body ended.
 #[derive(Clone, Copy, Debug, PartialEq, Eq)]
@@ -21,18 +21,17 @@ pub enum ResponseBodyEnd {
 
 /// Reads a body that goes to the end of the input.
 fn read_to_end<S: ByteSource, B: BodyBuffer>(
-    source: &mut S,
-    buffer: &mut ReadBuffer,
+    input: &mut Input<'_, S>,
     body: &mut B,
     most: u64,
 ) -> Result<ResponseBodyEnd, BodyFault>
     requires small { most ≤ 2 ^ 31 }
     requires empty { B.bytes body.old ≡ [] }
-    ensures found { FindsBody (ResponseFraming.ToEnd most) buffer.old (S.state source.old) (B.bytes body.new)
-        buffer.new (S.state source.new) result }
-    ensures costs { Costs (most + 1) (result ≡ Err BodyFault.Read) (S.state source.old) (S.state source.new) }
+    ensures found { FindsBody (ResponseFraming.ToEnd most) input.old.buffer.now (S.state input.old.source.now) (B.bytes body.new)
+        input.new.buffer.now (S.state input.new.source.now) result }
+    ensures costs { ReadsAtMost S.state (most + 1) (result ≡ Err BodyFault.Read) input.old input.new }
 {
-    match read_bytes(source, buffer, body, most as usize + 1) {
+    match read_bytes(input, body, most as usize + 1) {
         Ok(()) => Ok(ResponseBodyEnd::TooLarge),
         Err(fault) => end_of(fault),
     }
@@ -51,21 +50,21 @@ fn end_of(fault: BodyFault) -> Result<ResponseBodyEnd, BodyFault>
 /// Reads the body of that framing into an empty buffer, which grows as it comes. `Truncated`: the input ended inside a body
 /// of a length. `Read`: a read failed. `NoMemory`: a growth was refused.
 pub fn read_response_body<S: ByteSource, B: BodyBuffer>(
-    source: &mut S,
-    buffer: &mut ReadBuffer,
+    input: &mut Input<'_, S>,
     body: &mut B,
     framing: ResponseFraming,
 ) -> Result<ResponseBodyEnd, BodyFault>
     requires small { IsFraming (2 ^ 31) framing }
     requires empty { B.bytes body.old ≡ [] }
-    ensures found { FindsBody framing buffer.old (S.state source.old) (B.bytes body.new) buffer.new (S.state source.new) result }
-    ensures costs { Costs (most_of framing + 1) (result ≡ Err BodyFault.Read) (S.state source.old) (S.state source.new) }
+    ensures found { FindsBody framing input.old.buffer.now (S.state input.old.source.now) (B.bytes body.new)
+        input.new.buffer.now (S.state input.new.source.now) result }
+    ensures costs { ReadsAtMost S.state (most_of framing + 1) (result ≡ Err BodyFault.Read) input.old input.new }
 {
     match framing {
         ResponseFraming::Length(length) => {
-            read_bytes(source, buffer, body, length as usize)?;
+            read_bytes(input, body, length as usize)?;
             Ok(ResponseBodyEnd::Whole)
         }
-        ResponseFraming::ToEnd(most) => read_to_end(source, buffer, body, most),
+        ResponseFraming::ToEnd(most) => read_to_end(input, body, most),
     }
 }

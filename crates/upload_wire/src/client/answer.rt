@@ -2,6 +2,7 @@
 ghost use Rattle.std.specs.Prelude.{◌≡◌, ℕ, ◌==◌, [], length, option_map, Err, IfOk, false, true, is_err};
 ghost use Rattle.serde_json.specs.View.{view};
 ghost use Rattle.http_wire.specs.Reading.{Costs};
+ghost use Rattle.http_wire.specs.Inputs.{ReadsAtMost};
 ghost use Rattle.http_wire.specs.Fields.{Fields};
 ghost use Rattle.upload_wire.specs.AnswerText.{ReadsAnswer, code_in, code_of, most_answer_reads, upto_of};
 ghost use Rattle.http_wire.specs.Inner.ResponseSpans.{IsHeadAtFront, IsHeadOf, fields_of};
@@ -10,8 +11,8 @@ ghost use Rattle.upload_wire.specs.Inner.AnswerReading.{FindsReply, PlaceUnlessN
 use crate::client::heard::{Heard, HeardFault, SaidFault};
 use http_uri::{Uri, UriError};
 use http_wire::{
-    ByteSource, HeadRead, ParsedResponse, ReadBuffer, ResponseBodyEnd, Responses, first_among,
-    read_head, read_response_body, response_framing, response_keeps_connection,
+    ByteSource, HeadRead, Input, ParsedResponse, ReadBuffer, ResponseBodyEnd, Responses,
+    first_among, read_head, read_response_body, response_framing, response_keeps_connection,
 };
 use serde_json::Value;
 use std::alloc::{AllocError, Global};
@@ -126,26 +127,26 @@ struct ReplyRead {
     keep: bool,
 }
 
-/// Reads the body behind a head, and takes the reply out of the buffer.
+/// Reads the body behind a head, and takes both.
 fn read_framed<S: ByteSource>(
     alloc: Global,
-    source: &mut S,
-    buffer: &mut ReadBuffer,
+    input: &mut Input<'_, S>,
     parsed: &ParsedResponse,
     head_only: bool,
 ) -> Result<ReplyRead, HeardFault>
-    requires { IsHeadAtFront buffer.old parsed.now }
-    ensures found { FindsReply head_only buffer.old (S.state source.old) buffer.new (S.state source.new) result }
-    ensures costs { Costs 65537 (result ≡ Err HeardFault.Read) (S.state source.old) (S.state source.new) }
+    requires { IsHeadAtFront input.old.buffer.now parsed.now }
+    ensures found { FindsReply head_only input.old.buffer.now (S.state input.old.source.now)
+        input.new.buffer.now (S.state input.new.source.now) result }
+    ensures costs { ReadsAtMost S.state 65537 (result ≡ Err HeardFault.Read) input.old input.new }
 {
-    let head = &buffer.as_slice()[..parsed.spans.len];
+    let head = &input.unread()[..parsed.spans.len];
     let framing = response_framing(head, parsed, head_only, MAX_ANSWER)?;
     // What the head says is heard once the body is there.
     let said = said_of(alloc, head, parsed);
     let keep = response_keeps_connection(head, parsed, framing);
-    buffer.consume(parsed.spans.len);
+    input.take(parsed.spans.len);
     let mut body = Vec::new(alloc);
-    match read_response_body(source, buffer, &mut body, framing)? {
+    match read_response_body(input, &mut body, framing)? {
         ResponseBodyEnd::Whole => {
             let heard = with_code(alloc, said, &body)?;
             Ok(ReplyRead { heard, keep })
@@ -154,18 +155,18 @@ fn read_framed<S: ByteSource>(
     }
 }
 
-/// Reads the next reply, behind what the buffer holds of it.
+/// Reads the next reply.
 fn read_answer<S: ByteSource>(
     alloc: Global,
-    source: &mut S,
-    buffer: &mut ReadBuffer,
+    input: &mut Input<'_, S>,
     head_only: bool,
 ) -> Result<ReplyRead, HeardFault>
-    ensures found { FindsReply head_only buffer.old (S.state source.old) buffer.new (S.state source.new) result }
-    ensures costs { Costs most_answer_reads (result ≡ Err HeardFault.Read) (S.state source.old) (S.state source.new) }
+    ensures found { FindsReply head_only input.old.buffer.now (S.state input.old.source.now)
+        input.new.buffer.now (S.state input.new.source.now) result }
+    ensures costs { ReadsAtMost S.state most_answer_reads (result ≡ Err HeardFault.Read) input.old input.new }
 {
-    match read_head::<Responses, S>(source, buffer)? {
-        HeadRead::Head(parsed) => read_framed(alloc, source, buffer, &parsed, head_only),
+    match read_head::<Responses, S>(input)? {
+        HeadRead::Head(parsed) => read_framed(alloc, input, &parsed, head_only),
         HeadRead::Over => Err(HeardFault::Truncated),
         HeadRead::Refused => Err(HeardFault::Unreadable),
         HeadRead::TooLong => Err(HeardFault::TooLarge),
@@ -240,7 +241,8 @@ impl<S: ByteSource> AnswerReader<S> {
         if self.ended {
             return Err(HeardFault::Ended);
         }
-        let reply = read_answer(self.alloc, &mut self.source, &mut self.buffer, head);
+        let mut input = Input::new(&mut self.source, &mut self.buffer);
+        let reply = read_answer(self.alloc, &mut input, head);
         self.ended = reply.is_err();
         let reply = reply?;
         self.keep = reply.keep;

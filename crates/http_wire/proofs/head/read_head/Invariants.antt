@@ -1,15 +1,17 @@
 use Rattle.std.proofs.Common.{◌≡◌, ◌≤◌, length, take}
 use Rattle.http_wire.specs.Counts.{CountsAtMost}
+use Rattle.http_wire.specs.Inputs.{StaysOver}
 use Rattle.http_wire.specs.Fronts.{line_feeds, HasNone}
 use Rattle.http_wire.specs.Reading.{Gave}
 use Rattle.http_wire.proofs.head.read_head.Given as goal
 
 abbrev pub invariant-loop-at : goal.invariant-loop-at
 invariant-loop-at g l = record {
-  within : l.at ≤ length l.buffer;
-  counted : l.lines ≡ line_feeds (take l.at l.buffer);
-  none : HasNone g.G.Grammar.spans.words (take l.at l.buffer);
-  gave : Gave (g.S.ByteSource.state l.initial.source) (g.S.ByteSource.state l.source) l.initial.buffer l.buffer;
-  reads : CountsAtMost (g.S.ByteSource.state l.initial.source).reads (g.S.ByteSource.state l.source).reads l.at;
-  unfailed : (g.S.ByteSource.state l.source).failed_reads ≡ (g.S.ByteSource.state l.initial.source).failed_reads;
+  within : l.at ≤ length l.input.buffer.now;
+  counted : l.lines ≡ line_feeds (take l.at l.input.buffer.now);
+  none : HasNone g.G.Grammar.spans.words (take l.at l.input.buffer.now);
+  gave : Gave (g.S.ByteSource.state l.initial.input.source.now) (g.S.ByteSource.state l.input.source.now) l.initial.input.buffer.now l.input.buffer.now;
+  reads : CountsAtMost (g.S.ByteSource.state l.initial.input.source.now).reads (g.S.ByteSource.state l.input.source.now).reads l.at;
+  same : StaysOver l.initial.input l.input;
+  unfailed : (g.S.ByteSource.state l.input.source.now).failed_reads ≡ (g.S.ByteSource.state l.initial.input.source.now).failed_reads;
 }

@@ -12,7 +12,11 @@ returns-in-Err-clause-found g c = rw c.end_of.ensures (end_found _ _ _ _ _ _ c.a
 
 pub returns-in-Err-clause-costs : goal.returns-in-Err-clause-costs
 returns-in-Err-clause-costs g c = record {
-  reads = c.in-Err.ensures.costs.reads;
-  failed = λ e. c.in-Err.ensures.costs.failed (ap Err (end_read c.in-Err.fault (sym c.end_of.ensures ∙ e)));
-  unfailed = λ other. c.in-Err.ensures.costs.unfailed (λ e. other (c.end_of.ensures ∙ ap end_of (err_same _ _ e)));
+  same_source = c.in-Err.ensures.costs.same_source;
+  same_buffer = c.in-Err.ensures.costs.same_buffer;
+  costs = record {
+    reads = c.in-Err.ensures.costs.costs.reads;
+    failed = λ e. c.in-Err.ensures.costs.costs.failed (ap Err (end_read c.in-Err.fault (sym c.end_of.ensures ∙ e)));
+    unfailed = λ other. c.in-Err.ensures.costs.costs.unfailed (λ e. other (c.end_of.ensures ∙ ap end_of (err_same _ _ e)));
+  };
 }
