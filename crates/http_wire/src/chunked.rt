@@ -150,7 +150,8 @@ fn read_chunk<S: ByteSource, B: BodyBuffer>(
     ensures found { FindsChunk room (S.state input.old.source.now) input.old.buffer.now (B.bytes body.old)
         (S.state input.new.source.now) input.new.buffer.now (B.bytes body.new) result }
     ensures costs { ReadsAtMost S.state (12 + room) (result ≡ Err BodyFault.Read) input.old input.new }
-    ensures few { result ≡ Ok ChunkRead.More → CountsAtMost (S.state input.old.source.now).reads (S.state input.new.source.now).reads
+    ensures few { result ≡ Ok ChunkRead.More
+        → CountsAtMost (S.state input.old.source.now).reads (S.state input.new.source.now).reads
         (12 + (length (B.bytes body.new) - length (B.bytes body.old))) }
 {
     let LineRead::Size(size) = read_line(input)? else {

@@ -44,12 +44,14 @@ impl<'a, S: ByteSource> Input<'a, S> {
     pub fn byte(&mut self, at: usize) -> Result<Option<u8>, Failed>
         requires near { at ≤ length self.old.buffer.now }
         requires small { at < CAPACITY }
-        ensures gave { Gave (S.state self.old.source.now) (S.state self.new.source.now) self.old.buffer.now self.new.buffer.now }
+        ensures gave { Gave (S.state self.old.source.now) (S.state self.new.source.now)
+            self.old.buffer.now self.new.buffer.now }
         ensures there { IfOk result (λ found. IfSome found (λ byte.
             (at < length self.new.buffer.now) × (byte ≡ get_or self.new.buffer.now at 0))) }
         ensures ended { IfOk result (λ found. IfNone found ((length self.new.buffer.now ≡ at)
             × (self.new.buffer.now ≡ self.old.buffer.now) × IsAtEnd (S.state self.new.source.now).remaining)) }
-        ensures kept { OnErr result ((length self.new.buffer.now ≡ at) × (self.new.buffer.now ≡ self.old.buffer.now)) }
+        ensures kept { OnErr result ((length self.new.buffer.now ≡ at)
+            × (self.new.buffer.now ≡ self.old.buffer.now)) }
         ensures costs { ReadsAtMost S.state 1 (IsErr result) self.old self.new }
     {
         if at >= self.buffer.len() && self.buffer.fill(self.source)? == 0 {

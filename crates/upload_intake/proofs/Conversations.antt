@@ -14,7 +14,7 @@ use Rattle.upload_wire.specs.declared.connection.ConnEnd.{ConnEnd}
 use Rattle.upload_wire.specs.declared.connection.ConnEnd.TheVariants.{Clean, AfterClose, AfterBad, TooMany, DeskGone, Fault}
 use Rattle.upload_wire.specs.declared.connection.ConnFault.TheVariants as Conn
 use Rattle.upload_wire.specs.States.{SourceState, SinkState}
-use Rattle.upload_wire.specs.Conversation.{Moves, Exchange, Answers, EndsWith, IsConversation}
+use Rattle.upload_wire.specs.Conversation.{Moves, Exchange, Answers, EndsWith, IsConversation, stand}
 
 module _ {D : Type 0} (step : Moves D) (Keeps : D → D → Type 0) (same : (d : D) → Keeps d d) (joined : (a b c : D) → Keeps a b → Keeps b c → Keeps a c)
     (each : (old : D) (ask : Ask) (answer : Option Answer) (new : D) → step old ask answer new → Keeps old new) where
@@ -25,7 +25,7 @@ module _ {D : Type 0} (step : Moves D) (Keeps : D → D → Type 0) (same : (d :
   by_answers [] old at e = unmoved old at (sym e)
   by_answers (x ∷ xs) old at a = joined old a.0 at (each old x.ask (Some x.answer) a.0 a.1) (by_answers xs a.0 at a.2)
 
-  by_end : (max_body count : ℕ) (at new : D) (rest : List ℕ) (left : SourceState) (mid after : SinkState) (end : ConnEnd) → EndsWith step max_body count at new rest left mid after end → Keeps at new
+  by_end : (max_body count : ℕ) (at new : D) (rest : List ℕ) (left : SourceState) (mid after : SinkState) (end : ConnEnd) → EndsWith step max_body (stand count rest left at mid) new after end → Keeps at new
   by_end max_body count at new rest left mid after Clean e = unmoved at new e.2.unasked
   by_end max_body count at new rest left mid after AfterClose e = each at e.0.ask (Some e.0.answer) new e.1.answered
   by_end max_body count at new rest left mid after AfterBad e = unmoved at new e.1.unasked

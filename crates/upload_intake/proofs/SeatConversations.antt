@@ -9,7 +9,7 @@ use Rattle.upload_intake.specs.Seats.{SeatState, Asks}
 use Rattle.upload_intake.specs.SeatConversations.{asks_of, answers_of, asks_in, Adds, SeatSteps, ConversationsFillTheSeat}
 use Rattle.upload_wire.specs.ConnectionRuns.{answered_last, unanswered_last, answered, unanswered}
 use Rattle.upload_wire.specs.States.{SourceState, SinkState}
-use Rattle.upload_wire.specs.Conversation.{Moves, Exchange, Answers, EndsWith, IsConversation}
+use Rattle.upload_wire.specs.Conversation.{Moves, Exchange, Answers, EndsWith, IsConversation, stand}
 use Rattle.upload_wire.specs.declared.connection.ConnEnd.{ConnEnd}
 use Rattle.upload_wire.specs.declared.connection.ConnEnd.TheVariants.{Clean, AfterClose, AfterBad, TooMany, DeskGone, Fault}
 use Rattle.upload_wire.specs.declared.connection.ConnFault.TheVariants as Conn
@@ -46,8 +46,8 @@ module _ {D S : Type 0} (draws : S → List ℕ → S → Type 0) (seat : D → 
   by_answers [] old at e = adds_none (seat old) (seat at) (ap seat (sym e))
   by_answers (x ∷ xs) old at a = adds_twice (seat old) (seat a.0) (seat at) (x ∷ []) xs [] (adds_one (seat old) (seat a.0) x a.1.0 a.1.2) (by_answers xs a.0 at a.2)
 
-  by_end : (max_body count : ℕ) (at new : D) (rest : List ℕ) (left : SourceState) (mid after : SinkState) (end : ConnEnd) (e : EndsWith steps max_body count at new rest left mid after end)
-      → Adds (seat at) (seat new) (answered_last steps max_body count at new rest left mid after end e) (unanswered_last steps max_body count at new rest left mid after end e)
+  by_end : (max_body count : ℕ) (at new : D) (rest : List ℕ) (left : SourceState) (mid after : SinkState) (end : ConnEnd) (e : EndsWith steps max_body (stand count rest left at mid) new after end)
+      → Adds (seat at) (seat new) (answered_last steps max_body (stand count rest left at mid) new after end e) (unanswered_last steps max_body (stand count rest left at mid) new after end e)
   by_end max_body count at new rest left mid after Clean e = adds_none (seat at) (seat new) (ap seat e.2.unasked)
   by_end max_body count at new rest left mid after AfterClose e = adds_one (seat at) (seat new) e.0 e.1.answered.0 e.1.answered.2
   by_end max_body count at new rest left mid after AfterBad e = adds_none (seat at) (seat new) (ap seat e.1.unasked)

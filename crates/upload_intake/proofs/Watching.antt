@@ -5,7 +5,7 @@ use Rattle.upload_service.specs.declared.answer.Answer.{Answer}
 use Rattle.upload_intake.specs.Notices.{Watching}
 use Rattle.upload_intake.specs.Watched.{WatchesOne, WatchesEach, WatchesLast}
 use Rattle.upload_wire.specs.States.{SourceState, SinkState}
-use Rattle.upload_wire.specs.Conversation.{Moves, Exchange, Answers, EndsWith, IsConversation}
+use Rattle.upload_wire.specs.Conversation.{Moves, Exchange, Answers, EndsWith, IsConversation, stand}
 use Rattle.upload_wire.specs.ConnectionRuns.{answered_last, unanswered_last, answered, unanswered}
 use Rattle.upload_wire.specs.declared.connection.ConnEnd.{ConnEnd}
 use Rattle.upload_wire.specs.declared.connection.ConnEnd.TheVariants.{Clean, AfterClose, AfterBad, TooMany, DeskGone, Fault}
@@ -32,8 +32,8 @@ module _ {G D : Type 0} (watches : Watching G) (step : Moves D) (gate : D → G)
   by_answers [] old at e = unmoved old at (sym e)
   by_answers (x ∷ xs) old at a = (gate a.0, turn a.0, each old x.ask (Some x.answer) a.0 a.1, by_answers xs a.0 at a.2)
 
-  by_end : (max_body count : ℕ) (at new : D) (rest : List ℕ) (left : SourceState) (mid after : SinkState) (end : ConnEnd) (e : EndsWith step max_body count at new rest left mid after end)
-      → (end ≡ DeskGone → ⊥) → Along at (answered_last step max_body count at new rest left mid after end e) new
+  by_end : (max_body count : ℕ) (at new : D) (rest : List ℕ) (left : SourceState) (mid after : SinkState) (end : ConnEnd) (e : EndsWith step max_body (stand count rest left at mid) new after end)
+      → (end ≡ DeskGone → ⊥) → Along at (answered_last step max_body (stand count rest left at mid) new after end e) new
   by_end max_body count at new rest left mid after Clean e there = unmoved at new e.2.unasked
   by_end max_body count at new rest left mid after AfterClose e there = one e.0 at new e.1.answered
   by_end max_body count at new rest left mid after AfterBad e there = unmoved at new e.1.unasked
@@ -57,8 +57,8 @@ module _ {G D : Type 0} (watches : Watching G) (step : Moves D) (gate : D → G)
   abbrev pub Lost : D → List Exchange → List Ask → D → Type 0
   Lost old xs asks new = (mid : G) × (now : ℕ) × WatchesEach watches (gate old) (turn old) xs mid now × WatchesLast watches mid now asks (gate new)
 
-  lost_end : (max_body count : ℕ) (at new : D) (rest : List ℕ) (left : SourceState) (mid after : SinkState) (end : ConnEnd) (e : EndsWith step max_body count at new rest left mid after end)
-      → end ≡ DeskGone → Lost at (answered_last step max_body count at new rest left mid after end e) (unanswered_last step max_body count at new rest left mid after end e) new
+  lost_end : (max_body count : ℕ) (at new : D) (rest : List ℕ) (left : SourceState) (mid after : SinkState) (end : ConnEnd) (e : EndsWith step max_body (stand count rest left at mid) new after end)
+      → end ≡ DeskGone → Lost at (answered_last step max_body (stand count rest left at mid) new after end e) (unanswered_last step max_body (stand count rest left at mid) new after end e) new
   lost_end max_body count at new rest left mid after DeskGone e gone = (gate at, turn at, (refl, refl), (turn new, each at e.0.ask None new e.0.gone))
   lost_end max_body count at new rest left mid after Clean e gone = absurd cc
   lost_end max_body count at new rest left mid after AfterClose e gone = absurd cc

@@ -14,7 +14,7 @@ use Rattle.upload_intake.proofs.Conversations.{GatedSteps}
 use Rattle.upload_intake.proofs.SeatConversations.{adds_none, adds_twice, fills}
 use Rattle.upload_intake.proofs.Watching.{each_twice, watched_on, watched_lost}
 use Rattle.upload_wire.specs.States.{SourceState, SinkState}
-use Rattle.upload_wire.specs.Conversation.{Moves, Exchange, Answers, EndsWith, IsConversation}
+use Rattle.upload_wire.specs.Conversation.{Moves, Exchange, Answers, EndsWith, IsConversation, stand}
 use Rattle.upload_wire.specs.ConnectionRuns.{answered_last, unanswered_last, answered, unanswered}
 use Rattle.upload_wire.specs.declared.connection.ConnEnd.{ConnEnd}
 use Rattle.upload_wire.specs.declared.connection.ConnEnd.TheVariants.{Clean, AfterClose, AfterBad, TooMany, DeskGone, Fault}
@@ -28,7 +28,7 @@ module _ {D E : Type 0} (step : Moves D) (seen : Moves E) (see : D → E)
   see_answers [] old at a = ap see a
   see_answers (x ∷ xs) old at a = (see a.0, each old x.ask (Some x.answer) a.0 a.1, see_answers xs a.0 at a.2)
 
-  see_end : (max_body count : ℕ) (at new : D) (rest : List ℕ) (left : SourceState) (mid after : SinkState) (end : ConnEnd) → EndsWith step max_body count at new rest left mid after end → EndsWith seen max_body count (see at) (see new) rest left mid after end
+  see_end : (max_body count : ℕ) (at new : D) (rest : List ℕ) (left : SourceState) (mid after : SinkState) (end : ConnEnd) → EndsWith step max_body (stand count rest left at mid) new after end → EndsWith seen max_body (stand count rest left (see at) mid) (see new) after end
   see_end max_body count at new rest left mid after Clean e = (e.0, e.1, record { unasked = ap see e.2.unasked; unwritten = e.2.unwritten })
   see_end max_body count at new rest left mid after AfterClose e = (e.0, record { more = e.1.more; read = e.1.read; request = e.1.request; answered = each at e.0.ask (Some e.0.answer) new e.1.answered }, e.2, e.3)
   see_end max_body count at new rest left mid after AfterBad e = (e.0, record { bad = e.1.bad; unasked = ap see e.1.unasked }, e.2)
@@ -61,8 +61,8 @@ module _ {D E : Type 0} (step : Moves D) (seen : Moves E) (see : D → E)
   }
 
   -- the same is answered and unanswered there
-  see_answered : (max_body count : ℕ) (at new : D) (rest : List ℕ) (left : SourceState) (mid after : SinkState) (end : ConnEnd) (e : EndsWith step max_body count at new rest left mid after end)
-      → answered_last seen max_body count (see at) (see new) rest left mid after end (see_end max_body count at new rest left mid after end e) ≡ answered_last step max_body count at new rest left mid after end e
+  see_answered : (max_body count : ℕ) (at new : D) (rest : List ℕ) (left : SourceState) (mid after : SinkState) (end : ConnEnd) (e : EndsWith step max_body (stand count rest left at mid) new after end)
+      → answered_last seen max_body (stand count rest left (see at) mid) (see new) after end (see_end max_body count at new rest left mid after end e) ≡ answered_last step max_body (stand count rest left at mid) new after end e
   unfolding see_end
   see_answered max_body count at new rest left mid after Clean e = refl
   see_answered max_body count at new rest left mid after AfterClose e = refl
@@ -73,8 +73,8 @@ module _ {D E : Type 0} (step : Moves D) (seen : Moves E) (see : D → E)
   see_answered max_body count at new rest left mid after (Fault Conn.Write) (inl s) = refl
   see_answered max_body count at new rest left mid after (Fault Conn.Write) (inr s) = refl
 
-  see_unanswered : (max_body count : ℕ) (at new : D) (rest : List ℕ) (left : SourceState) (mid after : SinkState) (end : ConnEnd) (e : EndsWith step max_body count at new rest left mid after end)
-      → unanswered_last seen max_body count (see at) (see new) rest left mid after end (see_end max_body count at new rest left mid after end e) ≡ unanswered_last step max_body count at new rest left mid after end e
+  see_unanswered : (max_body count : ℕ) (at new : D) (rest : List ℕ) (left : SourceState) (mid after : SinkState) (end : ConnEnd) (e : EndsWith step max_body (stand count rest left at mid) new after end)
+      → unanswered_last seen max_body (stand count rest left (see at) mid) (see new) after end (see_end max_body count at new rest left mid after end e) ≡ unanswered_last step max_body (stand count rest left at mid) new after end e
   unfolding see_end
   see_unanswered max_body count at new rest left mid after Clean e = refl
   see_unanswered max_body count at new rest left mid after AfterClose e = refl
@@ -117,7 +117,7 @@ gone_is DeskGone gone = refl
 gone_is (Fault fault) gone = absurd (true≢false (sym gone))
 
 module _ {D : Type 0} (step : Moves D) (max_body count : ℕ) (at new : D) (rest : List ℕ) (left : SourceState) (mid after : SinkState) where
-  all_heard : (end : ConnEnd) (e : EndsWith step max_body count at new rest left mid after end) → (end ≡ DeskGone → ⊥) → unanswered_last step max_body count at new rest left mid after end e ≡ []
+  all_heard : (end : ConnEnd) (e : EndsWith step max_body (stand count rest left at mid) new after end) → (end ≡ DeskGone → ⊥) → unanswered_last step max_body (stand count rest left at mid) new after end e ≡ []
   all_heard Clean e there = refl
   all_heard AfterClose e there = refl
   all_heard AfterBad e there = refl

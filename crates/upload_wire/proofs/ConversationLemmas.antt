@@ -19,7 +19,7 @@ use Rattle.upload_wire.specs.RequestText.{ReadsNext}
 use Rattle.upload_wire.specs.ReplyText.{reply}
 use Rattle.http_wire.specs.States.{SourceState, SinkState}
 use Rattle.http_wire.specs.Writing.{TookAll}
-use Rattle.upload_wire.specs.Conversation.{Moves, Exchange, IsKept, messages, replies, Answers, HandedOn, HandedOnEach, Serves, AnswersNext, EndsWith, ReadsFail, IsConversation}
+use Rattle.upload_wire.specs.Conversation.{Moves, Exchange, IsKept, messages, replies, Answers, HandedOn, HandedOnEach, Serves, AnswersNext, Standing, stand, EndsWith, ReadsFail, IsConversation}
 use Rattle.upload_wire.specs.Inner.ConversationSteps.{Replies, RefusedWith, GoesOn, Stops}
 use Rattle.http_wire.proofs.GaveLemmas.{consumes_none, consumes_both}
 use Rattle.http_wire.proofs.WritingLemmas.{appends_none, took_both}
@@ -34,10 +34,10 @@ ok_not_err value error same = cc
 
 module _ {D : Type 0} (step : Moves D) (max count : ℕ) (held rest : List ℕ) (first left : SourceState) (ask : Ask) (style : Style)
     (at new : D) (mid : SinkState) (answer : Answer) (after : SinkState) where
-  pub one_more : (kept : List ℕ) → kept ≡ rest → (r : Option ConnEnd) → ReadsNext max held first rest left (Ok (Request ask style))
+  pub one_more : (kept : List ℕ) (next : ℕ) → kept ≡ rest → next ≡ count + 1 → (r : Option ConnEnd) → ReadsNext max held first rest left (Ok (Request ask style))
       → left.failed_reads ≡ first.failed_reads → step at ask (Some answer) new → Replies count answer style mid after r → r ≡ None
-      → GoesOn step max count held kept first left at new mid after
-  one_more kept stays None n same answered a e = record {
+      → GoesOn step max (stand count held first at mid) (stand next kept left new after)
+  one_more kept next stays one None n same answered a e = record {
     given = n.given;
     consumed = n.consumed;
     unfailed = same;
@@ -46,9 +46,10 @@ module _ {D : Type 0} (step : Moves D) (max count : ℕ) (held rest : List ℕ) 
     kept = (n.found.request, a.1);
     answered = answered;
     written = a.0;
+    counted = one;
     few = a.2;
   }
-  one_more kept stays (Some x) n same answered a e = absurd (cc)
+  one_more kept next stays one (Some x) n same answered a e = absurd (cc)
 
   -- the exchange that ended the connection
   abbrev last_exchange : ReadsNext max held first rest left (Ok (Request ask style)) → Exchange
@@ -58,33 +59,33 @@ module _ {D : Type 0} (step : Moves D) (max count : ℕ) (held rest : List ℕ) 
       → AnswersNext step max at new (held ++ n.given) (last_exchange n)
   answers_next n answered = record { more = rest; read = n.found.cut; request = n.found.request; answered = answered }
 
-  pub one_last : (r : Option ConnEnd) → ReadsNext max held first rest left (Ok (Request ask style)) → left.failed_reads ≡ first.failed_reads
+  pub one_last : (kept : List ℕ) (next : ℕ) (r : Option ConnEnd) → ReadsNext max held first rest left (Ok (Request ask style)) → left.failed_reads ≡ first.failed_reads
       → step at ask (Some answer) new → Replies count answer style mid after r
-      → IfSome r (Stops step max count held first left at new mid after)
-  one_last None n same answered a = tt
-  one_last (Some Clean) n same answered a = absurd a
-  one_last (Some AfterClose) n same answered a =
+      → IfSome r (Stops step max (stand count held first at mid) (stand next kept left new after))
+  one_last kept next None n same answered a = tt
+  one_last kept next (Some Clean) n same answered a = absurd a
+  one_last kept next (Some AfterClose) n same answered a =
       record { given = n.given; consumed = n.consumed; reads = same; ended = (last_exchange n, answers_next n answered, a.1, a.0) }
-  one_last (Some AfterBad) n same answered a = absurd a
-  one_last (Some TooMany) n same answered a =
+  one_last kept next (Some AfterBad) n same answered a = absurd a
+  one_last kept next (Some TooMany) n same answered a =
       record { given = n.given; consumed = n.consumed; reads = same; ended = (last_exchange n, answers_next n answered, a.1, a.2, a.0) }
-  one_last (Some DeskGone) n same answered a = absurd a
-  one_last (Some (Fault (Conn.Wire f))) n same answered a = absurd a
-  one_last (Some (Fault Conn.Write)) n same answered a =
+  one_last kept next (Some DeskGone) n same answered a = absurd a
+  one_last kept next (Some (Fault (Conn.Wire f))) n same answered a = absurd a
+  one_last kept next (Some (Fault Conn.Write)) n same answered a =
       record { given = n.given; consumed = n.consumed; reads = same; ended = inl (last_exchange n, answers_next n answered, a) }
 
-pub after_refusal : {D : Type 0} (step : Moves D) (max count : ℕ) (held rest : List ℕ) (first left : SourceState) (why : Bad) (at : D)
-    (mid after : SinkState) (end : ConnEnd) → ReadsNext max held first rest left (Ok (nexts.Bad why)) → left.failed_reads ≡ first.failed_reads
-    → RefusedWith mid after why end → Stops step max count held first left at at mid after end
-after_refusal step max count held rest first left why at mid after AfterBad n same told =
-    record { given = n.given; consumed = n.consumed; reads = same; ended = (why, record { bad = n.found; unasked = refl }, told) }
-after_refusal step max count held rest first left why at mid after (Fault Conn.Write) n same front =
-    record { given = n.given; consumed = n.consumed; reads = same; ended = inr (why, record { bad = n.found; unasked = refl }, front) }
-after_refusal step max count held rest first left why at mid after (Fault (Conn.Wire fault)) n same h = absurd h
-after_refusal step max count held rest first left why at mid after Clean n same h = absurd h
-after_refusal step max count held rest first left why at mid after AfterClose n same h = absurd h
-after_refusal step max count held rest first left why at mid after TooMany n same h = absurd h
-after_refusal step max count held rest first left why at mid after DeskGone n same h = absurd h
+pub after_refusal : {D : Type 0} (step : Moves D) (max : ℕ) (old new : Standing D) (rest : List ℕ) (why : Bad) (end : ConnEnd)
+    → ReadsNext max old.held old.source rest new.source (Ok (nexts.Bad why)) → new.source.failed_reads ≡ old.source.failed_reads
+    → new.desk ≡ old.desk → RefusedWith old.sink new.sink why end → Stops step max old new end
+after_refusal step max old new rest why AfterBad n same unasked told =
+    record { given = n.given; consumed = n.consumed; reads = same; ended = (why, record { bad = n.found; unasked = unasked }, told) }
+after_refusal step max old new rest why (Fault Conn.Write) n same unasked front =
+    record { given = n.given; consumed = n.consumed; reads = same; ended = inr (why, record { bad = n.found; unasked = unasked }, front) }
+after_refusal step max old new rest why (Fault (Conn.Wire fault)) n same unasked h = absurd h
+after_refusal step max old new rest why Clean n same unasked h = absurd h
+after_refusal step max old new rest why AfterClose n same unasked h = absurd h
+after_refusal step max old new rest why TooMany n same unasked h = absurd h
+after_refusal step max old new rest why DeskGone n same unasked h = absurd h
 
 -- ---- many
 
@@ -111,76 +112,75 @@ replies_more : (xs : List Exchange) (x : Exchange) → replies (xs ++ x ∷ []) 
 replies_more xs x =
     flat_map-append (λ x. reply x.answer x.style) xs (x ∷ []) ∙ ap (λ t. replies xs ++ t) (append-nil (reply x.answer x.style))
 
--- what a connection has done behind so many requests
-pub record SoFar {D : Type 0} (step : Moves D) (max count : ℕ) (first left : SourceState) (old new : D) (held : List ℕ) (before after : SinkState) : Type 0 where
+-- what a connection has done that stood so when it began
+pub record SoFar {D : Type 0} (step : Moves D) (max : ℕ) (begun now : Standing D) : Type 0 where
   pub given : List ℕ
-  pub consumed : Consumes first.remaining left.remaining given
-  pub unfailed : left.failed_reads ≡ first.failed_reads
+  pub consumed : Consumes begun.source.remaining now.source.remaining given
+  pub unfailed : now.source.failed_reads ≡ begun.source.failed_reads
   pub exchanges : List Exchange
-  pub counted : length exchanges ≡ count
-  pub served : Serves step max old new given held before after exchanges
+  pub counted : length exchanges ≡ now.answered
+  pub served : Serves step max begun.desk now.desk given now.held begun.sink now.sink exchanges
 
-pub starts : {D : Type 0} (step : Moves D) (max : ℕ) (first : SourceState) (desk : D) (held : List ℕ) (before : SinkState) → held ≡ []
-    → SoFar step max 0 first first desk desk held before before
-starts step max first desk held before empty = record {
+pub starts : {D : Type 0} (step : Moves D) (max : ℕ) (before : ℕ) (left : List ℕ) (source : SourceState) (desk : D) (sink : SinkState) (held : List ℕ) (answered : ℕ)
+    → held ≡ [] → answered ≡ 0 → SoFar step max (stand before left source desk sink) (stand answered held source desk sink)
+starts step max before left source desk sink held answered empty none = record {
   given = [];
-  consumed = consumes_none first.remaining;
+  consumed = consumes_none source.remaining;
   unfailed = refl;
   exchanges = [];
-  counted = refl;
-  served = record { few = lit< tt; read = sym empty; kept = tt; answered = refl; written = took_none before; handed_on = refl };
+  counted = sym none;
+  served = record { few = lit< tt; read = sym empty; kept = tt; answered = refl; written = took_none sink; handed_on = refl };
 }
 
-pub goes_on : {D : Type 0} (step : Moves D) (max limit count next : ℕ) (first mid left : SourceState) (old at new : D) (held rest : List ℕ)
-    (before between after : SinkState) → limit ≡ max → next ≡ count + 1 → SoFar step max count first mid old at held before between
-    → GoesOn step limit count held rest mid left at new between after → SoFar step max next first left old new rest before after
-goes_on step max limit count next first mid left old at new held rest before between after same one s more =
+pub goes_on : {D : Type 0} (step : Moves D) (max limit : ℕ) (begun now next : Standing D) → limit ≡ max → SoFar step max begun now
+    → GoesOn step limit now next → SoFar step max begun next
+goes_on step max limit begun now next same s more =
     let counted = s.counted in
-    let n = subst (λ k. GoesOn step k count held rest mid left at new between after) same more in
+    let n = subst (λ k. GoesOn step k now next) same more in
+    let one = n.counted in
     record {
       given = s.given ++ n.given;
-      consumed = consumes_both first.remaining mid.remaining left.remaining s.given n.given s.consumed n.consumed;
+      consumed = consumes_both begun.source.remaining now.source.remaining next.source.remaining s.given n.given s.consumed n.consumed;
       unfailed = n.unfailed ∙ s.unfailed;
       exchanges = s.exchanges ++ n.exchange ∷ [];
       counted = omega (arith, counted, one, length-append s.exchanges (n.exchange ∷ []));
       served = record {
         few = omega (arith, counted, n.few, length-append s.exchanges (n.exchange ∷ []));
-        read = ap (λ t. t ++ n.given) s.served.read ∙ append_assoc (messages s.exchanges) held n.given
-            ∙ ap (λ t. messages s.exchanges ++ t) n.read ∙ sym (append_assoc (messages s.exchanges) n.exchange.message rest)
-            ∙ ap (λ t. t ++ rest) (sym (messages_more s.exchanges n.exchange));
+        read = ap (λ t. t ++ n.given) s.served.read ∙ append_assoc (messages s.exchanges) now.held n.given
+            ∙ ap (λ t. messages s.exchanges ++ t) n.read ∙ sym (append_assoc (messages s.exchanges) n.exchange.message next.held)
+            ∙ ap (λ t. t ++ next.held) (sym (messages_more s.exchanges n.exchange));
         kept = kept_more max s.exchanges n.exchange s.served.kept n.kept;
-        answered = answers_more step old at new s.exchanges n.exchange s.served.answered n.answered;
-        written = subst (TookAll before after) (sym (replies_more s.exchanges n.exchange))
-            (took_both before between after (replies s.exchanges) (reply n.exchange.answer n.exchange.style) s.served.written n.written.took);
-        handed_on = handed_on_more before between after s.exchanges n.exchange s.served.handed_on n.written;
+        answered = answers_more step begun.desk now.desk next.desk s.exchanges n.exchange s.served.answered n.answered;
+        written = subst (TookAll begun.sink next.sink) (sym (replies_more s.exchanges n.exchange))
+            (took_both begun.sink now.sink next.sink (replies s.exchanges) (reply n.exchange.answer n.exchange.style) s.served.written n.written.took);
+        handed_on = handed_on_more begun.sink now.sink next.sink s.exchanges n.exchange s.served.handed_on n.written;
       };
     }
 
 reads_fail_from : (end : ConnEnd) (a b c : ℕ) → b ≡ a → ReadsFail end b c → ReadsFail end a c
 reads_fail_from end a b c same h = subst (λ n. ReadsFail end n c) same h
 
-pub ends : {D : Type 0} (step : Moves D) (max limit count : ℕ) (first mid left : SourceState) (old at new : D) (held : List ℕ)
-    (before between after : SinkState) (end : ConnEnd) → limit ≡ max → SoFar step max count first mid old at held before between
-    → Stops step limit count held mid left at new between after end → IsConversation step max first left old new before after end
-ends step max limit count first mid left old at new held before between after end same s stopped =
-    let n = subst (λ k. Stops step k count held mid left at new between after end) same stopped in
+pub ends : {D : Type 0} (step : Moves D) (max limit : ℕ) (begun now last : Standing D) (end : ConnEnd) → limit ≡ max → SoFar step max begun now
+    → Stops step limit now last end → IsConversation step max begun.source last.source begun.desk last.desk begun.sink last.sink end
+ends step max limit begun now last end same s stopped =
+    let n = subst (λ k. Stops step k now last end) same stopped in
     record {
       bytes = s.given ++ n.given;
-      consumed = consumes_both first.remaining mid.remaining left.remaining s.given n.given s.consumed n.consumed;
-      reads = reads_fail_from end first.failed_reads mid.failed_reads left.failed_reads s.unfailed n.reads;
+      consumed = consumes_both begun.source.remaining now.source.remaining last.source.remaining s.given n.given s.consumed n.consumed;
+      reads = reads_fail_from end begun.source.failed_reads now.source.failed_reads last.source.failed_reads s.unfailed n.reads;
       exchanges = s.exchanges;
-      rest = held ++ n.given;
-      at = at;
-      mid = between;
+      rest = now.held ++ n.given;
+      at = now.desk;
+      mid = now.sink;
       served = record {
         few = s.served.few;
-        read = ap (λ t. t ++ n.given) s.served.read ∙ append_assoc (messages s.exchanges) held n.given;
+        read = ap (λ t. t ++ n.given) s.served.read ∙ append_assoc (messages s.exchanges) now.held n.given;
         kept = s.served.kept;
         answered = s.served.answered;
         written = s.served.written;
         handed_on = s.served.handed_on;
       };
-      ended = subst (λ k. EndsWith step max k at new (held ++ n.given) left between after end) (sym s.counted) n.ended;
+      ended = subst (λ k. EndsWith step max (stand k (now.held ++ n.given) last.source now.desk now.sink) last.desk last.sink end) (sym s.counted) n.ended;
     }
 
 -- no buffer could be made

@@ -19,7 +19,7 @@ use Rattle.upload_wire.specs.declared.connection.ConnFault.TheVariants as Conn
 use Rattle.upload_wire.specs.RequestText.{IsBad, IsRequest}
 use Rattle.http_wire.specs.States.{SourceState, SinkState}
 use Rattle.http_wire.specs.Writing.{TookAll}
-use Rattle.upload_wire.specs.Conversation.{Moves, Exchange, IsKept, IsRead, messages, replies, last_reply, Answers, EndsWith, AnswersNext, FindsNoDesk, max_requests}
+use Rattle.upload_wire.specs.Conversation.{Moves, Exchange, IsKept, IsRead, messages, replies, last_reply, Answers, EndsWith, AnswersNext, FindsNoDesk, max_requests, stand}
 use Rattle.http_wire.specs.HeadText.{bad as bad_reply}
 use Rattle.upload_wire.specs.ConnectionRuns.{answered_last}
 use Rattle.upload_wire.specs.Unambiguous.{RequestParse, request, bad, cut, nothing, ParsesAs}
@@ -150,7 +150,7 @@ module _ {D : Type 0} (step : Moves D) (max count : ℕ) (at new : D) (rest : Li
   unwritten : after ≡ mid → TookAll mid after []
   unwritten same = subst (λ s. TookAll mid s []) (sym same) (took_none mid)
 
-  ends_wire : (fault : WireFault) → EndsWith step max count at new rest left mid after (Fault (Conn.Wire fault)) → ¬ (IsUndecided max rest (Fault (Conn.Wire fault)))
+  ends_wire : (fault : WireFault) → EndsWith step max (stand count rest left at mid) new after (Fault (Conn.Wire fault)) → ¬ (IsUndecided max rest (Fault (Conn.Wire fault)))
       → Ends step max count rest at new mid after (Fault (Conn.Wire fault)) []
   ends_wire Wire.Truncated e decided =
       record { parse = cut; parses = e.0.0; no_bad_head = λ s. absurd (cc); text = []; last = (refl, e.1.unasked, refl); took = unwritten e.1.unwritten }
@@ -174,8 +174,8 @@ module _ {D : Type 0} (step : Moves D) (max count : ℕ) (at new : D) (rest : Li
     took = took;
   }
 
-  ends : (end : ConnEnd) (e : EndsWith step max count at new rest left mid after end) → ¬ (IsUndecided max rest end)
-      → Ends step max count rest at new mid after end (answered_last step max count at new rest left mid after end e)
+  ends : (end : ConnEnd) (e : EndsWith step max (stand count rest left at mid) new after end) → ¬ (IsUndecided max rest end)
+      → Ends step max count rest at new mid after end (answered_last step max (stand count rest left at mid) new after end e)
   ends Clean e decided =
       record { parse = nothing; parses = e.0; no_bad_head = λ s. absurd (cc); text = []; last = (refl, e.2.unasked, refl); took = unwritten e.2.unwritten }
   ends AfterClose e decided = ends_answered AfterClose e.0 e.1 e.3.took
@@ -200,7 +200,7 @@ module _ {D : Type 0} (step : Moves D) (max count : ℕ) (at new : D) (rest : Li
   ends (Fault Conn.Write) e decided = absurd (decided tt)
 
   -- where a request stands that keeps the connection, and more may come, no conversation ends but by a desk that is gone
-  goes_on : (end : ConnEnd) → EndsWith step max count at new rest left mid after end → ¬ (IsUndecided max rest end) → count + 1 < max_requests
+  goes_on : (end : ConnEnd) → EndsWith step max (stand count rest left at mid) new after end → ¬ (IsUndecided max rest end) → count + 1 < max_requests
       → (end ≡ DeskGone → FindsNoDesk step max at new rest → ⊥) → (y : Exchange) (more : List ℕ) → rest ≡ y.message ++ more → IsKept max y → ⊥
   goes_on Clean e decided few there y more read kept = not_request max rest nothing y more e.0 (λ s. absurd (cc)) (λ a s r same. absurd (cc)) read kept
   goes_on AfterClose e decided few there y more read kept =
@@ -256,7 +256,7 @@ module _ {D : Type 0} (step : Moves D) (max : ℕ) where
   -- the end of a dialogue
   ends_of : (d : Dialogue step max) → IsDecided step max d
       → Ends step max (length d.is.exchanges) d.is.rest d.is.at d.new d.is.mid d.after d.end
-      (answered_last step max (length d.is.exchanges) d.is.at d.new d.is.rest d.left d.is.mid d.after d.end d.is.ended)
+      (answered_last step max (stand (length d.is.exchanges) d.is.rest d.left d.is.at d.is.mid) d.new d.after d.end d.is.ended)
   ends_of d decided = ends step max (length d.is.exchanges) d.is.at d.new d.is.rest d.left d.is.mid d.after d.end d.is.ended decided
 
   -- of two with one rest, the end of the other at what this one found

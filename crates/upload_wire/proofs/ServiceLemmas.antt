@@ -9,7 +9,7 @@ use Rattle.upload_wire.specs.declared.connection.ConnEnd.TheVariants.{Clean, Aft
 use Rattle.upload_wire.specs.declared.connection.ConnFault.TheVariants as Conn
 use Rattle.upload_wire.specs.declared.desk.ServiceDesk.{ServiceDesk}
 use Rattle.http_wire.specs.States.{SourceState, SinkState}
-use Rattle.upload_wire.specs.Conversation.{Exchange, Answers, EndsWith, IsConversation}
+use Rattle.upload_wire.specs.Conversation.{Exchange, Answers, EndsWith, IsConversation, stand}
 use Rattle.upload_wire.specs.ServiceTurns.{StepsService}
 use Rattle.upload_wire.specs.ConnectionRuns.{service_exchange, answered_last, answered, IsRunOfService}
 use Rattle.upload_wire.proofs.ConversationLemmas.{answers_more}
@@ -69,8 +69,8 @@ module _ (max_body count : ℕ) (old at new : ServiceDesk) (rest : List ℕ) (le
   one_more end x there step =
       run_of old new (xs ++ x ∷ []) end there (answers_more StepsService old at new xs x answers step)
 
-  ended : (end : ConnEnd) (e : EndsWith StepsService max_body count at new rest left mid after end)
-      → IsRunOfService old new (xs ++ answered_last StepsService max_body count at new rest left mid after end e) end
+  ended : (end : ConnEnd) (e : EndsWith StepsService max_body (stand count rest left at mid) new after end)
+      → IsRunOfService old new (xs ++ answered_last StepsService max_body (stand count rest left at mid) new after end e) end
   ended Clean e = none_more Clean (λ same. cc) e.2.unasked
   ended AfterClose e = one_more AfterClose e.0 (λ same. cc) e.1.answered
   ended AfterBad e = none_more AfterBad (λ same. cc) e.1.unasked

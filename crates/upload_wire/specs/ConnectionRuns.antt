@@ -4,7 +4,7 @@ use Rattle.upload_service.specs.declared.ask.Ask.{Ask}
 use Rattle.upload_service.specs.Run.{Run}
 use Rattle.upload_service.specs.Run as service
 use Rattle.http_wire.specs.States.{SourceState, SinkState}
-use Rattle.upload_wire.specs.Conversation.{Moves, Exchange, EndsWith, IsConversation}
+use Rattle.upload_wire.specs.Conversation.{Moves, Exchange, Standing, stand, EndsWith, IsConversation}
 use Rattle.upload_wire.specs.ServiceTurns.{StepsService}
 use Rattle.upload_wire.specs.declared.connection.ConnEnd.{ConnEnd}
 use Rattle.upload_wire.specs.declared.connection.ConnEnd.TheVariants.{Clean, AfterClose, AfterBad, TooMany, DeskGone, Fault}
@@ -14,19 +14,19 @@ use mathlib.Core.Logic.{⊎_elim}
 
 -- ---- what a conversation asked
 
-module _ {D : Type 0} (step : Moves D) (max_body count : ℕ) (at new : D) (rest : List ℕ) (left : SourceState) (mid after : SinkState) where
+module _ {D : Type 0} (step : Moves D) (max_body : ℕ) (s : Standing D) (new : D) (after : SinkState) where
   -- the exchange inside an end: the request behind all others, where it was answered
-  abbrev pub answered_last : (end : ConnEnd) → EndsWith step max_body count at new rest left mid after end → List Exchange
+  abbrev pub answered_last : (end : ConnEnd) → EndsWith step max_body s new after end → List Exchange
   answered_last Clean e = []
   answered_last AfterClose e = e.0 ∷ []
   answered_last AfterBad e = []
   answered_last TooMany e = e.0 ∷ []
   answered_last DeskGone e = []
   answered_last (Fault (Conn.Wire fault)) e = []
-  answered_last (Fault Conn.Write) e = ⊎_elim (λ s. s.0 ∷ []) (λ s. []) e
+  answered_last (Fault Conn.Write) e = ⊎_elim (λ w. w.0 ∷ []) (λ w. []) e
 
   -- the request at which the desk was gone
-  abbrev pub unanswered_last : (end : ConnEnd) → EndsWith step max_body count at new rest left mid after end → List Ask
+  abbrev pub unanswered_last : (end : ConnEnd) → EndsWith step max_body s new after end → List Ask
   unanswered_last Clean e = []
   unanswered_last AfterClose e = []
   unanswered_last AfterBad e = []
@@ -39,10 +39,10 @@ module _ {D : Type 0} (step : Moves D) (max_body : ℕ) (first left : SourceStat
     (c : IsConversation step max_body first left old new before after end) where
   -- all requests that the desk answered, in their order, and the one that it didn't
   abbrev pub answered : List Exchange
-  answered = c.exchanges ++ answered_last step max_body (length c.exchanges) c.at new c.rest left c.mid after end c.ended
+  answered = c.exchanges ++ answered_last step max_body (stand (length c.exchanges) c.rest left c.at c.mid) new after end c.ended
 
   abbrev pub unanswered : List Ask
-  unanswered = unanswered_last step max_body (length c.exchanges) c.at new c.rest left c.mid after end c.ended
+  unanswered = unanswered_last step max_body (stand (length c.exchanges) c.rest left c.at c.mid) new after end c.ended
 
 -- ---- over a service
 

@@ -80,6 +80,18 @@ pub record Serves
 
 -- ---- ends
 
+-- Where a conversation stands: how many requests were answered, what was read and is held, the source, the desk and the sink.
+pub record Standing (D : Type 0) : Type 0 where
+  pub answered : ℕ
+  pub held : List ℕ
+  pub source : SourceState
+  pub desk : D
+  pub sink : SinkState
+
+abbrev pub stand : {D : Type 0} → ℕ → List ℕ → SourceState → D → SinkState → Standing D
+stand answered held source desk sink =
+    record { answered = answered; held = held; source = source; desk = desk; sink = sink }
+
 -- The reply to a request that comes behind so many others: the last that a connection may have closes it.
 abbrev pub last_style : ℕ → Style → Style
 last_style count style = record { head = style.head; keep = style.keep && not (count + 1 == max_requests) }
@@ -121,21 +133,21 @@ WireStops max_body rest left Wire.Read = HoldsNone max_body rest
 WireStops max_body rest left Wire.NoMemory = ⊤
 WireStops max_body rest left Wire.Ended = ⊥
 
--- How a conversation ends behind `count` replies, where the desk stands at `at`, rest is what was read and not answered,
--- the sink stands at mid, and the source is left so.
-abbrev pub EndsWith : {D : Type 0} → Moves D → ℕ → ℕ → D → D → List ℕ → SourceState → SinkState → SinkState → ConnEnd → Type 0
-EndsWith step max_body count at new rest left mid after Clean = (rest ≡ []) × IsAtEnd left.remaining × IsQuiet at new mid after
-EndsWith step max_body count at new rest left mid after AfterClose =
-    (x : Exchange) × AnswersNext step max_body at new rest x × (x.style.keep ≡ false) × HandedOn mid after (last_reply count x)
-EndsWith step max_body count at new rest left mid after AfterBad =
-    (why : Bad) × Refuses max_body at new rest why × HandedOn mid after (bad why)
-EndsWith step max_body count at new rest left mid after TooMany =
-    (x : Exchange) × AnswersNext step max_body at new rest x × (x.style.keep ≡ true) × (count + 1 ≡ max_requests) × HandedOn mid after (last_reply count x)
-EndsWith step max_body count at new rest left mid after DeskGone = FindsNoDesk step max_body at new rest × (after ≡ mid)
-EndsWith step max_body count at new rest left mid after (Fault (Conn.Wire fault)) = WireStops max_body rest left fault × IsQuiet at new mid after
-EndsWith step max_body count at new rest left mid after (Fault Conn.Write) =
-    ((x : Exchange) × AnswersNext step max_body at new rest x × TookFront mid after (last_reply count x))
-    ⊎ ((why : Bad) × Refuses max_body at new rest why × TookFront mid after (bad why))
+-- How a conversation ends that stands so, where what it holds is all that was read and not answered: the desk's new state, and the sink's.
+abbrev pub EndsWith : {D : Type 0} → Moves D → ℕ → Standing D → D → SinkState → ConnEnd → Type 0
+EndsWith step max_body s new after Clean = (s.held ≡ []) × IsAtEnd s.source.remaining × IsQuiet s.desk new s.sink after
+EndsWith step max_body s new after AfterClose =
+    (x : Exchange) × AnswersNext step max_body s.desk new s.held x × (x.style.keep ≡ false) × HandedOn s.sink after (last_reply s.answered x)
+EndsWith step max_body s new after AfterBad =
+    (why : Bad) × Refuses max_body s.desk new s.held why × HandedOn s.sink after (bad why)
+EndsWith step max_body s new after TooMany =
+    (x : Exchange) × AnswersNext step max_body s.desk new s.held x × (x.style.keep ≡ true) × (s.answered + 1 ≡ max_requests)
+    × HandedOn s.sink after (last_reply s.answered x)
+EndsWith step max_body s new after DeskGone = FindsNoDesk step max_body s.desk new s.held × (after ≡ s.sink)
+EndsWith step max_body s new after (Fault (Conn.Wire fault)) = WireStops max_body s.held s.source fault × IsQuiet s.desk new s.sink after
+EndsWith step max_body s new after (Fault Conn.Write) =
+    ((x : Exchange) × AnswersNext step max_body s.desk new s.held x × TookFront s.sink after (last_reply s.answered x))
+    ⊎ ((why : Bad) × Refuses max_body s.desk new s.held why × TookFront s.sink after (bad why))
 
 -- a read failed where the end says so, and nowhere else
 abbrev pub ReadsFail : ConnEnd → ℕ → ℕ → Type 0
@@ -156,4 +168,4 @@ pub record IsConversation
   pub at : D
   pub mid : SinkState
   pub served : Serves step max_body old at bytes rest before mid exchanges
-  pub ended : EndsWith step max_body (length exchanges) at new rest left mid after end
+  pub ended : EndsWith step max_body (stand (length exchanges) rest left at mid) new after end

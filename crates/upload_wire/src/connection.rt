@@ -2,7 +2,7 @@
 ghost use Rattle.std.specs.Prelude.{◌≡◌, ◌+◌, ◌<◌, None, IfOk, IfSome};
 ghost use Rattle.upload_service.specs.Machine.{AreLawful};
 ghost use Rattle.upload_wire.specs.Conversation.{IsConversation, last_style};
-ghost use Rattle.upload_wire.specs.Inner.ConversationSteps.{Replies, RefusedWith, GoesOn, Stops};
+ghost use Rattle.upload_wire.specs.Inner.ConversationSteps.{Replies, RefusedWith, standing, GoesOn, Stops};
 
 use crate::desk::Desk;
 use crate::input::RequestInput;
@@ -110,7 +110,6 @@ impl ConnectionServer {
     }
 
     /// Serves a connection, as `serve_connection` does. What the buffer holds of another is forgotten first.
-    #[tactic(auto, using(crate::proofs::ConversationLemmas::starts))]
     pub fn serve<S: ByteSource, W: ByteSink, D: Desk>(
         &mut self,
         reader: &mut S,
@@ -137,11 +136,12 @@ impl ConnectionServer {
         writer: &mut W,
         desk: &mut D,
     ) -> Option<ConnEnd>
-        ensures goes_on { result ≡ None → GoesOn D.moves self.old.max_body self.old.answered self.old.held self.new.held
-            (S.state reader.old) (S.state reader.new) desk.old desk.new (W.state writer.old) (W.state writer.new) }
-        ensures stops { IfSome result (Stops D.moves self.old.max_body self.old.answered self.old.held
-            (S.state reader.old) (S.state reader.new) desk.old desk.new (W.state writer.old) (W.state writer.new)) }
-        ensures counted { result ≡ None → self.new.answered ≡ self.old.answered + 1 }
+        ensures goes_on { result ≡ None → GoesOn D.moves self.old.max_body
+            (standing self.old (S.state reader.old) desk.old (W.state writer.old))
+            (standing self.new (S.state reader.new) desk.new (W.state writer.new)) }
+        ensures stops { IfSome result (Stops D.moves self.old.max_body
+            (standing self.old (S.state reader.old) desk.old (W.state writer.old))
+            (standing self.new (S.state reader.new) desk.new (W.state writer.new))) }
         ensures limit { self.new.max_body ≡ self.old.max_body }
     {
         match self.input.next(reader, desk) {

@@ -27,8 +27,8 @@ fn read_to_end<S: ByteSource, B: BodyBuffer>(
 ) -> Result<ResponseBodyEnd, BodyFault>
     requires small { most ≤ 2 ^ 31 }
     requires empty { B.bytes body.old ≡ [] }
-    ensures found { FindsBody (ResponseFraming.ToEnd most) input.old.buffer.now (S.state input.old.source.now) (B.bytes body.new)
-        input.new.buffer.now (S.state input.new.source.now) result }
+    ensures found { FindsBody (ResponseFraming.ToEnd most) input.old.buffer.now (S.state input.old.source.now)
+        (B.bytes body.new) input.new.buffer.now (S.state input.new.source.now) result }
     ensures costs { ReadsAtMost S.state (most + 1) (result ≡ Err BodyFault.Read) input.old input.new }
 {
     match read_bytes(input, body, most as usize + 1) {

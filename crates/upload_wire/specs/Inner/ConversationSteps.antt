@@ -7,7 +7,8 @@ use Rattle.http_wire.specs.HeadText.{bad}
 use Rattle.upload_wire.specs.ReplyText.{reply}
 use Rattle.http_wire.specs.States.{SourceState, SinkState}
 use Rattle.http_wire.specs.Writing.{TookFront}
-use Rattle.upload_wire.specs.Conversation.{Moves, Exchange, IsKept, HandedOn, EndsWith, ReadsFail, max_requests, last_style}
+use Rattle.upload_wire.specs.Conversation.{Moves, Exchange, IsKept, HandedOn, Standing, stand, EndsWith, ReadsFail, max_requests, last_style}
+use Rattle.upload_wire.specs.ServerState.{ServerState}
 use Rattle.upload_wire.specs.declared.request.Style.{Style}
 use Rattle.upload_wire.specs.declared.connection.ConnEnd.{ConnEnd}
 use Rattle.upload_wire.specs.declared.connection.ConnEnd.TheVariants.{Clean, AfterClose, AfterBad, TooMany, DeskGone, Fault}
@@ -31,25 +32,26 @@ RefusedWith mid after why AfterBad = HandedOn mid after (bad why)
 RefusedWith mid after why (Fault Conn.Write) = TookFront mid after (bad why)
 RefusedWith mid after why other = ⊥
 
+-- where a connection stands that is served, with its source, its desk and its sink
+abbrev pub standing : {D : Type 0} → ServerState → SourceState → D → SinkState → Standing D
+standing server source desk sink = stand server.answered server.held source desk sink
+
 -- The next request was read and answered, its reply was handed on, and the connection goes on.
-pub record GoesOn
-    {D : Type 0} (step : Moves D) (max_body count : ℕ) (held rest : List ℕ) (first left : SourceState) (at new : D) (mid after : SinkState)
-    : Type 0 where
+pub record GoesOn {D : Type 0} (step : Moves D) (max_body : ℕ) (old new : Standing D) : Type 0 where
   pub given : List ℕ
-  pub consumed : Consumes first.remaining left.remaining given
-  pub unfailed : left.failed_reads ≡ first.failed_reads
+  pub consumed : Consumes old.source.remaining new.source.remaining given
+  pub unfailed : new.source.failed_reads ≡ old.source.failed_reads
   pub exchange : Exchange
-  pub read : held ++ given ≡ exchange.message ++ rest
+  pub read : old.held ++ given ≡ exchange.message ++ new.held
   pub kept : IsKept max_body exchange
-  pub answered : step at exchange.ask (Some exchange.answer) new
-  pub written : HandedOn mid after (reply exchange.answer exchange.style)
-  pub few : count + 1 < max_requests
+  pub answered : step old.desk exchange.ask (Some exchange.answer) new.desk
+  pub written : HandedOn old.sink new.sink (reply exchange.answer exchange.style)
+  pub counted : new.answered ≡ old.answered + 1
+  pub few : old.answered + 1 < max_requests
 
 -- What came next in the input ended the connection.
-pub record Stops
-    {D : Type 0} (step : Moves D) (max_body count : ℕ) (held : List ℕ) (first left : SourceState) (at new : D) (mid after : SinkState) (end : ConnEnd)
-    : Type 0 where
+pub record Stops {D : Type 0} (step : Moves D) (max_body : ℕ) (old new : Standing D) (end : ConnEnd) : Type 0 where
   pub given : List ℕ
-  pub consumed : Consumes first.remaining left.remaining given
-  pub reads : ReadsFail end first.failed_reads left.failed_reads
-  pub ended : EndsWith step max_body count at new (held ++ given) left mid after end
+  pub consumed : Consumes old.source.remaining new.source.remaining given
+  pub reads : ReadsFail end old.source.failed_reads new.source.failed_reads
+  pub ended : EndsWith step max_body (stand old.answered (old.held ++ given) new.source old.desk old.sink) new.desk new.sink end

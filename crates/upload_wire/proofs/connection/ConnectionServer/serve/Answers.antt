@@ -1,18 +1,14 @@
 use Rattle.std.proofs.Common.{◌∙◌, ap, arith, refl}
-use Rattle.upload_wire.proofs.ConversationLemmas.{goes_on, ends}
+use Rattle.upload_wire.proofs.ConversationLemmas.{starts, goes_on, ends}
 use Rattle.upload_wire.proofs.connection.ConnectionServer.serve.Goals as goal
+
+pub loop-end-init : goal.loop-end-init
+loop-end-init g c = (starts g.D.Desk.moves _ _ _ _ _ _ _ _ (ap (λ i. i.held) c.begin.ensures) refl, refl)
 
 pub loop-end-preserved : goal.loop-end-preserved
 loop-end-preserved g c = (
-  goes_on g.D.Desk.moves c.begin.new.self.max_body c.loop-end.self.max_body c.loop-end.self.answered c.serve_next.new.self.answered
-      (g.S.ByteSource.state c.args.reader.now)
-      (g.S.ByteSource.state c.loop-end.reader)
-      (g.S.ByteSource.state c.serve_next.new.reader)
-      c.args.desk.now c.loop-end.desk c.serve_next.new.desk c.loop-end.self.held c.serve_next.new.self.held
-      (g.W.ByteSink.state c.args.writer.now)
-      (g.W.ByteSink.state c.loop-end.writer)
-      (g.W.ByteSink.state c.serve_next.new.writer)
-      c.loop-end.invariant.1 (c.in_default.ensures.counted refl) c.loop-end.invariant.0 (c.in_default.ensures.goes_on refl),
+  goes_on g.D.Desk.moves c.begin.new.self.max_body c.loop-end.self.max_body _ _ _
+      c.loop-end.invariant.1 c.loop-end.invariant.0 (c.in_default.ensures.goes_on refl),
   c.in_default.ensures.limit ∙ c.loop-end.invariant.1,
 )
 
@@ -20,17 +16,10 @@ pub loop-end-smaller : goal.loop-end-smaller
 loop-end-smaller g c =
     let counted = c.loop-end.invariant.0.counted in
     let few = c.loop-end.invariant.0.served.few in
-    let more = c.in_default.ensures.counted refl in
+    let more = (c.in_default.ensures.goes_on refl).counted in
     omega (arith, counted, few, more)
 
 pub returns-in-Some-clause-conversation : goal.returns-in-Some-clause-conversation
 returns-in-Some-clause-conversation g c = rw (← c.self.view_is, ← ap (λ i. i.max_body) c.begin.ensures)
-    (ends g.D.Desk.moves c.begin.new.self.max_body c.loop-end.self.max_body c.loop-end.self.answered
-    (g.S.ByteSource.state c.args.reader.now)
-    (g.S.ByteSource.state c.loop-end.reader)
-    (g.S.ByteSource.state c.serve_next.new.reader)
-    c.args.desk.now c.loop-end.desk c.serve_next.new.desk c.loop-end.self.held
-    (g.W.ByteSink.state c.args.writer.now)
-    (g.W.ByteSink.state c.loop-end.writer)
-    (g.W.ByteSink.state c.serve_next.new.writer)
+    (ends g.D.Desk.moves c.begin.new.self.max_body c.loop-end.self.max_body _ _ _
     c.in-Some.end c.loop-end.invariant.1 c.loop-end.invariant.0 c.in-Some.ensures.stops)

@@ -1,4 +1,4 @@
-use Rattle.std.proofs.Common.{subst, sym}
+use Rattle.std.proofs.Common.{◌∙◌, subst, sym}
 use Rattle.std.specs.Prelude.{Ok, Some}
 use Rattle.upload_wire.specs.RequestText.{ReadsNext}
 use Rattle.http_wire.specs.declared.fault.WireFault.TheVariants.{Read}
@@ -17,7 +17,7 @@ returns-after-style-clause-goes_on g c =
     c.in-Ok-Request.ask c.in-Ok-Request.style c.args.desk.now c.replied.new.self
     (g.W.ByteSink.state c.args.writer.now) c.in-Some.answer
     (g.W.ByteSink.state c.reply-end.new.writer)
-    c.reply-end.new.self.held c.reply-end.ensures.held c.reply-end.result
+    c.reply-end.new.self.held c.reply-end.new.self.answered c.reply-end.ensures.held (c.reply-end.ensures.counted none) c.reply-end.result
     (subst (λ n. ReadsNext s.max_body s.held (g.S.ByteSource.state c.args.reader.now) c.next.new.self.held (g.S.ByteSource.state c.next.new.source) (Ok n))
     c.in-Ok-Request.field-0-is c.in-Ok-Request.ensures.found)
     (c.in-Ok-Request.ensures.costs.unfailed (ok_not_err c.in-Ok-Request.field-0 Read))
@@ -35,7 +35,7 @@ returns-after-style-clause-stops g c =
     c.in-Ok-Request.ask c.in-Ok-Request.style c.args.desk.now c.replied.new.self
     (g.W.ByteSink.state c.args.writer.now) c.in-Some.answer
     (g.W.ByteSink.state c.reply-end.new.writer)
-    c.reply-end.result
+    c.reply-end.new.self.held c.reply-end.new.self.answered c.reply-end.result
     (subst (λ n. ReadsNext s.max_body s.held (g.S.ByteSource.state c.args.reader.now) c.next.new.self.held (g.S.ByteSource.state c.next.new.source) (Ok n))
     c.in-Ok-Request.field-0-is c.in-Ok-Request.ensures.found)
     (c.in-Ok-Request.ensures.costs.unfailed (ok_not_err c.in-Ok-Request.field-0 Read))
@@ -45,9 +45,9 @@ returns-after-style-clause-stops g c =
 pub returns-in-Ok-Bad-clause-stops : goal.returns-in-Ok-Bad-clause-stops
 returns-in-Ok-Bad-clause-stops g c =
     let s = c.self.inside.input in
-    rw (← c.self.view_is, c.replied-in-Ok-Bad.ensures, c.in-Ok-Bad.ensures.unasked)
-    (after_refusal g.D.Desk.moves s.max_body c.self.inside.answered s.held c.next.new.self.held _ _
-    c.in-Ok-Bad.why c.args.desk.now _ _ c.refuse-end.result
+    rw (← c.self.view_is)
+    (after_refusal g.D.Desk.moves s.max_body _ _ c.next.new.self.held c.in-Ok-Bad.why c.refuse-end.result
     (subst (λ n. ReadsNext s.max_body s.held (g.S.ByteSource.state c.args.reader.now) c.next.new.self.held (g.S.ByteSource.state c.next.new.source) (Ok n))
     c.in-Ok-Bad.field-0-is c.in-Ok-Bad.ensures.found)
-    (c.in-Ok-Bad.ensures.costs.unfailed (ok_not_err c.in-Ok-Bad.field-0 Read)) c.refuse-end.ensures)
+    (c.in-Ok-Bad.ensures.costs.unfailed (ok_not_err c.in-Ok-Bad.field-0 Read))
+    (c.replied-in-Ok-Bad.ensures ∙ c.in-Ok-Bad.ensures.unasked) c.refuse-end.ensures)
