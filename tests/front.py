@@ -665,8 +665,8 @@ def a_shard_is_lost(site):
     failed = {name: [statuses[-1] for statuses in told[name] if statuses != [202, 202, 201]] for name in lost}
     check("uploads to the lost shard failed", all(failed.values()), failed)
     for name in lost:
-        # HAProxy ends a kept connection whose request was under way; such a client asks again.
-        others = set(failed[name]) - {404, 503} - ({"cut"} if name in lost[:2] else set())
+        # HAProxy ends a connection whose request was under way without a reply, nearly always a kept one; such a client asks again.
+        others = set(failed[name]) - {404, 503, "cut"}
         check(f"those to {name} with 404 or 503 and nothing else", not others and failed[name].count("cut") <= 1, failed)
     check("and went well again", all(told[name][-1] == [202, 202, 201] for name in lost), told)
     check("an upload is gone with its shard", client.ask("PATCH", open_place, b"more")[0] == 404)
