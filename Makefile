@@ -3,71 +3,113 @@
 ADDR = 127.0.0.1:5000
 # how many connections each worker takes; none: all that come
 COUNT =
+# how many connections it serves at a time
+WORKERS = 16
 FILE = README.md
+# the words of `make run`
+ARGS =
 
-# Bodies and blobs are long lists of bytes. Where glibc asks the system for huge pages, fresh memory costs them a third.
+# The proved program for every x86-64 processor, and the same program for those of the level x86-64-v3, whose hashes are about a tenth faster.
+EVERY = crates/blobd/out/blobd
+V3 = crates/blobd/out/blobd-v3
+# What a processor of that level has. The program checks as it starts that the processor is one.
+V3_FLAGS = avx avx2 bmi1 bmi2 f16c fma abm movbe xsave
+PROGRAM := $(if $(filter-out $(shell grep -m1 '^flags' /proc/cpuinfo),$(V3_FLAGS)),$(EVERY),$(V3))
+# What is built already, the one for this processor first. `make run` and `make upload` take it as it is.
+BUILT = $(firstword $(wildcard $(PROGRAM) $(EVERY)))
+
+# What the program is made of. A program that is newer than all of it is taken as it is.
+CRATES = upload_names upload_service http_wire upload_texts upload_wire upload_client upload_intake upload_push blobd
+SOURCES := crates.txt $(shell find $(foreach crate,$(CRATES),$(foreach part,src specs proofs,crates/$(crate)/$(part))) -type f 2>/dev/null)
+
+# Bodies and blobs are long lists of bytes. If glibc asks the system for huge pages, fresh memory costs them a third.
 HUGE_PAGES = GLIBC_TUNABLES=glibc.malloc.hugetlb=1
 
-# What a processor of the level x86-64-v3 has. Where this one has it all, `make serve`, `make registry` and `make bench` take the same proved program as
-# built for that level, whose hashes are about a tenth faster. The program checks as it starts that the processor is one.
-V3 = avx avx2 bmi1 bmi2 f16c fma abm movbe xsave
-LEVEL := $(if $(filter-out $(shell grep -m1 '^flags' /proc/cpuinfo),$(V3)),,x86-64-v3)
-CPU = $(if $(LEVEL),--cpu=$(LEVEL))
-
-.PHONY: help try once serve upload registry build native proved test edits check format figures fuzz soak long large growths bench
+.PHONY: help try once serve run upload registry build native image dist test edits wrong-bodies check format figures fuzz soak long large growths bench
+# A build that fails leaves no program behind that looks newer than its sources.
+.DELETE_ON_ERROR:
 
 help:
-	@echo 'make try     a whole upload over one connection, through `blobd once`, interpreted and unproved: a minute'
-	@echo 'make once    the same, proved and built: 10 to 25 minutes the first time on four cores, seconds from then on'
-	@echo 'make serve   the service at $(ADDR), until it is interrupted (ADDR=.. takes another address, COUNT=.. so many connections of each worker)'
-	@echo 'make upload  pushes $(FILE) to that service (FILE=.. takes another), pulls it back and compares, in another shell'
-	@echo 'make registry a registry to push images to: TLS and a login, with HAProxy in front of the service (docs/OPERATIONS.md)'
-	@echo 'make test    everything that must hold: proofs from nothing, must-fail edits, tests, the repository'"'"'s own checks'
-	@echo 'make edits   the further must-fail edits, which make test leaves out (tens of minutes)'
-	@echo 'make check   proves what changed since the last check (quick; make test is the judge)'
-	@echo 'make format  lays out the sources'
-	@echo 'make fuzz    100,000 generated streams of requests through `blobd once`, beside a model (after make once; make test runs 2,000)'
-	@echo 'make soak    three minutes of clients that cut and race one another, and are refused memory, against `blobd serve` (after make once)'
-	@echo 'make long    ten million requests and a million small blobs, with the memory of `blobd serve` (after make once)'
-	@echo 'make large   blobs of more than 1 GiB, each in one request or one push, stored and pulled: two minutes (after make once)'
-	@echo 'make growths has each growth refused in turn, in the built tests and the built program (after make test, which does it too)'
-	@echo 'make figures speed and memory of `blobd once` and of the service alone, as ratios in one run (after make once)'
-	@echo 'make bench   the same of `blobd serve` and `blobd push`, over loopback, and a picture (ten minutes; docs/PERFORMANCE.md)'
+	@echo 'make try      a whole upload over one connection, interpreted and unproved: each request beside its reply, in a minute or two'
+	@echo 'make once     the same by the proved program, `blobd once`'
+	@echo 'make serve    the service at $(ADDR), until it is interrupted (ADDR=.. another address, WORKERS=.. connections at a time, COUNT=.. so many of each worker)'
+	@echo 'make upload   pushes $(FILE) to that service (FILE=.. another file), pulls it back and compares; in another shell'
+	@echo 'make registry a registry to push images to: TLS and a login, with HAProxy before the service (docs/OPERATIONS.md)'
+	@echo '              once, serve and registry prove and build the program if its sources are newer: 10 to 25 minutes from nothing on'
+	@echo '              four cores, a few minutes after a change. Else they start at once'
+	@echo 'make run ARGS="push .."  the program as it was last built, with these words: it never proves'
+	@echo
+	@echo 'make build    the proved program for every x86-64 processor: $(EVERY)'
+	@echo 'make native   the one that is fastest here: $(PROGRAM)'
+	@echo 'make image    a container image of the built program, under dist/ (no base image is pulled)'
+	@echo 'make dist     a tar under dist/: the program in both forms, deploy/, the pages, the license, and the sums of all'
+	@echo
+	@echo 'make test     everything that must hold: proofs from nothing, must-fail edits, tests, the checks of the repository; an hour or two'
+	@echo 'make check    proves what changed since the last check; make test is the judge'
+	@echo 'make edits    the further must-fail edits, which make test leaves out (tens of minutes)'
+	@echo 'make wrong-bodies writes the tables of docs/WRONG-BODIES.md from the heads of the must-fail edits'
+	@echo 'make format   lays out the sources'
+	@echo 'make growths  the program and the built tests with each growth of memory refused in turn (after make test, which does it too)'
+	@echo 'make fuzz     100,000 generated streams of requests through `blobd once`, beside a model (make test runs 2,000)'
+	@echo 'make soak     three minutes of clients that cut connections, race one another and are refused memory'
+	@echo 'make long     ten million requests and a million small blobs, with the memory that `blobd serve` has then'
+	@echo 'make large    blobs of more than 1 GiB, each in one request or one push, stored and pulled: two minutes'
+	@echo 'make figures  speed and memory of `blobd once` and of the service alone, as ratios in one run'
+	@echo 'make bench    the same of `blobd serve` and `blobd push` over loopback, and a picture: ten minutes (docs/PERFORMANCE.md)'
 
 try:
-	@echo 'Unproved: this interprets the program as it stands, without any proof. It takes about a minute. `make once` proves it first.' >&2
-	@cd crates/blobd && rt try -- once < stdin
+	@echo 'Unproved: this interprets the program as it stands, in a minute or two. `make once` proves it first.' >&2
+	@cd crates/blobd && python3 ../../tools/conversation.py rt try -- once
 
-once: proved
-	@cd crates/blobd && rt run -- once < stdin
+once: $(EVERY)
+	@python3 tools/conversation.py $(EVERY) once
 
-# `blobd once` over nothing does nothing: this only builds the program, so that it runs on every processor.
-build: proved
-	@cd crates/blobd && rt run -- once < /dev/null
+serve: counted $(PROGRAM)
+	@BLOBD_WORKERS=$(WORKERS) $(HUGE_PAGES) $(PROGRAM) serve $(ADDR) $(COUNT)
 
-# The same for this processor.
-native: proved
-	@echo 'Builds for $(or $(LEVEL),every x86-64 processor, since this one has not all of: $(V3)).' >&2
-	@cd crates/blobd && rt run $(CPU) -- once < /dev/null
+# A COUNT that the program would refuse is refused before anything is built.
+.PHONY: counted
+counted:
+	@case '$(COUNT)' in \
+		'') ;; \
+		0* | *[!0-9]* | ????????*) echo 'usage: make serve [ADDR=$(ADDR)] [COUNT=1 to 1000000]' >&2; exit 2;; \
+	esac
 
-# Shows how far it is: so many of the functions of one crate after the other.
-proved:
-	@echo 'Proves what changed since the last time: from nothing that takes 10 to 25 minutes on four cores, crate by crate.' >&2
-	@cd crates/blobd && rt check >&2
+run: built
+	@$(HUGE_PAGES) $(BUILT) $(ARGS)
 
-serve: native
-	@$(HUGE_PAGES) crates/blobd/out/blobd serve $(ADDR) $(COUNT)
-
-upload:
-	@crates/blobd/out/blobd push $(ADDR) lib/demo '$(FILE)' 1048576
+upload: built
+	@$(BUILT) push $(ADDR) lib/demo '$(FILE)' 1048576
 	@curl -sS -H 'Connection: close' http://$(ADDR)/v2/lib/demo/blobs/sha256:$$(sha256sum '$(FILE)' | cut -d' ' -f1) | cmp - '$(FILE)'
 	@echo 'the same came back'
+
+.PHONY: built
+built:
+	@test -n '$(BUILT)' || { echo 'Nothing is built yet. make build proves and builds the program: 10 to 25 minutes from nothing on four cores.' >&2; exit 1; }
+
+build: $(EVERY)
+	@echo '$(EVERY)'
+native: $(PROGRAM)
+	@echo '$(PROGRAM)'
+
+$(EVERY): $(SOURCES)
+	@python3 tools/build.py
+$(V3): $(SOURCES)
+	@python3 tools/build.py --cpu=x86-64-v3
 
 # The packages first: what is missing is told before the program is built.
 registry:
 	@python3 deploy/registry.py --packages
-	@$(MAKE) --no-print-directory native
-	@python3 deploy/registry.py crates/blobd/out/blobd
+	@$(MAKE) -s $(PROGRAM)
+	@python3 deploy/registry.py $(PROGRAM)
+
+image: $(EVERY)
+	@python3 tools/pack.py image
+
+# One after the other: the toolchain writes both to the same place.
+dist: $(EVERY)
+	@$(MAKE) -s $(V3)
+	@python3 tools/pack.py release
 
 test:
 	@python3 tests/gate.py
@@ -75,37 +117,40 @@ test:
 edits:
 	@python3 tests/edits.py
 
+wrong-bodies:
+	@python3 tests/wrong_bodies.py
+
 check:
 	rt all check
 
 format:
 	for crate in crates/*/; do (cd "$$crate" && rt fmt) || exit 1; done
 
-figures:
-	@python3 bench/connection.py crates/blobd/out/blobd
+figures: $(EVERY)
+	@python3 bench/connection.py $(EVERY)
 	@cd crates/bench_service && rt run
 	@python3 bench/service.py crates/bench_service/out/bench_service
 
-# Figures in docs/performance.json, and the picture of them where matplotlib is installed.
+# Figures in docs/performance.json, and the picture of them if matplotlib is installed.
 JSON = docs/performance.json
-bench: native
-	@python3 bench/loopback.py crates/blobd/out/blobd --json $(JSON)
+bench: $(PROGRAM)
+	@python3 bench/loopback.py $(PROGRAM) --json $(JSON)
 	@$(PLOTTING) bench/draw.py $(JSON) docs/performance.svg
 
 # The first of these that has matplotlib; Debian's package is for Debian's own.
 PLOTTING = $(or $(shell for python in python3 /usr/bin/python3; do $$python -c 'import matplotlib' 2>/dev/null && echo $$python && break; done),python3)
 
-fuzz:
-	@python3 tests/differential.py crates/blobd/out/blobd --streams 100000
+fuzz: $(EVERY)
+	@python3 tests/differential.py $(EVERY) --streams 100000
 
-soak:
-	@python3 tests/soak.py crates/blobd/out/blobd --seconds 90
+soak: $(EVERY)
+	@python3 tests/soak.py $(EVERY) --seconds 30
 
-long:
-	@python3 tests/long_runs.py crates/blobd/out/blobd
+long: $(EVERY)
+	@python3 tests/long_runs.py $(EVERY)
 
-large:
-	@python3 tests/large.py crates/blobd/out/blobd
+large: $(EVERY)
+	@python3 tests/large.py $(EVERY)
 
-growths:
-	@python3 tests/growths.py crates/blobd/out/blobd
+growths: $(EVERY)
+	@python3 tests/growths.py $(EVERY)

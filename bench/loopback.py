@@ -1,13 +1,17 @@
 #!/usr/bin/env python3
 """Figures of `blobd serve` and `blobd push` over loopback, as ratios in one run.
 
-    loopback.py PROGRAM [--json FILE] [--mib SIZE] [--waiting-mib SIZE] [--small-pages]
+    loopback.py PROGRAM [--json FILE] [--mib SIZE] [--waiting-mib SIZE] [--small-pages] [--only WORD]
 
 Each figure is the best of five, each upload's and each openings' on a server of its own. Beside an upload and a push stands `sha256sum` on the same
 bytes, timed before each of their runs; beside a pull the same bytes over a connection with no server behind it, sent in the same way. Two at once are
-told beside one alone, and waiting is that of a thousand small requests beside a large body. Where Debian's `docker-registry` is installed it has the
-same rows, with its files in memory too. The server runs as `make serve` runs it, with the huge pages that the system gives on request; with
---small-pages it doesn't ask for them.
+told beside one alone, and waiting is that of a thousand small requests beside a large body. The server of these rows has two workers.
+
+A server with sixteen workers has four uploads at once, and waiting beside clients that send a byte of a head now and then. One with 64 has as many clients
+of small requests, and tells beside the one with two what memory an idle worker takes.
+
+Where Debian's `docker-registry` is installed it has the same rows but the last, with its files in memory too. The server runs as `make serve` runs it, with
+the huge pages that the system gives on request; with --small-pages it doesn't ask for them. With --only WORD there are only the rows whose name has that.
 
 The client writes whole requests from memory to a raw socket, and still takes longer over a small request than the server does. So small requests
 are also counted by the seconds of processor time that the server spent, its own and the system's for it.
@@ -18,6 +22,7 @@ given.
 import argparse
 import contextlib
 import ctypes
+import functools
 import hashlib
 import json
 import mmap
@@ -42,24 +47,35 @@ RUNS = 5
 SMALL_REQUESTS = 9600
 # `blobd` has at most 1,024 open sessions.
 OPENINGS = 960
-# The small requests beside a large body, whose longest wait is told.
+# The small requests beside a large body, or beside clients that drip, whose longest wait is told.
 BESIDE = 1000
 PIPELINED = 16
+# The workers of a server that serves many, and the clients that drip so that two workers are left; the uploads that it takes at once.
+MANY = 16
+DRIPPING = 14
+UPLOADS = 4
+# Seconds for which they drip, longer than the small requests take, and between two bytes of each.
+DRIP_SECONDS, DRIP_PAUSE = 4, 0.1
+# The clients of small requests at once, and the workers that serve them.
+CROWD = 64
 PATIENCE = raw.PATIENCE
 
 FORK = multiprocessing.get_context("fork")
 
 
 class Blob:
-    """Random bytes in a file in memory, and their digest."""
+    """Random bytes in a file in memory, once it is written, and their digest."""
 
     def __init__(self, path, size):
         self.path = path
         self.size = size
+        self.digest = None
+
+    def write(self):
         digest = hashlib.sha256()
         with open(self.path, "wb") as file:
-            for first in range(0, size, MIB):
-                part = os.urandom(min(MIB, size - first))
+            for first in range(0, self.size, MIB):
+                part = os.urandom(min(MIB, self.size - first))
                 digest.update(part)
                 file.write(part)
         self.digest = "sha256:" + digest.hexdigest()
@@ -97,11 +113,16 @@ class Measured:
 
 
 class Blobd(Measured):
+    """`blobd serve` with so many workers; its name says how many where they aren't two."""
+
     name = "blobd"
     stderr = None
 
-    def __init__(self, settings):
-        self.settings = settings
+    def __init__(self, settings, workers=2):
+        self.settings = settings | {"BLOBD_WORKERS": str(workers)}
+        self.workers = workers
+        if workers != 2:
+            self.name = f"blobd with {workers} workers"
 
     def begun(self):
         server = running.Server(1_000_000, env=os.environ | self.settings, stderr=self.stderr)
@@ -112,6 +133,15 @@ class Blobd(Measured):
 
     def place(self):
         return self.server.place()
+
+    def wait_for_workers(self):
+        """Waits until each worker has its thread: the line that it listens comes before. One thread more owns the service."""
+        while len(os.listdir(f"/proc/{self.pid}/task")) <= self.workers:
+            time.sleep(0.01)
+
+    def resident(self):
+        """The memory that it has now, in bytes."""
+        return self.server.memory()
 
 
 class BlobdWithLog(Blobd):
@@ -391,16 +421,72 @@ def longest_waits(server, work):
 
 def waiting_row(server, blob, pulled):
     """The longest wait beside an upload in one body, or beside a pull: the best of the runs, and the worst of them."""
-    longest, middle, beside = [], [], []
+    runs = []
     room = bytearray(MIB)
     for _ in range(RUNS):
         with server, server.connect() as connection:
             if pulled:
                 upload(connection, "lib/a", blob, blob.size)
             work = (lambda: pull(connection, "lib/a", blob, room)) if pulled else (lambda: upload(connection, "lib/a", blob, blob.size))
-            for kept, told in zip((longest, middle, beside), longest_waits(server, work)):
-                kept.append(told)
+            runs.append(longest_waits(server, work))
+    return of_waits(runs)
+
+
+def of_waits(runs):
+    """What rows of waiting have in common: the longest wait of each run, the middle one, and how many were asked meanwhile."""
+    longest, middle, beside = zip(*runs)
     return {"longest_wait_seconds": min(longest), "worst_wait_seconds": max(longest), "middle_wait_seconds": min(middle), "asked_beside": max(beside)}
+
+
+def drip(connections):
+    """Sends a byte of a head over each now and then; the heads end at last, and are answered."""
+    end = time.monotonic() + DRIP_SECONDS
+    while time.monotonic() < end:
+        for connection in connections:
+            connection.socket.sendall(b"a")
+        time.sleep(DRIP_PAUSE)
+    for connection in connections:
+        connection.socket.sendall(b"\r\n\r\n")
+        wanted(connection.reply(), 200)
+
+
+def dripping_row(server, count):
+    """The longest wait beside so many clients that drip: the best of the runs, and the worst of them. Each of them is served already."""
+    runs = []
+    for _ in range(RUNS):
+        with server, contextlib.ExitStack() as open_ones:
+            connections = [open_ones.enter_context(server.connect()) for _ in range(count)]
+            for connection in connections:
+                wanted(connection.ask("GET", "/v2/"), 200)
+                connection.socket.sendall(connection.head("GET", "/v2/", X="").removesuffix(b"\r\n\r\n"))
+            runs.append(longest_waits(server, lambda: drip(connections)))
+    return of_waits(runs)
+
+
+def idle_row(two, many, are_used):
+    """The memory of a server with many workers and of one with two: before their first connection, or behind one of each worker. The least of the runs."""
+    resident = {two: [], many: []}
+    for _ in range(RUNS):
+        for server, taken in resident.items():
+            with server:
+                server.wait_for_workers()
+                if are_used:
+                    use_each_worker(server)
+                taken.append(server.resident())
+    of_two, of_many = min(resident[two]), min(resident[many])
+    return {
+        "workers": many.workers,
+        "resident_bytes": of_many,
+        "resident_of_two_bytes": of_two,
+        "bytes_a_worker": (of_many - of_two) / (many.workers - two.workers),
+    }
+
+
+def use_each_worker(server):
+    """A request to each worker: as many connections at once."""
+    with contextlib.ExitStack() as open_ones:
+        for _ in range(server.workers):
+            wanted(open_ones.enter_context(server.connect()).ask("GET", "/v2/"), 200)
 
 
 def push_row(server, blob, chunk):
@@ -484,27 +570,45 @@ def small_row(server, method, target, status, fields, count, at_once, together):
 
 
 def server_rows(server, blob, large):
-    """Every row that one server has: its kind, what was asked, and the figures."""
+    """Every row that a server with two workers has: its kind, what is asked, and what measures it."""
     for what, chunk in (("one body", blob.size), *((f"chunks of {size} MiB", size * MIB) for size in (16, 4, 1))):
-        yield "upload", f"upload in {what}", upload_row(server, blob, chunk)
-    yield "pull", "pull", pull_row(server, blob)
+        yield "upload", f"upload in {what}", functools.partial(upload_row, server, blob, chunk)
+    yield "pull", "pull", functools.partial(pull_row, server, blob)
     for what, chunk in (("one body", blob.size), ("chunks of 4 MiB", 4 * MIB)):
-        yield "at once", f"two uploads in {what}", uploads_at_once_row(server, blob, chunk, 2)
-    yield "at once", "two pulls", pulls_at_once_row(server, blob, 2)
+        yield "at once", f"two uploads in {what}", functools.partial(uploads_at_once_row, server, blob, chunk, 2)
+    yield "at once", "two pulls", functools.partial(pulls_at_once_row, server, blob, 2)
     for what, pulled in (("an upload in one body", False), ("a pull", True)):
-        yield "waiting", f"beside {what} of {large.size // MIB} MiB", waiting_row(server, large, pulled)
+        yield "waiting", f"beside {what} of {large.size // MIB} MiB", functools.partial(waiting_row, server, large, pulled)
     yield from small_rows(server)
 
 
+SMALL = {
+    "GET /v2/": ("GET", "/v2/", 200, {}, SMALL_REQUESTS),
+    "opening": ("POST", "/v2/lib/a/blobs/uploads/", 202, {"Content_Length": 0}, OPENINGS),
+}
+
+
 def small_rows(server):
-    small = {
-        "GET /v2/": ("GET", "/v2/", 200, {}, SMALL_REQUESTS),
-        "opening": ("POST", "/v2/lib/a/blobs/uploads/", 202, {"Content_Length": 0}, OPENINGS),
-    }
     ways = {"one connection": (1, 1), "two at once": (2, 1), f"one connection, {PIPELINED} written together": (1, PIPELINED)}
-    for asked, words in small.items():
+    for asked, words in SMALL.items():
         for way, (at_once, together) in ways.items():
-            yield "small", f"{asked}, {way}", small_row(server, *words, at_once, together)
+            yield "small", f"{asked}, {way}", functools.partial(small_row, server, *words, at_once, together)
+
+
+def many_rows(server, blob):
+    """Those of a server with sixteen workers."""
+    yield "at once", "four uploads in one body", functools.partial(uploads_at_once_row, server, blob, blob.size, UPLOADS)
+    yield "waiting", f"beside {DRIPPING} clients that drip", functools.partial(dripping_row, server, DRIPPING)
+
+
+def crowd_rows(server):
+    """That of a server with as many workers as there are clients at once."""
+    yield "small", f"GET /v2/, {CROWD} at once", functools.partial(small_row, server, *SMALL["GET /v2/"], CROWD, 1)
+
+
+def idle_rows(two, many):
+    for what, are_used in (("before their first connection", False), ("behind a connection of each", True)):
+        yield "idle", f"idle workers {what}", functools.partial(idle_row, two, many, are_used)
 
 
 def pushes_at_once_row(server, blob, chunk, count):
@@ -530,12 +634,20 @@ def pushes_at_once_row(server, blob, chunk, count):
 
 def push_rows(server, blob):
     for what, chunk in (("one chunk", blob.size), ("chunks of 1 MiB", MIB)):
-        yield "push", f"push in {what}", push_row(server, blob, chunk)
-    yield "at once", "two pushes in one chunk", pushes_at_once_row(server, blob, blob.size, 2)
+        yield "push", f"push in {what}", functools.partial(push_row, server, blob, chunk)
+    yield "at once", "two pushes in one chunk", functools.partial(pushes_at_once_row, server, blob, blob.size, 2)
 
 
 def mib(value):
     return f"{value / MIB:.0f}"
+
+
+def mib_and_tenths(value):
+    return f"{value / MIB:.1f}"
+
+
+def kib(value):
+    return f"{value / 1024:.0f}"
 
 
 def milliseconds(value):
@@ -574,6 +686,11 @@ COLUMNS = {
     "small": {
         "requests a second by the clock": ("requests_a_second", "{:.0f}".format),
         "requests a second of the server's processor": ("requests_a_server_second", "{:.0f}".format),
+    },
+    "idle": {
+        "server's memory, MiB": ("resident_bytes", mib_and_tenths),
+        "that of two workers, MiB": ("resident_of_two_bytes", mib_and_tenths),
+        "a worker more, KiB": ("bytes_a_worker", kib),
     },
     "push": {
         **SPEED,
@@ -616,34 +733,52 @@ def read_words():
     words.add_argument("--mib", metavar="SIZE", type=int, default=256, help="the blob's size in MiB")
     words.add_argument("--waiting-mib", metavar="SIZE", type=int, default=1024, help="the size in MiB of the blob beside which others wait")
     words.add_argument("--small-pages", action="store_true", help="the server doesn't ask the system for huge pages")
+    words.add_argument("--only", metavar="WORD", default="", help="only the rows whose name has this, as `drip` or `64 at once`")
     return words.parse_args()
 
 
-def measure(program, settings, blob, large, folder):
-    """The rows of each server, and those of the client."""
-    running.PROGRAM = program
-    blobd, with_log = Blobd(settings), BlobdWithLog(settings)
-    measured = [(blobd, server_rows(blobd, blob, large)), (with_log, small_rows(with_log)), (blobd, push_rows(blobd, blob))]
+def planned(settings, blob, large, folder):
+    """All rows: the server of each, its kind, its name, and what measures it."""
+    blobd, with_log, many, crowd = Blobd(settings), BlobdWithLog(settings), Blobd(settings, MANY), Blobd(settings, CROWD)
+    rows = [
+        (blobd, server_rows(blobd, blob, large)),
+        (with_log, small_rows(with_log)),
+        (blobd, push_rows(blobd, blob)),
+        (many, many_rows(many, blob)),
+        (crowd, crowd_rows(crowd)),
+        (crowd, idle_rows(blobd, crowd)),
+    ]
     if not servers.missing("docker-registry"):
         registry = DockerRegistry(folder)
-        measured.append((registry, server_rows(registry, blob, large)))
+        rows += [(registry, of_it) for of_it in (server_rows(registry, blob, large), many_rows(registry, blob), crowd_rows(registry))]
     else:
         print("skipped: docker-registry, which isn't installed", flush=True)
-    for server, rows in measured:
-        for kind, what, figures in rows:
-            print(f"measured: {server.name}: {what}", file=sys.stderr, flush=True)
-            yield {"kind": kind, "what": what, "server": server.name, **figures}
+    return [(server, *row) for server, of_it in rows for row in of_it]
+
+
+def measure(rows):
+    for server, kind, what, row in rows:
+        figures = row()
+        print(f"measured: {server.name}: {what}", file=sys.stderr, flush=True)
+        yield {"kind": kind, "what": what, "server": server.name, **figures}
 
 
 def main():
     words = read_words()
+    running.PROGRAM = os.path.abspath(words.program)
     settings = {} if words.small_pages else servers.HUGE_PAGES
     load = [os.getloadavg()[0]]
     with tempfile.TemporaryDirectory(dir="/dev/shm") as folder:
         blob = Blob(os.path.join(folder, "blob"), words.mib * MIB)
         large = Blob(os.path.join(folder, "large"), words.waiting_mib * MIB)
+        rows = [row for row in planned(settings, blob, large, folder) if words.only in row[2]]
+        if not rows:
+            sys.exit(f"no row's name has {words.only!r}")
+        blob.write()
+        if any(large in row.args for *_, row in rows):
+            large.write()
         library = hashed_by_library(blob)
-        rows = list(measure(os.path.abspath(words.program), settings, blob, large, folder))
+        rows = list(measure(rows))
     load.append(os.getloadavg()[0])
     told = {"machine": machine(), "load": load, "blob_bytes": blob.size, "runs": RUNS, "settings": settings, "hashlib_seconds": library, "rows": rows}
     found = told["machine"]

@@ -68,7 +68,7 @@ class Connection:
         return Reply(status, fields, body)
 
     def body_into(self, room, length):
-        """Reads a body of so many bytes to the front of a room."""
+        """Reads a body of so many bytes into the start of a buffer."""
         begun, self.unread = self.unread[:length], self.unread[length:]
         room[: len(begun)] = begun
         at = len(begun)
@@ -77,7 +77,7 @@ class Connection:
                 at += received(self.socket, left[at:length])
 
     def body_over(self, room, length, take=None):
-        """Reads a body of so many bytes into the same room again and again, and hands each part on where that is asked for."""
+        """Reads a body of so many bytes into the same buffer again and again, and hands each part on if that is asked for."""
         begun, self.unread = self.unread[:length], self.unread[length:]
         if take:
             take(begun)
@@ -93,7 +93,7 @@ def received(connection, room):
 
 
 def receive(connection, length, room, take=None):
-    """Takes so many bytes of a socket into the same room again and again, and hands each part on where that is asked for."""
+    """Takes so many bytes of a socket into the same buffer again and again, and hands each part on if that is asked for."""
     while length:
         count = received(connection, room)
         if take:

@@ -1,49 +1,68 @@
--- Manifests and tags of the front's repositories, which blobd doesn't take. They are held in HAProxy's memory: a restart or a reload of HAProxy loses
--- them, and a client that pushes again sends only them, since the blobs are still there. This is no part of what is proved of blobd: it is tested.
+-- Manifests, tags and the list of repositories, which blobd doesn't take. This is no part of what is proved of blobd: it is tested.
 --
--- What stands here is whole. A manifest is taken only where each blob that it names is there, for an index each manifest; and each time that it is asked
--- for that is looked up again. Where a blob has gone, as when its shard was started anew, the manifest goes, and so do its tags.
+-- A manifest is taken only if each blob that it names is there, and each manifest that an index names; and it is handed out only as long as they are.
+-- Blobs go only with their shard. So each shard gets a blob that nobody else knows, its mark: as long as that is there, all that was found since is there
+-- too, and one question for it stands for a question for each blob. If the mark has gone, all that a manifest names is asked for again; if a blob of it has
+-- gone, the manifest goes, with its tags and with the indexes that name it.
+--
+-- Where the manifests are: in Redis if FRONT_REDIS has its address, else in HAProxy's memory. Both are a table of these functions, which yield a 503 by
+-- `error` if they can't do their work:
+--   find(name, reference, is_digest, with_body): the digest and the record, or nil; without its text, unless that is asked for or at hand
+--   below(name, digests): the sum of `below` of these manifests, nil if one isn't there
+--   put(name, digest, record, tag): "kept"; "unknown" if a manifest that is named isn't there; "full"
+--   drop(name, digest, stamp): drops a manifest, its tags and what names it; with a stamp only if it is of that put. Whether it was there
+--   untag(name, tag): whether it was there
+--   tags(name, last, most), repositories(last, most): a list in order, and whether more follow; nil if the repository has no manifest
+-- A record has the text (`body`), its `length`, its media type, the digests of the blobs and manifests that it names (if at hand: else its text has
+-- them), how much is below it (`below`), the bytes that it takes (`size`), and which put it came with (`stamp`).
 
 local json = require("cjson.safe")
 
+local MIB = 1048576
 -- where the blobs are asked for without a login
 local BLOBS = "http://" .. os.getenv("FRONT_LOCAL")
-local MIB = 1048576
--- bytes of all manifests and tags, and of one manifest
-local MOST_HELD = tonumber(os.getenv("FRONT_HELD")) * MIB
-local LARGEST = 4 * MIB
--- blobs and manifests that one manifest names
-local MOST_NAMED = 1000
--- bytes that an entry takes beside its text, and that a digest takes in a list, about
+local FOLDER = os.getenv("FRONT_LUA"):match("^.*/") or ""
+local KEPT_IN = os.getenv("FRONT_REDIS") and "manifests_in_redis.lua" or "manifests_in_memory.lua"
+-- bytes of all manifests and tags
+local store = dofile(FOLDER .. KEPT_IN)(tonumber(os.getenv("FRONT_HELD")) * MIB)
+
+-- bytes of a manifest, and of its media type
+local LARGEST, LONGEST_TYPE = 4 * MIB, 255
+-- blobs and manifests that one manifest names, and that it has below it in all
+local MOST_NAMED, MOST_BELOW = 1000, 10000
+-- opening brackets and commas in a manifest: about as many values are made of it
+local MOST_MARKS = 50000
+-- Bytes of manifests that are being received, of all clients. Beyond that only those that have no more than so many go on.
+local MOST_RECEIVED, ALWAYS_RECEIVED = 32 * MIB, 16384
+-- bytes that a manifest takes beside its text, and a digest in a list, about
 local OVERHEAD, DIGEST_SIZE = 512, 128
 local LONGEST_NAME, LONGEST_TAG = 255, 128
+-- tags or repositories in one reply
+local LONGEST_LIST = 1000
+-- blobs and manifests that are remembered as found
+local MOST_REMEMBERED = 50000
 -- milliseconds for a blob to be looked up: more than a request waits in the queue
 local PATIENCE = 150000
+-- the repository of the marks
+local MARKS = "blobd-marks"
 
 local DIGITS = {sha256 = 64, sha512 = 128}
 local BITS = {sha256 = 256, sha512 = 512}
 
--- Of each repository that has a manifest:
--- repositories[name] = {manifests = {[digest] = {body, type, blobs, manifests, size}}, tags = {[tag] = digest}}
-local repositories = {}
--- the sizes of all of them, and of the tags
-local held = 0
+-- Ends the request with a refusal.
+local function refuse(status, code, message, fields)
+  error({status = status, code = code, message = message, fields = fields}, 0)
+end
 
-local function answer(applet, status, fields, body)
+local function answer(applet, status, fields, body, length)
   applet:set_status(status)
   for name, value in pairs(fields) do applet:add_header(name, value) end
-  applet:add_header("Content-Length", tostring(#body))
+  applet:add_header("Content-Length", tostring(length or #body))
   applet:start_response()
   if applet.method ~= "HEAD" and #body > 0 then applet:send(body) end
 end
 
-local function refuse(applet, status, code, message, fields)
-  fields = fields or {}
-  fields["Content-Type"] = "application/json"
-  answer(applet, status, fields, json.encode({errors = {{code = code, message = message}}}))
-end
-
--- The algorithm of a digest, or nil where the text isn't one.
+-- The algorithm of a digest, or nil if the text isn't one.
 local function algorithm_of(text)
   local algorithm, digits = text:match("^(sha%d+):([0-9a-f]+)$")
   return algorithm and DIGITS[algorithm] == #digits and algorithm or nil
@@ -53,185 +72,330 @@ local function digest_of(applet, algorithm, body)
   return algorithm .. ":" .. applet.c:hex(applet.c:sha2(body, BITS[algorithm])):lower()
 end
 
--- Adds the digests of a list of descriptors to those found; false where one of them isn't a descriptor with a digest.
-local function add_digests(found, descriptors)
-  if type(descriptors) ~= "table" then return false end
-  for _, one in ipairs(descriptors) do
-    if type(one) ~= "table" or type(one.digest) ~= "string" or not algorithm_of(one.digest) then return false end
-    -- a layer with addresses of its own is fetched there, and isn't pushed
-    if type(one.urls) ~= "table" or #one.urls == 0 then found[#found + 1] = one.digest end
-  end
-  return true
+-- Bytes that nobody can guess, and a text that no other has.
+local random = io.open("/dev/urandom", "rb")
+local SECRET = random:read(32):gsub(".", function(byte) return ("%02x"):format(byte:byte()) end)
+random:close()
+local count = 0
+local function new_text()
+  count = count + 1
+  return SECRET .. "-" .. count
 end
 
--- The blobs and the manifests that the text of a manifest names, or nil where it isn't a manifest of schema version 2.
+--- What a manifest may be
+
+-- How many of these single characters the text has, counted no further than `most`.
+local function marks_in(text, characters, most)
+  local found = 0
+  for character in characters:gmatch(".") do
+    local at = text:find(character, 1, true)
+    while at and found <= most do
+      found = found + 1
+      at = text:find(character, at + 1, true)
+    end
+  end
+  return found
+end
+
+local function unreadable(message)
+  refuse(400, "MANIFEST_INVALID", message)
+end
+
+-- A member of a JSON object; one that is null is absent. Clients that read names without regard to case would take another one for it.
+local function member(object, name)
+  local value = object[name]
+  for key in pairs(object) do
+    if type(key) == "string" and key ~= name and key:lower() == name then unreadable("the member " .. key .. " is to be " .. name) end
+  end
+  if value ~= json.null then return value end
+end
+
+-- Adds the digest of a descriptor to those found, once.
+local function add_digest(found, descriptor)
+  local digest = type(descriptor) == "table" and member(descriptor, "digest")
+  if type(digest) ~= "string" or not algorithm_of(digest) then unreadable("a descriptor has no digest") end
+  local urls = member(descriptor, "urls")
+  -- a layer with addresses of its own is fetched there, and isn't pushed
+  if type(urls) == "table" and #urls > 0 or found[digest] then return end
+  found[digest] = true
+  found[#found + 1] = digest
+end
+
+local function add_digests(found, list)
+  if type(list) ~= "table" then unreadable("what is to be a list of descriptors isn't one") end
+  for key, descriptor in pairs(list) do
+    if math.type(key) ~= "integer" then unreadable("what is to be a list of descriptors is an object") end
+    add_digest(found, descriptor)
+  end
+end
+
+-- The digests alone, in their order.
+local function listed(found)
+  return table.move(found, 1, #found, 1, {})
+end
+
+-- The blobs and the manifests that the text of a manifest names: all of them, whichever kind of manifest it is.
 local function named_in(body)
+  if marks_in(body, "[{,", MOST_MARKS) > MOST_MARKS then refuse(413, "SIZE_INVALID", "the manifest has too many values") end
+  -- an object without a member is read as an empty list
+  if body:find('"layers"%s*:%s*{') or body:find('"manifests"%s*:%s*{') then unreadable("what is to be a list of descriptors is an object") end
   local manifest = json.decode(body)
-  if type(manifest) ~= "table" or manifest.schemaVersion ~= 2 then return nil end
-  local blobs, manifests, read = {}, {}, false
-  if manifest.manifests then
-    read = add_digests(manifests, manifest.manifests)
-  elseif manifest.config then
-    read = add_digests(blobs, {manifest.config}) and add_digests(blobs, manifest.layers)
+  if type(manifest) ~= "table" or member(manifest, "schemaVersion") ~= 2 then unreadable("not a manifest of schema version 2") end
+  local blobs, manifests = {}, {}
+  local config, layers, named = member(manifest, "config"), member(manifest, "layers"), member(manifest, "manifests")
+  if not named and not (config and layers) then unreadable("a manifest has a config and layers, an index has manifests") end
+  if config then add_digest(blobs, config) end
+  if layers then add_digests(blobs, layers) end
+  if named then add_digests(manifests, named) end
+  if #blobs + #manifests > MOST_NAMED then unreadable("the manifest names more than " .. MOST_NAMED .. " blobs and manifests") end
+  return listed(blobs), listed(manifests)
+end
+
+--- Whether what a manifest names is there
+
+-- marks[shard]: the digest of its mark
+local marks = {}
+-- remembered[what]: the mark beside which it was found; of a repository its shard
+local remembered, remembers = {}, 0
+
+local function remember(what, value)
+  if remembered[what] == nil then
+    if remembers >= MOST_REMEMBERED then remembered, remembers = {}, 0 end
+    remembers = remembers + 1
   end
-  if read and #blobs + #manifests <= MOST_NAMED then return blobs, manifests end
+  remembered[what] = value
 end
 
-local function drop_tag(repository, tag)
-  held = held - #tag - OVERHEAD
-  repository.tags[tag] = nil
+-- Whether a blob is there, 200 or 404, else 503; and the shard that says so. `shard` has a number if it is to be asked of that one, else 0.
+local function ask_for_blob(name, digest, shard)
+  local request = {url = BLOBS .. "/v2/" .. name .. "/blobs/" .. digest, timeout = PATIENCE, headers = {["X-Shard"] = {tostring(shard)}}}
+  local heard = core.httpclient():head(request)
+  local by = heard.headers and heard.headers["x-shard"]
+  return (heard.status == 200 or heard.status == 404) and heard.status or 503, by and tonumber(by[0] or by[1])
 end
 
--- Drops a manifest that is held, its tags, and with the last one the repository: what is empty takes no room.
-local function drop_manifest(name, digest)
-  local repository = repositories[name]
-  local manifest = repository.manifests[digest]
-  held = held - manifest.size
-  repository.manifests[digest] = nil
-  for tag, at in pairs(repository.tags) do
-    if at == digest then drop_tag(repository, tag) end
+-- Gives a shard a mark. Nil if that can't be had, as when it is out of memory: then nothing is remembered.
+local function new_mark(applet, shard)
+  local text = new_text()
+  local digest = digest_of(applet, "sha256", text)
+  local heard = core.httpclient():post({
+    url = BLOBS .. "/v2/" .. MARKS .. "/blobs/uploads/?digest=" .. digest, body = text, timeout = PATIENCE,
+    headers = {["X-Shard"] = {tostring(shard)}},
+  })
+  marks[shard] = heard.status == 201 and digest or nil
+  return marks[shard]
+end
+
+-- The mark of a repository's shard, which is there now: what was found beside it is there too. Nil if there is none.
+local function mark_of(applet, name)
+  local shard = remembered["shard of " .. name]
+  if not shard then
+    local status, by = ask_for_blob(name, "sha256:" .. ("0"):rep(64), 0)
+    if status == 503 or not by then refuse(503, "UNAVAILABLE", "the shard of this repository does not answer") end
+    shard = by
+    remember("shard of " .. name, shard)
   end
-  if not next(repository.manifests) then repositories[name] = nil end
+  local mark = marks[shard]
+  if not mark then return new_mark(applet, shard) end
+  local status = ask_for_blob(MARKS, mark, shard)
+  if status == 503 then refuse(503, "UNAVAILABLE", "the shard of this repository does not answer") end
+  if status == 200 then return mark end
+  if marks[shard] == mark then marks[shard] = nil end
+  return marks[shard] or new_mark(applet, shard)
 end
 
--- How a blob is there: 200 where it is, 404 where it isn't, 503 where that couldn't be learnt.
-local function status_of_blob(name, digest)
-  local heard = core.httpclient():head({url = BLOBS .. "/v2/" .. name .. "/blobs/" .. digest, timeout = PATIENCE})
-  return (heard.status == 200 or heard.status == 404) and heard.status or 503
-end
-
--- The same of a list, by the first that isn't 200. `seen` has what was looked up before.
-local function status_of_all(status_of, name, digests, seen)
+-- Whether all of these are there: 200, else 404 or 503.
+local function status_of_blobs(name, digests, mark)
   for _, digest in ipairs(digests) do
-    seen[digest] = seen[digest] or status_of(name, digest, seen)
-    if seen[digest] ~= 200 then return seen[digest] end
+    local what = "blob " .. name .. "@" .. digest
+    if not mark or remembered[what] ~= mark then
+      local status = ask_for_blob(name, digest, 0)
+      if status ~= 200 then return status end
+      if mark then remember(what, mark) end
+    end
   end
   return 200
 end
 
--- The same of a manifest that is held: it is there where all is that it names. One that names what has gone is dropped.
-local function status_of_manifest(name, digest, seen)
-  local repository = repositories[name]
-  local manifest = repository and repository.manifests[digest]
-  if not manifest then return 404 end
-  local status = status_of_all(status_of_blob, name, manifest.blobs, seen)
-  if status == 200 then status = status_of_all(status_of_manifest, name, manifest.manifests, seen) end
-  -- unless it was put anew meanwhile
-  if status == 404 and repository.manifests[digest] == manifest then
-    core.log(core.notice, "dropped, since what it names has gone: " .. name .. "@" .. digest)
-    drop_manifest(name, digest)
+local status_of_manifest
+
+-- The same of what a manifest names.
+local function status_of_named(name, blobs, manifests, mark)
+  local status = status_of_blobs(name, blobs, mark)
+  for _, digest in ipairs(manifests) do
+    if status ~= 200 then break end
+    status = status_of_manifest(name, digest, mark)
   end
   return status
 end
 
--- The request's body, or nil where it is too large. `receive` hands out less than it was asked for: only the empty text is the end.
+-- The same of a manifest that may be held. One that names what has gone is dropped.
+status_of_manifest = function(name, digest, mark)
+  local what = "manifest " .. name .. "@" .. digest
+  if mark and remembered[what] == mark then return 200 end
+  local _, record = store.find(name, digest, true, true)
+  if not record then return 404 end
+  local blobs, manifests = record.blobs, record.manifests
+  if not blobs then blobs, manifests = named_in(record.body) end
+  local status = status_of_named(name, blobs, manifests, mark)
+  if status == 200 and mark then remember(what, mark) end
+  if status == 404 then
+    core.log(core.notice, "dropped, since what it names has gone: " .. name .. "@" .. digest)
+    store.drop(name, digest, record.stamp)
+  end
+  return status
+end
+
+--- Requests
+
+-- Bodies that are being received, by their lists of parts. A client that goes away takes its list with it, once it is collected.
+local receiving = setmetatable({}, {__mode = "k"})
+local collected = 0
+
+local function received()
+  local sum = 0
+  for _, size in pairs(receiving) do sum = sum + size end
+  return sum
+end
+
+-- Whether there is room for more. What clients left behind is collected first, at most once a second.
+local function has_room()
+  if received() <= MOST_RECEIVED then return true end
+  local now = core.now().sec
+  if now ~= collected then
+    collected = now
+    collectgarbage()
+  end
+  return received() <= MOST_RECEIVED
+end
+
+-- The request's body. `receive` hands out less than it was asked for: only the empty text is the end.
 local function body_of(applet)
   local parts, size = {}, 0
   repeat
     local part = applet:receive(MIB)
     parts[#parts + 1] = part
     size = size + #part
-    if size > LARGEST then return nil end
+    receiving[parts] = size
+    if size > LARGEST then refuse(413, "SIZE_INVALID", "a manifest may have 4 MiB") end
+    if size > ALWAYS_RECEIVED and not has_room() then
+      refuse(429, "TOOMANYREQUESTS", "too many large manifests are being sent: try again", {["Retry-After"] = "2"})
+    end
   until part == ""
-  return table.concat(parts)
+  local body = table.concat(parts)
+  receiving[parts] = nil
+  return body
+end
+
+local function type_of(applet)
+  local kind = applet.headers["content-type"]
+  kind = kind and kind[0] or "application/octet-stream"
+  if #kind > LONGEST_TYPE then unreadable("the Content-Type is too long") end
+  return kind
 end
 
 local function put(applet, name, reference, algorithm)
-  local body = body_of(applet)
-  if not body then return refuse(applet, 413, "SIZE_INVALID", "the manifest is too large") end
+  local kind, body = type_of(applet), body_of(applet)
   local digest = digest_of(applet, algorithm or "sha256", body)
-  if algorithm and reference ~= digest then
-    return refuse(applet, 400, "DIGEST_INVALID", "the manifest has another digest")
-  end
+  if algorithm and reference ~= digest then refuse(400, "DIGEST_INVALID", "the manifest has another digest") end
   local blobs, manifests = named_in(body)
-  if not blobs then return refuse(applet, 400, "MANIFEST_INVALID", "not a manifest of schema version 2, or it names too much") end
-  local status = status_of_all(status_of_blob, name, blobs, {})
-  if status == 200 then status = status_of_all(status_of_manifest, name, manifests, {}) end
-  if status == 404 then return refuse(applet, 404, "MANIFEST_BLOB_UNKNOWN", "the repository doesn't have all that the manifest names") end
-  if status ~= 200 then return refuse(applet, 503, "UNAVAILABLE", "the blobs can't be asked for") end
-  local size = #body + DIGEST_SIZE * (#blobs + #manifests) + OVERHEAD
-  if held + size + #reference + OVERHEAD > MOST_HELD then
-    return refuse(applet, 503, "UNAVAILABLE", "there is no room for more manifests")
-  end
-  -- From here on nothing waits: no other request comes between.
-  local repository = repositories[name] or {manifests = {}, tags = {}}
-  repositories[name] = repository
-  local kind, before = applet.headers["content-type"], repository.manifests[digest]
-  held = held + size - (before and before.size or 0)
-  repository.manifests[digest] = {
-    body = body, type = kind and kind[0] or "application/octet-stream", blobs = blobs, manifests = manifests, size = size
+  local below = store.below(name, manifests)
+  if not below then refuse(404, "MANIFEST_BLOB_UNKNOWN", "the repository doesn't have all manifests that the index names") end
+  below = below + #blobs + #manifests
+  if below > MOST_BELOW then unreadable("the index has more than " .. MOST_BELOW .. " blobs and manifests below it") end
+  local record = {
+    body = body, type = kind, blobs = blobs, manifests = manifests, below = below, stamp = new_text(), length = #body,
+    size = #body + DIGEST_SIZE * (#blobs + #manifests) + OVERHEAD,
   }
-  if not algorithm then
-    if not repository.tags[reference] then held = held + #reference + OVERHEAD end
-    repository.tags[reference] = digest
-  end
+  local mark = mark_of(applet, name)
+  local status = status_of_named(name, blobs, manifests, mark)
+  if status == 404 then refuse(404, "MANIFEST_BLOB_UNKNOWN", "the repository doesn't have all that the manifest names") end
+  if status ~= 200 then refuse(503, "UNAVAILABLE", "the shard of this repository does not answer") end
+  local done = store.put(name, digest, record, not algorithm and reference or nil)
+  if done == "unknown" then refuse(404, "MANIFEST_BLOB_UNKNOWN", "the repository doesn't have all that the manifest names") end
+  if done == "full" then refuse(503, "UNAVAILABLE", "there is no room for more manifests (FRONT_HELD)") end
+  if mark then remember("manifest " .. name .. "@" .. digest, mark) end
   answer(applet, 201, {Location = "/v2/" .. name .. "/manifests/" .. digest, ["Docker-Content-Digest"] = digest}, "")
 end
 
--- The digest that a reference stands for, whose manifest is held; or nil.
-local function digest_at(name, reference, algorithm)
-  local repository = repositories[name]
-  local digest = repository and (algorithm and reference or repository.tags[reference])
-  return digest and repository.manifests[digest] and digest or nil
+local function not_there()
+  refuse(404, "MANIFEST_UNKNOWN", "the repository has no such manifest")
 end
 
 local function get(applet, name, reference, algorithm)
-  local digest = digest_at(name, reference, algorithm)
-  local manifest = digest and repositories[name].manifests[digest]
-  local status = digest and status_of_manifest(name, digest, {}) or 404
-  if status == 404 then return refuse(applet, 404, "MANIFEST_UNKNOWN", "the repository has no such manifest") end
-  if status ~= 200 then return refuse(applet, 503, "UNAVAILABLE", "the blobs can't be asked for") end
-  answer(applet, 200, {["Content-Type"] = manifest.type, ["Docker-Content-Digest"] = digest}, manifest.body)
+  local digest, record = store.find(name, reference, algorithm ~= nil, applet.method ~= "HEAD")
+  if not digest then not_there() end
+  local status = status_of_manifest(name, digest, mark_of(applet, name))
+  if status == 404 then not_there() end
+  if status ~= 200 then refuse(503, "UNAVAILABLE", "the shard of this repository does not answer") end
+  answer(applet, 200, {["Content-Type"] = record.type, ["Docker-Content-Digest"] = digest}, record.body, record.length)
 end
 
 local function delete(applet, name, reference, algorithm)
-  if not digest_at(name, reference, algorithm) then
-    return refuse(applet, 404, "MANIFEST_UNKNOWN", "the repository has no such manifest")
-  end
-  if algorithm then
-    drop_manifest(name, reference)
-  else
-    drop_tag(repositories[name], reference)
-  end
+  local was_there
+  if algorithm then was_there = store.drop(name, reference) else was_there = store.untag(name, reference) end
+  if not was_there then not_there() end
   answer(applet, 202, {}, "")
 end
 
--- The tags behind `last`, at most `n` of them, with a link to the rest.
-local function list_tags(applet, name)
-  local repository = repositories[name]
-  if not repository then return refuse(applet, 404, "NAME_UNKNOWN", "the repository has no manifest") end
+-- How many a client asks for at most, and behind which.
+local function asked_for(applet)
   local query = "&" .. (applet.qs or "")
-  local most, last = tonumber(query:match("&n=(%d+)")), query:match("&last=([%w_.-]+)")
-  local tags, fields = {}, {["Content-Type"] = "application/json"}
-  for tag in pairs(repository.tags) do
-    if not last or tag > last then tags[#tags + 1] = tag end
-  end
-  table.sort(tags)
-  if most and most < #tags then
-    tags = table.move(tags, 1, most, 1, {})
-    if most > 0 then fields["Link"] = "</v2/" .. name .. "/tags/list?n=" .. most .. "&last=" .. tags[most] .. '>; rel="next"' end
-  end
-  -- an empty table would be written as an object
-  local list = #tags > 0 and json.encode(tags) or "[]"
-  answer(applet, 200, fields, '{"name":"' .. name .. '","tags":' .. list .. "}")
+  local most, last = tonumber(query:match("&n=(%d+)")), query:match("&last=([%w_./%%-]*)") or ""
+  last = last:gsub("%%(%x%x)", function(digits) return string.char(tonumber(digits, 16)) end)
+  return math.floor(math.min(most or LONGEST_LIST, LONGEST_LIST)), last
+end
+
+-- A list, with a link to the rest.
+local function answer_list(applet, list, more, most, form)
+  local fields = {["Content-Type"] = "application/json"}
+  if more and #list > 0 then fields["Link"] = "<" .. applet.path .. "?n=" .. most .. "&last=" .. list[#list] .. '>; rel="next"' end
+  local texts = {}
+  -- no name and no tag has a character that JSON escapes
+  for at, text in ipairs(list) do texts[at] = '"' .. text .. '"' end
+  answer(applet, 200, fields, form:format("[" .. table.concat(texts, ",") .. "]"))
+end
+
+local function list_tags(applet, name)
+  local most, last = asked_for(applet)
+  local tags, more = store.tags(name, last, most)
+  if not tags then refuse(404, "NAME_UNKNOWN", "the repository has no manifest") end
+  answer_list(applet, tags, more, most, '{"name":"' .. name .. '","tags":%s}')
+end
+
+local function list_repositories(applet)
+  local most, last = asked_for(applet)
+  local names, more = store.repositories(last, most)
+  answer_list(applet, names, more, most, '{"repositories":%s}')
 end
 
 local METHODS = {GET = get, HEAD = get, PUT = put, DELETE = delete}
 
-core.register_service("manifests", "http", function(applet)
+local function serve(applet)
   local name = applet.path:match("^/v2/(.+)/tags/list$")
-  if name and #name > LONGEST_NAME then return refuse(applet, 404, "NAME_INVALID", "the name is too long") end
-  if name then
-    if applet.method == "GET" then return list_tags(applet, name) end
-    return refuse(applet, 405, "UNSUPPORTED", "tags are listed by GET", {Allow = "GET"})
+  local reference
+  if not name then name, reference = applet.path:match("^/v2/(.+)/manifests/([^/]+)$") end
+  if name and #name > LONGEST_NAME then refuse(404, "NAME_INVALID", "the name is too long") end
+  if not reference then
+    if applet.method ~= "GET" and applet.method ~= "HEAD" then refuse(405, "UNSUPPORTED", "lists are asked for by GET", {Allow = "GET, HEAD"}) end
+    if name then return list_tags(applet, name) end
+    return list_repositories(applet)
   end
-  local name, reference = applet.path:match("^/v2/(.+)/manifests/([^/]+)$")
-  if #name > LONGEST_NAME then return refuse(applet, 404, "NAME_INVALID", "the name is too long") end
   local algorithm = algorithm_of(reference)
-  if not algorithm and (#reference > LONGEST_TAG or reference:find(":", 1, true)) then
-    return refuse(applet, 400, "MANIFEST_INVALID", "the reference is neither a tag nor a digest")
+  if not algorithm and (#reference > LONGEST_TAG or reference:find(":", 1, true)) then unreadable("the reference is neither a tag nor a digest") end
+  local work = METHODS[applet.method]
+  if not work then refuse(405, "UNSUPPORTED", "manifests have other methods", {Allow = "GET, HEAD, PUT, DELETE"}) end
+  work(applet, name, reference, algorithm)
+end
+
+core.register_service("manifests", "http", function(applet)
+  local done, refusal = pcall(serve, applet)
+  if done then return end
+  if type(refusal) ~= "table" then
+    core.log(core.err, "manifests.lua: " .. tostring(refusal))
+    refusal = {status = 500, code = "UNAVAILABLE", message = "the reverse proxy failed: its log says more"}
   end
-  local serve = METHODS[applet.method]
-  if not serve then return refuse(applet, 405, "UNSUPPORTED", "manifests have other methods", {Allow = "GET, HEAD, PUT, DELETE"}) end
-  serve(applet, name, reference, algorithm)
+  local fields = refusal.fields or {}
+  fields["Content-Type"] = "application/json"
+  answer(applet, refusal.status, fields, json.encode({errors = {{code = refusal.code, message = refusal.message}}}))
 end)

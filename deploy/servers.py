@@ -1,4 +1,4 @@
-"""Starts blobd and the servers that stand in front of it, with the settings of this folder, and ends them.
+"""Starts blobd and the servers that stand before it, with the settings of this folder, and ends them.
 
 They listen on the loopback address alone. Each is a `Service`, for as long as its `with` lasts; it ends too where the program that started it is killed.
 """
@@ -24,6 +24,7 @@ PACKAGES = {
     "haproxy": lambda: program("haproxy"),
     "lua-cjson": lambda: glob.glob("/usr/lib/*/lua/5.*/cjson.so"),
     "openssl": lambda: program("openssl"),
+    "redis-server": lambda: program("redis-server"),
     "skopeo": lambda: program("skopeo"),
     "nginx-light": lambda: program("nginx"),
     "docker-registry": lambda: program("docker-registry"),
@@ -52,6 +53,18 @@ def place(address):
 
 def leave_with_parent():
     ctypes.CDLL(None).prctl(DIES_WITH_PARENT, signal.SIGTERM)
+
+
+def wait_for(address, goes_on=lambda: True):
+    """Whether somebody listens there before long, as long as it makes sense to wait."""
+    end = time.monotonic() + PATIENCE
+    while goes_on() and time.monotonic() < end:
+        try:
+            socket.create_connection(place(address), timeout=1).close()
+            return True
+        except OSError:
+            time.sleep(0.05)
+    return False
 
 
 class Service:
@@ -85,13 +98,8 @@ class Service:
             raise
 
     def wait_for(self, address):
-        end = time.monotonic() + PATIENCE
-        while self.process.poll() is None and time.monotonic() < end:
-            try:
-                socket.create_connection(place(address), timeout=1).close()
-                return
-            except OSError:
-                time.sleep(0.05)
+        if wait_for(address, lambda: self.process.poll() is None):
+            return
         with open(self.log, encoding="utf-8", errors="replace") as log:
             told = log.read()[-2000:]
         raise RuntimeError(f"{self.name} doesn't listen on {address}:\n{told}")
@@ -112,12 +120,12 @@ class Service:
         return self.process is None or self.process.poll() is not None
 
 
-def blobd(binary, folder, address, name="blobd", memory=None):
-    """A shard; where it is told, with so many bytes of address space."""
+def blobd(binary, folder, address, name="blobd", memory=None, workers=2):
+    """A shard with so many workers; if it is told, with so many bytes of address space."""
     words = [os.path.abspath(binary), "serve", address]
     if memory:
         words = ["prlimit", f"--as={memory}", *words]
-    return Service(name, folder, words, [address], HUGE_PAGES)
+    return Service(name, folder, words, [address], HUGE_PAGES | {"BLOBD_WORKERS": str(workers)})
 
 
 def certificate(folder):
@@ -142,18 +150,45 @@ def logins(folder, users):
 
 
 class HAProxy(Service):
-    """The front over these shards, with the certificate and the logins of the folder, on free addresses but for the one given, with more settings."""
+    """HAProxy before these shards, each with so many workers, with the certificate and the logins of the folder, on free addresses but for the one
+    given, with more settings."""
 
-    def __init__(self, folder, shards, tls=None, more=None):
+    def __init__(self, folder, shards, tls=None, more=None, workers=2):
         self.tls = tls or free_address()
         self.plain, self.local, self.status = free_address(), free_address(), free_address()
         settings = {
             "FRONT_TLS": self.tls, "FRONT_PLAIN": self.plain, "FRONT_LOCAL": self.local, "FRONT_STATUS": self.status,
             "FRONT_CERT": os.path.join(folder, "front.pem"), "FRONT_LUA": os.path.join(HERE, "manifests.lua"),
+            "BLOBD_CONNECTIONS": str(workers),
         }
         settings |= {f"BLOBD_{number}": address for number, address in enumerate(shards, 1)} | (more or {})
-        words = [program("haproxy"), "-f", os.path.join(HERE, "haproxy.cfg"), "-f", "users.cfg"]
+        self.socket = os.path.join(folder, "haproxy.sock")
+        settings = {"FRONT_SOCKET": self.socket} | settings
+        # with a master process, as Debian's unit has it, so that it can be reloaded
+        words = [program("haproxy"), "-W", "-f", os.path.join(HERE, "haproxy.cfg"), "-f", "users.cfg"]
         super().__init__("haproxy", folder, words, [self.tls, self.plain, self.local, self.status], settings)
+
+    def reload(self):
+        """Starts a new process with the settings as they are now; the one before serves what it has begun."""
+        self.process.send_signal(signal.SIGUSR2)
+
+    def memory(self):
+        """The bytes of memory that its processes have resident."""
+        with open(f"/proc/{self.process.pid}/task/{self.process.pid}/children", encoding="ascii") as file:
+            processes = [self.process.pid, *map(int, file.read().split())]
+        pages = 0
+        for number in processes:
+            with open(f"/proc/{number}/statm", encoding="ascii") as file:
+                pages += int(file.read().split()[1])
+        return pages * os.sysconf("SC_PAGE_SIZE")
+
+    def command(self, text):
+        """What HAProxy says to a command over its socket."""
+        with socket.socket(socket.AF_UNIX) as line:
+            line.settimeout(PATIENCE)
+            line.connect(self.socket)
+            line.sendall(text.encode() + b"\n")
+            return b"".join(iter(lambda: line.recv(65536), b"")).decode()
 
     def judged(self):
         """What `haproxy -c` says of the settings, where it isn't content."""
@@ -161,8 +196,19 @@ class HAProxy(Service):
         return ran.stdout + ran.stderr if ran.returncode else ""
 
 
+class Redis(Service):
+    """Redis with the settings of this folder, a password, and its files in the folder of the others."""
+
+    def __init__(self, folder, password):
+        self.address = free_address()
+        home = os.path.join(folder, "redis")
+        os.makedirs(home, exist_ok=True)
+        words = [program("redis-server"), os.path.join(HERE, "redis.conf"), "--port", self.address.rsplit(":", 1)[1], "--dir", home, "--requirepass", password]
+        super().__init__("redis", folder, words, [self.address])
+
+
 class Nginx(Service):
-    """nginx in front of HAProxy's plain address."""
+    """nginx before HAProxy's plain address."""
 
     def __init__(self, folder, front):
         self.tls = free_address()

@@ -61,7 +61,7 @@ class Client:
             self.connection.close()
 
     def heard(self, method, target, reply):
-        """Notes a reply. Only want of memory may leave a request without one, or answer it 503."""
+        """Notes a reply. Only out of memory may leave a request without one, or answer it 503."""
         told = reply.status if reply else "nothing"
         self.seen[f"{method} {told}"] += 1
         self.past.append(f"{method} {target}: {told}")
@@ -76,7 +76,7 @@ class Client:
         return self.heard(method, target, connection.hear(method))
 
     def ask_until_heard(self, method, target):
-        """The reply to a request that changes nothing, asked again for want of memory."""
+        """The reply to a request that changes nothing, asked again if it is out of memory."""
         for _ in range(TRIES):
             reply = self.ask(method, target)
             if reply:
@@ -230,7 +230,7 @@ class Client:
         elif closed:
             demand(closed.status == 400 and upload.held != before, "a close beside a chunk is answered", closed)
         else:
-            demand(upload.held != before or not chunked, "a chunk in front of a close is answered", chunked)
+            demand(upload.held != before or not chunked, "a chunk before a close is answered", chunked)
 
     def commit(self, upload):
         """Pulls what was committed, and sees that it is what was taken."""
@@ -279,11 +279,13 @@ class Client:
         if self.often(0.3):
             self.leave()
 
-    def run(self, until):
-        """What is wrong, or nothing."""
+    def run(self, until, least):
+        """What is wrong, or nothing. It goes on until then, and for so many steps at least."""
         try:
-            while time.monotonic() < until:
+            steps = 0
+            while steps < least or time.monotonic() < until:
                 self.step()
+                steps += 1
             for blob in self.committed:
                 self.pull(blob)
             self.leave()

@@ -25,7 +25,7 @@ def opening_reply(number):
 
 
 def cut_connections():
-    """A whole upload, cut after each byte: the replies to the whole requests in front, and status 3 inside a request."""
+    """A whole upload, cut after each byte: the replies to the whole requests before the cut, and status 3 inside a request."""
     _, sent, replies, _ = next(connection for connection in stored.connections() if connection[0] == "whole-upload")
     turns, _ = model.conversation(sent)
     for cut in range(len(sent) + 1):

@@ -1,18 +1,31 @@
 #!/usr/bin/env python3
-"""Compares `blobd once` with a model of it (tests/model.py) over streams that a seeded generator makes: all that it writes, and its exit status.
+"""Compares `blobd once` and `blobd serve` with a model (tests/model.py) over streams that a seeded generator makes: all that is written, and how it ends.
 
     differential.py PROGRAM [--streams N] [--seed FIRST]
 
-A stream is requests, whole, cut or changed somewhere (tests/streams.py). Of one that is answered otherwise, a part that still is is printed. The
-streams together have to bring about each reply that the model knows and each end of a connection, but for what takes a thousand requests or more
-(tests/connections.py has those). Closes with 'N passed, M failed'.
+A stream is requests, whole, cut or changed somewhere (tests/streams.py).
+
+- `blobd once`: the bytes and the exit status. Of a stream that is answered otherwise, a part that still is is printed. The streams together have to
+  bring about each reply that the model knows and each end of a connection, but for what takes a thousand requests or more (tests/connections.py has
+  those).
+- `blobd serve` with one worker, two and eight, over sockets: for each of them a sixteenth as many streams again, of seeds of their own, and a new
+  server for each. Every second stream goes over one connection, and the others go in turn over one to each worker, so that the workers have to share what
+  they know. The references that it tells are compared without their secrets.
+
+Closes with 'N passed, M failed'.
 """
+import contextlib
+import functools
+import itertools
 import os
+import re
+import socket
 import unittest
 
 import model
 import streams
 from harness import running, suite
+from harness.running import rest_of
 
 # So many streams bring about all of these.
 ENOUGH = 1_000
@@ -22,6 +35,11 @@ REPLIES |= {(404, code) for code in ("BLOB_UNKNOWN", "BLOB_UPLOAD_UNKNOWN", "NAM
 ENDS = set(model.End) - {model.End.TOO_MANY}
 # of the first streams that are answered otherwise, a part is sought in so many tries
 MOST_SHRUNK, MOST_TRIES = 3, 300
+# For each number of workers, one stream is served for so many that `blobd once` has.
+WORKERS, FOR_EACH_SERVED = (1, 2, 8), 16
+# A head that tells a reference, and how the one of a number is written, with any secret.
+TELLS = re.compile(rb"/uploads/([^/\r]*)\r\n(?:.+\r\n)*\r\n")
+WRITTEN = rb"%s-[0-9a-f]{4}-8[0-9a-f]{3}-[89ab][0-9a-f]{3}-[0-9a-f]{12}"
 
 
 def is_other(sent):
@@ -44,9 +62,9 @@ def shrunk(sent):
     return sent
 
 
-def told(sent):
+def told(sent, ran, should):
     """What came and what should have, from where they differ."""
-    (written, status), (wanted, wanted_status) = running.once(sent), model.once(sent)
+    (written, status), (wanted, wanted_status) = ran, should
     same = len(os.path.commonprefix([written, wanted]))
     end = max(0, same - 40)
     return f"status {status}, wanted {wanted_status}; wrote ..{written[end:][:400]!r}, wanted ..{wanted[end:][:400]!r}; sent {sent[:2000]!r}"
@@ -58,6 +76,84 @@ def compared(seed):
     turns, end = model.conversation(sent)
     is_same = running.once(sent) == (b"".join(turn.text for turn in turns), end.status)
     return is_same, {(turn.reply.status, turn.reply.code) for turn in turns}, end
+
+
+def parts(sent):
+    """A stream, cut behind each request that opens a session, with the reference that the last reply to a part tells. What is never answered isn't cut off."""
+    turns, _ = model.conversation(sent)
+    begin, number = 0, 1
+    for place, turn in enumerate(turns, 1):
+        reference = model.reference_of(number)
+        if turn.reply.location.endswith(reference):
+            end = turn.end if place < len(turns) else len(sent)
+            yield sent[begin:end], reference.encode()
+            begin, number = end, number + 1
+    yield sent[begin:], None
+
+
+def forms(reference):
+    """The ways in which a stream writes the digits of a reference."""
+    return [form for digits in (reference, reference.replace(b"-", b"")) for form in (digits, digits.upper())]
+
+
+class Secrets:
+    """The secrets of a server's references. The model's are zero: so what is sent gets those that the server told, and they are taken out of what comes."""
+
+    def __init__(self):
+        self.references = {}  # the model's, and the server's
+
+    def put_in(self, part):
+        for plain, secret in self.references.items():
+            for old, new in zip(forms(plain), forms(secret)):
+                part = part.replace(old, new)
+        return part
+
+    def hear(self, connection, plain):
+        """What comes until a head is whole that tells a reference for the first time, or until the end. It has to have this one's number."""
+        replies, new = b"", set()
+        while not new:
+            part = connection.recv(65536)
+            if not part:
+                break
+            replies += part
+            new = set(TELLS.findall(replies)) - set(self.references.values())
+        for reference in new:
+            if re.fullmatch(WRITTEN % plain[:8], reference):
+                self.references[plain] = reference
+        return replies
+
+    def take_out(self, replies):
+        for plain, secret in self.references.items():
+            replies = replies.replace(secret, plain)
+        return replies
+
+
+def converse(connections, sent):
+    """What comes over connections to which the parts of a stream go in turn, each once those before it are answered. An error stands behind what came."""
+    secrets, replies = Secrets(), b""
+    try:
+        for (part, plain), connection in zip(parts(sent), itertools.cycle(connections)):
+            connection.sendall(secrets.put_in(part))
+            if plain:
+                replies += secrets.hear(connection, plain)
+        # the last part is over this one
+        for ended in (connection, *(other for other in connections if other is not connection)):
+            ended.shutdown(socket.SHUT_WR)
+            replies += rest_of(ended)
+    except OSError as error:
+        replies += repr(error).encode()
+    return secrets.take_out(replies)
+
+
+def served(workers, seed):
+    """What comes from a new server of so many workers, of which each takes one connection, and how the server ends; and what is wanted."""
+    sent = streams.stream(seed)
+    wanted, _ = model.once(sent)
+    with running.Server(1, env=os.environ | {"BLOBD_WORKERS": str(workers)}) as server:
+        with contextlib.ExitStack() as open_ones:
+            connections = [open_ones.enter_context(server.connect()) for _ in range(workers)]
+            written = converse(connections[: workers if seed % 2 else 1], sent)
+        return (written, server.ended()), (wanted, ("served\n", 0))
 
 
 class Streams(unittest.TestCase):
@@ -72,12 +168,22 @@ class Streams(unittest.TestCase):
                 with self.subTest(seed=seed):
                     if not is_same:
                         shrinks -= 1
-                        sent = streams.stream(seed)
-                        self.fail(told(shrunk(sent) if shrinks >= 0 else sent))
+                        sent = shrunk(streams.stream(seed)) if shrinks >= 0 else streams.stream(seed)
+                        self.fail(told(sent, running.once(sent), model.once(sent)))
         if count >= ENOUGH:
             with self.subTest("what the streams bring about"):
                 self.assertEqual(REPLIES, replies)
                 self.assertEqual(ENDS, ends)
+
+    def test_served_streams(self):
+        count, first = suite.OPTIONS.streams // FOR_EACH_SERVED, suite.OPTIONS.seed + suite.OPTIONS.streams
+        for which, workers in enumerate(WORKERS):
+            seeds = range(first + which * count, first + (which + 1) * count)
+            with running.processes() as pool:
+                for seed, (ran, should) in zip(seeds, pool.map(functools.partial(served, workers), seeds)):
+                    with self.subTest(workers=workers, seed=seed):
+                        if ran != should:
+                            self.fail(told(streams.stream(seed), ran, should))
 
 
 if __name__ == "__main__":

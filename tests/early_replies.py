@@ -115,10 +115,11 @@ TOO_LARGE = reply(413, b"Connection: close", body=b'{"errors":[{"code":"SIZE_INV
 
 class EarlyReplies(unittest.TestCase):
     def goes(self, content, chunk, connections, asked, ended):
-        """Pushes to a scripted server: what it was asked on each connection, and how the push ended."""
-        server = Scripted(*connections)
+        """Pushes to a scripted server: what it was asked on each connection, and how the push ended. Before all of that it is asked by a HEAD whether it
+        has the file, and says no."""
+        server = Scripted(at_once(reply(404)) + connections[0], *connections[1:])
         self.assertEqual(ended, push(server.addr, content, chunk))
-        self.assertEqual(asked, server.end())
+        self.assertEqual([["HEAD", *asked[0]], *asked[1:]], server.end())
 
     def test_created_behind_the_reply_to_the_last_chunk(self):
         """It isn't heard as the reply to the close: the client connects again, and closes there."""

@@ -1,15 +1,18 @@
 #!/usr/bin/env python3
-"""Runs the servers that stand in front of `blobd` with their settings in deploy/, on free ports of the loopback address.
+"""Runs the reverse proxy and the other servers of deploy/ before `blobd`, with their settings, on free ports of the loopback address.
 
     front.py PROGRAM
 
-It tries whether the settings are taken, who is let in, which bodies are refused and when 100 is said, manifests and tags, clients that keep their
-connections and slow ones, what becomes of pushes when a shard is lost or has no memory, and images that `skopeo` and `docker` push and pull; `blobd push`
-through the adapter to `docker-registry`, and `make registry` as a newcomer meets it.
+It tries whether the settings are taken, who is let in and who may change what, which bodies are refused, with which words, and when 100 is said, uploads
+that are cancelled, manifests and tags, in HAProxy's memory and in Redis, also over reloads and kills, certificates that are renewed, clients that keep
+their connections and slow ones, how many connections a shard is given, what becomes of pushes when a shard is lost or has no memory, and images that
+`skopeo` and `docker` push and pull;
+`blobd push` through the adapter to `docker-registry`, `make registry` as a newcomer meets it, and the lines with which docs/OPERATIONS.md sets all up.
 
 Prints a line for each check that fails, one for each part whose packages aren't installed, and 'N passed, M failed' as the last.
 """
 import base64
+import collections
 import concurrent.futures
 import contextlib
 import functools
@@ -20,6 +23,7 @@ import io
 import json
 import os
 import random
+import select
 import shutil
 import signal
 import socket
@@ -43,11 +47,13 @@ import servers  # noqa: E402
 
 KIB, MIB = 1 << 10, 1 << 20
 LOGIN = ("alice", "wonder")
-# what every front needs
+# what every reverse proxy needs
 FRONT = ("haproxy", "lua-cjson", "openssl")
 IMAGE_TYPE = "application/vnd.oci.image.manifest.v1+json"
 INDEX_TYPE = "application/vnd.oci.image.index.v1+json"
 EMPTY_BLOB = sha256(b"")
+# uploads that a shard has room for
+TABLE = 1024
 
 
 def sha512(content):
@@ -77,6 +83,21 @@ def needs(*packages):
     return of
 
 
+def refusal_of(heard):
+    """The status, the code and the message of a reply that refuses, if it is one as clients expect it."""
+    status, fields, body = heard
+    if fields["Docker-Distribution-Api-Version"] != "registry/2.0" or fields["Content-Type"] != "application/json":
+        return status, None, fields.as_string()
+    error = json.loads(body)["errors"][0]
+    return status, error["code"], error["message"]
+
+
+def is_refused(name, heard, status, code, word):
+    """Checks that a reply is this refusal, and that its message has this word."""
+    told = refusal_of(heard)
+    check(name, told[:2] == (status, code) and word in told[2], told)
+
+
 class Client:
     """A client that keeps its connection for as long as the other side does."""
 
@@ -104,6 +125,12 @@ class Client:
         if self.socket:
             self.socket.close()
         self.socket = None
+
+    def raw_tls(self):
+        """A connection that takes any certificate."""
+        context = ssl.create_default_context()
+        context.check_hostname, context.verify_mode = False, ssl.CERT_NONE
+        return context.wrap_socket(running.connected(self.place))
 
     def write(self, method, target, length, fields):
         if self.socket is None:
@@ -144,11 +171,12 @@ class Client:
 
 
 class Site:
-    """So many shards behind HAProxy, and nginx in front of it where it is asked for, in a folder of their own."""
+    """So many shards behind HAProxy, each with so many workers, and nginx before it if it is asked for, in a folder of their own."""
 
-    def __init__(self, shards=1, nginx=False, memory=None, more=None):
+    def __init__(self, shards=1, nginx=False, memory=None, more=None, users=None, workers=2):
+        self.users = dict([LOGIN]) | (users or {})
         self.addresses = [servers.free_address() for _ in range(shards)]
-        self.memory, self.more = memory, more
+        self.memory, self.more, self.workers = memory, more, workers
         self.with_nginx = nginx
         self.stack = contextlib.ExitStack()
 
@@ -156,13 +184,13 @@ class Site:
         with contextlib.ExitStack() as stack:
             self.folder = stack.enter_context(tempfile.TemporaryDirectory(prefix="blobd-front-"))
             servers.certificate(self.folder)
-            servers.logins(self.folder, dict([LOGIN]))
+            servers.logins(self.folder, self.users)
             self.certificates = os.path.join(self.folder, "ca", "front.crt")
             self.shards = [
-                stack.enter_context(servers.blobd(running.PROGRAM, self.folder, address, f"blobd{number}", self.memory))
+                stack.enter_context(servers.blobd(running.PROGRAM, self.folder, address, f"blobd{number}", self.memory, self.workers))
                 for number, address in enumerate(self.addresses, 1)
             ]
-            self.haproxy = stack.enter_context(servers.HAProxy(self.folder, self.addresses, more=self.more))
+            self.haproxy = stack.enter_context(servers.HAProxy(self.folder, self.addresses, more=self.more, workers=self.workers))
             self.nginx = stack.enter_context(servers.Nginx(self.folder, self.haproxy)) if self.with_nginx else None
             self.stack = stack.pop_all()
         return self
@@ -281,6 +309,7 @@ def logins_are_asked_for(site):
             check(f"a login over {way} as {who}", heard == status, heard)
             check(f"a challenge over {way} to {who}", status == 200 or fields["WWW-Authenticate"].startswith("Basic "), fields.as_string())
     check("this machine needs no login", site.local().ask("GET", "/v2/")[0] == 200)
+    is_refused("a wrong login is told", site.client(("alice", "wrong")).ask("GET", "/v2/"), 401, "UNAUTHORIZED", "log in")
     old = ssl.create_default_context(cafile=site.certificates)
     old.set_ciphers("ALL:@SECLEVEL=0")
     with warnings.catch_warnings():
@@ -325,9 +354,16 @@ def large_bodies_are_refused(site):
     ):
         client = site.client()
         client.write("PATCH" if what == "a chunk" else "PUT", target, length, {})
-        heard, _, body = client.heard("PATCH")
-        check(f"{what} over the limit", heard == status and json.loads(body)["errors"][0]["code"] == "SIZE_INVALID", (heard, body))
+        is_refused(f"{what} over the limit", client.heard("PATCH"), status, "SIZE_INVALID", "too large")
         client.close()
+    # above what 63 and 64 bits have: HAProxy itself refuses some of them, before any setting counts
+    for length in (1 << 63, (1 << 63) + 5, (1 << 64) - 1, 1 << 64, 10**30):
+        client = site.client()
+        client.write("PATCH", place, length, {})
+        heard = client.heard("PATCH")[0]
+        check(f"a Content-Length of {length}", heard in (400, 413), heard)
+        client.close()
+    check("none of them reached the upload", site.local().ask("GET", place)[0] == 204)
     client = site.client()
     client.write("PUT", "/v2/lib/large/manifests/one", None, {"Transfer-Encoding": "chunked"})
     with contextlib.suppress(ConnectionError):
@@ -336,6 +372,65 @@ def large_bodies_are_refused(site):
         client.socket.sendall(b"0\r\n\r\n")
     heard = client.heard("PUT")[0]
     check("a chunked manifest over the limit", heard == 413, heard)
+
+
+def uploads_are_cancelled(site):
+    client = site.client()
+    opened = "/v2/lib/cancelled/blobs/uploads/"
+    place = client.ask("POST", opened)[1]["Location"]
+    check("an upload is cancelled", client.ask("DELETE", place)[0] == 204)
+    for method in ("DELETE", "GET", "PATCH"):
+        is_refused(f"{method} of a cancelled upload", client.ask(method, place), 404, "BLOB_UPLOAD_UNKNOWN", "")
+    place = client.ask("POST", opened)[1]["Location"]
+    check("a chunk", client.ask("PATCH", place, b"chunk")[0] == 202)
+    check("an upload that has bytes is cancelled", client.ask("DELETE", place)[0] == 204)
+    for method in ("DELETE", "GET", "PATCH"):
+        is_refused(f"{method} of a cancelled upload that had bytes", client.ask(method, place), 404, "BLOB_UPLOAD_UNKNOWN", "cancelled")
+    check("its bytes stay in the shard", Client(site.addresses[0]).ask("GET", place, Connection="close")[0] == 204)
+    place = client.ask("POST", opened)[1]["Location"]
+    check("one of another repository isn't", client.ask("DELETE", place.replace("cancelled", "other"))[0] == 404)
+    check("and goes on", client.ask("PATCH", place, b"chunk")[0] == 202)
+    check("the shard itself has no DELETE", Client(site.addresses[0]).ask("DELETE", place, Connection="close")[0] == 405)
+
+
+def ranges_are_no_part_of_it(site):
+    client = site.client()
+    client.push("lib/ranges", b"a blob")
+    status, fields, body = client.ask("GET", f"/v2/lib/ranges/blobs/{sha256(b'a blob')}", Range="bytes=2-3")
+    check("a range of a blob", (status, fields["Accept-Ranges"], body) == (200, "none", b"a blob"), fields.as_string())
+
+
+def mounts_fill_no_table(site, names):
+    """More mounts from the other shard than a shard has room for uploads, each cancelled as skopeo does."""
+    client, told = site.client(), set()
+    target = f"/v2/{names[0][0]}/blobs/uploads/?mount={sha256(names[1][0].encode())}&from={names[1][0]}"
+    for _ in range(TABLE + 76):
+        status, fields, _ = client.ask("POST", target)
+        told.add((status, client.ask("DELETE", fields["Location"])[0] if status == 202 else None))
+    check("mounts across shards are opened and cancelled", told == {(202, 204)}, told)
+
+
+def an_image_on_both_shards(site, names):
+    """skopeo asks for mounts from what it pushed before, and cancels the uploads that it gets instead."""
+    make_image(os.path.join(site.folder, "image"))
+    folder, (user, word) = os.path.dirname(site.certificates), LOGIN
+    for name in (names[0][0], names[1][0]):
+        to = ["--dest-cert-dir", folder, "--dest-creds", f"{user}:{word}", "oci:image:one", f"docker://{site.haproxy.tls}/{name}:one"]
+        ran = skopeo(site, "copy", *to)
+        check(f"skopeo pushes to {name}", ran[0] == 0, ran)
+    told = [line for line in open_text(site.haproxy.log).splitlines() if f'"DELETE /v2/{names[1][0]}/' in line]
+    check("what it cancelled is cancelled", all(" 204 " in line for line in told), told)
+
+
+def a_full_table_is_told(site, names):
+    client = site.client()
+    opened = [client.ask("POST", f"/v2/{names[0][0]}/blobs/uploads/") for _ in range(TABLE + 1)]
+    # one or the other may have been open before
+    counts = collections.Counter(status for status, _, _ in opened)
+    check("a table's size of uploads is opened", counts[202] > TABLE - 10 and set(counts) == {202, 429}, counts)
+    is_refused("one more", opened[-1], 429, "TOOMANYREQUESTS", "open uploads")
+    check("it is said when to ask again", opened[-1][1]["Retry-After"] == "60")
+    check("the other shard has room", client.ask("POST", f"/v2/{names[1][0]}/blobs/uploads/")[0] == 202)
 
 
 class Repository:
@@ -401,7 +496,7 @@ def only_manifests_are_taken(site):
     manifest = manifest_of(b"{}", b"layer")
     odd = [b"", b"[]", b"null", b"no JSON", b'{"schemaVersion":1}', b'{"schemaVersion":2}', b'{"schemaVersion":2,"config":7,"layers":[]}']
     odd += [b'{"schemaVersion":2,"config":{"digest":"sha256:12"},"layers":[]}', b'{"schemaVersion":2,"manifests":[{"digest":7}]}']
-    odd += [manifest.replace(b'"layers"', b'"laiers"'), json.dumps({"schemaVersion": 2, "manifests": [descriptor(b"")] * 1001}).encode()]
+    odd += [manifest.replace(b'"layers"', b'"laiers"'), json.dumps({"schemaVersion": 2, "manifests": [descriptor(b"%d" % n) for n in range(1001)]}).encode()]
     for body in odd:
         check(f"what is no manifest: {body[:60]}", kept.put("odd", body) == (400, "MANIFEST_INVALID"), kept.put("odd", body))
     hidden = manifest_of(b"{}", b"nowhere").replace(b'"digest"', b'"\\u0064igest"')
@@ -435,12 +530,267 @@ def tags_and_indexes_are_kept(site):
     check("a tag is taken away", [kept.delete("one") for _ in range(2)] == [202, 404])
     check("its manifest stays", kept.get(sha256(other)) == other)
     check("a manifest is taken away", [kept.delete(sha256(other)) for _ in range(2)] == [202, 404])
-    check("its tag goes with it", kept.tags()[0] == ["all", "three"], kept.tags())
-    check("and what names it", kept.get("all") == 404 and kept.tags()[0] == ["three"], kept.tags())
+    check("its tag goes with it, and what names it", kept.tags()[0] == ["three"] and kept.get("all") == 404, kept.tags())
     check("what names others stays", kept.get("three") == manifest)
     check("the last manifest is taken away", kept.delete(sha256(manifest)) == 202)
     check("and the repository is as before its first", kept.tags()[0] == 404, kept.tags())
     check("until one is put again", kept.put("four", manifest)[0] == 201 and kept.tags()[0] == ["four"], kept.tags())
+
+
+def lists_have_pages(site):
+    """Tags and repositories, more of them than one answer of Redis has."""
+    kept = Repository(site, "lib/pages")
+    kept.push(b"{}")
+    tags = [f"t{number:03}" for number in range(60)]
+    check("tags", {kept.put(tag, manifest_of(b"{}"))[0] for tag in tags} == {201})
+    check("all of them", kept.tags()[0] == tags, kept.tags())
+    check("a page of them", kept.tags("?n=30&last=t005") == (tags[6:36], f'<{kept.home}/tags/list?n=30&last=t035>; rel="next"'))
+    check("the last page", kept.tags("?n=30&last=t029") == (tags[30:], ""), kept.tags("?n=30&last=t029"))
+
+    def listed(query=""):
+        status, fields, body = kept.client.ask("GET", f"/v2/_catalog{query}")
+        return status == 200 and json.loads(body)["repositories"], fields.get("Link", "")
+
+    names, rest = listed()
+    check("repositories in order", names == sorted(names) and "lib/pages" in names and rest == "", names)
+    before = names[names.index("lib/pages") - 1]
+    found = listed(f"?n=1&last={before.replace('/', '%2F')}")
+    check("a page of them", found == (["lib/pages"], '</v2/_catalog?n=1&last=lib/pages>; rel="next"'), found)
+    check("a list is only read", kept.client.ask("PUT", "/v2/_catalog")[0] == 405)
+
+
+def put_of_a_part(site, name, size):
+    """A client that has sent so much of a manifest of 4 MiB."""
+    client = Client(site.haproxy.local)
+    client.write("PUT", f"/v2/{name}/manifests/part", 4 * MIB, {"Content-Type": IMAGE_TYPE})
+    with contextlib.suppress(ConnectionError):
+        client.socket.sendall(bytes(size))
+    return client
+
+
+def manifests_have_bounds(site):
+    """What manifests cost HAProxy is bounded: parts of them, their values, what they name."""
+    kept = Repository(site, "lib/bounds")
+    layers = [b"layer %d" % number for number in range(200)]
+    check("blobs", {kept.client.ask("POST", f"{kept.home}/blobs/uploads/?digest={sha256(one)}", one)[0] for one in [b"{}", *layers]} == {201})
+    manifest = manifest_of(b"{}", *layers)
+    check("a manifest of many blobs", kept.put("many", manifest)[0] == 201)
+    asked = questions(site)
+    check("it comes back", [kept.get("many") for _ in range(10)] == [manifest] * 10)
+    check("with a question each", questions(site) - asked <= 2 * 10, questions(site) - asked)
+    dense = b'{"schemaVersion":2,"a":[' + b"[]," * (MIB - 10) + b"[]]}"
+    check("a manifest of many values", kept.put("dense", dense) == (413, "SIZE_INVALID"))
+    named = json.dumps(descriptor(b"nowhere")).encode()
+    for what, odd, told in (
+        ("layers that are an object", b'{"schemaVersion":2,"config":%s,"layers":{}}', (400, "MANIFEST_INVALID")),
+        ("layers that are an object with members", b'{"schemaVersion":2,"config":%s,"layers":{"1":2}}', (400, "MANIFEST_INVALID")),
+        ("layers in two spellings", b'{"schemaVersion":2,"config":%s,"layers":[],"Layers":[]}', (400, "MANIFEST_INVALID")),
+        ("a config beside manifests", b'{"schemaVersion":2,"manifests":[],"config":%s,"layers":[]}', (404, "MANIFEST_BLOB_UNKNOWN")),
+        ("layers beside manifests", b'{"schemaVersion":2,"manifests":[],"layers":[%s]}', (404, "MANIFEST_BLOB_UNKNOWN")),
+    ):
+        check(what, kept.put("odd", odd % named) == told, kept.put("odd", odd % named))
+    below = manifest
+    for depth in range(1, 60):
+        below = json.dumps({"schemaVersion": 2, "depth": depth, "manifests": [descriptor(below)]}).encode()
+        if (put := kept.put(sha256(below), below))[0] != 201:
+            break
+    check("indexes in one another", put[0] == 201 and kept.get(sha256(below)) == below, (depth, put))
+    indexes = []
+    for number in range(60):
+        indexes.append(json.dumps({"schemaVersion": 2, "number": number, "manifests": [descriptor(manifest)]}).encode())
+        kept.put(sha256(indexes[-1]), indexes[-1])
+    wide = json.dumps({"schemaVersion": 2, "manifests": [descriptor(one) for one in indexes]}).encode()
+    check("an index with too much below it", kept.put("wide", wide) == (400, "MANIFEST_INVALID"), kept.put("wide", wide))
+
+
+def questions(site):
+    """How many requests the shards have had through HAProxy."""
+    told = next(line for line in site.haproxy.command("show stat").splitlines() if line.startswith("shards,BACKEND,"))
+    return int(told.split(",")[7])
+
+
+@needs(*FRONT)
+def parts_of_manifests_have_bounds():
+    with Site() as site:
+        kept = Repository(site, "lib/parts")
+        kept.push(b"{}")
+        before = site.haproxy.memory()
+        with concurrent.futures.ThreadPoolExecutor(60) as pool:
+            clients = list(pool.map(lambda _: put_of_a_part(site, "lib/parts", 4 * MIB - 10), range(60)))
+        refused = [refusal_of(client.heard("PUT")) for client in clients if select.select([client.socket], [], [], 1)[0]]
+        check("most of them are refused", len(refused) > 40 and {told[:2] for told in refused} == {(429, "TOOMANYREQUESTS")}, refused[:3])
+        grown = site.haproxy.memory() - before
+        check("they take no more than a bound", grown < 160 * MIB, grown)
+        check("a small manifest is taken meanwhile", kept.put("small", manifest_of(b"{}"))[0] == 201)
+        for client in clients:
+            client.close()
+        large = manifest_of(b"{}")[:-1] + b',"annotations":{"a":"' + b"x" * (3 * MIB) + b'"}}'
+        check("and a large one when they are gone", kept.put("large", large)[0] == 201)
+
+
+def a_certificate_is_renewed(site):
+    """Without a reload, as docs/OPERATIONS.md says it."""
+    def served():
+        with Client(site.haproxy.tls).raw_tls() as line:
+            return line.getpeercert(binary_form=True)
+
+    before = served()
+    path = os.path.join(site.folder, "front.pem")
+    servers.certificate(site.folder)
+    with open(path, encoding="ascii") as file:
+        told = site.haproxy.command(f"set ssl cert {path} <<\n{file.read()}\n")
+    told += site.haproxy.command(f"commit ssl cert {path}")
+    check("a certificate is renewed", "Success" in told, told)
+    after = served()
+    check("the new one is served", after != before and after == ssl.PEM_cert_to_DER_cert(open_text(site.certificates)))
+
+
+def open_text(path):
+    with open(path, encoding="ascii") as file:
+        return file.read()
+
+
+@needs(*FRONT)
+def logins_have_rights():
+    with tempfile.TemporaryDirectory(prefix="blobd-front-") as folder:
+        rights = os.path.join(folder, "rights")
+        with open(rights, "w", encoding="ascii") as file:
+            file.write("alice/team-a\nroot/*\n")
+        with Site(more={"FRONT_RIGHTS": rights}, users={"root": "power", "carol": "guest"}) as site:
+            alice, root, carol = site.client(), site.client(("root", "power")), site.client(("carol", "guest"))
+            check("who may push there", push_image(alice, "team-a/app") == ([[202, 202, 201]] * 2, 201))
+            check("who may push anywhere", push_image(root, "team-b/app") == ([[202, 202, 201]] * 2, 201))
+            for name in ("team-b/app", "team-a-b/app", "team", "b/team-a"):
+                is_refused(f"alice opens in {name}", alice.ask("POST", f"/v2/{name}/blobs/uploads/"), 403, "DENIED", "may not")
+            for who, client in (("alice", alice), ("carol", carol)):
+                is_refused(f"{who} deletes", client.ask("DELETE", "/v2/team-b/app/manifests/one"), 403, "DENIED", "may not")
+                check(f"{who} pulls", client.ask("GET", "/v2/team-b/app/manifests/one")[0] == 200)
+            place = root.ask("POST", "/v2/team-b/app/blobs/uploads/")[1]["Location"]
+            check("nobody else goes on with an upload", [carol.ask(method, place)[0] for method in ("PATCH", "PUT", "DELETE")] == [403] * 3)
+            check("tools of this machine may", site.local().ask("DELETE", place)[0] == 204)
+
+
+@contextlib.contextmanager
+def a_shard_that_says(text):
+    """HAProxy before a shard that takes a request and says this, or nothing."""
+    with socket.create_server(("127.0.0.1", 0)) as shard, tempfile.TemporaryDirectory(prefix="blobd-front-") as folder:
+
+        def serve():
+            with contextlib.suppress(OSError):
+                while True:
+                    line, _ = shard.accept()
+                    if text is None:
+                        kept.append(line)
+                    elif line.recv(65536):
+                        line.sendall(text)
+                        line.close()
+
+        kept = []
+        threading.Thread(target=serve, daemon=True).start()
+        servers.certificate(folder)
+        servers.logins(folder, dict([LOGIN]))
+        with servers.HAProxy(folder, ["127.0.0.1:%d" % shard.getsockname()[1]], more={"FRONT_ANSWER": "1s"}) as proxy:
+            yield Client(proxy.local)
+
+
+@needs(*FRONT)
+def a_shards_own_refusals_are_told():
+    bare = "HTTP/1.1 {} Refused\r\nContent-Length: 0\r\nConnection: close\r\n\r\n"
+    for said, status, code, word in (
+        (bare.format(503).encode(), 503, "UNAVAILABLE", "out of memory"),
+        (bare.format(413).encode(), 413, "SIZE_INVALID", "2 GiB"),
+        (bare.format(429).encode(), 429, "TOOMANYREQUESTS", "open uploads"),
+        (b"", 503, "UNAVAILABLE", "ended during the request"),
+        (None, 504, "UNAVAILABLE", "too long"),
+    ):
+        with a_shard_that_says(said) as client:
+            is_refused(f"a shard that says {said}", client.ask("POST", "/v2/lib/a/blobs/uploads/"), status, code, word)
+
+
+class Pushes:
+    """Clients that put manifests under new tags until they are told to end, and note what was answered 201."""
+
+    def __init__(self, site, clients):
+        self.site, self.ending, self.kept = site, threading.Event(), []
+        self.pool = concurrent.futures.ThreadPoolExecutor(clients)
+        self.work = [self.pool.submit(self.push_on, number) for number in range(clients)]
+
+    def push_on(self, number):
+        turn = 0
+        while not self.ending.is_set():
+            turn += 1
+            body = manifest_of(b"{}", b"layer")[:-1] + b',"annotations":{"n":"%d.%d"}}' % (number, turn)
+            client = self.site.local()
+            with contextlib.suppress(OSError, http.client.HTTPException):
+                if client.ask("PUT", f"/v2/lib/durable/manifests/t{number}.{turn}", body, Content_Type=IMAGE_TYPE)[0] == 201:
+                    self.kept.append((f"t{number}.{turn}", body))
+            client.close()
+            self.ending.wait(0.01)
+
+    def end(self):
+        self.ending.set()
+        for one in self.work:
+            one.result(timeout=running.PATIENCE)
+        self.pool.shutdown()
+        return self.kept
+
+
+@needs(*FRONT, "redis-server")
+def manifests_outlive_haproxy():
+    """With Redis: reloads, restarts and kills of HAProxy and of Redis in the middle of pushes lose nothing that was answered 201."""
+    with tempfile.TemporaryDirectory(prefix="blobd-front-") as folder, servers.Redis(folder, "secret") as redis:
+        with Site(more={"FRONT_REDIS": redis.address, "FRONT_REDIS_PASSWORD": "secret"}) as site:
+            manifests_are_kept(site)
+            only_manifests_are_taken(site)
+            tags_and_indexes_are_kept(site)
+            lists_have_pages(site)
+            manifests_have_bounds(site)
+            Repository(site, "lib/durable").push(b"{}", b"layer")
+            pushes = Pushes(site, 4)
+            for change in (
+                site.haproxy.reload, site.haproxy.reload, lambda: restart(site.haproxy, signal.SIGTERM), lambda: restart(site.haproxy, signal.SIGKILL),
+                lambda: restart(redis, signal.SIGKILL), lambda: restart(redis, signal.SIGTERM),
+            ):
+                time.sleep(0.7)
+                change()
+            time.sleep(0.7)
+            kept = pushes.end()
+            durable = Repository(site, "lib/durable")
+            wait_for_redis(durable)
+            check("manifests were taken", len(kept) > 5, len(kept))
+            lost = [tag for tag, body in kept if durable.get(tag) != body]
+            check("none is lost", not lost, lost)
+            check("nor its tag", {tag for tag, _ in kept} <= all_tags(durable))
+            check("nor the repository", b'"lib/durable"' in durable.client.ask("GET", "/v2/_catalog")[2])
+            redis.end()
+            is_refused("without Redis", durable.client.ask("GET", f"{durable.home}/tags/list"), 503, "UNAVAILABLE", "manifests")
+            redis.start()
+            restart(site.shards[0], signal.SIGKILL)
+            wait_for_redis(durable)
+            gone = durable.get(kept[0][0])
+            check("a manifest whose blobs are gone goes", gone == 404 and kept[0][0] not in all_tags(durable), gone)
+
+
+def restart(service, by):
+    service.end(by)
+    service.start()
+
+
+def wait_for_redis(repository):
+    """Redis listens before it has read its files."""
+    end = time.monotonic() + servers.PATIENCE
+    while repository.tags()[0] == 503 and time.monotonic() < end:
+        time.sleep(0.1)
+
+
+def all_tags(repository):
+    tags, last = set(), ""
+    while True:
+        page, _ = repository.tags(f"?n=1000&last={last}")
+        if not page or isinstance(page, int):
+            return tags
+        tags |= set(page)
+        last = page[-1]
 
 
 @needs(*FRONT)
@@ -524,6 +874,44 @@ def many_clients_keep_connections(site):
     check("64 clients: nobody waits for more than some turns", longest < 1 + 4 * turn, (longest, turn))
 
 
+def connections_of(site):
+    """How many requests wait for the first shard, how many connections it has, and how many it may have, as HAProxy counts."""
+    told = next(line for line in site.haproxy.command("show stat").splitlines() if line.startswith("shards,shard1,"))
+    waiting, _, connections, _, most = told.split(",")[2:7]
+    return int(waiting), int(connections), int(most)
+
+
+def becomes(wanted, value):
+    """Whether a value becomes the wanted one before long."""
+    end = time.monotonic() + servers.PATIENCE
+    while value() != wanted and time.monotonic() < end:
+        time.sleep(0.05)
+    return value() == wanted
+
+
+@needs(*FRONT)
+def each_worker_has_a_connection():
+    """A shard with sixteen workers is given sixteen connections at a time. One request more waits in HAProxy until one of them ends."""
+    workers = 16
+    with Site(workers=workers) as site:
+        places = [site.local().ask("POST", "/v2/lib/slow/blobs/uploads/")[1]["Location"] for _ in range(workers)]
+        writers = [site.local() for _ in places]
+        for writer, place in zip(writers, places):
+            writer.write("PATCH", place, KIB, {})
+            writer.socket.sendall(b"drip")
+        check("a connection for each worker", becomes((0, workers, workers), lambda: connections_of(site)), connections_of(site))
+        asker = site.local()
+        asker.write("GET", "/v2/", None, {})
+        check("one more waits in HAProxy", becomes((1, workers, workers), lambda: connections_of(site)), connections_of(site))
+        check("it isn't answered", not select.select([asker.socket], [], [], 0.3)[0])
+        for writer in writers:
+            writer.socket.sendall(bytes(KIB - 4))
+            check("a slow body is taken", writer.heard("PATCH")[0] == 202)
+            if writer is writers[0]:
+                check("what waited is answered then", asker.heard("GET")[0] == 200)
+            writer.close()
+
+
 def slow_clients_hold_nobody(site):
     """Clients of nginx that don't read, and others that drip: more than there are workers."""
     # more than the systems on its way take in
@@ -572,8 +960,10 @@ def read_all(client, length):
 
 def nginx_asks_for_logins(site):
     for who, status in ((LOGIN, 200), (None, 401), (("alice", "wrong"), 401)):
-        heard, fields, _ = site.slow_client(who).ask("GET", "/v2/")
+        heard, fields, body = site.slow_client(who).ask("GET", "/v2/")
         check(f"a login through nginx as {who}", heard == status, heard)
+        if status == 401:
+            is_refused(f"through nginx to {who}", (heard, fields, body), 401, "UNAUTHORIZED", "log in")
         check(f"a challenge through nginx to {who}", status == 200 or "Basic" in (fields["WWW-Authenticate"] or ""), fields.as_string())
     client = site.slow_client(("alice", "wrong"))
     client.write("PUT", "/v2/lib/slow/manifests/one", MIB, {})
@@ -581,7 +971,7 @@ def nginx_asks_for_logins(site):
     client.close()
     client = site.slow_client()
     client.write("PATCH", "/v2/lib/slow/blobs/uploads/x", 2048 * MIB + 1, {})
-    check("a body over the limit at nginx", client.heard("PATCH")[0] == 413)
+    is_refused("a body over the limit at nginx", client.heard("PATCH"), 413, "SIZE_INVALID", "too large")
     client.close()
 
 
@@ -655,8 +1045,8 @@ def a_shard_is_lost(site):
     time.sleep(1)
     site.shards[1].end(signal.SIGKILL)
     time.sleep(0.5)
-    away = client.ask("GET", f"/v2/{lost[0]}/manifests/one")[0]
-    check("a manifest whose shard is away", away == 503, away)
+    is_refused("a manifest whose shard is away", client.ask("GET", f"/v2/{lost[0]}/manifests/one"), 503, "UNAVAILABLE", "shard")
+    is_refused("a blob whose shard is away", client.ask("GET", f"/v2/{lost[0]}/blobs/{EMPTY_BLOB}"), 503, "UNAVAILABLE", "does not answer")
     site.shards[1].start()
     time.sleep(2)
     told = uploads.end()
@@ -692,7 +1082,7 @@ def health_tells_of_a_lost_shard(site):
 
 
 def shards_of_all(names, shards):
-    """The shard of each name, as the log of a front over so many tells it."""
+    """The shard of each name, as the log of a reverse proxy over so many tells it."""
     with Site(shards) as site:
         client = site.local()
         for name in names:
@@ -723,16 +1113,18 @@ def a_push_through_the_adapter():
         with open(path, "wb") as file:
             file.write(content)
         with servers.DockerRegistry(folder) as registry, servers.Adapter(folder, registry.address) as adapter:
-            for chunk in (MIB, 8 * MIB):
-                ran = told_by([running.PROGRAM, "push", adapter.address, "lib/adapted", path, str(chunk)])
+            for name, chunk in (("lib/adapted", MIB), ("lib/whole", 8 * MIB)):
+                ran = told_by([running.PROGRAM, "push", adapter.address, name, path, str(chunk)])
                 check(f"blobd push through the adapter in chunks of {chunk}", ran == (0, f"pushed {sha256(content)}\n"), ran)
+            ran = told_by([running.PROGRAM, "push", adapter.address, name, path, str(chunk)])
+            check("blobd push of what is there, through the adapter", ran == (0, f"already {sha256(content)}\n"), ran)
             status, _, back = Client(registry.address).ask("GET", f"/v2/lib/adapted/blobs/{sha256(content)}", Connection="close")
             check("docker-registry has what was pushed", status == 200 and back == content, status)
 
 
 @needs(*FRONT)
 def the_newcomers_registry():
-    """`make registry` as a newcomer meets it: it says three lines that work, and ends without a rest."""
+    """`make registry` as a newcomer meets it: the lines that it prints push an image and pull it, as they stand, and it ends without a rest."""
     tls, store = servers.free_address(), servers.free_address()
     words = [sys.executable, os.path.join(TOP, "deploy", "registry.py"), running.PROGRAM]
     settings = os.environ | {"FRONT_TLS": tls, "BLOBD_1": store}
@@ -742,13 +1134,19 @@ def the_newcomers_registry():
             lines.append(line.strip())
             if line.startswith("Docker"):
                 break
-        told = [line.split() for line in lines if line.startswith("skopeo ")]
-        check("three lines are told", [words[1] for words in told] == ["login", "copy", "copy"], lines)
-        login = told[0] if told else ["skopeo", "login", "--cert-dir", "", "-u", "", "-p", ""]
+        told = [line for line in lines if line.startswith(("skopeo ", "zcat "))]
+        check("four lines are told", [line.split()[1] for line in told[:3]] == ["login", "copy", "copy"] and len(told) == 4, lines)
+        login = told[0].split() if told else ["skopeo", "login", "--cert-dir", "", "-u", "", "-p", ""]
         folder, user, word = login[3], login[5], login[7]
         client = Client(tls, (user, word), os.path.join(folder, "front.crt"))
         check("the registry answers", client.ask("GET", "/v2/")[0] == 200)
         check("and takes an image", push_image(client, "lib/new") == ([[202, 202, 201]] * 2, 201))
+        if wanted("the registry's lines", "skopeo"):
+            environment = os.environ | {"REGISTRY_AUTH_FILE": os.path.join(folder, "auth.json")}
+            for line in told:
+                ran = told_by(["sh", "-c", line], env=environment)
+                check(f"as it is told: {line}", ran[0] == 0, ran)
+            check("the image comes back", "hello" in ran[1], ran)
         registry.send_signal(signal.SIGINT)
         rest = registry.stdout.read()
         check("it ends well", registry.wait(timeout=running.PATIENCE) == 0 and rest.strip() == "ended", rest)
@@ -756,6 +1154,101 @@ def the_newcomers_registry():
     for address in (tls, store):
         with contextlib.closing(socket.socket()) as probe:
             check(f"nobody listens on {address}", probe.connect_ex(servers.place(address)) != 0)
+
+
+# Before the lines that set all up in docs/OPERATIONS.md.
+SET_UP = "<!-- tests/front.py runs these lines -->\n```sh\n"
+# A root of its own, which goes with the process: what is written goes to a file system in memory. ROOT, TOP, WORK: its place, the repository, what the
+# lines begin with.
+OWN_ROOT = """
+mount -t tmpfs tmpfs "$ROOT"
+mkdir "$ROOT/upper" "$ROOT/work" "$ROOT/root"
+mount -t overlay overlay -o "lowerdir=/,upperdir=$ROOT/upper,workdir=$ROOT/work" "$ROOT/root"
+cd "$ROOT/root"
+mount -t proc proc proc
+mount --rbind /dev dev
+mount -t tmpfs tmpfs run
+mkdir run/haproxy
+mkdir -p ".$TOP" "$ROOT/upper/set-up"
+mount --bind "$TOP" ".$TOP"
+cp -a "$WORK"/. set-up/
+"""
+SYSTEMCTL = '''"""Starts a unit in place of systemd: what its ExecStart says, with its environment and as its user."""
+import os, re, shlex, subprocess, sys
+
+def settings(path, wanted):
+    with open(path, encoding="utf-8") as file:
+        return [line.strip().partition("=")[2] for line in file if line.startswith(wanted + "=")]
+
+words = [word for word in sys.argv[1:] if not word.startswith("-")]
+if words[0] == "daemon-reload":
+    sys.exit()
+name, at, instance = words[1].partition("@")
+places = (f"/{top}/systemd/system/{name}{at}.service" for top in ("etc", "lib"))
+unit = next(path for path in places if os.path.exists(path))
+environment = dict(os.environ)
+for line in settings(unit, "Environment"):
+    environment |= dict(word.split("=", 1) for word in shlex.split(line))
+for path in settings(unit, "EnvironmentFile"):
+    if os.path.exists(path.lstrip("-")):
+        with open(path.lstrip("-"), encoding="utf-8") as file:
+            environment |= dict(word.split("=", 1) for word in shlex.split(file.read(), comments=True))
+user = next(iter(settings(unit, "User")), None)
+command = settings(unit, "ExecStart")[0].replace("%i", instance)
+command = shlex.split(re.sub(r"[$]([A-Z]+)", lambda found: environment.get(found[1], ""), command))
+for folder in settings(unit, "RuntimeDirectory"):
+    os.makedirs("/run/" + folder.replace("%i", instance), exist_ok=True)
+log = open(f"/set-up/{name}.log", "wb")
+subprocess.Popen(command, env=environment, user=user, group=user, stdin=subprocess.DEVNULL, stdout=log, stderr=log, start_new_session=True)
+'''
+APT_GET = """
+for word in "$@"; do
+    case "$word" in install | -*) ;; *) dpkg -s "$word" >/dev/null || exit 1 ;; esac
+done
+"""
+TRIED = """
+import sys
+sys.path.insert(0, sys.argv[1] + "/tests")
+import front
+client = front.Client("127.0.0.1:5443", ("alice", "SECRET"), "/set-up/ca/front.crt")
+for address in ("127.0.0.1:5001", "127.0.0.1:6380", "127.0.0.1:5443"):
+    front.servers.wait_for(address)
+print(front.push_image(client, "lib/set-up"), client.ask("GET", "/v2/lib/set-up/manifests/one")[0], client.ask("GET", "/v2/_catalog")[2])
+"""
+
+
+def can_have_a_root():
+    tried = 'mount -t tmpfs tmpfs /mnt && mkdir /mnt/a /mnt/b /mnt/c && mount -t overlay overlay -o lowerdir=/,upperdir=/mnt/a,workdir=/mnt/b /mnt/c'
+    words = ["unshare", "--mount", "--net", "--pid", "--fork", "sh", "-c", tried]
+    return os.geteuid() == 0 and shutil.which("unshare") and subprocess.run(words, capture_output=True, check=False).returncode == 0
+
+
+@needs(*FRONT, "redis-server")
+def the_set_up_works():
+    """The lines of docs/OPERATIONS.md, as they stand, in a root and a network of their own, with stand-ins for systemd and apt-get."""
+    if not can_have_a_root():
+        raise unittest.SkipTest("the_set_up_works: no root of its own can be had here (root, unshare, overlay)")
+    lines = open_text(os.path.join(TOP, "docs", "OPERATIONS.md")).split(SET_UP)[1].split("```")[0]
+    with tempfile.TemporaryDirectory(prefix="blobd-front-") as folder:
+        work, root = os.path.join(folder, "work"), os.path.join(folder, "root")
+        for path in (root, os.path.join(work, "bin"), os.path.join(work, "crates", "blobd", "out")):
+            os.makedirs(path)
+        servers.certificate(work)
+        shutil.copy(running.PROGRAM, os.path.join(work, "crates", "blobd", "out", "blobd"))
+        os.symlink(os.path.join(TOP, "deploy"), os.path.join(work, "deploy"))
+        for name, top, text in (("systemctl", sys.executable, SYSTEMCTL), ("apt-get", "/bin/sh", APT_GET)):
+            with open(os.open(os.path.join(work, "bin", name), os.O_CREAT | os.O_WRONLY, 0o755), "w", encoding="utf-8") as file:
+                file.write(f"#!{top}\n{text}")
+        for name, text in (("lines.sh", lines), ("tried.py", TRIED)):
+            with open(os.path.join(work, name), "w", encoding="utf-8") as file:
+                file.write(text)
+        up = "import fcntl, socket, struct; fcntl.ioctl(socket.socket(), 0x8914, struct.pack('16sh14x', b'lo', 0x1 | 0x40))"
+        inside = 'cd /set-up && PATH="/set-up/bin:$PATH:/usr/sbin" sh -eu lines.sh && "$PYTHON" tried.py "$TOP" || { cat /set-up/*.log; exit 1; }'
+        script = f"set -eu\n{OWN_ROOT}\n\"$PYTHON\" -c \"$UP\"\nexec chroot . sh -c '{inside}'"
+        settings = os.environ | {"ROOT": root, "TOP": TOP, "WORK": work, "PYTHON": sys.executable, "UP": up}
+        ran = told_by(["unshare", "--mount", "--net", "--pid", "--fork", "--kill-child", "sh", "-c", script], env=settings)
+        expected = "([[202, 202, 201], [202, 202, 201]], 201) 200 b'{\"repositories\":[\"lib/set-up\"]}'"
+        check("the lines of docs/OPERATIONS.md make a registry", ran[0] == 0 and ran[1].strip().endswith(expected), ran)
 
 
 @needs(*FRONT)
@@ -789,9 +1282,15 @@ def one_shard():
         logins_are_asked_for(site)
         continue_is_said(site)
         large_bodies_are_refused(site)
+        uploads_are_cancelled(site)
+        ranges_are_no_part_of_it(site)
+        check("no repository yet", site.client().ask("GET", "/v2/_catalog")[2] == b'{"repositories":[]}')
         manifests_are_kept(site)
         only_manifests_are_taken(site)
         tags_and_indexes_are_kept(site)
+        lists_have_pages(site)
+        manifests_have_bounds(site)
+        a_certificate_is_renewed(site)
         health_and_metrics_are_told(site)
         many_clients_keep_connections(site)
         if wanted("an image by skopeo", "skopeo"):
@@ -805,7 +1304,12 @@ def one_shard():
 @needs(*FRONT)
 def two_shards():
     with Site(2) as site:
+        names = names_on_both_shards(site, 1)
+        mounts_fill_no_table(site, names)
         a_shard_is_lost(site)
+        if wanted("an image on both shards", "skopeo"):
+            an_image_on_both_shards(site, names)
+        a_full_table_is_told(site, names)
         health_tells_of_a_lost_shard(site)
 
 
@@ -823,12 +1327,18 @@ def load_tests(*_):
         settings_are_valid,
         one_shard,
         two_shards,
+        each_worker_has_a_connection,
         a_new_shard_moves_few,
         room_for_manifests_ends,
+        parts_of_manifests_have_bounds,
+        manifests_outlive_haproxy,
+        logins_have_rights,
+        a_shards_own_refusals_are_told,
         memory_ends,
         behind_nginx,
         a_push_through_the_adapter,
         the_newcomers_registry,
+        the_set_up_works,
         unit_is_valid,
     )
 

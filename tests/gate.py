@@ -17,13 +17,15 @@ PARTS = [
     ("the crates", ["rt", "ci"]),
     # `rt ci` leaves the program that it built, and the tests
     ("whole connections", [sys.executable, "tests/connections.py", "crates/blobd/out/blobd"]),
+    ("the commands", [sys.executable, "tests/commands.py", "crates/blobd/out/blobd"]),
     ("each growth refused in turn", [sys.executable, "tests/growths.py", "crates/blobd/out/blobd"]),
+    ("a memory that is full", [sys.executable, "tests/full_memory.py", "crates/blobd/out/blobd"]),
     ("the program over loopback", [sys.executable, "tests/program.py", "crates/blobd/out/blobd"]),
-    ("the servers in front", [sys.executable, "tests/front.py", "crates/blobd/out/blobd"]),
+    ("the reverse proxy and its servers", [sys.executable, "tests/front.py", "crates/blobd/out/blobd"]),
     ("pushes", [sys.executable, "tests/pushes.py", "crates/blobd/out/blobd"]),
     ("replies before their time", [sys.executable, "tests/early_replies.py", "crates/blobd/out/blobd"]),
     ("streams, beside a model", [sys.executable, "tests/differential.py", "crates/blobd/out/blobd"]),
-    ("clients for a while", [sys.executable, "tests/soak.py", "crates/blobd/out/blobd", "--seconds", "10"]),
+    ("clients for a while", [sys.executable, "tests/soak.py", "crates/blobd/out/blobd", "--seconds", "7"]),
 ]
 
 

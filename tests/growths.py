@@ -3,13 +3,13 @@
 
     growths.py PROGRAM
 
-A small library, loaded in front of the C library, refuses the Nth allocation of a process, N from 1 until a run meets none.
+A small library, loaded before the C library, refuses the Nth allocation of a process, N from 1 until a run meets none.
 
 - The tests are those of the crates whose name has `refused_growth`, in the test programs that `rt ci` and `rt test` leave in out/. Each of them
   holds whichever growth is refused.
 - The program serves each connection of tests/connections/ (`blobd once`), and each with every request sent twice. Where the service was refused
   memory, the request is answered 503 without a body, and the rest as over a connection without that request. Where the reader was, the connection
-  ends with status 3 behind the replies to the requests in front. What has to come is taken from undisturbed runs. Without memory for the words of its
+  ends with status 3 after the replies to the requests before. What has to come is taken from undisturbed runs. Without memory for the words of its
   command line the program says so: `fault: memory`, status 3.
 
 Prints how many growths there were, and 'N passed, M failed' as the last. Without a C compiler nothing is run.
@@ -112,13 +112,13 @@ def right_ends(requests):
     # no memory for the words of the command line, and none for the reader's buffer
     ends = {running.once(b"".join(requests)): None, (b"fault: memory\n", 3): None, (b"", 3): None}
     for place, request in enumerate(requests):
-        front, _ = running.once(b"".join(requests[:place]))
+        before, _ = running.once(b"".join(requests[:place]))
         without, status = running.once(b"".join(requests[:place] + requests[place + 1 :]))
-        ends[front, 3] = None
+        ends[before, 3] = None
         if re.search(rb"(?i)\r\nConnection: *close\r\n", request):
-            refused = (front + NO_MEMORY_AND_CLOSE, 0)
+            refused = (before + NO_MEMORY_AND_CLOSE, 0)
         else:
-            refused = (front + NO_MEMORY + without[len(front) :], status)
+            refused = (before + NO_MEMORY + without[len(before) :], status)
         ends[refused] = request.split(b" ")[0].decode()
     return ends
 

@@ -317,11 +317,11 @@ class Service:
             return Reply(200) if head.method in (b"GET", b"HEAD") else refused(405, "UNSUPPORTED", allow="GET, HEAD")
         if not path.startswith("/v2/"):
             return refused(404, "UNSUPPORTED")
-        front, _, tail = path.removeprefix("/v2/").rpartition("/")
-        if front.endswith("/blobs/uploads"):
-            name, form = front.removesuffix("/blobs/uploads"), self.upload if tail else self.uploads
-        elif front.endswith("/blobs"):
-            name, form = front.removesuffix("/blobs"), self.blob
+        prefix, _, tail = path.removeprefix("/v2/").rpartition("/")
+        if prefix.endswith("/blobs/uploads"):
+            name, form = prefix.removesuffix("/blobs/uploads"), self.upload if tail else self.uploads
+        elif prefix.endswith("/blobs"):
+            name, form = prefix.removesuffix("/blobs"), self.blob
         else:
             return refused(404, "UNSUPPORTED")
         if not is_name(name):

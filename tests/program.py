@@ -3,8 +3,8 @@
 
     program.py PROGRAM
 
-It tries the command line; an address, descriptors and memory that can't be had; references and their secrets; each status; connections that are kept, cut
-or silent, and peers that stay; uploads at once and beside clients that vanish; and uploads by `curl` and `skopeo`.
+It tries the command line; an address and descriptors that can't be had; references and their secrets; each status; connections that are kept, cut
+or silent, and peers that stay; uploads at once and beside clients that vanish; and uploads by `curl`, `skopeo`, `podman` and `buildah`.
 
 Prints a line for each check that fails, one for each client that isn't installed, and 'N passed, M failed' as the last.
 """
@@ -12,7 +12,10 @@ import collections
 import concurrent.futures
 import contextlib
 import errno
+import fcntl
+import gzip
 import http.client
+import io
 import json
 import os
 import random
@@ -23,16 +26,19 @@ import shutil
 import signal
 import socket
 import subprocess
+import tarfile
 import tempfile
 import threading
 import time
+import unittest
+import urllib.parse
 
-from harness import running, shims, suite
-from harness.running import Server, ask, ask_alone, pull, rest_of, run, sha256, vanish
+from harness import running, shims, suite, wire
+from harness.running import USAGE, Server, ask, ask_alone, pull, rest_of, run, sha256, vanish
 from harness.suite import check
 
 MIB = 1 << 20
-USAGE = "usage: blobd once | serve ADDR COUNT | push ADDR NAME FILE CHUNK"
+TOP = os.path.dirname(os.path.dirname(os.path.abspath(__file__)))
 
 
 def opened(server, name):
@@ -162,6 +168,18 @@ def peers_that_stay():
         check("the last line after peers that stay", server.end() == ("served\n", 0), time.monotonic() - begun)
 
 
+def peers_that_stay_hold_no_worker():
+    """The one worker waits half a second for none of them."""
+    with Server(env=with_workers("1")) as server, contextlib.ExitStack() as staying:
+        begun = time.monotonic()
+        for _ in range(30):
+            peer = staying.enter_context(server.connect())
+            peer.sendall(b"GET /v2/ HTTP/9.9\r\n\r\n")
+            check("the reply to a peer that stays", rest_of(peer).startswith(b"HTTP/1.1 400 "))
+        waited = time.monotonic() - begun
+        check("peers that stay hold no worker", waited < 10, waited)
+
+
 def kept_connections():
     """A worker serves one connection until that ends, so a third one waits."""
     with Server(2) as server:
@@ -184,6 +202,96 @@ def kept_connections():
         check("the last line after kept connections", server.end() == ("served\n", 0))
 
 
+def with_workers(value):
+    """The environment in which a server is told this number of workers, or none."""
+    others = {name: word for name, word in os.environ.items() if name != "BLOBD_WORKERS"}
+    return others if value is None else others | {"BLOBD_WORKERS": value}
+
+
+def serves_as_many_at_once_as_it_is_told():
+    """Each worker serves a connection that is kept, and one more waits until one of them ends."""
+    for value, number in ((None, 2), ("1", 1), ("3", 3), ("16", 16)):
+        with Server(2, env=with_workers(value)) as server:
+            clients = [server.client() for _ in range(number)]
+            statuses = [ask(client, "GET", "/v2/")[0] for client in clients]
+            check(f"{number} connections at once", statuses == [200] * number, statuses)
+            late = server.client()
+            late.request("GET", "/v2/")
+            late.sock.settimeout(0.3)
+            try:
+                late.sock.recv(1, socket.MSG_PEEK)
+                check(f"a connection beside {number} waits", False, "it was answered")
+            except TimeoutError:
+                check(f"a connection beside {number} waits", True)
+            late.sock.settimeout(running.PATIENCE)
+            clients.pop().close()
+            check(f"a connection beside {number} once one has ended", late.getresponse().status == 200)
+            for client in (*clients, late):
+                client.close()
+            # each worker takes two connections
+            left = [ask_alone(server, "GET", "/v2/")[0] for _ in range(number - 1)]
+            check(f"the other connections of {number} workers", left == [200] * (number - 1), left)
+            check(f"the last line of {number} workers", server.end() == ("served\n", 0))
+
+
+class Dripping:
+    """A client that has its worker, by a request before, and sends the next one byte by byte."""
+
+    def __init__(self, server, method, target, body=b""):
+        self.method, self.connection = method, wire.Connection(server.place())
+        self.connection.send(wire.request_text("GET", "/v2/"))
+        self.first = self.connection.hear("GET")
+        text = wire.request_text(method, target, body, [("X-Long", "x" * 100)])
+        self.connection.send(text[:-50])
+        self.left = text[-50:]
+
+    def drip(self):
+        self.connection.send(self.left[:1])
+        self.left = self.left[1:]
+
+    def end(self):
+        """The reply to what is left."""
+        self.connection.send(self.left)
+        reply = self.connection.hear(self.method)
+        self.connection.close()
+        return reply
+
+
+def idle_connections_hold_nobody():
+    """Of sixteen workers one serves on while the others have connections that are idle, or send a byte now and then. None of these is cut."""
+    content = random.Random(16).randbytes(20 * 10_000)
+    with Server(env=with_workers("16")) as server, contextlib.ExitStack() as open_ones:
+        idle = [open_ones.enter_context(contextlib.closing(server.client())) for _ in range(5)]
+        begun = [ask(client, "GET", "/v2/")[0] for client in idle]
+        places = [ask(idle[0], "POST", "/v2/lib/slow/blobs/uploads/")[1]["Location"] for _ in range(5)]
+        # five inside a head, and five inside a body
+        dripping = [Dripping(server, "GET", "/v2/") for _ in range(5)] + [Dripping(server, "PATCH", place, bytes(100)) for place in places]
+        begun += [client.first and client.first.status for client in dripping]
+        check("fifteen connections that have workers", begun == [200] * 15, begun)
+        with contextlib.closing(server.client()) as quick:
+            place, statuses = ask(quick, "POST", "/v2/lib/quick/blobs/uploads/")[1]["Location"], []
+            for first in range(0, len(content), 10_000):
+                for client in dripping:
+                    client.drip()
+                statuses.append(ask(quick, "PATCH", place, content[first : first + 10_000])[0])
+            statuses.append(ask(quick, "PUT", f"{place}?digest={sha256(content)}")[0])
+            check("an upload beside fifteen that are idle", statuses == [202] * 20 + [201], statuses)
+            pulled = ask(quick, "GET", f"/v2/lib/quick/blobs/{sha256(content)}")[2]
+            check("a pull beside them", pulled == content, len(pulled))
+        ends = [client.end() for client in dripping]
+        check("what dripped is answered", [end and end.status for end in ends] == [200] * 5 + [202] * 5, list(map(str, ends)))
+        check("what was idle goes on", [ask(client, "GET", "/v2/")[0] for client in idle] == [200] * 5)
+
+
+def refuses_other_numbers_of_workers():
+    """What may stand there is told on standard error, and nothing is opened."""
+    for value in ("", "0", "257", "-1", "+2", " 2", "2 ", "1.5", "two"):
+        told = run("serve", "127.0.0.1:0", "1", env=with_workers(value))
+        check(f"BLOBD_WORKERS={value}", told == ("", 2, "blobd: BLOBD_WORKERS is a number from 1 to 256\n"), told)
+    told = run("once", env=with_workers("0"), stdin=subprocess.DEVNULL)
+    check("BLOBD_WORKERS says nothing to another command", told == ("", 0, ""), told)
+
+
 def serves_until_it_is_ended():
     """Without a count it serves all that come, at the address that it was given and at no other."""
     with Server() as server:
@@ -193,12 +301,25 @@ def serves_until_it_is_ended():
             check("no connection at another address", False, "it was taken")
         except ConnectionRefusedError:
             check("no connection at another address", True)
-        replies = [ask_alone(server, "GET", "/v2/")[0] for _ in range(50)]
-        check("replies without a count", replies == [200] * 50, replies)
+        replies = [ask_alone(server, "GET", "/v2/")[0] for _ in range(2_500)]
+        check("replies without a count", replies == [200] * 2_500, collections.Counter(replies))
         check("it goes on without a count", server.process.poll() is None, server.process.returncode)
         server.process.send_signal(signal.SIGINT)
         ended = server.ended()
         check("an interrupt ends it", ended == ("", -signal.SIGINT), ended)
+
+
+def serves_another_version():
+    """An IPv6 address is listened at as an IPv4 one is."""
+    try:
+        socket.socket(socket.AF_INET6).bind(("::1", 0))
+    except OSError:
+        print("skipped: the system has no IPv6")
+        return
+    with Server(1, host="[::1]") as server:
+        check("the first line at an IPv6 address", re.fullmatch(r"listening \[::1\]:[1-9][0-9]*\n", server.first_line), server.first_line)
+        check("a reply at an IPv6 address", ask_alone(server, "GET", "/v2/")[0] == 200)
+        check("the last line at an IPv6 address", server.end() == ("served\n", 0))
 
 
 def tells_a_terminal_how_to_stop():
@@ -214,11 +335,22 @@ def tells_a_terminal_how_to_stop():
     os.close(terminal)
 
 
+# Methods and targets with bytes that a terminal would take for orders, and what a log shows of them: U+009B, U+0085, U+2028, U+202E, a backslash and a
+# quote, and a character across the last byte that is shown.
+STRANGE = [
+    ((b"GET", "/\u009b31m".encode()), r"GET /\xc2\x9b31m"),
+    ((b"GET", "/\u0085/\u2028/\u202e".encode()), r"GET /\xc2\x85/\xe2\x80\xa8/\xe2\x80\xae"),
+    ((b"GET", rb"/\n%0a" + b'"'), r"GET /\x5cn%0a\x22"),
+    ((b"X'`|~", b"/~!$&'()*+,;=[]{}<>^`|"), "X'`|~ /~!$&'()*+,;=[]{}<>^`|"),
+    ((b"GET", b"/" + b"a" * 998 + "\u00e9b".encode()), "GET /" + "a" * 998 + r"\xc3"),
+]
+
+
 def logs_requests():
     """A line for each request on standard error, as it came, where the environment asks for it, and none where it doesn't."""
     missing, long = sha256(b"nothing"), "/" + "a" * 5_000
-    for value in (None, "0", "1"):
-        env = {name: word for name, word in os.environ.items() if name != "BLOBD_LOG"} | ({"BLOBD_LOG": value} if value else {})
+    for value in (None, "", "0", "1"):
+        env = {name: word for name, word in os.environ.items() if name != "BLOBD_LOG"} | ({} if value is None else {"BLOBD_LOG": value})
         with Server(20, env=env, stderr=subprocess.PIPE) as server:
             place = opened(server, "lib/a")
             ask_alone(server, "PATCH", place, b"abc")
@@ -237,7 +369,8 @@ def logs_requests():
                 one.sendall(b"PUT /v2/ HTTP/1.1\r\nContent-Length: 3\r\n\r\nab")
                 other.sendall(b"PUT /v2/ HTTP/1.1\r\nContent-Length: 3\r\n\r\nab")
             unreadable = b"GET /v2/ HTTP/9.9\r\n\r\n"
-            for text in (b"PATCH %b HTTP/1.1\r\nTransfer-Encoding: gzip\r\n\r\n" % place.encode(), unreadable, unreadable):
+            strange = [b"%b %b HTTP/1.1\r\nConnection: close\r\n\r\n" % words for words, _ in STRANGE]
+            for text in (b"PATCH %b HTTP/1.1\r\nTransfer-Encoding: gzip\r\n\r\n" % place.encode(), unreadable, unreadable, *strange):
                 with server.connect() as connection:
                     connection.sendall(text)
                     rest_of(connection)
@@ -261,6 +394,7 @@ def logs_requests():
             # no head could be read of these
             "- 400 0",
             "- 400 0",
+            *(f"{line} 404 {len(refused[0])}" for _, line in STRANGE),
         ]
         if value != "1":
             check(f"no log with BLOBD_LOG={value}", not lines, lines)
@@ -269,6 +403,79 @@ def logs_requests():
         told = [line.rsplit(" ", 1)[0] for line in lines]
         # a line comes behind its reply: the other worker's next one may be before it
         check("a line for each request", sorted(told) == sorted(wanted), told)
+
+
+LOGGED = {**os.environ, "BLOBD_LOG": "1"}
+
+
+@contextlib.contextmanager
+def logging_server(count=1):
+    """A server with a log, and the other end of the pipe that it writes to, which holds one page."""
+    pipe, inner = os.pipe()
+    fcntl.fcntl(inner, fcntl.F_SETPIPE_SZ, 4096)
+    with Server(count, env=LOGGED, stderr=inner) as server:
+        os.close(inner)
+        yield server, pipe
+    os.close(pipe)
+
+
+def told_by(pipe, seconds):
+    return os.read(pipe, 65536) if select.select([pipe], [], [], seconds)[0] else b""
+
+
+def accounted(text):
+    """The lines of requests, and how many lines more were lost."""
+    lines = text.decode().splitlines()
+    lost = [int(found[1]) for line in lines if (found := re.fullmatch("blobd: ([0-9]+) lines lost", line))]
+    return len(lines) - len(lost), sum(lost)
+
+
+def replies_to(client, count):
+    return [ask(client, "GET", "/v2/")[0] for _ in range(count)]
+
+
+def unread_log():
+    """A log that nobody reads holds up no request. Once it is read again, each line came, or is among those that it says were lost."""
+    with logging_server() as (server, pipe), contextlib.closing(server.client()) as client, contextlib.closing(server.client()) as other:
+        replies = replies_to(client, 2_000) + replies_to(other, 2_000)
+        check("replies though nobody reads the log", replies == [200] * 4_000, collections.Counter(replies))
+        text, until, asked = b"", time.monotonic() + running.PATIENCE, len(replies)
+        while sum(accounted(text)) < asked and time.monotonic() < until:
+            part = told_by(pipe, 1)
+            text += part
+            if not part:
+                # a worker tells of its lost lines with the next line that it doesn't lose
+                asked += len(replies_to(client, 1) + replies_to(other, 1))
+        written, lost = accounted(text)
+        check("lines that were lost are counted", lost > 0 and written + lost == asked, (written, lost, asked))
+
+
+def unread_log_at_the_end():
+    """Nor does it hold up the end, for more than two seconds."""
+    with logging_server() as (server, _):
+        with contextlib.closing(server.client()) as client:
+            replies = replies_to(client, 2_000)
+            check("replies before the end though nobody reads the log", replies == [200] * 2_000, collections.Counter(replies))
+        begun = time.monotonic()
+        ended = server.end()
+        check("the end though nobody reads the log", ended == ("served\n", 0), ended)
+        check("it waits for who reads the log", time.monotonic() - begun > 1.9, time.monotonic() - begun)
+
+
+def log_read_late():
+    """The lines that wait when a server ends are still written. So many fill the pipe, and less than a log holds wait."""
+    with logging_server() as (server, pipe):
+        with contextlib.closing(server.client()) as client:
+            replies = replies_to(client, 600)
+        server.connect().close()
+        time.sleep(0.2)
+        check("it waits for who reads the log late", server.process.poll() is None)
+        text = b""
+        while part := told_by(pipe, running.PATIENCE):
+            text += part
+        ended = server.ended()
+        check("the last line once the log is read", (replies, ended) == ([200] * 600, ("served\n", 0)), ended)
+        check("a log that is read late", accounted(text) == (600, 0), accounted(text))
 
 
 def first_references():
@@ -298,9 +505,39 @@ def words():
         check(f"the words {refused}", run(*refused) == ("", 2, USAGE + "\n"), run(*refused))
 
 
+def help_and_version():
+    """What the program is asked for is on standard output, and its version is that of the file."""
+    with open(os.path.join(TOP, "VERSION"), encoding="utf-8") as file:
+        version = file.read().strip()
+    check("the version", run("--version") == (f"blobd {version}\n", 0, ""), run("--version"))
+    told, status, more = run("--help")
+    check("help is no error", (status, more) == (0, ""), (status, more))
+    for command in ("blobd serve ADDR [COUNT]", "blobd push ADDR NAME FILE [CHUNK]", "blobd once", "blobd --help", "blobd --version", "BLOBD_LOG=1"):
+        check(f"help tells of {command}", command in told, told)
+    check("help fits a terminal", max(map(len, told.splitlines())) <= 100, told)
+    for refused in (["--help", "push"], ["--version", "1"], ["-h"], ["help"]):
+        check(f"the words {refused}", run(*refused) == ("", 2, USAGE + "\n"), run(*refused))
+
+
+def switches():
+    """A variable of the environment that says neither yes nor no is told, before an address is taken; another command doesn't read it."""
+    told = "blobd: BLOBD_LOG is 1 to log requests, or 0, or not set\n"
+    with socket.socket() as taken:
+        taken.bind(("127.0.0.1", 0))
+        taken.listen()
+        addr = "127.0.0.1:%d" % taken.getsockname()[1]
+        for value in ("yes", "2", "on", "01", " 1", "\udcff"):
+            ran = run("serve", addr, "1", env={**os.environ, "BLOBD_LOG": value})
+            check(f"BLOBD_LOG={value!r}", ran == ("", 2, told), ran)
+    check("other words go before the environment", run("serve", env={**os.environ, "BLOBD_LOG": "yes"}) == ("", 2, USAGE + "\n"))
+    ran = run("once", stdin=subprocess.DEVNULL, env={**os.environ, "BLOBD_LOG": "yes"})
+    check("a command that logs nothing", ran == ("", 0, ""), ran)
+
+
 def one_worker_alone():
     """A worker without another has nobody to ask, and stops behind the first request that found that out."""
-    with Server(1000, limits=[f"-s {3 << 20}", f"-v {4 << 20}"]) as server:
+    # there is room for the stacks of two threads: the one that closes connections, and one worker
+    with Server(1000, limits=[f"-s {1_400 << 10}", f"-v {4 << 20}"]) as server:
         with server.connect() as connection:
             connection.sendall(b"GET /v2/ HTTP/1.1\r\n\r\n")
             reply = rest_of(connection)
@@ -323,76 +560,131 @@ def taken_address():
 
 
 STOPPED = "blobd: a worker takes no more connections: {}\n"
-TOO_MANY_FILES = STOPPED.format("Too many open files (os error 24)")
+WAITS = "blobd: a worker can't take a connection now, and goes on trying: {}\n"
+TOO_MANY_FILES = WAITS.format("Too many open files (os error 24)")
 
 
 def no_descriptors(hasty):
-    """Workers that find no descriptor for a connection, or for its halves, wait a minute and then stop."""
-    with Server(1, limits=["-n 4"], env=hasty, stderr=subprocess.PIPE) as server:
-        begun = time.monotonic()
-        ended = *server.ended(), server.process.stderr.read()
-        waited = time.monotonic() - begun
-        check("no descriptor for a connection", ended == ("fault: accept\n", 3, 2 * TOO_MANY_FILES), ended)
-        check("a minute without descriptors", 2 < waited < 30, waited)
-    with Server(1, limits=["-n 6"], env=hasty, stderr=subprocess.PIPE) as server, server.connect(), server.connect():
-        ended = *server.ended(), server.process.stderr.read()
-        check("no descriptor for a connection's halves", ended == ("fault: accept\n", 3, 2 * TOO_MANY_FILES), ended)
+    """Workers that find no descriptor for a connection, or for its halves, say so once and go on trying for as long as it takes."""
+    for lacking, most in (("a connection", 4), ("its halves", 6)):
+        with Server(1, limits=[f"-S -n {most}"], env=hasty, stderr=subprocess.PIPE) as server:
+            clients = [server.connect(), server.connect()]
+            told = [server.told(60), server.told(60)]
+            check(f"two workers without descriptors for {lacking}", told == [TOO_MANY_FILES] * 2, told)
+            # a wait takes five milliseconds here: more than a thousand of each worker
+            time.sleep(6)
+            check(f"they wait on for {lacking}", server.process.poll() is None, server.process.returncode)
+            server.allow_descriptors(64)
+            for client in clients:
+                with client:
+                    client.sendall(b"GET /v2/ HTTP/1.1\r\nConnection: close\r\n\r\n")
+                    reply = rest_of(client)
+                    check(f"a reply once there are descriptors for {lacking}", reply.startswith(b"HTTP/1.1 200 OK\r\n"), reply)
+            ended = *server.ended(), server.process.stderr.read()
+            check(f"the end after no descriptors for {lacking}", ended == ("served\n", 0, ""), ended)
 
 
 def descriptors_come_again():
     """A connection that finds no descriptor waits until there is one."""
-    with Server(1) as server:
+    with Server(1, stderr=subprocess.PIPE) as server:
         client = server.client()
         check("a reply while there are descriptors", ask(client, "GET", "/v2/")[0] == 200)
         server.allow_descriptors(server.descriptors() - 1)
         with server.connect() as waiting:
             waiting.sendall(b"GET /v2/ HTTP/1.1\r\nConnection: close\r\n\r\n")
             check("no reply while there are none", not select.select([waiting], [], [], 1)[0])
+            check("why there is no reply", server.told(60) == TOO_MANY_FILES)
+            check("the other worker goes on meanwhile", ask(client, "GET", "/v2/")[0] == 200)
             server.allow_descriptors(64)
             reply = rest_of(waiting)
             check("a reply once there are descriptors", reply.startswith(b"HTTP/1.1 200 OK\r\n"), reply)
         client.close()
-        check("the last line after want of descriptors", server.ended() == ("served\n", 0))
+        check("the last line after no descriptors", server.ended() == ("served\n", 0))
 
 
-def one_worker_fails_alone(hasty):
-    """A worker that can take no connection says so at once; the other takes all of its own, and the last line tells of the one that failed."""
-    with Server(2, env=hasty, stderr=subprocess.PIPE) as server:
-        client = server.client()
-        check("a reply before descriptors run out", ask(client, "GET", "/v2/")[0] == 200)
-        # The other worker waits by then, with the descriptor of its next connection. Else the connection below stays for this one to count.
-        time.sleep(1)
-        server.allow_descriptors(server.descriptors() - 1)
-        with server.connect():
-            told, statuses = "", []
-            while not told and len(statuses) < 60:
-                statuses.append(ask(client, "GET", "/v2/")[0])
-                told = server.told(0.5)
-            check("a worker that stops says so at once", told == TOO_MANY_FILES and server.process.poll() is None, told)
-            check("the other goes on meanwhile", set(statuses) == {200}, statuses)
-        server.allow_descriptors(64)
-        check("and behind that", ask(client, "GET", "/v2/", Connection="close")[0] == 200)
-        check("and takes its next connection", ask_alone(server, "GET", "/v2/")[0] == 200)
-        ended = server.ended()
-        check("the last line of a worker that failed alone", ended == ("fault: accept\n", 3), ended)
+# What accept(2) says of a connection that waits, and of signals.
+PASSED_OVER = ("EPERM", "EINTR", "ENONET", "EPROTO", "ENOPROTOOPT", "EOPNOTSUPP", "ENETDOWN", "ENETUNREACH", "ECONNABORTED", "ECONNRESET", "EHOSTDOWN", "EHOSTUNREACH")
 
 
 def failing_accepts(folder):
-    """A connection that was aborted before it was accepted is passed over, want of descriptors or memory waited out; else a worker stops."""
+    """An error of a connection is passed over, and each other one waited out, but those of a listener that is none: they stop a worker, and it alone."""
     library = shims.compiled(folder, "accepts")
-    table = [(errno.ECONNABORTED, 10_000)] + [(which, 10) for which in (errno.EAGAIN, errno.ENOMEM, errno.ENFILE, errno.EMFILE, errno.ENOBUFS)]
-    for error, failures in table:
+    passed = [(name, 1_000, "") for name in PASSED_OVER]
+    waited = [(name, 10, name) for name in ("EAGAIN", "ENOMEM", "ENFILE", "EMFILE", "ENOBUFS", "EIO")]
+    for name, failures, told in passed + waited:
+        error = getattr(errno, name)
         env = shims.environment(library, ACCEPT_ERROR=error, ACCEPT_FAILURES=failures)
         with Server(1, env=env, stderr=subprocess.PIPE) as server:
             replies = [ask_alone(server, "GET", "/v2/")[0] for _ in range(2)]
+            *ended, lines = *server.ended(), set(server.process.stderr.readlines())
+            wanted = {WAITS.format(f"{os.strerror(error)} (os error {error})")} if told else set()
+            check(f"{failures} accepts that fail: {name}", (replies, ended, lines) == ([200, 200], ["served\n", 0], wanted), (replies, ended, lines))
+    for name in ("EBADF", "EFAULT", "EINVAL", "ENOTSOCK"):
+        error = getattr(errno, name)
+        env = shims.environment(library, ACCEPT_ERROR=error, ACCEPT_FAILURES=1)
+        with Server(2, env=env, stderr=subprocess.PIPE) as server:
+            told = server.told(60)
+            check(f"a worker that stops says so at once: {name}", told == STOPPED.format(f"{os.strerror(error)} (os error {error})"), told)
+            replies = [ask_alone(server, "GET", "/v2/")[0] for _ in range(2)]
             ended = *server.ended(), server.process.stderr.read()
-            check(f"{failures} accepts that fail: {os.strerror(error)}", (replies, ended) == ([200, 200], ("served\n", 0, "")), (replies, ended))
-    env = shims.environment(library, ACCEPT_ERROR=errno.EINVAL, ACCEPT_FAILURES=1)
-    with Server(1, env=env, stderr=subprocess.PIPE) as server:
-        reply = ask_alone(server, "GET", "/v2/")[0]
-        ended = *server.ended(), server.process.stderr.read()
-        wanted = ("fault: accept\n", 3, STOPPED.format("Invalid argument (os error 22)"))
-        check("an accept that fails for good", (reply, ended) == (200, wanted), (reply, ended))
+            check(f"the other takes all of its own: {name}", (replies, ended) == ([200, 200], ("fault: accept\n", 3, "")), (replies, ended))
+
+
+CLOSED = {"standard input": "<&-", "standard error": "2>&-", "both": "<&- 2>&-", "standard output": ">&-", "all three": "<&- >&- 2>&-"}
+
+
+def closed_streams():
+    """No socket gets the number of a standard stream that is closed, and so no line of a log goes to a client."""
+    env = {**os.environ, "BLOBD_LOG": "1"}
+    for name, closing in list(CLOSED.items())[:3]:
+        with Server(3, shell=closing, env=env, stderr=subprocess.DEVNULL) as server:
+            streams = [os.readlink(f"/proc/{server.process.pid}/fd/{number}") for number in range(3)]
+            check(f"the streams of a server without {name}", not any("socket" in stream for stream in streams), streams)
+            for _ in range(2):
+                with server.connect() as client:
+                    client.sendall(b"GET /v2/ HTTP/1.1\r\nConnection: close\r\n\r\n")
+                    reply = rest_of(client)
+                    check(f"a reply without {name}", reply == b"HTTP/1.1 200 OK\r\nContent-Length: 0\r\nConnection: close\r\n\r\n", reply)
+            ended = server.end()
+            check(f"the end without {name}", ended == ("served\n", 0), ended)
+    # what can't be printed is a fault, as ever, and what can't be read too
+    for name in ("standard output", "all three"):
+        for words in (["serve", "127.0.0.1:0", "1"], ["once"]):
+            ended = subprocess.run(["sh", "-c", f'exec "$@" {CLOSED[name]}', "sh", running.PROGRAM, *words], stdin=subprocess.DEVNULL, timeout=running.PATIENCE, check=False)
+            wanted = 3 if words[0] == "serve" or name == "all three" else 0
+            check(f"{words[0]} without {name}", ended.returncode == wanted, ended.returncode)
+
+
+def signals():
+    """A program that is stopped for a while and goes on cuts no connection: not within a body, nor within a reply, nor an idle one."""
+    content = random.Random(8).randbytes(32 * MIB)
+    digest = sha256(content)
+    with Server() as server:
+        stored = ask_alone(server, "POST", f"/v2/lib/a/blobs/uploads/?digest={digest}", content)[0]
+        check("a blob before signals", stored == 201, stored)
+        with contextlib.closing(server.client()) as idle, server.connect() as busy:
+            check("a reply before signals", ask(idle, "GET", "/v2/")[0] == 200)
+            head = f"POST /v2/lib/b/blobs/uploads/?digest={digest} HTTP/1.1\r\nContent-Length: {len(content)}\r\n\r\n"
+            busy.sendall(head.encode() + content[:MIB])
+            stop_for_a_while(server)
+            busy.sendall(content[MIB:])
+            reply = busy.recv(65536)
+            check("a body over signals", reply.startswith(b"HTTP/1.1 201 Created\r\n"), reply)
+            check("an idle connection over signals", ask(idle, "GET", "/v2/")[0] == 200)
+            busy.sendall(f"GET /v2/lib/b/blobs/{digest} HTTP/1.1\r\nConnection: close\r\n\r\n".encode())
+            # the reply waits for its reader by now
+            time.sleep(0.5)
+            stop_for_a_while(server)
+            check("a reply over signals", rest_of(busy).endswith(content))
+            check("an idle connection over more signals", ask(idle, "GET", "/v2/")[0] == 200)
+
+
+def stop_for_a_while(server):
+    for _ in range(5):
+        time.sleep(0.1)
+        server.process.send_signal(signal.SIGSTOP)
+        time.sleep(0.1)
+        server.process.send_signal(signal.SIGCONT)
 
 
 def faults():
@@ -403,6 +695,9 @@ def faults():
     else:
         with Server(1, limits=[f"-s {8 << 20}", f"-v {4 << 20}"]) as server:
             check("no memory for a worker", server.end() == ("fault: workers\n", 3))
+        with Server(1, limits=[f"-s {8 << 20}", f"-v {4 << 20}"], env=LOGGED) as server:
+            told = server.first_line, *server.ended()
+            check("no thread for a log", told == ("fault: log\n", "", 3), told)
         one_worker_alone()
     with open("/dev/full", "w", encoding="utf-8") as full:
         ended = subprocess.run([running.PROGRAM, "serve", "127.0.0.1:0", "1"], stdout=full, timeout=running.PATIENCE, check=False)
@@ -478,28 +773,109 @@ def put_blob(layout, content):
     return {"digest": digest, "size": len(content)}
 
 
-def image_layout(layout, layer):
-    """An image of one layer, as an OCI layout. Gives the digests of its configuration and its layer."""
+def layer_of(number, size):
+    """A layer's tar, with one file of random bytes."""
+    room = io.BytesIO()
+    with tarfile.open(fileobj=room, mode="w") as tar:
+        entry = tarfile.TarInfo(f"file{number}")
+        entry.size = size
+        tar.addfile(entry, io.BytesIO(random.Random(number).randbytes(size)))
+    return room.getvalue()
+
+
+def image_layout(layout, *layers):
+    """An image of these layers, as an OCI layout. Gives the digests of its configuration and its layers."""
     media = "application/vnd.oci.image."
     os.makedirs(os.path.join(layout, "blobs", "sha256"))
-    rootfs = {"type": "layers", "diff_ids": [sha256(layer)]}
+    rootfs = {"type": "layers", "diff_ids": [sha256(layer) for layer in layers]}
     config = put_blob(layout, json.dumps({"architecture": "amd64", "os": "linux", "config": {}, "rootfs": rootfs}).encode())
-    stored = put_blob(layout, layer)
+    stored = [put_blob(layout, layer) for layer in layers]
     manifest = {
         "schemaVersion": 2,
         "mediaType": media + "manifest.v1+json",
         "config": {"mediaType": media + "config.v1+json", **config},
-        "layers": [{"mediaType": media + "layer.v1.tar", **stored}],
+        "layers": [{"mediaType": media + "layer.v1.tar", **layer} for layer in stored],
     }
     entry = {"mediaType": manifest["mediaType"], **put_blob(layout, json.dumps(manifest).encode())}
     for name, content in (("oci-layout", {"imageLayoutVersion": "1.0.0"}), ("index.json", {"schemaVersion": 2, "manifests": [entry]})):
         with open(os.path.join(layout, name), "w", encoding="utf-8") as file:
             json.dump(content, file)
-    return config["digest"], stored["digest"]
+    return [blob["digest"] for blob in (config, *stored)]
+
+
+def output_of(words, folder):
+    """A program's exit status, and what it printed, on standard error too. It runs in this folder."""
+    ran = subprocess.run(words, cwd=folder, stdout=subprocess.PIPE, stderr=subprocess.STDOUT, text=True, timeout=running.PATIENCE, check=False)
+    return ran.returncode, ran.stdout
+
+
+def by_skopeo(folder, there):
+    return output_of(["skopeo", "--insecure-policy", "copy", "--dest-tls-verify=false", "--dest-no-creds", "oci:layout", there], folder)
+
+
+def by_a_store_of(name):
+    """podman and buildah keep the image first, in a store of their own, under the name of its path: so that is a short one."""
+
+    def push(folder, there):
+        words = [name, "--root", f"{folder}/{name}/root", "--runroot", f"{folder}/{name}/run", "--storage-driver", "vfs"]
+        status, printed = output_of([*words, "pull", "oci:layout"], folder)
+        if status:
+            raise unittest.SkipTest(f"{name} keeps no image here: {printed}")
+        # its last line is the image's number
+        return output_of([*words, "push", "--tls-verify=false", printed.split()[-1], there], folder)
+
+    return push
+
+
+# How each client pushes the image that is `layout` in a folder.
+IMAGE_CLIENTS = {"skopeo": by_skopeo, "podman": by_a_store_of("podman"), "buildah": by_a_store_of("buildah")}
+
+
+def stored_blobs(log, name, count):
+    """The digests of the blobs that a server's log says were stored in a repository, once there are so many: a line comes behind its reply."""
+    wanted = re.compile(rf"^PUT /v2/{name}/blobs/uploads/\S+[?&]digest=(\S+) 201 ", re.MULTILINE)
+    end = time.monotonic() + 20
+    while True:
+        with open(log, encoding="utf-8") as file:
+            digests = [urllib.parse.unquote(digest) for digest in wanted.findall(file.read())]
+        if len(digests) >= count or time.monotonic() > end:
+            return digests
+        time.sleep(0.1)
+
+
+def an_image_by(name, digests, folder):
+    """A client pushes an image to sixteen workers, with nothing before them, while another connection is idle. All of its blobs arrive, layers that it
+    compresses too. It stops at the manifest, which this registry doesn't have."""
+    log, repository = os.path.join(folder, f"{name}.log"), f"lib/{name}"
+    with open(log, "wb") as stderr, Server(env=with_workers("16") | {"BLOBD_LOG": "1"}, stderr=stderr) as server, contextlib.closing(server.client()) as idle:
+        check(f"a connection before {name}", ask(idle, "GET", "/v2/")[0] == 200)
+        begun = time.monotonic()
+        status, printed = IMAGE_CLIENTS[name](folder, f"docker://{server.addr}/{repository}:one")
+        # a connection is ended behind a minute of silence
+        check(f"{name} waits for no other connection", time.monotonic() - begun > 55 or ask(idle, "GET", "/v2/")[0] == 200, printed)
+        check(f"{name} stops at the manifest", status != 0 and "manifest" in printed, (status, printed))
+        stored = stored_blobs(log, repository, len(digests))
+        blobs = {digest: pull(server, repository, digest) for digest in stored}
+        check(f"what {name} stored comes back", all(isinstance(blob, bytes) and sha256(blob) == digest for digest, blob in blobs.items()), (stored, printed))
+        plain = {sha256(gzip.decompress(blob) if blob.startswith(b"\x1f\x8b") else blob) for blob in blobs.values() if isinstance(blob, bytes)}
+        check(f"{name} stored every blob of the image", plain == set(digests), (plain, digests, printed))
+
+
+def images(folder):
+    """Those of the clients that are installed push the same image."""
+    digests = image_layout(os.path.join(folder, "layout"), *[layer_of(number, size) for number, size in enumerate((0, 5_000, 70_000, 2 * MIB))])
+    for name in IMAGE_CLIENTS:
+        if not shutil.which(name):
+            print(f"skipped: {name} isn't installed")
+            continue
+        try:
+            an_image_by(name, digests, folder)
+        except unittest.SkipTest as told:
+            print(f"skipped: {told}")
 
 
 def skopeo_copies(folder):
-    """skopeo pushes an image: its blobs arrive, and it stops at the manifest, which this registry doesn't have."""
+    """skopeo pushes an image to two workers, as it is: its blobs arrive, and it stops at the manifest."""
     if not shutil.which("skopeo"):
         print("skipped: skopeo isn't installed")
         return
@@ -575,50 +951,6 @@ def statuses():
             client.close()
 
 
-def fill(client, most):
-    """Stores small blobs until one isn't taken. Gives their statuses, None where the connection ended without a reply: the body found no memory."""
-    statuses = []
-    for number in range(most):
-        content = random.Random(number).randbytes(10_000)
-        try:
-            statuses.append(ask(client, "POST", f"/v2/lib/a/blobs/uploads/?digest={sha256(content)}", content)[0])
-        except (OSError, http.client.HTTPException):
-            statuses.append(None)
-        if statuses[-1] != 201:
-            break
-    return statuses
-
-
-def alone(server, method, target):
-    """The status and the body of a reply over a connection of its own, (None, b"") where it ends without one."""
-    try:
-        status, _, body = ask_alone(server, method, target)
-        return status, body
-    except (OSError, http.client.HTTPException):
-        return None, b""
-
-
-def full_memory():
-    """An upload that finds no memory is answered 503 or not at all. What needs next to none is answered on every new connection, by either worker:
-    both have served before, since the C library gives a thread its own memory as it first wants some."""
-    content = random.Random(60_000).randbytes(10_000)
-    blob = f"/v2/lib/a/blobs/{sha256(content)}"
-    with Server(limits=["-v 200000"]) as server, contextlib.closing(server.client()) as client:
-        stored = ask(client, "POST", f"/v2/lib/a/blobs/uploads/?digest={sha256(content)}", content)[0]
-        check("a blob before memory is full", stored == 201, stored)
-        # the client keeps one worker, so that this is the other's
-        check("the other worker", alone(server, "GET", "/v2/") == (200, b""))
-        place = ask(client, "POST", "/v2/lib/a/blobs/uploads/")[1]["Location"]
-        statuses = fill(client, 60_000)
-        check("an upload where memory is full", set(statuses) in ({201, 503}, {201, None}), collections.Counter(statuses))
-        client.close()
-        wanted = {("GET", "/v2/"): (200, b""), ("GET", place): (204, b""), ("HEAD", blob): (200, b""), ("GET", blob): (200, content)}
-        for (method, target), reply in wanted.items():
-            replies = [alone(server, method, target) for _ in range(40)]
-            check(f"{method} {target} where memory is full", replies == [reply] * 40, [status for status, _ in replies])
-        check("a full server goes on", server.process.poll() is None, server.process.returncode)
-
-
 def silent_clients(hasty):
     """A client that stops inside a head and one that reads nothing of its reply are ended after a minute, or two."""
     content = random.Random(7).randbytes(64 * MIB)
@@ -639,6 +971,56 @@ def silent_clients(hasty):
             time.sleep(max(0, begun + 10 - time.monotonic()))
             sent = len(rest_of(deaf))
             check("a client that reads nothing isn't sent all", sent < len(content), sent)
+
+
+def dripped(server, parts, pause):
+    """The reply to these parts of a request, sent with a pause of so many seconds behind each, and how long that took. `None`: the connection was cut."""
+    begun = time.monotonic()
+    with server.connect() as connection:
+        try:
+            for part in parts:
+                connection.sendall(part)
+                # a connection that was cut is readable
+                if select.select([connection], [], [], pause)[0]:
+                    break
+            connection.shutdown(socket.SHUT_WR)
+            reply = rest_of(connection)
+        except OSError:
+            reply = b""
+    return reply or None, time.monotonic() - begun
+
+
+def slow_clients(hasty):
+    """A client that drips a head or a body is cut once its minute is over, which takes two seconds here, and one that is as fast as is asked isn't."""
+    with Server(env=hasty) as server:
+        head = f"PATCH {opened(server, 'lib/a')} HTTP/1.1\r\nContent-Length: 400000\r\nConnection: close\r\n\r\n".encode()
+        bytes_of_head = [bytes([byte]) for byte in b"GET /v2/ HTTP/1.1\r\nX: " + b"a" * 400]
+        reply, took = dripped(server, bytes_of_head, 0.05)
+        check("a head that drips is cut", reply is None and 1.5 < took < 15, (reply, took))
+        # one KiB a second would be 30 KiB a second here
+        reply, took = dripped(server, [head, *[b"x" * 250] * 400], 0.05)
+        check("a body that drips is cut", reply is None and 1.5 < took < 15, (reply, took))
+        reply, took = dripped(server, [head, *[b"x" * 8_000] * 50], 0.1)
+        check("a slow body that is fast enough", reply is not None and b" 202 Accepted" in reply and took > 4.5, (reply, took))
+        # a connection that is used now and then is kept for longer than a minute
+        with contextlib.closing(server.client()) as client:
+            statuses = []
+            for _ in range(6):
+                statuses.append(ask(client, "GET", "/v2/")[0])
+                time.sleep(0.7)
+            check("a connection that is used now and then", statuses == [200] * 6, statuses)
+
+
+def sends_at_once(folder):
+    """Small writes aren't held back: each connection has TCP_NODELAY."""
+    told = os.path.join(folder, "options")
+    with Server(1, env=shims.environment(shims.compiled(folder, "options"), OPTIONS_TOLD=told)) as server:
+        replies = [ask_alone(server, "GET", "/v2/")[0] for _ in range(2)]
+        ended = server.ended()
+    with open(told, encoding="ascii") as file:
+        options = [tuple(map(int, line.split())) for line in file]
+    sent_at_once = options.count((socket.IPPROTO_TCP, socket.TCP_NODELAY, 1))
+    check("connections that send at once", (replies, ended, sent_at_once) == ([200, 200], ("served\n", 0), 2), (replies, ended, options))
 
 
 def idle_upload(folder):
@@ -663,10 +1045,11 @@ def within_seconds():
     with tempfile.TemporaryDirectory() as folder:
         failing_accepts(folder)
         idle_upload(folder)
+        sends_at_once(folder)
         hasty = shims.environment(shims.compiled(folder, "minutes"))
         no_descriptors(hasty)
-        one_worker_fails_alone(hasty)
         silent_clients(hasty)
+        slow_clients(hasty)
 
 
 def paused_upload():
@@ -683,24 +1066,36 @@ def paused_upload():
 def load_tests(*_):
     return suite.cases(
         words,
+        help_and_version,
+        switches,
+        serves_as_many_at_once_as_it_is_told,
+        idle_connections_hold_nobody,
+        refuses_other_numbers_of_workers,
         serves_until_it_is_ended,
+        serves_another_version,
         tells_a_terminal_how_to_stop,
         logs_requests,
+        unread_log,
+        unread_log_at_the_end,
+        log_read_late,
         faults,
+        closed_streams,
+        signals,
         descriptors_come_again,
         within_seconds,
         first_references,
         secrets_are_drawn,
         statuses,
         paused_upload,
-        full_memory,
         kept_connections,
         refused_heads,
         peers_that_stay,
+        peers_that_stay_hold_no_worker,
         two_uploads_at_once,
         clients_that_vanish,
         curl_uploads,
         skopeo_copies,
+        images,
     )
 
 

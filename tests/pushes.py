@@ -3,23 +3,25 @@
 
     pushes.py PROGRAM
 
-It tries what a push prints, on a terminal too, and what it leaves; servers that start again, that can't serve, or whose replies are odd; a close whose reply is lost; more chunks
-than one connection takes; pushes at once.
+It tries what a push prints, on a terminal too, and what it leaves; what is there already; sizes of chunks; servers that start again, that can't serve, that are silent, or whose
+replies are odd; signals; a close whose reply is lost; more chunks than one connection takes; pushes at once.
 
 Prints a line for each check that fails, and 'N passed, M failed' as the last.
 """
+import collections
 import concurrent.futures
 import contextlib
 import os
 import random
 import re
+import signal
 import socket
 import subprocess
 import threading
 import time
 
-from harness import running, suite
-from harness.running import Server, pull, run, sha256
+from harness import running, shims, suite
+from harness.running import USAGE, Server, pull, run, sha256
 from harness.suite import check
 
 MIB = 1 << 20
@@ -36,6 +38,18 @@ def written(folder, content):
 
 def push(addr, name, path, chunk):
     return run("push", addr, name, path, str(chunk))
+
+
+# what standard error says of a name that isn't one
+NAME_RULE = (
+    "blobd: a NAME is one or more parts with / between them, as lib/a: a part is of a to z and 0 to 9, "
+    "inside also one of . _ __ or hyphens between two of these; 255 bytes at most\n"
+)
+
+
+def given_up(addr, why, line="out of tries"):
+    """What a push prints that was given up, and why on standard error."""
+    return f"refused: {line}\n", 1, f"blobd: can't push to {addr}: {why}\n"
 
 
 def pushed(content):
@@ -63,18 +77,31 @@ def pushes_and_their_lines(folder):
     with Server(100) as server:
         check("one chunk", push(server.addr, "lib/a", abc, 2147483648) == pushed(b"abc"))
         check("the same digest by another client", push(server.addr, "lib/b", abc, 1) == pushed(b"abc"))
-        check("the same again", push(server.addr, "lib/a", abc, 2) == pushed(b"abc"))
+        check("the same again", push(server.addr, "lib/a", abc, 2) == already(b"abc"))
         for name in ("lib/a", "lib/b"):
             check(f"pull of {name}", pull(server, name, sha256(b"abc")) == b"abc")
         nothing = written(folder, b"")
         check("an empty file", push(server.addr, "lib/a", nothing, 2) == pushed(b""))
-        check("a name that isn't one", push(server.addr, "A", abc, 2) == ("refused: name\n", 1, ""))
+        for name in ("A", "", "a" * 256):
+            check(f"a name that isn't one: {name}", push(server.addr, name, abc, 2) == ("refused: name\n", 1, NAME_RULE))
         missing = abc + "-that-is-not-there"
         no_file = ("fault: file\n", 3, f"blobd: can't push {missing}: No such file or directory (os error 2)\n")
         check("a missing file", push(server.addr, "lib/a", missing, 2) == no_file)
         check("a missing file goes before the name", push(server.addr, "A", missing, 2) == no_file)
         a_folder = ("fault: file\n", 3, f"blobd: can't push {folder}: Is a directory (os error 21)\n")
         check("a folder in place of a file", push(server.addr, "lib/a", folder, 2) == a_folder)
+
+
+def a_file_whose_name_is_no_text(folder):
+    """The words of a command are UTF-8: a FILE of another name gets the usage, and is read from standard input."""
+    path = written(folder, b"strange")
+    strange = os.path.join(os.fsencode(folder), b"\xff")
+    os.rename(path, strange)
+    with Server(1) as server, open(strange, "rb") as file:
+        refused = run("push", server.addr, "lib/a", strange)
+        check("a FILE whose name isn't UTF-8", refused == ("", 2, USAGE + "\n"), refused)
+        ended = run("push", server.addr, "lib/a", "/dev/stdin", stdin=file)
+        check("the same file as standard input", ended == pushed(b"strange"), ended)
 
 
 def on_a_terminal(*words):
@@ -110,7 +137,7 @@ def a_bar_on_a_terminal(folder):
         check("it hashes and then sends", "hashing" in words and "sending" in words and words == sorted(words), words)
         check("each line has room", max(map(len, lines)) < 80, lines)
         told, drawn = on_a_terminal("push", server.addr, "A", path, str(MIB))
-        check("a name that isn't one has no bar", (told, drawn) == (("refused: name\n", 1), ""), (told, drawn))
+        check("a name that isn't one has no bar", (told, drawn) == (("refused: name\n", 1), NAME_RULE.replace("\n", "\r\n")), (told, drawn))
 
 
 def servers_that_come_again(folder):
@@ -123,8 +150,9 @@ def servers_that_come_again(folder):
     begun = time.monotonic()
     ended = push(f"{host}:{port}", "lib/a", path, 1000)
     waited = time.monotonic() - begun
-    check("a server that isn't there", ended == ("refused: out of tries\n", 1, ""), ended)
-    check("its five tries take some seconds", 3 < waited < 10, waited)
+    refused = given_up(f"{host}:{port}", "Connection refused (os error 111) (tried 7 times)")
+    check("a server that isn't there", ended == refused, ended)
+    check("its five tries take some seconds", 3 < waited < 15, waited)
     with concurrent.futures.ThreadPoolExecutor(1) as pool:
         late = pool.submit(push, f"{host}:{port}", "lib/a", path, 1000)
         time.sleep(1)
@@ -136,16 +164,18 @@ def servers_that_come_again(folder):
     ended = push(busy.addr, "lib/a", path, 1000)
     waited = time.monotonic() - begun
     busy.close()
-    check("a server that can't serve", (ended, 3 < waited < 10) == (("refused: out of tries\n", 1, ""), True), (ended, waited))
+    refused = given_up(busy.addr, "the server answers 503: it has no memory left, or can't serve now (tried 7 times)")
+    check("a server that can't serve", (ended, 3 < waited < 15) == (refused, True), (ended, waited))
 
 
 class Answering:
-    """A server of one connection after the other that answers each with the same bytes."""
+    """A server of one connection after the other that answers the first request of each with the same bytes, or with those of its method, after
+    some seconds. It keeps the requests' first lines."""
 
-    def __init__(self, reply):
+    def __init__(self, reply, delay=0):
         self.listener = socket.create_server(("127.0.0.1", 0))
         self.addr = "127.0.0.1:%d" % self.listener.getsockname()[1]
-        self.reply = reply
+        self.reply, self.delay, self.asked = reply, delay, []
         threading.Thread(target=self.serve, daemon=True).start()
 
     def serve(self):
@@ -153,8 +183,10 @@ class Answering:
             try:
                 client, _ = self.listener.accept()
                 with client:
-                    client.recv(65536)
-                    client.sendall(self.reply)
+                    asked = client.recv(65536).decode("latin-1").partition("\r\n")[0]
+                    self.asked.append(asked)
+                    time.sleep(self.delay)
+                    client.sendall(self.reply[asked.partition(" ")[0]] if isinstance(self.reply, dict) else self.reply)
                     client.shutdown(socket.SHUT_WR)
                     while client.recv(65536):
                         pass
@@ -170,19 +202,141 @@ def strange_servers(folder):
     coded = b'{"errors":[{"code":"DENIED"}]}'
     lines = b'{"errors":[{"code":"A\\nB"}]}'
     empty = b'{"errors":[{"code":""}]}'
+    https = "is this https? A push speaks plain HTTP"
+    login = "it wants a login, and a push has none: push to the reverse proxy's local address, or through deploy/adapter.cfg"
+    other = "it is another kind of server, as by the form of its Location: push through deploy/adapter.cfg"
+    unknown = "it takes no uploads into this repository: is it a registry?"
+    lost = "it lost the upload, as a server does that is started again: push again"
+    missing = b'{"errors":[{"code":"BLOB_UPLOAD_UNKNOWN"}]}'
+    place = b"Location: /v2/lib/a/blobs/uploads/00000001-0000-8000-8000-000000000000\r\n"
     table = [
-        ("a refusal with a code", b"HTTP/1.1 403 Forbidden\r\nContent-Length: %d\r\n\r\n" % len(coded) + coded, "refused: 403 DENIED\n"),
-        ("a refusal without a code", b"HTTP/1.1 403 Forbidden\r\nContent-Length: 0\r\n\r\n", "refused: 403 -\n"),
-        ("a code of two lines", b"HTTP/1.1 403 Forbidden\r\nContent-Length: %d\r\n\r\n" % len(lines) + lines, "refused: 403 -\n"),
-        ("an empty code", b"HTTP/1.1 403 Forbidden\r\nContent-Length: %d\r\n\r\n" % len(empty) + empty, "refused: 403 -\n"),
-        ("a 202 without a place", b"HTTP/1.1 202 Accepted\r\nContent-Length: 0\r\n\r\n", "refused: bad server\n"),
-        ("no HTTP", b"SSH-2.0-none\r\n", "refused: out of tries\n"),
+        ("a refusal with a code", reply_of("403 Forbidden", coded), "403 DENIED", None),
+        ("a refusal without a code", reply_of("403 Forbidden"), "403 -", None),
+        ("a code of two lines", reply_of("403 Forbidden", lines), "403 -", None),
+        ("an empty code", reply_of("403 Forbidden", empty), "403 -", None),
+        ("a login", reply_of("401 Unauthorized"), "401 -", login),
+        ("a request that TLS was wanted for", reply_of("400 Bad Request"), "400 -", https),
+        ("a refused request", reply_of("400 Bad Request", coded), "400 DENIED", None),
+        ("a server that is no registry", reply_of("404 Not Found"), "404 -", unknown),
+        (
+            "a server that loses the upload",
+            {"HEAD": reply_of("404 Not Found"), "POST": reply_of("202 Accepted", fields=place), "PATCH": reply_of("404 Not Found", missing)},
+            "404 BLOB_UPLOAD_UNKNOWN",
+            lost,
+        ),
+        ("a 202 without a place", reply_of("202 Accepted"), "bad server", other),
+        (
+            "a place of another registry",
+            reply_of("202 Accepted", fields=b"Location: https://h/v2/lib/a/blobs/uploads/1?_state=x\r\n"),
+            "bad server",
+            other,
+        ),
+        ("no HTTP", b"SSH-2.0-none\r\n", "out of tries", "the reply isn't HTTP: is this https? (tried 7 times)"),
+        ("an alert of TLS", bytes([21, 3, 1, 0, 2, 2, 70]), "out of tries", f"the reply is TLS: {https} (tried 7 times)"),
+        ("no reply", b"", "out of tries", "the server closed the connection before it had replied (tried 7 times)"),
+        ("half a reply", b"HTTP/1.1 20", "out of tries", "the server closed the connection before it had replied (tried 7 times)"),
+        ("an odd reply", b"HTTP/1.1 2xx\r\n\r\n", "out of tries", "no reply of a form that is read (tried 7 times)"),
     ]
-    for name, reply, line in table:
-        server = Answering(reply)
-        ended = push(server.addr, "lib/a", abc, 2)
-        server.close()
-        check(name, ended == (line, 1, ""), ended)
+    with concurrent.futures.ThreadPoolExecutor(len(table)) as pool:
+        # most of the time is waits
+        servers = [Answering(reply) for _, reply, _, _ in table]
+        pushes = [pool.submit(push, server.addr, "lib/a", abc, 2) for server in servers]
+        for (name, _, line, why), server, ended in zip(table, servers, pushes):
+            wanted = given_up(server.addr, why, line) if why else (f"refused: {line}\n", 1, "")
+            check(name, ended.result() == wanted, ended.result())
+            server.close()
+
+
+def reply_of(status, body=b"", fields=b""):
+    """A whole reply, behind which its server closes."""
+    return b"HTTP/1.1 %b\r\n%bContent-Length: %d\r\nConnection: close\r\n\r\n" % (status.encode(), fields, len(body)) + body
+
+
+def logged(server):
+    """The methods of the requests that a server with a log has told so far, one for each line."""
+    return [line.split(" ")[0] for line in server.process.stderr.read().splitlines()]
+
+
+def what_is_there(folder):
+    """A HEAD goes first. If it finds the blob nothing is sent; what another repository has is sent."""
+    abc = written(folder, b"abc")
+    with Server(2, env={**os.environ, "BLOBD_LOG": "1"}, stderr=subprocess.PIPE) as server:
+        check("a first push", push(server.addr, "lib/a", abc, 2) == pushed(b"abc"))
+        check("what is there", push(server.addr, "lib/a", abc, 2) == already(b"abc"))
+        check("another repository", push(server.addr, "lib/b", abc, 2) == pushed(b"abc"))
+        check("what is there, of a name that isn't one", push(server.addr, "B", abc, 2)[0] == "refused: name\n")
+        server.end()
+        asked = collections.Counter(logged(server))
+        check("what was asked", asked == {"HEAD": 3, "POST": 2, "PATCH": 4, "PUT": 2}, asked)
+    there = Answering(reply_of("200 OK"))
+    check("a server that has it", push(there.addr, "lib/a", abc, 2) == already(b"abc"))
+    wanted = [f"HEAD /v2/lib/a/blobs/{sha256(b'abc')} HTTP/1.1"]
+    check("one request to a server that has it", there.asked == wanted, there.asked)
+    there.close()
+    unsure = Answering({"HEAD": reply_of("500 Internal Server Error"), "POST": reply_of("403 Forbidden")})
+    check("a HEAD that is refused", push(unsure.addr, "lib/a", abc, 2) == ("refused: 403 -\n", 1, ""))
+    check("a push behind a HEAD that is refused", [line.split(" ")[0] for line in unsure.asked] == ["HEAD", "POST"], unsure.asked)
+    unsure.close()
+
+
+def chunks_of_sizes(folder):
+    """How many requests a chunk's size makes, and what is said of a small one."""
+    slow = "blobd: chunks of {} bytes make a slow push, since each is a request: 16M is a good CHUNK\n"
+    table = [
+        # the file's bytes, the words for the chunk, the PATCHes, the chunk that is slow
+        (17 * MIB, [], 2, None),
+        (16 * MIB, [], 1, None),
+        (2500, ["1K"], 3, None),
+        (3 * MIB + 1, ["1M"], 4, None),
+        (5 * MIB, ["2G"], 1, None),
+        (4 * MIB + 1, ["64K"], 65, None),
+        (4 * MIB, ["32K"], 128, None),
+        (4 * MIB + 1, ["65535"], 65, 65535),
+    ]
+    for number, (size, words, patches, small) in enumerate(table):
+        content = random.Random(20 + number).randbytes(size)
+        path = written(folder, content)
+        with Server(1, env={**os.environ, "BLOBD_LOG": "1"}, stderr=subprocess.PIPE) as server:
+            ended = run("push", server.addr, "lib/a", path, *words)
+            wanted = (pushed(content)[0], 0, slow.format(small) if small else "")
+            check(f"a push of {size} bytes in chunks of {words}", ended == wanted, ended)
+            server.end()
+            asked = logged(server)
+            check(f"the chunks of {words}", asked.count("PATCH") == patches, len(asked))
+        os.remove(path)
+
+
+def silent_servers(folder):
+    """A server that takes a connection and says nothing costs a try, as does one that takes no byte."""
+    if not shims.has_compiler():
+        print(f"skipped: {shims.NO_COMPILER}: what takes minutes")
+        return
+    abc = written(folder, b"abc")
+    hasty = shims.environment(shims.compiled(folder, "minutes"))
+    with socket.create_server(("127.0.0.1", 0), backlog=50) as listener:
+        addr = "127.0.0.1:%d" % listener.getsockname()[1]
+        begun = time.monotonic()
+        ended = run("push", addr, "lib/a", abc, "2", env=hasty)
+        waited = time.monotonic() - begun
+        check("a silent server", ended == given_up(addr, "the server was silent for 30 s (tried 7 times)"), ended)
+        # seven times half a minute, thirty times as fast
+        check("as long as it is waited for", 6.9 < waited < 60, waited)
+
+
+def signals_between(folder):
+    """A signal that comes while a push waits for a reply costs no try: it is one request, over one connection."""
+    abc = written(folder, b"abc")
+    server = Answering(reply_of("200 OK"), delay=2)
+    with subprocess.Popen([running.PROGRAM, "push", server.addr, "lib/a", abc, "2"], stdout=subprocess.PIPE, stderr=subprocess.PIPE, text=True) as ran:
+        for _ in range(3):
+            time.sleep(0.3)
+            ran.send_signal(signal.SIGSTOP)
+            time.sleep(0.1)
+            ran.send_signal(signal.SIGCONT)
+        told = ran.communicate(timeout=running.PATIENCE)
+        check("a push that is stopped and goes on", (told, ran.returncode) == ((already(b"abc")[0], ""), 0), (told, ran.returncode))
+    check("one request of it", len(server.asked) == 1, server.asked)
+    server.close()
 
 
 class Proxy:
@@ -260,9 +414,9 @@ def cut_push(server, folder, seed):
         return (chance.randrange(1, 12_000), chance.randrange(1, 2_000), b"") if cut else (EVERYTHING, EVERYTHING, b"")
 
     proxy = Proxy(server.addr, judge)
-    line, status, _ = push(proxy.addr, "lib/a", written(folder, content), 1500)
+    line, status, why = push(proxy.addr, "lib/a", written(folder, content), 1500)
     proxy.close()
-    return content, line, status, pull(server, "lib/a", sha256(content))
+    return content, line, status, why, pull(server, "lib/a", sha256(content))
 
 
 def pushes_over_cut_connections(folder):
@@ -271,7 +425,7 @@ def pushes_over_cut_connections(folder):
     with Server(1000) as server, concurrent.futures.ThreadPoolExecutor(8) as pool:
         pushes = [pool.submit(cut_push, server, folder, seed) for seed in range(CUT_PUSHES)]
         for seed, ended in enumerate(pushes):
-            content, line, status, got = ended.result()
+            content, line, status, why, got = ended.result()
             word = line.split(":")[0].split(" ")[0]
             counts[word] = counts.get(word, 0) + 1
             if status == 0:
@@ -279,6 +433,7 @@ def pushes_over_cut_connections(folder):
                 check(f"what cut push {seed} left", got == content, "other bytes")
             else:
                 check(f"what cut push {seed} says", (line, status) == ("refused: out of tries\n", 1), (line, status))
+                check(f"why cut push {seed} was given up", why.startswith("blobd: can't push to ") and why.endswith(" times)\n"), why)
                 check(f"what cut push {seed} left", got in (404, content), "other bytes")
     check("pushes got through the proxy, and some were given up", counts["pushed"] > 5 and counts["refused"] > 0, counts)
 
@@ -286,9 +441,14 @@ def pushes_over_cut_connections(folder):
 def load_tests(*_):
     return suite.cases(
         pushes_and_their_lines,
+        a_file_whose_name_is_no_text,
         a_bar_on_a_terminal,
         servers_that_come_again,
         strange_servers,
+        what_is_there,
+        chunks_of_sizes,
+        silent_servers,
+        signals_between,
         a_lost_reply_to_the_close,
         more_chunks_than_six_connections_take,
         two_pushes_at_once,

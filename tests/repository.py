@@ -3,36 +3,45 @@
 
 Prints a line for each check, and 'N passed, M failed' as the last. Exit status 1 where one failed.
 """
+import collections
 import os
 import re
 import subprocess
 import sys
 
+import definitions
 import stored
+import wrong_bodies
 
 TOP = os.path.dirname(os.path.dirname(os.path.abspath(__file__)))
 HANDLES = "Handles allowed: Threads, Wait, Net.\n"
 
-# A letter with a number, as a citation, names nothing that a reader of this repository could look up. It is one unless
-# it is a type parameter.
-CITATION = re.compile(
-    r"(^|[^A-Za-z0-9_])(D(1[0-7]|[1-9])|T[1-5][a-e]?|W(1[0-9]|2[0-3]|[1-9])|R(1[0-6]|[1-9]))([^A-Za-z0-9_]|$)"
-    r"|\brow [0-9]+"
-)
-TYPE_PARAMETER = re.compile(r"<[A-Z][0-9]?(,|>)|[:,] *[A-Z][0-9] *:")
+# what a file takes of a module of definitions: names, or the whole under its own name or another
+TAKEN = re.compile(r"^\s*(?:ghost )?use Rattle\.([\w.]+?)(?:\.\{(.*)\}| as \w+)?;?$", re.MULTILINE)
 HOLE = re.compile(r"(=\s*\?|[( ]\?[ ),]|\?\s*$)")
 PUBLIC_FUNCTION = re.compile(r"^\s*pub (?:const )?fn (\w+)")
 IMPL = re.compile(r"^impl(?:<.*?>)?\s+(?:[\w:<>', ]+\s+for\s+)?(\w+)")
 TEST_MODULE = re.compile(r"#\[cfg\(test\)\]\s*mod \w+ \{")
 # A law takes nothing and gives nothing: its contract is all that it has.
 LAW = re.compile(r"^\s*pub fn \w+(?:<.*?>)?\(\)\s*(\{\s*\})?$")
-# The page that names each must-fail edit, and how it sets a name.
-WRONG_BODIES = "docs/WRONG-BODIES.md"
-NAME = re.compile(r"`(\w+)`")
 EDITS = re.compile(r"/(?:must-fail|further-edits)/")
-FUNCTION = re.compile(r"`([\w:]+)`")
-# what an edit breaks that says of no function that it breaks it: a trait's function, or nothing that was promised
-NO_FUNCTION = re.compile(r"`\w+`'s? `\w+`|the measured figures")
+# an impl of a trait, with its body
+TRAIT_IMPL = re.compile(r"^impl(?:<.*?>)? (?:\w+::)*(\w+)(?:<[^{]*?>)? for (\w+)[^{]*\{(.*?)^\}", re.MULTILINE | re.DOTALL)
+
+# A link of a page, and a heading that one may lead to.
+LINK = re.compile(r"\]\(([^)\s]+)\)")
+HEADING = re.compile(r"^#+ (.*)$", re.MULTILINE)
+FENCED = re.compile(r"^```.*?^```", re.MULTILINE | re.DOTALL)
+
+# A row of README that says how many lines a definition's file has.
+COUNTED = re.compile(r"^\|.*\]\((crates/\S+\.antt)\).*\| (\d+) \|$", re.MULTILINE)
+
+# The page of promises, and what the cells name that say where a promise stands: a function and clauses of it, or a file.
+PROMISES = "docs/PROMISES.md"
+NAMED = re.compile(r"`([^`]+)`")
+FUNCTION = re.compile(r"(?:[\w]+::)*(\w+)(?:: ([\w, ]+))?")
+PLACE = re.compile(r"[\w/]+\.(?:rt|antt|py)|[\w/]+/")
+WORD = re.compile(r"\w+")
 
 # The page on using the crates, and what it shows of the two programs that do.
 USING = "docs/USING.md"
@@ -40,7 +49,6 @@ SHOWN = re.compile(r"crates/embed_\w+/(src/\w+\.rt|specs/(?!Lib\.)\w+\.antt)")
 
 # Functions that no edit can turn: their types leave no other body that compiles.
 NO_OTHER_BODY = {
-    "blobd": {"Dialer::into_bar"},
     "http_wire": {"ToWrite::into_inner"},
     "upload_wire": {"ServiceDesk::into_service"},
 }
@@ -59,18 +67,6 @@ def text_of(path):
         return ""
 
 
-def citations(paths):
-    """Lines that cite by number what the repository doesn't have."""
-    found = []
-    for path in paths:
-        if path == "tests/repository.py" or "/data/" in path or path.startswith("tests/connections/"):
-            continue
-        for number, line in enumerate(text_of(path).splitlines(), 1):
-            if CITATION.search(line) and not TYPE_PARAMETER.search(line):
-                found.append(f"{path}:{number}: {line.strip()}")
-    return found
-
-
 def holes(paths):
     """Proofs that are not finished."""
     return [
@@ -80,6 +76,42 @@ def holes(paths):
         for number, line in enumerate(text_of(path).splitlines(), 1)
         if HOLE.search(line.split("--")[0])
     ]
+
+
+def words_of(path):
+    """How often each word stands in a source, comments of definitions left out."""
+    lines = text_of(path).splitlines()
+    return collections.Counter(definitions.words(" ".join(map(definitions.without_comment, lines) if path.endswith(".antt") else lines)))
+
+
+def module_of(path):
+    """`upload_names.specs.Digest` of `crates/upload_names/specs/Digest.antt`."""
+    return path.removeprefix("crates/").removesuffix(".antt").replace("/", ".")
+
+
+def names_taken(sources):
+    """The names that other files take from each module of definitions; from one that is taken whole, each word of the file."""
+    taken = collections.defaultdict(set)
+    for path in sources:
+        words = words_of(path)
+        for module, names in TAKEN.findall(text_of(path)):
+            taken[module].update(definitions.words(names) if names else words)
+    return taken
+
+
+def unnamed(paths):
+    """Definitions and lemmas that nothing names beside themselves. The code names lemmas by their paths, in attributes."""
+    sources = [path for path in paths if path.startswith("crates/") and path.endswith((".antt", ".rt"))]
+    taken = names_taken(sources)
+    in_code = sum((words_of(path) for path in sources if path.endswith(".rt")), collections.Counter())
+    found = []
+    for path in (path for path in sources if path.endswith(".antt")):
+        words = words_of(path)
+        for item in definitions.definitions(path, text_of(path)):
+            here = words[item.name] > definitions.words(" ".join(item.lines)).count(item.name)
+            if not (here or item.is_answer or item.name in taken[module_of(path)] or item.name in in_code):
+                found.append(f"{path}:{item.line}: {item.name}")
+    return found
 
 
 def outputs(paths):
@@ -125,43 +157,42 @@ def public_functions(crate, laws=False):
                 yield f"{kind}::{match.group(1)}" if kind else match.group(1)
 
 
-def broken_by(edit):
-    """The functions that a must-fail edit says it breaks. An edit of a trait's function says none."""
-    lines = [line for line in text_of(edit).splitlines() if line.startswith("breaks:")]
-    return {word.strip() for line in lines for word in line[len("breaks:") :].split(",")}
-
-
-def broken_by_edits(crate):
-    """The functions that the crate's must-fail edits say they break."""
-    folder = os.path.join(TOP, "crates", crate, "must-fail")
-    names = sorted(os.listdir(folder)) if os.path.isdir(folder) else []
-    return set().union(*(broken_by(f"crates/{crate}/must-fail/{name}") for name in names))
+def other_functions(crate):
+    """The functions that an edit may say it breaks beside those handed out: `<Type as Trait>::name`, and what a program has inside."""
+    for path in sources(crate):
+        with open(path, encoding="utf-8") as file:
+            text = TEST_MODULE.split(file.read())[0]
+        for trait, kind, body in TRAIT_IMPL.findall(text):
+            yield from (f"<{kind} as {trait}>::{name}" for name in re.findall(r"^    fn (\w+)", body, re.MULTILINE))
+        if exported(crate) is None:
+            yield from re.findall(r"^(?:pub\(crate\) )?fn (\w+)", text, re.MULTILINE)
 
 
 def unbroken(_):
-    """Public functions of libraries that no must-fail edit breaks, and edits that name no function."""
-    found = []
+    """Public functions that no must-fail edit breaks, and edits that break a function that isn't there."""
+    found, edits = [], wrong_bodies.edits()
     for crate in sorted(os.listdir(os.path.join(TOP, "crates"))):
+        of_crate = [edit for edit in edits if edit.crate == crate]
+        # The program's functions are no other crate's: a further edit will do for them.
+        broken = {name for edit in of_crate if "/must-fail/" in edit.path or crate == "blobd" for name in edit.breaks}
         functions = [name for name in public_functions(crate) if name not in NO_OTHER_BODY.get(crate, ())]
-        broken = broken_by_edits(crate)
         found += [f"{crate}: no must-fail edit breaks {name}" for name in functions if name not in broken]
-        known = {*functions, *public_functions(crate, laws=True)}
-        found += [f"{crate}: an edit breaks {name}, which isn't there" for name in sorted(broken - known)]
+        known = {*functions, *public_functions(crate, laws=True), *other_functions(crate)}
+        found += [f"{edit.path} breaks {name}, which isn't there" for edit in of_crate for name in edit.breaks if name not in known]
     return found
 
 
-def named_edits():
-    """Each edit in the tables of the page of wrong bodies: its crate, its name, and the cell that says what it breaks; none in the first table, which
-    says what rules a mistake out."""
-    crate = None
-    for line in text_of(WRONG_BODIES).splitlines():
-        cells = line.split("|")[1:-1]
-        if line.startswith("## "):
-            crate = next(iter(NAME.findall(line)), None)
-        elif crate and cells:
-            yield from ((crate, edit, cells[-1]) for edit in NAME.findall(cells[0]))
-        elif len(cells) == 4:
-            yield from ((crate, edit, None) for crate in NAME.findall(cells[1]) for edit in NAME.findall(cells[2]))
+def headless(_):
+    """Must-fail edits that don't say what they do wrong, or what they break."""
+    edits = wrong_bodies.edits()
+    found = [f"{edit.path} has no line 'wrong: ..'" for edit in edits if not edit.wrong]
+    return found + [f"{edit.path} has no line 'breaks: ..'" for edit in edits if not edit.breaks]
+
+
+def unmade(_):
+    """Tables of the page of wrong bodies that aren't what the edits say."""
+    page = wrong_bodies.read_page()
+    return [] if wrong_bodies.made(page) == page else ["docs/WRONG-BODIES.md isn't what `make wrong-bodies` writes: run it"]
 
 
 def edited_once(path):
@@ -186,30 +217,122 @@ def unapplied(paths):
     return [path for path in paths if EDITS.search(path) and not edited_once(path)]
 
 
-def edits_there(paths):
-    """The file of each must-fail edit, by its crate and its name."""
-    return {(path.split("/")[1], os.path.basename(path).removesuffix(".edit")): path for path in paths if path.endswith(".edit")}
+def anchors(text):
+    """The anchors of a page's headings, as GitHub makes them."""
+    return {re.sub(r"[^\w -]", "", heading.lower()).replace(" ", "-") for heading in HEADING.findall(FENCED.sub("", text))}
 
 
-def misnamed(paths):
-    """Rows of the page of wrong bodies that say of an edit that it breaks something else than its own first line says."""
-    there, found = edits_there(paths), []
-    for crate, edit, told in named_edits():
-        path = there.get((crate, edit))
-        broken = broken_by(path) if path else set()
-        if path and told and broken and broken != set(FUNCTION.findall(told)):
-            found.append(f"{path} breaks {', '.join(sorted(broken))}, and {WRONG_BODIES} says {told.strip()}")
-        if path and told and not broken and not NO_FUNCTION.fullmatch(told.strip()):
-            found.append(f"{path} says of no function that it breaks it, and {WRONG_BODIES} says {told.strip()}")
+def unlinked(paths):
+    """Relative links of pages that lead nowhere."""
+    found = []
+    for page in (path for path in paths if path.endswith(".md")):
+        for link in LINK.findall(FENCED.sub("", text_of(page))):
+            if re.match(r"[a-z]+:", link):
+                continue
+            place, _, anchor = link.partition("#")
+            target = os.path.normpath(os.path.join(os.path.dirname(page), place)) if place else page
+            if not os.path.exists(os.path.join(TOP, target)) or (anchor and anchor not in anchors(text_of(target))):
+                found.append(f"{page}: {link} leads nowhere")
     return found
 
 
-def unnamed(paths):
-    """Must-fail edits that the page of wrong bodies doesn't name, and names there of edits that aren't there."""
-    there = set(edits_there(paths))
-    named = {(crate, edit) for crate, edit, _ in named_edits()}
-    found = [f"{WRONG_BODIES} doesn't name the edit {edit} of {crate}" for crate, edit in sorted(there - named)]
-    return found + [f"{WRONG_BODIES} names the edit {edit} of {crate}, which isn't there" for crate, edit in sorted(named - there)]
+def clauses_by_function(paths):
+    """The names of the clauses that stand behind each function of the crates, by its name."""
+    found = {}
+    for path in (path for path in paths if path.startswith("crates/") and path.endswith(".rt")):
+        for part in re.split(r"\bfn (?=\w)", text_of(path))[1:]:
+            name = WORD.match(part).group()
+            found.setdefault(name, set()).update(re.findall(r"\bensures (\w+) ", part))
+    return found
+
+
+def cells_under(page, *headings):
+    """The cells of the page's tables that stand under these headings, each with its line's number."""
+    column = None
+    for number, line in enumerate(page.splitlines(), 1):
+        cells = [cell.strip() for cell in line.split("|")[1:-1]]
+        heads = [at for at, cell in enumerate(cells) if cell in headings]
+        column = heads[0] if heads else column if cells else None
+        if cells and column is not None and not heads and set(line) - set("|- "):
+            yield number, cells[column]
+
+
+def unpromised(paths):
+    """Names in the table of promises of functions, clauses, definitions or files that aren't there."""
+    clauses = clauses_by_function(paths)
+    words = set(WORD.findall(" ".join(text_of(path) for path in paths if path.startswith("crates/") and path.endswith((".rt", ".antt")))))
+    found = []
+    for number, cell in cells_under(text_of(PROMISES), "Contract", "Law"):
+        for name in NAMED.findall(cell):
+            function = FUNCTION.fullmatch(name)
+            if PLACE.fullmatch(name):
+                there = any(path.endswith(name) or f"/{name}" in path for path in paths)
+            elif function and function.group(2):
+                there = set(WORD.findall(function.group(2))) <= clauses.get(function.group(1), set())
+            else:
+                there = set(WORD.findall(name)) <= words
+            if not there:
+                found.append(f"{PROMISES}:{number}: there is no {name}")
+        if not any(WORD.findall(name)[-1] in clauses or ":" in name for name in NAMED.findall(cell)) and not cell.startswith(("the ", "each ")):
+            found.append(f"{PROMISES}:{number}: names no function")
+    return found
+
+
+def untested(paths):
+    """Tests and scripts that the pages name as what refuses or shows something, and that aren't there."""
+    scripts = [path for path in paths if path.endswith((".rt", ".py"))]
+    words = set(WORD.findall(" ".join(text_of(path) for path in scripts)))
+    found = []
+    for page in (PROMISES, "docs/WRONG-BODIES.md"):
+        for number, cell in cells_under(text_of(page), "Tests", "Test"):
+            for name in NAMED.findall(cell):
+                begins = name.removesuffix("..")
+                if PLACE.fullmatch(name):
+                    there = any(path.startswith(name) for path in paths)
+                elif begins != name:
+                    there = any(word.startswith(begins) for word in words)
+                else:
+                    there = " " in name or set(WORD.findall(name)) <= words | set(os.listdir(os.path.join(TOP, "crates")))
+                if not there:
+                    found.append(f"{page}:{number}: there is no {name}")
+    return found
+
+
+def miscounted(_):
+    """Definitions of the headline whose lines README counts otherwise, or their sum."""
+    readme = text_of("README.md")
+    rows = [(path, int(count)) for path, count in COUNTED.findall(readme)]
+    found = [f"README.md: {path} has {count} lines" for path, told in rows if (count := len(text_of(path).splitlines())) != told]
+    total = sum(count for _, count in rows)
+    return found if f"{total} lines in all" in readme else [*found, f"README.md: the definitions have {total} lines in all"]
+
+
+def stands_on(crate):
+    """The crates of the repository that a crate is built of, itself among them."""
+    lines = [line.partition(":") for line in text_of("crates.txt").splitlines() if line and not line.startswith("#")]
+    direct = {name.split()[0]: uses.split() for name, _, uses in lines}
+    found, left = set(), [crate]
+    while left:
+        name = left.pop()
+        if name in direct and name not in found:
+            found.add(name)
+            left += direct[name]
+    return found
+
+
+def unwatched(_):
+    """Crates of the program whose changes `make` doesn't see, and names there of crates that aren't the program's."""
+    watched = re.search(r"^CRATES = (.*)$", text_of("Makefile"), re.MULTILINE)
+    return [f"Makefile's CRATES: {name}" for name in sorted(stands_on("blobd") ^ set(watched.group(1).split() if watched else []))]
+
+
+def unversioned(paths):
+    """The program's own version, if it has one, where it isn't that of the file VERSION."""
+    version = text_of("VERSION").strip()
+    constant = re.search(r'"([0-9]+\.[0-9]+\.[0-9]+)"', text_of("crates/blobd/src/version.rt"))
+    if constant and constant.group(1) != version:
+        return [f"crates/blobd/src/version.rt says {constant.group(1)}, and VERSION says {version}"]
+    return [] if re.fullmatch(r"[0-9]+\.[0-9]+\.[0-9]+", version) else ["VERSION isn't a version"]
 
 
 def unshown(paths):
@@ -227,14 +350,20 @@ def disturbed(_):
 
 
 CHECKS = [
-    ("no line cites what the repository doesn't have", citations),
     ("no hole in a proof", holes),
+    ("each definition and each lemma is named", unnamed),
     ("no output is committed", outputs),
     ("HANDLES is its one line", handles),
     ("every public function has a must-fail edit", unbroken),
-    ("every must-fail edit is named among the wrong bodies", unnamed),
-    ("the wrong bodies break what the edits' first lines say", misnamed),
+    ("every must-fail edit says what it does wrong and what it breaks", headless),
+    ("the page of wrong bodies is made of the edits", unmade),
     ("every edit applies", unapplied),
+    ("each link of a page leads somewhere", unlinked),
+    ("each row of the promises names functions and clauses that are there", unpromised),
+    ("each test that a page names is there", untested),
+    ("README counts the lines of the headline's definitions", miscounted),
+    ("make watches every crate that the program is built of", unwatched),
+    ("the version is said once", unversioned),
     ("the page on using the crates shows its programs as they are", unshown),
     ("the stored connections are what the tests of disturbed streams take", disturbed),
 ]

@@ -27,7 +27,7 @@ ENDS = {
     model.End.TRUNCATED: "ConnEnd::Fault(ConnFault::Wire(WireFault::Truncated))",
 }
 
-# What stands in front of this in the file is written by hand.
+# What comes before this in the file is written by hand.
 BEGIN = "/// How many connections there are.\n"
 
 
@@ -92,13 +92,13 @@ pub(super) fn connection(number: usize) -> Stored<'static> {{
 
 
 def rows():
-    """The text of the source file: its front as it stands, and the rows."""
+    """The text of the source file: its beginning as it is, and the rows."""
     with open(os.path.join(TOP, ROWS), encoding="utf-8") as file:
-        front, begin, _ = file.read().partition(BEGIN)
+        beginning, begin, _ = file.read().partition(BEGIN)
     if not begin:
         sys.exit(f"{ROWS} has no line '{BEGIN.strip()}'")
     stored = [(stem, sent) for stem, sent, *_ in connections() if stem not in LONGEST_HEADS]
-    return front + table([stem for stem, _ in stored]) + "".join(row(stem, sent) for stem, sent in stored)
+    return beginning + table([stem for stem, _ in stored]) + "".join(row(stem, sent) for stem, sent in stored)
 
 
 def unlike_the_model():

@@ -245,7 +245,7 @@ class Maker:
         return line + b"X: " + b"a" * (room + self.pick([0, 0, 1, 2, 100])) + b"\r\n\r\n"
 
     def at_the_most_fields(self, line):
-        """A head of about as many fields as one may have, each empty line in front of it counted as one."""
+        """A head of about as many fields as one may have, each empty line before it counted as one."""
         blank = self.pick([0, 0, 1, 5, 64, 66])
         return b"\r\n" * blank + line + b"A: b\r\n" * max(0, model.MAX_FIELDS - blank + self.pick([0, 0, 1])) + b"\r\n"
 

@@ -14,6 +14,9 @@ import subprocess
 # The built program: the first word of every script.
 PROGRAM = ""
 
+# What it prints to standard error, in a line, for words that are no command.
+USAGE = "usage: blobd once | serve ADDR COUNT | push ADDR NAME FILE CHUNK"
+
 # Seconds after which what is waited for is taken to hang. No test tells speed by it: a machine that is slow for a while passes.
 PATIENCE = 300
 
@@ -40,13 +43,13 @@ def processes(count=None):
 
 
 class Server:
-    """`blobd serve`, each worker for so many connections, or for all that come; on a port that the system picks, unless one is given, and
-    under limits of the system, as ["-n 4"] for four descriptors."""
+    """`blobd serve`, each worker for so many connections, or for all that come; on a port that the system picks, unless one is given, under
+    limits of the system, as ["-n 4"] for four descriptors, and with what the shell does to its streams, as "2>&-"."""
 
-    def __init__(self, count=None, port=0, limits=(), **options):
-        words = [PROGRAM, "serve", f"127.0.0.1:{port}"] + ([] if count is None else [str(count)])
-        if limits:
-            words = ["sh", "-c", "".join(f"ulimit {limit} && " for limit in limits) + 'exec "$@"', "sh", *words]
+    def __init__(self, count=None, port=0, limits=(), shell="", host="127.0.0.1", **options):
+        words = [PROGRAM, "serve", f"{host}:{port}"] + ([] if count is None else [str(count)])
+        if limits or shell:
+            words = ["sh", "-c", "".join(f"ulimit {limit} && " for limit in limits) + f'exec "$@" {shell}', "sh", *words]
         self.process = subprocess.Popen(words, stdout=subprocess.PIPE, text=True, **options)
         # it prints this line once it listens
         self.first_line = self.process.stdout.readline()
@@ -71,7 +74,7 @@ class Server:
 
     def place(self):
         host, port = self.addr.rsplit(":", 1)
-        return host, int(port)
+        return host.strip("[]"), int(port)
 
     def connect(self):
         return connected(self.place())
@@ -90,9 +93,15 @@ class Server:
         return self.process.stdout.read(), status
 
     def told(self, seconds):
-        """The next line on standard error, or nothing where none comes in time."""
-        ready, _, _ = select.select([self.process.stderr], [], [], seconds)
-        return self.process.stderr.readline() if ready else ""
+        """The next line on standard error, or what comes of it in time."""
+        line, descriptor = b"", self.process.stderr.fileno()
+        # one byte at a time, so that what comes behind the line isn't held here
+        while not line.endswith(b"\n") and select.select([descriptor], [], [], seconds)[0]:
+            byte = os.read(descriptor, 1)
+            if not byte:
+                break
+            line += byte
+        return line.decode()
 
     def descriptors(self):
         return len(os.listdir(f"/proc/{self.process.pid}/fd"))

@@ -1,4 +1,4 @@
-"""The small C library, loaded in front of the C library, that refuses growths (tests/shims/growths.c)."""
+"""The small C library, loaded before the C library, that refuses growths (tests/shims/growths.c)."""
 import os
 import shutil
 import subprocess

@@ -1,4 +1,4 @@
-/* Loaded in front of the C library, it refuses growths of a process: the one of a number, or some of them by chance.
+/* Loaded before the C library, it refuses growths of a process: the one of a number, or some of them by chance.
  *
  * REFUSED_GROWTH=N refuses the Nth growth, counted from 1. REFUSED_GROWTHS=P refuses about one in P of those behind
  * the first GROWTHS_BEFORE. Each refusal writes a byte to the file of the number GROWTHS_TELLER, where that is set. */

@@ -1,21 +1,34 @@
-/* What takes the server a minute takes it some seconds: a connection may be silent for two seconds in place of sixty, and a wait of a tenth of a
-   second is of five milliseconds. Other times stay as they are. */
+/* Time passes thirty times as fast: by the clock, in how long a socket waits for its client, and in waits. */
 #include <sys/socket.h>
 #include <sys/syscall.h>
 #include <sys/time.h>
 #include <time.h>
 #include <unistd.h>
 
+enum { TIMES = 30 };
+
+static long long nanos(const struct timespec *time) { return time->tv_sec * 1000000000LL + time->tv_nsec; }
+
+static struct timespec of_nanos(long long count) { return (struct timespec){count / 1000000000, count % 1000000000}; }
+
+int clock_gettime(clockid_t clock, struct timespec *now) {
+    int result = syscall(SYS_clock_gettime, clock, now);
+    if (result == 0 && clock == CLOCK_MONOTONIC) *now = of_nanos(nanos(now) * TIMES);
+    return result;
+}
+
 int setsockopt(int socket, int level, int option, const void *value, socklen_t length) {
-    struct timeval minute = {60, 0}, seconds = {2, 0};
-    const struct timeval *given = value;
-    int is_timeout = level == SOL_SOCKET && (option == SO_RCVTIMEO || option == SO_SNDTIMEO);
-    if (is_timeout && given->tv_sec == minute.tv_sec && given->tv_usec == minute.tv_usec) value = &seconds;
+    struct timeval shorter;
+    if (level == SOL_SOCKET && (option == SO_RCVTIMEO || option == SO_SNDTIMEO)) {
+        const struct timeval *given = value;
+        long long micros = (given->tv_sec * 1000000LL + given->tv_usec) / TIMES + 1;
+        shorter = (struct timeval){micros / 1000000, micros % 1000000};
+        value = &shorter;
+    }
     return syscall(SYS_setsockopt, socket, level, option, value, length);
 }
 
 int nanosleep(const struct timespec *asked, struct timespec *left) {
-    struct timespec short_wait = {0, 5000000};
-    int is_wait = asked->tv_sec == 0 && asked->tv_nsec == 100000000;
-    return syscall(SYS_nanosleep, is_wait ? &short_wait : asked, left);
+    struct timespec shorter = of_nanos(nanos(asked) / TIMES);
+    return syscall(SYS_nanosleep, &shorter, left);
 }

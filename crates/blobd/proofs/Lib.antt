@@ -2,3 +2,5 @@ pub mod OnceFacts
 pub mod PrintedTexts
 pub mod PushedLines
 pub mod ServedLines
+pub mod SizeTexts
+pub mod WordFacts

@@ -4,7 +4,7 @@ use Rattle.upload_service.specs.Machine.{empty_state, IsLawful}
 use Rattle.upload_service.specs.Run.{NeverBefore}
 use Rattle.upload_service.specs.Headline.{HeadlineHolds}
 use Rattle.upload_service.specs.declared.limits.Limits.{Limits}
-use Rattle.upload_wire.specs.States.{SourceState, SinkState}
+use Rattle.http_wire.specs.States.{SourceState, SinkState}
 use Rattle.upload_wire.specs.Conversation.{Exchange, IsConversation}
 use Rattle.upload_wire.specs.ConnectionRuns.{answered, service_exchanges, ConversationsRunTheService}
 use Rattle.upload_wire.specs.ServiceTurns.{StepsService}

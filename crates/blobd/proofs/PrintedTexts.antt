@@ -11,7 +11,7 @@ use Rattle.std.proofs.lemmas.List.Sums.{AllPass-from_list_all}
 use Rattle.std.proofs.lemmas.Str.{IsUtf8-from_ascii}
 use Rattle.std.proofs.lemmas.Str.Ascii.{IsAscii-from_all}
 use Rattle.upload_names.specs.Digest.{Digest, IsDigest, digest_text}
-use Rattle.upload_wire.proofs.PlainTexts.{IsTarget-plain, ascii_bytes, digest_plain}
+use Rattle.upload_texts.proofs.PlainTexts.{IsTarget-plain, ascii_bytes, digest_plain}
 use Rattle.blobd.specs.Pushed.{is_word, shown}
 
 -- the text of a digest

@@ -1,29 +1,45 @@
 -- What a server did, and the two lines that it prints.
-use Rattle.std.proofs.Common.{◌≡◌, ℕ, List, ◌++◌, arith, inl, inr, subst}
-use Rattle.std.specs.Prelude.{codes, Option, Some}
+use Rattle.std.proofs.Common.{◌≡◌, ℕ, List, ◌++◌, length, arith, inl, inr, subst}
+use Rattle.std.specs.Prelude.{codes, Option, Some, All, get_or}
 use Rattle.std.specs.Net.Text.{socket_text}
 use Rattle.std.specs.declared.net.socket_addr.SocketAddr.{SocketAddr}
-use Rattle.upload_wire.proofs.WritingLemmas.{appends_both}
+use Rattle.http_wire.proofs.WritingLemmas.{appends_both}
 use Rattle.upload_service.specs.Machine.{State, empty_state}
-use Rattle.upload_intake.specs.ServedPair.{IsServedPair}
+use Rattle.upload_intake.specs.declared.work.Worker.{Worker}
+use Rattle.upload_intake.specs.declared.work.WorkerEnd.{WorkerEnd}
+use Rattle.upload_intake.specs.ServedPool.{IsServedPool}
+use Rattle.upload_intake.specs.Transcripts.{GivesUnused}
 use Rattle.upload_intake.specs.Working.{Means}
+use Rattle.upload_intake.proofs.Transcripts.{connections_told}
 use Rattle.blobd.specs.Once.{program_limits}
 use Rattle.blobd.specs.Serving.{HasServed}
 use Rattle.blobd.specs.Status.{IsPrinted, IsServed, line}
 
--- a pair whose workers each took so many
-pub has_served : {C In Out S G M : Type 0} (m : Means C In Out S G) (tells : M → ℕ → M → Type 0) (count : ℕ) (start : State) (moments : M) (left right : C × (S × G)) (service : State)
-    (left_taken left_clean right_taken right_clean : ℕ) → start ≡ empty_state program_limits 0 → left_taken ≡ count → right_taken ≡ count
-    → IsServedPair m m tells start moments left right service (left_taken, left_clean) (right_taken, right_clean) → HasServed m tells count
-has_served m tells count start moments left right service left_taken left_clean right_taken right_clean new l r pair = record {
+-- a pool whose workers each took so many, and were given connections on which nothing was read or written
+tells_all : {C In Out S G M : Type 0} (m : Means C In Out S G) (tells : M → ℕ → M → Type 0) (number count : ℕ) (moments : M) (workers : List (Worker C S G)) (service : State)
+    (ends : List WorkerEnd) → length workers ≡ number → All (λ (end : WorkerEnd). end.conns ≡ count) ends → GivesUnused m
+    → IsServedPool m tells (record { service = empty_state program_limits 0; moments = moments; workers = workers }) (record { service = service; ends = ends })
+    → HasServed m tells number count
+tells_all m tells number count moments workers service ends numbered took unused pool = record {
   moments = moments;
-  left = left;
-  right = right;
+  workers = workers;
   service = service;
-  left_clean = left_clean;
-  right_clean = right_clean;
-  pair = subst (λ (x : State × (ℕ × ℕ)). IsServedPair m m tells x.0 moments left right service (x.1.0, left_clean) (x.1.1, right_clean)) (λ i. (new i, (l i, r i))) pair;
+  ends = ends;
+  numbered = numbered;
+  took = took;
+  pool = pool;
+  told = λ seat worker end within.
+      let worked = (pool.parts seat worker end within).worked in
+      connections_told m unused (empty_state program_limits 0).limits.max_body (get_or workers seat worker).conns _ _ worked.talks worked.served;
 }
+
+pub has_served : {C In Out S G M : Type 0} (m : Means C In Out S G) (tells : M → ℕ → M → Type 0) (number count : ℕ) (start : State) (moments : M) (workers : List (Worker C S G)) (service : State)
+    (ends : List WorkerEnd) → start ≡ empty_state program_limits 0 → length workers ≡ number → All (λ (end : WorkerEnd). end.conns ≡ count) ends
+    → IsServedPool m tells (record { service = start; moments = moments; workers = workers }) (record { service = service; ends = ends }) → GivesUnused m
+    → HasServed m tells number count
+has_served m tells number count start moments workers service ends new numbered took pool unused =
+    tells_all m tells number count moments workers service ends numbered took unused
+    (subst (λ (s : State). IsServedPool m tells (record { service = s; moments = moments; workers = workers }) (record { service = service; ends = ends })) new pool)
 
 pub served : (did : Type 0) → did → (before between after : Option (List ℕ)) (addr : SocketAddr) (listening result : ℕ) → listening ≡ 0
     → IsPrinted (Some (codes "listening " ++ socket_text addr)) before between 0 listening

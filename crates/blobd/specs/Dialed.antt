@@ -1,27 +1,27 @@
 -- What a push hears: what its connections say.
 use Rattle.std.specs.Prelude.{◌≡◌, ℕ, ◌⊎◌, false, true, List, [], Option, Some, None, ⊤, if◌then◌else◌}
 use Rattle.upload_service.specs.declared.ask.Ask.{Ask}
-use Rattle.upload_wire.specs.States.{SinkState}
-use Rattle.upload_wire.specs.declared.client.heard.Heard.{Heard}
-use Rattle.upload_wire.specs.TransportText.{WireState, AsksOverWire, stays_open}
+use Rattle.upload_client.specs.declared.heard.Heard.{Heard}
+use Rattle.upload_client.specs.TransportText.{WireState, AsksOverWire, stays_open}
 
--- a connection to a host over which nothing was asked: these bytes, where they are known, are what its server will send
-abbrev pub new_wire : List ℕ → Option (List ℕ) → SinkState → WireState
-new_wire host remaining writer = record {
+-- A connection to a host over which nothing was asked: nothing was read, nothing was written, and both transcripts are empty. What its
+-- server will send, and what its writer holds, are these bytes if they are known.
+abbrev pub new_wire : List ℕ → Option (List ℕ) → Option (List ℕ) → WireState
+new_wire host remaining contents = record {
   reader = record {
     held = [];
-    source = record { remaining = remaining; reads = 0; failed_reads = 0 };
+    source = record { given = []; ended = false; remaining = remaining; reads = 0; failed_reads = 0 };
     ended = false;
     keep = true;
   };
-  writer = writer;
+  writer = record { taken = []; contents = contents; writes = 0; failed_writes = 0; flushed = true };
   host = host;
   broken = false;
 }
 
 -- the connection was made just now
 abbrev pub IsNew : List ℕ → WireState → Type 0
-IsNew host wire = (remaining : Option (List ℕ)) × (writer : SinkState) × (wire ≡ new_wire host remaining writer)
+IsNew host wire = (remaining contents : Option (List ℕ)) × (wire ≡ new_wire host remaining contents)
 
 -- The connection for one ask: the one that was kept, or else a new one, or none where it can't be made.
 abbrev pub Connects : List ℕ → Option WireState → Option WireState → Type 0

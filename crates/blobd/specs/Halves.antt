@@ -1,10 +1,10 @@
 -- The two halves of a connection.
-use Rattle.std.specs.Prelude.{◌≡◌}
-use Rattle.std.specs.declared.net.tcp.TcpStream.{TcpStream}
-use Rattle.upload_wire.specs.FromRead.{FromRead}
-use Rattle.upload_wire.specs.ToWrite.{ToWrite}
+use Rattle.std.specs.Prelude.{◌≡◌, [], false}
+use Rattle.http_wire.specs.declared.bytes.FromRead.{FromRead}
+use Rattle.http_wire.specs.declared.bytes.ToWrite.{ToWrite}
 
--- nothing was read and nothing was written
-abbrev pub AreUnused : FromRead TcpStream → ToWrite TcpStream → Type 0
+-- nothing was read, and both transcripts are empty; nothing was written, nor waits for a flush
+abbrev pub AreUnused : {R W : Type 0} → FromRead R → ToWrite W → Type 0
 AreUnused reader writer =
-    (reader.reads.count ≡ 0) × (reader.failed_reads.count ≡ 0) × (writer.writes.count ≡ 0) × (writer.failed_writes.count ≡ 0)
+    (reader.given ≡ record { bytes = []; ended = false }) × (reader.reads.count ≡ 0) × (reader.failed_reads.count ≡ 0)
+    × (writer.taken.bytes ≡ []) × (writer.writes.count ≡ 0) × (writer.failed_writes.count ≡ 0) × (writer.unflushed.count ≡ 0)

@@ -1,8 +1,12 @@
 pub mod Dialed
 pub mod Halves
 pub mod Once
+pub mod Pace
 pub mod Pushed
 pub mod Serving
+pub mod Shown
+pub mod Size
 pub mod Status
+pub mod Trouble
 pub mod Waits
 pub mod Words

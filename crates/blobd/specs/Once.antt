@@ -4,7 +4,7 @@ use Rattle.upload_service.specs.declared.limits.Limits.{Limits}
 use Rattle.upload_service.specs.Machine.{empty_state}
 use Rattle.upload_service.specs.Run.{Run}
 use Rattle.upload_service.specs.Headline.{Headline}
-use Rattle.upload_wire.specs.States.{SourceState, SinkState}
+use Rattle.http_wire.specs.States.{SourceState, SinkState}
 use Rattle.upload_wire.specs.Conversation.{IsConversation}
 use Rattle.upload_wire.specs.ConnectionRuns.{answered, service_exchanges}
 use Rattle.upload_wire.specs.ServiceTurns.{StepsService}

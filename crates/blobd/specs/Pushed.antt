@@ -1,5 +1,5 @@
 -- What a push prints, and the exit status that goes with it.
-use Rattle.std.specs.Prelude.{◌≡◌, ℕ, nat_lt, Bool, ◌&&◌, ◌⊎◌, List, ◌++◌, length, codes, decimal, Result, Ok, Err, Option, Some, None, if◌then◌else◌}
+use Rattle.std.specs.Prelude.{◌≡◌, ℕ, nat_lt, Bool, ◌&&◌, true, false, ◌⊎◌, List, ◌++◌, length, codes, decimal, Result, Ok, Err, Option, Some, None, if◌then◌else◌}
 use Rattle.std.specs.List.{list_all}
 use Rattle.std.specs.Char.{is_ascii_graphic}
 use Rattle.std.specs.Io.KnownBytes.{Appends}
@@ -8,8 +8,10 @@ use Rattle.std.specs.declared.net.socket_addr.SocketAddr.{SocketAddr}
 use Rattle.upload_names.specs.Name.{IsName}
 use Rattle.upload_names.specs.Digest.{Digest, content_digest, digest_text}
 use Rattle.upload_names.specs.declared.digest.Algorithm.TheVariants.{Sha256}
-use Rattle.upload_wire.specs.declared.client.heard.Heard.{Heard}
-use Rattle.upload_wire.specs.TransportText.{WireState}
+use Rattle.upload_service.specs.declared.ask.Ask.TheVariants.{Has}
+use Rattle.upload_client.specs.declared.heard.Heard.{Heard}
+use Rattle.upload_client.specs.TransportText.{WireState}
+use Rattle.upload_push.specs.Looking.{is_found}
 use Rattle.upload_push.specs.Slices.{Push, IsPush, Leads, AreUnheard, push_of, log_of, after_all}
 use Rattle.upload_push.specs.declared.pusher.Outcome.{Outcome}
 use Rattle.upload_push.specs.declared.pusher.Outcome.TheVariants.{Pushed, Already}
@@ -54,27 +56,54 @@ IsEndLine digest (Ok outcome) before after status = IsPrinted (Some (outcome_wor
 IsEndLine digest (Err (faults.GaveUp why)) before after status = IsPrinted (Some (why_text why)) before after 1 status
 IsEndLine digest (Err faults.NoMemory) before after status = status ≡ 3
 
--- The push was sent to this host, and ended so: there is all that was heard, each over the connection that was kept or over a new one.
-abbrev pub IsSent : List ℕ → Push → Result Outcome PushFault → Type 0
-IsSent host p end = (last : Option WireState) × IsPush (AsksDialed host) p None last end
+-- The look before a push to this host: what was heard to a HEAD of the blob, over a connection that was made for it, and the connection
+-- that is kept behind it.
+pub record Look (host name : List ℕ) (digest : Digest) : Type 0 where
+  pub heard : Option Heard
+  pub kept : Option WireState
+  pub asked : AsksDialed host None (Has name digest true) heard kept
 
--- There is all that a push of this file under this name to this address heard, with 5 tries: its asks in turn went over the connection
--- that was kept or over a new one, and this was heard there. The line of that push's end was printed and nothing else.
-pub record IsPushLine (addr : SocketAddr) (name file : List ℕ) (chunk : ℕ) (before after : Option (List ℕ)) (status : ℕ) : Type 0 where
+-- Behind the look the push ended so: as already there if the blob was found; else there is all that it heard, each over the
+-- connection that was kept or over a new one.
+abbrev pub IsSentBehind : (host : List ℕ) (p : Push) → Look host p.name p.digest → Result Outcome PushFault → Type 0
+IsSentBehind host p look end =
+    ((is_found look.heard ≡ true) × (end ≡ Ok Already))
+    ⊎ ((is_found look.heard ≡ false) × ((last : Option WireState) × IsPush (AsksDialed host) p look.kept last end))
+
+-- The push was sent to this host behind a look, and ended so; or it ended out of memory.
+abbrev pub IsSent : List ℕ → Push → Result Outcome PushFault → Type 0
+IsSent host p end = ((look : Look host p.name p.digest) × IsSentBehind host p look end) ⊎ (end ≡ Err faults.NoMemory)
+
+-- The blob was found: its line was printed and nothing else.
+pub record IsFoundLine {host name : List ℕ} {digest : Digest} (look : Look host name digest) (before after : Option (List ℕ)) (status : ℕ) : Type 0 where
+  pub found : is_found look.heard ≡ true
+  pub is_status : status ≡ 0
+  pub printed : Appends before after (line (outcome_word Already ++ (codes " " ++ digest_text digest)))
+
+-- The blob wasn't found, and there is all that the push heard behind the look: its asks in turn went over the connection that was kept or
+-- over a new one, and this was heard there. The line of that push's end was printed and nothing else.
+pub record IsPushLine {host : List ℕ} (p : Push) (look : Look host p.name p.digest) (before after : Option (List ℕ)) (status : ℕ) : Type 0 where
+  pub missing : is_found look.heard ≡ false
   pub heard : List (Option Heard)
   pub last : Option WireState
-  pub over : Leads (AsksDialed (socket_text addr)) None (log_of (push_of Sha256 name file chunk 5) heard) last
+  pub over : Leads (AsksDialed host) look.kept (log_of p heard) last
   pub text : List ℕ
   -- where nothing was heard, as where no connection could be made, the line tells no status: it says that the tries are used up
   pub unheard : AreUnheard heard → (status ≡ 1) × (text ≡ why_text OutOfTries)
-  pub told : IsTold (content_digest Sha256 file) (after_all (push_of Sha256 name file chunk 5) heard).phase status text
+  pub told : IsTold p.digest (after_all p heard).phase status text
   pub printed : Appends before after (line text)
+
+-- A push to this host looked first, and the line of the blob that was found or of the push's end was printed.
+abbrev pub IsLookedLine : List ℕ → Push → Option (List ℕ) → Option (List ℕ) → ℕ → Type 0
+IsLookedLine host p before after status =
+    (look : Look host p.name p.digest) × (IsFoundLine look before after status ⊎ IsPushLine p look before after status)
 
 -- The name isn't one, and a line that says so was printed and nothing else, with status 1.
 abbrev pub IsNameLine : List ℕ → Option (List ℕ) → Option (List ℕ) → ℕ → Type 0
 IsNameLine name before after status = ¬ (IsName name) × (status ≡ 1) × Appends before after (line (codes "refused: name"))
 
--- The name isn't one, or the line of a push's end was printed, with its status; or the status is that of a fault.
+-- The name isn't one; or a file was pushed under it to this address with 5 tries, unless it was found there, and the line of that was printed,
+-- with its status; or the status is that of a fault.
 abbrev pub IsPushed : SocketAddr → List ℕ → List ℕ → ℕ → Option (List ℕ) → Option (List ℕ) → ℕ → Type 0
 IsPushed addr name file chunk before after status =
-    (IsNameLine name before after status ⊎ (IsName name × IsPushLine addr name file chunk before after status)) ⊎ (status ≡ 3)
+    (IsNameLine name before after status ⊎ (IsName name × IsLookedLine (socket_text addr) (push_of Sha256 name file chunk 5) before after status)) ⊎ (status ≡ 3)

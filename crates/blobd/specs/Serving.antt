@@ -1,17 +1,25 @@
--- What `blobd serve` did where it says that it served.
-use Rattle.std.specs.Prelude.{ℕ}
+-- What `blobd serve` did if it says that it served.
+use Rattle.std.specs.Prelude.{◌≡◌, ℕ, ◌<◌, List, length, All}
+use Rattle.std.specs.List.{AllByRecursion}
 use Rattle.upload_service.specs.Machine.{State, empty_state}
-use Rattle.upload_intake.specs.ServedPair.{IsServedPair}
+use Rattle.upload_intake.specs.declared.work.Worker.{Worker}
+use Rattle.upload_intake.specs.declared.work.WorkerEnd.{WorkerEnd}
+use Rattle.upload_intake.specs.ServedPool.{IsServedPool}
+use Rattle.upload_intake.specs.Transcripts.{TellsAll}
 use Rattle.upload_intake.specs.Working.{Means}
 use Rattle.blobd.specs.Once.{program_limits}
 
--- Two workers served their connections as one new service in one order, from how they were started to what is left; and each of them took
--- so many connections.
-pub record HasServed {C In Out S G M : Type 0} (m : Means C In Out S G) (tells : M → ℕ → M → Type 0) (count : ℕ) : Type 0 where
+-- So many workers served their connections as one new service in one order, from how they were started to what is left; and each of them
+-- took so many connections. All that the reads of a connection gave is what its conversation read, and all that its writes took is what its
+-- conversation wrote.
+pub record HasServed {C In Out S G M : Type 0} (m : Means C In Out S G) (tells : M → ℕ → M → Type 0) (number count : ℕ) : Type 0 where
   pub moments : M
-  pub left : C × (S × G)
-  pub right : C × (S × G)
+  pub workers : List (Worker C S G)
   pub service : State
-  pub left_clean : ℕ
-  pub right_clean : ℕ
-  pub pair : IsServedPair m m tells (empty_state program_limits 0) moments left right service (count, left_clean) (count, right_clean)
+  pub ends : List WorkerEnd
+  pub numbered : length workers ≡ number
+  pub took : All (λ (end : WorkerEnd). end.conns ≡ count) ends
+  pub pool : IsServedPool m tells (record { service = empty_state program_limits 0; moments = moments; workers = workers })
+      (record { service = service; ends = ends })
+  pub told : (seat : ℕ) (worker : Worker C S G) (end : WorkerEnd) (within : seat < length workers)
+      → AllByRecursion (TellsAll m (empty_state program_limits 0).limits.max_body) (pool.parts seat worker end within).worked.talks

@@ -1,10 +1,11 @@
 -- Commands, and the words that make them.
-use Rattle.std.specs.Prelude.{◌≡◌, ℕ, ◌≤◌, List, [], length, slice_index_or, codes, Option, Some, None}
+use Rattle.std.specs.Prelude.{◌≡◌, ℕ, ◌≤◌, ◌⊎◌, Bool, true, false, List, [], length, slice_index_or, codes, Option, Some, None}
 use Rattle.std.specs.Borrow.{Bor}
 use Rattle.std.specs.Str.Parse.{IsNumeral, digits_value}
 use Rattle.std.specs.Net.Grammar.{IsSocketText}
 use Rattle.blobd.specs.declared.words.Command.{Command}
-use Rattle.blobd.specs.declared.words.Command.TheVariants.{Once, Serve, Push}
+use Rattle.blobd.specs.declared.words.Command.TheVariants.{Once, Serve, Push, Help, Version}
+use Rattle.blobd.specs.Size.{IsSize}
 
 -- the word is one or more decimal digits, which write the number; it is from 1 to `most`
 abbrev pub IsCount : ℕ → List ℕ → ℕ → Type 0
@@ -19,12 +20,22 @@ abbrev pub AreServeWords : List (Bor (List ℕ)) → Option ℕ → Type 0
 AreServeWords words None = length words ≡ 2
 AreServeWords words (Some count) = (length words ≡ 3) × IsCount 1000000 (word_at words 2) count
 
+-- Behind `push`, an address, a name and a file no word follows, and the chunk has 16 MiB; or one does, and it writes its size.
+abbrev pub AreChunkWords : List (Bor (List ℕ)) → ℕ → Type 0
+AreChunkWords words chunk = ((length words ≡ 4) × (chunk ≡ 16777216)) ⊎ ((length words ≡ 5) × IsSize (word_at words 4) chunk)
+
 -- the words make the command
 abbrev pub Makes : List (Bor (List ℕ)) → Command → Type 0
 Makes words Once = (length words ≡ 1) × (word_at words 0 ≡ codes "once")
 Makes words (Serve addr count) =
     (word_at words 0 ≡ codes "serve") × IsSocketText (word_at words 1) addr × AreServeWords words count
 Makes words (Push addr name file chunk) =
-    (length words ≡ 5) × (word_at words 0 ≡ codes "push")
-    × IsSocketText (word_at words 1) addr × IsCount 2147483648 (word_at words 4) chunk
+    (word_at words 0 ≡ codes "push") × IsSocketText (word_at words 1) addr × AreChunkWords words chunk
     × (name.now ≡ word_at words 2) × (file.now ≡ word_at words 3)
+Makes words Help = (length words ≡ 1) × (word_at words 0 ≡ codes "--help")
+Makes words Version = (length words ≡ 1) × (word_at words 0 ≡ codes "--version")
+
+-- a switch is on by the text 1, and off by 0 or an empty text; any other text is none
+abbrev pub IsSwitch : List ℕ → Bool → Type 0
+IsSwitch text true = text ≡ codes "1"
+IsSwitch text false = (text ≡ codes "0") ⊎ (text ≡ [])

@@ -1,11 +1,18 @@
 //! The connections of a worker, as a listener accepts them.
-ghost use Rattle.std.specs.Prelude.{◌≡◌, ◌+◌, OnSome};
+ghost use Rattle.std.specs.Prelude.{◌≡◌, ◌+◌, IfOk, IfSome};
+ghost use Rattle.blobd.specs.Halves.{AreUnused};
 
-use crate::sockets::{Reader, Writer, close_politely, end_silence, split};
+use crate::closing::Closing;
+use crate::log_lines::LogLines;
+use crate::pace::Demand;
+use crate::paced::{Reader, Turn, Writer, halves};
 use crate::waits::{Step, step_behind};
+use std::alloc::{AllocError, Global};
 use std::io::{Eprint, ErrorKind};
 use std::net::{TcpListener, TcpStream};
 use std::rt::Clock;
+use std::sync::atomic::AtomicBool;
+use std::sync::{Arc, Wait};
 use std::time::Duration;
 use std::{io, thread};
 use upload_intake::Conns;
@@ -13,13 +20,15 @@ use upload_intake::Conns;
 /// How long a worker waits before it accepts again, in milliseconds.
 const WAIT_MILLIS: u64 = 100;
 
-/// On which terms a worker takes connections.
+/// On which terms a server takes connections.
 #[derive(Clone, Copy)]
 pub struct Terms {
-    /// How many it takes.
+    /// How many workers it has, each with a thread of its own.
+    pub workers: usize,
+    /// How many connections each of them takes.
     pub count: u64,
-    /// How long one may be silent, more than zero: its reads and writes that move no byte for so long fail.
-    pub silence: Duration,
+    /// What is asked of the client of each: one that is slower is cut.
+    pub demand: Demand,
     /// Whether each request is told on standard error.
     pub logged: bool,
 }
@@ -28,79 +37,137 @@ pub struct Terms {
 #[derive(Drop)]
 pub struct Accepted<'a, R> {
     rt: &'a R,
+    alloc: Global,
     listener: &'a TcpListener,
     /// How many more it takes.
     left: u64,
-    silence: Duration,
+    demand: Demand,
+    /// Whether the connection that is served was written to since it was read from.
+    turn: Turn,
     /// The connection that is served, or that waits for its halves. It is closed when the next one is asked for.
     stream: Option<TcpStream>,
+    /// Where it is closed then.
+    closing: Closing,
+    /// Where notices go if there is a log.
+    lines: Option<LogLines>,
+    /// Whether it was said that a connection can't be taken now.
+    is_told: bool,
 }
 
-impl<'a, R: Clock + Eprint> Accepted<'a, R> {
-    /// The next connections of a listener.
-    pub fn new(rt: &'a R, listener: &'a TcpListener, terms: Terms) -> Accepted<'a, R>
-        ensures { (result.left ≡ terms.count) × (result.silence ≡ terms.silence) }
+/// What is done behind an accept that failed so.
+fn step_after(error: &io::Error) -> Step {
+    step_behind(error.raw_os_error().map_or(0, i32::unsigned_abs))
+}
+
+impl<'a, R: Clock + Eprint + Wait> Accepted<'a, R> {
+    /// The next connections of a listener. An error is out of memory.
+    pub fn new(
+        rt: &'a R,
+        alloc: Global,
+        listener: &'a TcpListener,
+        terms: Terms,
+        closing: Closing,
+        lines: Option<LogLines>,
+    ) -> Result<Accepted<'a, R>, AllocError>
+        ensures { IfOk result (λ conns. (conns.left ≡ terms.count) × (conns.demand ≡ terms.demand)) }
     {
-        Accepted {
+        Ok(Accepted {
             rt,
+            alloc,
             listener,
             left: terms.count,
-            silence: terms.silence,
+            demand: terms.demand,
+            turn: Arc::new(alloc, AtomicBool::new(false))?,
             stream: None,
+            closing,
+            lines,
+            is_told: false,
+        })
+    }
+
+    /// Tells of an error on standard error. If there is a log, it is a line of that: no worker waits for who reads it.
+    fn tell(&mut self, what: &str, error: &io::Error)
+        ensures { self.new.left ≡ self.old.left }
+    {
+        let rt = self.rt;
+        let Some(lines) = &mut self.lines else {
+            // Nothing is promised of standard error.
+            let _ = eprintln!(rt; "blobd: a worker {what}: {error}");
+            return;
+        };
+        match format!(in self.alloc; "blobd: a worker {what}: {error}") {
+            Ok(text) => lines.send(rt, text),
+            Err(_) => lines.lose(),
         }
     }
 
-    /// Accepts a connection, unless one waits, and gives its halves. Where they can't be had, it waits for them.
-    fn try_accept(&mut self) -> io::Result<(Reader, Writer)> {
-        let stream = match self.stream.take() {
-            Some(stream) => stream,
-            None => self.listener.accept()?.0,
-        };
-        let halves = halves_of(&stream, self.silence);
-        self.stream = Some(stream);
-        halves
+    /// Waits a little behind this error. The first is told, and no other: nobody may read it.
+    fn wait(&mut self, error: &io::Error) {
+        if !self.is_told {
+            self.is_told = true;
+            self.tell("can't take a connection now, and goes on trying", error);
+        }
+        thread::sleep(self.rt, Duration::from_millis(WAIT_MILLIS));
     }
 
-    /// The same, over and over while what fails may pass.
-    fn accept(&mut self) -> io::Result<(Reader, Writer)> {
-        let mut waits = 0;
+    /// The next connection of the listener, however long that takes. An error says that the listener is none.
+    fn next_stream(&mut self) -> io::Result<TcpStream> {
         for _ in 0..u64::MAX {
-            let error = match self.try_accept() {
-                Ok(halves) => return Ok(halves),
+            let error = match self.listener.accept() {
+                Ok((stream, _)) => return Ok(stream),
                 Err(error) => error,
             };
-            let number = error.raw_os_error().map_or(0, i32::unsigned_abs);
-            match step_behind(number, waits) {
+            match step_after(&error) {
                 Step::PassOver => {}
-                Step::Wait => {
-                    waits += 1;
-                    thread::sleep(self.rt, Duration::from_millis(WAIT_MILLIS));
-                }
+                Step::Wait => self.wait(&error),
                 Step::Stop => return Err(error),
+            }
+        }
+        Err(io::Error::from(ErrorKind::TimedOut))
+    }
+
+    /// The halves of the next connection that can be served, which is kept. One that waits for its halves waits on while the
+    /// system lacks descriptors for them.
+    fn accept(&mut self) -> io::Result<(Reader<'a, R>, Writer<'a, R>)>
+        ensures { IfOk result (λ halves. AreUnused halves.0 halves.1) }
+    {
+        for _ in 0..u64::MAX {
+            let stream = match self.stream.take() {
+                Some(stream) => stream,
+                None => self.next_stream()?,
+            };
+            match halves(self.rt, &stream, &self.turn, self.demand) {
+                Ok(halves) => {
+                    self.stream = Some(stream);
+                    return Ok(halves);
+                }
+                Err(error) => {
+                    if step_after(&error) == Step::Wait {
+                        self.stream = Some(stream);
+                        self.wait(&error);
+                    }
+                }
             }
         }
         Err(io::Error::from(ErrorKind::TimedOut))
     }
 }
 
-fn halves_of(stream: &TcpStream, silence: Duration) -> io::Result<(Reader, Writer)> {
-    end_silence(stream, silence)?;
-    split(stream)
-}
+impl<'a, R: Clock + Eprint + Wait + Sync> Conns for Accepted<'a, R> {
+    type In = Reader<'a, R>;
 
-impl<'a, R: Clock + Eprint> Conns for Accepted<'a, R> {
-    type In = Reader;
+    type Out = Writer<'a, R>;
 
-    type Out = Writer;
-
-    // One fewer is left behind each that it gives. What a socket delivers is std's word.
-    ghost gives = { λ old given new. OnSome given (new.left + 1 ≡ old.left) };
+    // One fewer is left behind each that it gives, and on that nothing was read or written. What a socket delivers is
+    // std's word.
+    ghost gives = { λ old given new. IfSome given (λ halves.
+        (new.left + 1 ≡ old.left) × AreUnused halves.0 halves.1) };
 
     /// Closes the connection before, and waits for the next one. None where as many as were asked for are served, or
     /// where one couldn't be taken, which is told on standard error.
-    fn next_conn(&mut self) -> Option<(Reader, Writer)> {
+    fn next_conn(&mut self) -> Option<(Reader<'a, R>, Writer<'a, R>)> {
         if let Some(stream) = self.stream.take() {
-            close_politely(self.rt, stream);
+            self.closing.close(self.rt, stream);
         }
         let left = self.left.checked_sub(1)?;
         let accepted = self.accept();
@@ -108,8 +175,7 @@ impl<'a, R: Clock + Eprint> Conns for Accepted<'a, R> {
         match accepted {
             Ok(halves) => Some(halves),
             Err(error) => {
-                // Nothing is promised of standard error.
-                let _ = eprintln!(self.rt; "blobd: a worker takes no more connections: {error}");
+                self.tell("takes no more connections", &error);
                 None
             }
         }

@@ -1,34 +1,51 @@
 //! The program: the blob upload part of an image registry.
 //!
 //!     blobd once                  one connection over standard input and output, over a new service
-//!     blobd serve ADDR [COUNT]    listens; two workers take COUNT connections each, or all that come
-//!     blobd push ADDR NAME FILE CHUNK
+//!     blobd serve ADDR [COUNT]    listens; each worker takes COUNT connections, or all that come
+//!     blobd push ADDR NAME FILE [CHUNK]
 //!                                 pushes a file in chunks, connecting again after a fault
+//!     blobd --help, blobd --version
 #![tactic(auto)]
 
-ghost use Rattle.std.specs.Prelude.{◌≤◌};
+ghost use Rattle.std.specs.Prelude.{◌≡◌, ◌≤◌, IfOk};
 
 mod accept;
 mod bar;
+mod closing;
+mod connection;
 mod dialer;
+mod help;
 mod limits;
+mod log_lines;
 mod once;
+mod pace;
+mod paced;
 mod push;
 mod request_log;
 mod serve;
+mod shown;
+mod size;
 mod sockets;
 mod status;
+mod streams;
 #[cfg(test)]
 mod tests;
+mod trouble;
 mod waits;
 mod words;
 
 use crate::accept::Terms;
+use crate::help::{HELP, VERSION};
 use crate::once::run_once;
+use crate::pace::Demand;
 use crate::push::run_push;
 use crate::serve::run_serve;
-use crate::status::{FAULT, print_line};
-use crate::words::{Command, USAGE, read_words};
+use crate::size::is_slow;
+use crate::status::{DONE, FAULT, print_line};
+use crate::streams::hold_standard_streams;
+use crate::words::{Command, USAGE, read_switch, read_words, read_workers};
+use http_wire::{FromRead, ToWrite};
+use std::env::VarError;
 use std::fs::Files;
 use std::io::{Eprint, ErrorKind, IsTerminal};
 use std::net::{Net, SocketAddr, TcpListener, TcpStream};
@@ -37,9 +54,7 @@ use std::random::RandomSource;
 use std::rt::Clock;
 use std::sync::Wait;
 use std::thread::Threads;
-use std::time::Duration;
 use std::{env, fs, io};
-use upload_wire::{FromRead, ToWrite};
 
 /// The exit status where the words are no command.
 const NO_COMMAND: u8 = 2;
@@ -47,11 +62,20 @@ const NO_COMMAND: u8 = 2;
 /// The most bytes of a file that is pushed.
 const LARGEST_FILE: usize = 1_099_511_627_776;
 
-/// How long a connection that is served may be silent, in seconds.
-const SILENCE_SECONDS: u64 = 60;
+/// What is asked of a client: 60 KiB in each minute in which it is waited for.
+const DEMAND: Demand = Demand {
+    window: 60_000_000,
+    least: 61_440,
+};
 
 /// The variable of the environment that is 1 where a server is to log its requests.
 const LOG: &str = "BLOBD_LOG";
+
+/// The variable of the environment that says how many workers a server has.
+const WORKERS: &str = "BLOBD_WORKERS";
+
+/// How many it has without that.
+const USUAL_WORKERS: usize = 2;
 
 /// More connections than ever come.
 const ENDLESS: u64 = u64::MAX;
@@ -67,6 +91,12 @@ fn serve_input(rt: &HostRuntime) -> u8 {
     run_once(rt.alloc(), &mut reader, &mut writer)
 }
 
+/// Says what may stand in the variable, and gives the exit status.
+fn print_workers_usage(rt: &HostRuntime) -> u8 {
+    let _ = eprintln!(rt; "blobd: {WORKERS} is a number from 1 to 256");
+    NO_COMMAND
+}
+
 /// Tells somebody who looks on how a server is stopped.
 fn print_stop<R: Eprint>(rt: &R, seen: bool) {
     if seen {
@@ -74,17 +104,14 @@ fn print_stop<R: Eprint>(rt: &R, seen: bool) {
     }
 }
 
-fn listen<R>(rt: &R, addr: SocketAddr, count: Option<u64>, seen: bool, logged: bool) -> u8
+fn listen<R>(rt: &R, addr: SocketAddr, terms: Terms, seen: bool) -> u8
 where
-    R: Threads + Wait + Sync + AllocGlobal + Clock + RandomSource + Print + Eprint,
+    R: Threads + Wait + Sync + Copy + Send + 'static,
+    R: AllocGlobal + Clock + RandomSource + Print + Eprint,
     R: Net<Listener = TcpListener, Stream = TcpStream>,
+    requires { 1 ≤ terms.workers }
 {
     let mut out = io::writer(rt);
-    let terms = Terms {
-        count: count.unwrap_or(ENDLESS),
-        silence: Duration::from_secs(SILENCE_SECONDS),
-        logged,
-    };
     match TcpListener::bind(rt, addr) {
         Ok(listener) => {
             print_stop(rt, seen);
@@ -97,6 +124,13 @@ where
     }
 }
 
+/// Tells whoever pushes that the chunks are small.
+fn print_slow<R: Eprint>(rt: &R, chunk: u64) {
+    let _ = eprintln!(rt;
+        "blobd: chunks of {chunk} bytes make a slow push, since each is a request: 16M is a good CHUNK"
+    );
+}
+
 fn push_file<R>(rt: &R, addr: SocketAddr, name: &str, path: &str, chunk: u64, seen: bool) -> u8
 where
     R: AllocGlobal + Clock + Files + Print + Eprint + Net<Stream = TcpStream>,
@@ -105,6 +139,9 @@ where
     let mut out = io::writer(rt);
     let fault = match fs::read(rt, path) {
         Ok(file) if file.len() <= LARGEST_FILE => {
+            if is_slow(chunk, file.len() as u64) {
+                print_slow(rt, chunk);
+            }
             return run_push(rt, addr, name.as_bytes(), &file, chunk, seen, &mut out);
         }
         Ok(_) => io::Error::from(ErrorKind::FileTooLarge),
@@ -119,16 +156,59 @@ fn args_of(rt: &HostRuntime) -> io::Result<Vec<String>> {
     Ok(env::args(rt)?.skip(1).collect::<Vec<String>>(rt.alloc())?)
 }
 
-/// Whether a server is to log its requests: the environment says so.
-fn wants_log(rt: &HostRuntime) -> bool {
+fn print_no_memory(rt: &HostRuntime) -> u8 {
+    print_line(&mut io::writer(rt), "fault: memory", FAULT)
+}
+
+/// Says what may stand in the variable, and gives the exit status.
+fn print_no_switch(rt: &HostRuntime) -> u8 {
+    let _ = eprintln!(rt; "blobd: {LOG} is 1 to log requests, or 0, or not set");
+    NO_COMMAND
+}
+
+/// Whether a server is to log its requests: the environment says so. An error is the exit status if it says neither yes
+/// nor no, or out of memory.
+fn wants_log(rt: &HostRuntime) -> Result<bool, u8> {
     match env::var(rt, LOG) {
-        Ok(value) => value.as_str() == "1",
-        Err(_) => false,
+        Ok(value) => match read_switch(&value) {
+            Some(is_on) => Ok(is_on),
+            None => Err(print_no_switch(rt)),
+        },
+        Err(VarError::NotPresent) => Ok(false),
+        Err(VarError::NotUnicode) => Err(print_no_switch(rt)),
+        Err(VarError::OutOfMemory) => Err(print_no_memory(rt)),
     }
 }
 
-fn print_no_memory(rt: &HostRuntime) -> u8 {
-    print_line(&mut io::writer(rt), "fault: memory", FAULT)
+/// How many workers a server has, as the environment says. An error is the exit status if it says anything else, or out of
+/// memory.
+fn workers_of(rt: &HostRuntime) -> Result<usize, u8>
+    ensures { IfOk result (λ workers. 1 ≤ workers) }
+{
+    match env::var(rt, WORKERS) {
+        Ok(value) => match read_workers(value.as_str()) {
+            Some(workers) => Ok(workers as usize),
+            None => Err(print_workers_usage(rt)),
+        },
+        Err(VarError::NotPresent) => Ok(USUAL_WORKERS),
+        Err(VarError::NotUnicode) => Err(print_workers_usage(rt)),
+        Err(VarError::OutOfMemory) => Err(print_no_memory(rt)),
+    }
+}
+
+/// The terms of a server, as its words and the environment say. An error is the exit status if the environment says what
+/// can't be read.
+fn terms_of(rt: &HostRuntime, count: Option<u64>) -> Result<Terms, u8>
+    ensures { IfOk result (λ terms. 1 ≤ terms.workers) }
+{
+    let workers = workers_of(rt)?;
+    let logged = wants_log(rt)?;
+    Ok(Terms {
+        workers,
+        count: count.unwrap_or(ENDLESS),
+        demand: DEMAND,
+        logged,
+    })
 }
 
 /// Says why there are no words, and gives the exit status. Words that aren't UTF-8 are no command.
@@ -139,7 +219,16 @@ fn print_no_args(rt: &HostRuntime, error: &io::Error) -> u8 {
     }
 }
 
+/// Says that the numbers of the closed standard streams can't be held, and gives the exit status.
+fn print_no_streams(rt: &HostRuntime, error: &io::Error) -> u8 {
+    let _ = eprintln!(rt; "blobd: can't open /dev/null in place of a closed stream: {error}");
+    print_line(&mut io::writer(rt), "fault: streams", FAULT)
+}
+
 fn main(rt: HostRuntime) -> ExitCode {
+    if let Err(error) = hold_standard_streams(&rt) {
+        return ExitCode::from(print_no_streams(&rt, &error));
+    }
     let args = match args_of(&rt) {
         Ok(args) => args,
         Err(error) => return ExitCode::from(print_no_args(&rt, &error)),
@@ -155,7 +244,12 @@ fn main(rt: HostRuntime) -> ExitCode {
     let seen = rt.stderr().is_terminal();
     ExitCode::from(match read_words(&words) {
         Some(Command::Once) => serve_input(&rt),
-        Some(Command::Serve { addr, count }) => { listen(&rt, addr, count, seen, wants_log(&rt)) }
+        Some(Command::Serve { addr, count }) => match terms_of(&rt, count) {
+            Ok(terms) => listen(&rt, addr, terms, seen),
+            Err(status) => status,
+        },
+        Some(Command::Help) => print_line(&mut io::writer(&rt), HELP, DONE),
+        Some(Command::Version) => print_line(&mut io::writer(&rt), VERSION, DONE),
         Some(
             Command::Push {
                 addr,

@@ -4,11 +4,10 @@ ghost use Rattle.blobd.specs.Once.{IsOnce, status_of};
 
 use crate::limits::limits;
 use crate::status::{DONE, FAULT, REFUSED};
+use http_wire::{ByteSink, ByteSource};
 use std::alloc::Global;
 use upload_service::{Service, headline_holds};
-use upload_wire::{
-    ByteSink, ByteSource, ConnEnd, ServiceDesk, connections_run_the_service, serve_connection,
-};
+use upload_wire::{ConnEnd, ServiceDesk, connections_run_the_service, serve_connection};
 
 /// The exit status of a connection's end: 0 where the client ended it, 1 where the service did, 3 after a fault.
 fn status_of(end: ConnEnd) -> u8

@@ -1,5 +1,5 @@
 //! `blobd push`: a file goes up, over connections that are made anew after a fault.
-ghost use Rattle.std.specs.Prelude.{length, ◌≡◌, ◌≤◌, ◌^◌, ◌++◌, codes, string_bytes, Some};
+ghost use Rattle.std.specs.Prelude.{length, ◌≡◌, ◌≤◌, ◌^◌, ◌++◌, codes, string_bytes, None, Some};
 ghost use Rattle.upload_names.specs.Digest.{content_digest, digest_text};
 ghost use Rattle.upload_names.specs.declared.digest.Algorithm.{Algorithm};
 ghost use Rattle.upload_push.specs.Slices.{push_under};
@@ -9,12 +9,15 @@ ghost use Rattle.blobd.specs.Pushed.{IsEndLine, IsPushed, IsSent, outcome_word, 
 use crate::bar::Bar;
 use crate::dialer::{Dialer, is_word};
 use crate::status::{DONE, FAULT, REFUSED, print_line};
+use crate::trouble::{Course, NAME_RULE, Trouble, reason_of};
 use sha2::{Digest, Sha256};
+use std::alloc::Global;
+use std::cell::Cell;
 use std::io::{Eprint, Write};
 use std::net::{Net, SocketAddr, TcpStream};
 use std::rt::Clock;
 use upload_names::{BlobDigest, Bytes, NameFault, RepoName};
-use upload_push::{Outcome, PushFault, Why, push_under};
+use upload_push::{Outcome, PushFault, Why, has_blob, push_under};
 
 /// How often a push may go on after a request whose reply wasn't heard.
 const TRIES: u32 = 5;
@@ -93,42 +96,58 @@ fn hash_file<R: Clock + Eprint>(file: &[u8], bar: &mut Bar<'_, R>) -> BlobDigest
     BlobDigest::of_hashed(hash)
 }
 
-/// Sends a file under its digest to the server at `addr`, and says how that ended. The bar shows how much the server has, and
-/// is cleared.
+/// Pushes a file under its digest over a dialer, unless the repository has the blob already, and says how that ended.
 fn send<R>(
-    rt: &R,
-    addr: SocketAddr,
-    host: String,
+    dialer: &mut Dialer<'_, R>,
+    alloc: Global,
     name: &RepoName,
     file: &[u8],
     chunk: u64,
     digest: BlobDigest,
-    bar: Bar<'_, R>,
 ) -> Result<Outcome, PushFault>
 where
-    R: Net<Stream = TcpStream> + AllocGlobal + Clock + Eprint,
+    R: Net<Stream = TcpStream> + Clock + Eprint,
     requires size { length file.now ≤ 2 ^ 40 }
     requires chunk { (1 ≤ chunk) × (chunk ≤ 2 ^ 31) }
-    ensures { IsSent (string_bytes host) (push_under digest name.now file.now chunk 5) result }
+    requires unconnected { dialer.old.wire ≡ None }
+    ensures { IsSent (string_bytes dialer.old.host)
+        (push_under digest name.now file.now chunk 5) result }
 {
-    let mut bar = bar;
-    bar.begin("sending");
-    let mut dialer = Dialer::new(rt, rt.alloc(), addr, host, bar);
-    let ended = push_under(rt.alloc(), &mut dialer, file, name, chunk, TRIES, digest);
-    dialer.into_bar().clear();
-    ended
+    match has_blob(alloc, dialer, name, digest) {
+        Ok(true) => Ok(Outcome::Already),
+        Ok(false) => push_under(alloc, dialer, file, name, chunk, TRIES, digest),
+        Err(_) => Err(PushFault::NoMemory),
+    }
 }
 
-/// Pushes a file's bytes under a repository's name to the server at `addr`, in chunks of at most `chunk` bytes. Prints
-/// one line, and gives the exit status:
+/// Prints that a name is none, and on standard error what one is; gives the exit status.
+fn refuse_name<R: Eprint, W: Write>(rt: &R, out: &mut W) -> u8
+    ensures { IsPrinted (Some (codes "refused: name"))
+        (W.contents out.old) (W.contents out.new) 1 result }
+{
+    // Nothing is promised of standard error.
+    let _ = eprintln!(rt; "blobd: {NAME_RULE}");
+    print_line(out, "refused: name", REFUSED)
+}
+
+/// Tells on standard error why a push was given up, if its line says too little. Nothing is promised of it.
+fn tell_why<R: Eprint>(rt: &R, addr: SocketAddr, why: &Why, course: Course, trouble: Trouble) {
+    if let Some(reason) = reason_of(why, course, trouble) {
+        let _ = eprintln!(rt; "blobd: can't push to {addr}: {reason}");
+    }
+}
+
+/// Pushes a file's bytes under a repository's name to the server at `addr`, in chunks of at most `chunk` bytes, unless the
+/// repository has the blob already. Prints one line, and gives the exit status:
 ///
-/// - `pushed` or `already` and the digest, 0: what each is worth is said at [`push`];
+/// - `pushed` or `already` and the digest, 0: what each is worth is said at [`push`]. `already` comes too if a HEAD before
+///   the push was answered 200: then nothing is sent;
 /// - `refused: name` where `name` isn't one, and nothing is sent; `refused:` and the status and the error code of the
 ///   reply that ended the push; `refused: bad server` after a reply that no such service gives; `refused: out of
 ///   tries` after too many asks that weren't heard; 1;
 /// - `fault: memory`, 3; and 3 where the line can't be printed.
 ///
-/// Where standard error is a terminal, and so `seen`, a bar stands there meanwhile.
+/// Standard error says more of what was refused. If it is a terminal, and so `seen`, a bar stands there meanwhile.
 pub fn run_push<R, W>(
     rt: &R,
     addr: SocketAddr,
@@ -148,14 +167,22 @@ where
     let name = match RepoName::read(rt.alloc(), name) {
         Ok(name) => name,
         Err(NameFault::NoMemory) => return print_line(out, "fault: memory", FAULT),
-        Err(NameFault::NotAName) => return print_line(out, "refused: name", REFUSED),
-        Err(NameFault::TooLong) => return print_line(out, "refused: name", REFUSED),
+        Err(NameFault::NotAName) => return refuse_name(rt, out),
+        Err(NameFault::TooLong) => return refuse_name(rt, out),
     };
     let Ok(host) = format!(in rt.alloc(); "{addr}") else {
         return print_line(out, "fault: memory", FAULT);
     };
     let mut bar = Bar::new(rt, file.len() as u64, seen);
     let digest = hash_file(file, &mut bar);
-    let ended = send(rt, addr, host, &name, file, chunk, digest, bar);
+    bar.begin("sending");
+    let trouble = Cell::new(Trouble::NoReply);
+    let mut dialer = Dialer::new(rt, rt.alloc(), addr, host, &trouble, bar);
+    let ended = send(&mut dialer, rt.alloc(), &name, file, chunk, digest);
+    let (course, mut bar) = dialer.into_parts();
+    bar.clear();
+    if let Err(PushFault::GaveUp(why)) = &ended {
+        tell_why(rt, addr, why, course, trouble.get());
+    }
     print_end(out, ended, digest)
 }

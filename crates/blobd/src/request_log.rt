@@ -1,49 +1,48 @@
 //! A log of requests: a line for each reply, on standard error.
-ghost use Rattle.std.specs.Prelude.{◌≡◌};
+ghost use Rattle.std.specs.Prelude.{◌≡◌, is_some};
 
+use crate::log_lines::LogLines;
+use crate::shown::shown_request;
 use std::alloc::Global;
-use std::io::Eprint;
 use std::marker::Model;
 use std::rt::Clock;
 use std::str;
+use std::sync::Wait;
 use std::time::Instant;
 use upload_intake::Gate;
 use upload_service::{Answer, Ask};
 
-/// The most bytes that are shown of a method, and of a target: a line is one write, which a pipe takes whole.
-const MOST_SHOWN: usize = 1_000;
-
-/// The log of one worker. Each line is one write, so that those of two workers don't mix. What a write answers is nothing to
-/// the requests. Contracts see whether anything is logged, and nothing of what is.
+/// The log of one worker. No request waits for its line to be written. Contracts see whether anything is logged, and nothing
+/// of what is.
 #[derive(Drop)]
 pub struct RequestLog<'a, R> {
     rt: &'a R,
     alloc: Global,
-    /// Whether anything is logged.
-    is_on: bool,
+    /// Where lines go, where any are wanted.
+    lines: Option<LogLines>,
     /// The method and the target of the head that came last; none where it can't be read, or there was no memory for them.
-    line: Option<String>,
+    line: Option<Vec<u8>>,
     /// Since when; none where the clock couldn't be read.
     heard: Option<Instant>,
 }
 
 impl<'a, R> Model for RequestLog<'a, R> {
-    ghost use Rattle.std.specs.Prelude.{Bool};
+    ghost use Rattle.std.specs.Prelude.{Bool, is_some};
 
     ghost Value = { Bool };
 
-    ghost view = { λ log. log.is_on };
+    ghost view = { λ log. is_some log.lines };
 }
 
-impl<'a, R: Clock + Eprint> RequestLog<'a, R> {
-    /// A log of requests to come, where one is wanted.
-    pub fn new(rt: &'a R, alloc: Global, is_on: bool) -> RequestLog<'a, R>
-        ensures { result ≡ is_on }
+impl<'a, R: Clock + Wait> RequestLog<'a, R> {
+    /// A log of requests to come, where there is a place for its lines.
+    pub fn new(rt: &'a R, alloc: Global, lines: Option<LogLines>) -> RequestLog<'a, R>
+        ensures { result ≡ is_some lines }
     {
         RequestLog {
             rt,
             alloc,
-            is_on,
+            lines,
             line: None,
             heard: None,
         }
@@ -60,18 +59,32 @@ impl<'a, R: Clock + Eprint> RequestLog<'a, R> {
         }
     }
 
-    /// Writes the line of a request, or of what was none, that got this reply.
-    fn print(&self, status: u16, size: u64) {
+    /// The line of a request, or of what was none, that got this reply. None: there is no memory for it.
+    fn text(&self, status: u16, size: u64) -> Option<String> {
         let line = match &self.line {
-            Some(line) => line.as_str(),
+            Some(line) => str::from_utf8(line).unwrap_or("-"),
             None => "-",
         };
         let millis = self.millis();
-        let _ = eprintln!(self.rt; "{line} {status} {size} {millis}ms");
+        format!(in self.alloc; "{line} {status} {size} {millis}ms").ok()
+    }
+
+    /// Hands on the line of a request that got this reply.
+    fn print(&mut self, status: u16, size: u64)
+        ensures { self.new ≡ self.old }
+    {
+        let rt = self.rt;
+        let text = self.text(status, size);
+        if let Some(lines) = &mut self.lines {
+            match text {
+                Some(text) => lines.send(rt, text),
+                None => lines.lose(),
+            }
+        }
     }
 }
 
-impl<'a, R: Clock + Eprint> Gate for RequestLog<'a, R> {
+impl<'a, R: Clock + Wait> Gate for RequestLog<'a, R> {
     ghost watches = { λ old turn notice new. new ≡ old };
 
     fn before_ask(&mut self, _turn: u64, _ask: &Ask) {}
@@ -79,29 +92,23 @@ impl<'a, R: Clock + Eprint> Gate for RequestLog<'a, R> {
     fn after_answer(&mut self, _turn: u64, _answer: &Answer) {}
 
     fn hears(&mut self, method: &[u8], target: &[u8]) {
-        if self.is_on {
+        if self.lines.is_some() {
             self.line = line_of(self.alloc, method, target);
             self.heard = Instant::now(self.rt).ok();
         }
     }
 
     fn replied(&mut self, status: u16, size: u64) {
-        if self.is_on {
+        if self.lines.is_some() {
             self.print(status, size);
         }
     }
 }
 
-/// The method and the target of a request, as they came, or the front of what is long. None: its head can't be read.
-fn line_of(alloc: Global, method: &[u8], target: &[u8]) -> Option<String> {
+/// The method and the target of a request, as a log shows them. None: its head can't be read, or there is no memory for them.
+fn line_of(alloc: Global, method: &[u8], target: &[u8]) -> Option<Vec<u8>> {
     if method.is_empty() {
         return None;
     }
-    let method = str::from_utf8(front(method)).ok()?;
-    let target = str::from_utf8(front(target)).ok()?;
-    format!(in alloc; "{method} {target}").ok()
-}
-
-fn front(text: &[u8]) -> &[u8] {
-    &text[..text.len().min(MOST_SHOWN)]
+    shown_request(alloc, method, target).ok()
 }

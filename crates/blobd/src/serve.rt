@@ -1,14 +1,17 @@
-//! `blobd serve`: a listener, and two workers that take connections from it.
-ghost use Rattle.std.specs.Prelude.{◌≡◌, true, None, IfOk};
+//! `blobd serve`: a listener, and the workers that take connections from it.
+ghost use Rattle.std.specs.Prelude.{◌≡◌, ◌<◌, ◌≤◌, true, [], All, None, IfOk, OnOk, is_some, vec_len, vec_capacity};
 ghost use Rattle.upload_intake.specs.Working.{means};
 ghost use Rattle.blobd.specs.Serving.{HasServed};
 ghost use Rattle.blobd.specs.Status.{IsServed};
 
 use crate::accept::{Accepted, Terms};
+use crate::closing::Closer;
 use crate::limits::limits;
+use crate::log_lines::{Log, LogLines};
+use crate::paced::{Reader, Writer};
 use crate::request_log::RequestLog;
-use crate::sockets::{Reader, Writer};
 use crate::status::{DONE, FAULT, print_line};
+use http_wire::{ByteSink, ByteSource};
 use rand::rngs::StdRng;
 use std::alloc::Global;
 use std::io;
@@ -20,10 +23,13 @@ use std::sync::Wait;
 use std::thread::Threads;
 use std::time::Instant;
 use upload_intake::{
-    Conns, DrawnSecrets, Gate, Moments, Pair, Secrets, ServeFault, Worker, serve_pair,
+    Conns, DrawnSecrets, Gate, Moments, Secrets, ServeFault, Worker, WorkerEnd, serve_workers,
 };
 use upload_service::Service;
-use upload_wire::{ByteSink, ByteSource};
+
+/// How many bytes an upload leaves free: so many that what is stored is still handed out. A list of the parts of the
+/// largest blob takes 2 MiB, and the C library takes memory from the system by 1 MiB or 2.
+const SLACK: usize = 4_194_304;
 
 /// Secrets of the system's random numbers.
 type SystemSecrets = DrawnSecrets<StdRng>;
@@ -54,78 +60,215 @@ fn system_secrets<R: RandomSource>(rt: &R) -> io::Result<SystemSecrets> {
     Ok(DrawnSecrets::new(rand::make_rng(rt)?))
 }
 
-/// Whether each worker took all of its connections.
-fn took_all(pair: &Pair, count: u64) -> bool
-    ensures { result ≡ true → (pair.now.left.conns ≡ count) × (pair.now.right.conns ≡ count) }
+/// A worker of the listener.
+type ListenerWorker<'a, R> = Worker<Accepted<'a, R>, SystemSecrets, RequestLog<'a, R>>;
+
+/// Why there are no workers.
+#[derive(Clone, Copy, Debug, Drop, PartialEq, Eq)]
+enum Lack {
+    /// A generator of secrets can't be made.
+    Secrets,
+    /// The log's thread can't be made, or there is no memory for its lines.
+    Log,
+    /// There is no memory for them.
+    Memory,
+}
+
+impl Lack {
+    /// What is printed of it.
+    fn line(self) -> &'static str {
+        match self {
+            Lack::Secrets => "fault: random",
+            Lack::Log => "fault: log",
+            Lack::Memory => "fault: workers",
+        }
+    }
+}
+
+/// A log, if one is wanted.
+fn start_log<R>(rt: &R, alloc: Global, logged: bool) -> Result<Option<Log>, Lack>
+where
+    R: Threads + Wait + Eprint + Copy + Send + 'static,
+    ensures { IfOk result (λ log. is_some log ≡ logged) }
 {
-    pair.left.conns == count && pair.right.conns == count
+    if !logged {
+        return Ok(None);
+    }
+    match Log::start(rt, alloc) {
+        Some(log) => Ok(Some(log)),
+        None => Err(Lack::Log),
+    }
+}
+
+/// A place for the lines of a worker, if there is a log.
+fn lines_of(log: &Option<Log>) -> Result<Option<LogLines>, Lack>
+    ensures { IfOk result (λ lines. is_some lines ≡ is_some log.now) }
+{
+    match log {
+        Some(log) => match log.lines() {
+            Ok(lines) => Ok(Some(lines)),
+            Err(_) => Err(Lack::Log),
+        },
+        None => Ok(None),
+    }
+}
+
+/// Waits until the log is written, if there is one; for two seconds at most.
+fn finish_log<R: Wait + Clock>(rt: &R, log: Option<Log>) {
+    if let Some(log) = log {
+        log.finish(rt);
+    }
+}
+
+/// The next connections of a worker.
+fn conns_of<'a, R>(
+    rt: &'a R,
+    listener: &'a TcpListener,
+    terms: Terms,
+    log: &Option<Log>,
+    closer: &Closer,
+) -> Result<Accepted<'a, R>, Lack>
+where
+    R: AllocGlobal + Clock + Eprint + Wait,
+{
+    let lines = lines_of(log)?;
+    let Ok(closing) = closer.place() else {
+        return Err(Lack::Memory);
+    };
+    match Accepted::new(rt, rt.alloc(), listener, terms, closing, lines) {
+        Ok(conns) => Ok(conns),
+        Err(_) => Err(Lack::Memory),
+    }
+}
+
+/// A worker, with secrets of its own. It takes connections once it is served.
+fn make_worker<'a, R>(
+    rt: &'a R,
+    listener: &'a TcpListener,
+    terms: Terms,
+    log: &Option<Log>,
+    closer: &Closer,
+) -> Result<ListenerWorker<'a, R>, Lack>
+where
+    R: AllocGlobal + Clock + RandomSource + Eprint + Wait,
+    ensures { IfOk result (λ worker. worker.gate ≡ is_some log.now) }
+{
+    let Ok(secrets) = system_secrets(rt) else {
+        return Err(Lack::Secrets);
+    };
+    let conns = conns_of(rt, listener, terms, log, closer)?;
+    let lines = lines_of(log)?;
+    Ok(Worker {
+        conns,
+        secrets,
+        gate: RequestLog::new(rt, rt.alloc(), lines),
+    })
+}
+
+/// So many workers go where there is room for them.
+fn make_workers<'a, R>(
+    rt: &'a R,
+    listener: &'a TcpListener,
+    terms: Terms,
+    log: &Option<Log>,
+    closer: &Closer,
+    workers: &mut Vec<ListenerWorker<'a, R>>,
+) -> Result<(), Lack>
+where
+    R: AllocGlobal + Clock + RandomSource + Eprint + Wait,
+    requires none { vec_len workers.old ≡ 0 }
+    requires room { terms.workers ≤ vec_capacity workers.old }
+    ensures { OnOk result (vec_len workers.new ≡ terms.workers) }
+{
+    for number in 0..terms.workers {
+        let worker = make_worker(rt, listener, terms, log, closer)?;
+        workers.push_reserved(worker);
+    }
+    Ok(())
+}
+
+/// Whether each worker took all of its connections.
+fn took_all(ends: &Vec<WorkerEnd>, count: u64) -> bool
+    ensures { result ≡ true → All (λ end. end.conns ≡ count) ends.now.items }
+{
+    for at in 0..ends.len() {
+        if ends[at].conns != count {
+            return false;
+        }
+    }
+    true
 }
 
 /// How the workers ended: `Ok(true)` where each took all of its connections, and `Ok(false)` where one couldn't be taken.
-fn serve_workers<'a, R>(
+fn serve_all<'a, R>(
     rt: &'a R,
     alloc: Global,
-    listener: &'a TcpListener,
+    workers: Vec<ListenerWorker<'a, R>>,
     terms: Terms,
-    left: SystemSecrets,
-    right: SystemSecrets,
 ) -> Result<bool, ServeFault>
 where
     R: Threads + Wait + Sync + Clock + Eprint,
+    requires some { 0 < vec_len workers }
+    requires number { vec_len workers ≡ terms.workers }
     ensures { IfOk result (λ done. done ≡ true → HasServed
-        (means ⟦<Accepted<'a, R> as Conns>⟧.gives ⟦<Reader as ByteSource>⟧.state ⟦<Writer as ByteSink>⟧.state
+        (means ⟦<Accepted<'a, R> as Conns>⟧.gives ⟦<Reader<'a, R> as ByteSource>⟧.state ⟦<Writer<'a, R> as ByteSink>⟧.state
         ⟦<SystemSecrets as Secrets>⟧.draws ⟦<RequestLog<'a, R> as Gate>⟧.watches)
-        ⟦<SinceStart<'a, R> as Moments>⟧.tells terms.count) }
+        ⟦<SinceStart<'a, R> as Moments>⟧.tells terms.workers terms.count) }
 {
-    let worker = |secrets: SystemSecrets| Worker {
-        conns: Accepted::new(rt, listener, terms),
-        secrets,
-        gate: RequestLog::new(rt, alloc, terms.logged),
-    };
     let mut moments = SinceStart {
         rt,
         start: Instant::now(rt).ok(),
     };
-    let service = Service::new(alloc, limits());
-    let pair = serve_pair(
-        rt,
-        alloc,
-        service,
-        worker(left),
-        worker(right),
-        &mut moments,
-    )?;
-    Ok(took_all(&pair, terms.count))
+    let mut service = Service::new(alloc, limits());
+    service.keep_free(SLACK);
+    let pool = serve_workers(rt, alloc, service, workers, &mut moments)?;
+    Ok(took_all(&pool.ends, terms.count))
 }
 
-/// Serves a listener: two workers take connections on these terms. Prints `listening` and the local address, and `served`
-/// after the last connection; gives the exit status.
+/// Serves a listener: so many workers take connections on these terms. Prints `listening` and the local address, and
+/// `served` after the last connection; gives the exit status.
+///
+/// Before it returns, the last connections are closed, for which it waits six seconds at most, and the lines of a log that
+/// still wait are written, for which it waits two.
 ///
 /// A fault is printed in place of the line that would come next, and has status 3: `fault: listen` where the local
-/// address can't be told, `fault: random` where a generator of secrets can't be made, `fault: workers` where the workers
-/// couldn't be started (once a worker that was started has ended, which it does behind the first request that comes to it),
-/// and `fault: accept` where a worker couldn't take a connection, once the other worker has ended too; that one is told on
-/// standard error at once. A line that can't be printed ends the program with status 3.
+/// address can't be told, `fault: log` where a log is wanted and its thread can't be made or its lines find no memory,
+/// `fault: random` where a generator of secrets can't be made, `fault: workers` where the workers couldn't be started (once
+/// those that were started have ended, which each does behind the first request that comes to it), and `fault: accept`
+/// where a worker couldn't take a connection, once the others have ended too; that one is told on standard error at once.
+/// A line that can't be printed ends the program with status 3.
 pub fn run_serve<'a, R, W>(rt: &'a R, listener: &'a TcpListener, terms: Terms, out: &mut W) -> u8
 where
-    R: Threads + Wait + Sync + AllocGlobal + Clock + RandomSource + Eprint,
+    R: Threads + Wait + Sync + AllocGlobal + Clock + RandomSource + Eprint + Copy + Send + 'static,
     W: Write,
+    requires { 0 < terms.workers }
     ensures { IsServed (HasServed
-        (means ⟦<Accepted<'a, R> as Conns>⟧.gives ⟦<Reader as ByteSource>⟧.state ⟦<Writer as ByteSink>⟧.state
+        (means ⟦<Accepted<'a, R> as Conns>⟧.gives ⟦<Reader<'a, R> as ByteSource>⟧.state ⟦<Writer<'a, R> as ByteSink>⟧.state
         ⟦<SystemSecrets as Secrets>⟧.draws ⟦<RequestLog<'a, R> as Gate>⟧.watches)
-        ⟦<SinceStart<'a, R> as Moments>⟧.tells terms.count)
+        ⟦<SinceStart<'a, R> as Moments>⟧.tells terms.workers terms.count)
         (W.contents out.old) (W.contents out.new) result }
 {
     let Ok(addr) = listener.local_addr() else {
         return print_line(out, "fault: listen", FAULT);
     };
-    let (Ok(left), Ok(right)) = (system_secrets(rt), system_secrets(rt)) else {
-        return print_line(out, "fault: random", FAULT);
+    let Ok(mut workers) = Vec::with_capacity(rt.alloc(), terms.workers) else {
+        return print_line(out, "fault: workers", FAULT);
     };
+    let log = match start_log(rt, rt.alloc(), terms.logged) {
+        Ok(log) => log,
+        Err(lack) => return print_line(out, lack.line(), FAULT),
+    };
+    let closer = Closer::start(rt, rt.alloc());
+    if let Err(lack) = make_workers(rt, listener, terms, &log, &closer, &mut workers) {
+        return print_line(out, lack.line(), FAULT);
+    }
     if print_line(out, format_args!("listening {addr}"), DONE) != DONE {
         return FAULT;
     }
-    match serve_workers(rt, rt.alloc(), listener, terms, left, right) {
+    let served = serve_all(rt, rt.alloc(), workers, terms);
+    closer.finish(rt);
+    finish_log(rt, log);
+    match served {
         Ok(true) => print_line(out, "served", DONE),
         Ok(false) => print_line(out, "fault: accept", FAULT),
         Err(_) => print_line(out, "fault: workers", FAULT),
@@ -135,10 +278,10 @@ where
 #[cfg(test)]
 mod tests {
     use super::*;
+    use crate::pace::Demand;
     use std::io::Read;
     use std::net::TcpStream;
     use std::test::Fail;
-    use std::time::Duration;
 
     const OPENING: &[u8] =
         b"POST /v2/lib/a/blobs/uploads/ HTTP/1.1\r\nContent-Length: 0\r\nConnection: close\r\n\r\n";
@@ -149,11 +292,17 @@ mod tests {
         Ok(reply)
     }
 
-    /// A connection for each worker, which may be silent for a fifth of a second.
-    fn terms() -> Terms {
+    /// A connection for each worker, whose client has to move a byte in each fifth of a second.
+    fn terms() -> Terms
+        ensures { 0 < result.workers }
+    {
         Terms {
+            workers: 2,
             count: 1,
-            silence: Duration::from_millis(200),
+            demand: Demand {
+                window: 200_000,
+                least: 1,
+            },
             logged: false,
         }
     }

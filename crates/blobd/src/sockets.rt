@@ -1,21 +1,14 @@
-//! Connections over TCP: small writes leave at once, and a close lets the peer read the last reply.
-
-ghost use Rattle.std.specs.Prelude.{◌≡◌, IfOk, IsErr};
+//! Connections over TCP: a silent one is ended, and a close lets the peer read the last reply.
+ghost use Rattle.std.specs.Prelude.{◌≡◌, ◌≢◌, IfErr, IsErr};
 ghost use Rattle.std.specs.Duration.{as_nanos};
-ghost use Rattle.blobd.specs.Halves.{AreUnused};
+ghost use Rattle.std.specs.Io.{ReadsAtMost};
+ghost use Rattle.std.specs.IoError.{error_kind};
 
 use std::io;
-use std::io::Read;
+use std::io::{ErrorKind, Read};
 use std::net::{Shutdown, TcpStream};
 use std::rt::Clock;
 use std::time::{Duration, Instant};
-use upload_wire::{FromRead, ToWrite};
-
-/// What is read from a connection.
-pub type Reader = FromRead<TcpStream>;
-
-/// What is written to it.
-pub type Writer = ToWrite<TcpStream>;
 
 /// How long a close waits for a peer that sends nothing, in milliseconds.
 const SILENCE_MILLIS: u64 = 500;
@@ -29,17 +22,23 @@ const LINGER_ROOM: usize = 16_384;
 /// More reads than fit in that time.
 const LINGER_READS: u64 = 100_000_000;
 
-/// The two halves of a stream. What is written leaves as it is written: a head and a small body are one write.
-///
-/// An error comes where the system has no further handle for the stream.
-pub fn split(stream: &TcpStream) -> io::Result<(Reader, Writer)>
-    ensures { IfOk result (λ halves. AreUnused halves.0 halves.1) }
-{
-    // A peer that has gone already can make this fail; the reads and writes will tell.
-    let _ = stream.set_nodelay(true);
-    let reader = stream.try_clone()?;
-    let writer = stream.try_clone()?;
-    Ok((FromRead::new(reader), ToWrite::new(writer)))
+/// A socket whose reads are made again where a signal interrupted them.
+#[derive(Drop)]
+struct Resumed(TcpStream);
+
+impl Read for Resumed {
+    fn read(&mut self, buf: &mut [u8]) -> io::Result<usize>
+        ensures bound { ReadsAtMost result buf.new }
+        ensures resumed { IfErr result (λ error. error_kind error ≢ ErrorKind.Interrupted) }
+    {
+        for _ in 0..u64::MAX {
+            match self.0.read(buf) {
+                Err(error) if error.kind() == ErrorKind::Interrupted => {}
+                read => return read,
+            }
+        }
+        Err(io::Error::from(ErrorKind::TimedOut))
+    }
 }
 
 /// Ends the reads and writes of a connection that move no byte for as long as `silence`, which is more than zero: they fail.
@@ -58,9 +57,10 @@ pub fn close_politely<R: Clock>(rt: &R, stream: TcpStream) {
     let _ = drain(rt, stream);
 }
 
-fn drain<R: Clock>(rt: &R, mut stream: TcpStream) -> io::Result<()> {
+fn drain<R: Clock>(rt: &R, stream: TcpStream) -> io::Result<()> {
     stream.shutdown(Shutdown::Write)?;
     stream.set_read_timeout(Some(Duration::from_millis(SILENCE_MILLIS)))?;
+    let mut stream = Resumed(stream);
     let begun = Instant::now(rt)?;
     let mut room = [0u8; LINGER_ROOM];
     for _ in 0..LINGER_READS {

@@ -2,6 +2,7 @@
 ghost use Rattle.std.specs.Thread.{IsSync};
 
 use crate::accept::Terms;
+use crate::pace::Demand;
 use crate::push::run_push;
 use crate::serve::run_serve;
 use std::io::{Eprint, Read, Write};
@@ -13,6 +14,9 @@ use std::test::Fail;
 use std::thread::{Threads, join};
 use std::time::Duration;
 use std::{io, thread};
+
+/// How long the windows are in which a client has to move its bytes, in microseconds.
+const SECOND: u64 = 1_000_000;
 
 /// A line, and the exit status.
 type Printed = (Vec<u8>, u8);
@@ -26,14 +30,18 @@ where
     (out, status)
 }
 
-fn served<R>(rt: &R, listener: &TcpListener, silence: Duration) -> Printed
+fn served<R>(rt: &R, listener: &TcpListener, least: u64) -> Printed
 where
-    R: Threads + Wait + Sync + AllocGlobal + Clock + RandomSource + Eprint,
+    R: Threads + Wait + Sync + AllocGlobal + Clock + RandomSource + Eprint + Copy + Send + 'static,
 {
     let mut out = Vec::new(rt.alloc());
     let terms = Terms {
+        workers: 2,
         count: 1,
-        silence,
+        demand: Demand {
+            window: SECOND,
+            least,
+        },
         logged: false,
     };
     let status = run_serve(rt, listener, terms, &mut out);
@@ -50,13 +58,16 @@ where
         + Clock
         + RandomSource
         + Eprint
+        + Copy
+        + Send
+        + 'static
         + Net<Stream = TcpStream>,
 {
     join(
         rt,
         || -> Printed
             requires { IsSync R.row }
-        { served(rt, listener, Duration::from_secs(60)) },
+        { served(rt, listener, 0) },
         || -> (Printed, Printed)
             requires { IsSync R.row }
         {
@@ -112,11 +123,12 @@ where
     Ok(reply)
 }
 
-/// What a server prints whose clients may be silent for a second, and the replies to two that send slowly.
+/// What a server prints of whose clients so many bytes are asked in each second, and the replies to two that send slowly.
 fn slow_replies<R>(
     rt: &R,
     listener: &TcpListener,
     addr: SocketAddr,
+    least: u64,
 ) -> (Printed, [io::Result<Vec<u8>>; 2])
 where
     R: Threads
@@ -126,29 +138,47 @@ where
         + Clock
         + RandomSource
         + Eprint
+        + Copy
+        + Send
+        + 'static
         + Net<Stream = TcpStream>,
 {
     join(
         rt,
         || -> Printed
             requires { IsSync R.row }
-        { served(rt, listener, Duration::from_secs(1)) },
+        { served(rt, listener, least) },
         || -> [io::Result<Vec<u8>>; 2]
             requires { IsSync R.row }
         { [opened_slowly(rt, addr), opened_slowly(rt, addr)] },
     )
 }
 
-/// A request that takes longer than a client may be silent, and isn't silent for so long, is served.
+/// A request that takes longer than a second, and of which enough comes in each, is served.
 #[test]
 fn a_slow_client_is_served(rt: HostRuntime) -> Result<(), Fail> {
     let any: SocketAddr = "127.0.0.1:0".parse()?;
     let listener = TcpListener::bind(&rt, any)?;
     let addr = listener.local_addr()?;
-    let (server, replies) = slow_replies(&rt, &listener, addr);
+    let (server, replies) = slow_replies(&rt, &listener, addr, 20);
     assert_eq!(rt; server.1, 0);
     for reply in replies {
         assert!(rt; reply?.starts_with(b"HTTP/1.1 202 Accepted\r\n"));
+    }
+    Ok(())
+}
+
+/// A client that is never silent for a tenth of a second, and sends less than is asked in a second, gets no reply.
+#[test]
+fn a_client_that_is_too_slow_is_cut(rt: HostRuntime) -> Result<(), Fail> {
+    let any: SocketAddr = "127.0.0.1:0".parse()?;
+    let listener = TcpListener::bind(&rt, any)?;
+    let addr = listener.local_addr()?;
+    let (server, replies) = slow_replies(&rt, &listener, addr, 200);
+    assert_eq!(rt; server.1, 0);
+    for reply in replies {
+        // The system may reset a connection that is cut.
+        assert!(rt; reply.map_or(true, |text| text.is_empty()));
     }
     Ok(())
 }

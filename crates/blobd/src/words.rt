@@ -1,8 +1,9 @@
 //! The words of the command line.
-ghost use Rattle.std.specs.Prelude.{ℕ, MatchOption};
+ghost use Rattle.std.specs.Prelude.{ℕ, Bool, MatchOption};
 ghost use Rattle.std.specs.Net.Grammar.{IsSocketText};
-ghost use Rattle.blobd.specs.Words.{IsCount, Makes};
+ghost use Rattle.blobd.specs.Words.{IsCount, IsSwitch, Makes};
 
+use crate::size::{USUAL_CHUNK, read_size};
 use std::net::SocketAddr;
 
 /// What is printed on standard error where the words are no command.
@@ -11,19 +12,23 @@ pub const USAGE: &str = "usage: blobd once | serve ADDR COUNT | push ADDR NAME F
 /// The most connections that one worker serves.
 const MOST_CONNECTIONS: u64 = 1_000_000;
 
-/// The largest chunk, in bytes.
-const LARGEST_CHUNK: u64 = 2_147_483_648;
+/// The most workers of a server.
+const MOST_WORKERS: u64 = 256;
 
 /// A command. Texts are those of the words.
 #[derive(Debug, PartialEq, Eq, Drop)]
 pub enum Command<'w> {
     /// One connection over standard input and output.
     Once,
-    /// Two workers, each of which takes `count` connections at `addr`, or all that come where there is no count.
+    /// Workers, each of which takes `count` connections at `addr`, or all that come where there is no count.
     Serve {
         addr: SocketAddr,
         count: Option<u64>,
     },
+    /// Prints what the commands are.
+    Help,
+    /// Prints the version.
+    Version,
     /// Pushes `file` in chunks of at most `chunk` bytes into the repository `name` of the server at `addr`.
     Push {
         addr: SocketAddr,
@@ -47,6 +52,13 @@ fn read_count(word: &str, most: u64) -> Option<u64>
     }
 }
 
+/// How many workers a server has, where the environment says so: from 1 to 256.
+pub fn read_workers(value: &str) -> Option<u64>
+    ensures { MatchOption result ((number : ℕ) → ¬ (IsCount 256 value.now number)) (IsCount 256 value.now) }
+{
+    read_count(value, MOST_WORKERS)
+}
+
 /// The IP address and port that a word writes.
 fn read_addr(word: &str) -> Option<SocketAddr>
     ensures { MatchOption result ((addr : SocketAddr) → ¬ (IsSocketText word.now addr)) (IsSocketText word.now) }
@@ -55,6 +67,7 @@ fn read_addr(word: &str) -> Option<SocketAddr>
 }
 
 /// The command that the words behind the program's name make, or `None` where they make none. Nothing is opened.
+#[tactic(auto, using(crate::proofs::WordFacts::no_size))]
 pub fn read_words<'w>(words: &[&'w str]) -> Option<Command<'w>>
     ensures { MatchOption result ((command : Command) → ¬ (Makes words.now command)) (Makes words.now) }
 {
@@ -68,12 +81,32 @@ pub fn read_words<'w>(words: &[&'w str]) -> Option<Command<'w>>
             addr: read_addr(addr)?,
             count: Some(read_count(count, MOST_CONNECTIONS)?),
         }),
+        ["push", addr, name, file] => Some(Command::Push {
+            addr: read_addr(addr)?,
+            name,
+            file,
+            chunk: USUAL_CHUNK,
+        }),
         ["push", addr, name, file, chunk] => Some(Command::Push {
             addr: read_addr(addr)?,
             name,
             file,
-            chunk: read_count(chunk, LARGEST_CHUNK)?,
+            chunk: read_size(chunk)?,
         }),
+        ["--help"] => Some(Command::Help),
+        ["--version"] => Some(Command::Version),
+        _ => None,
+    }
+}
+
+/// What a variable of the environment that is a switch says: on if it is `1`, off if it is `0` or empty. `None`: it says
+/// neither.
+pub fn read_switch(value: &str) -> Option<bool>
+    ensures { MatchOption result ((on : Bool) → ¬ (IsSwitch value.now on)) (IsSwitch value.now) }
+{
+    match value {
+        "1" => Some(true),
+        "0" | "" => Some(false),
         _ => None,
     }
 }
@@ -123,7 +156,29 @@ mod tests {
                 chunk: 2_147_483_648
             })
         );
+        let usual = read_words(&["push", "127.0.0.1:5000", "A", ""]);
+        assert_eq!(rt;
+            usual,
+            Some(Command::Push {
+                addr,
+                name,
+                file,
+                chunk: 16_777_216
+            })
+        );
+        assert_eq!(rt; read_words(&["--help"]), Some(Command::Help));
+        assert_eq!(rt; read_words(&["--version"]), Some(Command::Version));
         Ok(())
+    }
+
+    #[test]
+    fn numbers_of_workers(rt: HostRuntime) {
+        assert_eq!(rt; read_workers("1"), Some(1));
+        assert_eq!(rt; read_workers("016"), Some(16));
+        assert_eq!(rt; read_workers("256"), Some(256));
+        for value in ["", "0", "257", "+2", "-1", " 2", "2 ", "two", "2.0"] {
+            assert_eq!(rt; read_workers(value), None, "{value}");
+        }
     }
 
     #[test]
@@ -142,7 +197,8 @@ mod tests {
             assert_eq!(rt; read_words(&["serve", addr, "1"]), None, "{addr}");
             assert_eq!(rt; read_words(&["serve", addr]), None, "{addr}");
         }
-        for chunk in ["0", "2147483649", "-1"] {
+        assert_eq!(rt; read_words(&["--help", "push"]), None);
+        for chunk in ["0", "2147483649", "-1", "3G", "1k"] {
             assert_eq!(rt;
                 read_words(&["push", "127.0.0.1:0", "a", "f", chunk]),
                 None,

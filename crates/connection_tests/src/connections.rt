@@ -11,6 +11,7 @@ mod server;
 mod stored;
 
 use crate::expect::{holds, same, same_bytes};
+use http_wire::{ByteSink, ByteSource};
 use memory_ends::{MemorySink, MemorySource};
 use rows::{
     AFTER_NINE, BAD_LENGTH, BAD_VERSION, BLOB_LIMIT, BODY_LIMIT, CHUNKED, CHUNKED_LIMIT, CLOSED,
@@ -21,7 +22,7 @@ use std::process::Abort;
 use std::test::Fail;
 use stored::whole_upload;
 use upload_service::{Answer, Ask, Limits, Service};
-use upload_wire::{ByteSink, ByteSource, ConnEnd, ConnFault, Desk, ServiceDesk, serve_connection};
+use upload_wire::{ConnEnd, ConnFault, Desk, ServiceDesk, serve_connection};
 
 const LIMITS: Limits = Limits {
     max_blob: 17_179_869_184,

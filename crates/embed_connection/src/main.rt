@@ -5,10 +5,11 @@
 ghost use Rattle.upload_wire.specs.Conversation.{IsConversation};
 ghost use Rattle.embed_connection.specs.Counting.{StepsAndCounts};
 
+use http_wire::{ByteSink, ByteSource, FromRead, ToWrite};
 use std::alloc::Global;
 use std::io;
 use upload_service::{Answer, Ask, Limits, Service};
-use upload_wire::{ByteSink, ByteSource, ConnEnd, Desk, FromRead, ToWrite, serve_connection};
+use upload_wire::{ConnEnd, Desk, serve_connection};
 
 const LIMITS: Limits = Limits {
     max_blob: 1 << 30,

@@ -114,16 +114,6 @@ front_after (c ∷ chunks) text each front =
           (chunk_more c ((chunks_text chunks ++ text) ++ f.more) f.body is f.chunked);
     }
 
--- a whole body, behind chunks
-pub chunked_after : (chunks : List Chunk) (text body : List ℕ) → All IsChunk chunks → IsChunked text body
-    → IsChunked (chunks_text chunks ++ text) (chunks_data chunks ++ body)
-chunked_after [] text body each h = h
-chunked_after (c ∷ chunks) text body each h =
-    let more = chunk_more c (chunks_text chunks ++ text) (chunks_data chunks ++ body) (All-head IsChunk c chunks each)
-    (chunked_after chunks text body (All-tail IsChunk c chunks each) h) in
-    subst (λ t. IsChunked t ((c.data_bytes ++ chunks_data chunks) ++ body)) (sym (append_assoc (print_chunk c) (chunks_text chunks) text))
-    (subst (λ b. IsChunked (print_chunk c ++ (chunks_text chunks ++ text)) b) (sym (append_assoc c.data_bytes (chunks_data chunks) body)) more)
-
 -- ---- the limit
 
 -- a chunk that fits is no part of what takes the sum over the limit

@@ -22,9 +22,6 @@ unfolding padding
 length-padding zero = refl
 length-padding (suc n) = ap suc (length-padding n)
 
-last_text : List ℕ
-last_text = 48 ∷ 13 ∷ 10 ∷ 13 ∷ 10 ∷ []
-
 zero_size : IsSize (48 ∷ [])
 zero_size = record { some = omega arith; few = omega arith; hex = AllPass-from_list_all is_ascii_hexdigit (48 ∷ []) refl }
 
@@ -114,11 +111,3 @@ under_line max front (Ended value) h over =
     let same : h.digits ++ 13 ∷ [] ≡ l.0 ++ 13 ∷ (10 ∷ l.1) = sym h.cut ∙ l.3 in
     let tail = (stops_at h.digits l.0 [] (10 ∷ l.1) 13 h.size.hex l.2.hex refl same).2 in
     absurd (cc)
-
--- a line that stands is short
-pub line_short : (front : List ℕ) (state : LineState) → StandsAt front state → length front ≤ 9
-line_short front (Digits count value) h = let few = h.few in omega (arith, few)
-line_short front (Ended value) h =
-    let few = h.size.few in
-    let len = ap length h.cut in
-    omega (arith, few, len, length-append h.digits (13 ∷ []))

@@ -6,14 +6,14 @@ use Rattle.http_wire.specs.declared.writing.WriteFault.{WriteFault}
 use Rattle.http_wire.specs.States.{SinkState}
 use Rattle.http_wire.specs.Writing.{TookFront, Wrote}
 use Rattle.http_wire.specs.Inner.Gathering.{Held, GatheredUnless, Gathered}
-use Rattle.http_wire.proofs.WritingLemmas.{appends_none, wrote_more}
+use Rattle.http_wire.proofs.WritingLemmas.{takes_none, wrote_more}
 
 pub took_less : (a b : SinkState) (text more : List ℕ) → TookFront a b text → TookFront a b (text ++ more)
 took_less a b text more f = record {
   front = f.front;
   back = f.back ++ more;
   cut = ap (λ t. t ++ more) f.cut ∙ append_assoc f.front f.back more;
-  grown = f.grown;
+  takes = f.takes;
   failed = f.failed;
 }
 
@@ -62,4 +62,4 @@ end_failed start now held text more e f h =
 -- a gatherer that has nothing yet
 pub gathered_none : (start : SinkState) (held : Held) → held ≡ record { bytes = []; failed = false } → Gathered start start held []
 gathered_none start held e =
-    subst (λ h. Gathered start start h []) (sym e) ([], record { grown = appends_none start.contents; unfailed = refl }, refl)
+    subst (λ h. Gathered start start h []) (sym e) ([], record { takes = takes_none start; unfailed = refl }, refl)

@@ -4,7 +4,7 @@ use Rattle.std.specs.Prelude.{Option, Some, None}
 use Rattle.std.proofs.lemmas.List.{append-nil}
 use Rattle.std.specs.Io.KnownBytes.{Consumes, Keeps}
 use Rattle.http_wire.specs.States.{SourceState}
-use Rattle.http_wire.specs.Reading.{Gave}
+use Rattle.http_wire.specs.Reading.{Gives, Gave}
 
 pub consumes_none : (known : Option (List ℕ)) → Consumes known known []
 consumes_none None = tt
@@ -21,17 +21,26 @@ consumes_both (Some s) None c xs ys h k = absurd h
 consumes_both (Some s) (Some t) None xs ys h k = absurd k
 consumes_both (Some s) (Some t) (Some u) xs ys h k = h ∙ ap (λ r. xs ++ r) k ∙ sym (append_assoc xs ys u)
 
+pub gives_none : (known : SourceState) → Gives known known []
+gives_none known = record { told = sym (append-nil known.given); consumed = consumes_none known.remaining }
+
+pub gives_both : (a b c : SourceState) (xs ys : List ℕ) → Gives a b xs → Gives b c ys → Gives a c (xs ++ ys)
+gives_both a b c xs ys h k = record {
+  told = k.told ∙ ap (λ t. t ++ ys) h.told ∙ append_assoc a.given xs ys;
+  consumed = consumes_both a.remaining b.remaining c.remaining xs ys h.consumed k.consumed;
+}
+
 pub gave_none : (known : SourceState) (text : List ℕ) → Gave known known text text
-gave_none known text = record { given = []; consumed = consumes_none known.remaining; joined = sym (append-nil text) }
+gave_none known text = record { given = []; gives = gives_none known; joined = sym (append-nil text) }
 
 -- the same text, cut in another way
 pub gave_as : {a b : SourceState} {s t u : List ℕ} → u ≡ t → Gave a b s t → Gave a b s u
-gave_as e g = record { given = g.given; consumed = g.consumed; joined = e ∙ g.joined }
+gave_as e g = record { given = g.given; gives = g.gives; joined = e ∙ g.joined }
 
 pub gave_both : (a b c : SourceState) (s t u : List ℕ) → Gave a b s t → Gave b c t u → Gave a c s u
 gave_both a b c s t u g h = record {
   given = g.given ++ h.given;
-  consumed = consumes_both a.remaining b.remaining c.remaining g.given h.given g.consumed h.consumed;
+  gives = gives_both a b c g.given h.given g.gives h.gives;
   joined = h.joined ∙ ap (λ r. r ++ h.given) g.joined ∙ append_assoc s g.given h.given;
 }
 
@@ -40,6 +49,6 @@ pub gave_after : (a b c : SourceState) (s front t u : List ℕ) → Gave a b s (
 gave_after a b c s front t u g h =
     gave_both a b c s (front ++ t) (front ++ u) g (record {
       given = h.given;
-      consumed = h.consumed;
+      gives = h.gives;
       joined = ap (λ r. front ++ r) h.joined ∙ sym (append_assoc front t h.given);
     })

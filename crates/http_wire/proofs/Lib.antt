@@ -1,6 +1,7 @@
 pub mod BufferLemmas
 pub mod GaveLemmas
 pub mod WritingLemmas
+pub mod TranscriptLemmas
 pub mod GatherLemmas
 pub mod HeadTextLemmas
 pub mod HeadLemmas

@@ -61,15 +61,6 @@ never_ninth front b count value d eight other more digits rest size e = elim (ca
   | inr plain ↦ never_other front b count value d plain other more digits rest size e
 ]
 
--- no digit before the CR
-pub never_empty : (front : List ℕ) (value : ℕ) → AreDigits front 0 value → NeverLine (front ++ 13 ∷ [])
-never_empty front value d more digits rest size e =
-    let same = (stops_at front digits more (10 ∷ rest) 13 d.hex size.hex refl (line_cut front more digits rest 13 e)).0 in
-    let lengths = ap length same in
-    let none = d.count_is in
-    let some = size.some in
-    omega (arith, lengths, none, some)
-
 -- no LF after the CR
 pub never_cr : (front ds : List ℕ) (b : ℕ) → front ≡ ds ++ 13 ∷ [] → IsSize ds → (b ≡ 10 → ⊥) → NeverLine (front ++ b ∷ [])
 never_cr front ds b is s other more digits rest size e =

@@ -1,5 +1,5 @@
 -- A size line in the buffer.
-use Rattle.std.proofs.Common.{◌≡◌, ◌≢◌, ℕ, ◌+◌, ◌^◌, ◌<◌, ◌≤◌, true, List, [], ◌∷◌, ◌++◌, All, length, take, drop, get_or, refl, arith, ◌∙◌, sym, ap, subst, append_assoc, add-one}
+use Rattle.std.proofs.Common.{◌≡◌, ◌≢◌, ℕ, ◌+◌, ◌^◌, ◌<◌, ◌≤◌, true, List, [], ◌∷◌, ◌++◌, All, length, take, drop, get_or, arith, ◌∙◌, sym, ap, subst, append_assoc, add-one}
 use Rattle.std.specs.Prelude.{◌⊎◌}
 use Rattle.std.proofs.Math.Seq.{take-suc}
 use Rattle.std.proofs.Math.Nat.{pow-le-pow_right}
@@ -17,7 +17,6 @@ use Rattle.http_wire.specs.declared.chunked.LineState.{LineState}
 use Rattle.http_wire.specs.declared.chunked.LineState.TheVariants.{Digits, Ended}
 use Rattle.http_wire.proofs.LineLemmas.{IsHex}
 use Rattle.http_wire.proofs.GaveLemmas.{gave_as}
-use Rattle.std.proofs.lemmas.List.Elements.{All-nil}
 
 hex_small : (b : ℕ) → is_ascii_hexdigit b ≡ true → digit_value b < 16
 hex_small b h = grind (arith, nat_tests)
@@ -90,12 +89,6 @@ line_cut a b held text at state gave len stands = record {
   state = state;
   stands = subst (λ t. StandsAt t state) (take_all at text (omega (arith, len))) stands;
 }
-
-pub stands_empty : (text : List ℕ) → StandsAt (take 0 text) (Digits 0 0)
-stands_empty text = record { count_is = refl; few = omega arith; hex = none_hex; value_is = refl }
-  where
-    none_hex : All IsHex []
-    none_hex = All-nil IsHex
 
 -- ---- the line end
 

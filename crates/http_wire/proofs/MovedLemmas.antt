@@ -1,30 +1,13 @@
 -- Bytes of a body, moved a part at a time.
-use Rattle.std.proofs.Common.{◌≡◌, ℕ, ◌+◌, ◌<◌, ◌≤◌, List, [], ◌∷◌, ◌++◌, length, take, drop, refl, sym, ap, ◌∙◌, arith, append_assoc, length-append, length-take}
+use Rattle.std.proofs.Common.{◌≡◌, ℕ, ◌+◌, ◌<◌, List, [], ◌∷◌, ◌++◌, length, refl, sym, ap, ◌∙◌, arith, append_assoc, length-append}
 use Rattle.std.specs.Prelude.{Err}
-use Rattle.std.proofs.lemmas.List.{take-append-drop, append-nil}
+use Rattle.std.proofs.lemmas.List.{append-nil}
 use Rattle.http_wire.specs.States.{SourceState}
 use Rattle.http_wire.specs.Reading.{Gave}
 use Rattle.http_wire.specs.declared.fault.BodyFault.{BodyFault}
 use Rattle.http_wire.specs.declared.fault.BodyFault.TheVariants as Fault
 use Rattle.http_wire.specs.Inner.BodyReading.{Moved, MovedNone, MovedNothing, MovedAll, ReadsPart, ReadsBytes}
-use Rattle.http_wire.proofs.GaveLemmas.{gave_none, gave_as, gave_after}
-
-pub moved_part : (old new : SourceState) (held buf before after : List ℕ) (count : ℕ) → Gave old new held buf
-    → after ≡ before ++ take count buf → count ≤ length buf → Moved old held before new (drop count buf) after count
-moved_part old new held buf before after count gave joined fits = record {
-  bytes = take count buf;
-  gave = gave_as (take-append-drop count buf) gave;
-  joined = joined;
-  counted = omega (arith, fits, length-take count buf);
-}
-
-pub moved_nothing : (known : SourceState) (held body : List ℕ) → Moved known held body known held body 0
-moved_nothing known held body = record {
-  bytes = [];
-  gave = gave_none known held;
-  joined = sym (append-nil body);
-  counted = refl;
-}
+use Rattle.http_wire.proofs.GaveLemmas.{gave_as, gave_after}
 
 pub moved_both : (a b c : SourceState) (held mid rest x y z : List ℕ) (n m : ℕ)
     → Moved a held x b mid y n → Moved b mid y c rest z m → Moved a held x c rest z (n + m)

@@ -1,8 +1,8 @@
 -- The body of a response, from the bytes that were moved.
 use Rattle.std.proofs.Common.{◌≡◌, ℕ, ◌+◌, List, [], ◌++◌, length, refl, sym, ap, ◌∙◌, arith, length-append}
 use Rattle.std.specs.Prelude.{Result, Ok, Err}
-use Rattle.std.specs.Io.KnownBytes.{IsAtEnd}
 use Rattle.http_wire.specs.States.{SourceState}
+use Rattle.http_wire.specs.Reading.{HasEnded}
 use Rattle.http_wire.specs.Inner.BodyReading.{Moved, MovedNone, MovedAll, ReadsBytes}
 use Rattle.http_wire.specs.Inner.ResponseBodyFinding.{FindsBody, end_of}
 use Rattle.http_wire.specs.declared.responses.framing.ResponseFraming.{ResponseFraming}
@@ -24,7 +24,7 @@ body_whole old new held before rest after n none m =
     let same = body_is before m.bytes after none m.joined in
     record { text = m.bytes ++ rest; gave = m.gave; found = (ap (λ t. t ++ rest) (sym same), ap length same ∙ m.counted) }
 
-body_cut : (old new : SourceState) (held before rest after : List ℕ) (n : ℕ) → MovedAll old held before new rest after n → IsAtEnd new.remaining
+body_cut : (old new : SourceState) (held before rest after : List ℕ) (n : ℕ) → MovedAll old held before new rest after n → HasEnded new
     → FindsBody (Length n) held old after rest new (Err Fault.Truncated)
 body_cut old new held before rest after n m end =
     let s = stops old new held before rest after n m in record { text = s.text; gave = s.gave; found = (s.short, end) }
@@ -53,7 +53,7 @@ long_body old new held before rest after most m =
     record { text = m.bytes ++ rest; gave = m.gave; found = omega (arith, counted, length-append m.bytes rest) }
 
 ended_body : (old new : SourceState) (held before rest after : List ℕ) (most : ℕ) → before ≡ [] → MovedAll old held before new rest after (most + 1)
-    → IsAtEnd new.remaining → FindsBody (ToEnd most) held old after rest new (Ok Whole)
+    → HasEnded new → FindsBody (ToEnd most) held old after rest new (Ok Whole)
 ended_body old new held before rest after most none m end =
     let same = body_is before m.bytes.bytes after none m.bytes.joined in
     let lengths = ap length same in

@@ -2,13 +2,12 @@
 use Rattle.std.proofs.Common.{◌≡◌, ℕ, zero, suc, ◌+◌, ◌-◌, ◌<◌, List, [], ◌∷◌, ◌++◌, length, take, drop, get_or, sym, ap, ◌∙◌, subst, append_assoc, arith, length-drop}
 use Rattle.std.specs.Prelude.{Option, Some, None, Result, Ok, Err, ⊤}
 use Rattle.std.specs.List.{concat}
-use Rattle.std.proofs.lemmas.List.{append-nil, take_all, take-append-drop}
-use Rattle.std.proofs.lemmas.List.Folds.{concat-append}
+use Rattle.std.proofs.lemmas.List.{append-nil, take_all}
 use Rattle.std.proofs.Math.Seq.{take-add}
 use Rattle.std.specs.Io.KnownBytes.{Appends, Keeps}
 use Rattle.http_wire.specs.declared.writing.WriteFault.{WriteFault}
 use Rattle.http_wire.specs.States.{SinkState}
-use Rattle.http_wire.specs.Writing.{TookAll, TookFront, Wrote}
+use Rattle.http_wire.specs.Writing.{Takes, TookAll, TookFront, Wrote}
 use Rattle.http_wire.specs.Counts.{CountsUp}
 
 pub appends_none : (known : Option (List ℕ)) → Appends known known []
@@ -27,6 +26,19 @@ appends_kept (Some s) None c xs h k = absurd h
 appends_kept (Some s) (Some t) None xs h k = absurd k
 appends_kept (Some s) (Some t) (Some u) xs h k = k ∙ h
 
+pub takes_none : (known : SinkState) → Takes known known []
+takes_none known = record { told = sym (append-nil known.taken); grown = appends_none known.contents }
+
+pub takes_both : (a b c : SinkState) (xs ys : List ℕ) → Takes a b xs → Takes b c ys → Takes a c (xs ++ ys)
+takes_both a b c xs ys h k = record {
+  told = k.told ∙ ap (λ t. t ++ ys) h.told ∙ append_assoc a.taken xs ys;
+  grown = appends_both a.contents b.contents c.contents xs ys h.grown k.grown;
+}
+
+-- a call that took nothing
+pub takes_kept : (a b c : SinkState) (xs : List ℕ) → Takes a b xs → c.taken ≡ b.taken → Keeps b.contents c.contents → Takes a c xs
+takes_kept a b c xs h told kept = record { told = told ∙ h.told; grown = appends_kept a.contents b.contents c.contents xs h.grown kept }
+
 -- the front that one more write makes
 pub taken_more : (xs : List ℕ) (i n : ℕ) → take (i + n) xs ≡ take i xs ++ take n (take (length xs - i) (drop i xs))
 taken_more xs i n =
@@ -34,7 +46,7 @@ taken_more xs i n =
 
 pub took_both : (a b c : SinkState) (text bytes : List ℕ) → TookAll a b text → TookAll b c bytes → TookAll a c (text ++ bytes)
 took_both a b c text bytes h k = record {
-  grown = appends_both a.contents b.contents c.contents text bytes h.grown k.grown;
+  takes = takes_both a b c text bytes h.takes k.takes;
   unfailed = k.unfailed ∙ h.unfailed;
 }
 
@@ -43,7 +55,7 @@ took_more a b c text bytes h k = record {
   front = text ++ k.front;
   back = k.back;
   cut = ap (λ t. text ++ t) k.cut ∙ sym (append_assoc text k.front k.back);
-  grown = appends_both a.contents b.contents c.contents text k.front h.grown k.grown;
+  takes = takes_both a b c text k.front h.takes k.takes;
   failed = subst (λ m. CountsUp m c.failed_writes) h.unfailed k.failed;
 }
 
@@ -51,22 +63,6 @@ pub wrote_more : (a b c : SinkState) (text bytes : List ℕ) (r : Result ⊤ Wri
     → Wrote a c (text ++ bytes) r
 wrote_more a b c text bytes (Ok u) h k = took_both a b c text bytes h k
 wrote_more a b c text bytes (Err e) h k = took_more a b c text bytes h k
-
-pub wrote_after : (a b c : SinkState) (text bytes : List ℕ) (d r : Result ⊤ WriteFault) (u : ⊤) → d ≡ Ok u → Wrote a b text d
-    → Wrote b c bytes r → Wrote a c (text ++ bytes) r
-wrote_after a b c text bytes d r u e h k = wrote_more a b c text bytes r (subst (Wrote a b text) e h) k
-
-pub wrote_less : (a b : SinkState) (text bytes : List ℕ) (d : Result ⊤ WriteFault) (e : WriteFault) → d ≡ Err e → Wrote a b text d
-    → TookFront a b (text ++ bytes)
-wrote_less a b text bytes d e same h =
-    let f = subst (Wrote a b text) same h in
-    record {
-      front = f.front;
-      back = f.back ++ bytes;
-      cut = ap (λ t. t ++ bytes) f.cut ∙ append_assoc f.front f.back bytes;
-      grown = f.grown;
-      failed = f.failed;
-    }
 
 -- the next part comes behind those that were taken
 pub concat-take_next : (xs : List (List ℕ)) (i : ℕ) (d : List ℕ) → i < length xs → concat (take (i + 1) xs) ≡ concat (take i xs) ++ get_or xs i d
@@ -76,9 +72,3 @@ concat-take_next (x ∷ xs) (suc i) d lt =
     let e : suc i + 1 ≡ suc (i + 1) = omega arith in
     ap (λ n. concat (take n (x ∷ xs))) e
     ∙ ap (λ r. x ++ r) (concat-take_next xs i d (omega arith)) ∙ sym (append_assoc x (concat (take i xs)) (get_or xs i d))
-
--- what was put behind the head, and the parts that are left
-pub concat-cut : (head : List ℕ) (xs : List (List ℕ)) (n : ℕ) → (head ++ concat (take n xs)) ++ concat (drop n xs) ≡ head ++ concat xs
-concat-cut head xs n =
-    append_assoc head (concat (take n xs)) (concat (drop n xs))
-    ∙ ap (λ r. head ++ r) (sym (concat-append (take n xs) (drop n xs)) ∙ ap concat (take-append-drop n xs))

@@ -5,6 +5,7 @@ pub mod FaultTexts
 pub mod Reading
 pub mod Inputs
 pub mod Writing
+pub mod Transcripts
 pub mod Fronts
 pub mod RequestFronts
 pub mod ResponseFronts

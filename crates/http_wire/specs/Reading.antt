@@ -1,13 +1,29 @@
 -- What reads give, and what they cost.
-use Rattle.std.specs.Prelude.{◌≡◌, ℕ, List, ◌++◌}
-use Rattle.std.specs.Io.KnownBytes.{Consumes}
+use Rattle.std.specs.Prelude.{◌≡◌, ℕ, ◌==◌, List, ◌++◌, take, IsTrue, Result, MatchResult}
+use Rattle.std.specs.Io.KnownBytes.{Consumes, IsAtEnd}
 use Rattle.http_wire.specs.Counts.{CountsUp, CountsAtMost}
 use Rattle.http_wire.specs.States.{SourceState}
+
+-- what one read adds to the transcript: at `Ok(n)` the first n bytes of the buffer, where 0 is the end, and at `Err` nothing
+abbrev pub ReadTells : {E : Type 0} → SourceState → SourceState → Result ℕ E → List ℕ → Type 0
+ReadTells old new r buf =
+    MatchResult r (λ n. (new.given ≡ old.given ++ take n buf) × (new.ended ≡ (n == 0)))
+    (λ _. (new.given ≡ old.given) × (new.ended ≡ old.ended))
+
+-- reads gave these bytes: they were added to the transcript, and bytes that were known to come began with them, and lost them
+pub record Gives (old new : SourceState) (bytes : List ℕ) : Type 0 where
+  pub told : new.given ≡ old.given ++ bytes
+  pub consumed : Consumes old.remaining new.remaining bytes
+
+-- the last read said that the source has ended, and no byte is known to come
+pub record HasEnded (source : SourceState) : Type 0 where
+  pub told : IsTrue source.ended
+  pub none_left : IsAtEnd source.remaining
 
 -- some bytes were read, and stand at the end of the text
 pub record Gave (old new : SourceState) (before text : List ℕ) : Type 0 where
   pub given : List ℕ
-  pub consumed : Consumes old.remaining new.remaining given
+  pub gives : Gives old new given
   pub joined : text ≡ before ++ given
 
 -- there were at most so many reads; one failed where this holds, and none else

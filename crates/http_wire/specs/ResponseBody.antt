@@ -1,10 +1,10 @@
 -- The body of a response: how far it goes, by its head (RFC 9112, section 6.3), and whether the connection stays behind it (section 9.3).
 use Rattle.std.specs.Prelude.{◌≡◌, ℕ, ◌≤◌, Bool, false, ◌||◌, ◌==◌, nat_lt, List, [], ◌∷◌, length, map, codes, if◌then◌else◌, Result, Ok, Err}
 use Rattle.std.specs.Str.Parse.{digits_value}
-use Rattle.std.specs.Io.KnownBytes.{IsAtEnd}
 use Rattle.httparse.specs.Grammar.{ResponseHead}
 use Rattle.httparse.specs.Spans.{name_and_value}
 use Rattle.http_wire.specs.States.{SourceState}
+use Rattle.http_wire.specs.Reading.{HasEnded}
 use Rattle.http_wire.specs.Fields.{Fields, values_of, keeps_connection}
 use Rattle.http_wire.specs.Body.{is_number}
 use Rattle.http_wire.specs.declared.responses.framing.ResponseFraming.{ResponseFraming}
@@ -64,4 +64,4 @@ keeps_on minor fields (ToEnd most) = false
 -- the body is as long as its framing says, before rest; one that goes to the end of the input leaves nothing
 abbrev pub IsBody : ResponseFraming → List ℕ → List ℕ → SourceState → Type 0
 IsBody (Length n) body rest new = length body ≡ n
-IsBody (ToEnd most) body rest new = (length body ≤ most) × (rest ≡ []) × IsAtEnd new.remaining
+IsBody (ToEnd most) body rest new = (length body ≤ most) × (rest ≡ []) × HasEnded new

@@ -1,8 +1,7 @@
 //! Bytes that were read from a source and not taken yet.
 ghost use Rattle.std.specs.Prelude.{◌≡◌, ◌+◌, ◌-◌, ◌<◌, ◌≤◌, [], length, drop, take, IfOk, OnErr, IsErr};
-ghost use Rattle.std.specs.Io.KnownBytes.{IsAtEnd};
 ghost use Rattle.std.specs.Result.{result_unwrap_or};
-ghost use Rattle.http_wire.specs.Reading.{Gave, Costs};
+ghost use Rattle.http_wire.specs.Reading.{Gave, HasEnded, Costs};
 
 use crate::bytes::{ByteSource, Failed};
 use std::alloc::{AllocError, Global};
@@ -77,7 +76,7 @@ impl ReadBuffer {
         requires { length self.old < CAPACITY }
         ensures gave { Gave (S.state source.old) (S.state source.new) self.old self.new }
         ensures count { IfOk result (λ n. length self.new ≡ length self.old + n) }
-        ensures end { IfOk result (λ n. n ≡ 0 → IsAtEnd (S.state source.new).remaining) }
+        ensures end { IfOk result (λ n. n ≡ 0 → HasEnded (S.state source.new)) }
         ensures kept { OnErr result (self.new ≡ self.old) }
         ensures costs { Costs 1 (IsErr result) (S.state source.old) (S.state source.new) }
     {
@@ -98,7 +97,7 @@ fn read_behind<S: ByteSource>(source: &mut S, bytes: &mut [u8], end: usize) -> R
     ensures gave { Gave (S.state source.old) (S.state source.new)
         (take end bytes.old) (take (end + result_unwrap_or result 0) bytes.new) }
     ensures count { IfOk result (λ n. end + n ≤ length bytes.new) }
-    ensures end { IfOk result (λ n. n ≡ 0 → IsAtEnd (S.state source.new).remaining) }
+    ensures end { IfOk result (λ n. n ≡ 0 → HasEnded (S.state source.new)) }
     ensures kept { OnErr result (take end bytes.new ≡ take end bytes.old) }
     ensures costs { Costs 1 (IsErr result) (S.state source.old) (S.state source.new) }
 {

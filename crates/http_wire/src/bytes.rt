@@ -1,10 +1,13 @@
 //! Readers and writers of bytes, with contracts that name the bytes and count the calls.
-ghost use Rattle.std.specs.Prelude.{◌≡◌, ◌+◌, ◌-◌, ◌<◌, ◌≤◌, ◌==◌, IsTrue, length, take, IfOk, OnOk, OnErr};
+ghost use Rattle.std.specs.Prelude.{◌≡◌, ◌+◌, ◌-◌, ◌<◌, ◌≤◌, ◌==◌, IsTrue, length, take, [], false, IfOk, OnOk, OnErr};
 ghost use Rattle.std.specs.Io.KnownBytes.{ReadConsumes, WriteAppends, Keeps};
 ghost use Rattle.http_wire.specs.Counts.{CountsUp};
 ghost use Rattle.http_wire.specs.States.{SourceState, SinkState};
+ghost use Rattle.http_wire.specs.Reading.{ReadTells};
+ghost use Rattle.http_wire.specs.Writing.{WriteTells};
 
 use crate::calls::Calls;
+use crate::transcript::Transcript;
 use std::fmt;
 use std::io::{Read, Write};
 
@@ -26,7 +29,8 @@ impl std::error::Error for Failed {}
 
 /// Where requests and replies are read from.
 pub trait ByteSource {
-    // The bytes that reads will give from here on, where they are known, and the counts of its reads.
+    // The bytes that its reads have given, those that reads will give from here on, where they are known, and the
+    // counts of its reads.
     ghost state: { Self → SourceState };
 
     /// Reads some bytes into the front of `buf`, at least one unless the source has ended, and says
@@ -35,6 +39,7 @@ pub trait ByteSource {
         requires { 0 < length buf.old }
         ensures bound { IfOk result (λ n. n ≤ length buf.new) }
         ensures bytes { ReadConsumes (state self.old).remaining (state self.new).remaining result buf.new }
+        ensures told { ReadTells (state self.old) (state self.new) result buf.new }
         ensures counted { CountsUp (state self.old).reads (state self.new).reads }
         ensures ok { OnOk result ((state self.new).failed_reads ≡ (state self.old).failed_reads) }
         ensures err { OnErr result (CountsUp (state self.old).failed_reads (state self.new).failed_reads) };
@@ -42,8 +47,8 @@ pub trait ByteSource {
 
 /// Where requests and replies are written to.
 pub trait ByteSink {
-    // The bytes that it holds, where they are known, the counts of its writes and flushes, and whether all that was
-    // written was handed on, which is so at all times where it keeps nothing back.
+    // The bytes that its writes have taken, those that it holds, where they are known, the counts of its writes and
+    // flushes, and whether all that was written was handed on, which is so at all times where it keeps nothing back.
     ghost state: { Self → SinkState };
 
     /// Writes some bytes from the front of `buf`, at least one where there is one, and says how many.
@@ -52,6 +57,7 @@ pub trait ByteSink {
         ensures bound { IfOk result (λ n. n ≤ length buf.now) }
         ensures some { IfOk result (λ n. 0 < length buf.now → 0 < n) }
         ensures bytes { WriteAppends (state self.old).contents (state self.new).contents result buf.now }
+        ensures told { WriteTells (state self.old) (state self.new) result buf.now }
         ensures counted { CountsUp (state self.old).writes (state self.new).writes }
         ensures ok { OnOk result ((state self.new).failed_writes ≡ (state self.old).failed_writes) }
         ensures err { OnErr result (CountsUp (state self.old).failed_writes (state self.new).failed_writes) };
@@ -59,27 +65,35 @@ pub trait ByteSink {
     /// Hands on what was written. `Failed` is any error of it.
     fn flush(&mut self) -> Result<(), Failed>
         ensures bytes { Keeps (state self.old).contents (state self.new).contents }
+        ensures told { (state self.new).taken ≡ (state self.old).taken }
         ensures flushed { OnOk result (IsTrue (state self.new).flushed) }
         ensures counted { CountsUp (state self.old).writes (state self.new).writes }
         ensures ok { OnOk result ((state self.new).failed_writes ≡ (state self.old).failed_writes) }
         ensures err { OnErr result (CountsUp (state self.old).failed_writes (state self.new).failed_writes) };
 }
 
-/// A reader of std as a source. Its counts are there for contracts alone.
+/// A reader of std as a source. Its transcript and its counts are there for contracts alone.
 #[derive(Drop)]
 pub struct FromRead<R> {
     inner: R,
+    given: Transcript,
     reads: Calls,
     failed_reads: Calls,
 }
 
 impl<R> FromRead<R> {
-    /// The source over this reader, with no read counted.
+    /// The source over this reader, with no byte given and no read counted.
     pub fn new(inner: R) -> FromRead<R>
-        ensures { result ≡ record { inner = inner; reads = record { count = 0 }; failed_reads = record { count = 0 } } }
+        ensures { result ≡ record {
+          inner = inner;
+          given = record { bytes = []; ended = false };
+          reads = record { count = 0 };
+          failed_reads = record { count = 0 };
+        } }
     {
         FromRead {
             inner,
+            given: Transcript::none(),
             reads: Calls::none(),
             failed_reads: Calls::none(),
         }
@@ -88,6 +102,8 @@ impl<R> FromRead<R> {
 
 impl<R: Read> ByteSource for FromRead<R> {
     ghost state = { λ s. record {
+      given = s.given.bytes;
+      ended = s.given.ended;
       remaining = R.remaining s.inner;
       reads = s.reads.count;
       failed_reads = s.failed_reads.count;
@@ -96,7 +112,10 @@ impl<R: Read> ByteSource for FromRead<R> {
     fn read(&mut self, buf: &mut [u8]) -> Result<usize, Failed> {
         self.reads = self.reads.and_one();
         match self.inner.read(buf) {
-            Ok(count) => Ok(count),
+            Ok(count) => {
+                self.given = self.given.and(&buf[..count]);
+                Ok(count)
+            }
             Err(_) => {
                 self.failed_reads = self.failed_reads.and_one();
                 Err(Failed)
@@ -105,10 +124,11 @@ impl<R: Read> ByteSource for FromRead<R> {
     }
 }
 
-/// A writer of std as a sink. Its counts are there for contracts alone.
+/// A writer of std as a sink. Its transcript and its counts are there for contracts alone.
 #[derive(Drop)]
 pub struct ToWrite<W> {
     inner: W,
+    taken: Transcript,
     writes: Calls,
     failed_writes: Calls,
     // The writes that no flush has handed on.
@@ -116,10 +136,11 @@ pub struct ToWrite<W> {
 }
 
 impl<W> ToWrite<W> {
-    /// The sink over this writer, with no write counted.
+    /// The sink over this writer, with no byte taken and no write counted.
     pub fn new(inner: W) -> ToWrite<W>
         ensures { result ≡ record {
           inner = inner;
+          taken = record { bytes = []; ended = false };
           writes = record { count = 0 };
           failed_writes = record { count = 0 };
           unflushed = record { count = 0 };
@@ -127,6 +148,7 @@ impl<W> ToWrite<W> {
     {
         ToWrite {
             inner,
+            taken: Transcript::none(),
             writes: Calls::none(),
             failed_writes: Calls::none(),
             unflushed: Calls::none(),
@@ -139,6 +161,7 @@ impl<W> ToWrite<W> {
     {
         let ToWrite {
             inner,
+            taken: _,
             writes: _,
             failed_writes: _,
             unflushed: _,
@@ -149,6 +172,7 @@ impl<W> ToWrite<W> {
 
 impl<W: Write> ByteSink for ToWrite<W> {
     ghost state = { λ s. record {
+      taken = s.taken.bytes;
       contents = W.contents s.inner;
       writes = s.writes.count;
       failed_writes = s.failed_writes.count;
@@ -159,7 +183,10 @@ impl<W: Write> ByteSink for ToWrite<W> {
         self.writes = self.writes.and_one();
         self.unflushed = self.unflushed.and_one();
         match self.inner.write(buf) {
-            Ok(count) if count > 0 || buf.is_empty() => Ok(count),
+            Ok(count) if count > 0 || buf.is_empty() => {
+                self.taken = self.taken.and(&buf[..count]);
+                Ok(count)
+            }
             _ => {
                 self.failed_writes = self.failed_writes.and_one();
                 Err(Failed)

@@ -1,7 +1,6 @@
 //! What is read: a source, behind what a buffer holds of it.
 ghost use Rattle.std.specs.Prelude.{◌≡◌, ◌<◌, ◌≤◌, length, drop, get_or, IfOk, IfSome, IfNone, OnErr, IsErr};
-ghost use Rattle.std.specs.Io.KnownBytes.{IsAtEnd};
-ghost use Rattle.http_wire.specs.Reading.{Gave};
+ghost use Rattle.http_wire.specs.Reading.{Gave, HasEnded};
 ghost use Rattle.http_wire.specs.Inputs.{IsOver, StaysOver, ReadsAtMost};
 
 use crate::buffer::{CAPACITY, ReadBuffer};
@@ -49,7 +48,7 @@ impl<'a, S: ByteSource> Input<'a, S> {
         ensures there { IfOk result (λ found. IfSome found (λ byte.
             (at < length self.new.buffer.now) × (byte ≡ get_or self.new.buffer.now at 0))) }
         ensures ended { IfOk result (λ found. IfNone found ((length self.new.buffer.now ≡ at)
-            × (self.new.buffer.now ≡ self.old.buffer.now) × IsAtEnd (S.state self.new.source.now).remaining)) }
+            × (self.new.buffer.now ≡ self.old.buffer.now) × HasEnded (S.state self.new.source.now))) }
         ensures kept { OnErr result ((length self.new.buffer.now ≡ at)
             × (self.new.buffer.now ≡ self.old.buffer.now)) }
         ensures costs { ReadsAtMost S.state 1 (IsErr result) self.old self.new }

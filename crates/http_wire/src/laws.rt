@@ -1,6 +1,7 @@
-//! A text is read in one way.
+//! What follows from the definitions: a text is read in one way, and what a transcript is.
 ghost use Rattle.http_wire.specs.RequestFronts.{requests};
 ghost use Rattle.http_wire.specs.ResponseFronts.{responses};
+ghost use Rattle.http_wire.specs.Transcripts.{TranscriptsAreOfTheKnown};
 ghost use Rattle.http_wire.specs.Unambiguous.{HeadsAreUnambiguous, BodiesAreUnambiguous};
 
 /// A text begins with at most one head of a request, and with at most one of a reply. One that may be refused begins with none, but for
@@ -14,4 +15,10 @@ pub fn heads_are_unambiguous()
 /// what is refused is so for one reason.
 pub fn bodies_are_unambiguous()
     ensures { BodiesAreUnambiguous }
+{}
+
+/// If a reader's whole input is known, as it is over memory, the transcript is a prefix of it, and all of it if the source
+/// has ended. If it is known what a writer holds, that grew by what the transcript did.
+pub fn transcripts_are_of_the_known()
+    ensures { TranscriptsAreOfTheKnown }
 {}

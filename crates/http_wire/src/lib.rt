@@ -1,6 +1,7 @@
 //! HTTP/1.1 messages, from bytes and to bytes (RFC 9112): what is the same for each service and each client.
 //!
-//! Readers and writers (`bytes`) tell their contracts which bytes they move and how often they are called. What is read
+//! Readers and writers (`bytes`) tell their contracts which bytes they move, which they have moved so far (`transcript`),
+//! and how often they are called. What is read
 //! stands in one buffer (`buffer`) until it is taken. A head is read by one loop over the grammar of requests
 //! (`requests`) or of responses (`responses`), and its fields (`fields`, `elements`) say how its body is framed
 //! (`framing`), which is read behind it (`body`, `chunked`); a response's stands in `responses`. What is written goes
@@ -25,6 +26,7 @@ mod refusal;
 mod requests;
 mod responses;
 mod status;
+mod transcript;
 mod writing;
 
 pub use body::{BodyBuffer, BodyEnd, read_body, read_bytes};
@@ -38,7 +40,7 @@ pub use framing::{Framing, framing_of, length_of};
 pub use gather::Gather;
 pub use head::{Grammar, HeadRead, MAX_FIELDS, MAX_HEAD, Verdict, read_head};
 pub use input::Input;
-pub use laws::{bodies_are_unambiguous, heads_are_unambiguous};
+pub use laws::{bodies_are_unambiguous, heads_are_unambiguous, transcripts_are_of_the_known};
 pub use query::parameter;
 pub use refusal::{bad_status, write_bad};
 pub use requests::{ParsedRequest, Requests};
@@ -47,4 +49,5 @@ pub use responses::{
     response_framing, response_keeps_connection,
 };
 pub use status::Status;
+pub use transcript::Transcript;
 pub use writing::{WriteFault, then_flush, then_write, write_all};

@@ -1,5 +1,5 @@
 //! Two seats asked from two threads. Each test ends by itself, and prints the same whatever the schedule.
-ghost use Rattle.std.specs.Prelude.{IfOk, ◌≡◌, ◌<◌, ◌≤◌, ◌^◌};
+ghost use Rattle.std.specs.Prelude.{IfOk, [], ◌∷◌, ◌≡◌, ◌<◌, ◌≤◌, ◌^◌};
 ghost use Rattle.upload_intake.specs.Seats.{IsSameSeat};
 ghost use Rattle.upload_intake.specs.Served.{AreOfOneCall};
 
@@ -63,14 +63,14 @@ where
     A: Script + Send + Drop,
     B: Script + Send + Drop,
     M: Moments,
-    requires { AreOfOneCall keeper left right }
+    requires { AreOfOneCall keeper (left ∷ right ∷ []) }
 {
     let (first, second) = scripts;
     thread::scope(
         thread::scope_env(),
         rt,
         |scope| -> Option<(Settled, A, B)>
-            requires { AreOfOneCall keeper left right }
+            requires { AreOfOneCall keeper (left ∷ right ∷ []) }
         {
             let of_left = EndOf(Snapshot::of(&left));
             let of_right = EndOf(Snapshot::of(&right));

@@ -1,11 +1,13 @@
 //! Two workers that serve connections at once. Each test ends by itself, and prints the same whatever the schedule.
-ghost use Rattle.std.specs.Prelude.{◌≡◌, true, None, IfSome};
+ghost use Rattle.std.specs.Prelude.{◌≡◌, [], true, None, IfSome};
 
 mod growths;
 mod many;
 mod moments;
+mod pools;
 
 use crate::checks::check;
+use http_wire::{ByteSink, ByteSource, Failed, Transcript};
 use std::alloc::{AllocError, Global};
 use std::process::Abort;
 use std::sync::Wait;
@@ -16,7 +18,6 @@ use std::{thread, vec};
 use upload_intake::{Conns, Gate, Moments, Pair, ServeFault, Worker, ZeroSecrets, serve_pair};
 use upload_names::{BlobDigest, RepoName};
 use upload_service::{Answer, Ask, Limits, Service};
-use upload_wire::{ByteSink, ByteSource, Failed};
 
 /// How often a gate yields before it gives up.
 const PATIENCE: u64 = 1_000_000;
@@ -25,18 +26,27 @@ const PATIENCE: u64 = 1_000_000;
 #[derive(Drop)]
 struct Text {
     bytes: vec::IntoIter<u8>,
+    given: Transcript,
     reads: u64,
 }
 
 impl ByteSource for Text {
-    ghost state = { λ s. record { remaining = None; reads = s.reads; failed_reads = 0 } };
+    ghost state = { λ s. record {
+      given = s.given.bytes;
+      ended = s.given.ended;
+      remaining = None;
+      reads = s.reads;
+      failed_reads = 0;
+    } };
 
     fn read(&mut self, buf: &mut [u8]) -> Result<usize, Failed> {
         self.reads = self.reads.saturating_add(1);
         let Some(byte) = self.bytes.next() else {
+            self.given = self.given.and(&[]);
             return Ok(0);
         };
         buf[0] = byte;
+        self.given = self.given.and(&buf[..1]);
         Ok(1)
     }
 }
@@ -44,14 +54,33 @@ impl ByteSource for Text {
 /// Takes everything, and keeps nothing.
 #[derive(Drop)]
 struct Nowhere {
+    taken: Transcript,
     writes: u64,
 }
 
+impl Nowhere {
+    fn new() -> Nowhere
+        ensures { (result.taken.bytes ≡ []) × (result.writes ≡ 0) }
+    {
+        Nowhere {
+            taken: Transcript::none(),
+            writes: 0,
+        }
+    }
+}
+
 impl ByteSink for Nowhere {
-    ghost state = { λ s. record { contents = None; writes = s.writes; failed_writes = 0; flushed = true } };
+    ghost state = { λ s. record {
+      taken = s.taken.bytes;
+      contents = None;
+      writes = s.writes;
+      failed_writes = 0;
+      flushed = true;
+    } };
 
     fn write(&mut self, buf: &[u8]) -> Result<usize, Failed> {
         self.writes = self.writes.saturating_add(1);
+        self.taken = self.taken.and(buf);
         Ok(buf.len())
     }
 
@@ -85,15 +114,17 @@ impl Conns for Texts {
     type Out = Nowhere;
 
     // One that nobody has read or written yet.
-    ghost gives = { λ old given new. IfSome given (λ conn. (conn.0.reads ≡ 0) × (conn.1.writes ≡ 0)) };
+    ghost gives = { λ old given new. IfSome given (λ conn.
+        (conn.0.given.bytes ≡ []) × (conn.0.reads ≡ 0) × (conn.1.taken.bytes ≡ []) × (conn.1.writes ≡ 0)) };
 
     fn next_conn(&mut self) -> Option<(Text, Nowhere)> {
         let text = self.texts.next()?;
         let source = Text {
             bytes: text.into_iter(),
+            given: Transcript::none(),
             reads: 0,
         };
-        Some((source, Nowhere { writes: 0 }))
+        Some((source, Nowhere::new()))
     }
 }
 

@@ -1,7 +1,7 @@
 //! A source and a sink over memory, which move so many bytes at a time.
-ghost use Rattle.std.specs.Prelude.{◌≡◌, ◌<◌, true, Some};
+ghost use Rattle.std.specs.Prelude.{◌≡◌, ◌<◌, [], true, false, Some};
 
-use http_wire::{ByteSink, ByteSource, Failed};
+use http_wire::{ByteSink, ByteSource, Failed, Transcript};
 
 /// Bytes in memory, given at most `step` at a time. After them comes the end, or a failure.
 #[derive(Drop)]
@@ -12,6 +12,7 @@ pub struct MemorySource<'a> {
     /// How many reads there were.
     pub reads: u64,
     failed_reads: u64,
+    given: Transcript,
     ghost steps: { 0 < step },
 }
 
@@ -24,6 +25,7 @@ impl<'a> MemorySource<'a> {
         ensures fails { result.fails ≡ fails }
         ensures reads { result.reads ≡ 0 }
         ensures failed_reads { result.failed_reads ≡ 0 }
+        ensures given { result.given ≡ record { bytes = []; ended = false } }
     {
         MemorySource {
             left,
@@ -31,12 +33,15 @@ impl<'a> MemorySource<'a> {
             fails,
             reads: 0,
             failed_reads: 0,
+            given: Transcript::none(),
         }
     }
 }
 
 impl ByteSource for MemorySource<'_> {
     ghost state = { λ s. record {
+      given = s.given.bytes;
+      ended = s.given.ended;
       remaining = Some s.left.now;
       reads = s.reads;
       failed_reads = s.failed_reads;
@@ -51,6 +56,7 @@ impl ByteSource for MemorySource<'_> {
         let count = self.step.min(self.left.len()).min(buf.len());
         let (front, back) = self.left.split_at(count);
         buf[..count].copy_from_slice(front);
+        self.given = self.given.and(front);
         self.left = back;
         Ok(count)
     }
@@ -65,6 +71,7 @@ pub struct MemorySink {
     /// How many writes and flushes there were.
     pub writes: u64,
     failed_writes: u64,
+    taken: Transcript,
     ghost steps: { 0 < step },
 }
 
@@ -77,6 +84,7 @@ impl MemorySink {
         ensures room { result.room ≡ room }
         ensures writes { result.writes ≡ 0 }
         ensures failed_writes { result.failed_writes ≡ 0 }
+        ensures taken { result.taken ≡ record { bytes = []; ended = false } }
     {
         MemorySink {
             items,
@@ -84,6 +92,7 @@ impl MemorySink {
             room,
             writes: 0,
             failed_writes: 0,
+            taken: Transcript::none(),
         }
     }
 
@@ -97,6 +106,7 @@ impl MemorySink {
 
 impl ByteSink for MemorySink {
     ghost state = { λ s. record {
+      taken = s.taken.bytes;
       contents = Some s.items.items;
       writes = s.writes;
       failed_writes = s.failed_writes;
@@ -108,6 +118,7 @@ impl ByteSink for MemorySink {
         let count = self.step.min(self.room).min(buf.len());
         if (count > 0 || buf.is_empty()) && self.items.extend_from_slice(&buf[..count]).is_ok() {
             self.room -= count;
+            self.taken = self.taken.and(&buf[..count]);
             return Ok(count);
         }
         self.failed_writes = self.failed_writes.saturating_add(1);

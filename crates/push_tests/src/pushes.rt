@@ -12,13 +12,13 @@ mod random_worlds;
 use std::alloc::{AllocError, Global};
 use std::process::Abort;
 use std::test::Fail;
+use upload_client::{Heard, LentChunk, Transport};
 use upload_names::{Algorithm, BlobDigest, ByteRange, Bytes, RepoName, UploadRef};
 use upload_push::{
-    Event, LossyWorld, Outcome, PushAsk, PushFault, PushStep, Pusher, Why, push, push_promise,
-    push_with,
+    Event, LossyWorld, Outcome, PushAsk, PushFault, PushStep, Pusher, Why, has_blob, push,
+    push_promise, push_with,
 };
 use upload_service::{Answer, Ask, BlobBytes, Extent, Limits, Service};
-use upload_wire::{Heard, LentChunk, Transport};
 
 /// Fails the test where a case doesn't hold. The macro's expansion is proved once, here.
 fn check(rt: &impl Abort, holds: bool, case: &str) {
@@ -453,6 +453,32 @@ fn a_lost_opening_leaves_its_session(rt: HostRuntime) -> Result<(), Fail> {
     check(&rt, end == End::Pushed, "pushed");
     check(&rt, first == Some(0), "the first session is left");
     check(&rt, second.is_none(), "the second session is closed");
+    Ok(())
+}
+
+/// Whether a look finds what its world was pushed under the script's events: before the push, and behind it.
+fn found(alloc: Global, script: &[u8]) -> Result<(bool, bool), Fail> {
+    let name = name(alloc)?;
+    let digest = BlobDigest::of_sha256(b"abc");
+    let mut world = new_world(alloc, events(alloc, script)?);
+    let before = has_blob(alloc, &mut world, &name, digest)?;
+    let _ = push(alloc, &mut world, b"abc", &name, 2, 5);
+    Ok((before, has_blob(alloc, &mut world, &name, digest)?))
+}
+
+#[test]
+fn looks_before_pushes(rt: HostRuntime) -> Result<(), Fail> {
+    check(
+        &rt,
+        found(rt.alloc(), b"")? == (false, true),
+        "what was pushed",
+    );
+    // the look, four requests of the push, and the second look, of which nothing is heard
+    check(
+        &rt,
+        found(rt.alloc(), b"dddddl")? == (false, false),
+        "a look whose reply is lost",
+    );
     Ok(())
 }
 

@@ -383,3 +383,57 @@ fn a_refused_growth_in_a_list_is_of_one_request_or_of_all(rt: HostRuntime) -> Re
     assert!(rt; seen.held && seen.first == Some(0));
     Ok(())
 }
+
+/// What is served before memory is full.
+static BEFORE_FULL: [Line; 4] = [
+    row!(Word::Open, Told::Begun(1)),
+    row!(Word::Chunk(U1, Place::Absent, b"abc"), Told::Taken(U1, 3)),
+    row!(Word::Open, Told::Begun(2)),
+    row!(Word::Single(ABC, b"abc"), Told::Stored(ABC)),
+];
+
+/// Each kind of change.
+static CHANGES: [Line; 5] = [
+    row!(Word::Chunk(U2, Place::Absent, b"a"), Told::Taken(U2, 1)),
+    row!(Word::Close(U1, Place::Absent, ABC, b""), Told::Stored(ABC)),
+    row!(Word::Open, Told::Begun(3)),
+    under!(b"lib/b", Word::Mount(ABC, b"lib/a"), Told::Stored(ABC)),
+    row!(Word::Single(NOTHING, b""), Told::Stored(NOTHING)),
+];
+
+/// What changes nothing.
+static UNCHANGING: [Line; 8] = [
+    row!(Word::Get(ABC), Told::Bytes(b"abc")),
+    row!(Word::Head(ABC), Told::Size(3)),
+    row!(Word::Status(U1), Told::Standing(U1, 3)),
+    row!(Word::Base, Told::Base),
+    row!(
+        Word::Chunk(U1, Place::From(0, 0), b"a"),
+        Told::Misplaced(U1, 3),
+    ),
+    row!(
+        Word::Close(U1, Place::Absent, ABC_512, b"b"),
+        Told::Refused(Refusal::Mismatch),
+    ),
+    row!(Word::Single(ABC, b"abd"), Told::Refused(Refusal::Mismatch)),
+    refused!(Refusal::NoForm),
+];
+
+/// More than any memory has.
+const NEVER_FREE: usize = 0x1000_0000_0000_0000;
+
+#[test]
+fn a_change_leaves_memory_free(rt: HostRuntime) -> Result<(), Fail> {
+    let mut watched = Watched::new(rt.alloc(), limits(9, 3, 3_600), b"abc")?;
+    watched.check_lines(&rt, &BEFORE_FULL)?;
+    watched.service.keep_free(NEVER_FREE);
+    let before = watched.look();
+    for (i, line) in CHANGES.iter().enumerate() {
+        let outcome = watched.serve(*line)?;
+        check(&rt, outcome == Outcome::NoMemory, i, "a change is made");
+        check(&rt, watched.look() == before, i, "what is seen after it");
+    }
+    watched.check_lines(&rt, &UNCHANGING)?;
+    watched.service.keep_free(1_000);
+    Ok(watched.check_lines(&rt, &CHANGES)?)
+}

@@ -1,26 +1,24 @@
--- What one side's steps are, once all ends are back.
-use Rattle.std.proofs.Common.{◌≡◌, Bool, true, false, List, [], ◌∷◌, ◌++◌, map, filter, cond, sym, refl, ap, ◌∙◌, inl, inr, ⊎_elim, append-nil}
+-- What one seat's steps are, once all ends are back.
+use Rattle.std.proofs.Common.{◌≡◌, ℕ, ◌==◌, Bool, true, false, List, [], ◌∷◌, ◌++◌, map, filter, cond, sym, refl, ap, ◌∙◌, inl, inr, ⊎_elim, append-nil}
 use Rattle.std.proofs.lemmas.List.{append_cancel_right}
 use Rattle.upload_service.specs.declared.ask.Ask.{Ask}
 use Rattle.upload_service.specs.declared.answer.Answer.{Answer}
-use Rattle.upload_intake.specs.declared.line.Side.{Side}
-use Rattle.upload_intake.specs.Line.{same_side}
 use Rattle.upload_intake.specs.Log.{TakenJob, Step, job_of, taken_by, jobs_of}
 use Rattle.upload_intake.specs.Seats.{SeatState, IsFresh}
 use Rattle.upload_intake.specs.Settled.{Heard}
 use Rattle.upload_intake.specs.SeatConversations.{Adds, asks_of, answers_of, asks_in}
-use Rattle.upload_intake.specs.ServedPair.{of_side, asked_and_answered, read_and_replied, asks, Carries}
+use Rattle.upload_intake.specs.ServedPool.{of_seat, asked_and_answered, read_and_replied, asks, Carries}
 use Rattle.upload_wire.specs.Conversation.{Exchange}
 
--- the jobs of a side's steps ask what the steps ask
+-- the jobs of a seat's steps ask what the steps ask
 by_side : (b : Bool) (s : Step) (jobs : List TakenJob) (steps : List Step) → asks_in (map (λ (j : TakenJob). j.job) jobs) ≡ asks steps
-    → asks_in (map (λ (j : TakenJob). j.job) (cond b (record { side = s.side; job = job_of s.exchange } ∷ jobs) jobs)) ≡ asks (cond b (s ∷ steps) steps)
+    → asks_in (map (λ (j : TakenJob). j.job) (cond b (record { seat = s.seat; job = job_of s.exchange } ∷ jobs) jobs)) ≡ asks (cond b (s ∷ steps) steps)
 by_side true s jobs steps e = ap (λ l. s.exchange.ask ∷ l) e
 by_side false s jobs steps e = e
 
-asks_of_jobs : (side : Side) (steps : List Step) → asks_in (jobs_of side (taken_by steps)) ≡ asks (of_side side steps)
-asks_of_jobs side [] = refl
-asks_of_jobs side (s ∷ ss) = by_side (same_side side s.side) s (filter (λ (j : TakenJob). same_side side j.side) (taken_by ss)) (of_side side ss) (asks_of_jobs side ss)
+asks_of_jobs : (seat : ℕ) (steps : List Step) → asks_in (jobs_of seat (taken_by steps)) ≡ asks (of_seat seat steps)
+asks_of_jobs seat [] = refl
+asks_of_jobs seat (s ∷ ss) = by_side (seat == s.seat) s (filter (λ (j : TakenJob). seat == j.seat) (taken_by ss)) (of_seat seat ss) (asks_of_jobs seat ss)
 
 -- steps that ask what these exchanges ask, and then more, and are answered as they are, and then more
 record Matches (steps : List Step) (xs : List Exchange) (us : List Ask) : Type 0 where
@@ -47,19 +45,19 @@ matched (s ∷ ss) (x ∷ xs) us vs p q =
     let more = matched ss xs us vs (tails s.exchange.ask x.ask (asks ss) (asks_of xs ++ us) p) (tails s.exchange.answer x.answer rest (answers_of xs ++ vs) q) in
     record { unheard = more.unheard; in_order = λ i. (ask i, answer i) ∷ more.in_order i; lost = more.lost }
 
-pub carries : (side : Side) (steps : List Step) (old new : SeatState) (xs : List Exchange) (us : List Ask) → IsFresh old → Adds old new xs us → jobs_of side (taken_by steps) ≡ new.sent → Heard side steps new → Carries side steps xs us
-carries side steps old new xs us fresh a sent heard =
+pub carries : (seat : ℕ) (steps : List Step) (old new : SeatState) (xs : List Exchange) (us : List Ask) → IsFresh old → Adds old new xs us → jobs_of seat (taken_by steps) ≡ new.sent → Heard seat steps new → Carries seat steps xs us
+carries seat steps old new xs us fresh a sent heard =
     let jobs : new.sent ≡ a.jobs = a.sent ∙ ap (λ l. l ++ a.jobs) fresh.sent in
-    let asked : asks (of_side side steps) ≡ asks_in a.jobs = sym (asks_of_jobs side steps) ∙ ap asks_in (sent ∙ jobs) in
-    let replied : map (λ (s : Step). s.exchange.answer) (of_side side steps) ≡ answers_of xs ++ heard.unheard =
+    let asked : asks (of_seat seat steps) ≡ asks_in a.jobs = sym (asks_of_jobs seat steps) ∙ ap asks_in (sent ∙ jobs) in
+    let replied : map (λ (s : Step). s.exchange.answer) (of_seat seat steps) ≡ answers_of xs ++ heard.unheard =
     heard.in_order ∙ ap (λ l. l ++ heard.unheard) (a.heard ∙ ap (λ l. l ++ answers_of xs) fresh.heard) in
     ⊎_elim
     (λ (none : a.unsent ≡ []).
-    let all : asks (of_side side steps) ≡ asks_of xs ++ us = asked ∙ sym (append-nil (asks_in a.jobs)) ∙ ap (λ l. asks_in a.jobs ++ l) (sym none) ∙ sym a.asks in
-    let m = matched (of_side side steps) xs us heard.unheard all replied in
+    let all : asks (of_seat seat steps) ≡ asks_of xs ++ us = asked ∙ sym (append-nil (asks_in a.jobs)) ∙ ap (λ l. asks_in a.jobs ++ l) (sym none) ∙ sym a.asks in
+    let m = matched (of_seat seat steps) xs us heard.unheard all replied in
     record { unheard = m.unheard; in_order = m.in_order; lost = inr m.lost })
     (λ (back : a.unsent ≡ us).
     let front : asks_of xs ≡ asks_in a.jobs = append_cancel_right (asks_of xs) (asks_in a.jobs) us (a.asks ∙ ap (λ l. asks_in a.jobs ++ l) back) in
-    let m = matched (of_side side steps) xs [] heard.unheard (asked ∙ sym front ∙ sym (append-nil (asks_of xs))) replied in
+    let m = matched (of_seat seat steps) xs [] heard.unheard (asked ∙ sym front ∙ sym (append-nil (asks_of xs))) replied in
     record { unheard = m.unheard; in_order = m.in_order; lost = inl m.lost })
     a.given_back

@@ -13,7 +13,7 @@ use Rattle.upload_intake.specs.declared.work.GatedDesk.{GatedDesk}
 use Rattle.upload_wire.specs.declared.connection.ConnEnd.{ConnEnd}
 use Rattle.upload_wire.specs.declared.connection.ConnEnd.TheVariants.{Clean, AfterClose, AfterBad, TooMany, DeskGone, Fault}
 use Rattle.upload_wire.specs.declared.connection.ConnFault.TheVariants as Conn
-use Rattle.upload_wire.specs.States.{SourceState, SinkState}
+use Rattle.http_wire.specs.States.{SourceState, SinkState}
 use Rattle.upload_wire.specs.Conversation.{Moves, Exchange, Answers, EndsWith, IsConversation, stand}
 
 module _ {D : Type 0} (step : Moves D) (Keeps : D → D → Type 0) (same : (d : D) → Keeps d d) (joined : (a b c : D) → Keeps a b → Keeps b c → Keeps a c)
@@ -37,21 +37,21 @@ module _ {D : Type 0} (step : Moves D) (Keeps : D → D → Type 0) (same : (d :
   pub kept_by : (max_body : ℕ) (first left : SourceState) (old new : D) (before after : SinkState) (end : ConnEnd) → IsConversation step max_body first left old new before after end → Keeps old new
   kept_by max_body first left old new before after end c = joined old c.at new (by_answers c.exchanges old c.at c.served.answered) (by_end max_body _ c.at new c.rest left c.mid after end c.ended)
 
--- a call of a seat leaves its lines and its side
+-- a call of a seat leaves its lines and its number
 asks_same : (old : SeatState) (ask : Ask) (secret : List ℕ) (result : Result Answer Gone) (new : SeatState) → Asks old ask secret result new → IsSameSeat old new
-asks_same old ask secret (Ok answer) new a = record { jobs = ap (λ s. s.jobs) a.1; replies = ap (λ s. s.replies) a.1; side = ap (λ s. s.side) a.1 }
-asks_same old ask secret (Err (NotSent back)) new a = record { jobs = ap (λ s. s.jobs) a.1; replies = ap (λ s. s.replies) a.1; side = ap (λ s. s.side) a.1 }
-asks_same old ask secret (Err NoAnswer) new a = record { jobs = ap (λ s. s.jobs) a.1; replies = ap (λ s. s.replies) a.1; side = ap (λ s. s.side) a.1 }
+asks_same old ask secret (Ok answer) new a = record { jobs = ap (λ s. s.jobs) a.1; replies = ap (λ s. s.replies) a.1; seat = ap (λ s. s.seat) a.1 }
+asks_same old ask secret (Err (NotSent back)) new a = record { jobs = ap (λ s. s.jobs) a.1; replies = ap (λ s. s.replies) a.1; seat = ap (λ s. s.seat) a.1 }
+asks_same old ask secret (Err NoAnswer) new a = record { jobs = ap (λ s. s.jobs) a.1; replies = ap (λ s. s.replies) a.1; seat = ap (λ s. s.seat) a.1 }
 
 pub drawn_same : {S : Type 0} (draws : S → List ℕ → S → Type 0) (old : SeatState) (secrets : S) (ask : Ask) (answer : Option Answer) (new : SeatState) (left : S) → AsksWithDrawn draws old secrets ask answer new left → IsSameSeat old new
 drawn_same draws old secrets ask (Some answer) new left a = asks_same old ask a.0 (Ok answer) new a.2
 drawn_same draws old secrets ask None new left a = asks_same old ask a.0 (Err a.1) new a.3
 
 pub same_seat : (seat : SeatState) → IsSameSeat seat seat
-same_seat seat = record { jobs = refl; replies = refl; side = refl }
+same_seat seat = record { jobs = refl; replies = refl; seat = refl }
 
 pub same_seat_twice : (a b c : SeatState) → IsSameSeat a b → IsSameSeat b c → IsSameSeat a c
-same_seat_twice a b c p q = record { jobs = q.jobs ∙ p.jobs; replies = q.replies ∙ p.replies; side = q.side ∙ p.side }
+same_seat_twice a b c p q = record { jobs = q.jobs ∙ p.jobs; replies = q.replies ∙ p.replies; seat = q.seat ∙ p.seat }
 
 -- how a worker's desk moves
 abbrev pub GatedSteps : {R S G : Type 0} → (S → List ℕ → S → Type 0) → Watching G → Moves (GatedDesk R S G)

@@ -1,5 +1,9 @@
 -- What a keeper keeps, from one message to the next.
-use Rattle.std.proofs.Common.{◌≡◌, ℕ, ◌+◌, ◌≤◌, min, max, Bool, true, false, true≢false, cond, List, [], ◌∷◌, ◌++◌, map, filter, length-append, sym, refl, ap, ◌∙◌, subst, arith, append-nil, append_assoc, Result, Ok, Err, MatchResult}
+use Rattle.std.proofs.Common.{◌≡◌, ◌≢◌, ℕ, ◌+◌, ◌<◌, ◌≤◌, ◌==◌, min, max, Bool, true, false, true≢false, cond, List, [], ◌∷◌, ◌++◌, map, filter, length-append, sym, refl, ap, ◌∙◌, subst, arith, append-nil, append_assoc, Result, Ok, Err, MatchResult, get_or, set, leb, length, ◌⊎◌, ⊎_elim}
+use Rattle.std.specs.Prelude.{All}
+use Rattle.std.specs.List.{AllByRecursion}
+use Rattle.std.proofs.lemmas.List.{length-set, get_or-set_same, get_or-set_other}
+use Rattle.std.proofs.lemmas.Bool.{eqb-true, eqb-false, leb-true, leb-false}
 use Rattle.std.proofs.lemmas.List.{map-append}
 use Rattle.std.proofs.lemmas.List.Elements.{filter-append}
 use Rattle.upload_service.specs.declared.ask.Ask.{Ask}
@@ -7,22 +11,22 @@ use Rattle.upload_service.specs.declared.answer.Answer.{Answer}
 use Rattle.upload_service.specs.Machine.{State, Turn, IsLawful}
 use Rattle.upload_service.specs.Run.{Exchange, Run, NeverBefore}
 use Rattle.upload_service.specs.Headline.{HeadlineHolds}
-use Rattle.upload_intake.specs.declared.line.Side.{Side}
-use Rattle.upload_intake.specs.declared.line.Side.TheVariants.{Left, Right}
 use Rattle.upload_intake.specs.declared.line.Item.{Item}
 use Rattle.upload_intake.specs.declared.line.LineView.{LineView}
 use Rattle.upload_intake.specs.declared.message.Message.{Message}
 use Rattle.upload_intake.specs.declared.message.Message.TheVariants as message
-use Rattle.upload_intake.specs.Line.{same_side, items_of, with_sent, with_taken}
+use Rattle.upload_intake.specs.Line.{items_of, is_sender, with_sent, with_taken, IsOfAnother}
 use Rattle.upload_intake.specs.Log.{TakenJob, Step, step_of, steps_of, exchanges_of, job_of, taken_by, answers_to, last_moment}
-use Rattle.upload_intake.specs.Passes.{only_sender_view, taker_view}
+use Rattle.upload_intake.specs.Passes.{sender_view, taker_view}
+use Rattle.upload_intake.specs.Replies.{BeginsReplies}
+use Rattle.upload_intake.specs.declared.reply.ReplyLine.{ReplyLine}
 use Rattle.upload_intake.specs.Served.{KeeperState, IsSameKeeper, IsServed}
 use Rattle.upload_intake.specs.Told.{Told, Grows}
 use Rattle.upload_intake.specs.declared.log.Entry.{Entry}
 use Rattle.upload_intake.specs.Settled.{count_limit}
-use Rattle.upload_intake.specs.Kept.{taken_in, add_job, has_finish, Outlet, Replied, Replies, Keeps, Receives, TookFinish, IsKeeping}
+use Rattle.upload_intake.specs.Kept.{taken_in, add_job, has_finish, Outlet, outlet_of, Replied, Replies, Keeps, KeepsSeat, Receives, TookFinish, AreOfSeats, IsKeeping}
 use Rattle.upload_intake.specs.Kept.Replies.{Sent, Closed}
-use Rattle.upload_intake.proofs.LineMoves.{items_of-append}
+use Rattle.upload_intake.proofs.LineMoves.{same, is_either, differ, items_of-append, of_own, seat_below}
 
 run_more : (xs : List Exchange) (x : Exchange) (start before after : State) → Run start xs before → Turn before x.ask x.secret x.now x.answer after → Run start (xs ++ x ∷ []) after
 run_more [] x start before after r t = (after, subst (λ s. Turn s x.ask x.secret x.now x.answer after) r t, refl)
@@ -36,20 +40,20 @@ last_moment-more : (moment : ℕ) (xs : List Exchange) (x : Exchange) → last_m
 last_moment-more moment [] x = refl
 last_moment-more moment (y ∷ ys) x = last_moment-more y.now ys x
 
-add_job-append : (side : Side) (m : Message) (xs ys : List TakenJob) → add_job side m (xs ++ ys) ≡ add_job side m xs ++ ys
-add_job-append side (message.Job ask secret) xs ys = refl
-add_job-append side message.Finish xs ys = refl
+add_job-append : (seat : ℕ) (m : Message) (xs ys : List TakenJob) → add_job seat m (xs ++ ys) ≡ add_job seat m xs ++ ys
+add_job-append seat (message.Job ask secret) xs ys = refl
+add_job-append seat message.Finish xs ys = refl
 
 pub taken_in-append : (xs ys : List (Item Message)) → taken_in (xs ++ ys) ≡ taken_in xs ++ taken_in ys
 taken_in-append [] ys = refl
-taken_in-append (x ∷ xs) ys = ap (add_job x.side x.what) (taken_in-append xs ys) ∙ add_job-append x.side x.what (taken_in xs) (taken_in ys)
+taken_in-append (x ∷ xs) ys = ap (add_job x.seat x.what) (taken_in-append xs ys) ∙ add_job-append x.seat x.what (taken_in xs) (taken_in ys)
 
 exchanges_of-more : (steps : List Step) (s : Step) → exchanges_of (steps ++ s ∷ []) ≡ exchanges_of steps ++ s.exchange ∷ []
 exchanges_of-more steps s = map-append (λ (y : Step). y.exchange) steps (s ∷ [])
 
-answers_to-append : (side : Side) (xs ys : List Step) → answers_to side (xs ++ ys) ≡ answers_to side xs ++ answers_to side ys
-answers_to-append side xs ys =
-    let ours = λ (s : Step). same_side side s.side in
+answers_to-append : (seat : ℕ) (xs ys : List Step) → answers_to seat (xs ++ ys) ≡ answers_to seat xs ++ answers_to seat ys
+answers_to-append seat xs ys =
+    let ours = λ (s : Step). seat == s.seat in
     ap (λ l. map (λ (s : Step). s.exchange.answer) l) (filter-append ours xs ys) ∙ map-append (λ (s : Step). s.exchange.answer) (filter ours xs) (filter ours ys)
 
 answer_if : (s : Step) (b : Bool) → map (λ (y : Step). y.exchange.answer) (cond b (s ∷ []) []) ≡ cond b (s.exchange.answer ∷ []) []
@@ -57,14 +61,14 @@ answer_if s true = refl
 answer_if s false = refl
 
 -- a step of a side, and one of the other, among the answers of a side
-answers_to-one : (side : Side) (s : Step) (b : Bool) → same_side side s.side ≡ b → answers_to side (s ∷ []) ≡ cond b (s.exchange.answer ∷ []) []
-answers_to-one side s b e = ap (λ c. map (λ (y : Step). y.exchange.answer) (cond c (s ∷ []) [])) e ∙ answer_if s b
+answers_to-one : (seat : ℕ) (s : Step) (b : Bool) → (seat == s.seat) ≡ b → answers_to seat (s ∷ []) ≡ cond b (s.exchange.answer ∷ []) []
+answers_to-one seat s b e = ap (λ c. map (λ (y : Step). y.exchange.answer) (cond c (s ∷ []) [])) e ∙ answer_if s b
 
-module _ (side : Side) (steps : List Step) (s : Step) where
-  replied_more : same_side side s.side ≡ true → (old new : Outlet) → Replied side steps old → Replies s.exchange.answer old new → Replied side (steps ++ s ∷ []) new
+module _ (seat : ℕ) (steps : List Step) (s : Step) where
+  replied_more : (seat == s.seat) ≡ true → (old new : Outlet) → Replied seat steps old → Replies s.exchange.answer old new → Replied seat (steps ++ s ∷ []) new
   replied_more ours old new h (Sent was_open is_open sent) =
-      let all : answers_to side (steps ++ s ∷ []) ≡ (h.replies ++ h.unsent) ++ s.exchange.answer ∷ [] =
-      answers_to-append side steps (s ∷ []) ∙ (λ i. h.in_order i ++ answers_to-one side s true ours i) in
+      let all : answers_to seat (steps ++ s ∷ []) ≡ (h.replies ++ h.unsent) ++ s.exchange.answer ∷ [] =
+      answers_to-append seat steps (s ∷ []) ∙ (λ i. h.in_order i ++ answers_to-one seat s true ours i) in
       record {
         replies = h.replies ++ s.exchange.answer ∷ [];
         unsent = [];
@@ -73,8 +77,8 @@ module _ (side : Side) (steps : List Step) (s : Step) where
         all = λ _. refl;
       }
   replied_more ours old new h (Closed is_closed same) =
-      let all : answers_to side (steps ++ s ∷ []) ≡ (h.replies ++ h.unsent) ++ s.exchange.answer ∷ [] =
-      answers_to-append side steps (s ∷ []) ∙ (λ i. h.in_order i ++ answers_to-one side s true ours i) in
+      let all : answers_to seat (steps ++ s ∷ []) ≡ (h.replies ++ h.unsent) ++ s.exchange.answer ∷ [] =
+      answers_to-append seat steps (s ∷ []) ∙ (λ i. h.in_order i ++ answers_to-one seat s true ours i) in
       record {
         replies = h.replies;
         unsent = h.unsent ++ s.exchange.answer ∷ [];
@@ -83,21 +87,21 @@ module _ (side : Side) (steps : List Step) (s : Step) where
         all = λ p. absurd (true≢false (sym p ∙ is_closed));
       }
 
-  replied_other : same_side side s.side ≡ false → (outlet : Outlet) → Replied side steps outlet → Replied side (steps ++ s ∷ []) outlet
+  replied_other : (seat == s.seat) ≡ false → (outlet : Outlet) → Replied seat steps outlet → Replied seat (steps ++ s ∷ []) outlet
   replied_other theirs outlet h = record {
     replies = h.replies;
     unsent = h.unsent;
     view = h.view;
-    in_order = answers_to-append side steps (s ∷ []) ∙ (λ i. h.in_order i ++ answers_to-one side s false theirs i) ∙ append-nil (h.replies ++ h.unsent);
+    in_order = answers_to-append seat steps (s ∷ []) ∙ (λ i. h.in_order i ++ answers_to-one seat s false theirs i) ∙ append-nil (h.replies ++ h.unsent);
     all = h.all;
   }
 
 -- what a line that is open comes to by a send
 pub replied_by : (answer : Answer) (was_open is_open : Bool) (old new : LineView Answer) (sent : Result (Unit {0}) (Item Answer)) → was_open ≡ true
-    → MatchResult sent (λ _. new ≡ with_sent (record { side = Left; what = answer }) old) (λ back. (back ≡ record { side = Left; what = answer }) × (new ≡ old))
+    → MatchResult sent (λ _. new ≡ with_sent (record { seat = 0; what = answer }) old) (λ back. (back ≡ record { seat = 0; what = answer }) × (new ≡ old))
     → MatchResult sent (λ _. is_open ≡ was_open) (λ _. is_open ≡ false)
     → Replies answer (record { is_open = was_open; view = old }) (record { is_open = is_open; view = new })
-replied_by answer was_open is_open old new (Ok x) was m o = Sent was (o ∙ was) (λ replies e. m ∙ ap (with_sent (record { side = Left; what = answer })) e)
+replied_by answer was_open is_open old new (Ok x) was m o = Sent was (o ∙ was) (λ replies e. m ∙ ap (with_sent (record { seat = 0; what = answer })) e)
 replied_by answer was_open is_open old new (Err back) was m o = Closed o m.1
 
 -- a line that is closed stays as it is
@@ -114,31 +118,68 @@ has_finish-last [] = refl
 has_finish-last (message.Job a s ∷ xs) = has_finish-last xs
 has_finish-last (message.Finish ∷ xs) = refl
 
-module _ (start service : State) (now count : ℕ) (j j' : LineView Message) (l r : Outlet) (ld rd : Bool)
-    (old : List Step) (k : IsKeeping start service now count old j l r ld rd) (x : Item Message) (took : j' ≡ with_taken x j) where
-  taken_more : Receives j'
-  taken_more = record { taken = k.receives.taken ++ x ∷ []; is_taker = took ∙ ap (with_taken x) k.receives.is_taker }
+all_more : {A : Type 0} (P : A → Type 0) (xs : List A) (x : A) → AllByRecursion P xs → P x → AllByRecursion P (xs ++ x ∷ [])
+all_more P [] x h p = (p, tt)
+all_more P (y ∷ ys) x h p = (h.0, all_more P ys x h.1 p)
 
-  finish_stays : (side : Side) → TookFinish side j → TookFinish side j'
-  finish_stays side f = ap (λ v. has_finish (items_of side v.taken)) took ∙ ap has_finish (items_of-append side j.taken (x ∷ [])) ∙ has_finish-append (items_of side j.taken) (items_of side (x ∷ [])) f
+less_unless : (a b : ℕ) → (b ≤ a → ⊥) → a < b
+less_unless a b never = ⊎_elim (λ t. absurd (never (leb-true b a t))) (λ f. leb-false b a f) (is_either (leb b a))
+
+-- a fact of each place and its line, where one line was set
+each_set : (F : ℕ → ReplyLine → Type 0) (lines : List ReplyLine) (at : ℕ) (line : ReplyLine) → at < length lines → F at line
+    → ((seat : ℕ) (d : ReplyLine) → seat < length lines → (seat == at) ≡ false → F seat (get_or lines seat d))
+    → (seat : ℕ) (d : ReplyLine) → seat < length (set lines at line) → F seat (get_or (set lines at line) seat d)
+each_set F lines at line inside mine others seat d below =
+    ⊎_elim
+    (λ (e : (seat == at) ≡ true).
+    let here : seat ≡ at = eqb-true seat at e in
+    subst (λ (y : ℕ × ReplyLine). F y.0 y.1) (λ i. (sym here i, (sym (get_or-set_same lines at line d inside) ∙ ap (λ n. get_or (set lines at line) n d) (sym here)) i)) mine)
+    (λ (e : (seat == at) ≡ false).
+    subst (F seat) (sym (get_or-set_other lines at seat line d (eqb-false seat at e))) (others seat d (let n = length-set lines at line in omega arith) e))
+    (is_either (seat == at))
+
+module _ (start service : State) (now count : ℕ) (j j' : LineView Message) (lines : List ReplyLine)
+    (old : List Step) (k : IsKeeping start service now count old j lines) (x : Item Message) (took : (j' ≡ with_taken x j) × IsOfAnother j x) where
+  -- the item is of a seat of the keeper's
+  pub inside : x.seat < length lines
+  inside = less_unless x.seat (length lines) (seat_below (length lines) k.receives.taken j x k.receives.is_taker took.1)
+
+  taken_more : Receives (length lines) j'
+  taken_more = record { taken = k.receives.taken ++ x ∷ []; is_taker = took.0 ∙ ap (with_taken x) k.receives.is_taker }
+
+  finish_stays : (seat : ℕ) → TookFinish seat j → TookFinish seat j'
+  finish_stays seat f = ap (λ v. has_finish (items_of seat v.taken)) took.0 ∙ ap has_finish (items_of-append seat j.taken (x ∷ [])) ∙ has_finish-append (items_of seat j.taken) (items_of seat (x ∷ [])) f
+
+  -- what is kept of the seats, where the line of one was set
+  after : (service' : State) (now' count' : ℕ) (steps : List Step) (line : ReplyLine) (log : List Step) (lines' : List ReplyLine) → lines' ≡ set lines x.seat line → log ≡ steps
+      → Keeps start service' now' count' steps j'.taken → AreOfSeats (length lines) steps → KeepsSeat x.seat steps j' line
+      → ((seat : ℕ) (d : ReplyLine) → seat < length lines → (seat == x.seat) ≡ false → KeepsSeat seat steps j' (get_or lines seat d))
+      → IsKeeping start service' now' count' log j' lines'
+  after service' now' count' steps line log lines' put grown keeps seated mine others =
+      subst (λ (y : List ReplyLine × List Step). IsKeeping start service' now' count' y.1 j' y.0) (λ i. (sym put i, sym grown i)) record {
+        keeps = keeps;
+        receives = subst (λ n. Receives n j') (sym (length-set lines x.seat line)) taken_more;
+        seated = subst (λ n. AreOfSeats n steps) (sym (length-set lines x.seat line)) seated;
+        each = each_set (λ seat y. KeepsSeat seat steps j' y) lines x.seat line inside mine others;
+      }
 
   -- a job was served
   module _ (ask : Ask) (secret : List ℕ) (a : Answer) (now' : ℕ) (service' : State) (count' : ℕ)
       (job : x.what ≡ message.Job ask secret) (later : now ≤ now') (turn : Turn service ask secret now' a service') (counted : count' ≡ min (count + 1) count_limit) where
     abbrev pub step : Step
-    step = record { side = x.side; exchange = record { ask = ask; secret = secret; now = now'; answer = a } }
+    step = record { seat = x.seat; exchange = record { ask = ask; secret = secret; now = now'; answer = a } }
 
     abbrev pub steps : List Step
     steps = old ++ step ∷ []
 
     is_taken : taken_by steps ≡ taken_in j'.taken
     is_taken =
-        map-append (λ (s : Step). record { side = s.side; job = job_of s.exchange }) old (step ∷ [])
-        ∙ (λ i. k.keeps.is_taken i ++ add_job x.side (sym job i) [])
-        ∙ sym (taken_in-append j.taken (x ∷ [])) ∙ ap (λ v. taken_in v.taken) (sym took)
+        map-append (λ (s : Step). record { seat = s.seat; job = job_of s.exchange }) old (step ∷ [])
+        ∙ (λ i. k.keeps.is_taken i ++ add_job x.seat (sym job i) [])
+        ∙ sym (taken_in-append j.taken (x ∷ [])) ∙ ap (λ v. taken_in v.taken) (sym took.0)
 
-    keeps : (l' r' : Outlet) → Replied Left steps l' → Replied Right steps r' → Keeps start service' now' count' steps j'.taken l' r'
-    keeps l' r' left right =
+    keeps : Keeps start service' now' count' steps j'.taken
+    keeps =
         let e = exchanges_of-more old step in
         record {
           lawful = k.keeps.lawful;
@@ -146,78 +187,52 @@ module _ (start service : State) (now count : ℕ) (j j' : LineView Message) (l 
           moments = subst (λ xs. NeverBefore 0 xs) (sym e) (never_before_more 0 (exchanges_of old) step.exchange k.keeps.moments (rw k.keeps.last later));
           last = ap (last_moment 0) e ∙ last_moment-more 0 (exchanges_of old) step.exchange;
           is_taken = is_taken;
-          left_replied = left;
-          right_replied = right;
           counted = let n = k.keeps.counted in let m = length-append old (step ∷ []) in omega arith;
         }
 
-    pub served_left : x.side ≡ Left → (l' : Outlet) → Replies a l l' → (ld' : Bool) → ld' ≡ ld → (log : List Step) → log ≡ steps → IsKeeping start service' now' count' log j' l' r ld' rd
-    served_left from l' m ld' same log grown = subst (λ s. IsKeeping start service' now' count' s j' l' r ld' rd) (sym grown) record {
-      keeps = keeps l' r (replied_more Left old step (ap (same_side Left) from) l l' k.keeps.left_replied m) (replied_other Right old step (ap (same_side Right) from) r k.keeps.right_replied);
-      receives = taken_more;
-      left_finish = λ p. finish_stays Left (k.left_finish (sym same ∙ p));
-      right_finish = λ p. finish_stays Right (k.right_finish p);
-    }
-
-    pub served_right : x.side ≡ Right → (r' : Outlet) → Replies a r r' → (rd' : Bool) → rd' ≡ rd → (log : List Step) → log ≡ steps → IsKeeping start service' now' count' log j' l r' ld rd'
-    served_right from r' m rd' same log grown = subst (λ s. IsKeeping start service' now' count' s j' l r' ld rd') (sym grown) record {
-      keeps = keeps l r' (replied_other Left old step (ap (same_side Left) from) l k.keeps.left_replied) (replied_more Right old step (ap (same_side Right) from) r r' k.keeps.right_replied m);
-      receives = taken_more;
-      left_finish = λ p. finish_stays Left (k.left_finish p);
-      right_finish = λ p. finish_stays Right (k.right_finish (sym same ∙ p));
-    }
+    pub served_seat : (was line : ReplyLine) → was ≡ get_or lines x.seat was → Replies a (outlet_of was) (outlet_of line) → line.is_done ≡ was.is_done
+        → (lines' : List ReplyLine) → lines' ≡ set lines x.seat line → (log : List Step) → log ≡ steps → IsKeeping start service' now' count' log j' lines'
+    served_seat was line was_is m is_done lines' put log grown =
+        let kept = subst (λ y. KeepsSeat x.seat old j y) (sym was_is) (k.each x.seat was inside) in
+        after service' now' count' steps line log lines' put grown keeps
+        (all_more (λ (s : Step). s.seat < length lines) old step k.seated inside)
+        (record { replied = replied_more x.seat old step (same x.seat) (outlet_of was) (outlet_of line) kept.replied m; finish = λ p. finish_stays x.seat (kept.finish (sym is_done ∙ p)) })
+        (λ seat d below apart.
+        let kept' = k.each seat d below in
+        record { replied = replied_other seat old step apart (outlet_of (get_or lines seat d)) kept'.replied; finish = λ p. finish_stays seat (kept'.finish p) })
 
   -- a finish was taken
   module _ (finish : x.what ≡ message.Finish) where
     none_taken : taken_by old ≡ taken_in j'.taken
     none_taken =
-        k.keeps.is_taken ∙ sym (append-nil (taken_in j.taken)) ∙ (λ i. taken_in j.taken ++ add_job x.side (sym finish i) [])
-        ∙ sym (taken_in-append j.taken (x ∷ [])) ∙ ap (λ v. taken_in v.taken) (sym took)
+        k.keeps.is_taken ∙ sym (append-nil (taken_in j.taken)) ∙ (λ i. taken_in j.taken ++ add_job x.seat (sym finish i) [])
+        ∙ sym (taken_in-append j.taken (x ∷ [])) ∙ ap (λ v. taken_in v.taken) (sym took.0)
 
-    still : Keeps start service now count old j'.taken l r
+    still : Keeps start service now count old j'.taken
     still = record {
       lawful = k.keeps.lawful;
       run = k.keeps.run;
       moments = k.keeps.moments;
       last = k.keeps.last;
       is_taken = none_taken;
-      left_replied = k.keeps.left_replied;
-      right_replied = k.keeps.right_replied;
       counted = k.keeps.counted;
     }
 
-    took_finish : (side : Side) → x.side ≡ side → same_side side side ≡ true → TookFinish side j'
-    took_finish side from ours = ap (λ v. has_finish (items_of side v.taken)) took ∙ ap has_finish (items_of-append side j.taken (x ∷ []))
-        ∙ (λ i. has_finish (items_of side j.taken ++ items_of side (record { side = from i; what = finish i } ∷ [])))
-        ∙ (λ i. has_finish (items_of side j.taken ++ map (λ (y : Item Message). y.what) (cond (ours i) (record { side = side; what = message.Finish } ∷ []) []))) ∙ has_finish-last (items_of side j.taken)
+    took_finish : TookFinish x.seat j'
+    took_finish = ap (λ v. has_finish (items_of x.seat v.taken)) took.0 ∙ ap has_finish (items_of-append x.seat j.taken (x ∷ []))
+        ∙ ap (λ l. has_finish (items_of x.seat j.taken ++ l)) (of_own x.seat x (same x.seat) ∙ ap (λ m. m ∷ []) finish) ∙ has_finish-last (items_of x.seat j.taken)
 
-    pub finished_left : x.side ≡ Left → IsKeeping start service now count old j' l r true rd
-    finished_left from = record { keeps = still; receives = taken_more; left_finish = λ _. took_finish Left from refl; right_finish = λ p. finish_stays Right (k.right_finish p) }
-
-    pub finished_right : x.side ≡ Right → IsKeeping start service now count old j' l r ld true
-    finished_right from = record { keeps = still; receives = taken_more; left_finish = λ p. finish_stays Left (k.left_finish p); right_finish = λ _. took_finish Right from refl }
-
-pub begins_keeping : (start service : State) (log : List Step) (j : LineView Message) (l r : LineView Answer) (l_open r_open : Bool) → log ≡ [] → IsLawful service → start ≡ service → j ≡ taker_view [] → l ≡ only_sender_view [] → r ≡ only_sender_view []
-    → IsKeeping start service 0 0 log j (record { is_open = l_open; view = l }) (record { is_open = r_open; view = r }) false false
-begins_keeping start service log j l r l_open r_open none lawful same p q u = subst (λ s. IsKeeping start service 0 0 s j (record { is_open = l_open; view = l }) (record { is_open = r_open; view = r }) false false) (sym none) record {
-  keeps = record {
-    lawful = subst IsLawful (sym same) lawful;
-    run = sym same;
-    moments = tt;
-    last = refl;
-    is_taken = sym (ap (λ v. taken_in v.taken) p);
-    left_replied = record { replies = []; unsent = []; view = q; in_order = refl; all = λ _. refl };
-    right_replied = record { replies = []; unsent = []; view = u; in_order = refl; all = λ _. refl };
-    counted = refl;
-  };
-  receives = record { taken = []; is_taker = p };
-  left_finish = λ e. absurd (true≢false (sym e));
-  right_finish = λ e. absurd (true≢false (sym e));
-}
+    pub finished_seat : (was line : ReplyLine) → was ≡ get_or lines x.seat was → outlet_of line ≡ outlet_of was
+        → (lines' : List ReplyLine) → lines' ≡ set lines x.seat line → IsKeeping start service now count old j' lines'
+    finished_seat was line was_is same_outlet lines' put =
+        let kept = subst (λ y. KeepsSeat x.seat old j y) (sym was_is) (k.each x.seat was inside) in
+        after service now count old line old lines' put refl still k.seated
+        (record { replied = subst (λ o. Replied x.seat old o) (sym same_outlet) kept.replied; finish = λ p. took_finish })
+        (λ seat d below apart. let kept' = k.each seat d below in record { replied = kept'.replied; finish = λ p. finish_stays seat (kept'.finish p) })
 
 -- what a keeper kept is a run of which the headline holds
-pub served : HeadlineHolds → (start service : State) (now count : ℕ) (steps : List Step) (taken : List (Item Message)) (l r : Outlet) (k : Keeps start service now count steps taken l r) → IsServed start (exchanges_of steps) service
-served law start service now count steps taken l r k = record { run = k.run; moments = k.moments; headline = law start (exchanges_of steps) service k.lawful k.moments k.run }
+pub served : HeadlineHolds → (start service : State) (now count : ℕ) (steps : List Step) (taken : List (Item Message)) (k : Keeps start service now count steps taken) → IsServed start (exchanges_of steps) service
+served law start service now count steps taken k = record { run = k.run; moments = k.moments; headline = law start (exchanges_of steps) service k.lawful k.moments k.run }
 
 -- one entry more is one step more
 pub logged : (items more : List Entry) (e : Entry) (s : Step) → more ≡ items ++ e ∷ [] → step_of e ≡ s → steps_of more ≡ steps_of items ++ s ∷ []
@@ -251,4 +266,4 @@ module _ {M : Type 0} (tells : M → ℕ → M → Type 0) where
   }
 
 pub same_keeper_twice : (a b c : KeeperState) → IsSameKeeper a b → IsSameKeeper b c → IsSameKeeper a c
-same_keeper_twice a b c p q = record { jobs = q.jobs ∙ p.jobs; left = q.left ∙ p.left; right = q.right ∙ p.right; start = q.start ∙ p.start }
+same_keeper_twice a b c p q = record { jobs = q.jobs ∙ p.jobs; replies = q.replies ∙ p.replies; start = q.start ∙ p.start }

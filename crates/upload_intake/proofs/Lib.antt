@@ -2,11 +2,13 @@ pub mod Carrying
 pub mod Conversations
 pub mod KeeperMoves
 pub mod LineMoves
+pub mod Opening
 pub mod Orders
-pub mod Pairing
+pub mod Pooling
 pub mod SeatConversations
 pub mod SeatMoves
 pub mod Settling
+pub mod Transcripts
 pub mod Walks
 pub mod Watching
 pub mod Working

@@ -5,9 +5,8 @@ use Rattle.upload_service.specs.declared.answer.Answer.{Answer}
 use Rattle.upload_service.specs.declared.answer.Answer.TheVariants.{NoMemory}
 use Rattle.upload_service.specs.Machine.{State, Outcome, Comes, outcome, Turn}
 use Rattle.upload_service.specs.Run.{Run}
-use Rattle.upload_intake.specs.declared.line.Side.{Side}
 use Rattle.upload_intake.specs.Log.{Step, exchanges_of}
-use Rattle.upload_intake.specs.ServedPair.{Carries, of_side, asked_and_answered, read_and_replied, asks}
+use Rattle.upload_intake.specs.ServedPool.{Carries, of_seat, asked_and_answered, read_and_replied, asks}
 use Rattle.upload_intake.specs.Determined.{taken, HaveMemory, ServedOrdersAreDetermined}
 use Rattle.upload_wire.specs.Conversation.{Exchange}
 
@@ -27,7 +26,7 @@ turn_as : (old old' : State) (s s' : Step) (new : State) → old ≡ old' → ta
     → Turn old s.exchange.ask s.exchange.secret s.exchange.now s.exchange.answer new
     → Turn old' s'.exchange.ask s'.exchange.secret s'.exchange.now s.exchange.answer new
 turn_as old old' s s' new e same turn =
-    subst (λ (z : State × (Side × (Ask × (List ℕ × ℕ)))). Turn z.0 z.1.1.0 z.1.1.1.0 z.1.1.1.1 s.exchange.answer new) (λ i. (e i, same i)) turn
+    subst (λ (z : State × (ℕ × (Ask × (List ℕ × ℕ)))). Turn z.0 z.1.1.0 z.1.1.1.0 z.1.1.1.1 s.exchange.answer new) (λ i. (e i, same i)) turn
 
 runs_same : (old old' new new' : State) (xs ys : List Step) → old ≡ old' → Run old (exchanges_of xs) new → Run old' (exchanges_of ys) new'
     → map taken xs ≡ map taken ys → HaveMemory xs → HaveMemory ys → (xs ≡ ys) × (new ≡ new')
@@ -40,7 +39,7 @@ runs_same old old' new new' (x ∷ xs) (y ∷ ys) e p q same m n =
     let once = turns_same old' y.exchange.ask y.exchange.secret y.exchange.now x.exchange.answer y.exchange.answer p.0 q.0 (turn_as old old' x y p.0 e first p.1) q.1 m.0 n.0 in
     let next = runs_same p.0 q.0 new new' xs ys once.1 p.2 q.2 others m.1 n.1 in
     let head : x ≡ y = λ i. record {
-      side = (first i).0;
+      seat = (first i).0;
       exchange = record { ask = (first i).1.0; secret = (first i).1.1.0; now = (first i).1.1.1; answer = once.0 i };
     } in
     (λ i. head i ∷ next.0 i, next.1)
@@ -50,13 +49,13 @@ none_of [] e = refl
 none_of (s ∷ ss) e = absurd (let l = ap length e in omega (arith, l))
 
 -- all steps of a side are what was read and replied there
-whole : (side : Side) (steps : List Step) (xs : List Exchange) → Carries side steps xs [] → map asked_and_answered (of_side side steps) ≡ map read_and_replied xs
-whole side steps xs c =
+whole : (seat : ℕ) (steps : List Step) (xs : List Exchange) → Carries seat steps xs [] → map asked_and_answered (of_seat seat steps) ≡ map read_and_replied xs
+whole seat steps xs c =
     let none : c.unheard ≡ [] = none_of c.unheard (⊎_elim (λ e. e) (λ e. e) c.lost) in
     c.in_order ∙ ap (λ (l : List Step). map read_and_replied xs ++ map asked_and_answered l) none ∙ append-nil (map read_and_replied xs)
 
 pub orders_determined : ServedOrdersAreDetermined
 orders_determined = record {
   by_order = λ start one two steps others p q same m n. runs_same start start one two steps others refl p.run q.run same m n;
-  by_steps = λ side steps xs ys p q. sym (whole side steps xs p) ∙ whole side steps ys q;
+  by_steps = λ seat steps xs ys p q. sym (whole seat steps xs p) ∙ whole seat steps ys q;
 }

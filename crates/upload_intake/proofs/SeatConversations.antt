@@ -8,7 +8,7 @@ use Rattle.upload_intake.specs.Log.{Job}
 use Rattle.upload_intake.specs.Seats.{SeatState, Asks}
 use Rattle.upload_intake.specs.SeatConversations.{asks_of, answers_of, asks_in, Adds, SeatSteps, ConversationsFillTheSeat}
 use Rattle.upload_wire.specs.ConnectionRuns.{answered_last, unanswered_last, answered, unanswered}
-use Rattle.upload_wire.specs.States.{SourceState, SinkState}
+use Rattle.http_wire.specs.States.{SourceState, SinkState}
 use Rattle.upload_wire.specs.Conversation.{Moves, Exchange, Answers, EndsWith, IsConversation, stand}
 use Rattle.upload_wire.specs.declared.connection.ConnEnd.{ConnEnd}
 use Rattle.upload_wire.specs.declared.connection.ConnEnd.TheVariants.{Clean, AfterClose, AfterBad, TooMany, DeskGone, Fault}

@@ -1,29 +1,20 @@
 -- What a seat's passes know after a request, an answer, and the end.
-use Rattle.std.proofs.Common.{◌≡◌, ℕ, Bool, true, false, true≢false, List, [], ◌∷◌, ◌++◌, length, length-append, sym, refl, ap, ◌∙◌, arith, append-nil, Result, Ok, Err, MatchResult}
+use Rattle.std.proofs.Common.{◌≡◌, ◌≤◌, ◌==◌, ℕ, zero, suc, Bool, true, false, true≢false, List, [], ◌∷◌, ◌++◌, length, length-append, sym, refl, ap, ◌∙◌, arith, append-nil, Result, Ok, Err, MatchResult}
 use Rattle.std.proofs.lemmas.List.{map-append}
 use Rattle.upload_service.specs.declared.ask.Ask.{Ask}
 use Rattle.upload_service.specs.declared.answer.Answer.{Answer}
-use Rattle.upload_intake.specs.declared.line.Side.{Side}
-use Rattle.upload_intake.specs.declared.line.Side.TheVariants.{Left, Right}
 use Rattle.upload_intake.specs.declared.line.Item.{Item}
 use Rattle.upload_intake.specs.declared.line.LineView.{LineView}
 use Rattle.upload_intake.specs.declared.message.Message.{Message}
 use Rattle.upload_intake.specs.declared.message.Message.TheVariants as message
-use Rattle.upload_intake.specs.Line.{sent, with_sent, with_taken}
+use Rattle.upload_intake.specs.Line.{items_of, sent, is_sender, with_sent, with_taken, IsOfAnother}
 use Rattle.upload_intake.specs.Log.{Job}
-use Rattle.upload_intake.specs.Passes.{LineId, sender_view, whats}
+use Rattle.upload_intake.specs.Passes.{LineId, sender_view, taker_view, whats}
 use Rattle.upload_intake.specs.Seats.{SeatState}
 use Rattle.upload_intake.specs.Kept.{jobs_in, has_finish, is_closed, Sits, SatToTheEnd}
+use Rattle.upload_intake.proofs.LineMoves.{same, items_of-append, of_own, seat_below}
 
 module _ {T : Type 0} where
-  pub with_sent-sender_view : (side : Side) (sent : List T) (t : T) → with_sent (record { side = side; what = t }) (sender_view side sent) ≡ sender_view side (sent ++ t ∷ [])
-  with_sent-sender_view Left sent t = refl
-  with_sent-sender_view Right sent t = refl
-
-  pub sent-sender_view : (side : Side) (ts : List T) → sent side (sender_view side ts) ≡ ts
-  sent-sender_view Left ts = refl
-  sent-sender_view Right ts = refl
-
   pub whats_more : (xs : List (Item T)) (x : Item T) → whats (xs ++ x ∷ []) ≡ whats xs ++ x.what ∷ []
   whats_more xs x = map-append (λ (y : Item T). y.what) xs (x ∷ [])
 
@@ -47,26 +38,30 @@ closed_without [] e = refl
 closed_without (message.Job a s ∷ xs) e = closed_without xs e
 closed_without (message.Finish ∷ xs) e = absurd (true≢false e)
 
-module _ (side : Side) (gone : Bool) (j : LineView Message) (r : LineView Answer) (s : Sits side gone j r) where
+zero_unless : (n : ℕ) → (1 ≤ n → ⊥) → (0 == n) ≡ true
+zero_unless zero h = refl
+zero_unless (suc n) h = absurd (h (omega arith))
+
+module _ (seat : ℕ) (gone : Bool) (j : LineView Message) (r : LineView Answer) (s : Sits seat gone j r) where
   -- the view of the jobs, after one message more
-  more : (m : Message) (j' : LineView Message) → j' ≡ with_sent (record { side = side; what = m }) j → j' ≡ sender_view side (s.sent ++ m ∷ [])
-  more m j' e = e ∙ ap (with_sent (record { side = side; what = m })) s.knows.jobs_view ∙ with_sent-sender_view side s.sent m
+  more : (m : Message) (j' : LineView Message) → j' ≡ with_sent (record { seat = seat; what = m }) j → j' ≡ sender_view seat (s.sent ++ m ∷ [])
+  more m j' e = e ∙ ap (with_sent (record { seat = seat; what = m })) s.knows.jobs_view
 
-  jobs_before : jobs_in (sent side j) ≡ jobs_in s.sent
-  jobs_before = ap (λ v. jobs_in (sent side v)) s.knows.jobs_view ∙ ap jobs_in (sent-sender_view side s.sent)
+  jobs_before : jobs_in (sent j.sending) ≡ jobs_in s.sent
+  jobs_before = ap (λ v. jobs_in (sent v.sending)) s.knows.jobs_view
 
-  jobs_after : (m : Message) (j' : LineView Message) → j' ≡ with_sent (record { side = side; what = m }) j → jobs_in (sent side j') ≡ jobs_in s.sent ++ jobs_in (m ∷ [])
+  jobs_after : (m : Message) (j' : LineView Message) → j' ≡ with_sent (record { seat = seat; what = m }) j → jobs_in (sent j'.sending) ≡ jobs_in s.sent ++ jobs_in (m ∷ [])
   jobs_after m j' e =
-      ap (λ v. jobs_in (sent side v)) (more m j' e) ∙ ap jobs_in (sent-sender_view side (s.sent ++ m ∷ [])) ∙ jobs_in-append s.sent (m ∷ [])
+      ap (λ v. jobs_in (sent v.sending)) (more m j' e) ∙ jobs_in-append s.sent (m ∷ [])
 
-  pub one_more_sent : (ask : Ask) (secret : List ℕ) (j' : LineView Message) → j' ≡ with_sent (record { side = side; what = message.Job ask secret }) j → jobs_in (sent side j') ≡ jobs_in (sent side j) ++ (ask, secret) ∷ []
+  pub one_more_sent : (ask : Ask) (secret : List ℕ) (j' : LineView Message) → j' ≡ with_sent (record { seat = seat; what = message.Job ask secret }) j → jobs_in (sent j'.sending) ≡ jobs_in (sent j.sending) ++ (ask, secret) ∷ []
   one_more_sent ask secret j' e = jobs_after (message.Job ask secret) j' e ∙ ap (λ l. l ++ (ask, secret) ∷ []) (sym jobs_before)
 
-  no_more_sent : (j' : LineView Message) → j' ≡ with_sent (record { side = side; what = message.Finish }) j → jobs_in (sent side j') ≡ jobs_in (sent side j)
+  no_more_sent : (j' : LineView Message) → j' ≡ with_sent (record { seat = seat; what = message.Finish }) j → jobs_in (sent j'.sending) ≡ jobs_in (sent j.sending)
   no_more_sent j' e = jobs_after message.Finish j' e ∙ append-nil (jobs_in s.sent) ∙ sym jobs_before
 
   pub answered : gone ≡ false → (ask : Ask) (secret : List ℕ) (x : Item Answer) (j' : LineView Message) (r' : LineView Answer)
-      → j' ≡ with_sent (record { side = side; what = message.Job ask secret }) j → r' ≡ with_taken x r → Sits side gone j' r'
+      → j' ≡ with_sent (record { seat = seat; what = message.Job ask secret }) j → (r' ≡ with_taken x r) × IsOfAnother r x → Sits seat gone j' r'
   answered here ask secret x j' r' e f =
       let n : length s.knows.got ≡ length (jobs_in s.sent) = s.knows.each_answered here in
       record {
@@ -74,68 +69,71 @@ module _ (side : Side) (gone : Bool) (j : LineView Message) (r : LineView Answer
         knows = record {
           got = s.knows.got ++ x ∷ [];
           jobs_view = more (message.Job ask secret) j' e;
-          replies_view = f ∙ ap (with_taken x) s.knows.replies_view;
+          replies_view = f.0 ∙ ap (with_taken x) s.knows.replies_view;
+          of_one = items_of-append 0 s.knows.got (x ∷ []) ∙ (λ i. s.knows.of_one i ++ of_own 0 x (zero_unless x.seat (seat_below 1 s.knows.got r x s.knows.replies_view f.1)) i) ∙ sym (whats_more s.knows.got x);
           each_answered = λ _. omega (arith, length-append s.knows.got (x ∷ []), ap length (jobs_in-append s.sent (message.Job ask secret ∷ [])), length-append (jobs_in s.sent) ((ask, secret) ∷ []), n);
         };
         unfinished = still_unfinished s.sent ask secret s.unfinished;
       }
 
   pub unanswered : (ask : Ask) (secret : List ℕ) (j' : LineView Message) (r' : LineView Answer)
-      → j' ≡ with_sent (record { side = side; what = message.Job ask secret }) j → r' ≡ r → Sits side true j' r'
+      → j' ≡ with_sent (record { seat = seat; what = message.Job ask secret }) j → r' ≡ r → Sits seat true j' r'
   unanswered ask secret j' r' e f = record {
     sent = s.sent ++ message.Job ask secret ∷ [];
     knows = record {
       got = s.knows.got;
       jobs_view = more (message.Job ask secret) j' e;
       replies_view = f ∙ s.knows.replies_view;
+      of_one = s.knows.of_one;
       each_answered = λ p. absurd (true≢false p);
     };
     unfinished = still_unfinished s.sent ask secret s.unfinished;
   }
 
-  ended : (j' : LineView Message) → j' ≡ with_sent (record { side = side; what = message.Finish }) j → SatToTheEnd side gone j' r
+  ended : (j' : LineView Message) → j' ≡ with_sent (record { seat = seat; what = message.Finish }) j → SatToTheEnd seat gone j' r
   ended j' e = record {
     sent = s.sent ++ message.Finish ∷ [];
     knows = record {
       got = s.knows.got;
       jobs_view = more message.Finish j' e;
       replies_view = s.knows.replies_view;
+      of_one = s.knows.of_one;
       each_answered = λ p. s.knows.each_answered p ∙ ap length (sym (jobs_in-append s.sent (message.Finish ∷ []) ∙ append-nil (jobs_in s.sent)));
     };
     finished_last = closed_by_finish s.sent s.unfinished;
   }
 
-  ended_unsent : (j' : LineView Message) → j' ≡ j → SatToTheEnd side gone j' r
+  ended_unsent : (j' : LineView Message) → j' ≡ j → SatToTheEnd seat gone j' r
   ended_unsent j' e = record {
     sent = s.sent;
-    knows = record { got = s.knows.got; jobs_view = e ∙ s.knows.jobs_view; replies_view = s.knows.replies_view; each_answered = s.knows.each_answered };
+    knows = record { got = s.knows.got; jobs_view = e ∙ s.knows.jobs_view; replies_view = s.knows.replies_view; of_one = s.knows.of_one; each_answered = s.knows.each_answered };
     finished_last = closed_without s.sent s.unfinished;
   }
 
   -- whether or not the finish was sent
-  pub ended_by : (j' : LineView Message) (o : Result (Unit {0}) (Item Message)) → MatchResult o (λ _. j' ≡ with_sent (record { side = side; what = message.Finish }) j) (λ back. (back ≡ record { side = side; what = message.Finish }) × (j' ≡ j)) → SatToTheEnd side gone j' r
+  pub ended_by : (j' : LineView Message) (o : Result (Unit {0}) (Item Message)) → MatchResult o (λ _. j' ≡ with_sent (record { seat = seat; what = message.Finish }) j) (λ back. (back ≡ record { seat = seat; what = message.Finish }) × (j' ≡ j)) → SatToTheEnd seat gone j' r
   ended_by j' (Ok x) m = ended j' m
   ended_by j' (Err b) m = ended_unsent j' m.1
 
-  pub same_by : (j' : LineView Message) (o : Result (Unit {0}) (Item Message)) → MatchResult o (λ _. j' ≡ with_sent (record { side = side; what = message.Finish }) j) (λ back. (back ≡ record { side = side; what = message.Finish }) × (j' ≡ j)) → jobs_in (sent side j') ≡ jobs_in (sent side j)
+  pub same_by : (j' : LineView Message) (o : Result (Unit {0}) (Item Message)) → MatchResult o (λ _. j' ≡ with_sent (record { seat = seat; what = message.Finish }) j) (λ back. (back ≡ record { seat = seat; what = message.Finish }) × (j' ≡ j)) → jobs_in (sent j'.sending) ≡ jobs_in (sent j.sending)
   same_by j' (Ok x) m = no_more_sent j' m
-  same_by j' (Err b) m = ap (λ v. jobs_in (sent side v)) m.1
+  same_by j' (Err b) m = ap (λ v. jobs_in (sent v.sending)) m.1
 
-abbrev seat_state : LineId Message → LineId Answer → Side → List Job → List Answer → Bool → SeatState
-seat_state jobs replies side sent heard gone = record { jobs = jobs; replies = replies; side = side; sent = sent; heard = heard; gone = gone }
+abbrev seat_state : LineId Message → LineId Answer → ℕ → List Job → List Answer → Bool → SeatState
+seat_state jobs replies seat sent heard gone = record { jobs = jobs; replies = replies; seat = seat; sent = sent; heard = heard; gone = gone }
 
-pub told : (a a' : LineId Message) (b b' : LineId Answer) (side : Side) (s s' : List Job) (h h' : List Answer) (g g' last : Bool) (old : SeatState) (ms : List Job) (mh : List Answer)
-    → seat_state a b side s h g ≡ old → a' ≡ a → b' ≡ b → s' ≡ s ++ ms → h' ≡ h ++ mh → g' ≡ last
-    → seat_state a' b' side s' h' g' ≡ seat_state old.jobs old.replies old.side (old.sent ++ ms) (old.heard ++ mh) last
-told a a' b b' side s s' h h' g g' last old ms mh is p q u v w =
-    λ i. record { jobs = (p ∙ ap (λ o. o.jobs) is) i; replies = (q ∙ ap (λ o. o.replies) is) i; side = ap (λ o. o.side) is i; sent = (u ∙ ap (λ o. o.sent ++ ms) is) i; heard = (v ∙ ap (λ o. o.heard ++ mh) is) i; gone = w i }
+pub told : (a a' : LineId Message) (b b' : LineId Answer) (seat : ℕ) (s s' : List Job) (h h' : List Answer) (g g' last : Bool) (old : SeatState) (ms : List Job) (mh : List Answer)
+    → seat_state a b seat s h g ≡ old → a' ≡ a → b' ≡ b → s' ≡ s ++ ms → h' ≡ h ++ mh → g' ≡ last
+    → seat_state a' b' seat s' h' g' ≡ seat_state old.jobs old.replies old.seat (old.sent ++ ms) (old.heard ++ mh) last
+told a a' b b' seat s s' h h' g g' last old ms mh is p q u v w =
+    λ i. record { jobs = (p ∙ ap (λ o. o.jobs) is) i; replies = (q ∙ ap (λ o. o.replies) is) i; seat = ap (λ o. o.seat) is i; sent = (u ∙ ap (λ o. o.sent ++ ms) is) i; heard = (v ∙ ap (λ o. o.heard ++ mh) is) i; gone = w i }
 
-pub told_none : (a a' : LineId Message) (b b' : LineId Answer) (side : Side) (s s' : List Job) (h h' : List Answer) (g : Bool) (old : SeatState) (ms : List Job)
-    → seat_state a b side s h g ≡ old → a' ≡ a → b' ≡ b → s' ≡ s ++ ms → h' ≡ h
-    → seat_state a' b' side s' h' true ≡ seat_state old.jobs old.replies old.side (old.sent ++ ms) old.heard true
-told_none a a' b b' side s s' h h' g old ms is p q u v =
-    λ i. record { jobs = (p ∙ ap (λ o. o.jobs) is) i; replies = (q ∙ ap (λ o. o.replies) is) i; side = ap (λ o. o.side) is i; sent = (u ∙ ap (λ o. o.sent ++ ms) is) i; heard = (v ∙ ap (λ o. o.heard) is) i; gone = true }
+pub told_none : (a a' : LineId Message) (b b' : LineId Answer) (seat : ℕ) (s s' : List Job) (h h' : List Answer) (g : Bool) (old : SeatState) (ms : List Job)
+    → seat_state a b seat s h g ≡ old → a' ≡ a → b' ≡ b → s' ≡ s ++ ms → h' ≡ h
+    → seat_state a' b' seat s' h' true ≡ seat_state old.jobs old.replies old.seat (old.sent ++ ms) old.heard true
+told_none a a' b b' seat s s' h h' g old ms is p q u v =
+    λ i. record { jobs = (p ∙ ap (λ o. o.jobs) is) i; replies = (q ∙ ap (λ o. o.replies) is) i; seat = ap (λ o. o.seat) is i; sent = (u ∙ ap (λ o. o.sent ++ ms) is) i; heard = (v ∙ ap (λ o. o.heard) is) i; gone = true }
 
-pub told_nothing : (a a' : LineId Message) (b : LineId Answer) (side : Side) (s s' : List Job) (h : List Answer) (g : Bool) (old : SeatState)
-    → seat_state a b side s h g ≡ old → a' ≡ a → s' ≡ s → seat_state a' b side s' h g ≡ old
-told_nothing a a' b side s s' h g old is p u = (λ i. record { jobs = p i; replies = b; side = side; sent = u i; heard = h; gone = g }) ∙ is
+pub told_nothing : (a a' : LineId Message) (b : LineId Answer) (seat : ℕ) (s s' : List Job) (h : List Answer) (g : Bool) (old : SeatState)
+    → seat_state a b seat s h g ≡ old → a' ≡ a → s' ≡ s → seat_state a' b seat s' h g ≡ old
+told_nothing a a' b seat s s' h g old is p u = (λ i. record { jobs = p i; replies = b; seat = seat; sent = u i; heard = h; gone = g }) ∙ is

@@ -13,7 +13,7 @@ use Rattle.upload_intake.specs.Working.{Means, Behind, is_clean, is_gone, Serves
 use Rattle.upload_intake.proofs.Conversations.{GatedSteps}
 use Rattle.upload_intake.proofs.SeatConversations.{adds_none, adds_twice, fills}
 use Rattle.upload_intake.proofs.Watching.{each_twice, watched_on, watched_lost}
-use Rattle.upload_wire.specs.States.{SourceState, SinkState}
+use Rattle.http_wire.specs.States.{SourceState, SinkState}
 use Rattle.upload_wire.specs.Conversation.{Moves, Exchange, Answers, EndsWith, IsConversation, stand}
 use Rattle.upload_wire.specs.ConnectionRuns.{answered_last, unanswered_last, answered, unanswered}
 use Rattle.upload_wire.specs.declared.connection.ConnEnd.{ConnEnd}
@@ -43,7 +43,7 @@ module _ {D E : Type 0} (step : Moves D) (seen : Moves E) (see : D → E)
   pub seen_as : (max_body : ℕ) (first left : SourceState) (old new : D) (before after : SinkState) (end : ConnEnd) → IsConversation step max_body first left old new before after end → IsConversation seen max_body first left (see old) (see new) before after end
   seen_as max_body first left old new before after end c = record {
     bytes = c.bytes;
-    consumed = c.consumed;
+    gives = c.gives;
     reads = c.reads;
     exchanges = c.exchanges;
     rest = c.rest;
@@ -86,7 +86,7 @@ module _ {D E : Type 0} (step : Moves D) (seen : Moves E) (see : D → E)
 
 -- ---- ends
 
-behind : (end : ConnEnd) (A B : Type 0) → Behind end A B → ((end ≡ DeskGone) × A) ⊎ ((end ≡ DeskGone → ⊥) × B)
+pub behind : (end : ConnEnd) (A B : Type 0) → Behind end A B → ((end ≡ DeskGone) × A) ⊎ ((end ≡ DeskGone → ⊥) × B)
 behind Clean A B x = inr ((λ same. cc), x)
 behind AfterClose A B x = inr ((λ same. cc), x)
 behind AfterBad A B x = inr ((λ same. cc), x)

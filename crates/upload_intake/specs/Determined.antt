@@ -4,25 +4,24 @@ use Rattle.std.specs.List.{AllByRecursion}
 use Rattle.upload_service.specs.declared.ask.Ask.{Ask}
 use Rattle.upload_service.specs.declared.answer.Answer.TheVariants.{NoMemory}
 use Rattle.upload_service.specs.Machine.{State}
-use Rattle.upload_intake.specs.declared.line.Side.{Side}
 use Rattle.upload_intake.specs.Log.{Step, exchanges_of}
 use Rattle.upload_intake.specs.Served.{IsServed}
-use Rattle.upload_intake.specs.ServedPair.{Carries, read_and_replied}
+use Rattle.upload_intake.specs.ServedPool.{Carries, read_and_replied}
 use Rattle.upload_wire.specs.Conversation.{Exchange}
 
 -- a step but for its answer: from which seat the job came, what it asked, with which secret, and at which moment it was served
-abbrev pub taken : Step → Side × (Ask × (List ℕ × ℕ))
-taken s = (s.side, (s.exchange.ask, (s.exchange.secret, s.exchange.now)))
+abbrev pub taken : Step → ℕ × (Ask × (List ℕ × ℕ))
+taken s = (s.seat, (s.exchange.ask, (s.exchange.secret, s.exchange.now)))
 
 -- no answer was want of memory
 abbrev pub HaveMemory : List Step → Type 0
 HaveMemory steps = AllByRecursion (λ (s : Step). s.exchange.answer ≢ NoMemory) steps
 
 -- What two services from the same state served in the same order: the same answers were given, and the same service is left, where memory
--- wasn't wanting. What two workers read and replied on all their connections is the same where the same steps are theirs, and no desk was gone.
+-- wasn't wanting. What two workers of one seat read and replied on all their connections is the same where the same steps are theirs, and no desk was gone.
 pub record ServedOrdersAreDetermined : Type 0 where
   pub by_order : (start one two : State) (steps others : List Step)
       → IsServed start (exchanges_of steps) one → IsServed start (exchanges_of others) two
       → map taken steps ≡ map taken others → HaveMemory steps → HaveMemory others → (steps ≡ others) × (one ≡ two)
-  pub by_steps : (side : Side) (steps : List Step) (xs ys : List Exchange)
-      → Carries side steps xs [] → Carries side steps ys [] → map read_and_replied xs ≡ map read_and_replied ys
+  pub by_steps : (seat : ℕ) (steps : List Step) (xs ys : List Exchange)
+      → Carries seat steps xs [] → Carries seat steps ys [] → map read_and_replied xs ≡ map read_and_replied ys

@@ -1,17 +1,18 @@
--- What the passes of the three lines know, and what a keeper keeps from one item to the next.
-use Rattle.std.specs.Prelude.{◌≡◌, ℕ, min, Bool, true, false, List, [], ◌∷◌, ◌++◌, length}
+-- What the passes of the lines know, and what a keeper keeps from one item to the next.
+use Rattle.std.specs.Prelude.{◌≡◌, ◌<◌, ℕ, min, Bool, true, false, List, [], ◌∷◌, ◌++◌, length, get_or}
+use Rattle.std.specs.List.{AllByRecursion}
 use Rattle.upload_service.specs.declared.answer.Answer.{Answer}
 use Rattle.upload_service.specs.Machine.{State, IsLawful}
 use Rattle.upload_service.specs.Run.{Run, NeverFall}
-use Rattle.upload_intake.specs.declared.line.Side.{Side}
-use Rattle.upload_intake.specs.declared.line.Side.TheVariants.{Left, Right}
 use Rattle.upload_intake.specs.declared.line.Item.{Item}
 use Rattle.upload_intake.specs.declared.line.LineView.{LineView}
 use Rattle.upload_intake.specs.declared.message.Message.{Message}
 use Rattle.upload_intake.specs.declared.message.Message.TheVariants as message
+use Rattle.upload_intake.specs.declared.reply.ReplyLine.{ReplyLine}
+use Rattle.crossbeam_channel.specs.Claims.{view}
 use Rattle.upload_intake.specs.Line.{items_of}
 use Rattle.upload_intake.specs.Log.{Job, TakenJob, Step, exchanges_of, taken_by, answers_to, last_moment}
-use Rattle.upload_intake.specs.Passes.{sender_view, only_sender_view, taker_view}
+use Rattle.upload_intake.specs.Passes.{sender_view, taker_view, whats}
 use Rattle.upload_intake.specs.Settled.{count_limit}
 
 -- the jobs among what lies on a line
@@ -20,13 +21,13 @@ jobs_in [] = []
 jobs_in (message.Job ask secret ∷ ms) = (ask, secret) ∷ jobs_in ms
 jobs_in (message.Finish ∷ ms) = jobs_in ms
 
-abbrev pub add_job : Side → Message → List TakenJob → List TakenJob
-add_job side (message.Job ask secret) taken = record { side = side; job = (ask, secret) } ∷ taken
-add_job side message.Finish taken = taken
+abbrev pub add_job : ℕ → Message → List TakenJob → List TakenJob
+add_job seat (message.Job ask secret) taken = record { seat = seat; job = (ask, secret) } ∷ taken
+add_job seat message.Finish taken = taken
 
 abbrev pub taken_in : List (Item Message) → List TakenJob
 taken_in [] = []
-taken_in (x ∷ xs) = add_job x.side x.what (taken_in xs)
+taken_in (x ∷ xs) = add_job x.seat x.what (taken_in xs)
 
 abbrev pub has_finish : List Message → Bool
 has_finish [] = false
@@ -44,22 +45,23 @@ is_closed (message.Finish ∷ ms) = is_empty ms
 is_closed (message.Job ask secret ∷ ms) = is_closed ms
 
 -- What a seat's passes know: what it sent, what it got, and that a seat which isn't gone got a reply to each job.
-pub record Knows (side : Side) (gone : Bool) (jobs : LineView Message) (replies : LineView Answer) (sent : List Message) : Type 0 where
+pub record Knows (seat : ℕ) (gone : Bool) (jobs : LineView Message) (replies : LineView Answer) (sent : List Message) : Type 0 where
   pub got : List (Item Answer)
-  pub jobs_view : jobs ≡ sender_view side sent
-  pub replies_view : replies ≡ taker_view got
+  pub jobs_view : jobs ≡ sender_view seat sent
+  pub replies_view : replies ≡ taker_view 1 got
+  pub of_one : items_of 0 got ≡ whats got
   pub each_answered : gone ≡ false → length got ≡ length (jobs_in sent)
 
 -- a seat that hasn't finished
-pub record Sits (side : Side) (gone : Bool) (jobs : LineView Message) (replies : LineView Answer) : Type 0 where
+pub record Sits (seat : ℕ) (gone : Bool) (jobs : LineView Message) (replies : LineView Answer) : Type 0 where
   pub sent : List Message
-  pub knows : Knows side gone jobs replies sent
+  pub knows : Knows seat gone jobs replies sent
   pub unfinished : has_finish sent ≡ false
 
 -- a seat that sends no more
-pub record SatToTheEnd (side : Side) (gone : Bool) (jobs : LineView Message) (replies : LineView Answer) : Type 0 where
+pub record SatToTheEnd (seat : ℕ) (gone : Bool) (jobs : LineView Message) (replies : LineView Answer) : Type 0 where
   pub sent : List Message
-  pub knows : Knows side gone jobs replies sent
+  pub knows : Knows seat gone jobs replies sent
   pub finished_last : is_closed sent ≡ true
 
 -- The keeper's end of a reply line: whether it is open, and what its pass knows.
@@ -67,51 +69,57 @@ pub record Outlet : Type 0 where
   pub is_open : Bool
   pub view : LineView Answer
 
+abbrev pub outlet_of : ReplyLine → Outlet
+outlet_of line = record { is_open = line.replies.is_open; view = view line.replies.pass }
+
 -- the replies sent begin the answers to a seat, and are all of them while the line is open
-pub record Replied (side : Side) (steps : List Step) (outlet : Outlet) : Type 0 where
+pub record Replied (seat : ℕ) (steps : List Step) (outlet : Outlet) : Type 0 where
   pub replies : List Answer
   pub unsent : List Answer
-  pub view : outlet.view ≡ only_sender_view replies
-  pub in_order : answers_to side steps ≡ replies ++ unsent
+  pub view : outlet.view ≡ sender_view 0 replies
+  pub in_order : answers_to seat steps ≡ replies ++ unsent
   pub all : outlet.is_open ≡ true → unsent ≡ []
 
+-- a pass took a seat's finish
+abbrev pub TookFinish : ℕ → LineView Message → Type 0
+TookFinish seat view = has_finish (items_of seat view.taken) ≡ true
+
+-- what a keeper keeps of a seat: what it replied, and that it took the finish of one that is done
+pub record KeepsSeat (seat : ℕ) (steps : List Step) (jobs : LineView Message) (line : ReplyLine) : Type 0 where
+  pub replied : Replied seat steps (outlet_of line)
+  pub finish : line.is_done ≡ true → TookFinish seat jobs
+
 -- what a keeper keeps of its service, over the steps in its log
-pub record Keeps (start service : State) (now count : ℕ) (steps : List Step) (taken : List (Item Message)) (left right : Outlet) : Type 0 where
+pub record Keeps (start service : State) (now count : ℕ) (steps : List Step) (taken : List (Item Message)) : Type 0 where
   pub lawful : IsLawful start
   pub run : Run start (exchanges_of steps) service
   pub moments : NeverFall (exchanges_of steps)
   pub last : last_moment 0 (exchanges_of steps) ≡ now
   pub is_taken : taken_by steps ≡ taken_in taken
-  pub left_replied : Replied Left steps left
-  pub right_replied : Replied Right steps right
   pub counted : count ≡ min (length steps) count_limit
 
--- a pass receives; it took a sender's finish; it sends replies
-pub record Receives (view : LineView Message) : Type 0 where
+-- a pass receives from so many seats
+pub record Receives (seats : ℕ) (view : LineView Message) : Type 0 where
   pub taken : List (Item Message)
-  pub is_taker : view ≡ taker_view taken
+  pub is_taker : view ≡ taker_view seats taken
 
-abbrev pub TookFinish : Side → LineView Message → Type 0
-TookFinish side view = has_finish (items_of side view.taken) ≡ true
+abbrev pub AreOfSeats : ℕ → List Step → Type 0
+AreOfSeats seats steps = AllByRecursion (λ (s : Step). s.seat < seats) steps
 
-pub record SendsReplies (view : LineView Answer) : Type 0 where
-  pub replies : List Answer
-  pub is_sender : view ≡ only_sender_view replies
+-- a keeper that runs, with a reply line for each seat
+pub record IsKeeping (start service : State) (now count : ℕ) (steps : List Step) (jobs : LineView Message) (lines : List ReplyLine) : Type 0 where
+  pub keeps : Keeps start service now count steps jobs.taken
+  pub receives : Receives (length lines) jobs
+  pub seated : AreOfSeats (length lines) steps
+  pub each : (seat : ℕ) (d : ReplyLine) → seat < length lines → KeepsSeat seat steps jobs (get_or lines seat d)
 
--- a keeper that runs: of a seat that is done it took the finish
-pub record IsKeeping
-    (start service : State) (now count : ℕ) (steps : List Step) (jobs : LineView Message)
-    (left right : Outlet) (left_done right_done : Bool)
-    : Type 0 where
-  pub keeps : Keeps start service now count steps jobs.taken left right
-  pub receives : Receives jobs
-  pub left_finish : left_done ≡ true → TookFinish Left jobs
-  pub right_finish : right_done ≡ true → TookFinish Right jobs
+abbrev pub AreDone : List ReplyLine → Type 0
+AreDone lines = (seat : ℕ) (d : ReplyLine) → seat < length lines → (get_or lines seat d).is_done ≡ true
 
 -- a reply was sent on a line that is open; or nothing was, and the line is closed from now on
 pub data Replies (answer : Answer) (old new : Outlet) : Type 0 where
   Sent : old.is_open ≡ true → new.is_open ≡ true
-      → ((replies : List Answer) → old.view ≡ only_sender_view replies → new.view ≡ only_sender_view (replies ++ answer ∷ []))
+      → ((replies : List Answer) → old.view ≡ sender_view 0 replies → new.view ≡ sender_view 0 (replies ++ answer ∷ []))
       → Replies answer old new
   Closed : new.is_open ≡ false → new.view ≡ old.view → Replies answer old new
 

@@ -1,11 +1,9 @@
--- What the keeper took from its two seats and answered, as one list.
-use Rattle.std.specs.Prelude.{ℕ, List, [], ◌∷◌, map, filter}
+-- What the keeper took from its seats and answered, as one list.
+use Rattle.std.specs.Prelude.{ℕ, ◌==◌, List, [], ◌∷◌, map, filter}
 use Rattle.upload_service.specs.declared.ask.Ask.{Ask}
 use Rattle.upload_service.specs.declared.answer.Answer.{Answer}
 use Rattle.upload_service.specs.Run.{Exchange}
-use Rattle.upload_intake.specs.declared.line.Side.{Side}
 use Rattle.upload_intake.specs.declared.log.Entry.{Entry}
-use Rattle.upload_intake.specs.Line.{same_side}
 
 -- a job: a request, and the secret for the session that it may open
 abbrev pub Job : Type 0
@@ -13,17 +11,17 @@ Job = Ask × List ℕ
 
 -- a job that was taken, and from which seat it came
 pub record TakenJob : Type 0 where
-  pub side : Side
+  pub seat : ℕ
   pub job : Job
 
 -- one step of the service: from which seat the job came, and what was asked and answered at which moment
 pub record Step : Type 0 where
-  pub side : Side
+  pub seat : ℕ
   pub exchange : Exchange
 
 -- an entry of a keeper's log as a step
 abbrev pub step_of : Entry → Step
-step_of e = record { side = e.side; exchange = record { ask = e.ask.value; secret = e.secret; now = e.now; answer = e.answer.value } }
+step_of e = record { seat = e.seat; exchange = record { ask = e.ask.value; secret = e.secret; now = e.now; answer = e.answer.value } }
 
 abbrev pub steps_of : List Entry → List Step
 steps_of entries = map step_of entries
@@ -36,14 +34,14 @@ abbrev pub job_of : Exchange → Job
 job_of x = (x.ask, x.secret)
 
 abbrev pub taken_by : List Step → List TakenJob
-taken_by steps = map (λ (s : Step). record { side = s.side; job = job_of s.exchange }) steps
+taken_by steps = map (λ (s : Step). record { seat = s.seat; job = job_of s.exchange }) steps
 
 -- one seat's jobs, and the answers to them, in the order in which they were taken
-abbrev pub jobs_of : Side → List TakenJob → List Job
-jobs_of side taken = map (λ (j : TakenJob). j.job) (filter (λ (j : TakenJob). same_side side j.side) taken)
+abbrev pub jobs_of : ℕ → List TakenJob → List Job
+jobs_of seat taken = map (λ (j : TakenJob). j.job) (filter (λ (j : TakenJob). seat == j.seat) taken)
 
-abbrev pub answers_to : Side → List Step → List Answer
-answers_to side steps = map (λ (s : Step). s.exchange.answer) (filter (λ (s : Step). same_side side s.side) steps)
+abbrev pub answers_to : ℕ → List Step → List Answer
+answers_to seat steps = map (λ (s : Step). s.exchange.answer) (filter (λ (s : Step). seat == s.seat) steps)
 
 -- the moment of the last exchange, and 0 before the first
 abbrev pub last_moment : ℕ → List Exchange → ℕ

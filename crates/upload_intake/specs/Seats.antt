@@ -2,19 +2,18 @@
 use Rattle.std.specs.Prelude.{◌≡◌, ℕ, Bool, true, false, List, [], ◌∷◌, ◌++◌, Result, Ok, Err}
 use Rattle.upload_service.specs.declared.ask.Ask.{Ask}
 use Rattle.upload_service.specs.declared.answer.Answer.{Answer}
-use Rattle.upload_intake.specs.declared.line.Side.{Side}
 use Rattle.upload_intake.specs.declared.message.Message.{Message}
 use Rattle.upload_intake.specs.declared.gone.Gone.{Gone}
 use Rattle.upload_intake.specs.declared.gone.Gone.TheVariants.{NotSent, NoAnswer}
 use Rattle.upload_intake.specs.Log.{Job}
 use Rattle.upload_intake.specs.Passes.{LineId}
 
--- on which lines a seat is and on which side, the jobs that it sent, the answers that it heard, and whether a call
+-- on which lines a seat is and its number, the jobs that it sent, the answers that it heard, and whether a call
 -- of it ended Gone
 pub record SeatState : Type 0 where
   pub jobs : LineId Message
   pub replies : LineId Answer
-  pub side : Side
+  pub seat : ℕ
   pub sent : List Job
   pub heard : List Answer
   pub gone : Bool
@@ -33,8 +32,8 @@ pub record IsFresh (seat : SeatState) : Type 0 where
   pub heard : seat.heard ≡ []
   pub gone : seat.gone ≡ false
 
--- the same lines and the same side
+-- the same lines and the same number
 pub record IsSameSeat (old new : SeatState) : Type 0 where
   pub jobs : new.jobs ≡ old.jobs
   pub replies : new.replies ≡ old.replies
-  pub side : new.side ≡ old.side
+  pub seat : new.seat ≡ old.seat

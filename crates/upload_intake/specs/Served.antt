@@ -1,10 +1,9 @@
 -- A keeper: its lines, the service that it was given and the one that it has now, and the steps by which it came there.
-use Rattle.std.specs.Prelude.{◌≡◌, List}
+use Rattle.std.specs.Prelude.{◌≡◌, ◌<◌, ℕ, List, length, get_or}
 use Rattle.upload_service.specs.declared.answer.Answer.{Answer}
 use Rattle.upload_service.specs.Machine.{State}
 use Rattle.upload_service.specs.Run.{Exchange, Run, NeverFall}
 use Rattle.upload_service.specs.Headline.{Headline}
-use Rattle.upload_intake.specs.declared.line.Side.TheVariants.{Left, Right}
 use Rattle.upload_intake.specs.declared.message.Message.{Message}
 use Rattle.upload_intake.specs.Log.{Step, exchanges_of}
 use Rattle.upload_intake.specs.Passes.{LineId}
@@ -12,8 +11,7 @@ use Rattle.upload_intake.specs.Seats.{SeatState}
 
 pub record KeeperState : Type 0 where
   pub jobs : LineId Message
-  pub left : LineId Answer
-  pub right : LineId Answer
+  pub replies : List (LineId Answer)
   pub start : State
   pub service : State
   pub log : List Step
@@ -21,8 +19,7 @@ pub record KeeperState : Type 0 where
 -- the same lines, and the same service at the start
 pub record IsSameKeeper (old new : KeeperState) : Type 0 where
   pub jobs : new.jobs ≡ old.jobs
-  pub left : new.left ≡ old.left
-  pub right : new.right ≡ old.right
+  pub replies : new.replies ≡ old.replies
   pub start : new.start ≡ old.start
 
 -- The exchanges are a run of the service, at moments that don't fall; so the headline holds of it.
@@ -35,11 +32,13 @@ pub record IsServed (start : State) (exchanges : List Exchange) (service : State
 abbrev pub Serves : KeeperState → Type 0
 Serves keeper = IsServed keeper.start (exchanges_of keeper.log) keeper.service
 
+-- a seat is the keeper's, with this number
+pub record IsSeatOf (keeper : KeeperState) (number : ℕ) (seat : SeatState) : Type 0 where
+  pub jobs : seat.jobs ≡ keeper.jobs
+  pub replies : (d : LineId Answer) → seat.replies ≡ get_or keeper.replies number d
+  pub number_is : seat.seat ≡ number
+
 -- the seats and the keeper are of one call of `lines`, in this order
-pub record AreOfOneCall (keeper : KeeperState) (left right : SeatState) : Type 0 where
-  pub left_jobs : left.jobs ≡ keeper.jobs
-  pub right_jobs : right.jobs ≡ keeper.jobs
-  pub left_replies : left.replies ≡ keeper.left
-  pub right_replies : right.replies ≡ keeper.right
-  pub left_side : left.side ≡ Left
-  pub right_side : right.side ≡ Right
+pub record AreOfOneCall (keeper : KeeperState) (seats : List SeatState) : Type 0 where
+  pub count : length seats ≡ length keeper.replies
+  pub each : (number : ℕ) (d : SeatState) → number < length seats → IsSeatOf keeper number (get_or seats number d)

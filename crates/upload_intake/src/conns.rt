@@ -1,7 +1,7 @@
 //! Where a worker's connections come from.
 ghost use Rattle.std.specs.Prelude.{Option};
 
-use upload_wire::{ByteSink, ByteSource};
+use http_wire::{ByteSink, ByteSource};
 
 /// The connections of one worker, one after the other.
 pub trait Conns {

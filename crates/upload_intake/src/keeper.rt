@@ -1,22 +1,19 @@
 //! The keeper alone has the service, and serves the seats' requests in the order in which it took them.
-use crate::ends::{SendEnd, TakeEnd};
-use crate::line::{Item, Side};
+ghost use Rattle.std.specs.Prelude.{◌≡◌, true};
+ghost use Rattle.upload_intake.specs.Kept.{AreDone};
+
+use crate::ends::TakeEnd;
+use crate::line::Item;
 use crate::log::{Entry, Log};
 use crate::message::Message;
 use crate::moments::Moments;
+use crate::reply::ReplyLine;
 use std::marker::Model;
 use std::snapshot::Snapshot;
 use std::sync::Wait;
 use std::thread;
 use upload_names::UploadRef;
 use upload_service::{Answer, Service, headline_holds};
-
-/// The way back to one seat. It is done when the seat's finish was taken.
-#[derive(Drop)]
-pub(crate) struct ReplyLine {
-    pub(crate) replies: SendEnd<Answer>,
-    pub(crate) is_done: bool,
-}
 
 /// The owner of the service. Contracts see its service, the one that it was given, and the jobs that it took.
 #[derive(Drop)]
@@ -25,18 +22,19 @@ pub struct Keeper {
     now: u64,
     count: u64,
     jobs: TakeEnd<Message>,
-    left: ReplyLine,
-    right: ReplyLine,
+    lines: Vec<ReplyLine>,
     start: Snapshot<Service>,
     log: Log<Entry>,
 }
 
 impl Model for Keeper {
+    ghost use Rattle.std.specs.Prelude.{map};
     ghost use Rattle.std.specs.Coded.{codes};
     ghost use Rattle.crossbeam_channel.specs.Claims.{view as known};
-    ghost use Rattle.crossbeam_channel.specs.Ends.{sends_on, receives_on};
+    ghost use Rattle.crossbeam_channel.specs.Ends.{receives_on};
     ghost use Rattle.upload_service.specs.Codes.{state_code};
     ghost use Rattle.upload_intake.specs.Passes.{line_of};
+    ghost use Rattle.upload_intake.specs.Replies.{replies_on};
     ghost use Rattle.upload_intake.specs.Served.{KeeperState};
     ghost use Rattle.upload_intake.specs.Log.{steps_of};
     ghost use Rattle.upload_intake.specs.Kept.{IsKeeping};
@@ -47,42 +45,38 @@ impl Model for Keeper {
 
     ghost view = { λ k. record {
       jobs = line_of (receives_on k.jobs.receiver);
-      left = line_of (sends_on k.left.replies.sender);
-      right = line_of (sends_on k.right.replies.sender);
+      replies = map replies_on k.lines.items;
       start = k.start.value;
       service = k.service;
       log = steps_of k.log.items;
     } };
 
-    ghost invariant = { λ k. IsKeeping k.start.value k.service k.now k.count (steps_of k.log.items) (known k.jobs.pass)
-        (record { is_open = k.left.replies.is_open; view = known k.left.replies.pass })
-        (record { is_open = k.right.replies.is_open; view = known k.right.replies.pass })
-        k.left.is_done k.right.is_done };
+    ghost invariant = { λ k. IsKeeping k.start.value k.service k.now k.count (steps_of k.log.items) (known k.jobs.pass) k.lines.items };
 }
 
-/// What a keeper leaves when both seats have finished. Contracts see the same of it.
+/// What a keeper leaves when all seats have finished. Contracts see the same of it.
 #[derive(Drop)]
 pub struct Served {
     pub(crate) service: Service,
     pub(crate) now: u64,
     pub(crate) count: u64,
     pub(crate) jobs: TakeEnd<Message>,
-    pub(crate) left: ReplyLine,
-    pub(crate) right: ReplyLine,
+    pub(crate) lines: Vec<ReplyLine>,
     pub(crate) start: Snapshot<Service>,
     pub(crate) log: Log<Entry>,
 }
 
 impl Model for Served {
-    ghost use Rattle.std.specs.Prelude.{true};
+    ghost use Rattle.std.specs.Prelude.{map};
     ghost use Rattle.std.specs.Coded.{codes};
     ghost use Rattle.crossbeam_channel.specs.Claims.{view as known};
-    ghost use Rattle.crossbeam_channel.specs.Ends.{sends_on, receives_on};
+    ghost use Rattle.crossbeam_channel.specs.Ends.{receives_on};
     ghost use Rattle.upload_service.specs.Codes.{state_code};
     ghost use Rattle.upload_intake.specs.Passes.{line_of};
+    ghost use Rattle.upload_intake.specs.Replies.{replies_on};
     ghost use Rattle.upload_intake.specs.Served.{KeeperState};
     ghost use Rattle.upload_intake.specs.Log.{steps_of};
-    ghost use Rattle.upload_intake.specs.Kept.{IsKeeping};
+    ghost use Rattle.upload_intake.specs.Kept.{IsKeeping, AreDone};
 
     ghost Value = { KeeperState };
 
@@ -90,40 +84,36 @@ impl Model for Served {
 
     ghost view = { λ k. record {
       jobs = line_of (receives_on k.jobs.receiver);
-      left = line_of (sends_on k.left.replies.sender);
-      right = line_of (sends_on k.right.replies.sender);
+      replies = map replies_on k.lines.items;
       start = k.start.value;
       service = k.service;
       log = steps_of k.log.items;
     } };
 
-    ghost invariant = { λ k. IsKeeping k.start.value k.service k.now k.count (steps_of k.log.items) (known k.jobs.pass)
-        (record { is_open = k.left.replies.is_open; view = known k.left.replies.pass })
-        (record { is_open = k.right.replies.is_open; view = known k.right.replies.pass })
-        true true };
+    ghost invariant = { λ k. IsKeeping k.start.value k.service k.now k.count (steps_of k.log.items) (known k.jobs.pass) k.lines.items
+        × AreDone k.lines.items };
 }
 
 impl ReplyLine {
-    ghost use Rattle.std.specs.Prelude.{◌≡◌};
+    ghost use Rattle.std.specs.Prelude.{◌≡◌, true};
     ghost use Rattle.crossbeam_channel.specs.Claims.{view as known};
-    ghost use Rattle.upload_intake.specs.Kept.{Replies, SendsReplies};
+    ghost use Rattle.upload_intake.specs.Line.{is_sender};
+    ghost use Rattle.upload_intake.specs.Kept.{Replies, outlet_of};
 
     // Sends a reply, if the line is open. A reply that is handed back closes it, and nothing else does.
     #[tactic(auto, using(crate::proofs::KeeperMoves::replied_by, crate::proofs::KeeperMoves::was_closed))]
     fn reply<R: Wait>(&mut self, rt: &R, answer: Answer)
-        requires { SendsReplies (known self.old.replies.pass) }
+        requires { is_sender 0 (known self.old.replies.pass).sending ≡ true }
         ensures line { self.new.replies.sender ≡ self.old.replies.sender }
         ensures done { self.new.is_done ≡ self.old.is_done }
-        ensures sent { Replies answer
-            (record { is_open = self.old.replies.is_open; view = known self.old.replies.pass })
-            (record { is_open = self.new.replies.is_open; view = known self.new.replies.pass }) }
+        ensures sent { Replies answer (outlet_of self.old) (outlet_of self.new) }
     {
         if !self.replies.is_open() {
             return;
         }
-        // Each reply line has one sender, which sends as either side.
+        // Each reply line has one sender.
         let reply = Item {
-            side: Side::Left,
+            seat: 0,
             what: answer,
         };
         let _ = self.replies.send(rt, reply);
@@ -131,27 +121,21 @@ impl ReplyLine {
 }
 
 impl Keeper {
-    ghost use Rattle.std.specs.Prelude.{◌≡◌, []};
+    ghost use Rattle.std.specs.Prelude.{◌≡◌, [], map, All, vec_len};
     ghost use Rattle.crossbeam_channel.specs.Claims.{view as known};
-    ghost use Rattle.crossbeam_channel.specs.Ends.{sends_on, receives_on};
+    ghost use Rattle.crossbeam_channel.specs.Ends.{receives_on};
     ghost use Rattle.upload_service.specs.Machine.{IsLawful};
-    ghost use Rattle.upload_intake.specs.Passes.{line_of, only_sender_view, taker_view};
+    ghost use Rattle.upload_intake.specs.Passes.{line_of, taker_view};
+    ghost use Rattle.upload_intake.specs.Replies.{replies_on, BeginsReplies};
     ghost use Rattle.upload_intake.specs.Served.{IsSameKeeper, Serves};
     ghost use Rattle.upload_intake.specs.Told.{Grows};
 
-    pub(crate) fn new(
-        service: Service,
-        jobs: TakeEnd<Message>,
-        left: SendEnd<Answer>,
-        right: SendEnd<Answer>,
-    ) -> Keeper
-        requires jobs { known jobs.pass ≡ taker_view [] }
-        requires left { known left.pass ≡ only_sender_view [] }
-        requires right { known right.pass ≡ only_sender_view [] }
+    pub(crate) fn new(service: Service, jobs: TakeEnd<Message>, lines: Vec<ReplyLine>) -> Keeper
+        requires jobs { known jobs.pass ≡ taker_view (vec_len lines) [] }
+        requires lines { All BeginsReplies lines.items }
         ensures { result ≡ record {
           jobs = line_of (receives_on jobs.receiver);
-          left = line_of (sends_on left.sender);
-          right = line_of (sends_on right.sender);
+          replies = map replies_on lines.items;
           start = service;
           service = service;
           log = [];
@@ -165,14 +149,7 @@ impl Keeper {
             now: 0,
             count: 0,
             jobs,
-            left: ReplyLine {
-                replies: left,
-                is_done: false,
-            },
-            right: ReplyLine {
-                replies: right,
-                is_done: false,
-            },
+            lines,
             start,
             log: Log::new(),
         }
@@ -187,14 +164,14 @@ impl Keeper {
             thread::yield_now();
             return None;
         };
-        let Item { side, what } = item;
+        let Item { seat, what } = item;
         match what {
             Message::Job(ask, secret) => {
                 self.now = self.now.max(moments.now());
                 let asked = Snapshot::of(&ask);
                 let answer = self.service.step(ask, secret, self.now);
                 let entry = Entry {
-                    side,
+                    seat,
                     ask: asked,
                     secret,
                     now: self.now,
@@ -203,17 +180,11 @@ impl Keeper {
                 self.log = self.log.and(&entry);
                 self.count = self.count.saturating_add(1);
                 let taken = session_that_took(&answer);
-                match side {
-                    Side::Left => self.left.reply(rt, answer),
-                    Side::Right => self.right.reply(rt, answer),
-                }
+                self.lines[seat].reply(rt, answer);
                 taken
             }
             Message::Finish => {
-                match side {
-                    Side::Left => self.left.is_done = true,
-                    Side::Right => self.right.is_done = true,
-                }
+                self.lines[seat].is_done = true;
                 None
             }
         }
@@ -226,7 +197,7 @@ impl Keeper {
         self.service.catch_up(at);
     }
 
-    /// Serves requests until both seats have finished, each at the greater of the moment told and the moment before.
+    /// Serves requests until all seats have finished, each at the greater of the moment told and the moment before.
     /// A seat that is dropped unfinished leaves it without an end.
     pub fn run<R: Wait, M: Moments>(self, rt: &R, moments: &mut M) -> Served
         ensures same { IsSameKeeper self result }
@@ -238,14 +209,13 @@ impl Keeper {
         headline_holds();
         let mut keeper = self;
         for _ in rt.forever() {
-            if keeper.left.is_done && keeper.right.is_done {
+            if are_done(&keeper.lines) {
                 let Keeper {
                     service,
                     now,
                     count,
                     jobs,
-                    left,
-                    right,
+                    lines,
                     start,
                     log,
                 } = keeper;
@@ -254,8 +224,7 @@ impl Keeper {
                     now,
                     count,
                     jobs,
-                    left,
-                    right,
+                    lines,
                     start,
                     log,
                 };
@@ -266,6 +235,18 @@ impl Keeper {
         }
         unreachable!()
     }
+}
+
+// Whether the finish of each seat was taken.
+fn are_done(lines: &Vec<ReplyLine>) -> bool
+    ensures { result ≡ true → AreDone lines.now.items }
+{
+    for seat in 0..lines.len() {
+        if !lines[seat].is_done {
+            return false;
+        }
+    }
+    true
 }
 
 // The session whose chunk was taken, where the answer says so.

@@ -1,7 +1,11 @@
 //! What follows from the contracts of the parts.
 ghost use Rattle.upload_intake.specs.Determined.{ServedOrdersAreDetermined};
 ghost use Rattle.upload_intake.specs.SeatConversations.{ConversationsFillTheSeat};
+ghost use Rattle.upload_intake.specs.Transcripts.{TranscriptsTellConnections};
+ghost use Rattle.upload_intake.specs.Working.{means};
 
+use crate::conns::Conns;
+use crate::gate::Gate;
 use crate::secrets::Secrets;
 
 /// Of every conversation over a seat with these secrets: its asks, in order, are what was added to what the seat sent, and
@@ -9,6 +13,12 @@ use crate::secrets::Secrets;
 /// desk was gone.
 pub fn conversations_fill_the_seat<S: Secrets>()
     ensures { ConversationsFillTheSeat S.draws }
+{}
+
+/// If a worker is given connections on which nothing was read or written, the transcripts of each connection that it served
+/// tell all: its reads gave what its conversation read, its writes took what its conversation wrote, and nothing else.
+pub fn transcripts_tell_connections<C: Conns, S: Secrets, G: Gate>()
+    ensures { TranscriptsTellConnections (means C.gives C.In.state C.Out.state S.draws G.watches) }
 {}
 
 /// Two services that begin in the same state, and serve the same jobs of the same seats in the same order, with the same

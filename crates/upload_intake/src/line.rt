@@ -3,29 +3,25 @@
 use crossbeam_channel::protocol::{Join, Lesson, Outcome, Protocol, Split};
 use std::collections::LinkedList;
 
-/// Which of the two seats, and so which of a line's two senders.
-#[derive(Clone, Copy, Debug, PartialEq, Eq)]
-pub enum Side {
-    Left,
-    Right,
-}
-
-/// What lies on a line. It names its sender.
+/// What lies on a line. It names its sender, by the number of its seat.
 #[derive(Drop)]
 pub struct Item<T> {
-    pub side: Side,
+    pub seat: usize,
     pub what: T,
 }
 
-/// What a pass knows of its line: whether it sends as the left sender, whether it sends as the right one, whether it
-/// receives, and what was so sent and taken. No value of it is ever made.
+/// As which seats a pass sends, and what it sent: as one, or as none, or as each from a seat on, but nothing so far.
+pub enum Sending<T> {
+    Nothing,
+    One(usize, LinkedList<T>),
+    AllFrom(usize),
+}
+
+/// What a pass knows of its line: whether it receives, and what it took; and what it sent. No value of it is ever made.
 pub struct LineView<T> {
-    pub left: bool,
-    pub right: bool,
     pub takes: bool,
-    pub sent_left: LinkedList<T>,
-    pub sent_right: LinkedList<T>,
     pub taken: LinkedList<Item<T>>,
+    pub sending: Sending<T>,
 }
 
 /// The rule: what was taken of a sender, followed by what waits of it, is what it sent.
@@ -39,29 +35,18 @@ impl<T> Protocol<Item<T>, LineView<T>> for Ordered {
     ghost first = { unused };
 }
 
-/// A new pass receives, and this one does so no more.
-pub struct Taker;
+/// A new pass sends as the next seat, and this one does so no more.
+pub struct NextSender;
 
-impl<T> Split<LineView<T>> for Taker {
-    ghost use Rattle.upload_intake.specs.Line.{without_taker, taker_alone};
+impl<T> Split<LineView<T>> for NextSender {
+    ghost use Rattle.upload_intake.specs.Line.{without_next, next_alone};
 
-    ghost left = { without_taker };
+    ghost left = { without_next };
 
-    ghost right = { taker_alone };
+    ghost right = { next_alone };
 }
 
-/// A new pass sends as the right sender, and this one does so no more.
-pub struct RightSender;
-
-impl<T> Split<LineView<T>> for RightSender {
-    ghost use Rattle.upload_intake.specs.Line.{without_right, right_alone};
-
-    ghost left = { without_right };
-
-    ghost right = { right_alone };
-}
-
-/// This pass takes in all that the other one may do and knows.
+/// This pass sends as the other one did, and knows what that sent. It forgets what it sent itself.
 pub struct Both;
 
 impl<T> Join<LineView<T>> for Both {
@@ -88,14 +73,14 @@ impl<T> Lesson<Item<T>, LineView<T>> for Sends {
     ghost fact = { λ view items. ⊤ };
 }
 
-/// The item in front was taken.
+/// The item in front was taken, and another pass sent it.
 pub struct Takes;
 
 impl<T> Outcome<Item<T>, LineView<T>> for Takes {
     ghost use Rattle.std.specs.Prelude.{◌≡◌};
-    ghost use Rattle.upload_intake.specs.Line.{with_taken};
+    ghost use Rattle.upload_intake.specs.Line.{with_taken, IsOfAnother};
 
-    ghost then = { λ before item after. after ≡ with_taken item before };
+    ghost then = { λ before item after. (after ≡ with_taken item before) × IsOfAnother before item };
 }
 
 impl<T> Lesson<Item<T>, LineView<T>> for Takes {

@@ -2,7 +2,6 @@
 ghost use Rattle.std.specs.Prelude.{◌≡◌, List, [], ◌∷◌, ◌++◌};
 ghost use Rattle.std.specs.Borrow.{ftrue};
 
-use crate::line::Side;
 use std::marker::{Model, PhantomData};
 use std::snapshot::Snapshot;
 use upload_service::{Answer, Ask};
@@ -10,7 +9,7 @@ use upload_service::{Answer, Ask};
 /// One job that was served. Of the request and of the answer only clauses see what they were.
 #[derive(Drop)]
 pub struct Entry {
-    pub side: Side,
+    pub seat: usize,
     pub ask: Snapshot<Ask>,
     pub secret: [u8; 12],
     pub now: u64,

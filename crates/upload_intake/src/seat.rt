@@ -5,16 +5,16 @@ ghost use Rattle.upload_intake.specs.Kept.{IsJob};
 
 use crate::ends::{SendEnd, TakeEnd};
 use crate::gone::Gone;
-use crate::line::{Item, Side};
+use crate::line::Item;
 use crate::message::Message;
 use std::marker::Model;
 use std::sync::Wait;
 use upload_service::{Answer, Ask};
 
-/// One of the two places from which the keeper is asked. Contracts see what it sent and heard.
+/// One of the places from which the keeper is asked. Contracts see what it sent and heard.
 #[derive(Drop)]
 pub struct Seat {
-    side: Side,
+    seat: usize,
     jobs: SendEnd<Message>,
     replies: TakeEnd<Answer>,
     gone: bool,
@@ -33,19 +33,19 @@ impl Model for Seat {
     ghost view = { λ s. record {
       jobs = line_of (sends_on s.jobs.sender);
       replies = line_of (receives_on s.replies.receiver);
-      side = s.side;
-      sent = jobs_in (sent s.side (known s.jobs.pass));
+      seat = s.seat;
+      sent = jobs_in (sent (known s.jobs.pass).sending);
       heard = whats (known s.replies.pass).taken;
       gone = s.gone;
     } };
 
-    ghost invariant = { λ s. Sits s.side s.gone (known s.jobs.pass) (known s.replies.pass) };
+    ghost invariant = { λ s. Sits s.seat s.gone (known s.jobs.pass) (known s.replies.pass) };
 }
 
 /// A seat that asks no more. Contracts see the same of it.
 #[derive(Drop)]
 pub struct SeatEnd {
-    pub(crate) side: Side,
+    pub(crate) seat: usize,
     pub(crate) jobs: SendEnd<Message>,
     pub(crate) replies: TakeEnd<Answer>,
     pub(crate) gone: bool,
@@ -64,13 +64,13 @@ impl Model for SeatEnd {
     ghost view = { λ s. record {
       jobs = line_of (sends_on s.jobs.sender);
       replies = line_of (receives_on s.replies.receiver);
-      side = s.side;
-      sent = jobs_in (sent s.side (known s.jobs.pass));
+      seat = s.seat;
+      sent = jobs_in (sent (known s.jobs.pass).sending);
       heard = whats (known s.replies.pass).taken;
       gone = s.gone;
     } };
 
-    ghost invariant = { λ s. SatToTheEnd s.side s.gone (known s.jobs.pass) (known s.replies.pass) };
+    ghost invariant = { λ s. SatToTheEnd s.seat s.gone (known s.jobs.pass) (known s.replies.pass) };
 }
 
 impl Seat {
@@ -80,20 +80,20 @@ impl Seat {
     ghost use Rattle.upload_intake.specs.Passes.{line_of, sender_view, taker_view};
     ghost use Rattle.upload_intake.specs.Seats.{Asks};
 
-    pub(crate) fn new(side: Side, jobs: SendEnd<Message>, replies: TakeEnd<Answer>) -> Seat
-        requires jobs { known jobs.pass ≡ sender_view side [] }
-        requires replies { known replies.pass ≡ taker_view [] }
+    pub(crate) fn new(seat: usize, jobs: SendEnd<Message>, replies: TakeEnd<Answer>) -> Seat
+        requires jobs { known jobs.pass ≡ sender_view seat [] }
+        requires replies { known replies.pass ≡ taker_view 1 [] }
         ensures { result ≡ record {
           jobs = line_of (sends_on jobs.sender);
           replies = line_of (receives_on replies.receiver);
-          side = side;
+          seat = seat;
           sent = [];
           heard = [];
           gone = false;
         } }
     {
         Seat {
-            side,
+            seat,
             jobs,
             replies,
             gone: false,
@@ -111,7 +111,7 @@ impl Seat {
             return Err(Gone::NotSent(ask));
         }
         let job = Item {
-            side: self.side,
+            seat: self.seat,
             what: Message::Job(ask, secret),
         };
         if let Err(back) = self.jobs.send(rt, job) {
@@ -132,18 +132,18 @@ impl Seat {
         ensures { result ≡ self }
     {
         let Seat {
-            side,
+            seat,
             mut jobs,
             replies,
             gone,
         } = self;
         let finish = Item {
-            side,
+            seat,
             what: Message::Finish,
         };
         let _ = jobs.send(rt, finish);
         SeatEnd {
-            side,
+            seat,
             jobs,
             replies,
             gone,

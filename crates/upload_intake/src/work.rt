@@ -2,6 +2,7 @@
 ghost use Rattle.std.specs.Prelude.{◌≡◌, ◌+◌, min, if◌then◌else◌};
 ghost use Rattle.upload_intake.specs.Seats.{IsSameSeat};
 ghost use Rattle.upload_intake.specs.Settled.{count_limit};
+ghost use Rattle.upload_intake.specs.Stations.{Works};
 ghost use Rattle.upload_intake.specs.Working.{IsWorked, is_clean, is_gone, means};
 
 use crate::conns::Conns;
@@ -58,44 +59,24 @@ fn is_gone(end: ConnEnd) -> bool
     matches!(end, ConnEnd::DeskGone)
 }
 
-/// What the thread of a worker promises: the end comes of this seat, and over it these connections were served, with these
-/// secrets and by this server, and this gate was told of it.
+/// A worker at its seat, and the server of all its connections.
 #[derive(Drop)]
-pub(crate) struct Work<C, S, G> {
-    seat: Snapshot<Seat>,
-    conns: Snapshot<C>,
-    secrets: Snapshot<S>,
-    gate: Snapshot<G>,
-    server: Snapshot<ConnectionServer>,
+pub(crate) struct Station<C, S, G> {
+    pub(crate) seat: Seat,
+    pub(crate) worker: Worker<C, S, G>,
+    pub(crate) server: ConnectionServer,
 }
 
-impl<C: Conns, S: Secrets, G: Gate> Work<C, S, G> {
-    pub(crate) fn of(
-        seat: &Seat,
-        worker: &Worker<C, S, G>,
-        server: &ConnectionServer,
-    ) -> Work<C, S, G>
-        ensures seat { result.seat.value ≡ seat.now }
-        ensures conns { result.conns.value ≡ worker.now.conns }
-        ensures secrets { result.secrets.value ≡ worker.now.secrets }
-        ensures gate { result.gate.value ≡ worker.now.gate }
-        ensures server { result.server.value ≡ server.now }
-    {
-        Work {
-            seat: Snapshot::of(seat),
-            conns: Snapshot::of(&worker.conns),
-            secrets: Snapshot::of(&worker.secrets),
-            gate: Snapshot::of(&worker.gate),
-            server: Snapshot::of(server),
-        }
-    }
+/// What the thread of a worker promises of its station: the end comes of this seat, and over it these connections were
+/// served, with these secrets and by this server, and this gate was told of it.
+#[derive(Drop)]
+pub(crate) struct Work<C, S, G> {
+    pub(crate) station: Snapshot<Station<C, S, G>>,
 }
 
 impl<C: Conns, S: Secrets, G: Gate> Promise<(SeatEnd, WorkerEnd)> for Work<C, S, G> {
-    ghost kept_by = { λ promise end. IsSameSeat promise.seat.value end.0
-        × IsWorked (means C.gives C.In.state C.Out.state S.draws G.watches)
-        promise.server.value.max_body promise.conns.value promise.secrets.value promise.gate.value
-        promise.seat.value end.0 end.1.conns end.1.clean };
+    ghost kept_by = { λ promise end. Works (means C.gives C.In.state C.Out.state S.draws G.watches)
+        promise.station.value end.0 end.1 };
 }
 
 // A seat's desk behind a gate, and how many requests were asked there.
@@ -134,7 +115,7 @@ impl<'a, R: Wait, S: Secrets, G: Gate> Desk for GatedDesk<'a, R, S, G> {
 
 /// Serves a worker's connections one after the other, none behind one that ended `DeskGone`, and finishes its seat. One
 /// server serves them all, so that none is turned away for want of a buffer.
-pub(crate) fn serve_all<R: Wait, C: Conns + Drop, S: Secrets + Drop, G: Gate + Drop>(
+fn serve_seat<R: Wait, C: Conns + Drop, S: Secrets + Drop, G: Gate + Drop>(
     rt: &R,
     seat: Seat,
     worker: Worker<C, S, G>,
@@ -168,4 +149,21 @@ pub(crate) fn serve_all<R: Wait, C: Conns + Drop, S: Secrets + Drop, G: Gate + D
     }
     let GatedDesk { desk, .. } = desk;
     (desk.into_seat().finish(rt), end)
+}
+
+/// The worker of a station serves its connections, and keeps the promise of its thread.
+pub(crate) fn serve_station<R, C, S, G>(rt: &R, station: Station<C, S, G>) -> (SeatEnd, WorkerEnd)
+where
+    R: Wait,
+    C: Conns + Drop,
+    S: Secrets + Drop,
+    G: Gate + Drop,
+    ensures { Works (means C.gives C.In.state C.Out.state S.draws G.watches) station result.0 result.1 }
+{
+    let Station {
+        seat,
+        worker,
+        server,
+    } = station;
+    serve_seat(rt, seat, worker, server)
 }

@@ -111,9 +111,6 @@ has_value c h =
 
 -- ---- what digits spell
 
-byte_of_digits : (high low : ℕ) → ℕ
-byte_of_digits high low = high * 16 + low
-
 -- one pair of lower case digits
 record IsPair (i high low : ℕ) : Type 0 where
   byte : ℕ
@@ -316,12 +313,3 @@ decoded (Ok bytes) out h = ap Some h.1
 decoded (Err e) out h = cc h
 
 -- ---- how long texts are
-
--- a digest's text has 71 or 135 bytes
-pub length-digest_text : (digest : Digest) → IsDigest digest → length (digest_text digest) ≡ 7 + 2 * hash_size digest.algorithm
-unfolding digest_text
-length-digest_text digest d = long digest.algorithm digest.bytes d.sized
-  where
-    long : (algorithm : Algorithm) (bytes : List ℕ) → length bytes ≡ hash_size algorithm → length (prefix_of algorithm ++ encode_lower bytes) ≡ 7 + 2 * hash_size algorithm
-    long Sha256 bytes sized = let e = length-encode_with lower_digits bytes in omega (arith, e, sized)
-    long Sha512 bytes sized = let e = length-encode_with lower_digits bytes in omega (arith, e, sized)

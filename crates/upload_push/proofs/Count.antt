@@ -7,7 +7,7 @@ use Rattle.upload_push.proofs.Cases.{cond_case}
 use Rattle.upload_push.specs.Steps.{Plan, Stand, IsLawfulPlan, IsWithin, turn, answered, unheard, retry, send_from, opened, taken, place_of, chunk_end, count_to, ask_at}
 use Rattle.upload_push.specs.Slices.{Push, IsLawfulPush, chunks, most_asks, after_all, log_of, logged, plan_of, Exchange}
 use Rattle.upload_push.proofs.AsksLeft.{most_in_try, left_in_try, asks_left}
-use Rattle.upload_wire.specs.declared.client.heard.Heard.{Heard}
+use Rattle.upload_client.specs.declared.heard.Heard.{Heard}
 use Rattle.upload_push.specs.declared.pusher.PushAsk.{PushAsk}
 use Rattle.upload_push.specs.declared.pusher.Phase.{Phase}
 use Rattle.upload_push.specs.declared.pusher.Phase.TheVariants.{Opening, Sending, Asking, Looking, Done, GaveUp}

@@ -9,12 +9,13 @@ use Rattle.upload_service.specs.declared.ask.Ask.TheVariants as asks
 use Rattle.upload_service.specs.declared.ask.Extent.TheVariants.{Absent}
 use Rattle.upload_service.specs.declared.answer.Answer.{Answer}
 use Rattle.upload_service.specs.declared.answer.Answer.TheVariants as answers
+use Rattle.upload_service.specs.UploadView.{Closes}
 use Rattle.upload_service.specs.Machine.{same_digest, Session, State, Outcome, Replies, Commits, state_after, unless_fault, checked, blob_reply, holds, Comes, Turn, IsLawful}
-use Rattle.upload_wire.specs.Heard.{reply_heard}
+use Rattle.upload_client.specs.Heard.{reply_heard}
 use Rattle.upload_push.specs.Slices.{Push}
 use Rattle.upload_push.specs.Promise.{IsStored, IsThere}
 use Rattle.upload_push.proofs.Cases.{cond_case}
-use Rattle.upload_push.proofs.Tables.{blob-insert_same, contains-insert_same}
+use Rattle.upload_service.proofs.Tables.{blob-insert_same, contains-insert_same}
 use Rattle.upload_push.proofs.Turns.{size_case, session_case, turn_case}
 use Rattle.upload_push.proofs.Uploads.{IsUpload, found_front}
 
@@ -62,7 +63,7 @@ close_shows p s now secret at answer new Q commits turn =
     let ask : Ask = asks.Close p.name at Absent (Some p.digest) [] in
     let P : Outcome → Type 0 = ShownBy Q 201 s now in
     turn_case (Shows Q 201) s ask secret now answer new
-    (session_case P s now at p.name ask
+    (session_case P s now p.name at (Closes Absent (Some p.digest) [])
     (shown Q 201 s now _ (λ e. absurd (omega (arith, e))) (λ e. absurd (omega (arith, e))))
     (λ session is.
     let blob : List ℕ = session.received ++ [] in

@@ -9,7 +9,7 @@ use Rattle.upload_service.specs.Machine.{State, Turn}
 use Rattle.upload_service.specs.declared.ask.Ask.{Ask}
 use Rattle.upload_service.specs.declared.answer.Answer.{Answer}
 use Rattle.upload_push.specs.World.{World, world_of, Asked, AskedBy, IsDelivered}
-use Rattle.upload_wire.specs.declared.client.heard.Heard.{Heard}
+use Rattle.upload_client.specs.declared.heard.Heard.{Heard}
 use Rattle.upload_push.specs.declared.world.Event.{Event}
 use Rattle.upload_push.specs.declared.world.Event.TheVariants.{Other}
 

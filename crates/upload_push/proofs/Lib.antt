@@ -4,11 +4,11 @@ pub mod Count
 pub mod Sound
 pub mod Underway
 pub mod Events
-pub mod Tables
 pub mod References
 pub mod Turns
 pub mod Uploads
 pub mod Ends
 pub mod Worth
+pub mod Lossy
 pub mod RuledOut
 pub mod Quiet

@@ -1,23 +1,17 @@
 -- The references that a service makes, and the places that are written of them.
-use Rattle.std.proofs.Common.{zero, suc, ◌≡◌, ℕ, ◌+◌, ◌%◌, ◌<◌, ◌^◌, List, ◌++◌, length, length-append, ◌∙◌, ap, arith}
+use Rattle.std.proofs.Common.{zero, suc, ◌≡◌, ℕ, ◌+◌, ◌%◌, ◌<◌, List, ◌++◌, length, length-append, ◌∙◌, ap, arith}
 use Rattle.std.specs.Prelude.{slice_index, slice_set}
 use Rattle.std.specs.List.{All}
 use Rattle.std.specs.Int.{w32, to_be_bytes}
 use Rattle.std.proofs.lemmas.List.{length-set}
 use Rattle.std.proofs.lemmas.List.Elements.{All-set, All-append}
-use Rattle.std.proofs.lemmas.Nat.{from_be_bytes-to_be_bytes_4}
-use Rattle.upload_names.specs.Reference.{reference, number_of}
+use Rattle.upload_names.specs.Reference.{reference}
 use Rattle.upload_push.specs.World.{IsSecret}
 
 -- sixteen bytes
 pub record IsReference (at : List ℕ) : Type 0 where
   pub sixteen : length at ≡ 16
   pub bytes : All (λ b. b < 256) at
-
--- a reference has the number that it was made of
-pub number_of-reference : (n : ℕ) (secret : List ℕ) → n < 2 ^ 32 → number_of (reference n secret) ≡ n
-unfolding number_of reference
-number_of-reference n secret h = from_be_bytes-to_be_bytes_4 n h
 
 -- a reference that is made is sixteen bytes
 four_bytes : (n : ℕ) → All (λ b. b < 256) (to_be_bytes w32 n)

@@ -10,7 +10,7 @@ use Rattle.upload_push.specs.Slices.{Push, Exchange, IsSound, IsSoundAsk, log_of
 use Rattle.upload_push.specs.World.{World}
 use Rattle.upload_push.specs.Promise.{IsQuiet, IsWorth}
 use Rattle.upload_push.specs.RuledOut.{exchange, PushesRuleOut}
-use Rattle.upload_wire.specs.declared.client.heard.Heard.{Heard}
+use Rattle.upload_client.specs.declared.heard.Heard.{Heard}
 use Rattle.upload_push.specs.declared.pusher.Outcome.TheVariants.{Pushed}
 use Rattle.upload_push.proofs.Turns.{same_inside}
 

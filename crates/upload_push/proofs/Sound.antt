@@ -5,7 +5,7 @@ use Rattle.upload_push.proofs.Cases.{cond_case, cond_case_both, cond_yes, cond_n
 use Rattle.upload_push.proofs.Count.{all_within}
 use Rattle.upload_push.specs.Steps.{Plan, Stand, IsOver, IsWithin, turn, turn_at, answered, unheard, retry, send_from, opened, taken, place_of, refused, to_phase, chunk_end, count_to, ask_at}
 use Rattle.upload_push.specs.Slices.{Push, IsLawfulPush, Exchange, after_all, log_of, logged, plan_of, request, heard_offset, heard_place, place_after, IsSound, EndsWith, EndsRefused, AreUnheard, IsClose, IsHead}
-use Rattle.upload_wire.specs.declared.client.heard.Heard.{Heard}
+use Rattle.upload_client.specs.declared.heard.Heard.{Heard}
 use Rattle.upload_push.specs.declared.pusher.PushAsk.{PushAsk}
 use Rattle.upload_push.specs.declared.pusher.PushAsk.TheVariants as asks
 use Rattle.upload_push.specs.declared.pusher.Outcome.TheVariants.{Pushed, Already}

@@ -5,7 +5,7 @@ use Rattle.upload_push.proofs.Count.{Falls, turn_falls, all_within, lawful_plan,
 use Rattle.upload_push.specs.Steps.{Plan, PushState, turn, ask_at, after, IsStepAt, IsStepOf, IsAskWithin}
 use Rattle.upload_push.specs.Slices.{Push, IsLawfulPush, after_all, log_of, logged, plan_of, request, request_of, Leads, IsPush, IsEnd}
 use Rattle.upload_push.proofs.AsksLeft.{asks_left}
-use Rattle.upload_wire.specs.declared.client.heard.Heard.{Heard}
+use Rattle.upload_client.specs.declared.heard.Heard.{Heard}
 use Rattle.upload_service.specs.declared.ask.Ask.{Ask}
 use Rattle.upload_push.specs.declared.pusher.PushAsk.{PushAsk}
 use Rattle.upload_push.specs.declared.pusher.Outcome.{Outcome}

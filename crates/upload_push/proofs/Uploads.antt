@@ -14,19 +14,23 @@ use Rattle.upload_service.specs.declared.ask.Extent.TheVariants.{Absent, Given}
 use Rattle.upload_service.specs.declared.answer.Answer.{Answer}
 use Rattle.upload_service.specs.declared.answer.Answer.TheVariants as answers
 use Rattle.upload_service.specs.declared.answer.Refusal.TheVariants as refusals
+use Rattle.upload_service.specs.UploadView.{Sends, AsksOffset, Closes}
 use Rattle.upload_service.specs.Machine.{same_digest, Session, State, Outcome, Replies, Begins, Takes, Commits, state_after, refused, unless_fault, checked, blob_reply, holds, swept, Comes, Turn, IsLawful}
 use Rattle.upload_service.specs.Session.{carries}
 use Rattle.upload_service.specs.Headline.{OthersLeaveIt}
-use Rattle.upload_wire.specs.Target.{upload_path}
-use Rattle.upload_wire.specs.Heard.{place_in, last_below, reply_heard}
+use Rattle.upload_texts.specs.Paths.{upload_path}
+use Rattle.upload_client.specs.Heard.{place_in, last_below, reply_heard}
 use Rattle.upload_push.specs.Steps.{count_to}
+use Rattle.upload_push.specs.Runs.{IsPart}
 use Rattle.upload_push.specs.Slices.{Push, IsNextChunk, place_after, offset_after}
 use Rattle.upload_push.specs.World.{IsSecret}
 use Rattle.upload_push.specs.Promise.{Avoids}
+use Rattle.upload_service.proofs.Turns.{IsGone}
+use Rattle.upload_service.proofs.Chunks.{gone_turn}
 use Rattle.upload_push.proofs.Cases.{cond_case}
-use Rattle.upload_push.proofs.Tables.{get-insert_same, get-remove_same}
+use Rattle.upload_service.proofs.Tables.{get-insert_same, get-remove_same}
 use Rattle.upload_push.proofs.References.{IsReference, reference_is}
-use Rattle.upload_push.proofs.Turns.{None≢Some, same_inside, size_case, body_case, session_case, turn_case, issued_turn, IsGone, gone_turn, opening_case}
+use Rattle.upload_push.proofs.Turns.{None≢Some, same_inside, size_case, body_case, session_case, turn_case, issued_turn, opening_case}
 
 -- an open session of a push, up to an offset at least
 pub record IsFront (file : List ℕ) (offset : ℕ) (at : List ℕ) (session : Session) : Type 0 where
@@ -55,7 +59,7 @@ others_keep others file s ask secret now answer new at offset lawful turn avoids
             let more = issued_turn s ask secret now answer new turn in
             inr (left.1, omega (arith, number, more))
       ]
-      | inr gone ↦ inr (gone_turn s ask secret now answer new at turn gone)
+      | inr gone ↦ inr (gone_turn s (record { ask = ask; secret = secret; now = now; answer = answer }) new at turn gone)
     ]
 
 -- the same of any upload that was heard, or of none
@@ -67,10 +71,6 @@ keep_place others file s ask secret now answer new (Some at) offset lawful turn 
 pub avoids_opening : (name : List ℕ) (place : Option (List ℕ)) → Avoids place (asks.Opening name)
 avoids_opening name None = tt
 avoids_opening name (Some at) = refl
-
-pub avoids_has : (name : List ℕ) (digest : Digest) (head : Bool) (place : Option (List ℕ)) → Avoids place (asks.Has name digest head)
-avoids_has name digest head None = tt
-avoids_has name digest head (Some at) = refl
 
 -- the session that is found is the push's
 pub found_front : (file : List ℕ) (s : State) (at : List ℕ) (offset : ℕ) (session : Session) → IsUpload file s (Some at) offset → map.get s.sessions at ≡ Some session → IsFront file offset at session
@@ -114,9 +114,9 @@ pub count_last : (next : ℕ) → count_to (last_below next) ≡ next
 count_last next = cond_case (λ (o : Option ℕ). count_to o ≡ next) (next == 0) None (Some (next - 1)) (λ is. sym (eqb-true next 0 is)) (λ some. let not = eqb-false next 0 some in omega (arith, not))
 
 -- the first bytes of the file, with the chunk after them
-pub longer_front : (p : Push) (bytes body : List ℕ) (range : Span) (offset : ℕ) → IsNextChunk p offset range body
+pub longer_front : (p : Push) (bytes body : List ℕ) (range : Span) → IsPart p range body
     → range.first ≡ length bytes → bytes ≡ take (length bytes) p.file → bytes ++ body ≡ take (length (bytes ++ body)) p.file
-longer_front p bytes body range offset next at front =
+longer_front p bytes body range next at front =
     let size = range.last + 1 - range.first in
     let within = next.within in
     let some = next.some in
@@ -141,16 +141,19 @@ at_offset p s at session offset is has =
 abbrev pub PlacesReadBack : Type 0
 PlacesReadBack = (name at : List ℕ) → IsReference at → place_in (upload_path name (reference_text at)) name ≡ Some at
 
--- the push's chunk
+pub part_of_next : (p : Push) (offset : ℕ) (range : Span) (body : List ℕ) → IsNextChunk p offset range body → IsPart p range body
+part_of_next p offset range body next = record { some = next.some; within = next.within; bytes = next.bytes }
+
+-- the push's chunk, at whatever offset
 pub chunk_keeps : PlacesReadBack → (p : Push) (s : State) (now : ℕ) (secret at : List ℕ) (offset : ℕ) (range : Span) (body : List ℕ) (answer : Answer) (new : State)
-    → IsNextChunk p offset range body → IsUpload p.file s (Some at) offset
+    → IsPart p range body → IsUpload p.file s (Some at) offset
     → Turn s (asks.Chunk p.name at (Given range) body) secret now answer new
     → IsKept p (asks.Chunk p.name at (Given range) body) (Some at) offset answer new
 chunk_keeps reads p s now secret at offset range body answer new next up turn =
     let ask : Ask = asks.Chunk p.name at (Given range) body in
     let P : Outcome → Type 0 = KeptBy p s now ask (Some at) offset in
     turn_case (IsKept p ask (Some at) offset) s ask secret now answer new
-    (session_case P s now at p.name ask
+    (session_case P s now p.name at (Sends (Given range) body)
     (replied p s now ask (Some at) offset _ (up, up) (up, up))
     (λ session is.
     let has = found_front p.file s at offset session up is in
@@ -165,7 +168,7 @@ chunk_keeps reads p s now secret at offset range body answer new next up turn =
     let t : State = state_after s now (Takes p.name at taken) in
     let long = length-append session.received body in
     let reaches = has.reaches in
-    let front = longer_front p session.received body range offset next at_next has.front in
+    let front = longer_front p session.received body range next at_next has.front in
     let there : map.get t.sessions at ≡ Some after = get-insert_same s.sessions at after in
     let grown : IsFront p.file offset at after = record { reference = has.reference; front = front; reaches = omega (arith, long, reaches) } in
     changed p s now ask (Some at) offset (answers.Taken p.name at (length taken)) t (Takes p.name at taken)
@@ -183,7 +186,7 @@ pub status_keeps : (p : Push) (s : State) (now : ℕ) (secret at : List ℕ) (of
 status_keeps p s now secret at offset answer new up turn =
     let ask : Ask = asks.Status p.name at in
     turn_case (IsKept p ask (Some at) offset) s ask secret now answer new
-    (session_case (KeptBy p s now ask (Some at) offset) s now at p.name ask
+    (session_case (KeptBy p s now ask (Some at) offset) s now p.name at AsksOffset
     (replied p s now ask (Some at) offset _ (up, up) (up, up))
     (λ session is.
     replied p s now ask (Some at) offset _ (up, at_offset p s at session offset is (found_front p.file s at offset session up is)) (up, up)))
@@ -197,7 +200,7 @@ close_keeps p s now secret at offset answer new lawful up turn =
     let ask : Ask = asks.Close p.name at Absent (Some p.digest) [] in
     let P : Outcome → Type 0 = KeptBy p s now ask (Some at) offset in
     turn_case (IsKept p ask (Some at) offset) s ask secret now answer new
-    (session_case P s now at p.name ask
+    (session_case P s now p.name at (Closes Absent (Some p.digest) [])
     (replied p s now ask (Some at) offset _ (up, up) (up, up))
     (λ session is.
     let blob : List ℕ = session.received ++ [] in

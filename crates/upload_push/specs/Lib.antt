@@ -3,5 +3,7 @@ pub mod Slices
 pub mod World
 pub mod Codes
 pub mod Promise
+pub mod Runs
 pub mod RuledOut
 pub mod FaultTexts
+pub mod Looking

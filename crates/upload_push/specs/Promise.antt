@@ -7,7 +7,7 @@ use Rattle.upload_service.specs.Session.{carries}
 use Rattle.upload_service.specs.declared.ask.Ask.{Ask}
 use Rattle.upload_push.specs.Slices.{Push, IsLawfulPush, Exchange, heard_place, log_of, IsPush}
 use Rattle.upload_push.specs.World.{World, Asked, IsLawfulWorld}
-use Rattle.upload_wire.specs.declared.client.heard.Heard.{Heard}
+use Rattle.upload_client.specs.declared.heard.Heard.{Heard}
 use Rattle.upload_push.specs.declared.pusher.Outcome.{Outcome}
 use Rattle.upload_push.specs.declared.pusher.Outcome.TheVariants.{Pushed, Already}
 use Rattle.upload_push.specs.declared.pushing.PushFault.{PushFault}

@@ -8,7 +8,7 @@ use Rattle.upload_service.specs.declared.ask.Ask.TheVariants.{Chunk, Close}
 use Rattle.upload_push.specs.Slices.{Push, Exchange, IsSound, log_of}
 use Rattle.upload_push.specs.World.{World}
 use Rattle.upload_push.specs.Promise.{IsQuiet, IsWorth}
-use Rattle.upload_wire.specs.declared.client.heard.Heard.{Heard}
+use Rattle.upload_client.specs.declared.heard.Heard.{Heard}
 use Rattle.upload_push.specs.declared.pusher.Outcome.TheVariants.{Pushed}
 
 -- one request, and what was heard

@@ -1,8 +1,8 @@
 -- The table of a push's steps: where it stands, what it asks there, and where a reply leads.
 use Rattle.std.specs.Prelude.{◌≡◌, ℕ, ◌+◌, ◌-◌, ◌^◌, ◌<◌, ◌≤◌, min, ◌==◌, nat_le, nat_lt, if◌then◌else◌, List, Option, Some, None}
 use Rattle.upload_names.specs.Digest.{Digest}
-use Rattle.upload_wire.specs.Heard.{place_in}
-use Rattle.upload_wire.specs.declared.client.heard.Heard.{Heard}
+use Rattle.upload_client.specs.Heard.{place_in}
+use Rattle.upload_client.specs.declared.heard.Heard.{Heard}
 use Rattle.upload_push.specs.declared.pusher.Outcome.TheVariants.{Pushed, Already}
 use Rattle.upload_push.specs.declared.pusher.Why.TheVariants.{Refused, BadServer, OutOfTries}
 use Rattle.upload_push.specs.declared.pusher.PushAsk.{PushAsk}

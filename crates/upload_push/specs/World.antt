@@ -4,8 +4,8 @@ use Rattle.std.specs.List.{All}
 use Rattle.upload_service.specs.Machine.{State, Turn, IsLawful}
 use Rattle.upload_service.specs.declared.ask.Ask.{Ask}
 use Rattle.upload_service.specs.declared.answer.Answer.{Answer}
-use Rattle.upload_wire.specs.Heard.{reply_heard}
-use Rattle.upload_wire.specs.declared.client.heard.Heard.{Heard}
+use Rattle.upload_client.specs.Heard.{reply_heard}
+use Rattle.upload_client.specs.declared.heard.Heard.{Heard}
 use Rattle.upload_push.specs.declared.world.Event.{Event}
 use Rattle.upload_push.specs.declared.world.Event.TheVariants.{Delivered, ReplyLost, NotDelivered, Other, Passes}
 use Rattle.upload_push.specs.declared.world.Fate.{Fate}

@@ -1,14 +1,16 @@
 //! What is true of every push, as laws: functions that do nothing and whose contracts are the laws.
 ghost use Rattle.std.specs.Prelude.{◌≡◌, ◌≤◌, ℕ, ◌⊎◌, List, Option, length};
-ghost use Rattle.upload_wire.specs.declared.client.heard.Heard.{Heard};
+ghost use Rattle.upload_client.specs.declared.heard.Heard.{Heard};
+ghost use Rattle.upload_push.specs.Looking.{LookPromise};
 ghost use Rattle.upload_push.specs.Promise.{PushPromise, AloneIsQuiet};
+ghost use Rattle.upload_push.specs.Runs.{PushPromiseInRuns};
 ghost use Rattle.upload_push.specs.RuledOut.{PushesRuleOut};
 ghost use Rattle.upload_push.specs.Steps.{Plan, Stand, turn, IsOver};
 ghost use Rattle.upload_push.specs.Slices.{Push, IsLawfulPush, IsSound, IsClose, IsHead, EndsWith, EndsRefused, AreUnheard, after_all, log_of, most_asks};
 
 use crate::pusher::{Outcome, Phase, Why};
+use upload_client::written_places_are_read;
 use upload_service::{headline_holds, others_leave_a_session};
-use upload_wire::written_places_are_read;
 
 /// Whatever is heard: each request is sound, a push ends well only after the reply that says so, and it makes no more
 /// requests than (tries + 1) * (chunks of the file + 2). Where it ends refused, the last reply had that status and that
@@ -31,10 +33,16 @@ pub fn every_push()
 /// The promise of a push: over a lossy world with any events, beside any clients, a push that ends `Pushed` or `Already` left
 /// or found the repository with its digest, and the bytes that stand under it have that digest. Where no other client's
 /// request carried the reference that the pusher had heard, a push that ends `Pushed` left exactly the file there. So it is
-/// where there is no other client.
+/// if there is no other client. A look that finds the blob has the promise of `Already`, and whatever a look hears, a push
+/// behind it has this promise.
+///
+/// The same is true in any run of a lawful service, whose turns have secrets and moments of their own, and in which requests
+/// of the push that were taken to be lost are served late.
 pub fn push_promise()
     ensures promise { PushPromise }
+    ensures in_runs { PushPromiseInRuns }
     ensures alone { AloneIsQuiet }
+    ensures look { LookPromise }
 {
     headline_holds();
     others_leave_a_session();

@@ -6,11 +6,13 @@
 #![tactic(auto)]
 
 mod laws;
+mod looking;
 mod pusher;
 mod pushing;
 mod world;
 
 pub use laws::{every_push, push_promise, pushes_rule_out};
+pub use looking::has_blob;
 pub use pusher::{Outcome, PushAsk, PushStep, Pusher, Why};
 pub use pushing::{PushFault, push, push_under, push_with};
 pub use world::{Event, LossyWorld};

@@ -4,8 +4,8 @@ ghost use Rattle.upload_push.specs.Steps.{after, IsWithin, IsStepOf, IsStepWithi
 
 use std::alloc::{AllocError, Global};
 use std::marker::Model;
+use upload_client::{Heard, read_place};
 use upload_names::{BlobDigest, ByteRange, Bytes, RepoName, UploadRef};
-use upload_wire::{Heard, read_place};
 
 /// How a push ended well.
 #[derive(Clone, Copy, Debug, PartialEq, Eq)]

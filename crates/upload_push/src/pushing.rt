@@ -7,9 +7,9 @@ ghost use Rattle.upload_push.specs.Slices.{IsPush, push_of, push_under, request_
 use crate::pusher::{Outcome, PushAsk, PushStep, Pusher, Why};
 use std::alloc::{AllocError, Global};
 use std::fmt;
+use upload_client::{Heard, LentChunk, Transport};
 use upload_names::{Algorithm, BlobDigest, Bytes, RepoName};
 use upload_service::{Ask, Extent};
-use upload_wire::{Heard, LentChunk, Transport};
 
 /// Why a push has no outcome.
 #[derive(Drop)]

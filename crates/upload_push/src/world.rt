@@ -3,7 +3,7 @@
 ghost use Rattle.std.specs.Prelude.{◌≡◌};
 ghost use Rattle.std.specs.Prelude.{Option, length};
 ghost use Rattle.upload_service.specs.declared.ask.Ask.{Ask};
-ghost use Rattle.upload_wire.specs.declared.client.heard.Heard.{Heard};
+ghost use Rattle.upload_client.specs.declared.heard.Heard.{Heard};
 ghost use Rattle.upload_service.specs.declared.answer.Answer.{Answer};
 ghost use Rattle.upload_service.specs.Machine.{Turn};
 ghost use Rattle.upload_push.specs.World.{World, Asked, Meets, Reaches, IsSecret, IsLawfulWorld};
@@ -11,8 +11,8 @@ ghost use Rattle.upload_push.specs.World.{World, Asked, Meets, Reaches, IsSecret
 use std::alloc::{AllocError, Global};
 use std::marker::Model;
 use std::vec::IntoIter;
+use upload_client::{Heard, LentChunk, Transport, heard_of};
 use upload_service::{Ask, Service};
-use upload_wire::{Heard, LentChunk, Transport, heard_of};
 
 /// What becomes of a request, or what happens in front of it.
 #[derive(Drop)]

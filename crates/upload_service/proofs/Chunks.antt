@@ -4,9 +4,9 @@ use Rattle.std.specs.Prelude.{◌||◌}
 use Rattle.std.specs.FinMap as map
 use Rattle.upload_names.specs.Reference.{number_of}
 use Rattle.upload_service.specs.declared.ask.Ask.{Ask}
-use Rattle.upload_service.specs.declared.ask.Ask.TheVariants as asks
 use Rattle.upload_service.specs.declared.answer.Answer.{Answer}
 use Rattle.upload_service.specs.declared.answer.Answer.TheVariants as answers
+use Rattle.upload_service.specs.UploadView.{Act, Sends, AsksOffset, Closes, upload_view}
 use Rattle.upload_service.specs.Machine.{same, swept, Session, State, Outcome, Replies, Begins, Takes, Commits, Stores, Mounts, answer_of, state_after, outcome}
 use Rattle.std.specs.Prelude.{flat_map}
 use Rattle.std.proofs.Common.{append_assoc}
@@ -14,8 +14,9 @@ use Rattle.std.proofs.lemmas.List.{append-nil}
 use Rattle.std.proofs.lemmas.List.Elements.{filter-append}
 use Rattle.upload_service.specs.Machine.{Turn}
 use Rattle.upload_service.specs.Run.{Exchange, Run}
-use Rattle.upload_service.specs.Session.{carries, begins, is_part, part, is_taken, is_stored, accepted_of, accepted, taken, joined, bytes_of, received}
+use Rattle.upload_service.specs.Session.{carries, begins, is_part, part, is_taken, is_stored, accepted_by, accepted_of, accepted, taken, joined, bytes_of, received}
 use Rattle.upload_service.proofs.Tables.{one_or_two, get-insert_same, get-insert_other, get-remove_same, get-remove_other, same_from_eq, same_from_ne}
+use Rattle.upload_service.proofs.UploadView.{on_each}
 use Rattle.upload_service.proofs.Steps.{IsReply, IsOutcome, outcome_sound, None≢Some}
 use Rattle.upload_service.proofs.Sweeps.{kept_or_left, none_there}
 use Rattle.upload_service.proofs.Turns.{IsNumbered, numbered_after, IsGone, not_new}
@@ -53,10 +54,13 @@ received-push s xs x at =
     ∙ sym (append_assoc (bytes_of (map.get s.sessions at)) (joined (taken xs at)) (joined (gave at x)))
 
 -- what is answered otherwise gives nothing
+not_accepted_by : (act : Act) (answer : Answer) → is_taken answer ≡ false → is_stored answer ≡ false → accepted_by act answer ≡ []
+not_accepted_by (Sends range body) answer t s = ap (λ b. cond b (body ∷ []) []) t
+not_accepted_by AsksOffset answer t s = refl
+not_accepted_by (Closes range digest body) answer t s = ap (λ b. cond b (body ∷ []) []) s
+
 not_accepted : (ask : Ask) (answer : Answer) → is_taken answer ≡ false → is_stored answer ≡ false → accepted_of ask answer ≡ []
-not_accepted (asks.Chunk name to range body) answer t s = ap (λ b. cond b (body ∷ []) []) t
-not_accepted (asks.Close name to range digest body) answer t s = ap (λ b. cond b (body ∷ []) []) s
-not_accepted other answer t s = refl
+not_accepted ask answer t s = on_each (λ bodies. bodies ≡ []) (upload_view ask) [] _ refl (λ name at act. not_accepted_by act answer t s)
 
 gave_none : (x : Exchange) (at : List ℕ) → accepted x ≡ [] → gave at x ≡ []
 gave_none x at e = elim (is_part at x) as (λ b. cond b (accepted x) [] ≡ []) [ true ↦ e | false ↦ refl ]

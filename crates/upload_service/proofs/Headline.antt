@@ -12,7 +12,8 @@ use Rattle.upload_service.specs.declared.ask.Ask.{Ask}
 use Rattle.upload_service.specs.declared.ask.Ask.TheVariants as asks
 use Rattle.upload_service.specs.declared.answer.Answer.{Answer}
 use Rattle.upload_service.specs.declared.answer.Answer.TheVariants as answers
-use Rattle.upload_service.specs.Machine.{same, unless_idle, awake, Session, State, Outcome, Replies, Begins, Takes, Commits, Stores, Mounts, answer_of, state_after, refused, size_fault, body_fault, unless_fault, in_session, at_session, holds, outcome}
+use Rattle.upload_service.specs.UploadView.{Act, Sends, AsksOffset, Closes, UploadView, OfSession, upload_view, on_session}
+use Rattle.upload_service.specs.Machine.{same, unless_idle, awake, Session, State, Outcome, Replies, Begins, Takes, Commits, Stores, Mounts, answer_of, state_after, refused, size_fault, body_fault, unless_fault, at_session, holds, outcome}
 use Rattle.upload_service.proofs.Tables.{eq_from_same}
 use Rattle.std.specs.Prelude.{◌&&◌}
 use Rattle.std.specs.List.{list_any}
@@ -20,9 +21,10 @@ use Rattle.std.proofs.lemmas.Bool.{eqb-true, false_from_ne_true}
 use Rattle.upload_service.specs.Machine.{Turn, IsLawful, may_lack_memory}
 use Rattle.upload_service.proofs.Claims.{CommitsItsChunks, MissedChunkChangesNothing, MisplacedOnlyThere, ClosedTakesNothing}
 use Rattle.upload_service.specs.Run.{Exchange, Run}
-use Rattle.upload_service.specs.Session.{carries, is_stored, accepted_of, joined, received, closes_of}
-use Rattle.upload_service.specs.Headline.{Aim, aim_of, IsCommitted}
-use Rattle.upload_service.proofs.Tables.{get-remove_same, same_itself, same_from_eq, blob-insert_same, contains-insert_same}
+use Rattle.upload_service.specs.Session.{carries, is_stored, accepted_of, joined, received, closed_by, closes_of}
+use Rattle.upload_service.specs.Headline.{Aim, aim_by, aim_of, IsCommitted}
+use Rattle.upload_service.proofs.Tables.{get-remove_same, same_itself, blob-insert_same, contains-insert_same}
+use Rattle.upload_service.proofs.UploadView.{on_each, outcome_of_view, named as named_session, carried}
 use Rattle.upload_service.proofs.Steps.{IsMisplaced, IsReply, IsOutcome, outcome_sound, awake_is_open}
 use Rattle.upload_service.proofs.Turns.{IsNumbered, IsGone}
 use Rattle.upload_service.proofs.Alone.{numbered_if_lawful}
@@ -92,25 +94,31 @@ misses_next max_blob name at next r body o n =
     else if nat_lt r.last r.first || not (r.last - r.first + 1 == length body) then Some (answers.Refused refusals.WrongLength)
     else size_fault max_blob next body) o) e
 
-inside : (max_blob : ℕ) (session : Session) (o : Option Session) (name : List ℕ) (ask : Ask) → o ≡ Some session → session.name ≡ name → at_session max_blob o name ask ≡ in_session max_blob session ask
-inside max_blob session o name ask e n =
-    ap (λ q. at_session max_blob q name ask) e ∙ ap (λ b. if b then in_session max_blob session ask else refused refusals.NoUpload) (same_from_eq session.name name n)
+missed_act : (s : State) (now : ℕ) (aim : Aim) (session : Session) → awake s now aim.at ≡ Some session → session.name ≡ aim.name → aim.first ≢ length session.received
+    → (name at : List ℕ) (act : Act) → aim_by name at act ≡ Some aim
+    → at_session s.limits.max_blob (awake s now at) name at act ≡ Replies (answers.Misplaced aim.name aim.at (length session.received))
+missed_act s now aim session is_awake named miss name at (Sends (Given r) body) e =
+    let is : ◌≡◌ {A = Aim} (record { name = name; at = at; first = r.first }) aim = cc in
+    let missed_r : r.first ≢ length session.received = λ q. miss (ap (λ (a : Aim). a.first) (sym is) ∙ q) in
+    named_session s.limits.max_blob (awake s now at) session name at _ (ap (λ (a : Aim). awake s now a.at) is ∙ is_awake) (named ∙ ap (λ (a : Aim). a.name) (sym is))
+    ∙ misses_next s.limits.max_blob name at (length session.received) r body _ missed_r
+    ∙ ap (λ (a : Aim). Replies (answers.Misplaced a.name a.at (length session.received))) is
+missed_act s now aim session is_awake named miss name at (Closes (Given r) digest body) e =
+    let is : ◌≡◌ {A = Aim} (record { name = name; at = at; first = r.first }) aim = cc in
+    let missed_r : r.first ≢ length session.received = λ q. miss (ap (λ (a : Aim). a.first) (sym is) ∙ q) in
+    named_session s.limits.max_blob (awake s now at) session name at _ (ap (λ (a : Aim). awake s now a.at) is ∙ is_awake) (named ∙ ap (λ (a : Aim). a.name) (sym is))
+    ∙ misses_next s.limits.max_blob name at (length session.received) r body _ missed_r
+    ∙ ap (λ (a : Aim). Replies (answers.Misplaced a.name a.at (length session.received))) is
+missed_act s now aim session is_awake named miss name at other e = cc
 
 missed : (s : State) (secret : List ℕ) (now : ℕ) (aim : Aim) (session : Session) → awake s now aim.at ≡ Some session → session.name ≡ aim.name → aim.first ≢ length session.received
     → (ask : Ask) → aim_of ask ≡ Some aim → outcome s ask secret now ≡ Replies (answers.Misplaced aim.name aim.at (length session.received))
-missed s secret now aim session is_awake named miss (asks.Chunk name at (Given r) body) e =
-    let is : ◌≡◌ {A = Aim} (record { name = name; at = at; first = r.first }) aim = cc in
-    let missed_r : r.first ≢ length session.received = λ q. miss (ap (λ (a : Aim). a.first) (sym is) ∙ q) in
-    inside s.limits.max_blob session (awake s now at) name _ (ap (λ (a : Aim). awake s now a.at) is ∙ is_awake) (named ∙ ap (λ (a : Aim). a.name) (sym is))
-    ∙ misses_next s.limits.max_blob name at (length session.received) r body _ missed_r
-    ∙ ap (λ (a : Aim). Replies (answers.Misplaced a.name a.at (length session.received))) is
-missed s secret now aim session is_awake named miss (asks.Close name at (Given r) digest body) e =
-    let is : ◌≡◌ {A = Aim} (record { name = name; at = at; first = r.first }) aim = cc in
-    let missed_r : r.first ≢ length session.received = λ q. miss (ap (λ (a : Aim). a.first) (sym is) ∙ q) in
-    inside s.limits.max_blob session (awake s now at) name _ (ap (λ (a : Aim). awake s now a.at) is ∙ is_awake) (named ∙ ap (λ (a : Aim). a.name) (sym is))
-    ∙ misses_next s.limits.max_blob name at (length session.received) r body _ missed_r
-    ∙ ap (λ (a : Aim). Replies (answers.Misplaced a.name a.at (length session.received))) is
-missed s secret now aim session is_awake named miss other e = cc
+missed s secret now aim session is_awake named miss ask e = by_view (upload_view ask) refl e
+  where
+    by_view : (v : UploadView) → upload_view ask ≡ v → on_session v None aim_by ≡ Some aim
+        → outcome s ask secret now ≡ Replies (answers.Misplaced aim.name aim.at (length session.received))
+    by_view (OfSession name at act) is aims = outcome_of_view s ask secret now name at act is ∙ missed_act s now aim session is_awake named miss name at act aims
+    by_view other is aims = cc
 
 -- a turn whose outcome hands nothing out
 plain_turn : (s : State) (x : Exchange) (t : State) (answer : Answer) → Turn s x.ask x.secret x.now x.answer t → outcome s x.ask x.secret x.now ≡ Replies answer → may_lack_memory (Replies answer) ≡ false
@@ -153,9 +161,15 @@ and_true : (a b : Bool) → (a && b) ≡ true → (a ≡ true) × (b ≡ true)
 and_true true b e = (refl, e)
 and_true false b e = absurd (true≢false (sym e))
 
+closed_is_stored : (act : Act) (answer : Answer) → closed_by act answer ≡ true → is_stored answer ≡ true
+closed_is_stored (Sends range body) answer e = absurd (true≢false (sym e))
+closed_is_stored AsksOffset answer e = absurd (true≢false (sym e))
+closed_is_stored (Closes range digest body) answer e = e
+
 closing_is_stored : (at : List ℕ) (ask : Ask) (answer : Answer) → closes_of at ask answer ≡ true → is_stored answer ≡ true
-closing_is_stored at (asks.Close name to range digest body) answer e = (and_true (same at to) _ e).1
-closing_is_stored at other answer e = absurd (true≢false (sym e))
+closing_is_stored at ask answer e =
+    on_each (λ b. b ≡ true → is_stored answer ≡ true) (upload_view ask) false _ (λ c. absurd (true≢false (sym c)))
+    (λ name to act c. closed_is_stored act answer (and_true (same at to) _ c).1) e
 
 closing : (s : State) (x : Exchange) (o : Outcome) (at : List ℕ) → IsOutcome s x.ask x.secret x.now o → IsNumbered s → x.answer ≡ answer_of o → closes_of at x.ask x.answer ≡ true → IsGone (state_after s x.now o) at
 closing s x (Replies answer) at f h e c =
@@ -183,13 +197,9 @@ closed_is_gone (x ∷ xs) s t at (mid, turn, rest) h c =
     ] refl c
 
 refuses_closed : (s : State) (ask : Ask) (secret : List ℕ) (now : ℕ) (at : List ℕ) → carries at ask ≡ true → awake s now at ≡ None → outcome s ask secret now ≡ refused refusals.NoUpload
-refuses_closed s (asks.Chunk name to range body) secret now at c none =
-    ap (λ o. at_session s.limits.max_blob o name (asks.Chunk name to range body)) (ap (awake s now) (sym (eq_from_same at to c)) ∙ none)
-refuses_closed s (asks.Status name to) secret now at c none =
-    ap (λ o. at_session s.limits.max_blob o name (asks.Status name to)) (ap (awake s now) (sym (eq_from_same at to c)) ∙ none)
-refuses_closed s (asks.Close name to range digest body) secret now at c none =
-    ap (λ o. at_session s.limits.max_blob o name (asks.Close name to range digest body)) (ap (awake s now) (sym (eq_from_same at to c)) ∙ none)
-refuses_closed s other secret now at c none = absurd (true≢false (sym c))
+refuses_closed s ask secret now at c none =
+    let to = carried at ask c in
+    outcome_of_view s ask secret now to.name at to.act to.view ∙ ap (λ o. at_session s.limits.max_blob o to.name at to.act) none
 
 pub closed_takes_nothing : ClosedTakesNothing
 unfolding Turn

@@ -10,16 +10,17 @@ use Rattle.upload_service.specs.declared.limits.Limits.{Limits}
 use Rattle.upload_service.specs.declared.ask.Extent.{Extent}
 use Rattle.upload_service.specs.declared.ask.Extent.TheVariants.{Absent, Bad, Given}
 use Rattle.upload_service.specs.declared.ask.Ask.{Ask}
-use Rattle.upload_service.specs.declared.ask.Ask.TheVariants as asks
 use Rattle.upload_service.specs.declared.answer.Refusal.TheVariants as refusals
 use Rattle.upload_service.specs.declared.answer.Answer.{Answer}
 use Rattle.upload_service.specs.declared.answer.Answer.TheVariants as answers
+use Rattle.upload_service.specs.UploadView.{Act, Sends, AsksOffset, Closes, upload_view, opened_under}
 use Rattle.upload_service.specs.Machine.{Session, State, Outcome, Takes, Commits, answer_of, refused, same, same_digest, size_fault, body_fault, unless_fault, checked, in_session, at_session, unless_idle}
 use Rattle.upload_service.specs.Run.{Exchange}
 use Rattle.upload_service.specs.Session.{carries, begins, is_part, part, is_taken, received}
-use Rattle.upload_service.specs.Alone.{Life, Unborn, Open, Gone, life_of, life_in, life_after, name_of, alone_outcome, alone_answer, alone_after, alone, lacks_memory, told, IsToldAsAlone}
+use Rattle.upload_service.specs.Alone.{Life, Unborn, Open, Gone, life_of, life_in, life_after, alone_outcome, first_answer, first_life, alone_answer, alone_after, alone, lacks_memory, told, IsToldAsAlone}
 use Rattle.upload_service.specs.Headline.{Aim, aim_of, IsAwake, IsOrderly}
 use Rattle.upload_service.specs.RuledOut.{IsBorn, HeadlineRulesOut}
+use Rattle.upload_service.proofs.UploadView.{on_each, carried}
 use Rattle.upload_service.proofs.Alone.{told_other, told_none, told_own, SoFar}
 
 overlap : (start : State) (front : List Exchange) (before : State) (x : Exchange) (after : State) → IsOrderly start front before x after
@@ -61,23 +62,27 @@ quiet_checked at None blob name to = refl
 quiet_checked at (Some d) blob name to =
     elim (same_digest (content_digest d.algorithm blob) d) as (λ b. begins at (answer_of (cond b (Commits name to d blob) (refused refusals.Mismatch))) ≡ false) [ true ↦ refl | false ↦ refl ]
 
-quiet_in_session : (at : List ℕ) (max_blob : ℕ) (session : Session) (ask : Ask) → begins at (answer_of (in_session max_blob session ask)) ≡ false
-quiet_in_session at max_blob session (asks.Chunk name to range body) =
+quiet_in_session : (at : List ℕ) (max_blob : ℕ) (session : Session) (name to : List ℕ) (act : Act) → begins at (answer_of (in_session max_blob session name to act)) ≡ false
+quiet_in_session at max_blob session name to (Sends range body) =
     quiet_unless at (body_fault max_blob name to (length session.received) range body) (Takes name to (session.received ++ body)) (quiet_fault max_blob name to (length session.received) range body at) refl
-quiet_in_session at max_blob session (asks.Close name to range digest body) =
+quiet_in_session at max_blob session name to (Closes range digest body) =
     quiet_unless at (body_fault max_blob name to (length session.received) range body) (checked digest (session.received ++ body) (λ d. Commits name to d (session.received ++ body))) (quiet_fault max_blob name to (length session.received) range body at)
     (quiet_checked at digest (session.received ++ body) name to)
-quiet_in_session at max_blob session (asks.Status name to) = refl
-quiet_in_session at max_blob session other = refl
+quiet_in_session at max_blob session name to AsksOffset = refl
 
-quiet_at_session : (at : List ℕ) (max_blob : ℕ) (o : Option Session) (name : List ℕ) (ask : Ask) → begins at (answer_of (at_session max_blob o name ask)) ≡ false
-quiet_at_session at max_blob None name ask = refl
-quiet_at_session at max_blob (Some session) name ask =
-    elim (same session.name name) as (λ b. begins at (answer_of (cond b (in_session max_blob session ask) (refused refusals.NoUpload))) ≡ false) [ true ↦ quiet_in_session at max_blob session ask | false ↦ refl ]
+quiet_at_session : (at : List ℕ) (max_blob : ℕ) (o : Option Session) (name to : List ℕ) (act : Act) → begins at (answer_of (at_session max_blob o name to act)) ≡ false
+quiet_at_session at max_blob None name to act = refl
+quiet_at_session at max_blob (Some session) name to act =
+    elim (same session.name name) as (λ b. begins at (answer_of (cond b (in_session max_blob session name to act) (refused refusals.NoUpload))) ≡ false) [
+      | true ↦ quiet_in_session at max_blob session name to act
+      | false ↦ refl
+    ]
 
 quiet_alone : (at : List ℕ) (limits : Limits) (life : Life) (ask : Ask) (now : ℕ) → IsBorn life → begins at (alone_answer limits.max_blob limits.max_idle at life ask now) ≡ false
 quiet_alone at limits Unborn ask now born = absurd born
-quiet_alone at limits (Open session) ask now born = quiet_at_session at limits.max_blob (unless_idle limits.max_idle now (Some session)) (name_of ask) ask
+quiet_alone at limits (Open session) ask now born =
+    on_each (λ o. begins at (answer_of o) ≡ false) (upload_view ask) (refused refusals.NoUpload) _ refl
+    (λ name to act. quiet_at_session at limits.max_blob (unless_idle limits.max_idle now (Some session)) name to act)
 quiet_alone at limits Gone ask now born = refl
 
 born_after : (session : Session) (now : ℕ) (o : Outcome) → IsBorn (life_after session now o)
@@ -149,16 +154,12 @@ IsAbsent Gone = Unit {0}
 absent_answer : (at : List ℕ) (limits : Limits) (life : Life) (ask : Ask) (now : ℕ) → IsAbsent life → carries at ask ≡ true → alone_answer limits.max_blob limits.max_idle at life ask now ≡ answers.Refused refusals.NoUpload
 absent_answer at limits (Open session) ask now none c = absurd none
 absent_answer at limits Gone ask now none c = refl
-absent_answer at limits Unborn (asks.Opening name) now none c = absurd (true≢false (sym c))
-absent_answer at limits Unborn (asks.Mount name digest source) now none c = absurd (true≢false (sym c))
-absent_answer at limits Unborn other now none c = refl
+absent_answer at limits Unborn ask now none c = ap (λ v. first_answer at (opened_under v)) (carried at ask c).view
 
 absent_after : (at : List ℕ) (limits : Limits) (life : Life) (ask : Ask) (now : ℕ) → IsAbsent life → carries at ask ≡ true → IsAbsent (alone_after limits.max_blob limits.max_idle life ask now)
 absent_after at limits (Open session) ask now none c = absurd none
 absent_after at limits Gone ask now none c = tt
-absent_after at limits Unborn (asks.Opening name) now none c = absurd (true≢false (sym c))
-absent_after at limits Unborn (asks.Mount name digest source) now none c = absurd (true≢false (sym c))
-absent_after at limits Unborn other now none c = tt
+absent_after at limits Unborn ask now none c = subst (λ v. IsAbsent (first_life (opened_under v) now)) (sym (carried at ask c).view) tt
 
 abbrev GetsNothing : List ℕ → Exchange → Type 0
 GetsNothing at x = carries at x.ask ≡ true → (x.answer ≡ answers.Refused refusals.NoUpload) ⊎ (x.answer ≡ answers.NoMemory)

@@ -7,8 +7,8 @@ use Rattle.upload_names.specs.Digest.{Digest, digest_cmp, content_digest}
 use Rattle.upload_service.specs.declared.limits.Limits.{Limits}
 use Rattle.upload_service.specs.declared.ask.Extent.{Extent}
 use Rattle.upload_service.specs.declared.answer.Refusal.TheVariants as refusals
-use Rattle.upload_service.specs.declared.ask.Ask.{Ask}
-use Rattle.upload_service.specs.declared.ask.Ask.TheVariants as asks
+use Rattle.upload_service.specs.UploadView.{Act, Sends, Closes}
+use Rattle.upload_service.proofs.UploadView.{named}
 use Rattle.upload_service.specs.declared.answer.Answer.{Answer}
 use Rattle.upload_service.specs.declared.answer.Answer.TheVariants as answers
 use Rattle.upload_service.specs.Machine.{Session, State, Outcome, Replies, Takes, Commits, Stores, answer_of, state_after, refused, size_fault, body_fault, unless_fault, checked, in_session, at_session}
@@ -17,7 +17,7 @@ use Rattle.std.specs.FinSet as set
 use Rattle.std.specs.Ordering.{nat_cmp}
 use Rattle.std.specs.Cmp.Lexicographic.{slice_cmp}
 use Rattle.upload_service.specs.Machine.{Comes, IsLawful, may_lack_memory, empty_state, pair_cmp}
-use Rattle.upload_service.proofs.Tables.{same_from_eq, same_from_ne, same_digest_from_eq, same_digest_from_ne}
+use Rattle.upload_service.proofs.Tables.{same_from_ne, same_digest_from_eq, same_digest_from_ne}
 
 pub does : (s : State) (now : ℕ) (o p : Outcome) (answer : Answer) (t : State) → o ≡ p → answer ≡ answer_of p → t ≡ state_after s now p → Comes s now o answer t
 does s now o p answer t e a n = inl (a ∙ ap answer_of (sym e), n ∙ ap (state_after s now) (sym e))
@@ -28,13 +28,10 @@ lacks s now o p answer t e m a n = inr (ap may_lack_memory e ∙ m, a, n)
 pub comes_by : (s : State) (now : ℕ) (o p : Outcome) (answer : Answer) (t : State) → o ≡ p → Comes s now p answer t → Comes s now o answer t
 comes_by s now o p answer t e h = subst (λ q. Comes s now q answer t) (sym e) h
 
-pub none_named : (max_blob : ℕ) (o : Option Session) (name : List ℕ) (ask : Ask) → ((session : Session) → o ≡ Some session → session.name ≢ name) → at_session max_blob o name ask ≡ refused refusals.NoUpload
-none_named max_blob None name ask h = refl
-none_named max_blob (Some session) name ask h = ap (λ b. if b then in_session max_blob session ask else refused refusals.NoUpload) (same_from_ne session.name name (h session refl))
-
-pub named : (max_blob : ℕ) (o : Option Session) (session : Session) (name : List ℕ) (ask : Ask) → o ≡ Some session → session.name ≡ name → at_session max_blob o name ask ≡ in_session max_blob session ask
-named max_blob o session name ask e n =
-    ap (λ q. at_session max_blob q name ask) e ∙ ap (λ b. if b then in_session max_blob session ask else refused refusals.NoUpload) (same_from_eq session.name name n)
+pub none_named : (max_blob : ℕ) (o : Option Session) (name at : List ℕ) (act : Act) → ((session : Session) → o ≡ Some session → session.name ≢ name) → at_session max_blob o name at act ≡ refused refusals.NoUpload
+none_named max_blob None name at act h = refl
+none_named max_blob (Some session) name at act h =
+    ap (λ b. if b then in_session max_blob session name at act else refused refusals.NoUpload) (same_from_ne session.name name (h session refl))
 
 None≢Some : {A : Type 0} {x : A} → None ≡ Some x → ⊥
 None≢Some e = cc
@@ -56,33 +53,33 @@ empty_is_lawful limits issued =
 -- a body that is turned away, and one that fits
 pub chunk_turned_away : (max_blob : ℕ) (o : Option Session) (session : Session) (name at : List ℕ) (range : Extent) (body : List ℕ) (next : ℕ) (answer : Answer)
     → o ≡ Some session → session.name ≡ name → next ≡ length session.received → body_fault max_blob name at next range body ≡ Some answer
-    → at_session max_blob o name (asks.Chunk name at range body) ≡ Replies answer
+    → at_session max_blob o name at (Sends range body) ≡ Replies answer
 chunk_turned_away max_blob o session name at range body next answer e n l f =
-    named max_blob o session name _ e n
+    named max_blob o session name at _ e n
     ∙ ap (λ k. unless_fault (body_fault max_blob name at k range body) (Takes name at (session.received ++ body))) (sym l)
     ∙ ap (λ q. unless_fault q (Takes name at (session.received ++ body))) f
 
 pub chunk_fits : (max_blob : ℕ) (o : Option Session) (session : Session) (name at : List ℕ) (range : Extent) (body : List ℕ) (next : ℕ)
     → o ≡ Some session → session.name ≡ name → next ≡ length session.received → body_fault max_blob name at next range body ≡ None
-    → at_session max_blob o name (asks.Chunk name at range body) ≡ Takes name at (session.received ++ body)
+    → at_session max_blob o name at (Sends range body) ≡ Takes name at (session.received ++ body)
 chunk_fits max_blob o session name at range body next e n l f =
-    named max_blob o session name _ e n
+    named max_blob o session name at _ e n
     ∙ ap (λ k. unless_fault (body_fault max_blob name at k range body) (Takes name at (session.received ++ body))) (sym l)
     ∙ ap (λ q. unless_fault q (Takes name at (session.received ++ body))) f
 
 pub close_turned_away : (max_blob : ℕ) (o : Option Session) (session : Session) (name at : List ℕ) (range : Extent) (digest : Option Digest) (body : List ℕ) (next : ℕ) (answer : Answer)
     → o ≡ Some session → session.name ≡ name → next ≡ length session.received → body_fault max_blob name at next range body ≡ Some answer
-    → at_session max_blob o name (asks.Close name at range digest body) ≡ Replies answer
+    → at_session max_blob o name at (Closes range digest body) ≡ Replies answer
 close_turned_away max_blob o session name at range digest body next answer e n l f =
-    named max_blob o session name _ e n
+    named max_blob o session name at _ e n
     ∙ ap (λ k. unless_fault (body_fault max_blob name at k range body) (checked digest (session.received ++ body) (λ d. Commits name at d (session.received ++ body)))) (sym l)
     ∙ ap (λ q. unless_fault q (checked digest (session.received ++ body) (λ d. Commits name at d (session.received ++ body)))) f
 
 pub close_fits : (max_blob : ℕ) (o : Option Session) (session : Session) (name at : List ℕ) (range : Extent) (digest : Option Digest) (body : List ℕ) (next : ℕ)
     → o ≡ Some session → session.name ≡ name → next ≡ length session.received → body_fault max_blob name at next range body ≡ None
-    → at_session max_blob o name (asks.Close name at range digest body) ≡ checked digest (session.received ++ body) (λ d. Commits name at d (session.received ++ body))
+    → at_session max_blob o name at (Closes range digest body) ≡ checked digest (session.received ++ body) (λ d. Commits name at d (session.received ++ body))
 close_fits max_blob o session name at range digest body next e n l f =
-    named max_blob o session name _ e n
+    named max_blob o session name at _ e n
     ∙ ap (λ k. unless_fault (body_fault max_blob name at k range body) (checked digest (session.received ++ body) (λ d. Commits name at d (session.received ++ body)))) (sym l)
     ∙ ap (λ q. unless_fault q (checked digest (session.received ++ body) (λ d. Commits name at d (session.received ++ body)))) f
 

@@ -14,6 +14,7 @@ use Rattle.upload_service.specs.declared.ask.Ask.{Ask}
 use Rattle.upload_service.specs.declared.ask.Ask.TheVariants as asks
 use Rattle.upload_service.specs.declared.answer.Answer.{Answer}
 use Rattle.upload_service.specs.declared.answer.Answer.TheVariants as answers
+use Rattle.upload_service.specs.UploadView.{Act, Sends, AsksOffset, Closes, upload_view, opened_under}
 use Rattle.upload_service.specs.Machine.{same, same_digest, is_idle, unless_idle, awake, all_awake, Session, State, Outcome, Replies, Begins, Takes, Commits, Stores, Mounts, refused, size_fault, body_fault, unless_fault, checked, in_session, at_session, last_number, opening, blob_reply, holds, outcome}
 use Rattle.upload_service.specs.Headline.{aim_of, aim_at}
 use Rattle.upload_service.proofs.Tables.{eq_from_same, eq_from_same_digest}
@@ -55,9 +56,7 @@ IsReply s now ask (answers.Refused refusal) = Unit {0}
 IsReply s now ask answers.NoMemory = ⊥
 
 abbrev pub AsksToBegin : List ℕ → Ask → Type 0
-AsksToBegin name (asks.Opening n) = n ≡ name
-AsksToBegin name (asks.Mount n digest source) = n ≡ name
-AsksToBegin name other = ⊥
+AsksToBegin name ask = opened_under (upload_view ask) ≡ Some name
 
 pub record IsBegun (s : State) (ask : Ask) (secret : List ℕ) (now : ℕ) (name at : List ℕ) : Type 0 where
   pub asked : AsksToBegin name ask
@@ -150,9 +149,6 @@ awake_is_open max_idle now (Some had) session e =
 pub idle_is_none : (max_idle now : ℕ) (session : Session) → is_idle max_idle now session ≡ true → unless_idle max_idle now (Some session) ≡ None
 idle_is_none max_idle now session e = ap (λ b. cond b None (Some session)) e
 
-pub open_is_awake : (max_idle now : ℕ) (session : Session) → is_idle max_idle now session ≡ false → unless_idle max_idle now (Some session) ≡ Some session
-open_is_awake max_idle now session e = ap (λ b. cond b None (Some session)) e
-
 module _ (s : State) (now : ℕ) where
   sound_opening : (ask : Ask) (name secret : List ℕ) → AsksToBegin name ask → IsOutcome s ask secret now (opening s name secret now)
   sound_opening ask name secret asked =
@@ -167,11 +163,11 @@ module _ (s : State) (now : ℕ) where
   sound_blob name digest head secret (Some blob) e held =
       record { name = name; head = head; blob = blob; asked = refl; held = held; is_stored = e; is_size = refl; is_bytes = refl }
 
-  sound_session : (ask : Ask) (secret name at : List ℕ) (o : Option Session) → awake s now at ≡ o
-      → ((found : Found s now name at) → IsOutcome s ask secret now (in_session s.limits.max_blob found.session ask))
-      → IsOutcome s ask secret now (at_session s.limits.max_blob o name ask)
-  sound_session ask secret name at None e inside = tt
-  sound_session ask secret name at (Some session) e inside =
+  sound_session : (ask : Ask) (secret name at : List ℕ) (act : Act) (o : Option Session) → awake s now at ≡ o
+      → ((found : Found s now name at) → IsOutcome s ask secret now (in_session s.limits.max_blob found.session name at act))
+      → IsOutcome s ask secret now (at_session s.limits.max_blob o name at act)
+  sound_session ask secret name at act None e inside = tt
+  sound_session ask secret name at act (Some session) e inside =
       let is = awake_is_open s.limits.max_idle now (map.get s.sessions at) session e in
       by_test (IsOutcome s ask secret now) (same session.name name) _ _
       (λ q. inside (record { session = session; is_awake = e; is_open = is.0; not_idle = is.1; named = eq_from_same _ _ q }))
@@ -201,15 +197,15 @@ module _ (s : State) (now : ℕ) where
       record { asked = ap (λ a. asks.Single name a body) e; own_digest = own }))
   outcome_sound (asks.Chunk name at range body) secret =
       let ask : Ask = asks.Chunk name at range body in
-      sound_session ask secret name at (awake s now at) refl (λ found.
+      sound_session ask secret name at (Sends range body) (awake s now at) refl (λ found.
       by_body (IsOutcome s ask secret now) (λ _. tt) s.limits.max_blob name at (length found.session.received) range body _
       (sound_misplaced ask name at range refl found)
       (λ fits. record { found = found; range = range; body = body; asked = refl; grown = refl; small = simp length-append fits }))
-  outcome_sound (asks.Status name at) secret = sound_session (asks.Status name at) secret name at (awake s now at) refl (λ _. tt)
+  outcome_sound (asks.Status name at) secret = sound_session (asks.Status name at) secret name at AsksOffset (awake s now at) refl (λ _. tt)
   outcome_sound (asks.Close name at range asked body) secret =
       let ask : Ask = asks.Close name at range asked body in
       let P : Outcome → Type 0 = IsOutcome s ask secret now in
-      sound_session ask secret name at (awake s now at) refl (λ found.
+      sound_session ask secret name at (Closes range asked body) (awake s now at) refl (λ found.
       by_body P (λ _. tt) s.limits.max_blob name at (length found.session.received) range body _
       (sound_misplaced ask name at range refl found)
       (λ _. by_digest P (λ _. tt) asked (found.session.received ++ body) (λ d. Commits name at d (found.session.received ++ body)) (λ digest e own.

@@ -57,10 +57,6 @@ names_first x n y d = both (slice_cmp nat_cmp x n) (digest_cmp y d)
     both Equal r = refl
     both Greater r = refl
 
-or_swap : (a b c : Bool) → (a || (b || c)) ≡ ((a || b) || c)
-or_swap true b c = refl
-or_swap false b c = refl
-
 -- a pair among those of a digest and others
 contains-noted : (digest : Digest) (names : List (List ℕ)) (others : FinSet pair_cmp) (n : List ℕ) (d : Digest)
     → set.contains (noted digest names others) (n, d) ≡ ((same_digest d digest && list_any (same n) names) || set.contains others (n, d))

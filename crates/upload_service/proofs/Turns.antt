@@ -1,20 +1,21 @@
 -- What one turn does to each session.
-use Rattle.std.proofs.Common.{◌≡◌, ◌≢◌, ℕ, ◌+◌, ◌<◌, ◌≤◌, ◌^◌, List, [], true, false, Some, None, refl, sym, ◌∙◌, ap, subst, ◌⊎◌, inl, inr, arith}
+use Rattle.std.proofs.Common.{◌≡◌, ◌≢◌, ℕ, ◌+◌, ◌<◌, ◌≤◌, ◌^◌, List, true, false, Some, None, refl, sym, ◌∙◌, ap, subst, ◌⊎◌, inl, inr, arith}
 use Rattle.std.proofs.lemmas.Bool.{true≢false}
 use Rattle.std.specs.FinMap as map
 use Rattle.upload_names.specs.Reference.{reference, number_of}
 use Rattle.upload_service.specs.declared.limits.Limits.{Limits}
 use Rattle.upload_service.specs.declared.answer.Refusal.TheVariants as refusals
 use Rattle.upload_service.specs.declared.ask.Ask.{Ask}
-use Rattle.upload_service.specs.declared.ask.Ask.TheVariants as asks
 use Rattle.upload_service.specs.declared.answer.Answer.{Answer}
 use Rattle.upload_service.specs.declared.answer.Answer.TheVariants as answers
-use Rattle.upload_service.specs.Machine.{same, is_idle, unless_idle, awake, swept, Session, State, Outcome, Replies, Begins, Takes, Commits, Stores, Mounts, answer_of, state_after, refused, at_session, last_number, outcome}
+use Rattle.upload_service.specs.UploadView.{Act, OfSession, upload_view, on_session, opened_under}
+use Rattle.upload_service.specs.Machine.{is_idle, unless_idle, swept, Session, State, Outcome, Replies, Begins, Takes, Commits, Stores, Mounts, answer_of, state_after, refused, at_session, last_number, outcome}
 use Rattle.upload_service.specs.Session.{carries, begins}
-use Rattle.upload_service.specs.Alone.{Life, Unborn, Open, Gone, life_after, name_of, alone_outcome, alone_answer, alone_after}
+use Rattle.upload_service.specs.Alone.{Life, Unborn, Open, Gone, life_after, alone_outcome, first_answer, first_life, alone_answer, alone_after}
 use Rattle.upload_service.proofs.Tables.{eq_from_same}
 use Rattle.std.proofs.lemmas.Nat.{from_be_bytes-to_be_bytes_4}
 use Rattle.upload_service.proofs.Tables.{one_or_two, get-insert_same, get-insert_other, get-remove_same, get-remove_other, ne_from_same}
+use Rattle.upload_service.proofs.UploadView.{outcome_of_view, carried}
 use Rattle.upload_service.proofs.Steps.{IsReply, IsOutcome, AsksToBegin, outcome_sound, None≢Some, idle_is_none}
 use Rattle.upload_service.proofs.Sweeps.{kept_or_left, was_there, idle_later, idle_from}
 
@@ -115,9 +116,7 @@ others_leave s ask secret from now (Mounts name digest) f h later at life c b fi
 
 -- what carries a reference doesn't ask to begin
 no_opening_carries : (name at : List ℕ) (ask : Ask) → AsksToBegin name ask → carries at ask ≡ true → ⊥
-no_opening_carries name at (asks.Opening n) a c = true≢false (sym c)
-no_opening_carries name at (asks.Mount n digest source) a c = true≢false (sym c)
-no_opening_carries name at other a c = a
+no_opening_carries name at ask a c = None≢Some (sym (ap opened_under (carried at ask c).view) ∙ a)
 
 -- an open session after a request that carries its reference
 open_after : (s : State) (ask : Ask) (secret : List ℕ) (now : ℕ) (o : Outcome) → IsOutcome s ask secret now o → IsNumbered s → (at : List ℕ) (session : Session)
@@ -146,61 +145,54 @@ own_refused s ask now o at life e a l fits =
       fits = subst (λ q. Fits (state_after s now q) now at (alone_after s.limits.max_blob s.limits.max_idle life ask now)) (sym e) (subst (λ q. Fits s now at q) (sym l) fits);
     }
 
-own_carried : (s : State) (ask : Ask) (secret : List ℕ) (from now : ℕ) (name at : List ℕ) (life : Life) → IsNumbered s → from ≤ now
-    → outcome s ask secret now ≡ at_session s.limits.max_blob (awake s now at) name ask → name_of ask ≡ name
-    → alone_answer s.limits.max_blob s.limits.max_idle at Unborn ask now ≡ answers.Refused refusals.NoUpload → alone_after s.limits.max_blob s.limits.max_idle Unborn ask now ≡ Unborn
-    → carries at ask ≡ true → Fits s from at life → Own s ask now (outcome s ask secret now) at life
-own_carried s ask secret from now name at Unborn h later oe ne a l c fits =
-    own_refused s ask now (outcome s ask secret now) at Unborn (oe ∙ ap (λ x. at_session s.limits.max_blob (unless_idle s.limits.max_idle now x) name ask) fits) a l fits
-own_carried s ask secret from now name at Gone h later oe ne a l c fits =
-    own_refused s ask now (outcome s ask secret now) at Gone (oe ∙ ap (λ x. at_session s.limits.max_blob (unless_idle s.limits.max_idle now x) name ask) fits.0) refl refl fits
-own_carried s ask secret from now name at (Open session) h later oe ne a l c (inl is_open) =
+-- what a request asks of this session, alone
+alone_act : (max_blob max_idle : ℕ) (session : Session) (ask : Ask) (now : ℕ) (name at : List ℕ) (act : Act) → upload_view ask ≡ OfSession name at act
+    → alone_outcome max_blob max_idle session ask now ≡ at_session max_blob (unless_idle max_idle now (Some session)) name at act
+alone_act max_blob max_idle session ask now name at act view =
+    ap (λ v. on_session v (refused refusals.NoUpload) (at_session max_blob (unless_idle max_idle now (Some session)))) view
+
+own_carried : (s : State) (ask : Ask) (secret : List ℕ) (from now : ℕ) (name at : List ℕ) (act : Act) (life : Life) → IsNumbered s → from ≤ now
+    → upload_view ask ≡ OfSession name at act → carries at ask ≡ true → Fits s from at life → Own s ask now (outcome s ask secret now) at life
+own_carried s ask secret from now name at act Unborn h later view c fits =
+    own_refused s ask now (outcome s ask secret now) at Unborn
+    (outcome_of_view s ask secret now name at act view ∙ ap (λ x. at_session s.limits.max_blob (unless_idle s.limits.max_idle now x) name at act) fits)
+    (ap (λ v. first_answer at (opened_under v)) view) (ap (λ v. first_life (opened_under v) now) view) fits
+own_carried s ask secret from now name at act Gone h later view c fits =
+    own_refused s ask now (outcome s ask secret now) at Gone
+    (outcome_of_view s ask secret now name at act view ∙ ap (λ x. at_session s.limits.max_blob (unless_idle s.limits.max_idle now x) name at act) fits.0) refl refl fits
+own_carried s ask secret from now name at act (Open session) h later view c (inl is_open) =
     let e : outcome s ask secret now ≡ alone_outcome s.limits.max_blob s.limits.max_idle session ask now =
-    oe ∙ ap (λ x. at_session s.limits.max_blob (unless_idle s.limits.max_idle now x) name ask) is_open ∙ ap (λ n. at_session s.limits.max_blob (unless_idle s.limits.max_idle now (Some session)) n ask) (sym ne) in
+    outcome_of_view s ask secret now name at act view ∙ ap (λ x. at_session s.limits.max_blob (unless_idle s.limits.max_idle now x) name at act) is_open
+    ∙ sym (alone_act s.limits.max_blob s.limits.max_idle session ask now name at act view) in
     record {
       told = ap answer_of e;
       fits = subst (λ q. Fits (state_after s now (outcome s ask secret now)) now at (life_after session now q)) e (open_after s ask secret now (outcome s ask secret now) (outcome_sound s now ask secret) h at session is_open c);
     }
-own_carried s ask secret from now name at (Open session) h later oe ne a l c (inr left) =
+own_carried s ask secret from now name at act (Open session) h later view c (inr left) =
     let idle : is_idle s.limits.max_idle now session ≡ true = idle_later s.limits.max_idle from now session left.idle later in
     let e : alone_outcome s.limits.max_blob s.limits.max_idle session ask now ≡ refused refusals.NoUpload =
-    ap (λ x. at_session s.limits.max_blob x (name_of ask) ask) (idle_is_none s.limits.max_idle now session idle) in
+    alone_act s.limits.max_blob s.limits.max_idle session ask now name at act view
+    ∙ ap (λ x. at_session s.limits.max_blob x name at act) (idle_is_none s.limits.max_idle now session idle) in
     own_refused s ask now (outcome s ask secret now) at (Open session)
-    (oe ∙ ap (λ x. at_session s.limits.max_blob (unless_idle s.limits.max_idle now x) name ask) left.gone.0)
+    (outcome_of_view s ask secret now name at act view ∙ ap (λ x. at_session s.limits.max_blob (unless_idle s.limits.max_idle now x) name at act) left.gone.0)
     (ap answer_of e) (ap (life_after session now) e)
     (fits_by s s from now at (Open session) refl (omega arith) refl later (inr left))
 
--- the reference in the request, in place of the one asked about
-at_key : (s : State) (ask : Ask) (secret : List ℕ) (now : ℕ) (name at to : List ℕ) → same at to ≡ true
-    → outcome s ask secret now ≡ at_session s.limits.max_blob (awake s now to) name ask
-    → outcome s ask secret now ≡ at_session s.limits.max_blob (awake s now at) name ask
-at_key s ask secret now name at to c e = e ∙ ap (λ k. at_session s.limits.max_blob (awake s now k) name ask) (sym (eq_from_same at to c))
-
 pub own_by_reference : (s : State) (ask : Ask) (secret : List ℕ) (from now : ℕ) (at : List ℕ) (life : Life) → IsNumbered s → from ≤ now → carries at ask ≡ true → Fits s from at life → Own s ask now (outcome s ask secret now) at life
-own_by_reference s (asks.Chunk name to range body) secret from now at life h later c fits =
-    let ask : Ask = asks.Chunk name to range body in own_carried s ask secret from now name at life h later (at_key s ask secret now name at to c refl) refl refl refl c fits
-own_by_reference s (asks.Status name to) secret from now at life h later c fits =
-    let ask : Ask = asks.Status name to in own_carried s ask secret from now name at life h later (at_key s ask secret now name at to c refl) refl refl refl c fits
-own_by_reference s (asks.Close name to range digest body) secret from now at life h later c fits =
-    let ask : Ask = asks.Close name to range digest body in own_carried s ask secret from now name at life h later (at_key s ask secret now name at to c refl) refl refl refl c fits
-own_by_reference s other secret from now at life h later c fits = absurd (true≢false (sym c))
+own_by_reference s ask secret from now at life h later c fits =
+    let to = carried at ask c in own_carried s ask secret from now to.name at to.act life h later to.view c fits
 
 reply_begins_none : (s : State) (now : ℕ) (ask : Ask) (at : List ℕ) (answer : Answer) → IsReply s now ask answer → begins at answer ≡ true → ⊥
 reply_begins_none s now ask at (answers.Begun name new) f b = f
 reply_begins_none s now ask at other f b = true≢false (sym b)
 
 begun_alone : (s : State) (ask : Ask) (now : ℕ) (name at new : List ℕ) → at ≡ new → AsksToBegin name ask → Own s ask now (Begins name new) at Unborn
-begun_alone s (asks.Opening n) now name at new is a =
+begun_alone s ask now name at new is a =
+    let t : State = state_after s now (Begins name new) in
     record {
-      told = λ i. answers.Begun (sym a i) (sym is i);
-      fits = inl (ap (map.get (state_after s now (Begins name new)).sessions) is ∙ get-insert_same (swept s now) new _ ∙ ap (λ m. Some (record { name = m; received = []; seen = now })) (sym a));
+      told = ap (answers.Begun name) (sym is) ∙ sym (ap (first_answer at) a);
+      fits = subst (λ o. Fits t now at (first_life o now)) (sym a) (inl (ap (map.get t.sessions) is ∙ get-insert_same (swept s now) new _));
     }
-begun_alone s (asks.Mount n digest source) now name at new is a =
-    record {
-      told = λ i. answers.Begun (sym a i) (sym is i);
-      fits = inl (ap (map.get (state_after s now (Begins name new)).sessions) is ∙ get-insert_same (swept s now) new _ ∙ ap (λ m. Some (record { name = m; received = []; seen = now })) (sym a));
-    }
-begun_alone s other now name at new is a = absurd a
 
 pub own_by_opening : (s : State) (ask : Ask) (secret : List ℕ) (from now : ℕ) (o : Outcome) → IsOutcome s ask secret now o → (at : List ℕ) (life : Life) → IsNumbered s → begins at (answer_of o) ≡ true → Fits s from at life → Own s ask now o at life
 own_by_opening s ask secret from now (Replies answer) f at life h b fits = absurd (reply_begins_none s now ask at answer f b)

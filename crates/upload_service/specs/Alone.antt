@@ -4,10 +4,10 @@ use Rattle.std.specs.FinMap as map
 use Rattle.upload_names.specs.Reference.{number_of}
 use Rattle.upload_service.specs.declared.answer.Refusal.TheVariants as refusals
 use Rattle.upload_service.specs.declared.ask.Ask.{Ask}
-use Rattle.upload_service.specs.declared.ask.Ask.TheVariants as asks
 use Rattle.upload_service.specs.declared.answer.Answer.{Answer}
 use Rattle.upload_service.specs.declared.answer.Answer.TheVariants as answers
-use Rattle.upload_service.specs.Machine.{unless_idle, Session, State, Outcome, Takes, Commits, answer_of, at_session}
+use Rattle.upload_service.specs.UploadView.{upload_view, on_session, opened_under}
+use Rattle.upload_service.specs.Machine.{unless_idle, Session, State, Outcome, Replies, Begins, Takes, Commits, Stores, Mounts, answer_of, refused, at_session}
 use Rattle.upload_service.specs.Run.{Exchange}
 use Rattle.upload_service.specs.Session.{part, received}
 
@@ -26,34 +26,38 @@ life_of None false = Unborn
 abbrev pub life_in : State → List ℕ → Life
 life_in s at = life_of (map.get s.sessions at) (nat_le (number_of at) s.issued)
 
+-- an open session after what a request came to
 abbrev pub life_after : Session → ℕ → Outcome → Life
 life_after session now (Takes name at received) = Open (record { name = name; received = received; seen = now })
 life_after session now (Commits name at digest blob) = Gone
-life_after session now other = Open session
-
--- the name under which a request asks for a session
-abbrev pub name_of : Ask → List ℕ
-name_of (asks.Chunk name at range body) = name
-name_of (asks.Status name at) = name
-name_of (asks.Close name at range digest body) = name
-name_of other = []
+life_after session now (Replies answer) = Open session
+life_after session now (Begins name at) = Open session
+life_after session now (Stores name digest blob) = Open session
+life_after session now (Mounts name digest) = Open session
 
 -- what a request to the session comes to
 abbrev pub alone_outcome : ℕ → ℕ → Session → Ask → ℕ → Outcome
-alone_outcome max_blob max_idle session ask now = at_session max_blob (unless_idle max_idle now (Some session)) (name_of ask) ask
+alone_outcome max_blob max_idle session ask now =
+    on_session (upload_view ask) (refused refusals.NoUpload) (at_session max_blob (unless_idle max_idle now (Some session)))
+
+-- the answer to a request, and the session after it, if the session isn't there yet: by the name under which the request
+-- asks for a new one
+abbrev pub first_answer : List ℕ → Option (List ℕ) → Answer
+first_answer at (Some name) = answers.Begun name at
+first_answer at None = answers.Refused refusals.NoUpload
+
+abbrev pub first_life : Option (List ℕ) → ℕ → Life
+first_life (Some name) now = Open (record { name = name; received = []; seen = now })
+first_life None now = Unborn
 
 -- the answer to a request, and the session after it, where the session is alone
 abbrev pub alone_answer : ℕ → ℕ → List ℕ → Life → Ask → ℕ → Answer
-alone_answer max_blob max_idle at Unborn (asks.Opening name) now = answers.Begun name at
-alone_answer max_blob max_idle at Unborn (asks.Mount name digest source) now = answers.Begun name at
-alone_answer max_blob max_idle at Unborn other now = answers.Refused refusals.NoUpload
+alone_answer max_blob max_idle at Unborn ask now = first_answer at (opened_under (upload_view ask))
 alone_answer max_blob max_idle at (Open session) ask now = answer_of (alone_outcome max_blob max_idle session ask now)
 alone_answer max_blob max_idle at Gone ask now = answers.Refused refusals.NoUpload
 
 abbrev pub alone_after : ℕ → ℕ → Life → Ask → ℕ → Life
-alone_after max_blob max_idle Unborn (asks.Opening name) now = Open (record { name = name; received = []; seen = now })
-alone_after max_blob max_idle Unborn (asks.Mount name digest source) now = Open (record { name = name; received = []; seen = now })
-alone_after max_blob max_idle Unborn other now = Unborn
+alone_after max_blob max_idle Unborn ask now = first_life (opened_under (upload_view ask)) now
 alone_after max_blob max_idle (Open session) ask now = life_after session now (alone_outcome max_blob max_idle session ask now)
 alone_after max_blob max_idle Gone ask now = Gone
 

@@ -9,6 +9,7 @@ use Rattle.upload_service.specs.declared.ask.Ask.{Ask}
 use Rattle.upload_service.specs.declared.ask.Ask.TheVariants as asks
 use Rattle.upload_service.specs.declared.answer.Answer.{Answer}
 use Rattle.upload_service.specs.declared.answer.Answer.TheVariants as answers
+use Rattle.upload_service.specs.UploadView.{Act, Sends, AsksOffset, Closes, upload_view, on_session}
 use Rattle.upload_service.specs.Machine.{is_idle, awake, Session, State, Turn, IsLawful, holds}
 use Rattle.upload_service.specs.Run.{Exchange, Run, NeverFall}
 use Rattle.upload_service.specs.Session.{carries, received, is_closed}
@@ -25,10 +26,13 @@ abbrev pub aim_at : List ℕ → List ℕ → Extent → Option Aim
 aim_at name at (Given range) = Some (record { name = name; at = at; first = range.first })
 aim_at name at other = None
 
+abbrev pub aim_by : List ℕ → List ℕ → Act → Option Aim
+aim_by name at (Sends range body) = aim_at name at range
+aim_by name at AsksOffset = None
+aim_by name at (Closes range digest body) = aim_at name at range
+
 abbrev pub aim_of : Ask → Option Aim
-aim_of (asks.Chunk name at range body) = aim_at name at range
-aim_of (asks.Close name at range digest body) = aim_at name at range
-aim_of other = None
+aim_of ask = on_session (upload_view ask) None aim_by
 
 -- a session is open under a name, and isn't idle then
 abbrev pub IsAwake : State → ℕ → List ℕ → List ℕ → Type 0

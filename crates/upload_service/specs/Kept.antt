@@ -4,5 +4,6 @@ pub mod Entries
 pub mod Holders
 pub mod Parts
 pub mod Running
+pub mod Slack
 pub mod Stock
 pub mod Tables

@@ -1,3 +1,4 @@
+pub mod UploadView
 pub mod Machine
 pub mod Run
 pub mod Session

@@ -17,6 +17,7 @@ use Rattle.upload_service.specs.declared.answer.Refusal.{Refusal}
 use Rattle.upload_service.specs.declared.answer.Refusal.TheVariants as refusals
 use Rattle.upload_service.specs.declared.ask.Ask.{Ask}
 use Rattle.upload_service.specs.declared.ask.Ask.TheVariants as asks
+use Rattle.upload_service.specs.UploadView.{Act, Sends, AsksOffset, Closes}
 use Rattle.upload_service.specs.declared.answer.Answer.{Answer}
 use Rattle.upload_service.specs.declared.answer.Answer.TheVariants as answers
 
@@ -149,20 +150,20 @@ checked None blob done = refused refusals.NoDigest
 checked (Some digest) blob done = if same_digest (content_digest digest.algorithm blob) digest then done digest else refused refusals.Mismatch
 
 -- a request to an open session
-abbrev pub in_session : ℕ → Session → Ask → Outcome
-in_session max_blob session (asks.Chunk name at range body) =
+abbrev pub in_session : ℕ → Session → List ℕ → List ℕ → Act → Outcome
+in_session max_blob session name at (Sends range body) =
     unless_fault (body_fault max_blob name at (length session.received) range body)
     (Takes name at (session.received ++ body))
-in_session max_blob session (asks.Status name at) = Replies (answers.Standing name at (length session.received))
-in_session max_blob session (asks.Close name at range digest body) =
+in_session max_blob session name at AsksOffset = Replies (answers.Standing name at (length session.received))
+in_session max_blob session name at (Closes range digest body) =
     unless_fault (body_fault max_blob name at (length session.received) range body)
     (checked digest (session.received ++ body) (λ d. Commits name at d (session.received ++ body)))
-in_session max_blob session other = refused refusals.NoUpload
 
 -- a request that names a session: the session has to be there, under that name
-abbrev pub at_session : ℕ → Option Session → List ℕ → Ask → Outcome
-at_session max_blob None name ask = refused refusals.NoUpload
-at_session max_blob (Some session) name ask = if same session.name name then in_session max_blob session ask else refused refusals.NoUpload
+abbrev pub at_session : ℕ → Option Session → List ℕ → List ℕ → Act → Outcome
+at_session max_blob None name at act = refused refusals.NoUpload
+at_session max_blob (Some session) name at act =
+    if same session.name name then in_session max_blob session name at act else refused refusals.NoUpload
 
 -- the last number that a session may have
 abbrev pub last_number : ℕ
@@ -190,10 +191,10 @@ outcome s (asks.Opening name) secret now = opening s name secret now
 outcome s (asks.Mount name digest source) secret now = if holds s source digest then Mounts name digest else opening s name secret now
 outcome s (asks.Single name digest body) secret now =
     unless_fault (size_fault s.limits.max_blob 0 body) (checked digest body (λ d. Stores name d body))
-outcome s (asks.Chunk name at range body) secret now = at_session s.limits.max_blob (awake s now at) name (asks.Chunk name at range body)
-outcome s (asks.Status name at) secret now = at_session s.limits.max_blob (awake s now at) name (asks.Status name at)
+outcome s (asks.Chunk name at range body) secret now = at_session s.limits.max_blob (awake s now at) name at (Sends range body)
+outcome s (asks.Status name at) secret now = at_session s.limits.max_blob (awake s now at) name at AsksOffset
 outcome s (asks.Close name at range digest body) secret now =
-    at_session s.limits.max_blob (awake s now at) name (asks.Close name at range digest body)
+    at_session s.limits.max_blob (awake s now at) name at (Closes range digest body)
 
 -- where want of memory may be answered: at a change, and where the bytes of a blob are handed out
 abbrev pub hands_out : Answer → Bool

@@ -3,18 +3,15 @@ use Rattle.std.specs.List.{list_any}
 use Rattle.std.specs.Prelude.{ℕ, ◌+◌, ◌||◌, ◌&&◌, nat_lt, Bool, true, false, List, [], ◌∷◌, ◌++◌, filter, flat_map, Option, Some, None, if◌then◌else◌}
 use Rattle.std.specs.FinMap as map
 use Rattle.upload_service.specs.declared.ask.Ask.{Ask}
-use Rattle.upload_service.specs.declared.ask.Ask.TheVariants as asks
 use Rattle.upload_service.specs.declared.answer.Answer.{Answer}
 use Rattle.upload_service.specs.declared.answer.Answer.TheVariants as answers
+use Rattle.upload_service.specs.UploadView.{Act, Sends, AsksOffset, Closes, upload_view, on_session}
 use Rattle.upload_service.specs.Machine.{same, Session, State}
 use Rattle.upload_service.specs.Run.{Exchange}
 
 -- the request carries this reference
 abbrev pub carries : List ℕ → Ask → Bool
-carries at (asks.Chunk name to range body) = same at to
-carries at (asks.Status name to) = same at to
-carries at (asks.Close name to range digest body) = same at to
-carries at other = false
+carries at ask = on_session (upload_view ask) false (λ name to act. same at to)
 
 -- the answer begins a session of this reference
 abbrev pub begins : List ℕ → Answer → Bool
@@ -37,10 +34,13 @@ is_stored (answers.Stored name digest) = true
 is_stored other = false
 
 -- the body that a session takes: a chunk answered Taken, or a close answered Stored
+abbrev pub accepted_by : Act → Answer → List (List ℕ)
+accepted_by (Sends range body) answer = if is_taken answer then body ∷ [] else []
+accepted_by AsksOffset answer = []
+accepted_by (Closes range digest body) answer = if is_stored answer then body ∷ [] else []
+
 abbrev pub accepted_of : Ask → Answer → List (List ℕ)
-accepted_of (asks.Chunk name at range body) answer = if is_taken answer then body ∷ [] else []
-accepted_of (asks.Close name at range digest body) answer = if is_stored answer then body ∷ [] else []
-accepted_of other answer = []
+accepted_of ask answer = on_session (upload_view ask) [] (λ name at act. accepted_by act answer)
 
 abbrev pub accepted : Exchange → List (List ℕ)
 accepted x = accepted_of x.ask x.answer
@@ -61,9 +61,13 @@ abbrev pub received : State → List Exchange → List ℕ → List ℕ
 received s xs at = bytes_of (map.get s.sessions at) ++ joined (taken xs at)
 
 -- the session was closed by this request
+abbrev pub closed_by : Act → Answer → Bool
+closed_by (Sends range body) answer = false
+closed_by AsksOffset answer = false
+closed_by (Closes range digest body) answer = is_stored answer
+
 abbrev pub closes_of : List ℕ → Ask → Answer → Bool
-closes_of at (asks.Close name to range digest body) answer = same at to && is_stored answer
-closes_of at other answer = false
+closes_of at ask answer = on_session (upload_view ask) false (λ name to act. same at to && closed_by act answer)
 
 -- the exchange touches the session: it begins it, or the session takes its chunk
 abbrev pub touches : List ℕ → Exchange → Bool

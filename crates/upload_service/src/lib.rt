@@ -23,5 +23,6 @@ mod segments;
 mod service;
 mod sessions;
 mod shared;
+mod slack;
 mod stock;
 mod turn;

@@ -10,6 +10,7 @@ use crate::answer::Answer;
 use crate::ask::Ask;
 use crate::limits::Limits;
 use crate::sessions::Sessions;
+use crate::slack::Slack;
 use crate::stock::Stock;
 use crate::turn::{Tables, turn};
 use std::alloc::{AllocError, Global};
@@ -61,8 +62,18 @@ impl Service {
                 issued,
                 sessions: Sessions::new(alloc),
                 stock: Stock::new(alloc),
+                slack: Slack::of(alloc, 0),
             },
         }
+    }
+
+    /// Keeps so many bytes of memory free: a request that would change something is answered NoMemory if there aren't as
+    /// many beside what it takes, so that what is stored can still be handed out. A new service keeps none free. Nothing
+    /// that is seen changes, and it takes no memory.
+    pub fn keep_free(&mut self, bytes: usize)
+        ensures { self.new ≡ self.old }
+    {
+        self.tables.slack = Slack::of(self.alloc, bytes);
     }
 
     /// The limits that it keeps.
@@ -75,8 +86,8 @@ impl Service {
     }
 
     /// Serves one request, at this moment in seconds: one turn of the machine. The secret is used only where
-    /// the answer is Begun. The answer is NoMemory only where a growth was refused, at a change or where the
-    /// bytes of a blob are handed out, and nothing has changed then.
+    /// the answer is Begun. The answer is NoMemory only if memory was refused, at a change or as the bytes of a blob are
+    /// handed out, and nothing has changed then. A refusal, a status, `/v2/` and a HEAD of a blob are never answered so.
     pub fn step(&mut self, ask: Ask, secret: [u8; 12], now: u64) -> Answer
         ensures turn { Turn self.old ask secret now result self.new }
         ensures lawful { IsLawful self.new }

@@ -3,6 +3,7 @@
 ghost use Rattle.std.specs.Prelude.{◌≡◌, ◌+◌, ◌≤◌, ◌<◌, ◌^◌, ◌++◌, List, ℕ, length, Some, IsSome};
 ghost use Rattle.std.specs.FinMap as map;
 ghost use Rattle.upload_service.specs.declared.limits.Limits.{Limits as LimitsOf};
+ghost use Rattle.upload_service.specs.UploadView.{Sends, AsksOffset, Closes};
 ghost use Rattle.upload_service.specs.Machine.{Session, Commits, Comes, Turn, IsLawful, opening as opening_of, at_session, awake};
 ghost use Rattle.upload_service.specs.Kept.Tables.{state_of, IsVerdict};
 
@@ -11,6 +12,7 @@ use crate::ask::{Ask, Extent};
 use crate::blob::Blob;
 use crate::limits::Limits;
 use crate::sessions::Sessions;
+use crate::slack::Slack;
 use crate::stock::Stock;
 use std::alloc::Global;
 use upload_names::{BlobDigest, Bytes, RepoName, UploadRef};
@@ -22,6 +24,8 @@ pub struct Tables {
     pub issued: u32,
     pub sessions: Sessions,
     pub stock: Stock,
+    /// What stays free beside them, for answers that change nothing.
+    pub slack: Slack,
 }
 
 /// What a body is judged to be.
@@ -58,7 +62,7 @@ fn judge(max_blob: u64, next: u64, range: Extent, size: u64) -> Verdict
 /// Tells a session's offset.
 fn status(limits: Limits, tables: &Tables, name: RepoName, at: UploadRef, now: u64) -> Answer
     ensures { Comes (state_of limits tables.now) now
-        (at_session limits.max_blob (awake (state_of limits tables.now) now at) name (Ask.Status name at))
+        (at_session limits.max_blob (awake (state_of limits tables.now) now at) name at AsksOffset)
         result (state_of limits tables.now) }
 {
     let sessions = &tables.sessions;
@@ -80,7 +84,7 @@ fn chunk(
     now: u64,
 ) -> Answer
     ensures { Comes (state_of limits tables.old) now
-        (at_session limits.max_blob (awake (state_of limits tables.old) now at) name (Ask.Chunk name at range body))
+        (at_session limits.max_blob (awake (state_of limits tables.old) now at) name at (Sends range body))
         result (state_of limits tables.new) }
 {
     let sessions = &tables.sessions;
@@ -94,6 +98,9 @@ fn chunk(
         Verdict::Refused(refusal) => return Answer::Refused(refusal),
         Verdict::Fits => {}
     }
+    let Ok(()) = tables.slack.renew() else {
+        return Answer::NoMemory;
+    };
     let next = next + size;
     match tables.sessions.append(&at, body, now) {
         Ok(()) => Answer::Taken { name, at, next },
@@ -113,7 +120,7 @@ fn close(
     now: u64,
 ) -> Answer
     ensures { Comes (state_of limits tables.old) now
-        (at_session limits.max_blob (awake (state_of limits tables.old) now at) name (Ask.Close name at range digest body))
+        (at_session limits.max_blob (awake (state_of limits tables.old) now at) name at (Closes range digest body))
         result (state_of limits tables.new) }
 {
     let sessions = &tables.sessions;
@@ -149,6 +156,9 @@ fn commit(
     ensures { (limits : LimitsOf) (now : ℕ) (session : Session) → map.get tables.old.sessions at ≡ Some session →
         Comes (state_of limits tables.old) now (Commits name at digest (session.received ++ body)) result (state_of limits tables.new) }
 {
+    let Ok(()) = tables.slack.renew() else {
+        return Answer::NoMemory;
+    };
     let Ok(()) = tables
         .stock
         .commit(&mut tables.sessions, &name, &at, digest, body)
@@ -172,6 +182,9 @@ fn opening(
     if tables.sessions.is_full(limits, now) || tables.issued == u32::MAX {
         return Answer::Refused(Refusal::TooMany);
     }
+    let Ok(()) = tables.slack.renew() else {
+        return Answer::NoMemory;
+    };
     let Ok(kept) = name.copy(alloc) else {
         return Answer::NoMemory;
     };
@@ -245,6 +258,9 @@ fn single(
     if !content.same(&digest) {
         return Answer::Refused(Refusal::Mismatch);
     }
+    let Ok(()) = tables.slack.renew() else {
+        return Answer::NoMemory;
+    };
     let Ok(blob) = Blob::of(alloc, body) else {
         return Answer::NoMemory;
     };
@@ -271,6 +287,9 @@ fn mount(
     if !tables.stock.contains(&source, &digest) {
         return opening(alloc, limits, tables, name, secret, now);
     }
+    let Ok(()) = tables.slack.renew() else {
+        return Answer::NoMemory;
+    };
     let Ok(()) = tables.stock.mount(&name, digest) else {
         return Answer::NoMemory;
     };

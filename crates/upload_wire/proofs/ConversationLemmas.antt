@@ -4,7 +4,6 @@ use Rattle.std.specs.Prelude.{Option, Some, None, IfSome, Result, Ok, Err}
 use Rattle.std.specs.List.{AllByRecursion}
 use Rattle.std.proofs.lemmas.List.{append-nil}
 use Rattle.std.proofs.lemmas.Grind.{flat_map-append}
-use Rattle.std.specs.Io.KnownBytes.{Consumes}
 use Rattle.upload_service.specs.declared.ask.Ask.{Ask}
 use Rattle.upload_service.specs.declared.answer.Answer.{Answer}
 use Rattle.http_wire.specs.declared.fault.Bad.{Bad}
@@ -18,14 +17,15 @@ use Rattle.upload_wire.specs.declared.connection.ConnFault.TheVariants as Conn
 use Rattle.upload_wire.specs.RequestText.{ReadsNext}
 use Rattle.upload_wire.specs.ReplyText.{reply}
 use Rattle.http_wire.specs.States.{SourceState, SinkState}
+use Rattle.http_wire.specs.Reading.{Gives}
 use Rattle.http_wire.specs.Writing.{TookAll}
 use Rattle.upload_wire.specs.Conversation.{Moves, Exchange, IsKept, messages, replies, Answers, HandedOn, HandedOnEach, Serves, AnswersNext, Standing, stand, EndsWith, ReadsFail, IsConversation}
 use Rattle.upload_wire.specs.Inner.ConversationSteps.{Replies, RefusedWith, GoesOn, Stops}
-use Rattle.http_wire.proofs.GaveLemmas.{consumes_none, consumes_both}
-use Rattle.http_wire.proofs.WritingLemmas.{appends_none, took_both}
+use Rattle.http_wire.proofs.GaveLemmas.{gives_none, gives_both}
+use Rattle.http_wire.proofs.WritingLemmas.{takes_none, took_both}
 
 pub took_none : (a : SinkState) → TookAll a a []
-took_none a = record { grown = appends_none a.contents; unfailed = refl }
+took_none a = record { takes = takes_none a; unfailed = refl }
 
 pub ok_not_err : {T E : Type 0} (value : T) (error : E) → ◌≡◌ {A = Result T E} (Ok value) (Err error) → ⊥
 ok_not_err value error same = cc
@@ -39,7 +39,7 @@ module _ {D : Type 0} (step : Moves D) (max count : ℕ) (held rest : List ℕ) 
       → GoesOn step max (stand count held first at mid) (stand next kept left new after)
   one_more kept next stays one None n same answered a e = record {
     given = n.given;
-    consumed = n.consumed;
+    gives = n.gives;
     unfailed = same;
     exchange = record { message = n.found.message; ask = ask; style = style; answer = answer };
     read = n.found.cut ∙ ap (λ t. n.found.message ++ t) (sym stays);
@@ -65,22 +65,22 @@ module _ {D : Type 0} (step : Moves D) (max count : ℕ) (held rest : List ℕ) 
   one_last kept next None n same answered a = tt
   one_last kept next (Some Clean) n same answered a = absurd a
   one_last kept next (Some AfterClose) n same answered a =
-      record { given = n.given; consumed = n.consumed; reads = same; ended = (last_exchange n, answers_next n answered, a.1, a.0) }
+      record { given = n.given; gives = n.gives; reads = same; ended = (last_exchange n, answers_next n answered, a.1, a.0) }
   one_last kept next (Some AfterBad) n same answered a = absurd a
   one_last kept next (Some TooMany) n same answered a =
-      record { given = n.given; consumed = n.consumed; reads = same; ended = (last_exchange n, answers_next n answered, a.1, a.2, a.0) }
+      record { given = n.given; gives = n.gives; reads = same; ended = (last_exchange n, answers_next n answered, a.1, a.2, a.0) }
   one_last kept next (Some DeskGone) n same answered a = absurd a
   one_last kept next (Some (Fault (Conn.Wire f))) n same answered a = absurd a
   one_last kept next (Some (Fault Conn.Write)) n same answered a =
-      record { given = n.given; consumed = n.consumed; reads = same; ended = inl (last_exchange n, answers_next n answered, a) }
+      record { given = n.given; gives = n.gives; reads = same; ended = inl (last_exchange n, answers_next n answered, a) }
 
 pub after_refusal : {D : Type 0} (step : Moves D) (max : ℕ) (old new : Standing D) (rest : List ℕ) (why : Bad) (end : ConnEnd)
     → ReadsNext max old.held old.source rest new.source (Ok (nexts.Bad why)) → new.source.failed_reads ≡ old.source.failed_reads
     → new.desk ≡ old.desk → RefusedWith old.sink new.sink why end → Stops step max old new end
 after_refusal step max old new rest why AfterBad n same unasked told =
-    record { given = n.given; consumed = n.consumed; reads = same; ended = (why, record { bad = n.found; unasked = unasked }, told) }
+    record { given = n.given; gives = n.gives; reads = same; ended = (why, record { bad = n.found; unasked = unasked }, told) }
 after_refusal step max old new rest why (Fault Conn.Write) n same unasked front =
-    record { given = n.given; consumed = n.consumed; reads = same; ended = inr (why, record { bad = n.found; unasked = unasked }, front) }
+    record { given = n.given; gives = n.gives; reads = same; ended = inr (why, record { bad = n.found; unasked = unasked }, front) }
 after_refusal step max old new rest why (Fault (Conn.Wire fault)) n same unasked h = absurd h
 after_refusal step max old new rest why Clean n same unasked h = absurd h
 after_refusal step max old new rest why AfterClose n same unasked h = absurd h
@@ -115,7 +115,7 @@ replies_more xs x =
 -- what a connection has done that stood so when it began
 pub record SoFar {D : Type 0} (step : Moves D) (max : ℕ) (begun now : Standing D) : Type 0 where
   pub given : List ℕ
-  pub consumed : Consumes begun.source.remaining now.source.remaining given
+  pub gives : Gives begun.source now.source given
   pub unfailed : now.source.failed_reads ≡ begun.source.failed_reads
   pub exchanges : List Exchange
   pub counted : length exchanges ≡ now.answered
@@ -125,7 +125,7 @@ pub starts : {D : Type 0} (step : Moves D) (max : ℕ) (before : ℕ) (left : Li
     → held ≡ [] → answered ≡ 0 → SoFar step max (stand before left source desk sink) (stand answered held source desk sink)
 starts step max before left source desk sink held answered empty none = record {
   given = [];
-  consumed = consumes_none source.remaining;
+  gives = gives_none source;
   unfailed = refl;
   exchanges = [];
   counted = sym none;
@@ -140,7 +140,7 @@ goes_on step max limit begun now next same s more =
     let one = n.counted in
     record {
       given = s.given ++ n.given;
-      consumed = consumes_both begun.source.remaining now.source.remaining next.source.remaining s.given n.given s.consumed n.consumed;
+      gives = gives_both begun.source now.source next.source s.given n.given s.gives n.gives;
       unfailed = n.unfailed ∙ s.unfailed;
       exchanges = s.exchanges ++ n.exchange ∷ [];
       counted = omega (arith, counted, one, length-append s.exchanges (n.exchange ∷ []));
@@ -166,7 +166,7 @@ ends step max limit begun now last end same s stopped =
     let n = subst (λ k. Stops step k now last end) same stopped in
     record {
       bytes = s.given ++ n.given;
-      consumed = consumes_both begun.source.remaining now.source.remaining last.source.remaining s.given n.given s.consumed n.consumed;
+      gives = gives_both begun.source now.source last.source s.given n.given s.gives n.gives;
       reads = reads_fail_from end begun.source.failed_reads now.source.failed_reads last.source.failed_reads s.unfailed n.reads;
       exchanges = s.exchanges;
       rest = now.held ++ n.given;
@@ -188,7 +188,7 @@ pub ends_at_once : {D : Type 0} (step : Moves D) (max : ℕ) (first : SourceStat
     → IsConversation step max first first desk desk before before (Fault (Conn.Wire Wire.NoMemory))
 ends_at_once step max first desk before = record {
   bytes = [];
-  consumed = consumes_none first.remaining;
+  gives = gives_none first;
   reads = refl;
   exchanges = [];
   rest = [];

@@ -5,7 +5,7 @@ use Rattle.std.proofs.lemmas.Grind.{flat_map-append}
 use Rattle.std.specs.Prelude.{Bool, true, false, ◌==◌, if◌then◌else◌, codes, decimal, flat_map}
 use Rattle.std.proofs.lemmas.List.{append-nil}
 use Rattle.httparse.specs.Ascii.{crlf_bytes}
-use Rattle.upload_wire.specs.Target.{blob_path, upload_path}
+use Rattle.upload_texts.specs.Paths.{blob_path, upload_path}
 use Rattle.http_wire.specs.declared.status.Status.{Status}
 use Rattle.http_wire.specs.HeadText.{HeadField, closing_fields, length_field, print_field, print_head, status_line}
 use Rattle.upload_wire.specs.ReplyText.{body_fields, range_fields}

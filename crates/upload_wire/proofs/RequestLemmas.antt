@@ -32,7 +32,7 @@ use Rattle.upload_wire.specs.declared.request.Described.{Described}
 use Rattle.upload_wire.specs.declared.request.Next.{Next}
 use Rattle.upload_wire.specs.declared.request.Next.TheVariants.{Request, Over}
 use Rattle.upload_wire.specs.declared.request.Next.TheVariants as nexts
-use Rattle.http_wire.proofs.GaveLemmas.{consumes_none, consumes_both}
+use Rattle.http_wire.proofs.GaveLemmas.{gives_none, gives_both}
 
 -- the head that the spans cover
 abbrev pub the_head : {text : List ℕ} {p : ParsedRequest} → IsHeadAtFront text p → RequestHead
@@ -108,7 +108,7 @@ pub bad_framing_next : (max : ℕ) (old : SourceState) (held rest : List ℕ) (p
     → framing_of max p.spans.version (fields_of (take p.spans.len held) p) ≡ Err why → ReadsNext max held old rest old (Ok (nexts.Bad why))
 bad_framing_next max old held rest p why f refused = record {
   given = [];
-  consumed = consumes_none old.remaining;
+  gives = gives_none old;
   found = inr (inr (inl (record {
     head = the_head f;
     rest = drop p.spans.len held;
@@ -136,7 +136,7 @@ pub request_next : (max : ℕ) (old new : SourceState) (held rest : List ℕ) (p
     → ReadsNext max held old rest new r
 request_next max old new held rest p d (Ok (Request ask style)) f says b = record {
   given = b.taken.gave.given;
-  consumed = b.taken.gave.consumed;
+  gives = b.taken.gave.gives;
   found = record {
     message = take p.spans.len held ++ b.taken.text;
     cut = whole_text held b.taken.gave.given (b.taken.text ++ rest) p.spans.len b.taken.gave.joined
@@ -157,7 +157,7 @@ request_next max old new held rest p d (Ok (Request ask style)) f says b = recor
 request_next max old new held rest p d (Ok Over) f says b = absurd b
 request_next max old new held rest p d (Ok (nexts.Bad why)) f says b = record {
   given = b.gave.given;
-  consumed = b.gave.consumed;
+  gives = b.gave.gives;
   found = inr (inr (inr (record {
     head = the_head f;
     rest = b.text;
@@ -169,15 +169,15 @@ request_next max old new held rest p d (Ok (nexts.Bad why)) f says b = record {
 }
 request_next max old new held rest p d (Err Fault.Truncated) f says b = record {
   given = b.0.gave.given;
-  consumed = b.0.gave.consumed;
+  gives = b.0.gave.gives;
   found = (inr (cut_next max old new held p d f says b.0), b.1);
 }
 request_next max old new held rest p d (Err Fault.Read) f says b = record {
   given = b.gave.given;
-  consumed = b.gave.consumed;
+  gives = b.gave.gives;
   found = inr (inr (cut_next max old new held p d f says b));
 }
-request_next max old new held rest p d (Err Fault.NoMemory) f says b = record { given = b.gave.given; consumed = b.gave.consumed; found = tt }
+request_next max old new held rest p d (Err Fault.NoMemory) f says b = record { given = b.gave.given; gives = b.gave.gives; found = tt }
 request_next max old new held rest p d (Err Fault.Ended) f says b = absurd b
 
 -- what is found behind a head where its body stopped
@@ -186,10 +186,6 @@ pub body_fault : (d : Described) (old new : SourceState) (held rest body : List 
 body_fault d old new held rest body Body.Truncated b = b
 body_fault d old new held rest body Body.Read b = b
 body_fault d old new held rest body Body.NoMemory b = b
-
-pub no_memory_next : (max : ℕ) (old : SourceState) (held : List ℕ) (e : WireFault) → e ≡ Fault.NoMemory → ReadsNext max held old held old (Err e)
-no_memory_next max old held e is =
-    subst (λ x. ReadsNext max held old held old (Err x)) (sym is) (record { given = []; consumed = consumes_none old.remaining; found = tt })
 
 -- why no head came
 pub head_fault_next : (max : ℕ) (text rest : List ℕ) (new : SourceState) (e : InputFault) → FindsHead request_spans text new (Err e)
@@ -205,7 +201,7 @@ pub reads_after : (max : ℕ) (held text rest : List ℕ) (old mid new : SourceS
     → Gave old mid held text → ReadsNext max text mid rest new r → ReadsNext max held old rest new r
 reads_after max held text rest old mid new r gave next = record {
   given = gave.given ++ next.given;
-  consumed = consumes_both old.remaining mid.remaining new.remaining gave.given next.given gave.consumed next.consumed;
+  gives = gives_both old mid new gave.given next.given gave.gives next.gives;
   found = subst (λ t. FindsNext max t rest new r) (ap (λ t. t ++ next.given) gave.joined ∙ append_assoc held gave.given next.given) next.found;
 }
 

@@ -1,5 +1,5 @@
 -- Texts cut at their last slash.
-use Rattle.std.proofs.Common.{◌≡◌, ◌≢◌, ℕ, ◌+◌, ◌-◌, ◌<◌, ◌≤◌, List, [], ◌∷◌, ◌++◌, length, get_or, take, drop, refl, sym, ap, ◌∙◌, arith, append_assoc, length-append, drop-cons, length-drop, add-one, get_or-drop}
+use Rattle.std.proofs.Common.{◌≡◌, ◌≢◌, ℕ, ◌+◌, ◌-◌, ◌<◌, ◌≤◌, List, [], ◌∷◌, ◌++◌, length, get_or, take, drop, refl, sym, ap, ◌∙◌, arith, append_assoc, length-append, drop-cons, add-one}
 use Rattle.std.proofs.lemmas.List.{take-append-drop}
 use Rattle.std.proofs.Math.Seq.{take-append_seam, drop-append_seam}
 use Rattle.std.specs.Borrow.{Bor}
@@ -18,11 +18,6 @@ pub cut_at : (text : List ℕ) (i : ℕ) → i < length text → get_or text i 0
     → text ≡ take i text ++ 47 ∷ drop (i + 1) text
 cut_at text i lt same =
     sym (take-append-drop i text) ∙ ap (λ t. take i text ++ t) (drop-next text i lt ∙ ap (λ b. b ∷ drop (i + 1) text) same)
-
-pub no_slash_after : (text : List ℕ) (i : ℕ) → ((k : ℕ) → i ≤ k → k < length text → get_or text k 0 ≡ 47 → ⊥)
-    → HasNoSlash (drop i text)
-no_slash_after text i none k lt same =
-    none (i + k) (omega arith) (omega (arith, lt, length-drop i text)) (sym (get_or-drop i text k 0) ∙ same)
 
 -- a slash stands between two texts
 slash_between : (c d : List ℕ) → get_or (c ++ 47 ∷ d) (length c) 0 ≡ 47

@@ -1,16 +1,15 @@
 -- A head and a body ask one thing.
-use Rattle.std.proofs.Common.{◌≡◌, ℕ, List, [], ◌∷◌, ◌++◌, length, refl, sym, ap, subst₂, ◌∙◌, arith, append_assoc, length-append, not, ◌||◌, ◌==◌, is_some, inl, inr}
-use Rattle.std.specs.Prelude.{Option, if◌then◌else◌, unwrap_or}
+use Rattle.std.proofs.Common.{◌≡◌, ℕ, List, [], ◌∷◌, ◌++◌, length, refl, sym, ap, subst₂, ◌∙◌, arith, append_assoc, length-append, inl, inr}
+use Rattle.std.specs.Prelude.{Option, unwrap_or}
 use Rattle.std.proofs.lemmas.List.{append_cancel_right}
 use Rattle.httparse.specs.Grammar.{RequestHead}
-use Rattle.http_uri.specs.declared.uri.Uri.{Uri}
-use Rattle.http_uri.specs.Grammar.{path_of, query_of}
-use Rattle.http_uri.specs.Uri.{Spells, uri_path, uri_query}
-use Rattle.http_uri.proofs.Theorems.{Spells_unique}
+use Rattle.http_uri.specs.Uri.{uri_path, uri_query}
+use Rattle.upload_texts.proofs.UriTexts.{path_unique, query_unique}
 use Rattle.upload_service.specs.declared.ask.Ask.{Ask}
 use Rattle.upload_service.specs.declared.ask.Extent.{Extent}
 use Rattle.http_wire.proofs.HeadLemmas.{snoc_inj}
-use Rattle.upload_wire.specs.Target.{HasNoSlash, blob_path, upload_path, IsFormOf, method_of, named, blob_ask, uploads_ask, upload_ask, ask_of_form, AsksAt, Asks, AsksWhole, with_body}
+use Rattle.upload_wire.specs.Target.{HasNoSlash, IsFormOf, method_of, named, blob_ask, uploads_ask, upload_ask, ask_of_form, AsksAt, Asks, AsksWhole, with_body}
+use Rattle.upload_texts.specs.Paths.{blob_path, upload_path}
 use Rattle.upload_names.specs.Reference.{reference_of}
 use Rattle.upload_wire.specs.declared.asks.Method.{Method}
 use Rattle.upload_wire.specs.declared.asks.HeadAsk.{HeadAsk}
@@ -138,17 +137,6 @@ form_unique path Path.NoForm (Path.Upload other behind) m q r x y = absurd (x.2 
 form_unique path Path.NoForm Path.NoForm m q r x y = refl
 
 -- ---- targets
-
-abbrev path_by : Option (List ℕ) → List ℕ → List ℕ
-path_by scheme kept = if not (length kept == 0) || is_some scheme then path_of kept else []
-
--- the URIs that a text spells have one path
-pub path_unique : (text : List ℕ) (u v : Uri) → Spells text u → Spells text v → uri_path u ≡ uri_path v
-path_unique text u v x y = let same = Spells_unique text u v x y in λ i. path_by (same.0 i) (same.2 i)
-
--- and one query
-query_unique : (text : List ℕ) (u v : Uri) → Spells text u → Spells text v → uri_query u ≡ uri_query v
-query_unique text u v x y = ap query_of (Spells_unique text u v x y).2
 
 asks_at_unique : (path : List ℕ) (method : Method) (query : List ℕ) (range : Extent) (asked other : HeadAsk)
     → AsksAt path method query range asked → AsksAt path method query range other → asked ≡ other

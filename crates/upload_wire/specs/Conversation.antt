@@ -2,7 +2,6 @@
 -- the desk and replied to, and an end.
 use Rattle.std.specs.Prelude.{◌≡◌, ℕ, ◌+◌, ◌<◌, ◌⊎◌, ◌==◌, ◌&&◌, not, true, false, List, [], ◌∷◌, ◌++◌, length, flat_map, IsTrue, Option, Some, None, ⊤}
 use Rattle.std.specs.List.{AllByRecursion}
-use Rattle.std.specs.Io.KnownBytes.{Consumes, IsAtEnd}
 use Rattle.upload_service.specs.declared.ask.Ask.{Ask}
 use Rattle.upload_service.specs.declared.answer.Answer.{Answer}
 use Rattle.http_wire.specs.Counts.{CountsUp}
@@ -10,6 +9,7 @@ use Rattle.upload_wire.specs.RequestText.{IsRequest, IsBad, IsTruncated, HoldsNo
 use Rattle.http_wire.specs.HeadText.{bad}
 use Rattle.upload_wire.specs.ReplyText.{reply}
 use Rattle.http_wire.specs.States.{SourceState, SinkState}
+use Rattle.http_wire.specs.Reading.{Gives, HasEnded}
 use Rattle.http_wire.specs.Writing.{TookAll, TookFront}
 use Rattle.http_wire.specs.declared.fault.Bad.{Bad}
 use Rattle.http_wire.specs.declared.fault.WireFault.{WireFault}
@@ -128,14 +128,14 @@ pub record IsQuiet {D : Type 0} (at new : D) (mid after : SinkState) : Type 0 wh
 
 -- why the reader gave no request: what the bytes say of it, and what the source does
 abbrev pub WireStops : ℕ → List ℕ → SourceState → WireFault → Type 0
-WireStops max_body rest left Wire.Truncated = IsTruncated max_body rest × IsAtEnd left.remaining
+WireStops max_body rest left Wire.Truncated = IsTruncated max_body rest × HasEnded left
 WireStops max_body rest left Wire.Read = HoldsNone max_body rest
 WireStops max_body rest left Wire.NoMemory = ⊤
 WireStops max_body rest left Wire.Ended = ⊥
 
 -- How a conversation ends that stands so, where what it holds is all that was read and not answered: the desk's new state, and the sink's.
 abbrev pub EndsWith : {D : Type 0} → Moves D → ℕ → Standing D → D → SinkState → ConnEnd → Type 0
-EndsWith step max_body s new after Clean = (s.held ≡ []) × IsAtEnd s.source.remaining × IsQuiet s.desk new s.sink after
+EndsWith step max_body s new after Clean = (s.held ≡ []) × HasEnded s.source × IsQuiet s.desk new s.sink after
 EndsWith step max_body s new after AfterClose =
     (x : Exchange) × AnswersNext step max_body s.desk new s.held x × (x.style.keep ≡ false) × HandedOn s.sink after (last_reply s.answered x)
 EndsWith step max_body s new after AfterBad =
@@ -161,7 +161,7 @@ pub record IsConversation
     {D : Type 0} (step : Moves D) (max_body : ℕ) (first left : SourceState) (old new : D) (before after : SinkState) (end : ConnEnd)
     : Type 0 where
   pub bytes : List ℕ
-  pub consumed : Consumes first.remaining left.remaining bytes
+  pub gives : Gives first left bytes
   pub reads : ReadsFail end first.failed_reads left.failed_reads
   pub exchanges : List Exchange
   pub rest : List ℕ

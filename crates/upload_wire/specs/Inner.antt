@@ -1,5 +1,4 @@
 -- How the code gets there: what its own steps find and hold. Nothing here is part of what it promises.
 pub mod ConversationSteps
 pub mod RequestReading
-pub mod AnswerReading
 pub mod InputState

@@ -1,9 +1,9 @@
 -- A request as a text: its head, its body, and what it asks (RFC 9112, sections 2 and 6).
 use Rattle.std.specs.Prelude.{◌≡◌, ℕ, ◌⊎◌, List, [], ◌++◌, codes, bytes_eq, Result, Ok, Err, ⊤}
-use Rattle.std.specs.Io.KnownBytes.{Consumes, IsAtEnd}
 use Rattle.httparse.specs.Grammar.{RequestHead}
 use Rattle.upload_service.specs.declared.ask.Ask.{Ask}
 use Rattle.http_wire.specs.States.{SourceState}
+use Rattle.http_wire.specs.Reading.{Gives, HasEnded}
 use Rattle.http_wire.specs.RequestFronts.{ReadsHead, IsRefused, IsTooLong, IsUnfinished}
 use Rattle.http_wire.specs.Fields.{head_fields, keeps_connection}
 use Rattle.http_wire.specs.Body.{head_framing, IsBodyText, IsBadBody, IsCutBody}
@@ -85,9 +85,9 @@ pub record ReadsOne (max_body : ℕ) (text rest : List ℕ) (ask : Ask) (style :
 -- what the reader found in the text, where it holds rest and the source is left as new
 abbrev pub FindsNext : ℕ → List ℕ → List ℕ → SourceState → Result Next WireFault → Type 0
 FindsNext max_body text rest new (Ok (Request ask style)) = ReadsOne max_body text rest ask style
-FindsNext max_body text rest new (Ok Over) = (text ≡ []) × (rest ≡ []) × IsAtEnd new.remaining
+FindsNext max_body text rest new (Ok Over) = (text ≡ []) × (rest ≡ []) × HasEnded new
 FindsNext max_body text rest new (Ok (nexts.Bad why)) = IsBad max_body text why
-FindsNext max_body text rest new (Err Fault.Truncated) = IsTruncated max_body text × IsAtEnd new.remaining
+FindsNext max_body text rest new (Err Fault.Truncated) = IsTruncated max_body text × HasEnded new
 FindsNext max_body text rest new (Err Fault.Read) = HoldsNone max_body text
 FindsNext max_body text rest new (Err Fault.NoMemory) = ⊤
 FindsNext max_body text rest new (Err Fault.Ended) = ⊥
@@ -97,5 +97,5 @@ pub record ReadsNext
     (max_body : ℕ) (held : List ℕ) (old : SourceState) (rest : List ℕ) (new : SourceState) (r : Result Next WireFault)
     : Type 0 where
   pub given : List ℕ
-  pub consumed : Consumes old.remaining new.remaining given
+  pub gives : Gives old new given
   pub found : FindsNext max_body (held ++ given) rest new r

@@ -17,6 +17,7 @@ use Rattle.upload_service.specs.declared.answer.Refusal.TheVariants as refusals
 use Rattle.upload_service.specs.declared.answer.Form.TheVariants as Form
 use Rattle.http_wire.specs.Fields.{head_fields, values_of}
 use Rattle.http_wire.specs.Query.{parameter}
+use Rattle.upload_texts.specs.Paths.{blob_path, upload_path}
 use Rattle.upload_wire.specs.declared.asks.Method.{Method}
 use Rattle.upload_wire.specs.declared.asks.Method.TheVariants.{Get, Head, Post, Patch, Put, Other}
 use Rattle.upload_wire.specs.declared.asks.HeadAsk.{HeadAsk}
@@ -30,14 +31,6 @@ use Rattle.upload_wire.specs.declared.target.PathForm.TheVariants as Path
 -- no byte is a slash
 abbrev pub HasNoSlash : List ℕ → Type 0
 HasNoSlash text = (k : ℕ) → k < length text → slice_index text k ≢ 47
-
--- /v2/<name>/blobs/<digest>
-abbrev pub blob_path : List ℕ → List ℕ → List ℕ
-blob_path name digest = codes "/v2/" ++ (name ++ (codes "/blobs/" ++ digest))
-
--- /v2/<name>/blobs/uploads/<reference>
-abbrev pub upload_path : List ℕ → List ℕ → List ℕ
-upload_path name reference = codes "/v2/" ++ (name ++ (codes "/blobs/uploads/" ++ reference))
 
 -- which of the known forms the path has; it isn't decoded
 abbrev pub IsFormOf : List ℕ → PathForm → Type 0

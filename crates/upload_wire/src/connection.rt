@@ -6,9 +6,9 @@ ghost use Rattle.upload_wire.specs.Inner.ConversationSteps.{Replies, RefusedWith
 
 use crate::desk::Desk;
 use crate::input::RequestInput;
-use crate::reply::{body_size, reply_status, write_bad, write_reply};
+use crate::reply::{body_size, reply_status, write_reply};
 use crate::request::{Next, Style};
-use http_wire::{Bad, ByteSink, ByteSource, WireFault, bad_status};
+use http_wire::{Bad, ByteSink, ByteSource, WireFault, bad_status, write_bad};
 use std::alloc::{AllocError, Global};
 use std::fmt;
 use std::marker::Model;

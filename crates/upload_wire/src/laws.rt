@@ -2,6 +2,7 @@
 ghost use Rattle.upload_wire.specs.ConnectionRuns.{ConversationsRunTheService};
 ghost use Rattle.upload_wire.specs.Determined.{ConversationsAreDetermined, IsDeterministic};
 ghost use Rattle.upload_wire.specs.ServiceTurns.{StepsService};
+ghost use Rattle.upload_wire.specs.Transcripts.{TranscriptsTellConversations};
 ghost use Rattle.upload_wire.specs.Unambiguous.{RequestsAreUnambiguous};
 
 use crate::desk::Desk;
@@ -11,6 +12,13 @@ use crate::desk::Desk;
 /// is never gone.
 pub fn connections_run_the_service()
     ensures { ConversationsRunTheService }
+{}
+
+/// What a conversation added to the transcripts of its reader and its writer, over sockets too. The reader gave the requests that
+/// kept the connection, in order, and then what was read behind them. The writer took the replies to them, in order, and then
+/// the reply at the end, or a prefix of that if a write failed. There is nothing else in them.
+pub fn transcripts_tell_conversations<D: Desk>()
+    ensures { TranscriptsTellConversations D.moves }
 {}
 
 /// A text is read in one way: as one request and what stands behind it, or as bad for one reason, or as cut short. Only its head may be

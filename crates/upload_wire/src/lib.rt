@@ -7,7 +7,6 @@
 
 mod asks;
 mod body;
-mod client;
 mod connection;
 mod desk;
 mod input;
@@ -17,19 +16,12 @@ mod reply;
 mod request;
 mod target;
 
-pub use client::{
-    AnswerReader, Heard, HeardFault, LentChunk, Transport, WireTransport, heard_of, read_place,
-    replies_are_unambiguous, write_ask, written_asks_are_read, written_places_are_read,
-};
 pub use connection::{ConnEnd, ConnFault, ConnectionServer, serve_connection};
 pub use desk::{Desk, ServiceDesk};
-pub use http_wire::{
-    Bad, ByteSink, ByteSource, Failed, FromRead, ReadBuffer, ToWrite, WireFault, WriteFault,
-};
 pub use laws::{
     connections_run_the_service, conversations_are_determined, requests_are_unambiguous,
-    service_desks_are_deterministic,
+    service_desks_are_deterministic, transcripts_tell_conversations,
 };
 pub use reader::RequestReader;
-pub use reply::{body_size, reply_status, write_bad, write_reply};
+pub use reply::{body_size, reply_status, write_reply};
 pub use request::{Next, Style};

@@ -11,15 +11,12 @@ use crate::request::Style;
 use head::put_reply_head;
 use http_wire::{ByteSink, Gather, WriteFault};
 use upload_service::{Answer, Part};
+use upload_texts::{ErrorCode, refusal_code};
 
-mod error;
 mod head;
 mod refusal;
 
-pub(crate) use error::ErrorCode;
 pub(crate) use head::status_of;
-pub use http_wire::write_bad;
-pub(crate) use refusal::{refusal_code, refusal_status};
 
 /// Writes the reply to an answer, and flushes it: its head in one write, with its body where that is short,
 /// and a longer body out of its own memory. It takes no memory. `Ok` comes only where all of it was written and

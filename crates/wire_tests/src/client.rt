@@ -1,22 +1,23 @@
 //! Replies that a client reads, requests that it writes, and both over memory.
 ghost use Rattle.std.specs.Prelude.{IfOk, ◌<◌};
-ghost use Rattle.upload_wire.specs.AskText.{CanBeWritten};
+ghost use Rattle.upload_client.specs.AskText.{CanBeWritten};
 
 mod growths;
 
 use crate::answers::{Said, answer_of, lib_a};
 use crate::expect::{holds, same, same_bytes};
+use http_wire::ToWrite;
 use memory_ends::{MemorySink, MemorySource};
 use std::alloc::{AllocError, Global};
 use std::fmt::Display;
 use std::process::Abort;
 use std::test::Fail;
-use upload_names::{Algorithm, BlobDigest, ByteRange, Bytes, NameFault, RepoName, UploadRef};
-use upload_service::{Answer, Ask, Extent, Form, Refusal};
-use upload_wire::{
-    AnswerReader, Heard, HeardFault, Style, ToWrite, Transport, WireTransport, heard_of,
-    read_place, write_ask, write_reply,
+use upload_client::{
+    AnswerReader, Heard, HeardFault, Transport, WireTransport, heard_of, read_place, write_ask,
 };
+use upload_names::{Algorithm, BlobDigest, ByteRange, Bytes, NameFault, RepoName, UploadRef};
+use upload_service::{Answer, Ask, BlobBytes, Extent, Form, Refusal};
+use upload_wire::{Style, write_reply};
 
 const UPLOAD: &[u8] = b"/v2/lib/a/blobs/uploads/00000001-0000-8000-8000-000000000000";
 
@@ -369,6 +370,88 @@ fn what_is_read_is_what_was_answered(rt: HostRuntime) -> Result<(), Fail> {
     for said in ANSWERS.iter() {
         is_heard(&rt, rt.alloc(), *said)?;
     }
+    Ok(())
+}
+
+/// Answers in whose reply to a HEAD no code is heard, and what is heard there.
+static ANSWERS_TO_HEADS: [(Said, Told<'_>); 3] = [
+    (
+        Said::Refused(Refusal::NoBlob),
+        Told {
+            status: 404,
+            ..BARE
+        },
+    ),
+    (
+        Said::Misplaced(0),
+        Told {
+            status: 416,
+            ..WITH_A_PLACE
+        },
+    ),
+    (
+        Said::Blob(Algorithm::Sha256),
+        Told {
+            status: 200,
+            ..BARE
+        },
+    ),
+];
+
+#[test]
+fn no_code_is_heard_in_the_reply_to_a_head(rt: HostRuntime) -> Result<(), Fail> {
+    for (said, want) in ANSWERS_TO_HEADS.iter() {
+        let answer = answer_of(rt.alloc(), *said, UploadRef::make(1, [0; 12]))?;
+        let reply = reply_to(rt.alloc(), &answer, true)?;
+        hear(&rt, rt.alloc(), true, &reply, 11, *want)?;
+    }
+    Ok(())
+}
+
+/// The answer that hands out a blob of these bytes.
+fn blob_of(alloc: Global, content: &[u8]) -> Result<Answer, AllocError> {
+    Ok(Answer::Blob {
+        digest: BlobDigest::of_sha256(content),
+        size: content.len() as u64,
+        bytes: Some(BlobBytes::of(alloc, bytes(alloc, content)?)?),
+    })
+}
+
+/// What is heard of a blob's bytes, with another reply behind them.
+fn heard_of_blob(alloc: Global, content: &[u8]) -> Result<Result<Heard, HeardFault>, Fail> {
+    let mut text = reply_to(alloc, &blob_of(alloc, content)?, false)?;
+    text.extend_from_slice(b"HTTP/1.1 204 No Content\r\n\r\n")?;
+    let mut reader = AnswerReader::new(alloc, MemorySource::new(&text, 65_536, false))?;
+    let heard = reader.next_answer(false);
+    if heard.is_ok() && reader.next_answer(false).is_err() {
+        return Err(Fail::new("what follows the blob was lost"));
+    }
+    Ok(heard)
+}
+
+#[test]
+fn a_blob_is_heard_by_its_status_and_its_code(rt: HostRuntime) -> Result<(), Fail> {
+    let alloc = rt.alloc();
+    let errors = b"{\"errors\":[{\"code\":\"OWN\"}]}";
+    for (content, code) in [
+        (b"abc".as_slice(), None),
+        (errors.as_slice(), Some(b"OWN".as_slice())),
+    ] {
+        let Ok(heard) = heard_of_blob(alloc, content)? else {
+            return Err(Fail::new("no reply"));
+        };
+        let want = Told {
+            status: 200,
+            code,
+            ..BARE
+        };
+        same(&rt, as_told(&heard), want, &content.len());
+    }
+    let content = vec![in alloc; b'x'; 65_537]?;
+    let most = heard_of_blob(alloc, &content[..65_536])?;
+    same(&rt, most.is_ok(), true, &"65,536 bytes");
+    let fault = heard_of_blob(alloc, &content)?.err();
+    same(&rt, fault, Some(HeardFault::TooLarge), &"one byte more");
     Ok(())
 }
 

@@ -5,12 +5,13 @@ mod growths;
 mod hashed;
 
 use crate::expect::{holds, same};
+use http_wire::{Bad, WireFault};
 use memory_ends::MemorySource;
 use std::alloc::{AllocError, Global};
 use std::process::Abort;
 use std::test::Fail;
 use upload_service::{Ask, Extent, Form, Limits, Refusal};
-use upload_wire::{Bad, Next, RequestReader, WireFault};
+use upload_wire::{Next, RequestReader};
 
 /// What a call of `next_request` gave, as far as a test looks at it: a body by its length.
 #[derive(Clone, Copy, Debug, PartialEq, Eq)]

@@ -4,11 +4,12 @@ mod parts;
 
 use crate::answers::{Said, answer_of};
 use crate::expect::{same, same_bytes};
+use http_wire::{Bad, ByteSink, Failed, ToWrite, Transcript, WriteFault, write_bad};
 use std::alloc::Global;
 use std::test::Fail;
 use upload_names::{Algorithm, BlobDigest, Bytes, UploadRef};
 use upload_service::{Answer, BlobBytes, Form, Refusal};
-use upload_wire::{Bad, ByteSink, Failed, Style, ToWrite, WriteFault, write_bad, write_reply};
+use upload_wire::{Style, write_reply};
 
 const KEPT: Style = Style {
     head: false,
@@ -211,6 +212,7 @@ fn bad_requests_have_their_statuses(rt: HostRuntime) -> Result<(), Fail> {
 /// Counts the writes and the flushes, and takes all that it is given.
 #[derive(Drop)]
 struct Counting {
+    taken: Transcript,
     writes: u64,
     flushes: u64,
 }
@@ -218,10 +220,17 @@ struct Counting {
 impl ByteSink for Counting {
     ghost use Rattle.std.specs.Prelude.{None, true, ◌^◌};
 
-    ghost state = { λ _. record { contents = None; writes = 2 ^ 64; failed_writes = 0; flushed = true } };
+    ghost state = { λ s. record {
+      taken = s.taken.bytes;
+      contents = None;
+      writes = 2 ^ 64;
+      failed_writes = 0;
+      flushed = true;
+    } };
 
     fn write(&mut self, buf: &[u8]) -> Result<usize, Failed> {
         self.writes = self.writes.saturating_add(1);
+        self.taken = self.taken.and(buf);
         Ok(buf.len())
     }
 
@@ -234,6 +243,7 @@ impl ByteSink for Counting {
 /// How many writes and flushes a reply takes.
 fn counted(answer: &Answer) -> Result<(u64, u64), WriteFault> {
     let mut writer = Counting {
+        taken: Transcript::none(),
         writes: 0,
         flushes: 0,
     };

@@ -2,10 +2,10 @@
 
 use super::{CONNECTIONS, serve};
 use crate::expect::{same, same_bytes};
+use http_wire::ToWrite;
 use memory_ends::MemorySource;
 use std::io::BufWriter;
 use std::test::Fail;
-use upload_wire::ToWrite;
 
 #[test]
 fn replies_are_handed_on_by_a_writer_that_buffers(rt: HostRuntime) -> Result<(), Fail> {

@@ -3,14 +3,13 @@ ghost use Rattle.std.specs.Prelude.{length, ◌<◌, ◌≤◌};
 
 use super::stored::{COUNT, Stored, connection};
 use crate::expect::holds;
+use http_wire::{ByteSink, ByteSource, Failed, Transcript, WireFault};
 use memory_ends::{MemorySink, MemorySource};
 use std::alloc::{AllocError, Global};
 use std::process::Abort;
 use std::test::Fail;
 use upload_service::{Limits, Service};
-use upload_wire::{
-    ByteSink, ByteSource, ConnEnd, ConnFault, Failed, ServiceDesk, WireFault, serve_connection,
-};
+use upload_wire::{ConnEnd, ConnFault, ServiceDesk, serve_connection};
 
 /// The limits of the program's service.
 const LIMITS: Limits = Limits {
@@ -162,6 +161,7 @@ fn unwritten(rt: &impl Abort, alloc: Global, stored: &Stored) -> Result<(), Allo
 #[derive(Drop)]
 struct FailingFlush {
     items: Vec<u8>,
+    taken: Transcript,
     flushes: usize,
     failed: u64,
 }
@@ -170,6 +170,7 @@ impl ByteSink for FailingFlush {
     ghost use Rattle.std.specs.Prelude.{None, true, ◌^◌};
 
     ghost state = { λ s. record {
+      taken = s.taken.bytes;
       contents = None;
       writes = 2 ^ 64;
       failed_writes = s.failed;
@@ -181,6 +182,7 @@ impl ByteSink for FailingFlush {
             self.failed = self.failed.saturating_add(1);
             return Err(Failed);
         }
+        self.taken = self.taken.and(buf);
         Ok(buf.len())
     }
 
@@ -205,6 +207,7 @@ fn unflushed_behind(
     let wanted = stored.replies(alloc, flushes.saturating_add(1))?;
     let mut writer = FailingFlush {
         items: Vec::new(alloc),
+        taken: Transcript::none(),
         flushes,
         failed: 0,
     };

@@ -3,13 +3,14 @@
 
 use super::LIMITS;
 use crate::expect::{holds, same, same_bytes};
+use http_wire::WireFault;
 use memory_ends::{MemorySink, MemorySource};
 use std::alloc::{AllocError, Global};
 use std::process::Abort;
 use std::test::Fail;
 use upload_names::UploadRef;
 use upload_service::Service;
-use upload_wire::{ConnEnd, ConnFault, ServiceDesk, WireFault, serve_connection};
+use upload_wire::{ConnEnd, ConnFault, ServiceDesk, serve_connection};
 
 /// An opening, a PATCH, and the next one twice. What the first PATCH brings is moved in; only the next one takes memory.
 const REQUESTS: &[u8] = b"POST /v2/lib/a/blobs/uploads/ HTTP/1.1\r\n\r\n\

@@ -2,6 +2,7 @@
 
 use super::LIMITS;
 use crate::expect::{same, same_bytes};
+use http_wire::WireFault;
 use memory_ends::{MemorySink, MemorySource};
 use std::alloc::Global;
 use std::marker::Model;
@@ -9,7 +10,7 @@ use std::process::Abort;
 use std::str;
 use std::test::Fail;
 use upload_service::{Answer, Ask, Service};
-use upload_wire::{ConnEnd, ConnFault, ConnectionServer, Desk, ServiceDesk, WireFault};
+use upload_wire::{ConnEnd, ConnFault, ConnectionServer, Desk, ServiceDesk};
 
 /// Has a service answer, and writes down what it hears, a line for each head.
 #[derive(Drop)]

@@ -2,11 +2,12 @@
 
 use super::{LIMITS, LeavingDesk, REPLY, REQUEST};
 use crate::expect::{same, same_bytes};
+use http_wire::WireFault;
 use memory_ends::{MemorySink, MemorySource};
 use std::alloc::Global;
 use std::process::Abort;
 use std::test::Fail;
-use upload_wire::{ConnEnd, ConnFault, ConnectionServer, WireFault};
+use upload_wire::{ConnEnd, ConnFault, ConnectionServer};
 
 /// What is sent, which is more than is answered, and how the connection ends.
 static LEFT_OVER: [(&str, ConnEnd); 4] = [

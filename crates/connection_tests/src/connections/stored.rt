@@ -1,8 +1,9 @@
 //! The connections of `tests/connections`, all but the two whose heads have 16 KiB, request by request. Each stands in a
 //! function of its own, since the prover writes out the constants that a body names.
 
+use http_wire::WireFault;
 use std::alloc::{AllocError, Global};
-use upload_wire::{ConnEnd, ConnFault, WireFault};
+use upload_wire::{ConnEnd, ConnFault};
 
 /// A connection: what is sent, what comes back, and how it ends.
 #[derive(Clone, Copy)]

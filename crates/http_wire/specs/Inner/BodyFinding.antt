@@ -1,8 +1,7 @@
 -- What is found behind a head.
 use Rattle.std.specs.Prelude.{ℕ, List, ◌++◌, Result, Ok, Err}
-use Rattle.std.specs.Io.KnownBytes.{IsAtEnd}
 use Rattle.http_wire.specs.States.{SourceState}
-use Rattle.http_wire.specs.Reading.{Gave}
+use Rattle.http_wire.specs.Reading.{Gave, HasEnded}
 use Rattle.http_wire.specs.Inner.BodyReading.{MovedNone}
 use Rattle.http_wire.specs.Body.{IsBodyText, IsBadBody, IsCutBody}
 use Rattle.http_wire.specs.declared.framing.Framing.{Framing}
@@ -33,6 +32,6 @@ pub record CutsBody (framing : Framing) (old : SourceState) (held : List ℕ) (n
 abbrev pub FindsBody : Framing → SourceState → List ℕ → SourceState → List ℕ → List ℕ → Result BodyEnd BodyFault → Type 0
 FindsBody framing old held new rest body (Ok Whole) = TakesBody framing old held new rest body
 FindsBody framing old held new rest body (Ok (Refused why)) = RefusesBodyText framing old held new why
-FindsBody framing old held new rest body (Err Fault.Truncated) = CutsBody framing old held new × IsAtEnd new.remaining
+FindsBody framing old held new rest body (Err Fault.Truncated) = CutsBody framing old held new × HasEnded new
 FindsBody framing old held new rest body (Err Fault.Read) = CutsBody framing old held new
 FindsBody framing old held new rest body (Err Fault.NoMemory) = MovedNone old held new

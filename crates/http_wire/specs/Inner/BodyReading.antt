@@ -1,8 +1,7 @@
 -- What the functions find that read a body.
 use Rattle.std.specs.Prelude.{◌≡◌, ℕ, ◌<◌, ◌≤◌, List, [], ◌++◌, length, Result, Ok, Err}
-use Rattle.std.specs.Io.KnownBytes.{IsAtEnd}
 use Rattle.http_wire.specs.States.{SourceState}
-use Rattle.http_wire.specs.Reading.{Gave}
+use Rattle.http_wire.specs.Reading.{Gave, HasEnded}
 use Rattle.http_wire.specs.declared.fault.BodyFault.{BodyFault}
 use Rattle.http_wire.specs.declared.fault.BodyFault.TheVariants as Fault
 
@@ -33,13 +32,13 @@ pub record MovedAll (old : SourceState) (held before : List ℕ) (new : SourceSt
 abbrev pub ReadsPart : SourceState → List ℕ → List ℕ → SourceState → List ℕ → List ℕ → ℕ → Result ℕ BodyFault → Type 0
 ReadsPart old held before new rest after left (Ok count) =
     Moved old held before new rest after count × (0 < count) × (count ≤ left)
-ReadsPart old held before new rest after left (Err Fault.Truncated) = MovedNothing old held before new rest after × IsAtEnd new.remaining
+ReadsPart old held before new rest after left (Err Fault.Truncated) = MovedNothing old held before new rest after × HasEnded new
 ReadsPart old held before new rest after left (Err Fault.Read) = MovedNothing old held before new rest after
 ReadsPart old held before new rest after left (Err Fault.NoMemory) = MovedNone old held new
 
 -- so many bytes of a body, or all of fewer before the end of the input or a failed read
 abbrev pub ReadsBytes : SourceState → List ℕ → List ℕ → SourceState → List ℕ → List ℕ → ℕ → Result (Unit {0}) BodyFault → Type 0
 ReadsBytes old held before new rest after count (Ok done) = Moved old held before new rest after count
-ReadsBytes old held before new rest after count (Err Fault.Truncated) = MovedAll old held before new rest after count × IsAtEnd new.remaining
+ReadsBytes old held before new rest after count (Err Fault.Truncated) = MovedAll old held before new rest after count × HasEnded new
 ReadsBytes old held before new rest after count (Err Fault.Read) = MovedAll old held before new rest after count
 ReadsBytes old held before new rest after count (Err Fault.NoMemory) = MovedNone old held new

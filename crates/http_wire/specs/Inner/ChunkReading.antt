@@ -1,9 +1,8 @@
 -- What the functions find that read a chunked body.
 use Rattle.std.specs.Prelude.{◌≡◌, ◌≢◌, ℕ, ◌≤◌, ◌⊎◌, Bool, true, false, List, [], ◌∷◌, ◌++◌, length, Result, Ok, Err}
-use Rattle.std.specs.Io.KnownBytes.{IsAtEnd}
 use Rattle.httparse.specs.Ascii.{crlf_bytes}
 use Rattle.http_wire.specs.States.{SourceState}
-use Rattle.http_wire.specs.Reading.{Gave}
+use Rattle.http_wire.specs.Reading.{Gave, HasEnded}
 use Rattle.http_wire.specs.Inner.BodyReading.{MovedNone}
 use Rattle.http_wire.specs.Body.{Chunk, IsChunk, print_chunk, IsZero, IsBadBody, IsCutBody}
 use Rattle.http_wire.specs.Inner.SizeLines.{StandsAt, IsLine, NeverLine}
@@ -45,7 +44,7 @@ pub record CutsLine (old : SourceState) (held : List ℕ) (new : SourceState) : 
 abbrev pub FindsLine : SourceState → List ℕ → SourceState → List ℕ → Result LineRead InputFault → Type 0
 FindsLine old held new rest (Ok (Size value)) = TakesLine old held new rest value
 FindsLine old held new rest (Ok Broken) = BreaksLine old held new
-FindsLine old held new rest (Err Input.Truncated) = CutsLine old held new × IsAtEnd new.remaining
+FindsLine old held new rest (Err Input.Truncated) = CutsLine old held new × HasEnded new
 FindsLine old held new rest (Err Input.Read) = CutsLine old held new
 
 -- no continuation begins with CR LF
@@ -70,7 +69,7 @@ pub record CutsEnd (old : SourceState) (held : List ℕ) (new : SourceState) : T
 abbrev pub FindsEnd : SourceState → List ℕ → SourceState → List ℕ → Result Bool InputFault → Type 0
 FindsEnd old held new rest (Ok true) = Gave old new held (crlf_bytes ++ rest)
 FindsEnd old held new rest (Ok false) = BreaksEnd old held new
-FindsEnd old held new rest (Err Input.Truncated) = CutsEnd old held new × IsAtEnd new.remaining
+FindsEnd old held new rest (Err Input.Truncated) = CutsEnd old held new × HasEnded new
 FindsEnd old held new rest (Err Input.Read) = CutsEnd old held new
 
 -- a whole chunk was taken
@@ -104,6 +103,6 @@ abbrev pub FindsChunk : ℕ → SourceState → List ℕ → List ℕ → Source
 FindsChunk room old held before new rest after (Ok More) = TakesChunk room old held before new rest after
 FindsChunk room old held before new rest after (Ok Last) = TakesLast old held before new rest after
 FindsChunk room old held before new rest after (Ok (Refused why)) = RefusesChunk room old held new why
-FindsChunk room old held before new rest after (Err Fault.Truncated) = CutsChunk room old held new × IsAtEnd new.remaining
+FindsChunk room old held before new rest after (Err Fault.Truncated) = CutsChunk room old held new × HasEnded new
 FindsChunk room old held before new rest after (Err Fault.Read) = CutsChunk room old held new
 FindsChunk room old held before new rest after (Err Fault.NoMemory) = MovedNone old held new

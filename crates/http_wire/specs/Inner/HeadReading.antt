@@ -1,8 +1,8 @@
 -- What the functions find that read a head, of any grammar.
 use Rattle.std.specs.Prelude.{◌≡◌, ℕ, ◌+◌, ◌<◌, ◌≤◌, ◌⊎◌, List, [], ◌∷◌, ◌++◌, length, take, drop, Result, Ok, Err}
-use Rattle.std.specs.Io.KnownBytes.{IsAtEnd}
 use Rattle.httparse.specs.Ascii.{line_feed}
 use Rattle.http_wire.specs.States.{SourceState}
+use Rattle.http_wire.specs.Reading.{HasEnded}
 use Rattle.http_wire.specs.Fronts.{max_head, Words, Reads, HasNone, IsRefused, IsTooLong, IsUnfinished, MayBeRefused}
 use Rattle.http_wire.specs.declared.head.Verdict.{Verdict}
 use Rattle.http_wire.specs.declared.head.Verdict.TheVariants.{Complete, Refused, Open}
@@ -43,9 +43,9 @@ JudgesAt s text at Open = HasNone s.words (take (at + 1) text)
 
 -- what a read of a head found in the text that was read, where the source is left as new
 abbrev pub FindsHead : {P : Type 0} → Spans P → List ℕ → SourceState → Result (HeadRead P) InputFault → Type 0
-FindsHead s text new (Ok Found.Over) = (text ≡ []) × IsAtEnd new.remaining
+FindsHead s text new (Ok Found.Over) = (text ≡ []) × HasEnded new
 FindsHead s text new (Ok Found.Refused) = IsRefused s.words text
 FindsHead s text new (Ok Found.TooLong) = IsTooLong s.words text
 FindsHead s text new (Ok (Found.Head p)) = IsHeadAtFront s text p
-FindsHead s text new (Err Fault.Truncated) = ((0 < length text) × IsUnfinished s.words text) × IsAtEnd new.remaining
+FindsHead s text new (Err Fault.Truncated) = ((0 < length text) × IsUnfinished s.words text) × HasEnded new
 FindsHead s text new (Err Fault.Read) = (text ≡ []) ⊎ ((0 < length text) × IsUnfinished s.words text)

@@ -1,8 +1,7 @@
 -- What is found behind the head of a response.
 use Rattle.std.specs.Prelude.{◌≡◌, ℕ, ◌<◌, ◌≤◌, List, ◌++◌, length, Result, Ok, Err, ⊤}
-use Rattle.std.specs.Io.KnownBytes.{IsAtEnd}
 use Rattle.http_wire.specs.States.{SourceState}
-use Rattle.http_wire.specs.Reading.{Gave}
+use Rattle.http_wire.specs.Reading.{Gave, HasEnded}
 use Rattle.http_wire.specs.ResponseBody.{IsBody}
 use Rattle.http_wire.specs.declared.responses.framing.ResponseFraming.{ResponseFraming}
 use Rattle.http_wire.specs.declared.responses.framing.ResponseFraming.TheVariants.{Length, ToEnd}
@@ -22,7 +21,7 @@ abbrev pub FindsBodyIn : ResponseFraming → List ℕ → List ℕ → List ℕ 
 FindsBodyIn framing text body rest new (Ok Whole) = (text ≡ body ++ rest) × IsBody framing body rest new
 FindsBodyIn (Length n) text body rest new (Ok TooLarge) = ⊥
 FindsBodyIn (ToEnd most) text body rest new (Ok TooLarge) = most < length text
-FindsBodyIn (Length n) text body rest new (Err Fault.Truncated) = (length text < n) × IsAtEnd new.remaining
+FindsBodyIn (Length n) text body rest new (Err Fault.Truncated) = (length text < n) × HasEnded new
 FindsBodyIn (ToEnd most) text body rest new (Err Fault.Truncated) = ⊥
 FindsBodyIn (Length n) text body rest new (Err Fault.Read) = length text < n
 FindsBodyIn (ToEnd most) text body rest new (Err Fault.Read) = length text ≤ most

@@ -1,6 +1,6 @@
 //! Lines that are refused memory are not made, and with memory they carry what is asked as ever. The test holds whichever
 //! one growth is refused: `tests/growths.py` has each of them refused in turn.
-ghost use Rattle.std.specs.Prelude.{IfOk};
+ghost use Rattle.std.specs.Prelude.{◌∷◌, [], IfOk};
 ghost use Rattle.upload_intake.specs.Served.{AreOfOneCall};
 
 use super::{Script, Still, ask_both, service};
@@ -12,7 +12,7 @@ use upload_service::{Answer, Ask};
 
 /// The ends of new lines. One growth may be refused.
 fn lines_for(alloc: Global) -> Result<(Keeper, Seat, Seat), AllocError>
-    ensures { IfOk result (λ r. AreOfOneCall r.0 r.1 r.2) }
+    ensures { IfOk result (λ r. AreOfOneCall r.0 (r.1 ∷ r.2 ∷ [])) }
 {
     match lines(alloc, service(alloc), 2) {
         Ok(ends) => Ok(ends),

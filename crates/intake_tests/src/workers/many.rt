@@ -1,11 +1,11 @@
 //! A worker with very many connections, each of which is served and counted.
-ghost use Rattle.std.specs.Prelude.{◌≡◌, None, IfSome};
+ghost use Rattle.std.specs.Prelude.{◌≡◌, [], None, IfSome};
 
 use super::{Nowhere, Still, service};
 use crate::checks::check;
+use http_wire::{ByteSource, Failed, Transcript};
 use std::test::*;
 use upload_intake::{Conns, NoGate, Worker, ZeroSecrets, serve_pair};
-use upload_wire::{ByteSource, Failed};
 
 const MANY: u64 = 100_001;
 
@@ -17,17 +17,25 @@ const TEXT: &[u8] = b"GET /v2/ HTTP/1.1\r\n\r\n";
 #[derive(Drop)]
 struct Short {
     left: &'static [u8],
+    given: Transcript,
     reads: u64,
 }
 
 impl ByteSource for Short {
-    ghost state = { λ s. record { remaining = None; reads = s.reads; failed_reads = 0 } };
+    ghost state = { λ s. record {
+      given = s.given.bytes;
+      ended = s.given.ended;
+      remaining = None;
+      reads = s.reads;
+      failed_reads = 0;
+    } };
 
     fn read(&mut self, buf: &mut [u8]) -> Result<usize, Failed> {
         self.reads = self.reads.saturating_add(1);
         let count = self.left.len().min(buf.len());
         let (front, back) = self.left.split_at(count);
         buf[..count].copy_from_slice(front);
+        self.given = self.given.and(front);
         self.left = back;
         Ok(count)
     }
@@ -45,15 +53,17 @@ impl Conns for Same {
     type Out = Nowhere;
 
     // One that nobody has read or written yet.
-    ghost gives = { λ old given new. IfSome given (λ conn. (conn.0.reads ≡ 0) × (conn.1.writes ≡ 0)) };
+    ghost gives = { λ old given new. IfSome given (λ conn.
+        (conn.0.given.bytes ≡ []) × (conn.0.reads ≡ 0) × (conn.1.taken.bytes ≡ []) × (conn.1.writes ≡ 0)) };
 
     fn next_conn(&mut self) -> Option<(Short, Nowhere)> {
         self.left = self.left.checked_sub(1)?;
         let source = Short {
             left: TEXT,
+            given: Transcript::none(),
             reads: 0,
         };
-        Some((source, Nowhere { writes: 0 }))
+        Some((source, Nowhere::new()))
     }
 }
 

@@ -1,9 +1,10 @@
 //! The moments that a clock told, and what becomes of a session: it takes no chunk after more than `max_idle` seconds
 //! without one.
-ghost use Rattle.std.specs.Prelude.{◌≡◌, true, None, IfSome};
+ghost use Rattle.std.specs.Prelude.{◌≡◌, [], true, None, IfSome};
 
 use super::Text;
 use crate::checks::check;
+use http_wire::{ByteSink, Failed, Transcript};
 use std::alloc::{AllocError, Global};
 use std::process::Abort;
 use std::sync::Wait;
@@ -13,7 +14,6 @@ use std::thread::Threads;
 use std::vec;
 use upload_intake::{Conns, Moments, NoGate, Pair, ServeFault, Worker, ZeroSecrets, serve_pair};
 use upload_service::{Limits, Service};
-use upload_wire::{ByteSink, Failed};
 
 /// An opening and two chunks.
 const TEXT: &[u8] = b"POST /v2/lib/a/blobs/uploads/ HTTP/1.1\r\nContent-Length: 0\r\n\r\n\
@@ -50,6 +50,7 @@ impl Moments for Told {
 #[derive(Drop)]
 struct Statuses<'a> {
     seen: &'a AtomicU64,
+    taken: Transcript,
     writes: u64,
 }
 
@@ -61,13 +62,20 @@ fn status_of(text: &[u8]) -> u64 {
 }
 
 impl<'a> ByteSink for Statuses<'a> {
-    ghost state = { λ s. record { contents = None; writes = s.writes; failed_writes = 0; flushed = true } };
+    ghost state = { λ s. record {
+      taken = s.taken.bytes;
+      contents = None;
+      writes = s.writes;
+      failed_writes = 0;
+      flushed = true;
+    } };
 
     fn write(&mut self, buf: &[u8]) -> Result<usize, Failed> {
         self.writes = self.writes.saturating_add(1);
         let before = self.seen.load(Ordering::SeqCst);
         let seen = before.wrapping_mul(1_000).wrapping_add(status_of(buf));
         self.seen.store(seen, Ordering::SeqCst);
+        self.taken = self.taken.and(buf);
         Ok(buf.len())
     }
 
@@ -90,16 +98,22 @@ impl<'a> Conns for One<'a> {
     type Out = Statuses<'a>;
 
     // One that nobody has read or written yet.
-    ghost gives = { λ old given new. IfSome given (λ conn. (conn.0.reads ≡ 0) × (conn.1.writes ≡ 0)) };
+    ghost gives = { λ old given new. IfSome given (λ conn.
+        (conn.0.given.bytes ≡ []) × (conn.0.reads ≡ 0) × (conn.1.taken.bytes ≡ []) × (conn.1.writes ≡ 0)) };
 
     fn next_conn(&mut self) -> Option<(Text, Statuses<'a>)> {
         let text = self.text.take()?;
         let source = Text {
             bytes: text.into_iter(),
+            given: Transcript::none(),
             reads: 0,
         };
-        let seen = self.seen;
-        Some((source, Statuses { seen, writes: 0 }))
+        let sink = Statuses {
+            seen: self.seen,
+            taken: Transcript::none(),
+            writes: 0,
+        };
+        Some((source, sink))
     }
 }
 

@@ -5,10 +5,10 @@ use super::{Asked, End, check, end_of, events, kind_of, kind_of_chunk, name, new
 use std::alloc::{AllocError, Global};
 use std::process::Abort;
 use std::test::Fail;
+use upload_client::{Heard, LentChunk, Transport};
 use upload_names::{BlobDigest, RepoName};
 use upload_push::{Event, LossyWorld, push};
 use upload_service::{Ask, Service};
-use upload_wire::{Heard, LentChunk, Transport};
 
 /// A world, and how many bytes of its open upload were heard of.
 #[derive(Drop)]

@@ -2,15 +2,14 @@
 ghost use Rattle.std.specs.Prelude.{◌<◌, ◌≤◌, Some, length};
 
 use super::{End, check, end_of, name};
+use http_wire::{ByteSink, ByteSource, Failed, FromRead, ToWrite, Transcript};
 use std::alloc::Global;
 use std::process::Abort;
 use std::test::Fail;
+use upload_client::{Heard, LentChunk, Transport, WireTransport};
 use upload_push::push;
 use upload_service::{Limits, Service};
-use upload_wire::{
-    ByteSink, ByteSource, ConnEnd, Failed, FromRead, Heard, LentChunk, ServiceDesk, ToWrite,
-    Transport, WireTransport, serve_connection,
-};
+use upload_wire::{ConnEnd, ServiceDesk, serve_connection};
 
 /// The replies to an opening, to the chunks `ab` and `c`, and to the close.
 const REPLIES: &str =
@@ -52,17 +51,25 @@ fn first_reply(replies: &[u8]) -> usize
 #[derive(Drop)]
 struct OneByOne<'r> {
     left: &'r [u8],
+    given: Transcript,
     reads: u64,
 }
 
 impl ByteSource for OneByOne<'_> {
-    ghost state = { λ s. record { remaining = Some s.left.now; reads = s.reads; failed_reads = 0 } };
+    ghost state = { λ s. record {
+      given = s.given.bytes;
+      ended = s.given.ended;
+      remaining = Some s.left.now;
+      reads = s.reads;
+      failed_reads = 0;
+    } };
 
     fn read(&mut self, buf: &mut [u8]) -> Result<usize, Failed> {
         self.reads = self.reads.saturating_add(1);
         let count = first_reply(self.left).min(buf.len());
         let (front, back) = self.left.split_at(count);
         buf[..count].copy_from_slice(front);
+        self.given = self.given.and(front);
         self.left = back;
         Ok(count)
     }
@@ -83,6 +90,7 @@ fn ended_over<S: ByteSource + Drop, W: ByteSink + Drop>(
 fn pushed_over_wire(alloc: Global, replies: &[u8], sent: &mut Vec<u8>) -> Result<End, Fail> {
     let source = OneByOne {
         left: replies,
+        given: Transcript::none(),
         reads: 0,
     };
     ended_over(alloc, source, ToWrite::new(sent))
@@ -188,6 +196,7 @@ fn ended_by(alloc: Global, reply: &str) -> Result<End, Fail> {
     replies.extend_from_slice(reply.as_bytes())?;
     let source = OneByOne {
         left: &replies,
+        given: Transcript::none(),
         reads: 0,
     };
     let mut room = [0u8; FIRST_TWO - 1];

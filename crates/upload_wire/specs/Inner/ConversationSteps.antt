@@ -1,11 +1,11 @@
 -- What the parts of a served connection do.
 use Rattle.std.specs.Prelude.{◌≡◌, ℕ, ◌+◌, ◌<◌, true, false, List, ◌++◌, Option, Some, None}
-use Rattle.std.specs.Io.KnownBytes.{Consumes}
 use Rattle.upload_service.specs.declared.answer.Answer.{Answer}
 use Rattle.http_wire.specs.declared.fault.Bad.{Bad}
 use Rattle.http_wire.specs.HeadText.{bad}
 use Rattle.upload_wire.specs.ReplyText.{reply}
 use Rattle.http_wire.specs.States.{SourceState, SinkState}
+use Rattle.http_wire.specs.Reading.{Gives}
 use Rattle.http_wire.specs.Writing.{TookFront}
 use Rattle.upload_wire.specs.Conversation.{Moves, Exchange, IsKept, HandedOn, Standing, stand, EndsWith, ReadsFail, max_requests, last_style}
 use Rattle.upload_wire.specs.ServerState.{ServerState}
@@ -39,7 +39,7 @@ standing server source desk sink = stand server.answered server.held source desk
 -- The next request was read and answered, its reply was handed on, and the connection goes on.
 pub record GoesOn {D : Type 0} (step : Moves D) (max_body : ℕ) (old new : Standing D) : Type 0 where
   pub given : List ℕ
-  pub consumed : Consumes old.source.remaining new.source.remaining given
+  pub gives : Gives old.source new.source given
   pub unfailed : new.source.failed_reads ≡ old.source.failed_reads
   pub exchange : Exchange
   pub read : old.held ++ given ≡ exchange.message ++ new.held
@@ -52,6 +52,6 @@ pub record GoesOn {D : Type 0} (step : Moves D) (max_body : ℕ) (old new : Stan
 -- What came next in the input ended the connection.
 pub record Stops {D : Type 0} (step : Moves D) (max_body : ℕ) (old new : Standing D) (end : ConnEnd) : Type 0 where
   pub given : List ℕ
-  pub consumed : Consumes old.source.remaining new.source.remaining given
+  pub gives : Gives old.source new.source given
   pub reads : ReadsFail end old.source.failed_reads new.source.failed_reads
   pub ended : EndsWith step max_body (stand old.answered (old.held ++ given) new.source old.desk old.sink) new.desk new.sink end

@@ -1,9 +1,9 @@
 -- What the functions find that read a request.
 use Rattle.std.specs.Prelude.{◌≡◌, ℕ, List, codes, bytes_eq, Result, Ok, Err}
-use Rattle.std.specs.Io.KnownBytes.{IsAtEnd}
 use Rattle.httparse.specs.Spans.{span_bytes}
 use Rattle.upload_service.specs.declared.ask.Ask.{Ask}
 use Rattle.http_wire.specs.States.{SourceState}
+use Rattle.http_wire.specs.Reading.{HasEnded}
 use Rattle.http_wire.specs.Fields.{values_of, keeps_connection}
 use Rattle.http_wire.specs.Body.{framing_of}
 use Rattle.upload_wire.specs.Target.{Asks, extent_of, with_body}
@@ -50,7 +50,7 @@ abbrev pub FindsRequest : Described → SourceState → List ℕ → SourceState
 FindsRequest d old held new rest (Ok (Request ask style)) = TakesRequest d old held new rest ask style
 FindsRequest d old held new rest (Ok Over) = ⊥
 FindsRequest d old held new rest (Ok (nexts.Bad why)) = RefusesBodyText d.framing old held new why
-FindsRequest d old held new rest (Err Fault.Truncated) = CutsBody d.framing old held new × IsAtEnd new.remaining
+FindsRequest d old held new rest (Err Fault.Truncated) = CutsBody d.framing old held new × HasEnded new
 FindsRequest d old held new rest (Err Fault.Read) = CutsBody d.framing old held new
 FindsRequest d old held new rest (Err Fault.NoMemory) = MovedNone old held new
 FindsRequest d old held new rest (Err Fault.Ended) = ⊥

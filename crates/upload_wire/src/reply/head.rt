@@ -4,11 +4,11 @@ ghost use Rattle.http_wire.specs.Inner.Gathering.{Puts};
 ghost use Rattle.http_wire.specs.HeadText.{print_field};
 ghost use Rattle.upload_wire.specs.ReplyText.{allow_fields, blob_location, error_fields, range_fields, reply_head, reply_of, upload_fields, upload_location};
 
-use super::error::ErrorCode;
-use super::refusal::{methods, refusal_code, refusal_status};
+use super::refusal::methods;
 use http_wire::{ByteSink, Gather, Status};
 use upload_names::{BlobDigest, RepoName, UploadRef};
 use upload_service::{Answer, Refusal};
+use upload_texts::{ErrorCode, refusal_code, refusal_status};
 
 /// Adds the place of an upload.
 fn put_upload_location<W: ByteSink>(

@@ -4,13 +4,14 @@
 use super::{Told, as_told};
 use crate::answers::{Said, answer_of};
 use crate::expect::{holds, same, same_bytes};
+use http_wire::ToWrite;
 use memory_ends::MemorySource;
 use std::alloc::{AllocError, Global};
 use std::process::Abort;
 use std::test::Fail;
+use upload_client::{AnswerReader, Heard, HeardFault, Transport, WireTransport, heard_of};
 use upload_names::{Algorithm, UploadRef};
 use upload_service::{Answer, Ask, Refusal};
-use upload_wire::{AnswerReader, Heard, HeardFault, ToWrite, Transport, WireTransport, heard_of};
 
 /// A reader of the text. One growth may be refused.
 fn reader_for<'a>(

@@ -6,13 +6,14 @@ use super::{KEPT, counted};
 use crate::answers::lib_a;
 use crate::content::content;
 use crate::expect::{holds, same, same_bytes};
+use http_wire::{ByteSink, Failed, Transcript};
 use memory_ends::MemorySink;
 use std::alloc::{AllocError, Global};
 use std::process::Abort;
 use std::test::Fail;
 use upload_names::{BlobDigest, Bytes, UploadRef};
 use upload_service::{Answer, Ask, Extent, Limits, Service};
-use upload_wire::{ByteSink, Failed, write_reply};
+use upload_wire::write_reply;
 
 const LIMITS: Limits = Limits {
     max_blob: 1_000_000,
@@ -170,6 +171,7 @@ fn parts_are_cut_round_each_of_their_ends(rt: HostRuntime) -> Result<(), Fail> {
 #[derive(Drop)]
 struct Stumbling {
     items: Vec<u8>,
+    taken: Transcript,
     before: u64,
     writes: u64,
     failed: u64,
@@ -179,6 +181,7 @@ impl ByteSink for Stumbling {
     ghost use Rattle.std.specs.Prelude.{Some, true};
 
     ghost state = { λ s. record {
+      taken = s.taken.bytes;
       contents = Some s.items.items;
       writes = s.writes;
       failed_writes = s.failed;
@@ -192,6 +195,7 @@ impl ByteSink for Stumbling {
             self.failed = self.failed.saturating_add(1);
             return Err(Failed);
         }
+        self.taken = self.taken.and(buf);
         Ok(buf.len())
     }
 
@@ -205,6 +209,7 @@ impl ByteSink for Stumbling {
 fn stops_behind(rt: &impl Abort, alloc: Global, fetched: &Fetched, before: u64) {
     let mut writer = Stumbling {
         items: Vec::new(alloc),
+        taken: Transcript::none(),
         before,
         writes: 0,
         failed: 0,

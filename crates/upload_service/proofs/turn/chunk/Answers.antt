@@ -10,7 +10,7 @@ use Rattle.upload_service.proofs.Serving.{does, lacks, none_named, chunk_turned_
 use Rattle.upload_service.proofs.turn.chunk.Goals as goal
 
 pub returns-in_default : goal.returns-in_default
-returns-in_default c = does _ _ _ (refused refusals.NoUpload) _ _ (none_named c.args.limits.max_blob _ c.args.name _ c.in_default.ensures.none) refl refl
+returns-in_default c = does _ _ _ (refused refusals.NoUpload) _ _ (none_named c.args.limits.max_blob _ c.args.name c.args.at _ c.in_default.ensures.none) refl refl
 
 pub returns-in-Misplaced : goal.returns-in-Misplaced
 returns-in-Misplaced c =
@@ -41,8 +41,8 @@ append-requires-clause-fits c = λ session e.
 pub overflow_add-next : goal.overflow_add-next
 overflow_add-next c = omega (arith, c.in-Fits.ensures.small refl)
 
-pub returns-in-Ok : goal.returns-in-Ok
-returns-in-Ok c =
+pub returns-in-Ok-append : goal.returns-in-Ok-append
+returns-in-Ok-append c =
     let session : Session = session_of c.in-Some.session.now in
     let more : c.len-next.result + length c.as_slice.result.now ≡ length (session.received ++ c.args.body) =
     (λ i. c.len-next.ensures i + length (c.as_slice.ensures i)) ∙ sym (length-append session.received c.args.body) in
@@ -51,7 +51,7 @@ returns-in-Ok c =
     c.in-Some.ensures.awake c.in-Some.ensures.named c.len-next.ensures (c.in-Fits.ensures.verdict c.args.name c.args.at c.args.body (ap length (sym c.as_slice.ensures))))
     (ap (answers.Taken c.args.name c.args.at) more)
     (ap (λ t. state_of c.args.limits (record c.args.tables.now { sessions = t }))
-    (c.in-Ok.ensures.ok session c.in-Some.ensures.found
+    (c.in-Ok-append.ensures.ok session c.in-Some.ensures.found
     ∙ (λ i. map.insert c.args.tables.now.sessions c.args.at (record { name = c.in-Some.ensures.named i; received = session.received ++ c.args.body; seen = c.args.now }))))
 
 pub returns-in-Err : goal.returns-in-Err
@@ -62,3 +62,11 @@ returns-in-Err c =
     c.in-Some.ensures.awake c.in-Some.ensures.named c.len-next.ensures (c.in-Fits.ensures.verdict c.args.name c.args.at c.args.body (ap length (sym c.as_slice.ensures))))
     refl refl
     (ap (λ t. state_of c.args.limits (record c.args.tables.now { sessions = t })) c.in-Err.ensures.err)
+
+pub returns-in_default-renew : goal.returns-in_default-renew
+returns-in_default-renew c =
+    let session : Session = session_of c.in-Some.session.now in
+    lacks _ _ _ (Takes c.args.name c.args.at (session.received ++ c.args.body)) _ _
+    (chunk_fits c.args.limits.max_blob _ session c.args.name c.args.at c.args.range c.args.body c.len-next.result
+    c.in-Some.ensures.awake c.in-Some.ensures.named c.len-next.ensures (c.in-Fits.ensures.verdict c.args.name c.args.at c.args.body (ap length (sym c.as_slice.ensures))))
+    refl refl refl

@@ -12,7 +12,7 @@ use Rattle.upload_service.proofs.Serving.{does, comes_by, none_named, close_turn
 use Rattle.upload_service.proofs.turn.close.Goals as goal
 
 pub returns-in_default : goal.returns-in_default
-returns-in_default c = does _ _ _ (refused refusals.NoUpload) _ _ (none_named c.args.limits.max_blob _ c.args.name _ c.in_default.ensures.none) refl refl
+returns-in_default c = does _ _ _ (refused refusals.NoUpload) _ _ (none_named c.args.limits.max_blob _ c.args.name c.args.at _ c.in_default.ensures.none) refl refl
 
 pub returns-in-Misplaced : goal.returns-in-Misplaced
 returns-in-Misplaced c =

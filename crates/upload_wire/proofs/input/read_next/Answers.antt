@@ -40,7 +40,7 @@ returns-in_err-parsed-clause-found g c =
     let gave = c.in_err-parsed.ensures.gave in
     rw (p.1, p.2) (record {
       given = gave.given;
-      consumed = gave.consumed;
+      gives = gave.gives;
       found = head_fault_next c.args.max_body (c.args.input.now.buffer.now ++ gave.given) c.read_head.new.input.buffer.now (g.S.ByteSource.state c.read_head.new.input.source.now) c.in_err-parsed.field-0.0
           (subst (λ t. FindsHead request_spans t (g.S.ByteSource.state c.read_head.new.input.source.now) (Err c.in_err-parsed.field-0.0)) gave.joined c.in_err-parsed.ensures.found);
     })

@@ -23,7 +23,7 @@ returns-clause-gave g c =
     with_items_is x.bytes c.read_behind.new.bytes (omega (arith, c.deref_mut.ensures.len, c.read_behind.auto.bytes)) in
     let gave = c.in_ok-count.ensures.gave in record {
       given = gave.given;
-      consumed = gave.consumed;
+      gives = gave.gives;
       joined = ap (λ t. slice_range t x.start (x.end + c.in_ok-count.count)) items
           ∙ window_grows x c.args.self.now c.read_behind.new.bytes gave.given c.in_ok-count.count at (gave.joined ∙ ap (λ t. take x.end t ++ gave.given) value);
     }
@@ -45,7 +45,7 @@ returns-in_err-count-clause-gave g c =
     with_items_is x.bytes c.read_behind.new.bytes (omega (arith, c.deref_mut.ensures.len, c.read_behind.auto.bytes)) in
     let gave = c.in_err-count.ensures.gave in record {
       given = gave.given;
-      consumed = gave.consumed;
+      gives = gave.gives;
       joined = ap (λ t. slice_range t x.start x.end) items ∙ ap (λ n. slice_range c.read_behind.new.bytes x.start n) (omega arith)
           ∙ window_grows x c.args.self.now c.read_behind.new.bytes gave.given 0 at (gave.joined ∙ ap (λ t. take x.end t ++ gave.given) value);
     }

@@ -1,38 +1,45 @@
-use Rattle.std.proofs.Common.{◌≡◌, arith, ap, sym, ◌∙◌, [], ◌∷◌, ◌++◌}
-use Rattle.upload_intake.proofs.KeeperMoves.{served_left, served_right, finished_left, finished_right, logged, grows_one}
-use Rattle.upload_intake.specs.Log.{steps_of, exchanges_of, last_moment}
+use Rattle.std.proofs.Common.{arith, refl, ap, sym, ◌∙◌, [], ◌∷◌, ◌++◌}
+use Rattle.std.proofs.Math.Seq.{map-set_same}
+use Rattle.crossbeam_channel.specs.Ends.{sends_on, receives_on}
+use Rattle.upload_intake.proofs.KeeperMoves.{served_seat, finished_seat, logged, grows_one}
+use Rattle.upload_intake.specs.Log.{exchanges_of, last_moment}
+use Rattle.upload_intake.specs.Passes.{line_of}
+use Rattle.upload_intake.specs.Replies.{replies_on}
 use Rattle.upload_intake.specs.Served.{KeeperState}
-use Rattle.upload_intake.proofs.keeper.Keeper.turn.Goals.{in-Left, in-Right}
 use Rattle.upload_intake.proofs.keeper.Keeper.turn.Goals as goal
 
-pub invariant_of-self-in-Left : goal.invariant_of-self-in-Left
-invariant_of-self-in-Left g c = served_left _ _ _ _ _ _ _ _ _ _ _ c.self.invariant _ c.in-Some.ensures.taken _ _ _ _ _ _ c.in-Job.is (omega arith) c.step-answer.ensures.turn c.saturating_add-self-inside.ensures c.in-Left.is _ c.reply.ensures.sent _ c.reply.ensures.done _
+pub invariant_of-self-in-Job : goal.invariant_of-self-in-Job
+invariant_of-self-in-Job g c = served_seat _ _ _ _ _ _ _ _ c.self.invariant _ c.in-Some.ensures.taken _ _ _ _ _ _ c.in-Job.is (omega arith) c.step-answer.ensures.turn c.saturating_add-self-inside.ensures
+    _ _ c.index_mut.ensures.value c.reply.ensures.sent c.reply.ensures.done _ refl _
     (logged _ _ _ _ c.and-self-inside.ensures
-    (λ i. record { side = c.in-Some.item.side; exchange = record { ask = c.of-asked.ensures i; secret = c.in-Job.secret; now = c.max-self-inside.result; answer = c.of.ensures i } }))
+    (λ i. record { seat = c.in-Some.item.seat; exchange = record { ask = c.of-asked.ensures i; secret = c.in-Job.secret; now = c.max-self-inside.result; answer = c.of.ensures i } }))
 
-pub invariant_of-self-in-Right : goal.invariant_of-self-in-Right
-invariant_of-self-in-Right g c = served_right _ _ _ _ _ _ _ _ _ _ _ c.self.invariant _ c.in-Some.ensures.taken _ _ _ _ _ _ c.in-Job.is (omega arith) c.step-answer.ensures.turn c.saturating_add-self-inside.ensures c.in-Right.is _ c.reply-in-Right.ensures.sent _ c.reply-in-Right.ensures.done _
-    (logged _ _ _ _ c.and-self-inside.ensures
-    (λ i. record { side = c.in-Some.item.side; exchange = record { ask = c.of-asked.ensures i; secret = c.in-Job.secret; now = c.max-self-inside.result; answer = c.of.ensures i } }))
+pub invariant_of-self-in-Finish : goal.invariant_of-self-in-Finish
+invariant_of-self-in-Finish g c = finished_seat _ _ _ _ _ _ _ _ c.self.invariant _ c.in-Some.ensures.taken c.in-Finish.is _ _ c.index_mut-in-Finish.ensures.value refl _ refl
 
-pub invariant_of-self-in-Left-side : goal.invariant_of-self-in-Left-side
-invariant_of-self-in-Left-side g c = finished_left _ _ _ _ _ _ _ _ _ _ _ c.self.invariant _ c.in-Some.ensures.taken c.in-Finish.is c.in-Left-side.is
+pub returns-in-Job-clause-same : goal.returns-in-Job-clause-same
+returns-in-Job-clause-same g c = record {
+  jobs = ap (λ r. line_of (receives_on r)) c.take.ensures.line ∙ ap (λ (k : KeeperState). k.jobs) c.self.view_is;
+  replies = map-set_same replies_on c.self.inside.lines.items c.in-Some.item.seat c.reply.new.self c.index_mut.result.now (ap (λ s. line_of (sends_on s)) c.reply.ensures.line ∙ ap replies_on c.index_mut.ensures.value)
+      ∙ ap (λ (k : KeeperState). k.replies) c.self.view_is;
+  start = ap (λ (k : KeeperState). k.start) c.self.view_is;
+}
 
-pub invariant_of-self-in-Right-side : goal.invariant_of-self-in-Right-side
-invariant_of-self-in-Right-side g c = finished_right _ _ _ _ _ _ _ _ _ _ _ c.self.invariant _ c.in-Some.ensures.taken c.in-Finish.is c.in-Right-side.is
+pub returns-in-Finish-clause-same : goal.returns-in-Finish-clause-same
+returns-in-Finish-clause-same g c = record {
+  jobs = ap (λ r. line_of (receives_on r)) c.take.ensures.line ∙ ap (λ (k : KeeperState). k.jobs) c.self.view_is;
+  replies = map-set_same replies_on c.self.inside.lines.items c.in-Some.item.seat _ c.index_mut-in-Finish.result.now (ap replies_on c.index_mut-in-Finish.ensures.value)
+      ∙ ap (λ (k : KeeperState). k.replies) c.self.view_is;
+  start = ap (λ (k : KeeperState). k.start) c.self.view_is;
+}
 
-pub returns-after-side-clause-grows : goal.returns-after-side-clause-grows
-returns-after-side-clause-grows g c =
+pub returns-in-Job-clause-grows : goal.returns-in-Job-clause-grows
+returns-in-Job-clause-grows g c =
     let grown = logged _ _ _ _ c.and-self-inside.ensures
-    (λ i. record { side = c.in-Some.item.side; exchange = record { ask = c.of-asked.ensures i; secret = c.in-Job.secret; now = c.max-self-inside.result; answer = c.of.ensures i } }) in
-    let before = ap (λ (k : KeeperState). k.log) c.self.view_is in
-    let now_is : c.match-side.self.log ≡ steps_of c.and-self-inside.result.items = elim c.match-side.branch [
-      | in-Left w ↦ ap (λ (k : KeeperState). k.log) w.self-is
-      | in-Right w ↦ ap (λ (k : KeeperState). k.log) w.self-is
-    ] in
-    grows_one g.M.Moments.tells c.args.self.now c.match-side.self c.args.moments.now c.now.new.self c.self.inside.now c.now.result
-    (record { side = c.in-Some.item.side; exchange = record { ask = c.in-Job.ask; secret = c.in-Job.secret; now = c.max-self-inside.result; answer = c.step-answer.result } })
-    (now_is ∙ grown ∙ ap (λ l. l ++ record { side = c.in-Some.item.side; exchange = record { ask = c.in-Job.ask; secret = c.in-Job.secret; now = c.max-self-inside.result; answer = c.step-answer.result } } ∷ []) before)
+    (λ i. record { seat = c.in-Some.item.seat; exchange = record { ask = c.of-asked.ensures i; secret = c.in-Job.secret; now = c.max-self-inside.result; answer = c.of.ensures i } }) in
+    grows_one g.M.Moments.tells c.args.self.now _ c.args.moments.now c.now.new.self c.self.inside.now c.now.result
+    (record { seat = c.in-Some.item.seat; exchange = record { ask = c.in-Job.ask; secret = c.in-Job.secret; now = c.max-self-inside.result; answer = c.step-answer.result } })
+    (grown ∙ ap (λ l. l ++ record { seat = c.in-Some.item.seat; exchange = record { ask = c.in-Job.ask; secret = c.in-Job.secret; now = c.max-self-inside.result; answer = c.step-answer.result } } ∷ []) (ap (λ (k : KeeperState). k.log) c.self.view_is))
     (sym c.self.invariant.keeps.last ∙ ap (λ (k : KeeperState). last_moment 0 (exchanges_of k.log)) c.self.view_is)
     c.now.ensures
     c.max-self-inside.ensures

@@ -17,7 +17,7 @@ returns-in-Some g c = (
       (ap (λ s. line_of (sends_on s)) c.send.ensures.line)
       (ap (λ s. line_of (receives_on s)) c.take.ensures.line)
       (one_more_sent _ _ _ _ c.self.invariant _ _ _ c.in_default.ensures.sent)
-      (ap (λ v. whats v.taken) c.in-Some.ensures.taken ∙ whats_more _ _)
+      (ap (λ v. whats v.taken) c.in-Some.ensures.taken.0 ∙ whats_more _ _)
       (ap (λ o. o.gone) c.self.view_is),
 )
 

@@ -1,7 +1,7 @@
 use Rattle.std.specs.Prelude.{Option}
 use Rattle.std.specs.Vec.Iter.{into_iter_len, into_iter_items}
 use Rattle.upload_service.specs.declared.ask.Ask.{Ask}
-use Rattle.upload_wire.specs.declared.client.heard.Heard.{Heard}
+use Rattle.upload_client.specs.declared.heard.Heard.{Heard}
 use Rattle.upload_push.specs.World.{World, Asked, world_of}
 use Rattle.upload_push.proofs.world.LossyWorld.next_fate.Given as goal
 

@@ -1,6 +1,6 @@
 use Rattle.std.proofs.Common.{◌∙◌, ◌++◌, ap, subst, sym}
 use Rattle.std.specs.Prelude.{codes, flat_map}
-use Rattle.upload_wire.specs.declared.reply.error.ErrorCode.TheVariants.{BlobUploadInvalid}
+use Rattle.upload_texts.specs.declared.error.ErrorCode.TheVariants.{BlobUploadInvalid}
 use Rattle.http_wire.specs.HeadText.{length_field, print_field}
 use Rattle.upload_wire.specs.ReplyText.{allow_fields, blob_location, error_fields, reply_of, upload_fields, upload_location}
 use Rattle.upload_wire.proofs.ReplyLemmas.{fields_and, fields_both, found_text, two_fields}

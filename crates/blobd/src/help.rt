@@ -1,0 +1,35 @@
+//! What `blobd --help` and `blobd --version` print.
+
+/// The program's name, and its version, which is that of the file VERSION.
+pub const VERSION: &str = "blobd 0.3.0";
+
+/// The commands, each with its words and an example; and the variables of the environment.
+pub const HELP: &str = "\
+blobd: the blob upload part of an image registry, and a client that pushes files to it
+
+  blobd serve ADDR [COUNT]   listens at ADDR. Each worker takes COUNT connections (1 to
+                             1,000,000), or all that come. Blobs stay in memory.
+                               blobd serve 127.0.0.1:5000
+
+  blobd push ADDR NAME FILE [CHUNK]
+                             pushes FILE into the repository NAME of the server at ADDR,
+                             in chunks of at most CHUNK bytes (1 to 2147483648, as 64K,
+                             16M or 1G too; 16M if none is given), unless NAME has it already.
+                               blobd push 127.0.0.1:5000 lib/a file.tar 16M
+
+  blobd once                 serves one connection, standard input to standard output.
+                               blobd once < requests > replies
+
+  blobd --help               prints this.
+  blobd --version            prints the version.
+
+ADDR is an IP address and a port, as 127.0.0.1:5000 or [::1]:5000.
+
+In the environment:
+  BLOBD_WORKERS=N            serve has N workers (1 to 256), which serve a connection each;
+                             not set: 2.
+  BLOBD_LOG=1                serve writes a line for each request to standard error; 0, or
+                             not set: it doesn't.
+
+Exit status: 0 done, 1 refused, 2 no such command, 3 a fault. Standard output has one line
+that says which, standard error says more.";

@@ -1,0 +1,4 @@
+pub mod Closing
+pub mod Placing
+pub mod Seating
+pub mod Serving

@@ -1,0 +1,366 @@
+-- What the marks of a seat say of its steps.
+use Rattle.std.proofs.Common.{◌≡◌, ℕ, ◌<◌, ◌⊎◌, Bool, true, false, List, [], ◌∷◌, ◌++◌, length, map, filter, refl, sym, ap, subst, ◌∙◌, append-nil, append_assoc, inl, inr, Option, Some, None, cond}
+use Rattle.std.specs.Prelude.{⊤, ◌==◌}
+use Rattle.std.specs.List.{AllByRecursion, flat_map}
+use Rattle.std.proofs.Common.{⊎_elim}
+use Rattle.std.proofs.lemmas.Bool.{eq-eqb}
+use Rattle.std.proofs.lemmas.List.{map-append}
+use Rattle.upload_service.specs.Machine.{State, AreLawful, IsLawful, Turn}
+use Rattle.upload_service.specs.declared.ask.Ask.{Ask}
+use Rattle.upload_service.specs.declared.ask.Ask.TheVariants as asked
+use Rattle.upload_service.specs.declared.answer.Answer.{Answer}
+use Rattle.http_wire.specs.States.{SourceState, SinkState}
+use Rattle.upload_wire.specs.Conversation.{Moves, Exchange, EndsWith, stand}
+use Rattle.upload_wire.specs.ConnectionRuns.{unanswered_last}
+use Rattle.upload_wire.specs.declared.connection.ConnEnd.{ConnEnd}
+use Rattle.upload_wire.specs.declared.connection.ConnEnd.TheVariants.{Clean, AfterClose, AfterBad, TooMany, DeskGone, Fault}
+use Rattle.upload_wire.specs.declared.connection.ConnFault.TheVariants as Conn
+use Rattle.upload_client.specs.declared.heard.Heard.{Heard}
+use Rattle.upload_intake.specs.Log.{Step}
+use Rattle.upload_intake.specs.Seats.{SeatState}
+use Rattle.upload_intake.specs.ServedPool.{of_seat, asked_and_answered, read_and_replied, asks}
+use Rattle.upload_intake.specs.Transcripts.{GivesUnused}
+use Rattle.upload_intake.specs.Working.{Means, Talk, Serves, steps, answered_on, unanswered_on, all_answered, all_unanswered}
+use Rattle.upload_intake.proofs.Working.{behind}
+use Rattle.upload_push.specs.Runs.{IsHeardOf}
+use Rattle.upload_push.specs.Slices.{Push, IsSound, IsSoundAsk}
+use Rattle.upload_push.specs.Slices as push
+use Rattle.wire_laws.specs.Joined.{Asked, IsAudible, IsNoGet, IsOneOf, Says, AreUnanswered, AreJoined}
+use Rattle.wire_laws.specs.WrittenAsks.{HasLawfulParts, written_style}
+use Rattle.wire_laws.specs.WrittenExchanges.{HasSize, MayBeAsked}
+use Rattle.wire_laws.specs.WrittenReplies.{FitsMethod}
+use Rattle.wire_laws.proofs.ShortAnswers.{short_answers}
+use Rattle.wire_laws.proofs.WrittenExchanges.{answers_heard}
+use Rattle.wire_laws.proofs.JoinedEnds.{connections_joined}
+use Rattle.end_to_end.specs.Marks.{Mark, other, heard, unheard, mark_of, Marked, steps_in, Agrees, IsOwn}
+use Rattle.end_to_end.specs.Network.{unanswered_marks, marks_on, IsAskOf, at_seat, Whose, IsWhose, marks_of}
+
+-- ---- requests and marks, place by place
+
+-- a request that a worker read, and its answer, if it has one
+abbrev pub Item : Type 0
+Item = Ask × Option Answer
+
+abbrev pub answered_item : Exchange → Item
+answered_item y = (y.ask, Some y.answer)
+
+abbrev pub unanswered_item : Ask → Item
+unanswered_item u = (u, None)
+
+abbrev pub items : List Exchange → List Ask → List Item
+items ys us = map answered_item ys ++ map unanswered_item us
+
+-- a mark fits a request
+abbrev pub Fits : Item → Mark → Type 0
+Fits i other = ⊤
+Fits (ask, Some answer) (heard a what) = (ask ≡ a) × IsHeardOf answer (Some what)
+Fits (ask, None) (heard a what) = ⊥
+Fits (ask, answer) (unheard a) = ask ≡ a
+
+abbrev pub AllFit : List Item → List Mark → Type 0
+AllFit [] [] = ⊤
+AllFit (i ∷ is) (k ∷ ks) = Fits i k × AllFit is ks
+AllFit [] (k ∷ ks) = ⊥
+AllFit (i ∷ is) [] = ⊥
+
+both_fit : (is js : List Item) (ks ls : List Mark) → AllFit is ks → AllFit js ls → AllFit (is ++ js) (ks ++ ls)
+both_fit [] js [] ls a b = b
+both_fit [] js (k ∷ ks) ls a b = absurd a
+both_fit (i ∷ is) js [] ls a b = absurd a
+both_fit (i ∷ is) js (k ∷ ks) ls a b = (a.0, both_fit is js ks ls a.1 b)
+
+unanswered_fits : (u ask : Ask) (told : Option Heard) → u ≡ ask → told ≡ None → Fits (unanswered_item u) (mark_of ask told)
+unanswered_fits u ask None is none = is
+unanswered_fits u ask (Some what) is none = absurd (cc none)
+
+answered_fits : (ask : Ask) (answer : Answer) (asked : Ask) (told : Option Heard) → ask ≡ asked → Says answer told → Fits (ask, Some answer) (mark_of asked told)
+answered_fits ask answer asked None is says = is
+answered_fits ask answer asked (Some what) is says = (is, says)
+
+unanswered_fit : (xs : List Asked) (us : List Ask) → AreUnanswered xs us → AllFit (map unanswered_item us) (unanswered_marks xs us)
+unanswered_fit xs [] joined = tt
+unanswered_fit [] (u ∷ us) joined = absurd joined
+unanswered_fit (x ∷ xs) (u ∷ us) joined = (unanswered_fits u x.ask x.heard joined.0 joined.1, unanswered_fit xs us joined.2)
+
+joined_fit : (xs : List Asked) (ys : List Exchange) (us : List Ask) → AreJoined xs ys us → AllFit (items ys us) (marks_on xs ys us)
+joined_fit xs [] us joined = unanswered_fit xs us joined
+joined_fit [] (y ∷ ys) us joined = absurd joined
+joined_fit (x ∷ xs) (y ∷ ys) us joined = (answered_fits y.ask y.answer x.ask x.heard joined.0 joined.1, joined_fit xs ys us joined.2)
+
+others_unanswered_fit : (us : List Ask) → AllFit (map unanswered_item us) (unanswered_marks [] us)
+others_unanswered_fit [] = tt
+others_unanswered_fit (u ∷ us) = (tt, others_unanswered_fit us)
+
+others_fit : (ys : List Exchange) (us : List Ask) → AllFit (items ys us) (marks_on [] ys us)
+others_fit [] us = others_unanswered_fit us
+others_fit (y ∷ ys) us = (tt, others_fit ys us)
+
+-- ---- marks of the push's own requests
+
+abbrev pub IsOwnMark : Push → Mark → Type 0
+IsOwnMark p other = ⊤
+IsOwnMark p (heard ask what) = IsOwn p ask
+IsOwnMark p (unheard ask) = IsOwn p ask
+
+own_mark : (p : Push) (ask : Ask) (told : Option Heard) → IsOwn p ask → IsOwnMark p (mark_of ask told)
+own_mark p ask None own = own
+own_mark p ask (Some what) own = own
+
+own_unanswered : (p : Push) (xs : List Asked) (us : List Ask) → AllByRecursion (λ x. IsOwn p x.ask) xs → AllByRecursion (IsOwnMark p) (unanswered_marks xs us)
+own_unanswered p xs [] own = tt
+own_unanswered p [] (u ∷ us) own = (tt, own_unanswered p [] us tt)
+own_unanswered p (x ∷ xs) (u ∷ us) own = (own_mark p x.ask x.heard own.0, own_unanswered p xs us own.1)
+
+own_marks : (p : Push) (xs : List Asked) (ys : List Exchange) (us : List Ask) → AllByRecursion (λ x. IsOwn p x.ask) xs → AllByRecursion (IsOwnMark p) (marks_on xs ys us)
+own_marks p xs [] us own = own_unanswered p xs us own
+own_marks p [] (y ∷ ys) us own = (tt, own_marks p [] ys us tt)
+own_marks p (x ∷ xs) (y ∷ ys) us own = (own_mark p x.ask x.heard own.0, own_marks p xs ys us own.1)
+
+-- a push asks for no blob by a GET
+sound_no_get : (p : Push) (log : List push.Exchange) (ask : Ask) → IsSoundAsk p log ask → IsNoGet ask
+sound_no_get p log (asked.Opening name) sound = tt
+sound_no_get p log (asked.Has name digest true) sound = tt
+sound_no_get p log (asked.Has name digest false) sound = let is = sound.2 in absurd (cc)
+sound_no_get p log (asked.Status name at) sound = tt
+sound_no_get p log (asked.Chunk name at range body) sound = tt
+sound_no_get p log (asked.Close name at range digest body) sound = tt
+sound_no_get p log asked.Base sound = tt
+sound_no_get p log (asked.Single name digest body) sound = tt
+sound_no_get p log (asked.Mount name digest source) sound = tt
+sound_no_get p log (asked.Refused refusal) sound = tt
+
+-- a request of a push is sound behind those before it
+sound_behind : (p : Push) (later earlier : List push.Exchange) (e : push.Exchange) → IsSound p (later ++ e ∷ earlier) → IsSoundAsk p earlier e.ask
+sound_behind p [] earlier e sound = sound.0
+sound_behind p (x ∷ later) earlier e sound = sound_behind p later earlier e sound.1
+
+own_ask : (p : Push) (log : List push.Exchange) (ask : Ask) → IsSound p log → IsAskOf log ask → IsOwn p ask
+own_ask p log ask sound is = (is.earlier, subst (IsSoundAsk p is.earlier) is.same (sound_behind p is.later is.earlier is.at (subst (IsSound p) is.split sound)))
+
+own_asks : (p : Push) (log : List push.Exchange) (xs : List Asked) → IsSound p log → AllByRecursion (λ x. IsAskOf log x.ask) xs → AllByRecursion (λ x. IsOwn p x.ask) xs
+own_asks p log [] sound all = tt
+own_asks p log (x ∷ xs) sound all = (own_ask p log x.ask sound all.0, own_asks p log xs sound all.1)
+
+all_both : {A : Type 0} (P : A → Type 0) (xs ys : List A) → AllByRecursion P xs → AllByRecursion P ys → AllByRecursion P (xs ++ ys)
+all_both P [] ys a b = b
+all_both P (x ∷ xs) ys a b = (a.0, all_both P xs ys a.1 b)
+
+pub all_first : {A : Type 0} (P : A → Type 0) (xs ys : List A) → AllByRecursion P (xs ++ ys) → AllByRecursion P xs
+all_first P [] ys all = tt
+all_first P (x ∷ xs) ys all = (all.0, all_first P xs ys all.1)
+
+all_second : {A : Type 0} (P : A → Type 0) (xs ys : List A) → AllByRecursion P (xs ++ ys) → AllByRecursion P ys
+all_second P [] ys all = all
+all_second P (x ∷ xs) ys all = all_second P xs ys all.1
+
+-- ---- what a service answered can be heard
+
+-- the service, in some lawful state, answered the ask so
+pub record IsAnswered (ask : Ask) (answer : Answer) : Type 0 where
+  pub state : State
+  pub secret : List ℕ
+  pub now : ℕ
+  pub after : State
+  pub lawful : IsLawful state
+  pub limits : AreLawful state.limits
+  pub turn : Turn state ask secret now answer after
+  pub sized : HasSize answer
+
+-- what is known of an ask of a connection
+record IsKnown (ask : Ask) : Type 0 where
+  parts : HasLawfulParts ask
+  no_get : IsNoGet ask
+
+answer_audible : (y : Exchange) → IsAnswered y.ask y.answer → IsKnown y.ask → y.style ≡ written_style y.ask → IsAudible y
+answer_audible y is known style_is =
+    let fits = answers_heard is.state is.lawful is.limits is.secret is.now y.ask y.answer is.after known.parts is.turn is.sized in
+    record {
+      values = fits.0;
+      fits = subst (λ s. FitsMethod y.answer s.head) (sym style_is) fits.1;
+      short = short_answers is.state is.secret is.now y.ask y.answer is.after known.no_get is.turn;
+    }
+
+known_of : (p : Push) (max : ℕ) (host : List ℕ) (xs : List Asked) (ask : Ask) → AllByRecursion (λ x. MayBeAsked max x.ask host) xs → AllByRecursion (λ x. IsOwn p x.ask) xs → IsOneOf xs ask → IsKnown ask
+known_of p max host [] ask may own one = absurd one
+known_of p max host (x ∷ xs) ask may own (inl is) =
+    subst IsKnown (sym is) (record { parts = may.0.parts; no_get = sound_no_get p own.0.0 x.ask own.0.1 })
+known_of p max host (x ∷ xs) ask may own (inr one) = known_of p max host xs ask may.1 own.1 one
+
+abbrev pub AreAnswered : List Exchange → Type 0
+AreAnswered ys = AllByRecursion (λ (y : Exchange). IsAnswered y.ask y.answer) ys
+
+all_audible : (p : Push) (max : ℕ) (host : List ℕ) (xs : List Asked) (ys : List Exchange) → AllByRecursion (λ x. MayBeAsked max x.ask host) xs → AllByRecursion (λ x. IsOwn p x.ask) xs
+    → AreAnswered ys → AllByRecursion (λ y. IsOneOf xs y.ask → y.style ≡ written_style y.ask → IsAudible y) ys
+all_audible p max host xs [] may own is = tt
+all_audible p max host xs (y ∷ ys) may own is =
+    (λ one style_is. answer_audible y is.0 (known_of p max host xs y.ask may own one) style_is, all_audible p max host xs ys may own is.1)
+
+-- ---- a worker's conversations
+
+module _ {D : Type 0} (step : Moves D) (max count : ℕ) (at new : D) (rest : List ℕ) (left : SourceState) (mid after : SinkState) where
+  all_heard : (end : ConnEnd) (e : EndsWith step max (stand count rest left at mid) new after end) → (end ≡ DeskGone → ⊥) → unanswered_last step max (stand count rest left at mid) new after end e ≡ []
+  all_heard Clean e there = refl
+  all_heard AfterClose e there = refl
+  all_heard AfterBad e there = refl
+  all_heard TooMany e there = refl
+  all_heard DeskGone e there = absurd (there refl)
+  all_heard (Fault (Conn.Wire fault)) e there = refl
+  all_heard (Fault Conn.Write) e there = refl
+
+module _ {C In Out S G : Type 0} (m : Means C In Out S G) (max : ℕ) where
+  abbrev pub items_on : Talk m max → List Item
+  items_on t = items (answered_on m max t) (unanswered_on m max t)
+
+  -- but for the last conversation, each request was answered
+  pub items_are : (conns : C) (desk new : SeatState × S) (ts : List (Talk m max)) → Serves m max conns desk ts new
+      → flat_map items_on ts ≡ items (all_answered m max ts) (all_unanswered m max ts)
+  items_are conns desk new [] s = refl
+  items_are conns desk new (t ∷ ts) s =
+      let ans : List Exchange = answered_on m max t in
+      let una : List Ask = unanswered_on m max t in
+      ⊎_elim
+      (λ (x : (t.end ≡ DeskGone) × ((ts ≡ []) × (new ≡ t.new))).
+      subst (λ (us : List (Talk m max)). flat_map items_on (t ∷ us) ≡ items (all_answered m max (t ∷ us)) (all_unanswered m max (t ∷ us))) (sym x.1.0)
+      (append-nil (items ans una) ∙ ap (λ l. items l una) (sym (append-nil ans)) ∙ ap (λ l. items (ans ++ []) l) (sym (append-nil una))))
+      (λ (x : (t.end ≡ DeskGone → ⊥) × Serves m max s.0 t.new ts new).
+      let none : una ≡ [] = all_heard (steps m max) max (length t.conversation.exchanges) t.conversation.at t.new t.conversation.rest (m.reads t.reader_left) t.conversation.mid (m.writes t.writer_left) t.end t.conversation.ended x.0 in
+      ap (λ l. items ans l ++ flat_map items_on ts) none
+      ∙ ap (λ l. l ++ flat_map items_on ts) (append-nil (map answered_item ans))
+      ∙ ap (λ l. map answered_item ans ++ l) (items_are s.0 t.new new ts x.1)
+      ∙ sym (append_assoc (map answered_item ans) (map answered_item (all_answered m max ts)) (map unanswered_item (all_unanswered m max ts)))
+      ∙ ap (λ l. l ++ map unanswered_item (all_unanswered m max ts)) (sym (map-append answered_item ans (all_answered m max ts)))
+      ∙ ap (λ l. items (ans ++ all_answered m max ts) (l ++ all_unanswered m max ts)) (sym none))
+      (behind t.end ((ts ≡ []) × (new ≡ t.new)) (Serves m max s.0 t.new ts new) s.3)
+
+  -- on the connection nothing was read and nothing written when it was given
+  abbrev pub IsUnused : Talk m max → Type 0
+  IsUnused t = ((m.reads t.reader).given ≡ []) × ((m.writes t.writer).taken ≡ [])
+
+  pub all_unused : GivesUnused m → (conns : C) (desk new : SeatState × S) (ts : List (Talk m max)) → Serves m max conns desk ts new → AllByRecursion IsUnused ts
+  all_unused unused conns desk new [] s = tt
+  all_unused unused conns desk new (t ∷ ts) s = (
+    unused conns s.0 t.reader t.writer s.1,
+    ⊎_elim
+        (λ (x : (t.end ≡ DeskGone) × ((ts ≡ []) × (new ≡ t.new))). subst (AllByRecursion IsUnused) (sym x.1.0) tt)
+        (λ (x : (t.end ≡ DeskGone → ⊥) × Serves m max s.0 t.new ts new). all_unused unused s.0 t.new new ts x.1)
+        (behind t.end ((ts ≡ []) × (new ≡ t.new)) (Serves m max s.0 t.new ts new) s.3),
+  )
+
+  module _ (p : Push) (log : List push.Exchange) (sound : IsSound p log) where
+    one_fits : (w : Whose m max log) → IsWhose m max log w → IsUnused w.0 → AreAnswered (answered_on m max w.0) → AllFit (items_on w.0) (marks_of m max log w)
+    one_fits (t, None) is new answered = others_fit (answered_on m max t) (unanswered_on m max t)
+    one_fits (t, Some c) is new answered =
+        joined_fit c.asks (answered_on m max t) (unanswered_on m max t)
+        (connections_joined (steps m max) max (m.reads t.reader) (m.reads t.reader_left) t.old t.new (m.writes t.writer) (m.writes t.writer_left) t.end t.conversation c.asks
+        (record { given = new.0; taken = new.1; audible = all_audible p max c.made.host c.asks (answered_on m max t) is.may (own_asks p log c.asks sound is.own) answered })
+        c.made c.left c.is_new c.turn is.may is.carries)
+
+    one_owns : (w : Whose m max log) → IsWhose m max log w → AllByRecursion (IsOwnMark p) (marks_of m max log w)
+    one_owns (t, None) is = own_marks p [] (answered_on m max t) (unanswered_on m max t) tt
+    one_owns (t, Some c) is = own_marks p c.asks (answered_on m max t) (unanswered_on m max t) (own_asks p log c.asks sound is.own)
+
+    pub all_fit : (ws : List (Whose m max log)) → AllByRecursion (IsWhose m max log) ws → AllByRecursion IsUnused (map (λ (w : Whose m max log). w.0) ws) → AreAnswered (all_answered m max (map (λ (w : Whose m max log). w.0) ws)) → AllFit (flat_map items_on (map (λ (w : Whose m max log). w.0) ws)) (flat_map (marks_of m max log) ws)
+    all_fit [] each new answered = tt
+    all_fit (w ∷ ws) each new answered = both_fit (items_on w.0) (flat_map items_on (map (λ (v : Whose m max log). v.0) ws)) (marks_of m max log w) (flat_map (marks_of m max log) ws)
+        (one_fits w each.0 new.0 (all_first (λ (y : Exchange). IsAnswered y.ask y.answer) (answered_on m max w.0) (all_answered m max (map (λ (v : Whose m max log). v.0) ws)) answered))
+        (all_fit ws each.1 new.1 (all_second (λ (y : Exchange). IsAnswered y.ask y.answer) (answered_on m max w.0) (all_answered m max (map (λ (v : Whose m max log). v.0) ws)) answered))
+
+    pub all_own : (ws : List (Whose m max log)) → AllByRecursion (IsWhose m max log) ws → AllByRecursion (IsOwnMark p) (flat_map (marks_of m max log) ws)
+    all_own [] each = tt
+    all_own (w ∷ ws) each = all_both (IsOwnMark p) (marks_of m max log w) (flat_map (marks_of m max log) ws) (one_owns w each.0) (all_own ws each.1)
+
+-- ---- a seat's steps
+
+-- the mark of a step that has this request and this answer
+agrees_answered : (step : Step) (ask : Ask) (answer : Answer) (k : Mark) → asked_and_answered step ≡ (ask, answer) → Fits (ask, Some answer) k → Agrees (step, k)
+agrees_answered step ask answer other is fits = tt
+agrees_answered step ask answer (heard a what) is fits =
+    (ap (λ (x : Ask × Answer). x.0) is ∙ fits.0, subst (λ r. IsHeardOf r (Some what)) (sym (ap (λ (x : Ask × Answer). x.1) is)) fits.1)
+agrees_answered step ask answer (unheard a) is fits = ap (λ (x : Ask × Answer). x.0) is ∙ fits
+
+agrees_unanswered : (step : Step) (ask : Ask) (k : Mark) → step.exchange.ask ≡ ask → Fits (ask, None) k → Agrees (step, k)
+agrees_unanswered step ask other is fits = tt
+agrees_unanswered step ask (heard a what) is fits = absurd fits
+agrees_unanswered step ask (unheard a) is fits = is ∙ fits
+
+abbrev pub marks_in : List Marked → List Mark
+marks_in ms = map (λ (n : Marked). n.1) ms
+
+-- steps that nobody answered on a connection
+lost_agree : (ms : List Marked) (us : List Ask) (more : List Mark) → asks (steps_in ms) ≡ us → AllFit (map unanswered_item us) (marks_in ms ++ more) → AllByRecursion Agrees ms
+lost_agree [] us more is fit = tt
+lost_agree (n ∷ ms) [] more is fit = absurd (cc is)
+lost_agree (n ∷ ms) (u ∷ us) more is fit =
+    let first : n.0.exchange.ask ≡ u = cc in
+    let rest : asks (steps_in ms) ≡ us = cc in
+    (agrees_unanswered n.0 u n.1 first fit.0, lost_agree ms us more rest fit.1)
+
+no_steps : (ms : List Marked) → asks (steps_in ms) ≡ [] → AllByRecursion Agrees ms
+no_steps [] is = tt
+no_steps (n ∷ ms) is = absurd (cc is)
+
+lost_asks : (ms : List Marked) (unheard : List Step) → map asked_and_answered (steps_in ms) ≡ map asked_and_answered unheard → asks (steps_in ms) ≡ asks unheard
+lost_asks [] [] is = refl
+lost_asks [] (s ∷ ss) is = absurd (cc is)
+lost_asks (n ∷ ms) [] is = absurd (cc is)
+lost_asks (n ∷ ms) (s ∷ ss) is =
+    let pairs : ◌≡◌ {A = Ask × Answer} (asked_and_answered n.0) (asked_and_answered s) = cc in
+    let rest : map asked_and_answered (steps_in ms) ≡ map asked_and_answered ss = cc in
+    λ i. (ap (λ (x : Ask × Answer). x.0) pairs) i ∷ (lost_asks ms ss rest) i
+
+pub seat_agrees : (ms : List Marked) (ys : List Exchange) (us : List Ask) (lost : List Step) (more : List Mark)
+    → map asked_and_answered (steps_in ms) ≡ map read_and_replied ys ++ map asked_and_answered lost → (asks lost ≡ []) ⊎ (asks lost ≡ us)
+    → AllFit (items ys us) (marks_in ms ++ more) → AllByRecursion Agrees ms
+seat_agrees ms [] us lost more is sent fit =
+    let same = lost_asks ms lost is in
+    elim sent [
+      | inl none ↦ no_steps ms (same ∙ none)
+      | inr all ↦ lost_agree ms us more (same ∙ all) fit
+    ]
+seat_agrees [] (y ∷ ys) us lost more is sent fit = absurd (cc is)
+seat_agrees (n ∷ ms) (y ∷ ys) us lost more is sent fit =
+    let first : ◌≡◌ {A = Ask × Answer} (asked_and_answered n.0) (y.ask, y.answer) = cc in
+    let rest : map asked_and_answered (steps_in ms) ≡ map read_and_replied ys ++ map asked_and_answered lost = cc in
+    (agrees_answered n.0 y.ask y.answer n.1 first fit.0, seat_agrees ms ys us lost more rest sent fit.1)
+
+pub seat_owns : (p : Push) (ms : List Marked) → AllByRecursion (IsOwnMark p) (marks_in ms) → AllByRecursion (λ (n : Marked). IsOwnMark p n.1) ms
+seat_owns p [] own = tt
+seat_owns p (n ∷ ms) own = (own.0, seat_owns p ms own.1)
+
+-- the answered requests of a seat are steps of it
+pub steps_answered : (ss : List Step) (ys : List Exchange) (lost : List Step) → map asked_and_answered ss ≡ map read_and_replied ys ++ map asked_and_answered lost
+    → AllByRecursion (λ (s : Step). IsAnswered s.exchange.ask s.exchange.answer) ss → AreAnswered ys
+steps_answered ss [] lost is all = tt
+steps_answered [] (y ∷ ys) lost is all = absurd (cc is)
+steps_answered (s ∷ ss) (y ∷ ys) lost is all =
+    let first : ◌≡◌ {A = Ask × Answer} (asked_and_answered s) (y.ask, y.answer) = cc in
+    let rest : map asked_and_answered ss ≡ map read_and_replied ys ++ map asked_and_answered lost = cc in
+    (subst (λ (x : Ask × Answer). IsAnswered x.0 x.1) first all.0, steps_answered ss ys lost rest all.1)
+
+pub all_kept : {A : Type 0} (P : A → Type 0) (test : A → Bool) (xs : List A) → AllByRecursion P xs → AllByRecursion P (filter test xs)
+all_kept P test [] all = tt
+all_kept P test (x ∷ xs) all =
+    let more : AllByRecursion P (filter test xs) = all_kept P test xs all.1 in
+    elim (test x) as (λ b. AllByRecursion P (cond b (x ∷ filter test xs) (filter test xs))) [ true ↦ (all.0, more) | false ↦ more ]
+
+-- the steps of one seat
+pub steps_at : (seat : ℕ) (ms : List Marked) → steps_in (at_seat seat ms) ≡ of_seat seat (steps_in ms)
+steps_at seat [] = refl
+steps_at seat (n ∷ ms) =
+    elim (seat == n.0.seat) as (λ b. steps_in (cond b (n ∷ at_seat seat ms) (at_seat seat ms)) ≡ cond b (n.0 ∷ of_seat seat (steps_in ms)) (of_seat seat (steps_in ms))) [
+      | true ↦ ap (λ l. n.0 ∷ l) (steps_at seat ms)
+      | false ↦ steps_at seat ms
+    ]
+
+-- what holds of the steps of each seat holds of all
+pub by_seats : (P : Marked → Type 0) (number : ℕ) (ms : List Marked) → AllByRecursion (λ (n : Marked). n.0.seat < number) ms
+    → ((seat : ℕ) → seat < number → AllByRecursion P (at_seat seat ms)) → AllByRecursion P ms
+by_seats P number [] seated each = tt
+by_seats P number (n ∷ ms) seated each = (
+  (subst (λ b. AllByRecursion P (cond b (n ∷ at_seat n.0.seat ms) (at_seat n.0.seat ms))) ((eq-eqb n.0.seat n.0.seat refl)) (each n.0.seat seated.0)).0,
+  by_seats P number ms seated.1 (λ seat within. without (seat == n.0.seat) seat (each seat within)),
+)
+  where
+    without : (b : Bool) (seat : ℕ) → AllByRecursion P (cond b (n ∷ at_seat seat ms) (at_seat seat ms)) → AllByRecursion P (at_seat seat ms)
+    without true seat all = all.1
+    without false seat all = all

@@ -1,0 +1,27 @@
+//! The laws, as functions that do nothing and whose contracts are the laws.
+ghost use Rattle.end_to_end.specs.Network.{PushesAreServed};
+ghost use Rattle.upload_intake.specs.Working.{means};
+
+use upload_client::written_places_are_read;
+use upload_intake::{Conns, Gate, Moments, Secrets};
+use upload_service::{headline_holds, others_leave_a_session};
+
+/// Let a pool of workers have served, over sockets or anything else, and let a push have ended `Pushed` whose requests went
+/// over connections to these workers. Then in the one order in which the pool served all requests there is the step of the
+/// push's close. What its upload had received by that step is exactly the file: what it had when the pool began, if it was
+/// open then, and the chunks that it took, in the order taken, each once. The file stood under its digest and its name then.
+/// At the end the repository has the digest, with bytes that have it. If the push ended `Already`, the repository had the
+/// digest at some step.
+///
+/// The network may cut each connection in each direction, at any byte, and hold requests back: a request that the push took
+/// to be lost may be served late. The premise is an account of it (`IsAccount`): which connection of which worker each of the
+/// push's connections was; that what either end read there is a prefix of what the other wrote; that what the push heard
+/// was served in the order in which it asked; and that no other client's request carried the reference that the push had
+/// heard by then.
+pub fn pushes_are_served<M: Moments, C: Conns, S: Secrets, G: Gate>()
+    ensures { PushesAreServed (means C.gives C.In.state C.Out.state S.draws G.watches) M.tells }
+{
+    headline_holds();
+    others_leave_a_session();
+    written_places_are_read();
+}

@@ -1,0 +1,6 @@
+//! Laws from end to end: what a push that ended well left in a service that a pool of workers served.
+#![tactic(auto)]
+
+mod laws;
+
+pub use laws::pushes_are_served;

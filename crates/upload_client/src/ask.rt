@@ -1,0 +1,296 @@
+//! Asks, written as requests.
+ghost use Rattle.std.specs.Prelude.{◌≡◌, ◌++◌, List, ℕ, IsTrue, OnOk, Some, codes, flat_map};
+ghost use Rattle.http_wire.specs.Writing.{Wrote};
+ghost use Rattle.http_wire.specs.Inner.Gathering.{Puts};
+ghost use Rattle.upload_client.specs.AskText.{CanBeWritten, IsAbsentOrGiven, ask_of_chunk, ask_text, body_fields, digest_or_nothing, digest_query, host_text, is_host, look_method, message_of, query_text, range_fields, request_line, section_text};
+ghost use Rattle.http_wire.specs.HeadText.{print_field};
+
+use crate::transport::LentChunk;
+use http_wire::{ByteSink, Gather, WriteFault};
+use upload_names::{BlobDigest, RepoName};
+use upload_service::{Ask, Extent};
+
+/// Writes an ask as a request to the host, and flushes it. The head leaves in one write where it has
+/// at most 1,024 bytes, and the body from its own memory. `WriteFault` comes only where a write or the
+/// flush failed; what was written then is a front of the request. It takes no memory.
+///
+/// The ask isn't `Refused`, its range isn't `Bad`, and the host has at least one byte, all of them
+/// visible ASCII.
+pub fn write_ask<W: ByteSink>(writer: &mut W, ask: &Ask, host: &[u8]) -> Result<(), WriteFault>
+    requires writable { CanBeWritten ask.now }
+    requires host { IsTrue (is_host host.now) }
+    ensures wrote { Wrote (W.state writer.old) (W.state writer.new) (ask_text ask.now host.now) result }
+    ensures flushed { OnOk result (IsTrue ((W.state writer.new).flushed)) }
+{
+    let mut head = Gather::new();
+    put_request_line(&mut head, writer, ask);
+    put_host(&mut head, writer, host);
+    put_section(&mut head, writer, ask);
+    head.finish(writer, body_of(ask))
+}
+
+/// Writes the ask of a chunk as `write_ask` does, from the bytes that are lent.
+pub(crate) fn write_chunk<W: ByteSink>(
+    writer: &mut W,
+    chunk: &LentChunk<'_>,
+    host: &[u8],
+) -> Result<(), WriteFault>
+    requires writable { CanBeWritten (ask_of_chunk chunk.now) }
+    requires host { IsTrue (is_host host.now) }
+    ensures wrote { Wrote (W.state writer.old)
+        (W.state writer.new) (ask_text (ask_of_chunk chunk.now) host.now) result }
+    ensures flushed { OnOk result (IsTrue ((W.state writer.new).flushed)) }
+{
+    let mut head = Gather::new();
+    let text = chunk.at.text();
+    let upload = Target {
+        name: chunk.name,
+        kind: b"/blobs/uploads/",
+        behind: &text,
+    };
+    put_target(&mut head, writer, b"PATCH", upload);
+    put_host(&mut head, writer, host);
+    put_upload_section(&mut head, writer, &chunk.range, chunk.body);
+    head.finish(writer, chunk.body)
+}
+
+/// The bytes that follow the head.
+pub(crate) fn body_of(ask: &Ask) -> &[u8]
+    ensures { result.now ≡ (message_of ask.now).body }
+{
+    match ask {
+        Ask::Single { body, .. } => body.as_slice(),
+        Ask::Chunk { body, .. } => body.as_slice(),
+        Ask::Close { body, .. } => body.as_slice(),
+        _ => &[],
+    }
+}
+
+/// A target in a repository: `/v2/`, its name, and these two behind it.
+#[derive(Clone, Copy)]
+struct Target<'a> {
+    name: &'a RepoName,
+    kind: &'a [u8],
+    behind: &'a [u8],
+}
+
+/// Puts the method and the target.
+fn put_request_line<W: ByteSink>(head: &mut Gather, writer: &mut W, ask: &Ask)
+    requires { CanBeWritten ask.now }
+    ensures { Puts (W.state writer.old) head.old (W.state writer.new) head.new (request_line (message_of ask.now)) }
+{
+    match ask {
+        Ask::Base => head.put(writer, b"GET /v2/"),
+        Ask::Has {
+            name,
+            digest,
+            head: look,
+        } => {
+            let text = digest.text();
+            let blob = Target {
+                name,
+                kind: b"/blobs/",
+                behind: text.as_bytes(),
+            };
+            put_target(head, writer, look_method(*look), blob)
+        }
+        Ask::Opening { name } => {
+            let uploads = Target {
+                name,
+                kind: b"/blobs/uploads/",
+                behind: b"",
+            };
+            put_target(head, writer, b"POST", uploads)
+        }
+        Ask::Single { name, digest, .. } => put_single(head, writer, name, digest),
+        Ask::Mount {
+            name,
+            digest,
+            source,
+        } => {
+            let uploads = Target {
+                name,
+                kind: b"/blobs/uploads/",
+                behind: b"?mount=",
+            };
+            put_target(head, writer, b"POST", uploads);
+            put_mounted(head, writer, digest, source)
+        }
+        Ask::Chunk { name, at, .. } => {
+            let text = at.text();
+            let upload = Target {
+                name,
+                kind: b"/blobs/uploads/",
+                behind: &text,
+            };
+            put_target(head, writer, b"PATCH", upload)
+        }
+        Ask::Status { name, at } => {
+            let text = at.text();
+            let upload = Target {
+                name,
+                kind: b"/blobs/uploads/",
+                behind: &text,
+            };
+            put_target(head, writer, b"GET", upload)
+        }
+        Ask::Close {
+            name,
+            at,
+            digest,
+            ..
+        } => {
+            let text = at.text();
+            let upload = Target {
+                name,
+                kind: b"/blobs/uploads/",
+                behind: &text,
+            };
+            put_target(head, writer, b"PUT", upload);
+            put_query(head, writer, digest)
+        }
+        Ask::Refused(_) => unreachable!(),
+    }
+}
+
+/// The method that looks for a blob.
+fn look_method(head: bool) -> &'static [u8]
+    ensures { result.now ≡ look_method head }
+{
+    if head { b"HEAD" } else { b"GET" }
+}
+
+/// Puts a method and a target.
+fn put_target<W: ByteSink>(head: &mut Gather, writer: &mut W, method: &[u8], target: Target<'_>)
+    ensures { Puts (W.state writer.old) head.old (W.state writer.new) head.new
+        (method.now ++ (codes " /v2/" ++ (target.entry.name.now ++ (target.entry.kind.now ++ target.entry.behind.now)))) }
+{
+    head.put(writer, method);
+    head.put(writer, b" /v2/");
+    head.put(writer, target.name.as_str().as_bytes());
+    head.put(writer, target.kind);
+    head.put(writer, target.behind);
+}
+
+/// Puts the line of a single POST.
+fn put_single<W: ByteSink>(
+    head: &mut Gather,
+    writer: &mut W,
+    name: &RepoName,
+    digest: &Option<BlobDigest>,
+)
+    ensures { Puts (W.state writer.old) head.old
+        (W.state writer.new) head.new
+        (codes "POST" ++ (codes " /v2/" ++ (name.now ++ (codes "/blobs/uploads/" ++ (codes "?digest=" ++ digest_or_nothing digest.now))))) }
+{
+    let uploads = Target {
+        name,
+        kind: b"/blobs/uploads/",
+        behind: b"?digest=",
+    };
+    put_target(head, writer, b"POST", uploads);
+    if let Some(digest) = digest {
+        head.put(writer, digest.text().as_bytes());
+    }
+}
+
+/// Puts the digest and the source of a mount.
+fn put_mounted<W: ByteSink>(
+    head: &mut Gather,
+    writer: &mut W,
+    digest: &BlobDigest,
+    source: &RepoName,
+)
+    ensures { Puts (W.state writer.old) head.old
+        (W.state writer.new) head.new (digest_or_nothing (Some digest.now) ++ (codes "&from=" ++ source.now)) }
+{
+    head.put(writer, digest.text().as_bytes());
+    head.put(writer, b"&from=");
+    head.put(writer, source.as_str().as_bytes());
+}
+
+/// Puts the query of a close, where it has a digest.
+fn put_query<W: ByteSink>(head: &mut Gather, writer: &mut W, digest: &Option<BlobDigest>)
+    ensures { Puts (W.state writer.old) head.old
+        (W.state writer.new) head.new (query_text (digest_query digest.now)) }
+{
+    match digest {
+        Some(digest) => {
+            head.put(writer, b"?digest=");
+            head.put(writer, digest.text().as_bytes())
+        }
+        None => {}
+    }
+}
+
+/// Puts the version and the host.
+fn put_host<W: ByteSink>(head: &mut Gather, writer: &mut W, host: &[u8])
+    ensures { Puts (W.state writer.old) head.old (W.state writer.new) head.new (host_text host.now) }
+{
+    head.put(writer, b" HTTP/1.1\r\nHost: ");
+    head.put(writer, host);
+    head.put(writer, b"\r\n");
+}
+
+/// Puts the fields behind the host, and the empty line.
+fn put_section<W: ByteSink>(head: &mut Gather, writer: &mut W, ask: &Ask)
+    requires { CanBeWritten ask.now }
+    ensures { Puts (W.state writer.old) head.old
+        (W.state writer.new) head.new (section_text (message_of ask.now).fields) }
+{
+    match ask {
+        Ask::Base | Ask::Has { .. } | Ask::Status { .. } => head.put(writer, b"\r\n"),
+        Ask::Opening { .. } | Ask::Mount { .. } => {
+            head.put(writer, b"Content-Length: 0\r\n\r\n")
+        }
+        Ask::Single { body, .. } => put_body_fields(head, writer, body.as_slice()),
+        Ask::Chunk { range, body, .. } => {
+            put_upload_section(head, writer, range, body.as_slice())
+        }
+        Ask::Close { range, body, .. } => {
+            put_upload_section(head, writer, range, body.as_slice())
+        }
+        Ask::Refused(_) => unreachable!(),
+    }
+}
+
+/// Puts the fields of a range and of a body, and the empty line.
+fn put_upload_section<W: ByteSink>(head: &mut Gather, writer: &mut W, range: &Extent, body: &[u8])
+    requires { IsAbsentOrGiven range.now }
+    ensures { Puts (W.state writer.old) head.old
+        (W.state writer.new) head.new (section_text (range_fields range.now ++ body_fields body.now)) }
+{
+    put_range_field(head, writer, range);
+    put_body_fields(head, writer, body)
+}
+
+/// Puts the field of a range, where one is given.
+fn put_range_field<W: ByteSink>(head: &mut Gather, writer: &mut W, range: &Extent)
+    requires { IsAbsentOrGiven range.now }
+    ensures { Puts (W.state writer.old) head.old
+        (W.state writer.new) head.new (flat_map print_field (range_fields range.now)) }
+{
+    match range {
+        Extent::Given(range) => {
+            head.put(writer, b"Content-Range: ");
+            head.put_number(writer, range.first);
+            head.put(writer, b"-");
+            head.put_number(writer, range.last);
+            head.put(writer, b"\r\n")
+        }
+        Extent::Absent => {}
+        Extent::Bad => unreachable!(),
+    }
+}
+
+/// Puts the fields of a body, and the empty line.
+fn put_body_fields<W: ByteSink>(head: &mut Gather, writer: &mut W, body: &[u8])
+    ensures { Puts (W.state writer.old) head.old (W.state writer.new) head.new (section_text (body_fields body.now)) }
+{
+    head.put(
+        writer,
+        b"Content-Type: application/octet-stream\r\nContent-Length: ",
+    );
+    head.put_number(writer, body.len() as u64);
+    head.put(writer, b"\r\n\r\n");
+}

@@ -1,0 +1,33 @@
+-- What the transcripts of a worker's connections tell.
+use Rattle.std.proofs.Common.{◌≡◌, ℕ, List, [], ◌∷◌, ◌++◌, sym, ap, ◌∙◌, subst, ⊎_elim}
+use Rattle.std.specs.Prelude.{Some}
+use Rattle.std.specs.List.{AllByRecursion}
+use Rattle.upload_intake.specs.Seats.{SeatState}
+use Rattle.upload_intake.specs.Working.{Means, Talk, Serves, steps}
+use Rattle.upload_intake.specs.Transcripts.{GivesUnused, TellsAll, TranscriptsTellConnections}
+use Rattle.upload_intake.proofs.Working.{behind}
+use Rattle.upload_wire.specs.declared.connection.ConnEnd.TheVariants.{DeskGone}
+use Rattle.upload_wire.proofs.TranscriptLemmas.{conversations_told}
+
+whole_of : (had more all : List ℕ) → all ≡ had ++ more → had ≡ [] → all ≡ more
+whole_of had more all e none = e ∙ ap (λ t. t ++ more) none
+
+module _ {C In Out S G : Type 0} (m : Means C In Out S G) (max_body : ℕ) (unused : GivesUnused m) where
+  one_told : (conns mid : C) (t : Talk m max_body) → m.gives conns (Some (t.reader, t.writer)) mid → TellsAll m max_body t
+  one_told conns mid t given =
+      let whole = conversations_told (steps m max_body) max_body (m.reads t.reader) (m.reads t.reader_left) t.old t.new (m.writes t.writer) (m.writes t.writer_left) t.end t.conversation in
+      let empty = unused conns mid t.reader t.writer given in
+      record { read = whole_of _ _ _ whole.read empty.0; written = whole_of _ _ _ whole.written empty.1 }
+
+  all_told : (conns : C) (desk new : SeatState × S) (ts : List (Talk m max_body)) → Serves m max_body conns desk ts new → AllByRecursion (TellsAll m max_body) ts
+  all_told conns desk new [] s = tt
+  all_told conns desk new (t ∷ ts) s = (
+    one_told conns s.0 t s.1,
+    ⊎_elim
+        (λ (x : (t.end ≡ DeskGone) × ((ts ≡ []) × (new ≡ t.new))). subst (AllByRecursion (TellsAll m max_body)) (sym x.1.0) tt)
+        (λ (x : (t.end ≡ DeskGone → ⊥) × Serves m max_body s.0 t.new ts new). all_told s.0 t.new new ts x.1)
+        (behind t.end ((ts ≡ []) × (new ≡ t.new)) (Serves m max_body s.0 t.new ts new) s.3),
+  )
+
+pub connections_told : {C In Out S G : Type 0} (m : Means C In Out S G) → TranscriptsTellConnections m
+connections_told m = λ unused max_body conns desk new talks s. all_told m max_body unused conns desk new talks s

@@ -1,8 +1,0 @@
-use Rattle.upload_intake.proofs.LineMoves.{begins, cuts_taker}
-use Rattle.upload_intake.proofs.ends.reply_line.Goals as goal
-
-pub bounded_with-requires-clause-rule : goal.bounded_with-requires-clause-rule
-bounded_with-requires-clause-rule g c = begins
-
-pub another-taker-requires-clause-rule : goal.another-taker-requires-clause-rule
-another-taker-requires-clause-rule g c = cuts_taker _ _

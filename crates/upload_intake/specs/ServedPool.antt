@@ -1,0 +1,70 @@
+-- THE SERVED POOL, read aloud: each worker has a seat, and was given connections, one behind the other; what it read and wrote on each is a
+-- conversation. What all these conversations asked was served by one service in one order, and nothing else was. In it stand each worker's
+-- requests, in the order in which it read them, each once, with the answers that it wrote. At moments that the clock told, and that don't fall,
+-- this order takes the service that was handed in to the one handed back, and the headline holds of it. Each worker's gate was told of
+-- its requests and their answers, in the order in which it read them.
+use Rattle.std.specs.Prelude.{◌≡◌, ℕ, ◌<◌, ◌==◌, ◌⊎◌, List, [], ◌++◌, map, filter, length, get_or}
+use Rattle.std.specs.List.{AllByRecursion}
+use Rattle.upload_service.specs.declared.ask.Ask.{Ask}
+use Rattle.upload_service.specs.declared.answer.Answer.{Answer}
+use Rattle.upload_service.specs.Machine.{State}
+use Rattle.upload_intake.specs.declared.work.Worker.{Worker}
+use Rattle.upload_intake.specs.declared.work.WorkerEnd.{WorkerEnd}
+use Rattle.upload_intake.specs.Log.{Step, exchanges_of, taken_by, jobs_of}
+use Rattle.upload_intake.specs.Seats.{SeatState, IsFresh}
+use Rattle.upload_intake.specs.Served.{IsServed}
+use Rattle.upload_intake.specs.Told.{Told}
+use Rattle.upload_intake.specs.Working.{Means, IsWorked, all_answered, all_unanswered}
+use Rattle.upload_wire.specs.Conversation.{Exchange}
+
+-- the steps of one seat, and what was asked and answered by a step, and by an exchange of a conversation
+abbrev pub of_seat : ℕ → List Step → List Step
+of_seat seat steps = filter (λ (s : Step). seat == s.seat) steps
+
+abbrev pub asked_and_answered : Step → Ask × Answer
+asked_and_answered s = (s.exchange.ask, s.exchange.answer)
+
+abbrev pub read_and_replied : Exchange → Ask × Answer
+read_and_replied x = (x.ask, x.answer)
+
+abbrev pub asks : List Step → List Ask
+asks steps = map (λ (s : Step). s.exchange.ask) steps
+
+-- One seat's steps are the exchanges of its conversations, in order, each once; and behind them at most the request at which the
+-- desk was gone, where that one was sent: nobody heard its answer.
+pub record Carries (seat : ℕ) (steps : List Step) (answered : List Exchange) (unanswered : List Ask) : Type 0 where
+  pub unheard : List Step
+  pub in_order : map asked_and_answered (of_seat seat steps) ≡ map read_and_replied answered ++ map asked_and_answered unheard
+  pub lost : (asks unheard ≡ []) ⊎ (asks unheard ≡ unanswered)
+
+-- The part of the worker on a seat, from its connections, its secrets and its gate to its two counts: what it served over a seat that had
+-- asked nothing, the steps that its conversations are, and the jobs among them with the secrets that it drew.
+pub record HasPart {C In Out S G : Type 0}
+    (m : Means C In Out S G) (max_body : ℕ) (seat : ℕ) (steps : List Step) (part : Worker C S G × WorkerEnd) : Type 0 where
+  pub old : SeatState
+  pub new : SeatState
+  pub fresh : IsFresh old
+  pub worked : IsWorked m max_body part.0.conns part.0.secrets part.0.gate old new part.1.conns part.1.clean
+  pub carried : Carries seat steps (all_answered m max_body worked.talks) (all_unanswered m max_body worked.talks)
+  pub sent : jobs_of seat (taken_by steps) ≡ new.sent
+
+-- what is handed to a pool, and what it leaves: the workers and their ends are in the order of their seats
+pub record Given (M C S G : Type 0) : Type 0 where
+  pub service : State
+  pub moments : M
+  pub workers : List (Worker C S G)
+
+pub record Left : Type 0 where
+  pub service : State
+  pub ends : List WorkerEnd
+
+pub record IsServedPool {C In Out S G M : Type 0} (m : Means C In Out S G) (tells : M → ℕ → M → Type 0) (given : Given M C S G) (left : Left) : Type 0 where
+  pub steps : List Step
+  -- no step is of another seat
+  pub seated : AllByRecursion (λ (s : Step). s.seat < length given.workers) steps
+  pub counted : length left.ends ≡ length given.workers
+  pub parts : (seat : ℕ) (worker : Worker C S G) (end : WorkerEnd) → seat < length given.workers
+      → HasPart m given.service.limits.max_body seat steps (get_or given.workers seat worker, get_or left.ends seat end)
+  pub served : IsServed given.service (exchanges_of steps) left.service
+  pub clock : M
+  pub told : Told tells 0 given.moments (exchanges_of steps) clock

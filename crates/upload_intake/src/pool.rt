@@ -1,0 +1,290 @@
+//! Workers, which serve connections at once, and the keeper beside them.
+ghost use Rattle.std.specs.Prelude.{◌≡◌, ◌<◌, ◌≤◌, [], ◌∷◌, All, IfOk, length, vec_len, vec_capacity};
+ghost use Rattle.std.specs.Thread.{IsSend, IsSync};
+ghost use Rattle.upload_service.specs.Machine.{IsLawful, AreLawful};
+ghost use Rattle.upload_intake.specs.Seats.{IsFresh};
+ghost use Rattle.upload_intake.specs.Served.{AreOfOneCall};
+ghost use Rattle.upload_intake.specs.Working.{means};
+ghost use Rattle.upload_intake.specs.ServedPool.{IsServedPool};
+ghost use Rattle.upload_intake.specs.Stations.{seats_of, workers_of, limits_of, promised, EachWorks};
+
+use crate::conns::Conns;
+use crate::gate::Gate;
+use crate::keeper::Keeper;
+use crate::moments::Moments;
+use crate::seat::{Seat, SeatEnd};
+use crate::secrets::Secrets;
+use crate::settlement::{Settled, lines_of, settle_all};
+use crate::work::{Station, Work, Worker, WorkerEnd, serve_station};
+use std::alloc::{AllocError, Global};
+use std::snapshot::Snapshot;
+use std::sync::Wait;
+use std::thread::{PromisedHandle, Threads};
+use std::{fmt, thread};
+use upload_service::{Limits, Service};
+use upload_wire::ConnectionServer;
+
+/// What is left of a pool.
+#[derive(Drop)]
+pub struct Pool {
+    /// The service as the last request left it.
+    pub service: Service,
+    /// What each worker did, in the order in which they were handed in.
+    pub ends: Vec<WorkerEnd>,
+}
+
+/// What is left of a pair.
+#[derive(Drop)]
+pub struct Pair {
+    /// The service as the last request left it.
+    pub service: Service,
+    /// What the left worker did.
+    pub left: WorkerEnd,
+    /// What the right one did.
+    pub right: WorkerEnd,
+}
+
+/// Why a pool was not served. The service is dropped. The discriminant is its number.
+#[derive(Clone, Copy, Debug, Drop, PartialEq, Eq)]
+pub enum ServeFault {
+    /// The workers' buffers or the lines found no memory. No worker was started.
+    NoMemory = 1,
+    /// A worker could not be started. Those that were started have ended.
+    NoThread = 2,
+}
+
+impl fmt::Display for ServeFault {
+    ghost use Rattle.std.specs.Prelude.{Some};
+    ghost use Rattle.upload_intake.specs.FaultTexts.{serve_fault_text};
+
+    ghost output = { λ fault. Some (serve_fault_text fault) };
+
+    fn fmt<W: fmt::Write>(&self, f: &mut fmt::Formatter<W>) -> fmt::Result {
+        match self {
+            ServeFault::NoMemory => f.write_str("no memory for the workers"),
+            ServeFault::NoThread => f.write_str("a worker could not be started"),
+        }
+    }
+}
+
+impl std::error::Error for ServeFault {}
+
+/// A worker's thread, which promises what it leaves.
+type Started<C, S, G> = PromisedHandle<(SeatEnd, WorkerEnd), Work<C, S, G>>;
+
+/// What the workers left, in the order of their seats.
+#[derive(Drop)]
+struct Ends {
+    seats: Vec<SeatEnd>,
+    workers: Vec<WorkerEnd>,
+}
+
+impl Ends {
+    // Room for so many, and nothing yet.
+    fn with_capacity(alloc: Global, count: usize) -> Result<Ends, AllocError>
+        ensures seats { IfOk result (λ ends. (ends.seats.items ≡ []) × (count ≤ vec_capacity ends.seats)) }
+        ensures workers { IfOk result (λ ends. (ends.workers.items ≡ []) × (count ≤ vec_capacity ends.workers)) }
+    {
+        let seats = Vec::with_capacity(alloc, count)?;
+        let workers = Vec::with_capacity(alloc, count)?;
+        Ok(Ends { seats, workers })
+    }
+}
+
+/// The workers at their seats, each with a server for all its connections.
+fn stations<C, S, G>(
+    alloc: Global,
+    limits: Limits,
+    seats: Vec<Seat>,
+    workers: Vec<Worker<C, S, G>>,
+) -> Result<Vec<Station<C, S, G>>, AllocError>
+where
+    C: Drop,
+    S: Drop,
+    G: Drop,
+    requires limits { AreLawful limits }
+    requires len { length seats.items ≡ length workers.items }
+    ensures seats { IfOk result (λ stations. seats_of stations.items ≡ seats.items) }
+    ensures workers { IfOk result (λ stations. workers_of stations.items ≡ workers.items) }
+    ensures servers { IfOk result (λ stations. All (λ n. n ≡ limits.max_body) (limits_of stations.items)) }
+{
+    let mut stations = Vec::new(alloc);
+    let mut seats = seats.into_iter();
+    for worker in workers {
+        let Some(seat) = seats.next() else {
+            unreachable!()
+        };
+        let server = ConnectionServer::new(alloc, limits)?;
+        stations.push(Station {
+            seat,
+            worker,
+            server,
+        })?;
+    }
+    Ok(stations)
+}
+
+/// A keeper that has the service, and the workers at its seats, of which none has asked anything.
+fn seated<C, S, G>(
+    alloc: Global,
+    service: Service,
+    workers: Vec<Worker<C, S, G>>,
+) -> Result<(Keeper, Vec<Station<C, S, G>>), AllocError>
+where
+    C: Drop,
+    S: Drop,
+    G: Drop,
+    requires { 0 < vec_len workers }
+    ensures of_one_call { IfOk result (λ r. AreOfOneCall r.0 (seats_of r.1.items)) }
+    ensures seats { IfOk result (λ r. All IsFresh (seats_of r.1.items)) }
+    ensures servers { IfOk result (λ r. All (λ n. n ≡ r.0.start.limits.max_body) (limits_of r.1.items)) }
+    ensures workers { IfOk result (λ r. workers_of r.1.items ≡ workers.items) }
+    ensures start { IfOk result (λ r. r.0.start ≡ service) }
+    ensures log { IfOk result (λ r. r.0.log ≡ []) }
+{
+    let limits = service.limits();
+    let count = workers.len();
+    let (keeper, seats) = lines_of(alloc, service, count, count)?;
+    let stations = stations(alloc, limits, seats, workers)?;
+    Ok((keeper, stations))
+}
+
+/// Joins each worker, in order. What they left goes where there is room for it.
+fn join_all<R, C, S, G>(rt: &R, started: Vec<Started<C, S, G>>, room: Ends) -> Ends
+where
+    R: Threads,
+    C: Conns,
+    S: Secrets,
+    G: Gate,
+    requires seats { (room.seats.items ≡ []) × (vec_len started ≤ vec_capacity room.seats) }
+    requires workers { (room.workers.items ≡ []) × (vec_len started ≤ vec_capacity room.workers) }
+    ensures seats { vec_len result.seats ≡ vec_len started }
+    ensures workers { vec_len result.workers ≡ vec_len started }
+    ensures each { EachWorks (means C.gives C.In.state C.Out.state S.draws G.watches)
+        (promised started.items) result.seats.items result.workers.items }
+{
+    let mut ends = room;
+    for worker in started {
+        let (seat, end) = worker.join(rt);
+        ends.seats.push_reserved(seat);
+        ends.workers.push_reserved(end);
+    }
+    ends
+}
+
+/// Serves the connections of all workers at once, each worker's one after the other until no more come. All workers are
+/// started before the keeper runs on this thread, and every thread is joined. `moments` is asked once for each request.
+/// What a worker reads through is taken before, once for all its connections.
+///
+/// `NoMemory` comes where the workers' buffers or the lines found no memory: no worker was started. All memory that the
+/// pool itself needs is taken before the first one is, so that what was served isn't lost. `NoThread` comes where a worker
+/// couldn't be started, once those that were started have ended. They may wait for a connection: the first that asks
+/// something ends `DeskGone`, and its worker takes no more. After either the service is dropped.
+pub fn serve_workers<R, M, C, S, G>(
+    rt: &R,
+    alloc: Global,
+    service: Service,
+    workers: Vec<Worker<C, S, G>>,
+    moments: &mut M,
+) -> Result<Pool, ServeFault>
+where
+    R: Threads + Wait + Sync,
+    M: Moments,
+    C: Conns + Send + Drop,
+    S: Secrets + Send + Drop,
+    G: Gate + Send + Drop,
+    requires { 0 < vec_len workers }
+    ensures served { IfOk result (λ pool. IsServedPool
+        (means C.gives C.In.state C.Out.state S.draws G.watches) M.tells
+        (record { service = service; moments = moments.old; workers = workers.items })
+        (record { service = pool.service; ends = pool.ends.items })) }
+    ensures lawful { IfOk result (λ pool. IsLawful pool.service) }
+{
+    let Ok((keeper, stations)) = seated(alloc, service, workers) else {
+        return Err(ServeFault::NoMemory);
+    };
+    thread::scope(
+        thread::scope_env(),
+        rt,
+        |scope| -> Result<Pool, ServeFault>
+            requires of_one_call { AreOfOneCall keeper (seats_of stations.items) }
+            requires seats { All IsFresh (seats_of stations.items) }
+            requires servers { All (λ n. n ≡ keeper.start.limits.max_body) (limits_of stations.items) }
+            requires fresh { keeper.log ≡ [] }
+            requires cross { IsSend C.row × IsSend S.row × IsSend G.row × IsSend C.In.row × IsSend C.Out.row × IsSync R.row }
+            ensures served { IfOk result (λ pool. IsServedPool
+                (means C.gives C.In.state C.Out.state S.draws G.watches) M.tells
+                (record { service = keeper.start; moments = moments.entry.now; workers = workers_of stations.items })
+                (record { service = pool.service; ends = pool.ends.items })) }
+            ensures lawful { IfOk result (λ pool. IsLawful pool.service) }
+        {
+            let Ok(room) = Ends::with_capacity(alloc, stations.len()) else {
+                return Err(ServeFault::NoMemory);
+            };
+            let Ok(mut started) = Vec::with_capacity(alloc, stations.len()) else {
+                return Err(ServeFault::NoMemory);
+            };
+            for station in stations {
+                let work = Work {
+                    station: Snapshot::of(&station),
+                };
+                let Ok(worker) = scope.spawn_with(work, move || serve_station(rt, station)) else {
+                    drop(keeper);
+                    drop(join_all(rt, started, room));
+                    return Err(ServeFault::NoThread);
+                };
+                started.push_reserved(worker);
+            }
+            let served = keeper.run(rt, moments);
+            let ends = join_all(rt, started, room);
+            let Settled { service, .. } = settle_all(served, ends.seats);
+            Ok(Pool {
+                service,
+                ends: ends.workers,
+            })
+        },
+    )
+}
+
+// Two in order.
+fn two<T: Drop>(alloc: Global, first: T, second: T) -> Result<Vec<T>, AllocError>
+    ensures { IfOk result (λ both. both.items ≡ first ∷ second ∷ []) }
+{
+    let mut both = Vec::with_capacity(alloc, 2)?;
+    both.push_reserved(first);
+    both.push_reserved(second);
+    Ok(both)
+}
+
+/// Serves the connections of two workers, as `serve_workers` does those of many.
+pub fn serve_pair<R, M, C, S, G>(
+    rt: &R,
+    alloc: Global,
+    service: Service,
+    left: Worker<C, S, G>,
+    right: Worker<C, S, G>,
+    moments: &mut M,
+) -> Result<Pair, ServeFault>
+where
+    R: Threads + Wait + Sync,
+    M: Moments,
+    C: Conns + Send + Drop,
+    S: Secrets + Send + Drop,
+    G: Gate + Send + Drop,
+    ensures served { IfOk result (λ pair. IsServedPool
+        (means C.gives C.In.state C.Out.state S.draws G.watches) M.tells
+        (record { service = service; moments = moments.old; workers = left ∷ right ∷ [] })
+        (record { service = pair.service; ends = pair.left ∷ pair.right ∷ [] })) }
+    ensures lawful { IfOk result (λ pair. IsLawful pair.service) }
+{
+    let Ok(workers) = two(alloc, left, right) else {
+        return Err(ServeFault::NoMemory);
+    };
+    let Pool { service, ends } = serve_workers(rt, alloc, service, workers, moments)?;
+    let (left, right) = (ends[0], ends[1]);
+    Ok(Pair {
+        service,
+        left,
+        right,
+    })
+}

@@ -1,0 +1,15 @@
+pub mod DigestTexts
+pub mod WrittenTargets
+pub mod WrittenQueries
+pub mod WrittenHeads
+pub mod WrittenFields
+pub mod WrittenRequests
+pub mod ReplyHeads
+pub mod ReplyFields
+pub mod ReplyReadings
+pub mod SentReplies
+pub mod WrittenReplies
+pub mod WrittenExchanges
+pub mod JoinedEnds
+pub mod ShortAnswers
+pub mod NeverBad

@@ -1,0 +1,74 @@
+-- What a reader of replies gives where a text is read in one way.
+use Rattle.std.proofs.Common.{◌≡◌, ◌≢◌, ℕ, Bool, List, refl, ◌∙◌, sym, subst, Ok, Err}
+use Rattle.std.specs.Prelude.{Result, ⊤}
+use Rattle.httparse.specs.Grammar.{ResponseHead, status_code}
+use Rattle.http_wire.specs.ResponseBody.{framing_of, head_fields}
+use Rattle.http_wire.specs.ResponseFronts.{responses}
+use Rattle.http_wire.specs.Unambiguous.{HeadParse, head, long, unfinished}
+use Rattle.http_wire.specs.declared.responses.framing.ResponseFraming.{ResponseFraming}
+use Rattle.http_wire.specs.declared.responses.framing.ResponseFraming.TheVariants.{ToEnd}
+use Rattle.http_wire.specs.declared.responses.framing.FramingFault.{FramingFault}
+use Rattle.http_wire.proofs.UnambiguousHeads.{responses_unambiguous}
+use Rattle.upload_client.specs.AnswerText.{HasOpenBody, ReadsFramed, max_answer}
+use Rattle.upload_client.specs.UnambiguousReplies.{ReplyParse, heard, refused, unreadable, too_large, cut}
+use Rattle.upload_client.specs.declared.heard.Heard.{Heard}
+use Rattle.upload_client.specs.declared.heard.HeardFault.TheVariants as Reply
+use Rattle.wire_laws.specs.WrittenReplies.{Gives}
+
+abbrev pub Framed : Type 0
+Framed = Result ResponseFraming FramingFault
+
+-- a whole reply, or one that is too large
+abbrev pub IsReading : ReplyParse → Type 0
+IsReading (heard what goes_on rest) = ⊤
+IsReading refused = ⊥
+IsReading unreadable = ⊥
+IsReading too_large = ⊤
+IsReading cut = ⊥
+
+pub not_refused : (parse : ReplyParse) → IsReading parse → parse ≢ refused
+not_refused (heard what goes_on rest) h = λ e. absurd (cc e)
+not_refused refused h = absurd h
+not_refused unreadable h = absurd h
+not_refused too_large h = λ e. absurd (cc e)
+not_refused cut h = absurd h
+
+-- no other parse is one
+pub no_reading : {A : Type 0} (parse : ReplyParse) → IsReading parse → (other : ReplyParse) → other ≢ too_large
+    → ((what : Heard) (goes_on : Bool) (rest : List ℕ) → other ≢ heard what goes_on rest) → other ≡ parse → A
+no_reading (heard what goes_on rest) h other large whole e = absurd (whole what goes_on rest e)
+no_reading refused h other large whole e = absurd h
+no_reading unreadable h other large whole e = absurd h
+no_reading too_large h other large whole e = absurd (large e)
+no_reading cut h other large whole e = absurd h
+
+pub heard_gives : (parse : ReplyParse) → IsReading parse → (what : Heard) (keep : Bool) (left : List ℕ)
+    → heard what keep left ≡ parse → Gives parse left (Ok what) keep
+heard_gives (heard other goes_on rest) h what keep left e = (cc, cc, cc)
+heard_gives refused h what keep left e = absurd h
+heard_gives unreadable h what keep left e = absurd h
+heard_gives too_large h what keep left e = absurd (cc e)
+heard_gives cut h what keep left e = absurd h
+
+pub large_gives : (parse : ReplyParse) (left : List ℕ) (keep : Bool) → too_large ≡ parse
+    → Gives parse left (Err Reply.TooLarge) keep
+large_gives (heard what goes_on rest) left keep e = absurd (cc e)
+large_gives refused left keep e = absurd (cc e)
+large_gives unreadable left keep e = absurd (cc e)
+large_gives too_large left keep e = refl
+large_gives cut left keep e = absurd (cc e)
+
+-- how far the body goes behind what the text begins with
+abbrev FramedAs : Bool → Framed → HeadParse responses → Type 0
+FramedAs head_only r (head h behind) = framing_of max_answer head_only (status_code h) (head_fields h) ≡ r
+FramedAs head_only r long = ⊤
+FramedAs head_only r unfinished = ⊤
+
+-- a body that goes to the end of the input stands behind no head of another framing
+pub no_open_body : (head_only : Bool) (text : List ℕ) (r : Framed) (h : ResponseHead) (behind : List ℕ)
+    → ReadsFramed head_only text r h behind
+    → ((most : ℕ) → r ≢ Ok (ToEnd most)) → HasOpenBody head_only text → ⊥
+no_open_body head_only text r h behind is ends_first x =
+    let same = responses_unambiguous.one text (head x.head x.rest) (head h behind) x.framed.reads is.reads in
+    let to_end = subst (FramedAs head_only (Ok (ToEnd x.most))) same x.framed.framed in
+    ends_first x.most (sym is.framed ∙ to_end)

@@ -1,0 +1,4 @@
+pub mod WrittenAsks
+pub mod WrittenReplies
+pub mod WrittenExchanges
+pub mod Joined

@@ -1,0 +1,220 @@
+-- Manifests and tags in Redis, which keeps them on disk (redis.conf). manifests.lua says what the functions are for. What changes something is one
+-- script, so Redis does all of it or nothing, and nothing comes between; and Redis answers once it is on disk.
+--
+-- The keys of a manifest, each with NAME@DIGEST behind it: manifest: (type, stamp, size, below, length), body:, tagged: (its tags), names: and above: (the
+-- manifests that it names, and those that name it). Of a repository, with NAME behind it: manifests: (their digests), digest: (by tag), tags: (in order).
+-- Of all: repositories (their names in order), and held (the bytes of all).
+
+local HOST, PORT = os.getenv("FRONT_REDIS"):match("^(.*):(%d+)$")
+local PASSWORD = os.getenv("FRONT_REDIS_PASSWORD")
+-- seconds for Redis to answer
+local PATIENCE = 10
+-- HAProxy 2.6.12 was seen to wait for ever for the rest of a reply that doesn't fit its buffer of 16 KiB: so no reply is longer than about half of that.
+local PIECE, LISTED = 8192, 25
+local OVERHEAD = 512
+
+local FIND = [[
+local digest = ARGV[2]
+if ARGV[3] == "tag" then digest = redis.call("HGET", "digest:" .. ARGV[1], ARGV[2]) end
+local at = digest and ARGV[1] .. "@" .. digest
+if not at or redis.call("EXISTS", "manifest:" .. at) == 0 then return false end
+return {digest, unpack(redis.call("HMGET", "manifest:" .. at, "type", "stamp", "length"))}
+]]
+
+local BELOW = [[
+local sum = 0
+for at = 2, #ARGV do
+  local below = redis.call("HGET", "manifest:" .. ARGV[1] .. "@" .. ARGV[at], "below")
+  if not below then return false end
+  sum = sum + below
+end
+return sum
+]]
+
+local PUT = [[
+local name, digest, kind, stamp, size, below, body, tag, most, overhead = unpack(ARGV, 1, 10)
+local at = name .. "@" .. digest
+for named = 11, #ARGV do
+  if redis.call("EXISTS", "manifest:" .. name .. "@" .. ARGV[named]) == 0 then return "unknown" end
+end
+local more = size - (redis.call("HGET", "manifest:" .. at, "size") or 0)
+local old = tag ~= "" and redis.call("HGET", "digest:" .. name, tag)
+if tag ~= "" and not old then more = more + #tag + overhead end
+if more > 0 and (redis.call("GET", "held") or 0) + more > tonumber(most) then return "full" end
+redis.call("INCRBY", "held", more)
+redis.call("HSET", "manifest:" .. at, "type", kind, "stamp", stamp, "size", size, "below", below, "length", #body)
+redis.call("SET", "body:" .. at, body)
+redis.call("SADD", "manifests:" .. name, digest)
+for named = 11, #ARGV do
+  redis.call("SADD", "names:" .. at, ARGV[named])
+  redis.call("SADD", "above:" .. name .. "@" .. ARGV[named], digest)
+end
+if tag ~= "" then
+  if old then redis.call("SREM", "tagged:" .. name .. "@" .. old, tag) end
+  redis.call("HSET", "digest:" .. name, tag, digest)
+  redis.call("ZADD", "tags:" .. name, 0, tag)
+  redis.call("SADD", "tagged:" .. at, tag)
+end
+redis.call("ZADD", "repositories", 0, name)
+return "kept"
+]]
+
+local DROP = [[
+local name, first, stamp, overhead = unpack(ARGV)
+local is = redis.call("HGET", "manifest:" .. name .. "@" .. first, "stamp")
+if not is or stamp ~= "" and is ~= stamp then return 0 end
+local left = {first}
+while #left > 0 do
+  local digest = table.remove(left)
+  local at = name .. "@" .. digest
+  local freed = redis.call("HGET", "manifest:" .. at, "size")
+  if freed then
+    for _, tag in ipairs(redis.call("SMEMBERS", "tagged:" .. at)) do
+      redis.call("HDEL", "digest:" .. name, tag)
+      redis.call("ZREM", "tags:" .. name, tag)
+      freed = freed + #tag + overhead
+    end
+    for _, above in ipairs(redis.call("SMEMBERS", "above:" .. at)) do left[#left + 1] = above end
+    for _, named in ipairs(redis.call("SMEMBERS", "names:" .. at)) do redis.call("SREM", "above:" .. name .. "@" .. named, digest) end
+    redis.call("DEL", "manifest:" .. at, "body:" .. at, "tagged:" .. at, "names:" .. at, "above:" .. at)
+    redis.call("SREM", "manifests:" .. name, digest)
+    redis.call("DECRBY", "held", freed)
+  end
+end
+if redis.call("EXISTS", "manifests:" .. name) == 0 then redis.call("ZREM", "repositories", name) end
+return 1
+]]
+
+local UNTAG = [[
+local name, tag, overhead = ARGV[1], ARGV[2], ARGV[3]
+local digest = redis.call("HGET", "digest:" .. name, tag)
+if not digest then return 0 end
+redis.call("HDEL", "digest:" .. name, tag)
+redis.call("ZREM", "tags:" .. name, tag)
+redis.call("SREM", "tagged:" .. name .. "@" .. digest, tag)
+redis.call("DECRBY", "held", #tag + overhead)
+return 1
+]]
+
+local TAGS = [[
+if redis.call("EXISTS", "manifests:" .. ARGV[1]) == 0 then return false end
+return redis.call("ZRANGEBYLEX", "tags:" .. ARGV[1], ARGV[2], "+", "LIMIT", 0, ARGV[3])
+]]
+
+local REPOSITORIES = [[return redis.call("ZRANGEBYLEX", "repositories", ARGV[1], "+", "LIMIT", 0, ARGV[2])]]
+
+-- A refusal of Redis, or the end of its connection: manifests.lua answers 503.
+local function fail(told)
+  core.log(core.err, "redis: " .. tostring(told))
+  error({status = 503, code = "UNAVAILABLE", message = "the manifests can't be read or written"}, 0)
+end
+
+-- Redis's form of a command: a list of texts, each with its length.
+local function written(words)
+  local parts = {"*" .. #words .. "\r\n"}
+  for _, word in ipairs(words) do
+    word = tostring(word)
+    parts[#parts + 1] = "$" .. #word .. "\r\n" .. word .. "\r\n"
+  end
+  return table.concat(parts)
+end
+
+-- One reply: a text, a number, a list, or false for nothing.
+local function read(socket)
+  local line, told = socket:receive("*l")
+  if not line then fail(told) end
+  local kind, rest = line:sub(1, 1), line:sub(2)
+  if kind == "+" then return rest end
+  if kind == ":" then return tonumber(rest) end
+  if kind == "-" then fail(rest) end
+  local length = tonumber(rest)
+  if length < 0 then return false end
+  if kind == "$" then
+    local text, why = socket:receive(length + 2)
+    if not text then fail(why) end
+    return text:sub(1, length)
+  end
+  local list = {}
+  for at = 1, length do list[at] = read(socket) end
+  return list
+end
+
+-- Calls a function with what asks Redis over one connection: a command's words give its reply.
+local function connected(work)
+  local socket = core.tcp()
+  socket:settimeout(PATIENCE)
+  if not socket:connect(HOST, tonumber(PORT)) then fail("nobody listens") end
+  local function ask(...)
+    local sent, told = socket:send(written({...}))
+    if not sent then fail(told) end
+    return read(socket)
+  end
+  local results = table.pack(pcall(function()
+    if PASSWORD then ask("AUTH", PASSWORD) end
+    return work(ask)
+  end))
+  socket:close()
+  if not results[1] then error(results[2], 0) end
+  return table.unpack(results, 2, results.n)
+end
+
+-- The reply to a script with these words.
+local function run(script, ...)
+  local words = table.pack(...)
+  return connected(function(ask) return ask("EVAL", script, 0, table.unpack(words, 1, words.n)) end)
+end
+
+-- The text under a key: shorter than it was if it was dropped meanwhile.
+local function text_at(ask, key, length)
+  local parts = {}
+  for from = 0, length - 1, PIECE do parts[#parts + 1] = ask("GETRANGE", key, from, from + PIECE - 1) end
+  return table.concat(parts)
+end
+
+-- At most `most` of a list that `ask_for` gives in pieces, behind `last`, and whether more follow; nil if there is no list.
+local function page(last, most, ask_for)
+  local list = {}
+  while #list <= most do
+    local piece = ask_for(last == "" and "-" or "(" .. last, math.min(LISTED, most + 1 - #list))
+    if not piece then return nil end
+    if #piece == 0 then return list, false end
+    table.move(piece, 1, #piece, #list + 1, list)
+    last = piece[#piece]
+  end
+  list[#list] = nil
+  return list, true
+end
+
+return function(most_held)
+  return {
+    find = function(name, reference, is_digest, with_body)
+      return connected(function(ask)
+        local found = ask("EVAL", FIND, 0, name, reference, is_digest and "digest" or "tag")
+        if not found then return nil end
+        local digest, kind, stamp, length = table.unpack(found)
+        length = math.tointeger(tonumber(length))
+        local body = with_body and text_at(ask, "body:" .. name .. "@" .. digest, length) or ""
+        if with_body and #body < length then return nil end
+        return digest, {type = kind, stamp = stamp, length = length, body = body}
+      end)
+    end,
+    below = function(name, digests)
+      if #digests == 0 then return 0 end
+      return run(BELOW, name, table.unpack(digests)) or nil
+    end,
+    put = function(name, digest, record, tag)
+      return run(
+        PUT, name, digest, record.type, record.stamp, record.size, record.below, record.body, tag or "", most_held, OVERHEAD,
+        table.unpack(record.manifests)
+      )
+    end,
+    drop = function(name, digest, stamp) return run(DROP, name, digest, stamp or "", OVERHEAD) == 1 end,
+    untag = function(name, tag) return run(UNTAG, name, tag, OVERHEAD) == 1 end,
+    tags = function(name, last, most)
+      return page(last, most, function(from, count) return run(TAGS, name, from, count) end)
+    end,
+    repositories = function(last, most)
+      return page(last, most, function(from, count) return run(REPOSITORIES, from, count) end)
+    end,
+  }
+end

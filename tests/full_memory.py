@@ -1,0 +1,219 @@
+#!/usr/bin/env python3
+"""Fills the memory of `blobd serve`, and asks for what takes none.
+
+    full_memory.py PROGRAM
+
+A server gets a limit on its address space a few MiB above what it has, and blobs and open uploads of one size or of mixed sizes until it refuses them in a
+row. Then each of its workers is asked for what is stored, for the status of each kind of upload, and for what is refused: each request has its usual
+reply. So it is with huge pages and without, if all threads share one heap, and of a worker that hadn't served anyone before memory was full.
+
+Closes with 'N passed, M failed'.
+"""
+import collections
+import os
+import random
+import resource
+import unittest
+
+from harness import running, suite
+from harness.running import sha256
+from harness.wire import Complaint, Connection, request_text
+
+KIB, MIB = 1 << 10, 1 << 20
+# What a server may take beside what it has once it listens, its 4 MiB that stay free among them.
+ROOM = 6 * MIB
+# So many refused in a row, and memory is full. A connection has at most 10,000 requests.
+REFUSED, REQUESTS = 60, 9_000
+# How often each worker is asked the same, and of how many stored blobs.
+TIMES, BLOBS = 5, 40
+
+HEAPS = {
+    "as it is": {},
+    "with huge pages": {"GLIBC_TUNABLES": "glibc.malloc.hugetlb=1"},
+    "with one heap for all threads": {"GLIBC_TUNABLES": "glibc.malloc.arena_max=1"},
+}
+SIZES = {
+    "128 bytes": lambda chance: 128,
+    "30,000 bytes": lambda chance: 30_000,
+    "4 MiB": lambda chance: 4 * MIB,
+    "mixed sizes": lambda chance: int(128 * 2 ** chance.uniform(0, 15)),
+}
+
+
+class Filling:
+    """A client that stores blobs and begins uploads of these sizes until the server refuses."""
+
+    def __init__(self, server, size, seed):
+        self.place = server.place()
+        self.size = size
+        self.chance = random.Random(seed)
+        self.connection = Connection(self.place)
+        self.asked = 0
+        self.stored = []
+        self.begun = {}
+        self.refused = collections.Counter()
+
+    def ask(self, method, target, body=b""):
+        """The reply, or nothing if the connection ended without one. A connection has at most 10,000 requests."""
+        if not self.connection.is_open or self.asked == REQUESTS:
+            self.connection.close()
+            self.connection, self.asked = Connection(self.place), 0
+        self.asked += 1
+        self.connection.send(request_text(method, target, body))
+        return self.connection.hear(method)
+
+    def takes(self, reply, status):
+        """Whether a reply is this one. What is refused is counted."""
+        if reply and reply.status == status:
+            return True
+        self.refused[reply.status if reply else None] += 1
+        return False
+
+    def store(self):
+        content = self.chance.randbytes(self.size(self.chance))
+        reply = self.ask("POST", f"/v2/lib/a/blobs/uploads/?digest={sha256(content)}", content)
+        if self.takes(reply, 201):
+            self.stored.append(content)
+            return True
+        return False
+
+    def begin(self):
+        """An upload of one chunk, which stays open."""
+        opening = self.ask("POST", "/v2/lib/a/blobs/uploads/")
+        if not self.takes(opening, 202):
+            return False
+        place = opening.fields["Location"]
+        self.begun[place] = 0
+        content = self.chance.randbytes(self.size(self.chance))
+        if self.takes(self.ask("PATCH", place, content), 202):
+            self.begun[place] = len(content)
+            return True
+        return False
+
+    def fill(self):
+        """Goes on until nothing was taken so often in a row. Of ten blobs one is the chunk of an upload, as long as there is a place for it."""
+        vain = 0
+        while vain < REFUSED:
+            begins = len(self.begun) < 900 and self.chance.random() < 0.1
+            vain = 0 if (self.begin() if begins else self.store()) else vain + 1
+        self.connection.close()
+
+
+def replies(filling):
+    """Requests that take no memory, or hardly any, each with the status and the body that are wanted."""
+    chance = random.Random(0)
+    for content in chance.sample(filling.stored, min(BLOBS, len(filling.stored))):
+        blob = f"/v2/lib/a/blobs/{sha256(content)}"
+        yield "GET", blob, b"", (200, content)
+        yield "HEAD", blob, b"", (200, b"")
+    for place, held in chance.sample(sorted(filling.begun.items()), min(BLOBS, len(filling.begun))):
+        yield "GET", place, b"", (204, held)
+    missing = f"/v2/lib/a/blobs/{sha256(b'')}"
+    for _ in range(TIMES):
+        yield "GET", "/v2/", b"", (200, b"")
+        yield "HEAD", missing, b"", (404, b"")
+        yield "GET", missing, b"", (404, None)
+        yield "GET", "/v2/lib/a/blobs/uploads/ffffffff-0000-8000-8000-000000000000", b"", (404, None)
+        yield "GET", "/v2/lib/a/blobs/sha256:12", b"", (400, None)
+        yield "GET", "/v2/LIB/blobs/" + sha256(b""), b"", (404, None)
+        yield "DELETE", missing, b"", (405, None)
+        yield "PUT", "/v2/lib/a/blobs/uploads/ffffffff-0000-8000-8000-000000000000?digest=" + sha256(b""), b"", (404, None)
+
+
+def told(reply, wanted):
+    """What a reply tells in the place of what was wanted; nothing if it is that."""
+    status, body = wanted
+    if reply is None:
+        return "no reply"
+    if reply.status != status:
+        return reply.status
+    if isinstance(body, int):
+        return None if reply.held() == body else f"{reply.held()} bytes in place of {body}"
+    return None if body is None or reply.body == body else "another body"
+
+
+def asked(server, wanted):
+    """What one worker says in the place of what was wanted, each request over a connection of its own."""
+    others = collections.Counter()
+    for method, target, body, reply in wanted:
+        connection = Connection(server.place())
+        connection.send(request_text(method, target, body, [("Connection", "close")]))
+        if other := told(connection.hear(method), reply):
+            others[f"{method} {reply[0]}: {other}"] += 1
+        connection.close()
+    return others
+
+
+def held(server):
+    """A connection that keeps the worker that serves it, and what was heard over it."""
+    connection = Connection(server.place())
+    connection.send(request_text("GET", "/v2/"))
+    reply = connection.hear("GET")
+    return connection, reply and reply.status
+
+
+def limit(server):
+    """Gives a server so much more address space than it has now."""
+    with open(f"/proc/{server.process.pid}/statm", encoding="ascii") as file:
+        has = int(file.read().split()[0]) * os.sysconf("SC_PAGE_SIZE")
+    _, hard = resource.prlimit(server.process.pid, resource.RLIMIT_AS)
+    resource.prlimit(server.process.pid, resource.RLIMIT_AS, (has + ROOM, hard))
+
+
+class FullMemory(unittest.TestCase):
+    def full(self, size, heap, seed):
+        with running.Server(1_000_000, env=os.environ | heap) as server:
+            # This connection keeps one worker: the other one fills.
+            keeping, status = held(server)
+            self.assertEqual(200, status)
+            limit(server)
+            filling = Filling(server, size, seed)
+            try:
+                filling.fill()
+            except Complaint as complaint:
+                self.fail(complaint)
+            wanted = list(replies(filling))
+            with self.subTest("refused when memory is full"):
+                self.assertEqual(set(), set(filling.refused) - {503, None}, filling.refused)
+            with self.subTest("the worker that filled"):
+                self.assertEqual({}, asked(server, wanted))
+            unused, status = held(server)
+            keeping.close()
+            with self.subTest("the other worker"):
+                self.assertEqual(200, status)
+                self.assertEqual({}, asked(server, wanted))
+            unused.close()
+            with self.subTest("the server goes on"):
+                self.assertIsNone(server.process.poll())
+
+    def unused(self, heap):
+        """A worker that had served nobody before another one filled the memory, over one connection."""
+        with running.Server(1_000_000, env=os.environ | heap) as server:
+            filling = Filling(server, SIZES["128 bytes"], 0)
+            only = filling.connection
+            # Once one worker has served, both were started.
+            self.assertTrue(filling.store())
+            limit(server)
+            vain = 0
+            while vain < REFUSED and filling.asked < REQUESTS:
+                vain = 0 if filling.store() else vain + 1
+            with self.subTest("one connection filled it"):
+                self.assertEqual((REFUSED, True), (vain, only.is_open))
+            with self.subTest("the worker that had served nobody"):
+                self.assertEqual({}, asked(server, list(replies(filling))))
+            only.close()
+
+    def test_unused(self):
+        for heap, settings in HEAPS.items():
+            with self.subTest(heap=heap):
+                self.unused(settings)
+
+    def test_full(self):
+        for seed, (sizes, size) in enumerate(SIZES.items()):
+            for heap, settings in HEAPS.items():
+                with self.subTest(sizes=sizes, heap=heap):
+                    self.full(size, settings, seed)
+
+
+if __name__ == "__main__":
+    suite.main(__doc__)
