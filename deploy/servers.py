@@ -16,7 +16,7 @@ HERE = os.path.dirname(os.path.abspath(__file__))
 PATH = os.environ.get("PATH", "") + os.pathsep + "/usr/sbin" + os.pathsep + "/sbin"
 # What `make serve` sets too: large blobs lie in huge pages.
 HUGE_PAGES = {"GLIBC_TUNABLES": "glibc.malloc.hugetlb=1"}
-PATIENCE = 20
+PATIENCE = 60
 DIES_WITH_PARENT = 1
 
 # Debian's package for each thing that is wanted, and how to see that it is there.

@@ -152,7 +152,7 @@ def servers_that_come_again(folder):
     waited = time.monotonic() - begun
     refused = given_up(f"{host}:{port}", "Connection refused (os error 111) (tried 7 times)")
     check("a server that isn't there", ended == refused, ended)
-    check("its five tries take some seconds", 3 < waited < 15, waited)
+    check("its tries take some seconds", 3 < waited < 60, waited)
     with concurrent.futures.ThreadPoolExecutor(1) as pool:
         late = pool.submit(push, f"{host}:{port}", "lib/a", path, 1000)
         time.sleep(1)
@@ -165,7 +165,7 @@ def servers_that_come_again(folder):
     waited = time.monotonic() - begun
     busy.close()
     refused = given_up(busy.addr, "the server answers 503: it has no memory left, or can't serve now (tried 7 times)")
-    check("a server that can't serve", (ended, 3 < waited < 15) == (refused, True), (ended, waited))
+    check("a server that can't serve", (ended, 3 < waited < 60) == (refused, True), (ended, waited))
 
 
 class Answering:
@@ -320,7 +320,7 @@ def silent_servers(folder):
         waited = time.monotonic() - begun
         check("a silent server", ended == given_up(addr, "the server was silent for 30 s (tried 7 times)"), ended)
         # seven times half a minute, thirty times as fast
-        check("as long as it is waited for", 6.9 < waited < 60, waited)
+        check("as long as it is waited for", 6.9 < waited < 150, waited)
 
 
 def signals_between(folder):
