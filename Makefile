@@ -9,7 +9,7 @@ FILE = README.md
 # the words of `make run`
 ARGS =
 
-# The proved program for every x86-64 processor, and the same program for those of the level x86-64-v3, whose hashes are about a tenth faster.
+# The proved program for every x86-64 processor, and the same program for those of the level x86-64-v3, which hashes faster (docs/PERFORMANCE.md).
 EVERY = crates/blobd/out/blobd
 V3 = crates/blobd/out/blobd-v3
 # What a processor of that level has. The program checks as it starts that the processor is one.

@@ -3,7 +3,7 @@
 
     connection.py PROGRAM
 
-Best of three. Beside a blob taken in one PATCH stands `sha256sum` on the same bytes. Needs about 2 GiB of room in the temporary folder.
+Each figure is the best of three. A blob in one PATCH is compared with `sha256sum` on the same bytes. Needs about 2 GiB in the temporary folder.
 """
 import hashlib
 import os

@@ -3,8 +3,8 @@
 
     draw.py FILE PICTURE [--before FILE]
 
-Speeds of uploads, pushes and pulls beside `sha256sum` and `docker-registry`, and the longest wait for a small request beside a large body; with --before
-also what the waiting was in an earlier run. Without matplotlib (Debian's `python3-matplotlib`) it draws nothing, says so, and ends with status 0.
+Speeds of uploads, pushes and pulls beside `sha256sum` and `docker-registry`, and the longest wait for a small request beside a large body. With --before
+it also draws the waits of an earlier run. Without matplotlib (Debian's `python3-matplotlib`) it draws nothing, says so, and ends with status 0.
 """
 import argparse
 import json

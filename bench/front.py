@@ -3,8 +3,8 @@
 
     front.py PROGRAM [--json FILE] [--shards N ..] [--runs N]
 
-Each figure is that of the best of three runs, in which the servers take turns. Each client keeps its connection, has a repository of its own, and goes on
-like this: it opens an upload, sends a blob in one chunk, closes, asks for it by HEAD, pulls it and compares. HAProxy asks for a login; both speak plain
+Each figure is that of the best of three runs, in which the servers take turns. Each client keeps its connection, has a repository of its own, and repeats
+a round: it opens an upload, sends a blob in one chunk, closes, asks for it by HEAD, pulls it and compares. HAProxy asks for a login; both speak plain
 HTTP, so that this client's TLS isn't what is measured. `docker-registry` has its files in memory (/dev/shm), no login and no log. The clients are Python,
 in as many processes as there are cores, and share the machine with the servers: read the figures as ratios in one run.
 

@@ -3,9 +3,9 @@
 
     log.py PROGRAM [--runs N]
 
-Requests one at a time over two connections, one after the other, by a server of its own with the log (to /dev/null) and by one without, in turn. Told is the
-server's processor time, its own and the system's for it, a request: the least of the runs, of which there are fourteen. By the clock a line costs less, since the
-client counts too. Needs Linux.
+Requests are sent one at a time over two connections, one after the other, to a server with the log (to /dev/null) and to one without, in turn. It prints the
+server's processor time for a request, its own and the system's for it: the least of the runs, of which there are fourteen if N isn't given. By the clock a
+line costs less, since the client counts too. Needs Linux.
 """
 import argparse
 import os

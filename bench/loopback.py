@@ -3,21 +3,21 @@
 
     loopback.py PROGRAM [--json FILE] [--mib SIZE] [--waiting-mib SIZE] [--small-pages] [--only WORD]
 
-Each figure is the best of five, each upload's and each openings' on a server of its own. Beside an upload and a push stands `sha256sum` on the same
-bytes, timed before each of their runs; beside a pull the same bytes over a connection with no server behind it, sent in the same way. Two at once are
-told beside one alone, and waiting is that of a thousand small requests beside a large body. The server of these rows has two workers.
+Each figure is the best of five. Each upload, and each row of openings, has a server of its own. An upload and a push are compared with `sha256sum` on the
+same bytes, timed before each repetition; a pull with the same bytes over a bare connection, sent in the same way; two at once with one alone. Waiting is
+that of a thousand small requests beside a large body. The server of these rows has two workers.
 
-A server with sixteen workers has four uploads at once, and waiting beside clients that send a byte of a head now and then. One with 64 has as many clients
-of small requests, and tells beside the one with two what memory an idle worker takes.
+A server with sixteen workers has four uploads at once, and waiting beside clients that send a byte of a head now and then. One with 64 workers has as many
+clients of small requests; compared with the one with two, it shows what memory an idle worker takes.
 
-Where Debian's `docker-registry` is installed it has the same rows but the last, with its files in memory too. The server runs as `make serve` runs it, with
-the huge pages that the system gives on request; with --small-pages it doesn't ask for them. With --only WORD there are only the rows whose name has that.
+If Debian's `docker-registry` is installed, it has the same rows but the last, with its files in memory too. The server runs as `make serve` runs it, with
+the huge pages that the system gives on request; with --small-pages it doesn't ask for them. With --only WORD there are only the rows whose name has WORD.
 
 The client writes whole requests from memory to a raw socket, and still takes longer over a small request than the server does. So small requests
 are also counted by the seconds of processor time that the server spent, its own and the system's for it.
 
-Needs Linux, and about four times the larger SIZE in MiB of memory, part of it in /dev/shm: 256 for the speeds and 1,024 for the waiting, where none is
-given.
+Needs Linux, and about four times the larger SIZE in MiB of memory, part of it in /dev/shm. If no SIZE is given, it is 256 for the speeds and 1,024 for the
+waiting.
 """
 import argparse
 import contextlib

@@ -1,4 +1,4 @@
-"""A client that is measured with: it writes whole requests from memory to a raw socket, and takes less time over a reply than `http.client` does."""
+"""The client of the measurements: it writes whole requests from memory to a raw socket, and takes less time for a reply than `http.client` does."""
 import collections
 import os
 import socket

@@ -3,8 +3,8 @@
 
     service.py PROGRAM
 
-PROGRAM is the built `bench_service`. Each of its words runs three times. Of both times that a word measures the least of three counts, and of
-the memory the most. Needs about 1.1 GiB of memory.
+PROGRAM is the built `bench_service`. Each of its words runs three times. A word measures two times, of which the least of three counts, and memory, of
+which the most counts. Needs about 1.1 GiB of memory.
 """
 import os
 import re

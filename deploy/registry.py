@@ -4,7 +4,7 @@
     registry.py PROGRAM       starts it, and says how an image is pushed and pulled
     registry.py --packages    only says which of Debian's packages are missing
 
-Exit status 1 where something is missing or doesn't start. All that it makes lies in a folder that goes with it.
+Exit status 1 if something is missing or doesn't start. All that it makes is in a folder, which it removes at its end.
 """
 import hashlib
 import io

@@ -1,6 +1,6 @@
 """Starts blobd and the servers that stand before it, with the settings of this folder, and ends them.
 
-They listen on the loopback address alone. Each is a `Service`, for as long as its `with` lasts; it ends too where the program that started it is killed.
+They listen on the loopback address alone. Each is a `Service`, for as long as its `with` lasts. It also ends if the program that started it is killed.
 """
 import ctypes
 import glob

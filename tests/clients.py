@@ -1,4 +1,4 @@
-"""Clients that make requests at random, and keep account of what they were told."""
+"""Clients that make requests at random, and record what they were told."""
 import collections
 import concurrent.futures
 import dataclasses

@@ -4,7 +4,7 @@
     connections.py PROGRAM
 
 Each tests/connections/NAME.in is what a client sends over one connection, NAME.out what has to come back, byte for byte, and NAME.status the
-exit status of `blobd once`. Besides these: very long connections, and connections cut after each byte. Closes with 'N passed, M failed'.
+exit status of `blobd once`. It also tries very long connections, and connections that are cut after each byte. Its last line is 'N passed, M failed'.
 """
 import concurrent.futures
 import unittest

@@ -5,10 +5,10 @@
 
 A stream is requests, whole, cut or changed somewhere (tests/streams.py).
 
-- `blobd once`: the bytes and the exit status. Of a stream that is answered otherwise, a part that still is is printed. The streams together have to
-  bring about each reply that the model knows and each end of a connection, but for what takes a thousand requests or more (tests/connections.py has
-  those).
-- `blobd serve` with one worker, two and eight, over sockets: for each of them a sixteenth as many streams again, of seeds of their own, and a new
+- `blobd once`: the bytes and the exit status. If a stream is answered otherwise than by the model, a short part of it is printed that is so too. The
+  streams together have to get each reply that the model knows and each end of a connection, except those that take a thousand requests or more
+  (tests/connections.py has these).
+- `blobd serve` with one worker, two and eight, over sockets: for each of them a sixteenth as many streams, of other seeds, and a new
   server for each. Every second stream goes over one connection, and the others go in turn over one to each worker, so that the workers have to share what
   they know. The references that it tells are compared without their secrets.
 

@@ -1,9 +1,9 @@
 #!/usr/bin/env python3
-"""Pushes files with the built program to servers whose replies come before their time: ahead of the request, or before it was sent whole.
+"""Pushes files with the built program to servers that reply too early: before the request, or before it was sent whole.
 
     early_replies.py PROGRAM
 
-Its closing line is 'N passed, M failed'.
+Its last line is 'N passed, M failed'.
 """
 import socket
 import tempfile

@@ -1,5 +1,5 @@
 #!/usr/bin/env python3
-"""Tries must-fail edits in a copy of the repository: the further ones, which stand under `crates/*/further-edits/`, or those that are named.
+"""Tries must-fail edits in a copy of the repository: the further ones, under `crates/*/further-edits/`, or those that are named.
 
     edits.py                 every further edit
     edits.py CRATE..         the further edits of these crates

@@ -3,11 +3,18 @@
 
     front.py PROGRAM
 
-It tries whether the settings are taken, who is let in and who may change what, which bodies are refused, with which words, and when 100 is said, uploads
-that are cancelled, manifests and tags, in HAProxy's memory and in Redis, also over reloads and kills, certificates that are renewed, clients that keep
-their connections and slow ones, how many connections a shard is given, what becomes of pushes when a shard is lost or has no memory, and images that
-`skopeo` and `docker` push and pull;
-`blobd push` through the adapter to `docker-registry`, `make registry` as a newcomer meets it, and the lines with which docs/OPERATIONS.md sets all up.
+It tries
+
+- the settings: whether they are accepted, who may log in, and who may change what;
+- refusals: which bodies are refused, with which words, and when 100 is sent;
+- uploads that are cancelled;
+- manifests and tags, in HAProxy's memory and in Redis, also over reloads and kills;
+- certificates that are renewed;
+- connections: clients that keep them, slow clients, and how many connections a shard gets;
+- what becomes of pushes if a shard is lost or out of memory;
+- images that `skopeo` and `docker` push and pull;
+- `blobd push` through the adapter to `docker-registry`;
+- `make registry`, and the lines of docs/OPERATIONS.md that set up a registry.
 
 Prints a line for each check that fails, one for each part whose packages aren't installed, and 'N passed, M failed' as the last.
 """

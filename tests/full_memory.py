@@ -3,11 +3,11 @@
 
     full_memory.py PROGRAM
 
-A server gets a limit on its address space a few MiB above what it has, and blobs and open uploads of one size or of mixed sizes until it refuses them in a
-row. Then each of its workers is asked for what is stored, for the status of each kind of upload, and for what is refused: each request has its usual
-reply. So it is with huge pages and without, if all threads share one heap, and of a worker that hadn't served anyone before memory was full.
+A server gets a limit on its address space a few MiB above what it has, and blobs and open uploads of one size or of mixed sizes until it refuses several
+in a row. Then each of its workers is asked for what is stored, for the status of each kind of upload, and for what is refused. Each request has to get its
+usual reply: with huge pages and without, if all threads share one heap, and from a worker that had served nobody before memory was full.
 
-Closes with 'N passed, M failed'.
+Its last line is 'N passed, M failed'.
 """
 import collections
 import os

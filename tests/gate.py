@@ -1,7 +1,7 @@
 #!/usr/bin/env python3
 """The whole gate: the repository's own checks, and the toolchain's gate over every crate.
 
-Each part ends with a line 'N passed, M failed'; so does the whole. Exit status 1 where anything failed.
+Each part ends with a line 'N passed, M failed'; so does the whole. Exit status 1 if anything failed.
 """
 import os
 import re

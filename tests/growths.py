@@ -1,16 +1,16 @@
 #!/usr/bin/env python3
-"""Has each growth refused in turn: in the tests that are written for it, and in the built program over whole connections.
+"""Refuses each growth of memory in turn: in the tests that are written for it, and in the built program over whole connections.
 
     growths.py PROGRAM
 
 A small library, loaded before the C library, refuses the Nth allocation of a process, N from 1 until a run meets none.
 
 - The tests are those of the crates whose name has `refused_growth`, in the test programs that `rt ci` and `rt test` leave in out/. Each of them
-  holds whichever growth is refused.
-- The program serves each connection of tests/connections/ (`blobd once`), and each with every request sent twice. Where the service was refused
-  memory, the request is answered 503 without a body, and the rest as over a connection without that request. Where the reader was, the connection
-  ends with status 3 after the replies to the requests before. What has to come is taken from undisturbed runs. Without memory for the words of its
-  command line the program says so: `fault: memory`, status 3.
+  passes whichever growth is refused.
+- The program serves each connection of tests/connections/ (`blobd once`), and each with every request sent twice. If the service was refused
+  memory, the request is answered 503 without a body, and the others as over a connection without that request. If the reader was, the connection
+  ends with status 3 after the replies to the requests before. The expected replies are those of undisturbed runs. If there is no memory for the words
+  of its command line, the program says so: `fault: memory`, status 3.
 
 Prints how many growths there were, and 'N passed, M failed' as the last. Without a C compiler nothing is run.
 """

@@ -1,5 +1,5 @@
 #!/usr/bin/env python3
-"""Measures the house: how much code, contracts, definitions and proofs there are, and where they are long or say a thing twice.
+"""Measures the sources: how much code, contracts, definitions and proofs there are, and where they are long or repeat something.
 
     house.py            prints the figures
     house.py WORD       prints the places behind the figure whose name begins so, such as `asks` or `wide`

@@ -4,7 +4,7 @@
     large.py PROGRAM
 
 A body of a known length, a chunked one, and a push of a file in one chunk. The contents are made and compared as they pass, so that this script
-holds none; the server holds each. Closes with 'N passed, M failed'.
+holds none; the server holds each. Its last line is 'N passed, M failed'.
 """
 import hashlib
 import random

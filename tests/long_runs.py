@@ -3,11 +3,11 @@
 
     long_runs.py PROGRAM [--requests N] [--blobs N]
 
-- Requests which leave the service as it is, each kind among them, over connections that take as many as one may. Each reply is compared with the
-  model's, and the server's memory has to stay level.
-- Small blobs. Tells what memory each takes, and pulls some.
+- Requests of each kind that leave the service as it is, as many over each connection as it may take. Each reply is compared with the model's, and the
+  server's memory must not grow.
+- Small blobs. It prints how much memory each takes, and pulls some.
 
-Closes with 'N passed, M failed'.
+Its last line is 'N passed, M failed'.
 """
 import random
 import time

@@ -4,7 +4,7 @@
     program.py PROGRAM
 
 It tries the command line; an address and descriptors that can't be had; references and their secrets; each status; connections that are kept, cut
-or silent, and peers that stay; uploads at once and beside clients that vanish; and uploads by `curl`, `skopeo`, `podman` and `buildah`.
+or silent, and peers that stay; several uploads at once, also beside clients that go away; and uploads by `curl`, `skopeo`, `podman` and `buildah`.
 
 Prints a line for each check that fails, one for each client that isn't installed, and 'N passed, M failed' as the last.
 """

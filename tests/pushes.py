@@ -3,8 +3,9 @@
 
     pushes.py PROGRAM
 
-It tries what a push prints, on a terminal too, and what it leaves; what is there already; sizes of chunks; servers that start again, that can't serve, that are silent, or whose
-replies are odd; signals; a close whose reply is lost; more chunks than one connection takes; pushes at once.
+It tries what a push prints, on a terminal too, and what it leaves in the server; files that are there already; sizes of chunks; servers that start again,
+that can't serve, that are silent, or whose replies are strange; signals; a close whose reply is lost; more chunks than one connection takes; several
+pushes at once.
 
 Prints a line for each check that fails, and 'N passed, M failed' as the last.
 """

@@ -1,7 +1,7 @@
 #!/usr/bin/env python3
 """Checks of the repository itself: what its files may say, and what must stand beside each public function.
 
-Prints a line for each check, and 'N passed, M failed' as the last. Exit status 1 where one failed.
+Prints a line for each check, and 'N passed, M failed' as the last. Exit status 1 if one failed.
 """
 import collections
 import os

@@ -3,16 +3,16 @@
 
     soak.py PROGRAM [--seconds N] [--clients N] [--seed FIRST]
 
-- The server has one worker, two, or eight. There are more clients than workers, by one to three where none is said: so some wait for others.
+- The server has one worker, two, or eight. There are more clients than workers, by one to three if --clients doesn't say how many. So some wait for others.
 - Clients (tests/clients.py) upload in chunks over connections of a few requests each. They send chunks that don't fit, close with digests that aren't the
-  content's, go away inside a request or before its reply, and ask twice at once: two closes, two chunks at one place, a chunk and a close. What an unheard
-  request came to they find out by asking again. Each blob that was committed is pulled at once, and all again at the end, and has to be the chunks that
-  were taken, joined.
-- The same where some growths of the server are refused by chance (tests/shims/growths.c; skipped without a C compiler). Then a request may be answered
-  503, or its connection end, and nothing else.
+  content's, go away inside a request or before its reply, and ask twice at once: two closes, two chunks at one place, a chunk and a close. If they hear no
+  reply, they ask again to find out what the request did. Each blob that was committed is pulled at once, and all again at the end. It has to be the
+  chunks that were taken, joined.
+- The same is done while some allocations of the server are refused at random (tests/shims/growths.c; skipped without a C compiler). Then a request may
+  be answered 503, or its connection may end, and nothing else.
 - At the end all workers have to serve at once, and the server may have printed nothing but its first line.
 
-Ends by itself. Closes with 'N passed, M failed'.
+It ends by itself. Its last line is 'N passed, M failed'.
 """
 import collections
 import functools

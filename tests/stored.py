@@ -3,8 +3,8 @@
 
     stored.py
 
-tests/connections holds them: what is sent, what comes back and the exit status. Where each request ends, and its reply, and how the connection ends
-is the model's (tests/model.py), which has to answer as the files say. The rows are laid out as `rt fmt` does.
+tests/connections has the connections: what is sent, what comes back and the exit status. The model (tests/model.py) says where each request and its
+reply end, and how the connection ends; it has to answer as the files say. The rows are laid out as `rt fmt` does.
 """
 import os
 import sys

@@ -1,7 +1,7 @@
 """Streams of requests for one connection, made from a seed.
 
-A maker keeps a model of the service beside what it makes, so that most requests are to the point: chunks at the right offset, digests of what is
-there. Each thing that PROTOCOL.md refuses is made now and then, and each way to write the same request. Then a stream may be cut or changed.
+A maker keeps a model of the service beside what it makes, so that most requests fit: chunks at the right offset, digests of what is
+there. Now and then it makes each request that PROTOCOL.md refuses, and writes a request in each way that is allowed. Then a stream may be cut or changed.
 """
 import random
 

@@ -7,9 +7,9 @@ An edit is a file `crates/CRATE/must-fail/NAME.edit`, or one under `further-edit
 
     wrong: what the edited function does wrong
     breaks: RepoName::read, <RepoName as Ord>::cmp     the functions whose contracts refuse it
-    ruled out by: `RepoName::read: named`              only for a mistake that the field knows: it stands in the first table
+    ruled out by: `RepoName::read: named`              only for a known mistake: it is a row of the first table
 
-Of the page only what stands between two marks is written; the rest is written by hand.
+Only what is between two marks of the page is written; the rest is written by hand.
 """
 import dataclasses
 import itertools

@@ -1,7 +1,7 @@
-"""Counts what passed and failed, and closes with 'N passed, M failed'.
+"""Counts what passed and failed, and prints 'N passed, M failed' as the last line.
 
-Scripts are `unittest` cases: their words are the built program, their own options, and then what `unittest` takes, as `-k NAME` for some of the cases. A case that
-has subtests counts as these. Where the steps of a case lead to one another it makes checks, and goes on where one fails; it counts as these too.
+Scripts are `unittest` cases: their words are the built program, their own options, and then what `unittest` takes, such as `-k NAME` for some of the cases.
+Of a case that has subtests these are counted. A case whose steps depend on one another makes checks, and goes on if one fails; these are counted too.
 """
 import argparse
 import fnmatch
