@@ -45,7 +45,7 @@ import unittest
 import warnings
 
 from harness import running, suite, wire
-from harness.running import sha256
+from harness.running import becomes, sha256
 from harness.suite import check
 
 TOP = os.path.dirname(os.path.dirname(os.path.abspath(__file__)))
@@ -882,14 +882,6 @@ def connections_of(site):
     told = next(line for line in site.haproxy.command("show stat").splitlines() if line.startswith("shards,shard1,"))
     waiting, _, connections, _, most = told.split(",")[2:7]
     return int(waiting), int(connections), int(most)
-
-
-def becomes(wanted, value):
-    """Whether a value becomes the wanted one."""
-    end = time.monotonic() + running.PATIENCE
-    while (is_wanted := value() == wanted) is False and time.monotonic() < end:
-        time.sleep(0.05)
-    return is_wanted
 
 
 @needs(*FRONT)

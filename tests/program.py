@@ -34,7 +34,7 @@ import unittest
 import urllib.parse
 
 from harness import running, shims, suite, wire
-from harness.running import USAGE, Server, ask, ask_alone, pull, rest_of, run, sha256, vanish
+from harness.running import USAGE, Server, ask, ask_alone, becomes, pull, rest_of, run, sha256, vanish
 from harness.suite import check
 
 MIB = 1 << 20
@@ -956,6 +956,7 @@ def silent_clients(hasty):
     content = random.Random(7).randbytes(64 * MIB)
     digest = sha256(content)
     with Server(env=hasty) as server:
+        quiet = server.descriptors()
         stored = ask_alone(server, "POST", f"/v2/lib/a/blobs/uploads/?digest={digest}", content)[0]
         check("a blob for a client that doesn't read it", stored == 201, stored)
         with server.connect() as halting, server.connect() as deaf, server.connect() as third:
@@ -968,10 +969,7 @@ def silent_clients(hasty):
             check("a third client once the silent ones are ended", reply.startswith(b"HTTP/1.1 200 OK\r\n"), reply)
             check("a minute of silence", 1.9 < waited < 55, waited)
             check("no reply to a client that stops inside a head", rest_of(halting) == b"")
-            # two connections at once are served once neither of the silent ones holds a worker
-            with contextlib.closing(server.client()) as one, contextlib.closing(server.client()) as other:
-                statuses = [ask(one, "GET", "/v2/")[0], ask(other, "GET", "/v2/")[0]]
-            check("two clients once the silent ones are ended", statuses == [200, 200], statuses)
+            check("the silent ones are ended", becomes(quiet, server.descriptors), server.descriptors())
             sent = len(rest_of(deaf))
             check("a client that reads nothing isn't sent all", sent < len(content), sent)
 

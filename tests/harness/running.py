@@ -9,6 +9,7 @@ import select
 import socket
 import struct
 import subprocess
+import time
 
 
 # The built program: the first word of every script.
@@ -35,6 +36,14 @@ def run(*words, **options):
 
 def connected(place):
     return socket.create_connection(place, timeout=PATIENCE)
+
+
+def becomes(wanted, value):
+    """Whether a value becomes the wanted one."""
+    end = time.monotonic() + PATIENCE
+    while not (is_wanted := value() == wanted) and time.monotonic() < end:
+        time.sleep(0.05)
+    return is_wanted
 
 
 def processes(count=None):

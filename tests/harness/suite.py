@@ -8,6 +8,7 @@ import fnmatch
 import functools
 import inspect
 import os
+import signal
 import sys
 import tempfile
 import threading
@@ -107,6 +108,8 @@ def main(description, **options):
         parser.add_argument(f"--{name}", type=type(default), default=default, help=f"{told} ({default})")
     _, words = parser.parse_known_args(namespace=OPTIONS)
     running.PROGRAM = os.path.abspath(OPTIONS.program)
+    # In the background of a shell this is ignored, and what is started here would ignore it too.
+    signal.signal(signal.SIGINT, signal.default_int_handler)
     unittest.main(argv=[sys.argv[0], *words], testRunner=Runner())
 
 
