@@ -4,7 +4,8 @@
     program.py PROGRAM
 
 It tries the command line; an address and descriptors that can't be had; references and their secrets; each status; connections that are kept, cut
-or silent, and peers that stay; several uploads at once, also beside clients that go away; and uploads by `curl`, `skopeo`, `podman` and `buildah`.
+or silent, and peers that stay; how much is moved at once, and which thread hashes; several uploads at once, also beside clients that go away; and uploads by
+`curl`, `skopeo`, `podman` and `buildah`.
 
 Prints a line for each check that fails, one for each client that isn't installed, and 'N passed, M failed' as the last.
 """
@@ -14,6 +15,7 @@ import contextlib
 import errno
 import fcntl
 import gzip
+import hashlib
 import http.client
 import io
 import json
@@ -28,6 +30,7 @@ import socket
 import subprocess
 import tarfile
 import tempfile
+import termios
 import threading
 import time
 import unittest
@@ -178,6 +181,46 @@ def peers_that_stay_hold_no_worker():
             check("the reply to a peer that stays", rest_of(peer).startswith(b"HTTP/1.1 400 "))
         waited = time.monotonic() - begun
         check("peers that stay hold no worker", waited < 40, waited)
+
+
+def ended_connections(server):
+    """Connections that end in each way: by a request that asks to close, by the client, by a refused head, inside a body, and by a reset."""
+    ask_alone(server, "GET", "/v2/")
+    with contextlib.closing(server.client()) as client:
+        ask(client, "GET", "/v2/")
+    with server.connect() as refused:
+        refused.sendall(b"GET /v2/ HTTP/9.9\r\n\r\n")
+        rest_of(refused)
+    for ends in (socket.socket.close, vanish):
+        cut = server.connect()
+        cut.sendall(b"PUT /v2/ HTTP/1.1\r\nContent-Length: 3\r\n\r\nab")
+        ends(cut)
+
+
+def sends_on(peer, until):
+    """Sends a byte now and then, until it is told to stop or can't."""
+    with contextlib.suppress(OSError):
+        while not until.wait(0.05):
+            peer.sendall(b"x")
+
+
+def sockets_are_closed():
+    """A server keeps no descriptor of a connection that has ended, also if its peer stays and is silent, or sends on for ever."""
+    with Server() as server, contextlib.ExitStack() as staying:
+        begun, over = server.descriptors(), threading.Event()
+        peers = [staying.enter_context(server.connect()) for _ in range(4)]
+        for peer in peers:
+            peer.sendall(b"GET /v2/ HTTP/9.9\r\n\r\n")
+            check("the reply to a peer whose connection is closed", rest_of(peer).startswith(b"HTTP/1.1 400 "))
+        endless = [threading.Thread(target=sends_on, args=(peer, over)) for peer in peers[:2]]
+        for thread in endless:
+            thread.start()
+        for _ in range(20):
+            ended_connections(server)
+        check("the descriptors once each connection has ended", becomes(begun, server.descriptors), (begun, server.descriptors()))
+        over.set()
+        for thread in endless:
+            thread.join()
 
 
 def kept_connections():
@@ -354,6 +397,7 @@ def logs_requests():
         with Server(20, env=env, stderr=subprocess.PIPE) as server:
             place = opened(server, "lib/a")
             ask_alone(server, "PATCH", place, b"abc")
+            misplaced = ask_alone(server, "PATCH", place, b"abc", Content_Range="0-2")[2]
             ask_alone(server, "HEAD", place)
             ask_alone(server, "PUT", f"{place}?digest={sha256(b'abc')}")
             ask_alone(server, "GET", f"/v2/lib/a/blobs/{sha256(b'abc')}")
@@ -370,7 +414,9 @@ def logs_requests():
                 other.sendall(b"PUT /v2/ HTTP/1.1\r\nContent-Length: 3\r\n\r\nab")
             unreadable = b"GET /v2/ HTTP/9.9\r\n\r\n"
             strange = [b"%b %b HTTP/1.1\r\nConnection: close\r\n\r\n" % words for words, _ in STRANGE]
-            for text in (b"PATCH %b HTTP/1.1\r\nTransfer-Encoding: gzip\r\n\r\n" % place.encode(), unreadable, unreadable, *strange):
+            too_large = b"PUT /v2/ HTTP/1.1\r\nContent-Length: 2147483649\r\n\r\n"
+            too_long = b"GET /v2/ HTTP/1.1\r\nX: ".ljust(16384, b"a")
+            for text in (b"PATCH %b HTTP/1.1\r\nTransfer-Encoding: gzip\r\n\r\n" % place.encode(), too_large, too_long, unreadable, unreadable, *strange):
                 with server.connect() as connection:
                     connection.sendall(text)
                     rest_of(connection)
@@ -380,6 +426,7 @@ def logs_requests():
         wanted = [
             "POST /v2/lib/a/blobs/uploads/ 202 0",
             f"PATCH {place} 202 0",
+            f"PATCH {place} 416 {len(misplaced)}",
             f"HEAD {place} 204 0",
             f"PUT {place}?digest={sha256(b'abc')} 201 0",
             f"GET /v2/lib/a/blobs/{sha256(b'abc')} 200 3",
@@ -391,7 +438,9 @@ def logs_requests():
             f"GET /v2/Lib/blobs/uploads/?a=%20b 404 {len(refused[2])}",
             f"GET {long[:1_000]} 404 {len(refused[3])}",
             f"PATCH {place} 411 0",
+            "PUT /v2/ 413 0",
             # no head could be read of these
+            "- 431 0",
             "- 400 0",
             "- 400 0",
             *(f"{line} 404 {len(refused[0])}" for _, line in STRANGE),
@@ -479,10 +528,10 @@ def log_read_late():
 
 
 def first_references():
-    """Two servers draw secrets of their own: the references of their first sessions differ."""
+    """Two servers draw secrets of their own: the references of their first sessions differ. Each has one worker, so that the same one answers."""
     places = []
     for _ in range(2):
-        with Server(1) as server:
+        with Server(1, env=with_workers("1")) as server:
             places.append(opened(server, "lib/a"))
     check("the first references of two servers", places[0] != places[1], places)
 
@@ -951,6 +1000,19 @@ def statuses():
             client.close()
 
 
+def many_uploads():
+    """More uploads one behind the other than may be open at once, and more blobs: each is stored, and each comes back."""
+    contents = [b"%d" % number for number in range(1_500)]
+    with Server() as server, contextlib.closing(server.client()) as client:
+        statuses = collections.Counter()
+        for content in contents:
+            opening, fields, _ = ask(client, "POST", "/v2/lib/a/blobs/uploads/")
+            statuses[opening, ask(client, "PUT", f"{fields['Location']}?digest={sha256(content)}", content)[0]] += 1
+        check("many uploads", statuses == {(202, 201): 1_500}, statuses)
+        pulled = [ask(client, "GET", f"/v2/lib/a/blobs/{sha256(content)}")[2] for content in contents]
+        check("what many uploads left", pulled == contents)
+
+
 def silent_clients(hasty):
     """A client that stops inside a head and one that reads nothing of its reply are ended after a minute, or two, which take seconds here."""
     content = random.Random(7).randbytes(64 * MIB)
@@ -1039,6 +1101,44 @@ def sends_at_once(folder):
     check("connections that send at once", (replies, ended, sent_at_once) == ([200, 200], ("served\n", 0), 2), (replies, ended, options))
 
 
+def arrive(connection):
+    """Waits until what was sent has come to the other side's system."""
+    until = time.monotonic() + running.PATIENCE
+    while any(fcntl.ioctl(connection, termios.TIOCOUTQ, bytes(4))) and time.monotonic() < until:
+        time.sleep(0.01)
+
+
+def moves_much_at_once(folder):
+    """A request that has come takes one read, and a reply takes one write, and one more if it has a large body."""
+    told, content = os.path.join(folder, "moves"), random.Random(9).randbytes(50_000)
+    blob = f"/v2/lib/a/blobs/{sha256(content)}"
+    closing = [("Connection", "close")]
+    first = wire.request_text("GET", "/v2/")
+    store = wire.request_text("POST", f"/v2/lib/a/blobs/uploads/?digest={sha256(content)}", content, closing)
+    pull_it = wire.request_text("GET", blob, fields=closing)
+    env = shims.environment(shims.compiled(folder, "moves"), MOVES_TOLD=told) | {"BLOBD_WORKERS": "1"}
+    with Server(3, env=env) as server:
+        with server.connect() as holding:
+            holding.sendall(first)
+            replies = [holding.recv(65536)]
+            # while the one worker has that connection, the requests over the next two come whole
+            others = [server.connect(), server.connect()]
+            for other, text in zip(others, (store, pull_it)):
+                other.sendall(text)
+                arrive(other)
+        for other in others:
+            with other:
+                replies.append(rest_of(other))
+        ended = server.ended()
+    head, _, body = replies[2].partition(b"\r\n\r\n")
+    check("replies before their moves are counted", (body, ended) == (content, ("served\n", 0)), (replies[:2], head, ended))
+    wanted = [("recv", len(first)), ("send", len(replies[0])), ("recv", len(store)), ("send", len(replies[1]))]
+    wanted += [("recv", len(pull_it)), ("send", len(head) + 4), ("send", len(content))]
+    with open(told, encoding="ascii") as file:
+        moves = [(call, int(count)) for call, count in map(str.split, file)]
+    check("how much is moved at once", moves == wanted, moves[:50])
+
+
 def idle_upload(folder):
     """An upload that pauses is there for an hour behind its last chunk, by the program's own clock, and not for longer."""
     ahead = os.path.join(folder, "ahead")
@@ -1062,6 +1162,7 @@ def within_seconds():
         failing_accepts(folder)
         idle_upload(folder)
         sends_at_once(folder)
+        moves_much_at_once(folder)
         hasty = shims.environment(shims.compiled(folder, "minutes"))
         no_descriptors(hasty)
         silent_clients(hasty)
@@ -1077,6 +1178,98 @@ def paused_upload():
         second = ask_alone(server, "PATCH", place, b"def")[0]
         third = ask_alone(server, "PUT", f"{place}?digest={sha256(b'abcdef')}")[0]
         check("an upload that pauses for four seconds", (first, second, third) == (202, 202, 201), (first, second, third))
+
+
+def processor_times(server):
+    """The nanoseconds that the thread which owns the service has had a processor, and those of all other threads."""
+    times = {}
+    for thread in os.listdir(f"/proc/{server.process.pid}/task"):
+        with open(f"/proc/{server.process.pid}/task/{thread}/schedstat", encoding="ascii") as file:
+            times[int(thread)] = int(file.read().split()[0])
+    keeper = times.pop(server.process.pid)
+    return keeper, sum(times.values())
+
+
+class Hashing:
+    """A client of a server with one worker, which looks where its uploads are hashed: by the worker, or by the thread that owns the service."""
+
+    def __init__(self, server):
+        self.server, self.client = server, server.client()
+        self.chance, self.before, self.replies = random.Random(12), (0, 0), []
+
+    def ask(self, method, target, body=b""):
+        status, fields, _ = ask(self.client, method, target, body)
+        self.replies.append(status)
+        return fields["Location"]
+
+    def opens(self):
+        return self.ask("POST", "/v2/lib/a/blobs/uploads/")
+
+    def content(self):
+        """Bytes that no upload before had, so that no blob is replaced."""
+        return self.chance.randbytes(32 * MIB)
+
+    def spent(self):
+        """The processor times since it was last asked. Once this request is answered, all that was begun before is done."""
+        self.ask("GET", "/v2/")
+        before, self.before = self.before, processor_times(self.server)
+        return tuple(now - then for now, then in zip(self.before, before))
+
+    def hashed_by_the_worker(self, algorithm, *uploading):
+        """Whether the keeper has little to do for an upload that is sent so, and the worker has much."""
+        content = self.content()
+        digest = f"{algorithm}:{hashlib.new(algorithm, content).hexdigest()}"
+        place = self.opens()
+        self.spent()
+        for method, target, has_body in uploading:
+            self.ask(method, target.format(place=place, digest=digest), content if has_body else b"")
+        keeper, worker = self.spent()
+        return keeper * 8 < worker, (keeper, worker)
+
+    def hashed_between_requests(self):
+        """Whether the close of an upload leaves little to do of what its second chunk does."""
+        content = self.content()
+        place = self.opens()
+        self.ask("PATCH", place, content[:1])
+        self.spent()
+        self.ask("PATCH", place, content[1:])
+        chunk, _ = self.spent()
+        self.ask("PUT", f"{place}?digest={sha256(content)}")
+        close, _ = self.spent()
+        return close * 8 < chunk, (close, chunk)
+
+
+# How an upload is sent of which its worker hashes all bytes as they come.
+SINGLE = [("POST", "/v2/lib/a/blobs/uploads/?digest={digest}", True)]
+WITH_THE_CLOSE = [("PUT", "{place}?digest={digest}", True)]
+IN_ONE_CHUNK = [("PATCH", "{place}", True), ("PUT", "{place}?digest={digest}", False)]
+
+
+def each_byte_is_hashed_once():
+    """A large body that is the first of its upload is hashed by its worker as it comes, and not again. A later one is hashed between two requests,
+    and not at the close. What a thread does is told from the time that it has a processor, compared with that of another thread or request. A machine that is
+    stopped while one of them runs may disturb one try, and not each of three."""
+    if not os.path.exists("/proc/self/schedstat"):
+        print("skipped: the system doesn't tell the processor time of threads")
+        return
+    with Server(env=with_workers("1")) as server:
+        hashing = Hashing(server)
+        looks = {
+            "a POST by its sha256": lambda: hashing.hashed_by_the_worker("sha256", *SINGLE),
+            "a POST by its sha512": lambda: hashing.hashed_by_the_worker("sha512", *SINGLE),
+            "a body of a close by its sha256": lambda: hashing.hashed_by_the_worker("sha256", *WITH_THE_CLOSE),
+            "a body of a close by its sha512": lambda: hashing.hashed_by_the_worker("sha512", *WITH_THE_CLOSE),
+            "a first chunk": lambda: hashing.hashed_by_the_worker("sha256", *IN_ONE_CHUNK),
+            "a second chunk": hashing.hashed_between_requests,
+        }
+        for name, look in looks.items():
+            for _ in range(3):
+                is_once, told = look()
+                if is_once:
+                    break
+            check(f"how often {name} is hashed", is_once, told)
+        check("the replies to what is hashed", set(hashing.replies) == {200, 201, 202}, collections.Counter(hashing.replies))
+        hashing.client.close()
 
 
 def load_tests(*_):
@@ -1102,11 +1295,14 @@ def load_tests(*_):
         first_references,
         secrets_are_drawn,
         statuses,
+        many_uploads,
         paused_upload,
         kept_connections,
         refused_heads,
         peers_that_stay,
         peers_that_stay_hold_no_worker,
+        sockets_are_closed,
+        each_byte_is_hashed_once,
         two_uploads_at_once,
         clients_that_vanish,
         curl_uploads,

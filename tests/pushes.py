@@ -3,9 +3,9 @@
 
     pushes.py PROGRAM
 
-It tries what a push prints, on a terminal too, and what it leaves in the server; files that are there already; sizes of chunks; servers that start again,
-that can't serve, that are silent, or whose replies are strange; signals; a close whose reply is lost; more chunks than one connection takes; several
-pushes at once.
+It tries what a push prints, on a terminal too, and what it leaves in the server; files that are there already; sizes of chunks, and how much is moved at
+once; an IPv6 address; servers that start again, that can't serve, that are silent, or whose replies are strange; signals; a close whose reply is lost; more
+chunks than one connection takes; several pushes at once.
 
 Prints a line for each check that fails, and 'N passed, M failed' as the last.
 """
@@ -258,6 +258,43 @@ def logged(server):
     return [line.split(" ")[0] for line in server.process.stderr.read().splitlines()]
 
 
+def another_version(folder):
+    """A push goes to an IPv6 address as it goes to an IPv4 one."""
+    try:
+        socket.socket(socket.AF_INET6).bind(("::1", 0))
+    except OSError:
+        print("skipped: the system has no IPv6")
+        return
+    with Server(100, host="[::1]") as server:
+        ended = push(server.addr, "lib/a", written(folder, b"abc"), 2)
+        check("a push to an IPv6 address", ended == pushed(b"abc"), ended)
+        check("what it left at an IPv6 address", pull(server, "lib/a", sha256(b"abc")) == b"abc")
+
+
+def moves_much_at_once(folder):
+    """A push writes each request at once, a chunk's bytes behind its head, without delay; and it reads each reply at once."""
+    if not shims.has_compiler():
+        print(f"skipped: {shims.NO_COMPILER}: how much a push moves at once")
+        return
+    content = random.Random(9).randbytes(50_000)
+    path, told, options = written(folder, content), os.path.join(folder, "moves"), os.path.join(folder, "options")
+    with Server(100) as server:
+        env = shims.environment(shims.compiled(folder, "moves"), MOVES_TOLD=told)
+        ended = run("push", server.addr, "lib/a", path, env=env)
+        check("a push whose moves are counted", ended == pushed(content), ended)
+        env = shims.environment(shims.compiled(folder, "options"), OPTIONS_TOLD=options)
+        ended = run("push", server.addr, "lib/b", path, env=env)
+        check("a push whose options are told", ended == pushed(content), ended)
+    with open(told, encoding="ascii") as file:
+        moves = [line.split() for line in file]
+    # HEAD, POST, PATCH and PUT
+    calls = ["send", "recv", "send", "recv", "send", "send", "recv", "send", "recv"]
+    check("how much a push moves at once", [call for call, _ in moves] == calls and moves[5][1] == "50000", moves[:50])
+    with open(options, encoding="ascii") as file:
+        set_so = [tuple(map(int, line.split())) for line in file]
+    check("a push that writes without delay", set_so.count((socket.IPPROTO_TCP, socket.TCP_NODELAY, 1)) == 1, set_so)
+
+
 def what_is_there(folder):
     """A HEAD goes first. If it finds the blob nothing is sent; what another repository has is sent."""
     abc = written(folder, b"abc")
@@ -446,6 +483,8 @@ def load_tests(*_):
         a_bar_on_a_terminal,
         servers_that_come_again,
         strange_servers,
+        another_version,
+        moves_much_at_once,
         what_is_there,
         chunks_of_sizes,
         silent_servers,
