@@ -583,10 +583,21 @@ def switches():
     check("a command that logs nothing", ran == ("", 0, ""), ran)
 
 
-def one_worker_alone():
+def threads_that_are_refused(folder):
+    """Without its threads a server ends, once those that it has have ended, and says why."""
+    library = shims.compiled(folder, "threads")
+    with Server(1, env=shims.environment(library, THREADS_ALLOWED=0)) as server:
+        check("no thread for a worker", server.end() == ("fault: workers\n", 3))
+    with Server(1, env=LOGGED | shims.environment(library, THREADS_ALLOWED=0)) as server:
+        told = server.first_line, *server.ended()
+        check("no thread for a log", told == ("fault: log\n", "", 3), told)
+    # the one that closes connections, and one worker
+    one_worker_alone(shims.environment(library, THREADS_ALLOWED=2))
+
+
+def one_worker_alone(env):
     """A worker without another has nobody to ask, and stops behind the first request that found that out."""
-    # there is room for the stacks of two threads: the one that closes connections, and one worker
-    with Server(1000, limits=[f"-s {1_400 << 10}", f"-v {4 << 20}"]) as server:
+    with Server(1000, env=env) as server:
         with server.connect() as connection:
             connection.sendall(b"GET /v2/ HTTP/1.1\r\n\r\n")
             reply = rest_of(connection)
@@ -736,18 +747,15 @@ def stop_for_a_while(server):
         server.process.send_signal(signal.SIGCONT)
 
 
+def workers_have_small_stacks():
+    """All the workers that there may be have their stacks in an address space that 64 of the system's own size would fill."""
+    with Server(1, limits=[f"-v {512 << 10}"], env=with_workers("256") | {"MALLOC_ARENA_MAX": "1"}) as server:
+        check("256 workers in 512 MiB", server.end() == ("served\n", 0))
+
+
 def faults():
     taken_address()
-    most_stack = resource.getrlimit(resource.RLIMIT_STACK)[1]
-    if most_stack != resource.RLIM_INFINITY and most_stack < 8 << 30:
-        print("skipped: the system allows no stack so large that a worker can't be started")
-    else:
-        with Server(1, limits=[f"-s {8 << 20}", f"-v {4 << 20}"]) as server:
-            check("no memory for a worker", server.end() == ("fault: workers\n", 3))
-        with Server(1, limits=[f"-s {8 << 20}", f"-v {4 << 20}"], env=LOGGED) as server:
-            told = server.first_line, *server.ended()
-            check("no thread for a log", told == ("fault: log\n", "", 3), told)
-        one_worker_alone()
+    workers_have_small_stacks()
     with open("/dev/full", "w", encoding="utf-8") as full:
         ended = subprocess.run([running.PROGRAM, "serve", "127.0.0.1:0", "1"], stdout=full, timeout=running.PATIENCE, check=False)
         check("a line that can't be printed", ended.returncode == 3, ended.returncode)
@@ -1154,15 +1162,16 @@ def idle_upload(folder):
 
 
 def within_seconds():
-    """What a library brings about: accepts that fail, and minutes and hours that pass in seconds."""
+    """What a library brings about: accepts that fail, threads that are refused, and minutes and hours that pass in seconds."""
     if not shims.has_compiler():
-        print(f"skipped: {shims.NO_COMPILER}: failed accepts, and what takes a minute or an hour")
+        print(f"skipped: {shims.NO_COMPILER}: failed accepts, refused threads, and what takes a minute or an hour")
         return
     with tempfile.TemporaryDirectory() as folder:
         failing_accepts(folder)
         idle_upload(folder)
         sends_at_once(folder)
         moves_much_at_once(folder)
+        threads_that_are_refused(folder)
         hasty = shims.environment(shims.compiled(folder, "minutes"))
         no_descriptors(hasty)
         silent_clients(hasty)

@@ -151,7 +151,7 @@ where
     print_line(&mut out, "fault: file", FAULT)
 }
 
-/// The words behind the program's name. An error is want of memory, or says that a word isn't UTF-8.
+/// The words behind the program's name. An error is out of memory, or says that a word isn't UTF-8.
 fn args_of(rt: &HostRuntime) -> io::Result<Vec<String>> {
     Ok(env::args(rt)?.skip(1).collect::<Vec<String>>(rt.alloc())?)
 }

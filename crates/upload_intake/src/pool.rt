@@ -16,6 +16,7 @@ use crate::seat::{Seat, SeatEnd};
 use crate::secrets::Secrets;
 use crate::settlement::{Settled, lines_of, settle_all};
 use crate::work::{Station, Work, Worker, WorkerEnd, serve_station};
+use core::thread::Stack;
 use std::alloc::{AllocError, Global};
 use std::snapshot::Snapshot;
 use std::sync::Wait;
@@ -68,6 +69,9 @@ impl fmt::Display for ServeFault {
 }
 
 impl std::error::Error for ServeFault {}
+
+/// The stack of a worker's thread, in bytes.
+const STACK: usize = 524_288;
 
 /// A worker's thread, which promises what it leaves.
 type Started<C, S, G> = PromisedHandle<(SeatEnd, WorkerEnd), Work<C, S, G>>;
@@ -228,7 +232,9 @@ where
                 let work = Work {
                     station: Snapshot::of(&station),
                 };
-                let Ok(worker) = scope.spawn_with(work, move || serve_station(rt, station)) else {
+                let stack = Stack::new().stack_size(STACK);
+                let run = move || serve_station(rt, station);
+                let Ok(worker) = stack.spawn_scoped_with(scope, work, run) else {
                     drop(keeper);
                     drop(join_all(rt, started, room));
                     return Err(ServeFault::NoThread);

@@ -9,8 +9,8 @@ use Rattle.upload_intake.proofs.Pooling.{still_of_one_call, served_pool}
 use Rattle.upload_intake.proofs.pool.fn.serve_workers.scope.Goals as goal
 
 -- what a thread's closure captures may cross to it
-pub spawn_with-requires-clause-runs : goal.spawn_with-requires-clause-runs
-spawn_with-requires-clause-runs g c κs within =
+pub spawn_scoped_with-requires-clause-runs : goal.spawn_scoped_with-requires-clause-runs
+spawn_scoped_with-requires-clause-runs g c κs within =
     let s = c.requires.cross in
     (search (sendable, s) depth 20, search (sendable, s) depth 20, search (sendable, s) depth 20, search (sendable, s) depth 20, search (sendable, s) depth 20, search (sendable, s) depth 20)
 
