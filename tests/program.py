@@ -1190,17 +1190,17 @@ def paused_upload():
 
 
 def processor_times(server):
-    """The nanoseconds that the thread which owns the service has had a processor, and those of all other threads."""
-    times = {}
-    for thread in os.listdir(f"/proc/{server.process.pid}/task"):
-        with open(f"/proc/{server.process.pid}/task/{thread}/schedstat", encoding="ascii") as file:
-            times[int(thread)] = int(file.read().split()[0])
-    keeper = times.pop(server.process.pid)
-    return keeper, sum(times.values())
+    """The seconds that the thread which owns the service has had a processor, and those of all other threads, also of those that have ended."""
+    pid = server.process.pid
+    with open(f"/proc/{pid}/task/{pid}/schedstat", encoding="ascii") as file:
+        keeper = int(file.read().split()[0]) / 1e9
+    with open(f"/proc/{pid}/stat", encoding="ascii") as file:
+        ticks = sum(map(int, file.read().rpartition(")")[2].split()[11:13]))
+    return keeper, ticks / os.sysconf("SC_CLK_TCK") - keeper
 
 
 class Hashing:
-    """A client of a server with one worker, which looks where its uploads are hashed: by the worker, or by the thread that owns the service."""
+    """A client of a server with one worker, which looks whether its uploads are hashed by the thread that owns the service, or by others."""
 
     def __init__(self, server):
         self.server, self.client = server, server.client()
@@ -1219,64 +1219,54 @@ class Hashing:
         return self.chance.randbytes(32 * MIB)
 
     def spent(self):
-        """The processor times since it was last asked. Once this request is answered, all that was begun before is done."""
+        """The processor times since it was last asked. Once this request is answered, the thread that owns the service has done all that it had begun."""
         self.ask("GET", "/v2/")
         before, self.before = self.before, processor_times(self.server)
         return tuple(now - then for now, then in zip(self.before, before))
 
-    def hashed_by_the_worker(self, algorithm, *uploading):
-        """Whether the keeper has little to do for an upload that is sent so, and the worker has much."""
+    def hashed_by_others(self, algorithm, *uploading):
+        """Whether the thread that owns the service has little to do for an upload that is sent so, and other threads have much."""
         content = self.content()
         digest = f"{algorithm}:{hashlib.new(algorithm, content).hexdigest()}"
         place = self.opens()
         self.spent()
-        for method, target, has_body in uploading:
-            self.ask(method, target.format(place=place, digest=digest), content if has_body else b"")
-        keeper, worker = self.spent()
-        return keeper * 8 < worker, (keeper, worker)
-
-    def hashed_between_requests(self):
-        """Whether the close of an upload leaves little to do of what its second chunk does."""
-        content = self.content()
-        place = self.opens()
-        self.ask("PATCH", place, content[:1])
-        self.spent()
-        self.ask("PATCH", place, content[1:])
-        chunk, _ = self.spent()
-        self.ask("PUT", f"{place}?digest={sha256(content)}")
-        close, _ = self.spent()
-        return close * 8 < chunk, (close, chunk)
+        for method, target, part in uploading:
+            self.ask(method, target.format(place=place, digest=digest), content[part])
+        keeper, others = self.spent()
+        return keeper * 4 < others, (keeper, others)
 
 
-# How an upload is sent of which its worker hashes all bytes as they come.
-SINGLE = [("POST", "/v2/lib/a/blobs/uploads/?digest={digest}", True)]
-WITH_THE_CLOSE = [("PUT", "{place}?digest={digest}", True)]
-IN_ONE_CHUNK = [("PATCH", "{place}", True), ("PUT", "{place}?digest={digest}", False)]
+ALL, NOTHING = slice(None), slice(0)
+# How an upload is sent: the requests, and which part of the content each has.
+SINGLE = [("POST", "/v2/lib/a/blobs/uploads/?digest={digest}", ALL)]
+WITH_THE_CLOSE = [("PUT", "{place}?digest={digest}", ALL)]
+IN_ONE_CHUNK = [("PATCH", "{place}", ALL), ("PUT", "{place}?digest={digest}", NOTHING)]
+IN_TWO_CHUNKS = [("PATCH", "{place}", slice(1)), ("PATCH", "{place}", slice(1, None)), ("PUT", "{place}?digest={digest}", NOTHING)]
 
 
 def each_byte_is_hashed_once():
-    """A large body that is the first of its upload is hashed by its worker as it comes, and not again. A later one is hashed between two requests,
-    and not at the close. What a thread does is told from the time that it has a processor, compared with that of another thread or request. A machine that is
-    stopped while one of them runs may disturb one try, and not each of three."""
+    """A large body that is the first of its upload is hashed by its worker as it comes, and not again. A later one is hashed in a thread of its own. What a
+    thread does is told from the time that it has a processor, compared with that of others. A machine that is stopped while one of them runs may disturb one
+    try, and not each of three."""
     if not os.path.exists("/proc/self/schedstat"):
         print("skipped: the system doesn't tell the processor time of threads")
         return
     with Server(env=with_workers("1")) as server:
         hashing = Hashing(server)
         looks = {
-            "a POST by its sha256": lambda: hashing.hashed_by_the_worker("sha256", *SINGLE),
-            "a POST by its sha512": lambda: hashing.hashed_by_the_worker("sha512", *SINGLE),
-            "a body of a close by its sha256": lambda: hashing.hashed_by_the_worker("sha256", *WITH_THE_CLOSE),
-            "a body of a close by its sha512": lambda: hashing.hashed_by_the_worker("sha512", *WITH_THE_CLOSE),
-            "a first chunk": lambda: hashing.hashed_by_the_worker("sha256", *IN_ONE_CHUNK),
-            "a second chunk": hashing.hashed_between_requests,
+            "a POST by its sha256": ("sha256", *SINGLE),
+            "a POST by its sha512": ("sha512", *SINGLE),
+            "a body of a close by its sha256": ("sha256", *WITH_THE_CLOSE),
+            "a body of a close by its sha512": ("sha512", *WITH_THE_CLOSE),
+            "a first chunk": ("sha256", *IN_ONE_CHUNK),
+            "a second chunk": ("sha256", *IN_TWO_CHUNKS),
         }
         for name, look in looks.items():
             for _ in range(3):
-                is_once, told = look()
+                is_once, told = hashing.hashed_by_others(*look)
                 if is_once:
                     break
-            check(f"how often {name} is hashed", is_once, told)
+            check(f"who hashes {name}", is_once, told)
         check("the replies to what is hashed", set(hashing.replies) == {200, 201, 202}, collections.Counter(hashing.replies))
         hashing.client.close()
 

@@ -12,6 +12,7 @@ use std::alloc::{AllocError, Global};
 use std::process::Abort;
 use std::slice::Iter;
 use std::test::Fail;
+use std::thread::Threads;
 use upload_names::{Algorithm, BlobDigest};
 use upload_service::{Answer, Ask, Extent, Limits, Refusal, Service};
 
@@ -324,12 +325,34 @@ impl Upload {
         Ok(matches!(&answer, Answer::Taken { .. }))
     }
 
-    fn catch_up(&mut self) {
-        self.service.catch_up(&reference(ONE));
-        self.service.catch_up(&reference(TWO));
+    /// Has the hash of the session catch up, and that of one which isn't there.
+    fn catch_up(&mut self, rt: &impl Threads) {
+        match self.way.hashing {
+            Hashing::AtTheCloses => {}
+            Hashing::InTurn => {
+                self.service.catch_up(&reference(ONE));
+                self.service.catch_up(&reference(TWO));
+            }
+            Hashing::Beside | Hashing::BesideAndJoined => {
+                self.service.catch_up_beside(rt, &reference(ONE));
+                self.service.catch_up_beside(rt, &reference(TWO));
+            }
+        }
     }
 
-    fn close(&mut self, digest: BlobDigest, body: &[u8]) -> Result<Answer, Unmade> {
+    fn step(&mut self, rt: &impl Threads, ask: Ask) -> Answer {
+        match self.way.hashing {
+            Hashing::BesideAndJoined => self.service.step_joining(rt, ask, [0; 12], 0),
+            _ => self.service.step(ask, [0; 12], 0),
+        }
+    }
+
+    fn close(
+        &mut self,
+        rt: &impl Threads,
+        digest: BlobDigest,
+        body: &[u8],
+    ) -> Result<Answer, Unmade> {
         let close = Ask::Close {
             name: name(self.alloc, b"lib/a")?,
             at: reference(ONE),
@@ -337,17 +360,22 @@ impl Upload {
             digest: Some(digest),
             body: body_of(self.alloc, self.way.hashed, body)?,
         };
-        Ok(self.service.step(close, [0; 12], 0))
+        Ok(self.step(rt, close))
     }
 
-    fn refuses_another_content(&mut self, body: &[u8]) -> Result<bool, Unmade> {
+    fn refuses_another_content(&mut self, rt: &impl Threads, body: &[u8]) -> Result<bool, Unmade> {
         let wrong = BlobDigest::of(self.way.algorithm, b"another content");
-        let answer = self.close(wrong, body)?;
+        let answer = self.close(rt, wrong, body)?;
         Ok(matches!(&answer, Answer::Refused(Refusal::Mismatch)))
     }
 
-    fn stores(&mut self, digest: BlobDigest, body: &[u8]) -> Result<bool, Unmade> {
-        let answer = self.close(digest, body)?;
+    fn stores(
+        &mut self,
+        rt: &impl Threads,
+        digest: BlobDigest,
+        body: &[u8],
+    ) -> Result<bool, Unmade> {
+        let answer = self.close(rt, digest, body)?;
         Ok(matches!(&answer, Answer::Stored { .. }))
     }
 
@@ -371,7 +399,7 @@ impl Upload {
     /// Sends a content in chunks of those sizes, with a refused close of the same bytes before each. Gives what is left.
     fn send<'c>(
         &mut self,
-        rt: &impl Abort,
+        rt: &(impl Abort + Threads),
         content: &'c [u8],
         sizes: &[usize],
     ) -> Result<&'c [u8], Unmade> {
@@ -380,13 +408,11 @@ impl Upload {
             assert!(rt; *size <= rest.len());
             let (body, later) = rest.split_at(*size);
             rest = later;
-            let refuses = self.refuses_another_content(body)?;
+            let refuses = self.refuses_another_content(rt, body)?;
             check(rt, refuses, i, "the close is refused");
             let takes = self.takes(body)?;
             check(rt, takes, i, "the chunk is taken");
-            if self.way.catches_up {
-                self.catch_up();
-            }
+            self.catch_up(rt);
         }
         Ok(rest)
     }
@@ -394,20 +420,20 @@ impl Upload {
     /// Closes the upload of a content with what is left of it, behind a close that is refused, and pulls it back.
     fn close_and_pull(
         &mut self,
-        rt: &impl Abort,
+        rt: &(impl Abort + Threads),
         content: &[u8],
         left: &[u8],
     ) -> Result<(), Unmade> {
         let digest = BlobDigest::of(self.way.algorithm, content);
-        assert!(rt; self.refuses_another_content(left)?);
-        assert!(rt; self.stores(digest, left)?);
+        assert!(rt; self.refuses_another_content(rt, left)?);
+        assert!(rt; self.stores(rt, digest, left)?);
         assert!(rt; self.gives(digest, content)?);
         Ok(())
     }
 }
 
 /// The sizes of the chunks of an upload, whose close has the rest.
-static SIZES: [&[usize]; 5] = [
+static SIZES: [&[usize]; 6] = [
     // the close alone
     &[],
     // one chunk
@@ -417,7 +443,22 @@ static SIZES: [&[usize]; 5] = [
     &[0, 70_000],
     // at and beside 65,536 bytes, up to where bodies are joined into one segment
     &[1, 65_535, 1, 65_536, 0, 37],
+    // some that are worth a thread, and others between them
+    &[270_000, 300_000, 1, 65_537, 262_144],
 ];
+
+/// When a session's hash takes its bytes in.
+#[derive(Clone, Copy)]
+enum Hashing {
+    /// At the closes alone.
+    AtTheCloses,
+    /// Behind each chunk.
+    InTurn,
+    /// In a thread beside what comes behind the chunk. A close doesn't wait for it.
+    Beside,
+    /// So, and a close waits for it.
+    BesideAndJoined,
+}
 
 /// How an upload is made.
 #[derive(Clone, Copy)]
@@ -426,32 +467,34 @@ struct Way {
     algorithm: Algorithm,
     /// The hash that its bodies carry.
     hashed: Hashed,
-    /// Whether the session's hash catches up behind each chunk, or only at the closes.
-    catches_up: bool,
+    hashing: Hashing,
 }
 
 /// An upload whose bodies carry the hash of its own algorithm, another, or none.
 macro_rules! way {
-    ($algorithm:ident, $hashed:expr, $catches_up:expr) => {
+    ($algorithm:ident, $hashed:expr, $hashing:ident) => {
         Way {
             algorithm: Algorithm::$algorithm,
             hashed: $hashed,
-            catches_up: $catches_up,
+            hashing: Hashing::$hashing,
         }
     };
 }
 
-static WAYS: [Way; 5] = [
-    way!(Sha256, None, true),
-    way!(Sha256, None, false),
-    way!(Sha256, Some(Algorithm::Sha256), true),
-    way!(Sha512, Some(Algorithm::Sha256), false),
-    way!(Sha512, Some(Algorithm::Sha512), true),
+static WAYS: [Way; 8] = [
+    way!(Sha256, None, InTurn),
+    way!(Sha256, None, AtTheCloses),
+    way!(Sha256, None, Beside),
+    way!(Sha256, None, BesideAndJoined),
+    way!(Sha256, Some(Algorithm::Sha256), InTurn),
+    way!(Sha256, Some(Algorithm::Sha256), BesideAndJoined),
+    way!(Sha512, Some(Algorithm::Sha256), AtTheCloses),
+    way!(Sha512, Some(Algorithm::Sha512), InTurn),
 ];
 
 /// Uploads a content in pieces of many sizes, and pulls it back.
 fn upload_in_many_sizes(
-    rt: &impl Abort,
+    rt: &(impl Abort + Threads),
     alloc: Global,
     content: &[u8],
     way: Way,
@@ -467,7 +510,7 @@ fn upload_in_many_sizes(
 #[test]
 fn pieces_of_many_sizes_are_one_blob(rt: HostRuntime) -> Result<(), Fail> {
     let alloc = rt.alloc();
-    let content = pattern(alloc, 140_000)?;
+    let content = pattern(alloc, 900_000)?;
     for way in WAYS.iter() {
         upload_in_many_sizes(&rt, alloc, content.as_slice(), *way)?;
     }

@@ -12,6 +12,7 @@ use std::marker::Model;
 use std::snapshot::Snapshot;
 use std::sync::Wait;
 use std::thread;
+use std::thread::Threads;
 use upload_names::UploadRef;
 use upload_service::{Answer, Service, headline_holds};
 
@@ -156,7 +157,7 @@ impl Keeper {
     }
 
     // Takes one message, does what it asks, and tells which session took a chunk.
-    fn turn<R: Wait, M: Moments>(&mut self, rt: &R, moments: &mut M) -> Option<UploadRef>
+    fn turn<R: Threads + Wait, M: Moments>(&mut self, rt: &R, moments: &mut M) -> Option<UploadRef>
         ensures same { IsSameKeeper self.old self.new }
         ensures grows { Grows M.tells self.old moments.old self.new moments.new }
     {
@@ -169,7 +170,7 @@ impl Keeper {
             Message::Job(ask, secret) => {
                 self.now = self.now.max(moments.now());
                 let asked = Snapshot::of(&ask);
-                let answer = self.service.step(ask, secret, self.now);
+                let answer = self.service.step_joining(rt, ask, secret, self.now);
                 let entry = Entry {
                     seat,
                     ask: asked,
@@ -190,16 +191,16 @@ impl Keeper {
         }
     }
 
-    // Hashes the chunk that a session took, while its client sends the next one.
-    fn catch_up(&mut self, at: &UploadRef)
+    // Has the chunk that a session took hashed in a thread, while its client sends the next one and others are served.
+    fn catch_up<R: Threads>(&mut self, rt: &R, at: &UploadRef)
         ensures { self.new ≡ self.old }
     {
-        self.service.catch_up(at);
+        self.service.catch_up_beside(rt, at);
     }
 
     /// Serves requests until all seats have finished, each at the greater of the moment told and the moment before.
     /// A seat that is dropped unfinished leaves it without an end.
-    pub fn run<R: Wait, M: Moments>(self, rt: &R, moments: &mut M) -> Served
+    pub fn run<R: Threads + Wait, M: Moments>(self, rt: &R, moments: &mut M) -> Served
         ensures same { IsSameKeeper self result }
         ensures grows { Grows M.tells self moments.old result moments.new }
         ensures served { Serves result }
@@ -230,7 +231,7 @@ impl Keeper {
                 };
             }
             if let Some(at) = keeper.turn(rt, moments) {
-                keeper.catch_up(&at);
+                keeper.catch_up(rt, &at);
             }
         }
         unreachable!()

@@ -1,6 +1,6 @@
 -- What one more part does to the bytes.
-use Rattle.std.proofs.Common.{◌≡◌, ℕ, zero, suc, ◌+◌, ◌<◌, List, [], ◌∷◌, ◌++◌, length, take, get_or, refl, sym, ◌∙◌, ap, arith}
-use Rattle.std.proofs.lemmas.List.{append-nil, append_assoc}
+use Rattle.std.proofs.Common.{◌≡◌, ℕ, zero, suc, ◌+◌, ◌-◌, ◌<◌, List, [], ◌∷◌, ◌++◌, length, take, drop, get_or, refl, sym, ◌∙◌, ap, arith}
+use Rattle.std.proofs.lemmas.List.{append-nil, append_assoc, take-append-drop, take_rest}
 use Rattle.std.specs.List.{concat}
 use Rattle.upload_service.specs.Kept.Parts.{joined, with_part}
 
@@ -23,6 +23,12 @@ joined-take_next (x ∷ xs) (suc i) d lt =
     let e : suc i + 1 ≡ suc (i + 1) = omega arith in
     ap (λ n. joined (take n (x ∷ xs))) e
     ∙ ap (λ r. x ++ r) (joined-take_next xs i d (omega arith)) ∙ sym (append_assoc x (joined (take i xs)) (get_or xs i d))
+
+-- the parts that were taken, and the rest as a slice behind them
+pub joined-take_rest : (i : ℕ) (xs : List (List ℕ)) → joined (take i xs) ++ joined (take (length xs - i) (drop i xs)) ≡ joined xs
+joined-take_rest i xs =
+    ap (λ r. joined (take i xs) ++ joined r) (take_rest xs i)
+    ∙ sym (joined-append (take i xs) (drop i xs)) ∙ ap joined (take-append-drop i xs)
 
 -- joined as the standard library joins lists
 pub joined-concat : (xs : List (List ℕ)) → joined xs ≡ concat xs

@@ -19,6 +19,7 @@ mod holders;
 mod laws;
 mod limits;
 mod received;
+mod running;
 mod segments;
 mod service;
 mod sessions;

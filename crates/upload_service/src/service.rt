@@ -15,7 +15,8 @@ use crate::stock::Stock;
 use crate::turn::{Tables, turn};
 use std::alloc::{AllocError, Global};
 use std::marker::Model;
-use upload_names::{BlobDigest, RepoName, UploadRef};
+use std::thread::Threads;
+use upload_names::{Algorithm, BlobDigest, RepoName, UploadRef};
 
 /// The upload service: the open sessions, the stored blobs, and which repository has which blob. It and its
 /// limits are lawful wherever it is held.
@@ -104,6 +105,42 @@ impl Service {
         self.tables.sessions.catch_up(at);
     }
 
+    /// As `catch_up`, for a caller with threads: if there is enough to hash, a thread of the session's own does it, so that
+    /// the caller serves other requests meanwhile. A session has one such thread at a time. While that is at work nothing
+    /// is done, but if too much is left to do then, this waits for it. The thread is given shares of the session's
+    /// bytes and no copy. If there is no memory for it, or none can be made, all is taken in here. Nothing that is seen
+    /// changes. From then on the caller calls `step_joining` in place of `step`.
+    pub fn catch_up_beside<R: Threads>(&mut self, rt: &R, at: &UploadRef)
+        ensures { self.new ≡ self.old }
+    {
+        self.tables.sessions.catch_up_beside(rt, self.alloc, at);
+    }
+
+    /// As `step`. A close by a SHA-256 waits for the thread that hashes for its session. `step` can't wait: it hashes all
+    /// bytes of such a session again.
+    pub fn step_joining<R: Threads>(
+        &mut self,
+        rt: &R,
+        ask: Ask,
+        secret: [u8; 12],
+        now: u64,
+    ) -> Answer
+        ensures turn { Turn self.old ask secret now result self.new }
+        ensures lawful { IsLawful self.new }
+    {
+        if let Some(at) = closed_by_sha256(&ask) {
+            self.bring_home(rt, &at);
+        }
+        self.step(ask, secret, now)
+    }
+
+    /// Waits for the thread that hashes for a session, if there is one. Nothing that is seen changes.
+    fn bring_home<R: Threads>(&mut self, rt: &R, at: &UploadRef)
+        ensures { self.new ≡ self.old }
+    {
+        self.tables.sessions.bring_home(rt, at);
+    }
+
     /// How many bytes a session has received, or None where no such session is open. One that is idle counts
     /// as open until it leaves the table. It takes no memory.
     pub fn next_of(&self, at: &UploadRef) -> Option<u64>
@@ -159,5 +196,21 @@ impl Service {
             }
         }
         Ok(answers)
+    }
+}
+
+/// The session that a request closes by a SHA-256.
+fn closed_by_sha256(ask: &Ask) -> Option<UploadRef> {
+    let Ask::Close {
+        at,
+        digest: Some(digest),
+        ..
+    } = ask
+    else {
+        return None;
+    };
+    match digest.algorithm() {
+        Algorithm::Sha256 => Some(*at),
+        Algorithm::Sha512 => None,
     }
 }

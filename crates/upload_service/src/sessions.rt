@@ -10,6 +10,7 @@ use crate::received::Received;
 use std::alloc::{AllocError, Global};
 use std::collections::BTreeMap;
 use std::marker::Model;
+use std::thread::Threads;
 use upload_names::{BlobDigest, Bytes, RepoName, UploadRef};
 
 /// A session that was opened and not yet closed.
@@ -159,6 +160,28 @@ impl Sessions {
             return;
         };
         session.received.catch_up();
+    }
+
+    /// Has the running hash of an open session catch up beside what goes on, in a thread, where there is such a session.
+    /// Nothing that is seen changes.
+    pub fn catch_up_beside<R: Threads>(&mut self, rt: &R, alloc: Global, at: &UploadRef)
+        ensures { self.new ≡ self.old }
+    {
+        let Some(session) = self.open.get_mut(at) else {
+            return;
+        };
+        session.received.catch_up_beside(rt, alloc);
+    }
+
+    /// Waits for the thread that has the running hash of an open session, where there is such a session and one has it.
+    /// Nothing that is seen changes.
+    pub fn bring_home<R: Threads>(&mut self, rt: &R, at: &UploadRef)
+        ensures { self.new ≡ self.old }
+    {
+        let Some(session) = self.open.get_mut(at) else {
+            return;
+        };
+        session.received.bring_home(rt);
     }
 
     /// Whether what an open session received and a last body have a digest, by the algorithm of that digest.

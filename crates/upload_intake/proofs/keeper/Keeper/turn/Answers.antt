@@ -9,7 +9,7 @@ use Rattle.upload_intake.specs.Served.{KeeperState}
 use Rattle.upload_intake.proofs.keeper.Keeper.turn.Goals as goal
 
 pub invariant_of-self-in-Job : goal.invariant_of-self-in-Job
-invariant_of-self-in-Job g c = served_seat _ _ _ _ _ _ _ _ c.self.invariant _ c.in-Some.ensures.taken _ _ _ _ _ _ c.in-Job.is (omega arith) c.step-answer.ensures.turn c.saturating_add-self-inside.ensures
+invariant_of-self-in-Job g c = served_seat _ _ _ _ _ _ _ _ c.self.invariant _ c.in-Some.ensures.taken _ _ _ _ _ _ c.in-Job.is (omega arith) c.step_joining-answer.ensures.turn c.saturating_add-self-inside.ensures
     _ _ c.index_mut.ensures.value c.reply.ensures.sent c.reply.ensures.done _ refl _
     (logged _ _ _ _ c.and-self-inside.ensures
     (λ i. record { seat = c.in-Some.item.seat; exchange = record { ask = c.of-asked.ensures i; secret = c.in-Job.secret; now = c.max-self-inside.result; answer = c.of.ensures i } }))
@@ -38,8 +38,8 @@ returns-in-Job-clause-grows g c =
     let grown = logged _ _ _ _ c.and-self-inside.ensures
     (λ i. record { seat = c.in-Some.item.seat; exchange = record { ask = c.of-asked.ensures i; secret = c.in-Job.secret; now = c.max-self-inside.result; answer = c.of.ensures i } }) in
     grows_one g.M.Moments.tells c.args.self.now _ c.args.moments.now c.now.new.self c.self.inside.now c.now.result
-    (record { seat = c.in-Some.item.seat; exchange = record { ask = c.in-Job.ask; secret = c.in-Job.secret; now = c.max-self-inside.result; answer = c.step-answer.result } })
-    (grown ∙ ap (λ l. l ++ record { seat = c.in-Some.item.seat; exchange = record { ask = c.in-Job.ask; secret = c.in-Job.secret; now = c.max-self-inside.result; answer = c.step-answer.result } } ∷ []) (ap (λ (k : KeeperState). k.log) c.self.view_is))
+    (record { seat = c.in-Some.item.seat; exchange = record { ask = c.in-Job.ask; secret = c.in-Job.secret; now = c.max-self-inside.result; answer = c.step_joining-answer.result } })
+    (grown ∙ ap (λ l. l ++ record { seat = c.in-Some.item.seat; exchange = record { ask = c.in-Job.ask; secret = c.in-Job.secret; now = c.max-self-inside.result; answer = c.step_joining-answer.result } } ∷ []) (ap (λ (k : KeeperState). k.log) c.self.view_is))
     (sym c.self.invariant.keeps.last ∙ ap (λ (k : KeeperState). last_moment 0 (exchanges_of k.log)) c.self.view_is)
     c.now.ensures
     c.max-self-inside.ensures
