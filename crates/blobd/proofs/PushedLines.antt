@@ -11,6 +11,7 @@ use Rattle.upload_service.specs.declared.ask.Ask.{Ask}
 use Rattle.upload_service.specs.declared.ask.Ask.TheVariants.{Has}
 use Rattle.upload_client.specs.declared.heard.Heard.{Heard}
 use Rattle.upload_client.specs.TransportText.{WireState}
+use Rattle.upload_push.specs.Dialed.{AsksDialed}
 use Rattle.upload_push.specs.Looking.{is_found}
 use Rattle.upload_push.specs.Slices.{Push, Exchange, IsPush, IsEnd, Leads, log_of, push_of, push_under, after_all}
 use Rattle.upload_push.specs.declared.pusher.Outcome.{Outcome}
@@ -22,7 +23,6 @@ use Rattle.upload_push.specs.declared.pusher.Phase.TheVariants.{Opening, Done, G
 use Rattle.upload_push.specs.declared.pusher.Why.TheVariants.{OutOfTries}
 use Rattle.upload_push.proofs.Sound.{unheard_waits}
 use Rattle.blobd.specs.Status.{IsPrinted, line}
-use Rattle.blobd.specs.Dialed.{AsksDialed}
 use Rattle.blobd.specs.Pushed.{IsLookedLine, IsPushed, IsSent, IsEndLine, IsTold, Look, why_text}
 
 -- what an ask says of the host and of the connection that is kept

@@ -1,4 +1,3 @@
-pub mod Dialed
 pub mod Halves
 pub mod Once
 pub mod Pace

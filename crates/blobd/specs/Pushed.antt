@@ -11,6 +11,7 @@ use Rattle.upload_names.specs.declared.digest.Algorithm.TheVariants.{Sha256}
 use Rattle.upload_service.specs.declared.ask.Ask.TheVariants.{Has}
 use Rattle.upload_client.specs.declared.heard.Heard.{Heard}
 use Rattle.upload_client.specs.TransportText.{WireState}
+use Rattle.upload_push.specs.Dialed.{AsksDialed}
 use Rattle.upload_push.specs.Looking.{is_found}
 use Rattle.upload_push.specs.Slices.{Push, IsPush, Leads, AreUnheard, push_of, log_of, after_all}
 use Rattle.upload_push.specs.declared.pusher.Outcome.{Outcome}
@@ -22,7 +23,6 @@ use Rattle.upload_push.specs.declared.pushing.PushFault.TheVariants as faults
 use Rattle.upload_push.specs.declared.pusher.Phase.{Phase}
 use Rattle.upload_push.specs.declared.pusher.Phase.TheVariants.{Done, GaveUp}
 use Rattle.blobd.specs.Status.{IsPrinted, line}
-use Rattle.blobd.specs.Dialed.{AsksDialed}
 
 -- one or more bytes, all of them visible ASCII
 abbrev pub is_word : List ℕ → Bool

@@ -3,7 +3,7 @@ ghost use Rattle.std.specs.Prelude.{◌≡◌, IfSome, None, string_bytes};
 ghost use Rattle.std.specs.List.{list_all};
 ghost use Rattle.std.specs.Char.{is_ascii_graphic};
 ghost use Rattle.upload_client.specs.AskText.{CanBeWritten, ask_of_chunk};
-ghost use Rattle.blobd.specs.Dialed.{AsksDialed, Connects, IsNew, kept_or};
+ghost use Rattle.upload_push.specs.Dialed.{AsksDialed, Connects, IsNew, kept_or};
 ghost use Rattle.blobd.specs.Pushed.{is_word};
 ghost use Rattle.blobd.specs.Trouble.{course_after, new_course};
 ghost use Rattle.blobd.specs.Waits.{pause_after};

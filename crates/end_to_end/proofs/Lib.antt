@@ -1,4 +1,5 @@
 pub mod Closing
+pub mod Dialing
 pub mod Placing
 pub mod Seating
 pub mod Serving

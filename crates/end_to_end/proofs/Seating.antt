@@ -33,7 +33,7 @@ use Rattle.wire_laws.proofs.ShortAnswers.{short_answers}
 use Rattle.wire_laws.proofs.WrittenExchanges.{answers_heard}
 use Rattle.wire_laws.proofs.JoinedEnds.{connections_joined}
 use Rattle.end_to_end.specs.Marks.{Mark, other, heard, unheard, mark_of, Marked, steps_in, Agrees, IsOwn}
-use Rattle.end_to_end.specs.Network.{unanswered_marks, marks_on, IsAskOf, at_seat, Whose, IsWhose, marks_of}
+use Rattle.end_to_end.specs.Network.{marks_asked, unanswered_marks, marks_on, IsAskOf, at_seat, Whose, IsWhose, marks_of}
 
 -- ---- requests and marks, place by place
 
@@ -77,15 +77,41 @@ answered_fits : (ask : Ask) (answer : Answer) (asked : Ask) (told : Option Heard
 answered_fits ask answer asked None is says = is
 answered_fits ask answer asked (Some what) is says = (is, says)
 
-unanswered_fit : (xs : List Asked) (us : List Ask) → AreUnanswered xs us → AllFit (map unanswered_item us) (unanswered_marks xs us)
-unanswered_fit xs [] joined = tt
-unanswered_fit [] (u ∷ us) joined = absurd joined
-unanswered_fit (x ∷ xs) (u ∷ us) joined = (unanswered_fits u x.ask x.heard joined.0 joined.1, unanswered_fit xs us joined.2)
+-- the mark of an ask, or that of no request of the push
+abbrev MarksOne : Asked → Mark → Type 0
+MarksOne x k = (k ≡ other) ⊎ (k ≡ mark_of x.ask x.heard)
 
-joined_fit : (xs : List Asked) (ys : List Exchange) (us : List Ask) → AreJoined xs ys us → AllFit (items ys us) (marks_on xs ys us)
-joined_fit xs [] us joined = unanswered_fit xs us joined
-joined_fit [] (y ∷ ys) us joined = absurd joined
-joined_fit (x ∷ xs) (y ∷ ys) us joined = (answered_fits y.ask y.answer x.ask x.heard joined.0 joined.1, joined_fit xs ys us joined.2)
+abbrev MarksAll : List Asked → List Mark → Type 0
+MarksAll [] [] = ⊤
+MarksAll (x ∷ xs) (k ∷ ks) = MarksOne x k × MarksAll xs ks
+MarksAll [] (k ∷ ks) = ⊥
+MarksAll (x ∷ xs) [] = ⊥
+
+own_marked : (asks : List Asked) → MarksAll asks (map (λ (x : Asked). mark_of x.ask x.heard) asks)
+own_marked [] = tt
+own_marked (x ∷ asks) = (inr refl, own_marked asks)
+
+all_marked : (before asks : List Asked) → MarksAll (before ++ asks) (map (λ (x : Asked). other) before ++ map (λ (x : Asked). mark_of x.ask x.heard) asks)
+all_marked [] asks = own_marked asks
+all_marked (x ∷ before) asks = (inl refl, all_marked before asks)
+
+marked_fits : (i : Item) (x : Asked) (k : Mark) → MarksOne x k → Fits i (mark_of x.ask x.heard) → Fits i k
+marked_fits i x k (inl is) fits = subst (Fits i) (sym is) tt
+marked_fits i x k (inr is) fits = subst (Fits i) (sym is) fits
+
+unanswered_fit : (xs : List Asked) (ks : List Mark) (us : List Ask) → MarksAll xs ks → AreUnanswered xs us → AllFit (map unanswered_item us) (unanswered_marks ks us)
+unanswered_fit xs ks [] marked joined = tt
+unanswered_fit [] ks (u ∷ us) marked joined = absurd joined
+unanswered_fit (x ∷ xs) [] (u ∷ us) marked joined = absurd marked
+unanswered_fit (x ∷ xs) (k ∷ ks) (u ∷ us) marked joined =
+    (marked_fits (unanswered_item u) x k marked.0 (unanswered_fits u x.ask x.heard joined.0 joined.1), unanswered_fit xs ks us marked.1 joined.2)
+
+joined_fit : (xs : List Asked) (ks : List Mark) (ys : List Exchange) (us : List Ask) → MarksAll xs ks → AreJoined xs ys us → AllFit (items ys us) (marks_on ks ys us)
+joined_fit xs ks [] us marked joined = unanswered_fit xs ks us marked joined
+joined_fit [] ks (y ∷ ys) us marked joined = absurd joined
+joined_fit (x ∷ xs) [] (y ∷ ys) us marked joined = absurd marked
+joined_fit (x ∷ xs) (k ∷ ks) (y ∷ ys) us marked joined =
+    (marked_fits (answered_item y) x k marked.0 (answered_fits y.ask y.answer x.ask x.heard joined.0 joined.1), joined_fit xs ks ys us marked.1 joined.2)
 
 others_unanswered_fit : (us : List Ask) → AllFit (map unanswered_item us) (unanswered_marks [] us)
 others_unanswered_fit [] = tt
@@ -106,15 +132,21 @@ own_mark : (p : Push) (ask : Ask) (told : Option Heard) → IsOwn p ask → IsOw
 own_mark p ask None own = own
 own_mark p ask (Some what) own = own
 
-own_unanswered : (p : Push) (xs : List Asked) (us : List Ask) → AllByRecursion (λ x. IsOwn p x.ask) xs → AllByRecursion (IsOwnMark p) (unanswered_marks xs us)
-own_unanswered p xs [] own = tt
-own_unanswered p [] (u ∷ us) own = (tt, own_unanswered p [] us tt)
-own_unanswered p (x ∷ xs) (u ∷ us) own = (own_mark p x.ask x.heard own.0, own_unanswered p xs us own.1)
+own_asked : (p : Push) (before asks : List Asked) → AllByRecursion (λ x. IsOwn p x.ask) asks
+    → AllByRecursion (IsOwnMark p) (map (λ (x : Asked). other) before ++ map (λ (x : Asked). mark_of x.ask x.heard) asks)
+own_asked p [] [] own = tt
+own_asked p [] (x ∷ asks) own = (own_mark p x.ask x.heard own.0, own_asked p [] asks own.1)
+own_asked p (x ∷ before) asks own = (tt, own_asked p before asks own)
 
-own_marks : (p : Push) (xs : List Asked) (ys : List Exchange) (us : List Ask) → AllByRecursion (λ x. IsOwn p x.ask) xs → AllByRecursion (IsOwnMark p) (marks_on xs ys us)
-own_marks p xs [] us own = own_unanswered p xs us own
+own_unanswered : (p : Push) (ks : List Mark) (us : List Ask) → AllByRecursion (IsOwnMark p) ks → AllByRecursion (IsOwnMark p) (unanswered_marks ks us)
+own_unanswered p ks [] own = tt
+own_unanswered p [] (u ∷ us) own = (tt, own_unanswered p [] us tt)
+own_unanswered p (k ∷ ks) (u ∷ us) own = (own.0, own_unanswered p ks us own.1)
+
+own_marks : (p : Push) (ks : List Mark) (ys : List Exchange) (us : List Ask) → AllByRecursion (IsOwnMark p) ks → AllByRecursion (IsOwnMark p) (marks_on ks ys us)
+own_marks p ks [] us own = own_unanswered p ks us own
 own_marks p [] (y ∷ ys) us own = (tt, own_marks p [] ys us tt)
-own_marks p (x ∷ xs) (y ∷ ys) us own = (own_mark p x.ask x.heard own.0, own_marks p xs ys us own.1)
+own_marks p (k ∷ ks) (y ∷ ys) us own = (own.0, own_marks p ks ys us own.1)
 
 -- a push asks for no blob by a GET
 sound_no_get : (p : Push) (log : List push.Exchange) (ask : Ask) → IsSoundAsk p log ask → IsNoGet ask
@@ -141,7 +173,11 @@ own_asks : (p : Push) (log : List push.Exchange) (xs : List Asked) → IsSound p
 own_asks p log [] sound all = tt
 own_asks p log (x ∷ xs) sound all = (own_ask p log x.ask sound all.0, own_asks p log xs sound all.1)
 
-all_both : {A : Type 0} (P : A → Type 0) (xs ys : List A) → AllByRecursion P xs → AllByRecursion P ys → AllByRecursion P (xs ++ ys)
+no_gets : (p : Push) (xs : List Asked) → AllByRecursion (λ x. IsOwn p x.ask) xs → AllByRecursion (λ x. IsNoGet x.ask) xs
+no_gets p [] own = tt
+no_gets p (x ∷ xs) own = (sound_no_get p own.0.0 x.ask own.0.1, no_gets p xs own.1)
+
+pub all_both : {A : Type 0} (P : A → Type 0) (xs ys : List A) → AllByRecursion P xs → AllByRecursion P ys → AllByRecursion P (xs ++ ys)
 all_both P [] ys a b = b
 all_both P (x ∷ xs) ys a b = (a.0, all_both P xs ys a.1 b)
 
@@ -180,20 +216,19 @@ answer_audible y is known style_is =
       short = short_answers is.state is.secret is.now y.ask y.answer is.after known.no_get is.turn;
     }
 
-known_of : (p : Push) (max : ℕ) (host : List ℕ) (xs : List Asked) (ask : Ask) → AllByRecursion (λ x. MayBeAsked max x.ask host) xs → AllByRecursion (λ x. IsOwn p x.ask) xs → IsOneOf xs ask → IsKnown ask
-known_of p max host [] ask may own one = absurd one
-known_of p max host (x ∷ xs) ask may own (inl is) =
-    subst IsKnown (sym is) (record { parts = may.0.parts; no_get = sound_no_get p own.0.0 x.ask own.0.1 })
-known_of p max host (x ∷ xs) ask may own (inr one) = known_of p max host xs ask may.1 own.1 one
+known_of : (max : ℕ) (host : List ℕ) (xs : List Asked) (ask : Ask) → AllByRecursion (λ x. MayBeAsked max x.ask host) xs → AllByRecursion (λ x. IsNoGet x.ask) xs → IsOneOf xs ask → IsKnown ask
+known_of max host [] ask may none one = absurd one
+known_of max host (x ∷ xs) ask may none (inl is) = subst IsKnown (sym is) (record { parts = may.0.parts; no_get = none.0 })
+known_of max host (x ∷ xs) ask may none (inr one) = known_of max host xs ask may.1 none.1 one
 
 abbrev pub AreAnswered : List Exchange → Type 0
 AreAnswered ys = AllByRecursion (λ (y : Exchange). IsAnswered y.ask y.answer) ys
 
-all_audible : (p : Push) (max : ℕ) (host : List ℕ) (xs : List Asked) (ys : List Exchange) → AllByRecursion (λ x. MayBeAsked max x.ask host) xs → AllByRecursion (λ x. IsOwn p x.ask) xs
+all_audible : (max : ℕ) (host : List ℕ) (xs : List Asked) (ys : List Exchange) → AllByRecursion (λ x. MayBeAsked max x.ask host) xs → AllByRecursion (λ x. IsNoGet x.ask) xs
     → AreAnswered ys → AllByRecursion (λ y. IsOneOf xs y.ask → y.style ≡ written_style y.ask → IsAudible y) ys
-all_audible p max host xs [] may own is = tt
-all_audible p max host xs (y ∷ ys) may own is =
-    (λ one style_is. answer_audible y is.0 (known_of p max host xs y.ask may own one) style_is, all_audible p max host xs ys may own is.1)
+all_audible max host xs [] may none is = tt
+all_audible max host xs (y ∷ ys) may none is =
+    (λ one style_is. answer_audible y is.0 (known_of max host xs y.ask may none one) style_is, all_audible max host xs ys may none is.1)
 
 -- ---- a worker's conversations
 
@@ -250,14 +285,18 @@ module _ {C In Out S G : Type 0} (m : Means C In Out S G) (max : ℕ) where
     one_fits : (w : Whose m max log) → IsWhose m max log w → IsUnused w.0 → AreAnswered (answered_on m max w.0) → AllFit (items_on w.0) (marks_of m max log w)
     one_fits (t, None) is new answered = others_fit (answered_on m max t) (unanswered_on m max t)
     one_fits (t, Some c) is new answered =
-        joined_fit c.asks (answered_on m max t) (unanswered_on m max t)
-        (connections_joined (steps m max) max (m.reads t.reader) (m.reads t.reader_left) t.old t.new (m.writes t.writer) (m.writes t.writer_left) t.end t.conversation c.asks
-        (record { given = new.0; taken = new.1; audible = all_audible p max c.made.host c.asks (answered_on m max t) is.may (own_asks p log c.asks sound is.own) answered })
+        let all : List Asked = c.before ++ c.asks in
+        let none : AllByRecursion (λ x. IsNoGet x.ask) all =
+        all_both (λ x. IsNoGet x.ask) c.before c.asks is.no_gets (no_gets p c.asks (own_asks p log c.asks sound is.own)) in
+        joined_fit all (marks_asked c) (answered_on m max t) (unanswered_on m max t) (all_marked c.before c.asks)
+        (connections_joined (steps m max) max (m.reads t.reader) (m.reads t.reader_left) t.old t.new (m.writes t.writer) (m.writes t.writer_left) t.end t.conversation all
+        (record { given = new.0; taken = new.1; audible = all_audible max c.made.host all (answered_on m max t) is.may none answered })
         c.made c.left c.is_new c.turn is.may is.carries)
 
     one_owns : (w : Whose m max log) → IsWhose m max log w → AllByRecursion (IsOwnMark p) (marks_of m max log w)
     one_owns (t, None) is = own_marks p [] (answered_on m max t) (unanswered_on m max t) tt
-    one_owns (t, Some c) is = own_marks p c.asks (answered_on m max t) (unanswered_on m max t) (own_asks p log c.asks sound is.own)
+    one_owns (t, Some c) is =
+        own_marks p (marks_asked c) (answered_on m max t) (unanswered_on m max t) (own_asked p c.before c.asks (own_asks p log c.asks sound is.own))
 
     pub all_fit : (ws : List (Whose m max log)) → AllByRecursion (IsWhose m max log) ws → AllByRecursion IsUnused (map (λ (w : Whose m max log). w.0) ws) → AreAnswered (all_answered m max (map (λ (w : Whose m max log). w.0) ws)) → AllFit (flat_map items_on (map (λ (w : Whose m max log). w.0) ws)) (flat_map (marks_of m max log) ws)
     all_fit [] each new answered = tt

@@ -22,30 +22,36 @@ use Rattle.upload_push.specs.Slices.{Push}
 use Rattle.upload_push.specs.Slices as push
 use Rattle.upload_push.specs.declared.pusher.Outcome.TheVariants.{Pushed, Already}
 use Rattle.upload_push.specs.declared.pusher.Phase.TheVariants.{Done}
-use Rattle.wire_laws.specs.Joined.{Asked, AsksInTurn, IsNew, Carries}
+use Rattle.wire_laws.specs.Joined.{Asked, AsksInTurn, IsNew, IsNoGet, Carries}
 use Rattle.wire_laws.specs.WrittenExchanges.{HasSize, MayBeAsked}
 use Rattle.end_to_end.specs.Marks.{Mark, other, mark_of, Marked, steps_in, heard_in, heard_by, AreApart, HasSecret}
 
--- a connection of a push: as it was made, what was asked over it in turn, and as it was left
+-- A connection of a push: as it was made, what was asked over it in turn, and as it was left. Before the requests of the push its client may
+-- have asked something else over it, as whether the repository has the blob.
 pub record Connection : Type 0 where
   pub made : WireState
+  pub before : List Asked
   pub asks : List Asked
   pub left : WireState
   pub is_new : IsNew made
-  pub turn : AsksInTurn made asks left
+  pub turn : AsksInTurn made (before ++ asks) left
 
 -- ---- the marks of one conversation
 
-abbrev pub unanswered_marks : List Asked → List Ask → List Mark
-unanswered_marks xs [] = []
+-- the marks of what was asked over a connection: what was asked before the push's requests is no request of the push
+abbrev pub marks_asked : Connection → List Mark
+marks_asked c = map (λ (x : Asked). other) c.before ++ map (λ (x : Asked). mark_of x.ask x.heard) c.asks
+
+abbrev pub unanswered_marks : List Mark → List Ask → List Mark
+unanswered_marks ks [] = []
 unanswered_marks [] (u ∷ us) = other ∷ unanswered_marks [] us
-unanswered_marks (x ∷ xs) (u ∷ us) = mark_of x.ask x.heard ∷ unanswered_marks xs us
+unanswered_marks (k ∷ ks) (u ∷ us) = k ∷ unanswered_marks ks us
 
 -- of the requests that a worker answered, and of the one that it didn't, each has the mark of the ask at its place
-abbrev pub marks_on : List Asked → List Exchange → List Ask → List Mark
-marks_on xs [] us = unanswered_marks xs us
+abbrev pub marks_on : List Mark → List Exchange → List Ask → List Mark
+marks_on ks [] us = unanswered_marks ks us
 marks_on [] (y ∷ ys) us = other ∷ marks_on [] ys us
-marks_on (x ∷ xs) (y ∷ ys) us = mark_of x.ask x.heard ∷ marks_on xs ys us
+marks_on (k ∷ ks) (y ∷ ys) us = k ∷ marks_on ks ys us
 
 -- one of the requests of a push
 pub record IsAskOf (log : List push.Exchange) (ask : Ask) : Type 0 where
@@ -60,11 +66,12 @@ at_seat seat ms = filter (λ (m : Marked). seat == m.0.seat) ms
 
 module _ {C In Out S G : Type 0} (m : Means C In Out S G) (max_body : ℕ) (log : List push.Exchange) where
   -- The connection of the push is this one of a worker: what either end read is a prefix of what the other wrote. It carried requests of the
-  -- push, each of which may be asked.
+  -- push, and before them some that get no blob's bytes. Each of them may be asked.
   pub record IsCarried (t : Talk m max_body) (c : Connection) : Type 0 where
     pub carries : Carries c.left (m.reads t.reader_left) (m.writes t.writer_left)
-    pub may : AllByRecursion (λ x. MayBeAsked max_body x.ask c.made.host) c.asks
+    pub may : AllByRecursion (λ x. MayBeAsked max_body x.ask c.made.host) (c.before ++ c.asks)
     pub own : AllByRecursion (λ x. IsAskOf log x.ask) c.asks
+    pub no_gets : AllByRecursion (λ x. IsNoGet x.ask) c.before
 
   -- a connection of a worker, and which of the push's it is, if it is one
   abbrev pub Whose : Type 0
@@ -76,7 +83,7 @@ module _ {C In Out S G : Type 0} (m : Means C In Out S G) (max_body : ℕ) (log 
 
   abbrev pub marks_of : Whose → List Mark
   marks_of (t, None) = marks_on [] (answered_on m max_body t) (unanswered_on m max_body t)
-  marks_of (t, Some c) = marks_on c.asks (answered_on m max_body t) (unanswered_on m max_body t)
+  marks_of (t, Some c) = marks_on (marks_asked c) (answered_on m max_body t) (unanswered_on m max_body t)
 
   -- The steps of a seat have the marks of its connections, in order. The request that its last one left unanswered may be no step.
   pub record IsMarkedBy (talks : List (Talk m max_body)) (ms : List Marked) : Type 0 where

@@ -1,4 +1,5 @@
 //! The laws, as functions that do nothing and whose contracts are the laws.
+ghost use Rattle.end_to_end.specs.Dialing.{DialedConnectionsAreCarried, DialedPushesHaveConnections};
 ghost use Rattle.end_to_end.specs.Network.{PushesAreServed};
 ghost use Rattle.upload_intake.specs.Working.{means};
 
@@ -25,3 +26,15 @@ pub fn pushes_are_served<M: Moments, C: Conns, S: Secrets, G: Gate>()
     others_leave_a_session();
     written_places_are_read();
 }
+
+/// The connections of a push that makes them as it needs them, as `blobd push` does, are such as `pushes_are_served` speaks of. Each
+/// began with nothing read and nothing written, and carried requests of the push; before them it may have carried what the same
+/// client asked before the push. All that the push asked stands on them, in the order in which it asked, with what was heard there.
+/// An ask for which no connection could be made is on none of them, and nothing was heard of it.
+///
+/// So if such a connection was one of a worker's, as the premise on the network says, only that each request on it may be asked is
+/// left to show of it.
+pub fn dialed_pushes_have_connections<C: Conns, S: Secrets, G: Gate>()
+    ensures connections { DialedPushesHaveConnections }
+    ensures carried { DialedConnectionsAreCarried (means C.gives C.In.state C.Out.state S.draws G.watches) }
+{}

@@ -3,4 +3,4 @@
 
 mod laws;
 
-pub use laws::pushes_are_served;
+pub use laws::{dialed_pushes_have_connections, pushes_are_served};

@@ -7,3 +7,4 @@ pub mod Runs
 pub mod RuledOut
 pub mod FaultTexts
 pub mod Looking
+pub mod Dialed

@@ -1,4 +1,4 @@
--- What a push hears: what its connections say.
+-- What a push hears over connections that it makes as it needs them: what these connections say.
 use Rattle.std.specs.Prelude.{◌≡◌, ℕ, ◌⊎◌, false, true, List, [], Option, Some, None, ⊤, if◌then◌else◌}
 use Rattle.upload_service.specs.declared.ask.Ask.{Ask}
 use Rattle.upload_client.specs.declared.heard.Heard.{Heard}
