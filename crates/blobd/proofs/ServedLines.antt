@@ -16,7 +16,7 @@ use Rattle.blobd.specs.Serving.{HasServed}
 use Rattle.blobd.specs.Status.{IsPrinted, IsServed, line}
 
 -- a pool whose workers each took so many, and were given connections on which nothing was read or written
-tells_all : {C In Out S G M : Type 0} (m : Means C In Out S G) (tells : M → ℕ → M → Type 0) (number count : ℕ) (moments : M) (workers : List (Worker C S G)) (service : State)
+tells_all : {C In Out S G O M : Type 0} (m : Means C In Out S G O) (tells : M → ℕ → M → Type 0) (number count : ℕ) (moments : M) (workers : List (Worker C S G O)) (service : State)
     (ends : List WorkerEnd) → length workers ≡ number → All (λ (end : WorkerEnd). end.conns ≡ count) ends → GivesUnused m
     → IsServedPool m tells (record { service = empty_state program_limits 0; moments = moments; workers = workers }) (record { service = service; ends = ends })
     → HasServed m tells number count
@@ -33,7 +33,7 @@ tells_all m tells number count moments workers service ends numbered took unused
       connections_told m unused (empty_state program_limits 0).limits.max_body (get_or workers seat worker).conns _ _ worked.talks worked.served;
 }
 
-pub has_served : {C In Out S G M : Type 0} (m : Means C In Out S G) (tells : M → ℕ → M → Type 0) (number count : ℕ) (start : State) (moments : M) (workers : List (Worker C S G)) (service : State)
+pub has_served : {C In Out S G O M : Type 0} (m : Means C In Out S G O) (tells : M → ℕ → M → Type 0) (number count : ℕ) (start : State) (moments : M) (workers : List (Worker C S G O)) (service : State)
     (ends : List WorkerEnd) → start ≡ empty_state program_limits 0 → length workers ≡ number → All (λ (end : WorkerEnd). end.conns ≡ count) ends
     → IsServedPool m tells (record { service = start; moments = moments; workers = workers }) (record { service = service; ends = ends }) → GivesUnused m
     → HasServed m tells number count

@@ -12,14 +12,14 @@ use Rattle.blobd.specs.Once.{program_limits}
 -- So many workers served their connections as one new service in one order, from how they were started to what is left; and each of them
 -- took so many connections. All that the reads of a connection gave is what its conversation read, and all that its writes took is what its
 -- conversation wrote.
-pub record HasServed {C In Out S G M : Type 0} (m : Means C In Out S G) (tells : M → ℕ → M → Type 0) (number count : ℕ) : Type 0 where
+pub record HasServed {C In Out S G O M : Type 0} (m : Means C In Out S G O) (tells : M → ℕ → M → Type 0) (number count : ℕ) : Type 0 where
   pub moments : M
-  pub workers : List (Worker C S G)
+  pub workers : List (Worker C S G O)
   pub service : State
   pub ends : List WorkerEnd
   pub numbered : length workers ≡ number
   pub took : All (λ (end : WorkerEnd). end.conns ≡ count) ends
   pub pool : IsServedPool m tells (record { service = empty_state program_limits 0; moments = moments; workers = workers })
       (record { service = service; ends = ends })
-  pub told : (seat : ℕ) (worker : Worker C S G) (end : WorkerEnd) (within : seat < length workers)
+  pub told : (seat : ℕ) (worker : Worker C S G O) (end : WorkerEnd) (within : seat < length workers)
       → AllByRecursion (TellsAll m (empty_state program_limits 0).limits.max_body) (pool.parts seat worker end within).worked.talks

@@ -9,8 +9,7 @@ use std::rt::Clock;
 use std::str;
 use std::sync::Wait;
 use std::time::Instant;
-use upload_intake::Gate;
-use upload_service::{Answer, Ask};
+use upload_wire::{Observer, RequestLine};
 
 /// The log of one worker. No request waits for its line to be written. Contracts see whether anything is logged, and nothing
 /// of what is.
@@ -84,16 +83,12 @@ impl<'a, R: Clock + Wait> RequestLog<'a, R> {
     }
 }
 
-impl<'a, R: Clock + Wait> Gate for RequestLog<'a, R> {
-    ghost watches = { λ old turn notice new. new ≡ old };
+impl<'a, R: Clock + Wait> Observer for RequestLog<'a, R> {
+    ghost told = { λ old event new. new ≡ old };
 
-    fn before_ask(&mut self, _turn: u64, _ask: &Ask) {}
-
-    fn after_answer(&mut self, _turn: u64, _answer: &Answer) {}
-
-    fn hears(&mut self, method: &[u8], target: &[u8]) {
+    fn hears(&mut self, line: Option<RequestLine<'_>>) {
         if self.lines.is_some() {
-            self.line = line_of(self.alloc, method, target);
+            self.line = line_of(self.alloc, line);
             self.heard = Instant::now(self.rt).ok();
         }
     }
@@ -106,9 +101,7 @@ impl<'a, R: Clock + Wait> Gate for RequestLog<'a, R> {
 }
 
 /// The method and the target of a request, as a log shows them. None: its head can't be read, or there is no memory for them.
-fn line_of(alloc: Global, method: &[u8], target: &[u8]) -> Option<Vec<u8>> {
-    if method.is_empty() {
-        return None;
-    }
-    shown_request(alloc, method, target).ok()
+fn line_of(alloc: Global, line: Option<RequestLine<'_>>) -> Option<Vec<u8>> {
+    let line = line?;
+    shown_request(alloc, line.method, line.target).ok()
 }

@@ -23,9 +23,11 @@ use std::sync::Wait;
 use std::thread::Threads;
 use std::time::Instant;
 use upload_intake::{
-    Conns, DrawnSecrets, Gate, Moments, Secrets, ServeFault, Worker, WorkerEnd, serve_workers,
+    Conns, DrawnSecrets, Gate, Moments, NoGate, Secrets, ServeFault, Worker, WorkerEnd,
+    serve_workers,
 };
 use upload_service::Service;
+use upload_wire::Observer;
 
 /// How many bytes an upload leaves free: so many that what is stored is still handed out. A list of the parts of the
 /// largest blob takes 2 MiB, and the C library takes memory from the system by 1 MiB or 2.
@@ -61,7 +63,7 @@ fn system_secrets<R: RandomSource>(rt: &R) -> io::Result<SystemSecrets> {
 }
 
 /// A worker of the listener.
-type ListenerWorker<'a, R> = Worker<Accepted<'a, R>, SystemSecrets, RequestLog<'a, R>>;
+type ListenerWorker<'a, R> = Worker<Accepted<'a, R>, SystemSecrets, NoGate, RequestLog<'a, R>>;
 
 /// Why there are no workers.
 #[derive(Clone, Copy, Debug, Drop, PartialEq, Eq)]
@@ -151,7 +153,7 @@ fn make_worker<'a, R>(
 ) -> Result<ListenerWorker<'a, R>, Lack>
 where
     R: AllocGlobal + Clock + RandomSource + Eprint + Wait,
-    ensures { IfOk result (λ worker. worker.gate ≡ is_some log.now) }
+    ensures { IfOk result (λ worker. worker.observer ≡ is_some log.now) }
 {
     let Ok(secrets) = system_secrets(rt) else {
         return Err(Lack::Secrets);
@@ -161,7 +163,8 @@ where
     Ok(Worker {
         conns,
         secrets,
-        gate: RequestLog::new(rt, rt.alloc(), lines),
+        gate: NoGate,
+        observer: RequestLog::new(rt, rt.alloc(), lines),
     })
 }
 
@@ -212,7 +215,7 @@ where
     requires number { vec_len workers ≡ terms.workers }
     ensures { IfOk result (λ done. done ≡ true → HasServed
         (means ⟦<Accepted<'a, R> as Conns>⟧.gives ⟦<Reader<'a, R> as ByteSource>⟧.state ⟦<Writer<'a, R> as ByteSink>⟧.state
-        ⟦<SystemSecrets as Secrets>⟧.draws ⟦<RequestLog<'a, R> as Gate>⟧.watches)
+        ⟦<SystemSecrets as Secrets>⟧.draws ⟦<NoGate as Gate>⟧.watches ⟦<RequestLog<'a, R> as Observer>⟧.told)
         ⟦<SinceStart<'a, R> as Moments>⟧.tells terms.workers terms.count) }
 {
     let mut moments = SinceStart {
@@ -244,7 +247,7 @@ where
     requires { 0 < terms.workers }
     ensures { IsServed (HasServed
         (means ⟦<Accepted<'a, R> as Conns>⟧.gives ⟦<Reader<'a, R> as ByteSource>⟧.state ⟦<Writer<'a, R> as ByteSink>⟧.state
-        ⟦<SystemSecrets as Secrets>⟧.draws ⟦<RequestLog<'a, R> as Gate>⟧.watches)
+        ⟦<SystemSecrets as Secrets>⟧.draws ⟦<NoGate as Gate>⟧.watches ⟦<RequestLog<'a, R> as Observer>⟧.told)
         ⟦<SinceStart<'a, R> as Moments>⟧.tells terms.workers terms.count)
         (W.contents out.old) (W.contents out.new) result }
 {

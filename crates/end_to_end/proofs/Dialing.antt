@@ -206,7 +206,7 @@ no_gets_of : (log : List Exchange) (xs : List Asked) → AllByRecursion (λ (e :
 no_gets_of log [] all are = tt
 no_gets_of log (x ∷ xs) all are = (no_get_of log x.ask all are.0, no_gets_of log xs all are.1)
 
-pub are_carried : {C In Out S G : Type 0} (m : Means C In Out S G) → DialedConnectionsAreCarried m
+pub are_carried : {C In Out S G O : Type 0} (m : Means C In Out S G O) → DialedConnectionsAreCarried m
 are_carried m max_body host earlier log c made none t carries may = record {
   carries = carries;
   may = subst (λ h. AllByRecursion (λ x. MayBeAsked max_body x.ask h) (c.before ++ c.asks)) (sym made.host_is) may;

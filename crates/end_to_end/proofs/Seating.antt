@@ -242,7 +242,7 @@ module _ {D : Type 0} (step : Moves D) (max count : ℕ) (at new : D) (rest : Li
   all_heard (Fault (Conn.Wire fault)) e there = refl
   all_heard (Fault Conn.Write) e there = refl
 
-module _ {C In Out S G : Type 0} (m : Means C In Out S G) (max : ℕ) where
+module _ {C In Out S G O : Type 0} (m : Means C In Out S G O) (max : ℕ) where
   abbrev pub items_on : Talk m max → List Item
   items_on t = items (answered_on m max t) (unanswered_on m max t)
 

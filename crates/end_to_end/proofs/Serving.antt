@@ -108,14 +108,14 @@ exchanges_are (m ∷ ms) = ap (λ l. m.0.exchange ∷ l) (exchanges_are ms)
 
 -- ---- the whole
 
-some_worker : {C S G : Type 0} (ws : List (Worker C S G)) (seat : ℕ) → seat < length ws → Worker C S G
+some_worker : {C S G O : Type 0} (ws : List (Worker C S G O)) (seat : ℕ) → seat < length ws → Worker C S G O
 some_worker [] seat within = absurd (omega (arith, within))
 some_worker (w ∷ ws) seat within = w
 
 none_yet : WorkerEnd
 none_yet = record { conns = 0; clean = 0 }
 
-module _ {C In Out S G M : Type 0} (m : Means C In Out S G) (tells : M → ℕ → M → Type 0) (given : Given M C S G) (left : Left) (pool : IsServedPool m tells given left)
+module _ {C In Out S G O M : Type 0} (m : Means C In Out S G O) (tells : M → ℕ → M → Type 0) (given : Given M C S G O) (left : Left) (pool : IsServedPool m tells given left)
     (p : Push) (log : List push.Exchange) (sound : IsSound p log) (account : IsAccount m tells given left pool p log) (laws : Laws) (lawful : IsLawful given.service)
     (limits : AreLawful given.service.limits) where
   abbrev max : ℕ
@@ -130,7 +130,7 @@ module _ {C In Out S G M : Type 0} (m : Means C In Out S G) (tells : M → ℕ �
   seat_is : (seat : ℕ) → seat < length given.workers
       → AllByRecursion Agrees (at_seat seat account.marked) × AllByRecursion (λ (n : Marked). IsOwnMark p n.1) (at_seat seat account.marked)
   seat_is seat within =
-      let worker : Worker C S G = some_worker given.workers seat within in
+      let worker : Worker C S G O = some_worker given.workers seat within in
       let part : HasPart m max seat pool.steps (get_or given.workers seat worker, get_or left.ends seat none_yet) = pool.parts seat worker none_yet within in
       let told = account.seats seat worker none_yet within in
       let ms : List Marked = at_seat seat account.marked in
@@ -162,7 +162,7 @@ module _ {C In Out S G M : Type 0} (m : Means C In Out S G) (tells : M → ℕ �
   pub in_place : Placed p given.service log account.marked left.service
   in_place = placed p given.service log account.marked left.service run account.order agree (all_fair p account.marked own) account.apart account.secrets
 
-module _ {C In Out S G M : Type 0} (m : Means C In Out S G) (tells : M → ℕ → M → Type 0) (laws : Laws) (given : Given M C S G) (left : Left) (pool : IsServedPool m tells given left)
+module _ {C In Out S G O M : Type 0} (m : Means C In Out S G O) (tells : M → ℕ → M → Type 0) (laws : Laws) (given : Given M C S G O) (left : Left) (pool : IsServedPool m tells given left)
     (p : Push) (told : List (Option Heard)) (lawful : IsLawful given.service) (limits : AreLawful given.service.limits) (lawful_push : IsLawfulPush p)
     (account : IsAccount m tells given left pool p (log_of p told)) where
   at : Placed p given.service (log_of p told) account.marked left.service
@@ -237,7 +237,7 @@ module _ {C In Out S G M : Type 0} (m : Means C In Out S G) (tells : M → ℕ �
       let found = (worth_in_run laws p given.service at.mid (Ok Already) lawful_push lawful over).already refl in
       record { before = steps_in at.front; after = steps_in at.back; split = split; at = at.mid; first = first; found = found; second = second; there = there found.pair }
 
-pub pushes_served : {C In Out S G M : Type 0} (m : Means C In Out S G) (tells : M → ℕ → M → Type 0) → Laws → PushesAreServed m tells
+pub pushes_served : {C In Out S G O M : Type 0} (m : Means C In Out S G O) (tells : M → ℕ → M → Type 0) → Laws → PushesAreServed m tells
 pushes_served m tells laws = record {
   pushed = λ given left pool p told lawful limits lawful_push ended account. left_there m tells laws given left pool p told lawful limits lawful_push account ended;
   already = λ given left pool p told lawful limits lawful_push ended account. found_there m tells laws given left pool p told lawful limits lawful_push account ended;

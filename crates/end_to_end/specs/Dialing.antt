@@ -54,7 +54,7 @@ DialedPushesHaveConnections =
 
 -- If the network made such a connection one of a worker's, and each request on it may be asked, it is one of which the law from end to end
 -- speaks. What was asked before the push gets no blob's bytes.
-abbrev pub DialedConnectionsAreCarried : {C In Out S G : Type 0} → Means C In Out S G → Type 0
+abbrev pub DialedConnectionsAreCarried : {C In Out S G O : Type 0} → Means C In Out S G O → Type 0
 DialedConnectionsAreCarried m =
     (max_body : ℕ) (host : List ℕ) (earlier log : List Exchange) (c : Connection) → IsMadeFor host earlier log c
     → AllByRecursion (λ (e : Exchange). IsNoGet e.ask) earlier

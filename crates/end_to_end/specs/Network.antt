@@ -64,7 +64,7 @@ pub record IsAskOf (log : List push.Exchange) (ask : Ask) : Type 0 where
 abbrev pub at_seat : ℕ → List Marked → List Marked
 at_seat seat ms = filter (λ (m : Marked). seat == m.0.seat) ms
 
-module _ {C In Out S G : Type 0} (m : Means C In Out S G) (max_body : ℕ) (log : List push.Exchange) where
+module _ {C In Out S G O : Type 0} (m : Means C In Out S G O) (max_body : ℕ) (log : List push.Exchange) where
   -- The connection of the push is this one of a worker: what either end read is a prefix of what the other wrote. It carried requests of the
   -- push, and before them some that get no blob's bytes. Each of them may be asked.
   pub record IsCarried (t : Talk m max_body) (c : Connection) : Type 0 where
@@ -93,7 +93,7 @@ module _ {C In Out S G : Type 0} (m : Means C In Out S G) (max_body : ℕ) (log 
     pub unserved : List Mark
     pub marks : flat_map marks_of whose ≡ map (λ (n : Marked). n.1) ms ++ unserved
 
-module _ {C In Out S G M : Type 0} (m : Means C In Out S G) (tells : M → ℕ → M → Type 0) (given : Given M C S G) (left : Left) (pool : IsServedPool m tells given left)
+module _ {C In Out S G O M : Type 0} (m : Means C In Out S G O) (tells : M → ℕ → M → Type 0) (given : Given M C S G O) (left : Left) (pool : IsServedPool m tells given left)
     (p : Push) (log : List push.Exchange) where
   -- An account of the network between a push and a pool: whose request each step served.
   pub record IsAccount : Type 0 where
@@ -104,7 +104,7 @@ module _ {C In Out S G M : Type 0} (m : Means C In Out S G) (tells : M → ℕ �
     -- as their types have it, a secret has twelve bytes, and the size of a blob is a u64
     pub secrets : AllByRecursion HasSecret marked
     pub sizes : AllByRecursion (λ (n : Marked). HasSize n.0.exchange.answer) marked
-    pub seats : (seat : ℕ) (worker : Worker C S G) (end : WorkerEnd) (within : seat < length given.workers)
+    pub seats : (seat : ℕ) (worker : Worker C S G O) (end : WorkerEnd) (within : seat < length given.workers)
         → IsMarkedBy m given.service.limits.max_body log (pool.parts seat worker end within).worked.talks (at_seat seat marked)
     -- what the push heard was served in the order in which it asked
     pub order : heard_in marked ≡ heard_by log
@@ -142,12 +142,12 @@ pub record IsFoundThere (p : Push) (start : State) (steps : List Step) (end : St
 -- FROM END TO END, read aloud: let a pool of workers have served, and let a push have ended whose requests went over connections to them. Then
 -- in the one order in which the pool served all requests, if the push ended Pushed, the step of its close committed what its upload had received,
 -- which is exactly the file, under its digest and its name; and if it ended Already, the repository had the digest at some step.
-pub record PushesAreServed {C In Out S G M : Type 0} (m : Means C In Out S G) (tells : M → ℕ → M → Type 0) : Type 0 where
-  pub pushed : (given : Given M C S G) (left : Left) (pool : IsServedPool m tells given left) (p : Push) (told : List (Option Heard))
+pub record PushesAreServed {C In Out S G O M : Type 0} (m : Means C In Out S G O) (tells : M → ℕ → M → Type 0) : Type 0 where
+  pub pushed : (given : Given M C S G O) (left : Left) (pool : IsServedPool m tells given left) (p : Push) (told : List (Option Heard))
       → IsLawful given.service → AreLawful given.service.limits → push.IsLawfulPush p → (push.after_all p told).phase ≡ Done Pushed
       → IsAccount m tells given left pool p (push.log_of p told)
       → IsLeftThere p given.service pool.steps left.service
-  pub already : (given : Given M C S G) (left : Left) (pool : IsServedPool m tells given left) (p : Push) (told : List (Option Heard))
+  pub already : (given : Given M C S G O) (left : Left) (pool : IsServedPool m tells given left) (p : Push) (told : List (Option Heard))
       → IsLawful given.service → AreLawful given.service.limits → push.IsLawfulPush p → (push.after_all p told).phase ≡ Done Already
       → IsAccount m tells given left pool p (push.log_of p told)
       → IsFoundThere p given.service pool.steps left.service

@@ -6,6 +6,7 @@ ghost use Rattle.upload_intake.specs.Working.{means};
 use upload_client::written_places_are_read;
 use upload_intake::{Conns, Gate, Moments, Secrets};
 use upload_service::{headline_holds, others_leave_a_session};
+use upload_wire::Observer;
 
 /// Let a pool of workers have served, over sockets or anything else, and let a push have ended `Pushed` whose requests went
 /// over connections to these workers. Then in the one order in which the pool served all requests there is the step of the
@@ -19,8 +20,8 @@ use upload_service::{headline_holds, others_leave_a_session};
 /// push's connections was; that what either end read there is a prefix of what the other wrote; that what the push heard
 /// was served in the order in which it asked; and that no other client's request carried the reference that the push had
 /// heard by then.
-pub fn pushes_are_served<M: Moments, C: Conns, S: Secrets, G: Gate>()
-    ensures { PushesAreServed (means C.gives C.In.state C.Out.state S.draws G.watches) M.tells }
+pub fn pushes_are_served<M: Moments, C: Conns, S: Secrets, G: Gate, O: Observer>()
+    ensures { PushesAreServed (means C.gives C.In.state C.Out.state S.draws G.watches O.told) M.tells }
 {
     headline_holds();
     others_leave_a_session();
@@ -34,7 +35,7 @@ pub fn pushes_are_served<M: Moments, C: Conns, S: Secrets, G: Gate>()
 ///
 /// So if such a connection was one of a worker's, as the premise on the network says, only that each request on it may be asked is
 /// left to show of it.
-pub fn dialed_pushes_have_connections<C: Conns, S: Secrets, G: Gate>()
+pub fn dialed_pushes_have_connections<C: Conns, S: Secrets, G: Gate, O: Observer>()
     ensures connections { DialedPushesHaveConnections }
-    ensures carried { DialedConnectionsAreCarried (means C.gives C.In.state C.Out.state S.draws G.watches) }
+    ensures carried { DialedConnectionsAreCarried (means C.gives C.In.state C.Out.state S.draws G.watches O.told) }
 {}

@@ -42,7 +42,7 @@ impl ReadBuffer {
     }
 
     /// The bytes that it holds.
-    pub(crate) fn as_slice(&self) -> &[u8]
+    pub fn as_slice(&self) -> &[u8]
         ensures { result.now ≡ self.now }
     {
         &self.bytes[self.start..self.end]

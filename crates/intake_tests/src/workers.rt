@@ -18,6 +18,7 @@ use std::{thread, vec};
 use upload_intake::{Conns, Gate, Moments, Pair, ServeFault, Worker, ZeroSecrets, serve_pair};
 use upload_names::{BlobDigest, RepoName};
 use upload_service::{Answer, Ask, Limits, Service};
+use upload_wire::NoObserver;
 
 /// How often a gate yields before it gives up.
 const PATIENCE: u64 = 1_000_000;
@@ -275,11 +276,13 @@ fn meet<'a, R: Threads + Wait + Sync>(
         conns: texts.0,
         secrets: ZeroSecrets,
         gate: gates.0,
+        observer: NoObserver,
     };
     let right = Worker {
         conns: texts.1,
         secrets: ZeroSecrets,
         gate: gates.1,
+        observer: NoObserver,
     };
     serve_pair(rt, alloc, service(alloc), left, right, &mut Still)
 }

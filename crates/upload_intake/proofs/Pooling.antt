@@ -20,11 +20,11 @@ use Rattle.upload_intake.proofs.Carrying.{carries}
 use Rattle.std.proofs.lemmas.List.{length-map}
 use Rattle.upload_intake.proofs.Opening.{get_or-map}
 
-module _ {C In Out S G M : Type 0} (m : Means C In Out S G) (tells : M → ℕ → M → Type 0) where
-  part : (max_body : ℕ) (seat : ℕ) (steps : List Step) (st : Station C S G) (new : SeatState) (end : WorkerEnd)
+module _ {C In Out S G O M : Type 0} (m : Means C In Out S G O) (tells : M → ℕ → M → Type 0) where
+  part : (max_body : ℕ) (seat : ℕ) (steps : List Step) (st : Station C S G O) (new : SeatState) (end : WorkerEnd)
       → IsFresh st.seat → st.server.max_body ≡ max_body → Works m st new end → IsSettledSeat seat steps new → HasPart m max_body seat steps (st.worker, end)
   part max_body seat steps st new end fresh limit works settled =
-      let w = subst (λ n. IsWorked m n st.worker.conns st.worker.secrets st.worker.gate st.seat new end.conns end.clean) limit works.worked in
+      let w = subst (λ n. IsWorked m n st.worker.conns st.worker.secrets st.worker.gate st.worker.observer st.seat new end.conns end.clean) limit works.worked in
       record {
         old = st.seat;
         new = new;
@@ -35,7 +35,7 @@ module _ {C In Out S G M : Type 0} (m : Means C In Out S G) (tells : M → ℕ �
         sent = settled.sent;
       }
 
-  seat_of_one_call : (keeper behind : KeeperState) (k : ℕ) (st : Station C S G) (new : SeatState)
+  seat_of_one_call : (keeper behind : KeeperState) (k : ℕ) (st : Station C S G O) (new : SeatState)
       → IsSameKeeper keeper behind → IsSeatOf keeper k st.seat → IsSameSeat st.seat new → IsSeatOf behind k new
   seat_of_one_call keeper behind k st new same one seat = record {
     jobs = seat.jobs ∙ one.jobs ∙ sym same.jobs;
@@ -43,49 +43,49 @@ module _ {C In Out S G M : Type 0} (m : Means C In Out S G) (tells : M → ℕ �
     number_is = seat.seat ∙ one.number_is;
   }
 
-  seated : (keeper behind : KeeperState) (stations : List (Station C S G)) (seats : List SeatState) (ends : List WorkerEnd) → AreOfOneCall keeper (seats_of stations)
+  seated : (keeper behind : KeeperState) (stations : List (Station C S G O)) (seats : List SeatState) (ends : List WorkerEnd) → AreOfOneCall keeper (seats_of stations)
       → IsSameKeeper keeper behind → EachWorks m stations seats ends → (k : ℕ) (d : SeatState) → k < length stations → IsSeatOf behind k (get_or seats k d)
   seated keeper behind [] seats ends one same works k d below = absurd (omega arith)
   seated keeper behind (s ∷ ss) seats ends one same works k d below =
-      let all : List (Station C S G) = s ∷ ss in
-      let inside : k < length (seats_of all) = (let n = length-map all (λ (x : Station C S G). x.seat) in omega arith) in
-      let mine : IsSeatOf keeper k (get_or all k s).seat = subst (IsSeatOf keeper k) (get_or-map (λ (x : Station C S G). x.seat) all k s s.seat below) (one.each k s.seat inside) in
+      let all : List (Station C S G O) = s ∷ ss in
+      let inside : k < length (seats_of all) = (let n = length-map all (λ (x : Station C S G O). x.seat) in omega arith) in
+      let mine : IsSeatOf keeper k (get_or all k s).seat = subst (IsSeatOf keeper k) (get_or-map (λ (x : Station C S G O). x.seat) all k s s.seat below) (one.each k s.seat inside) in
       seat_of_one_call keeper behind k (get_or all k s) (get_or seats k d) same mine (works k s d (record { conns = 0; clean = 0 }) below).same
 
   -- the ends are of one call with the keeper that ran, as the seats were
-  pub still_of_one_call : (keeper behind : KeeperState) (stations : List (Station C S G)) (seats : List SeatState) (ends : List WorkerEnd)
+  pub still_of_one_call : (keeper behind : KeeperState) (stations : List (Station C S G O)) (seats : List SeatState) (ends : List WorkerEnd)
       → AreOfOneCall keeper (seats_of stations) → IsSameKeeper keeper behind → length seats ≡ length stations → EachWorks m stations seats ends → AreOfOneCall behind seats
   still_of_one_call keeper behind stations seats ends one same len works =
-      let p = length-map stations (λ (s : Station C S G). s.seat) in
+      let p = length-map stations (λ (s : Station C S G O). s.seat) in
       record {
         count = len ∙ sym p ∙ one.count ∙ ap length (sym same.replies);
         each = λ k d below. seated keeper behind stations seats ends one same works k d (omega arith);
       }
 
-  parts : (max_body : ℕ) (steps : List Step) (stations : List (Station C S G)) (seats : List SeatState) (ends : List WorkerEnd)
+  parts : (max_body : ℕ) (steps : List Step) (stations : List (Station C S G O)) (seats : List SeatState) (ends : List WorkerEnd)
       → All IsFresh (seats_of stations) → All (λ n. n ≡ max_body) (limits_of stations) → length seats ≡ length stations → EachWorks m stations seats ends
       → ((k : ℕ) (d : SeatState) → k < length seats → IsSettledSeat k steps (get_or seats k d))
-      → (k : ℕ) (worker : Worker C S G) (end : WorkerEnd) → k < length stations → HasPart m max_body k steps (get_or (workers_of stations) k worker, get_or ends k end)
+      → (k : ℕ) (worker : Worker C S G O) (end : WorkerEnd) → k < length stations → HasPart m max_body k steps (get_or (workers_of stations) k worker, get_or ends k end)
   parts max_body steps [] seats ends fresh limits len works settled k worker end below = absurd (omega arith)
   parts max_body steps (s ∷ ss) seats ends fresh limits len works settled k worker end below =
-      let all : List (Station C S G) = s ∷ ss in
+      let all : List (Station C S G O) = s ∷ ss in
       let st = get_or all k s in
-      let its_seat : get_or (seats_of all) k s.seat ≡ st.seat = get_or-map (λ (x : Station C S G). x.seat) all k s s.seat below in
-      let its_limit : get_or (limits_of all) k s.server.max_body ≡ st.server.max_body = get_or-map (λ (x : Station C S G). x.server.max_body) all k s s.server.max_body below in
+      let its_seat : get_or (seats_of all) k s.seat ≡ st.seat = get_or-map (λ (x : Station C S G O). x.seat) all k s s.seat below in
+      let its_limit : get_or (limits_of all) k s.server.max_body ≡ st.server.max_body = get_or-map (λ (x : Station C S G O). x.server.max_body) all k s s.server.max_body below in
       let one : HasPart m max_body k steps (st.worker, get_or ends k end) = part max_body k steps st (get_or seats k s.seat) (get_or ends k end)
-      (subst IsFresh its_seat (fresh k s.seat (let n = length-map all (λ (x : Station C S G). x.seat) in omega arith)))
-      (sym its_limit ∙ limits k s.server.max_body (let n = length-map all (λ (x : Station C S G). x.server.max_body) in omega arith))
+      (subst IsFresh its_seat (fresh k s.seat (let n = length-map all (λ (x : Station C S G O). x.seat) in omega arith)))
+      (sym its_limit ∙ limits k s.server.max_body (let n = length-map all (λ (x : Station C S G O). x.server.max_body) in omega arith))
       (works k s s.seat end below)
       (settled k s.seat (omega arith)) in
-      subst (λ (w : Worker C S G). HasPart m max_body k steps (w, get_or ends k end)) (sym (get_or-map (λ (x : Station C S G). x.worker) all k s worker below)) one
+      subst (λ (w : Worker C S G O). HasPart m max_body k steps (w, get_or ends k end)) (sym (get_or-map (λ (x : Station C S G O). x.worker) all k s worker below)) one
 
-  pub served_pool : (keeper behind : KeeperState) (stations : List (Station C S G)) (seats : List SeatState) (ends : List WorkerEnd) (before after : M) (service : State) (log_length : ℕ)
+  pub served_pool : (keeper behind : KeeperState) (stations : List (Station C S G O)) (seats : List SeatState) (ends : List WorkerEnd) (before after : M) (service : State) (log_length : ℕ)
       → keeper.log ≡ [] → All IsFresh (seats_of stations) → All (λ n. n ≡ keeper.start.limits.max_body) (limits_of stations) → length seats ≡ length stations → length ends ≡ length stations
       → EachWorks m stations seats ends → IsSameKeeper keeper behind → Grows tells keeper before behind after → IsSettled behind seats service log_length
       → IsServedPool m tells (record { service = keeper.start; moments = before; workers = workers_of stations }) (record { service = service; ends = ends })
   served_pool keeper behind stations seats ends before after service log_length none fresh limits len count works same grown settled =
       let all : grown.more ≡ behind.log = ap (λ (x : List Step). x ++ grown.more) (sym none) ∙ sym grown.log in
-      let p = length-map stations (λ (s : Station C S G). s.worker) in
+      let p = length-map stations (λ (s : Station C S G O). s.worker) in
       record {
         steps = behind.log;
         seated = subst (λ l. AllByRecursion (λ (s : Step). s.seat < l) behind.log) (len ∙ sym p) settled.seated;
@@ -97,8 +97,8 @@ module _ {C In Out S G M : Type 0} (m : Means C In Out S G) (tells : M → ℕ �
       }
 
 -- one worker more
-module _ {C In Out S G : Type 0} (m : Means C In Out S G) where
-  pub works_more : (stations : List (Station C S G)) (seats : List SeatState) (ends : List WorkerEnd) (st : Station C S G) (seat : SeatState) (end : WorkerEnd)
+module _ {C In Out S G O : Type 0} (m : Means C In Out S G O) where
+  pub works_more : (stations : List (Station C S G O)) (seats : List SeatState) (ends : List WorkerEnd) (st : Station C S G O) (seat : SeatState) (end : WorkerEnd)
       → length seats ≡ length stations → length ends ≡ length stations → EachWorks m stations seats ends → Works m st seat end
       → EachWorks m (stations ++ st ∷ []) (seats ++ seat ∷ []) (ends ++ end ∷ [])
   works_more [] [] [] st seat end p q h w zero a b c below = w

@@ -12,7 +12,7 @@ use Rattle.upload_wire.proofs.TranscriptLemmas.{conversations_told}
 whole_of : (had more all : List ℕ) → all ≡ had ++ more → had ≡ [] → all ≡ more
 whole_of had more all e none = e ∙ ap (λ t. t ++ more) none
 
-module _ {C In Out S G : Type 0} (m : Means C In Out S G) (max_body : ℕ) (unused : GivesUnused m) where
+module _ {C In Out S G O : Type 0} (m : Means C In Out S G O) (max_body : ℕ) (unused : GivesUnused m) where
   one_told : (conns mid : C) (t : Talk m max_body) → m.gives conns (Some (t.reader, t.writer)) mid → TellsAll m max_body t
   one_told conns mid t given =
       let whole = conversations_told (steps m max_body) max_body (m.reads t.reader) (m.reads t.reader_left) t.old t.new (m.writes t.writer) (m.writes t.writer_left) t.end t.conversation in
@@ -29,5 +29,5 @@ module _ {C In Out S G : Type 0} (m : Means C In Out S G) (max_body : ℕ) (unus
         (behind t.end ((ts ≡ []) × (new ≡ t.new)) (Serves m max_body s.0 t.new ts new) s.3),
   )
 
-pub connections_told : {C In Out S G : Type 0} (m : Means C In Out S G) → TranscriptsTellConnections m
+pub connections_told : {C In Out S G O : Type 0} (m : Means C In Out S G O) → TranscriptsTellConnections m
 connections_told m = λ unused max_body conns desk new talks s. all_told m max_body unused conns desk new talks s

@@ -9,12 +9,15 @@ use Rattle.upload_intake.specs.Desks.{seat_of, secrets_of}
 use Rattle.upload_intake.specs.declared.work.GatedDesk.{GatedDesk}
 use Rattle.upload_intake.specs.Settled.{count_limit}
 use Rattle.upload_intake.specs.SeatConversations.{Adds}
-use Rattle.upload_intake.specs.Working.{Means, Behind, is_clean, is_gone, Serves, Talk, steps, answered_on, unanswered_on, all_answered, all_unanswered, count_clean, IsWorked}
+use Rattle.upload_intake.specs.Working.{Means, Behind, is_clean, is_gone, Serves, Talk, steps, answered_on, unanswered_on, all_answered, all_unanswered, count_clean, TellsTalk, TellsTalks, IsWorked}
 use Rattle.upload_intake.proofs.Conversations.{GatedSteps}
 use Rattle.upload_intake.proofs.SeatConversations.{adds_none, adds_twice, fills}
 use Rattle.upload_intake.proofs.Watching.{each_twice, watched_on, watched_lost}
 use Rattle.http_wire.specs.States.{SourceState, SinkState}
 use Rattle.upload_wire.specs.Conversation.{Moves, Exchange, Answers, EndsWith, IsConversation, stand}
+use Rattle.upload_wire.specs.Events.{Event, Hears}
+use Rattle.upload_wire.specs.Told.{TellsEnd, IsTold, rules, sides}
+use Rattle.upload_wire.proofs.ToldLemmas.{hears_more}
 use Rattle.upload_wire.specs.ConnectionRuns.{answered_last, unanswered_last, answered, unanswered}
 use Rattle.upload_wire.specs.declared.connection.ConnEnd.{ConnEnd}
 use Rattle.upload_wire.specs.declared.connection.ConnEnd.TheVariants.{Clean, AfterClose, AfterBad, TooMany, DeskGone, Fault}
@@ -84,6 +87,20 @@ module _ {D E : Type 0} (step : Moves D) (seen : Moves E) (see : D → E)
   see_unanswered max_body count at new rest left mid after (Fault (Conn.Wire fault)) e = refl
   see_unanswered max_body count at new rest left mid after (Fault Conn.Write) e = refl
 
+  -- the same is told of it there
+  see_tells : (max_body count : ℕ) (at new : D) (rest : List ℕ) (left : SourceState) (mid after : SinkState) (end : ConnEnd) (e : EndsWith step max_body (stand count rest left at mid) new after end) (events : List Event)
+      → TellsEnd (record { moves = step; max_body = max_body; stood = stand count rest left at mid; desk = new; sink = after }) end e events
+      → TellsEnd (record { moves = seen; max_body = max_body; stood = stand count rest left (see at) mid; desk = see new; sink = after }) end (see_end max_body count at new rest left mid after end e) events
+  unfolding see_end
+  see_tells max_body count at new rest left mid after Clean e events told = told
+  see_tells max_body count at new rest left mid after AfterClose e events told = told
+  see_tells max_body count at new rest left mid after AfterBad e events told = told
+  see_tells max_body count at new rest left mid after TooMany e events told = told
+  see_tells max_body count at new rest left mid after DeskGone e events told = told
+  see_tells max_body count at new rest left mid after (Fault (Conn.Wire fault)) e events told = told
+  see_tells max_body count at new rest left mid after (Fault Conn.Write) (inl s) events told = told
+  see_tells max_body count at new rest left mid after (Fault Conn.Write) (inr s) events told = told
+
 -- ---- ends
 
 pub behind : (end : ConnEnd) (A B : Type 0) → Behind end A B → ((end ≡ DeskGone) × A) ⊎ ((end ≡ DeskGone → ⊥) × B)
@@ -128,7 +145,7 @@ module _ {D : Type 0} (step : Moves D) (max_body count : ℕ) (at new : D) (rest
 
 -- ---- the history
 
-module _ {C In Out S G : Type 0} (m : Means C In Out S G) (max_body : ℕ) where
+module _ {C In Out S G O : Type 0} (m : Means C In Out S G O) (max_body : ℕ) where
   -- what a worker has served where it goes on
   abbrev pub SoFar : C → SeatState × S → List (Talk m max_body) → C → SeatState × S → Type 0
   SoFar conns desk [] conns' desk' = (conns' ≡ conns) × (desk' ≡ desk)
@@ -175,7 +192,7 @@ module _ {C In Out S G : Type 0} (m : Means C In Out S G) (max_body : ℕ) where
       (adds_all s.0 t.new ts new x.1)))
       (behind t.end ((ts ≡ []) × (new ≡ t.new)) (Serves m max_body s.0 t.new ts new) s.3)
 
-  -- ---- what the gate is told, and the counts
+  -- ---- what the gate and the observer are told, and the counts
 
   answered_more : (ts : List (Talk m max_body)) (t : Talk m max_body) → all_answered m max_body (ts ++ t ∷ []) ≡ all_answered m max_body ts ++ answered_on m max_body t
   answered_more [] t = append-nil (answered_on m max_body t)
@@ -185,12 +202,20 @@ module _ {C In Out S G : Type 0} (m : Means C In Out S G) (max_body : ℕ) where
   unanswered_more [] t = append-nil (unanswered_on m max_body t)
   unanswered_more (u ∷ us) t = ap (λ l. unanswered_on m max_body u ++ l) (unanswered_more us t) ∙ sym (append_assoc (unanswered_on m max_body u) (all_unanswered m max_body us) (unanswered_on m max_body t))
 
-  -- a worker that goes on, with its gate, the turns so far and its counts
-  pub record Working (conns : C) (desk : SeatState × S) (gate : G) (conns' : C) (desk' : SeatState × S) (gate' : G) (turn taken clean : ℕ) : Type 0 where
+  tells_more : (ts : List (Talk m max_body)) (t : Talk m max_body) (es fs : List Event) → TellsTalks m max_body ts es → TellsTalk m max_body t fs
+      → TellsTalks m max_body (ts ++ t ∷ []) (es ++ fs)
+  tells_more [] t es fs h k = (fs, [], k, refl, ap (λ l. l ++ fs) h ∙ sym (append-nil fs))
+  tells_more (u ∷ us) t es fs h k = (h.0, h.1 ++ fs, h.2, tells_more us t h.1 fs h.3 k, ap (λ l. l ++ fs) h.4 ∙ append_assoc h.0 h.1 fs)
+
+  -- a worker that goes on, with its gate, its observer, the turns so far and its counts
+  pub record Working (conns : C) (desk : SeatState × S) (gate : G) (observer : O) (conns' : C) (desk' : SeatState × S) (gate' : G) (observer' : O) (turn taken clean : ℕ) : Type 0 where
     pub talks : List (Talk m max_body)
     pub so_far : SoFar conns desk talks conns' desk'
     pub watched : WatchesEach m.watches gate 0 (all_answered m max_body talks) gate' turn
     pub none_lost : all_unanswered m max_body talks ≡ []
+    pub events : List Event
+    pub tells : TellsTalks m max_body talks events
+    pub heard : Hears m.told observer events observer'
     pub counted : taken ≡ min (length talks) count_limit
     pub clean_ones : clean ≡ min (count_clean m max_body talks) count_limit
 
@@ -204,21 +229,37 @@ module _ {C In Out S G : Type 0} (m : Means C In Out S G) (max_body : ℕ) where
       ∙ length-append (filter (λ (t : Talk m max_body). is_clean t.end) ts) (filter (λ (t : Talk m max_body). is_clean t.end) (t ∷ []))
       ∙ ap (λ n. count_clean m max_body ts + n) (clean_step (is_clean t.end) t)
 
-  pub begins : (conns : C) (desk : SeatState × S) (gate : G) → Working conns desk gate conns desk gate 0 0 0
-  begins conns desk gate = record { talks = []; so_far = (refl, refl); watched = (refl, refl); none_lost = refl; counted = refl; clean_ones = refl }
+  pub begins : (conns : C) (desk : SeatState × S) (gate : G) (observer : O) → Working conns desk gate observer conns desk gate observer 0 0 0
+  begins conns desk gate observer = record {
+    talks = [];
+    so_far = (refl, refl);
+    watched = (refl, refl);
+    none_lost = refl;
+    events = [];
+    tells = refl;
+    heard = refl;
+    counted = refl;
+    clean_ones = refl;
+  }
 
-  module _ (conns : C) (desk : SeatState × S) (gate : G) (conns' : C) (desk' : SeatState × S) (gate' : G) (turn taken clean : ℕ) (w : Working conns desk gate conns' desk' gate' turn taken clean) where
-    pub ends_at_none : (left : C) → m.gives conns' None left → IsWorked m max_body conns desk.1 gate desk.0 desk'.0 taken clean
+  module _ (conns : C) (desk : SeatState × S) (gate : G) (observer : O) (conns' : C) (desk' : SeatState × S) (gate' : G) (observer' : O) (turn taken clean : ℕ)
+      (w : Working conns desk gate observer conns' desk' gate' observer' turn taken clean) where
+    pub ends_at_none : (left : C) → m.gives conns' None left → IsWorked m max_body conns desk.1 gate observer desk.0 desk'.0 taken clean
     ends_at_none left given = record {
       talks = w.talks;
       secrets_left = desk'.1;
       served = none_came conns desk w.talks conns' desk' w.so_far left given;
       watched = record { behind = gate'; turn = turn; left = gate'; each = w.watched; last = subst (λ l. WatchesLast m.watches gate' turn l gate') (sym w.none_lost) refl };
+      events = w.events;
+      observer_left = observer';
+      tells = w.tells;
+      heard = w.heard;
       counted = w.counted;
       clean_ones = w.clean_ones;
     }
 
-    module _ (t : Talk m max_body) (mid : C) (new_gate : G) (taken' clean' : ℕ) (given : m.gives conns' (Some (t.reader, t.writer)) mid) (stands : t.old ≡ desk')
+    module _ (t : Talk m max_body) (mid : C) (new_gate : G) (new_observer : O) (more : List Event) (tells : TellsTalk m max_body t more)
+        (hears : Hears m.told observer' more new_observer) (taken' clean' : ℕ) (given : m.gives conns' (Some (t.reader, t.writer)) mid) (stands : t.old ≡ desk')
         (conns_count : taken' ≡ min (taken + 1) count_limit) (clean_count : clean' ≡ min (clean + cond (is_clean t.end) 1 0) count_limit) where
       counted : taken' ≡ min (length (w.talks ++ t ∷ [])) count_limit
       counted = let n = w.counted in let l = length-append w.talks (t ∷ []) in omega arith
@@ -233,33 +274,50 @@ module _ {C In Out S G : Type 0} (m : Means C In Out S G) (max_body : ℕ) where
       lost_too : all_unanswered m max_body (w.talks ++ t ∷ []) ≡ unanswered_on m max_body t
       lost_too = unanswered_more w.talks t ∙ ap (λ l. l ++ unanswered_on m max_body t) w.none_lost
 
-      pub talked : (now : ℕ) → WatchesEach m.watches gate' turn (answered_on m max_body t) new_gate now → (t.end ≡ DeskGone → ⊥) → Working conns desk gate mid t.new new_gate now taken' clean'
+      heard_too : Hears m.told observer (w.events ++ more) new_observer
+      heard_too = hears_more m.told observer observer' new_observer w.events more w.heard hears
+
+      pub talked : (now : ℕ) → WatchesEach m.watches gate' turn (answered_on m max_body t) new_gate now → (t.end ≡ DeskGone → ⊥) → Working conns desk gate observer mid t.new new_gate new_observer now taken' clean'
       talked now told there = record {
         talks = w.talks ++ t ∷ [];
         so_far = one_more conns desk w.talks conns' desk' w.so_far t mid given stands there;
         watched = told_too new_gate now told;
         none_lost = lost_too ∙ all_heard (steps m max_body) max_body (length t.conversation.exchanges) t.conversation.at t.new t.conversation.rest (m.reads t.reader_left) t.conversation.mid (m.writes t.writer_left) t.end t.conversation.ended there;
+        events = w.events ++ more;
+        tells = tells_more w.talks t w.events more w.tells tells;
+        heard = heard_too;
         counted = counted;
         clean_ones = clean_ones;
       }
 
       pub ends_gone : (at : G) (now : ℕ) → WatchesEach m.watches gate' turn (answered_on m max_body t) at now → WatchesLast m.watches at now (unanswered_on m max_body t) new_gate
-          → t.end ≡ DeskGone → IsWorked m max_body conns desk.1 gate desk.0 t.new.0 taken' clean'
+          → t.end ≡ DeskGone → IsWorked m max_body conns desk.1 gate observer desk.0 t.new.0 taken' clean'
       ends_gone at now told last gone = record {
         talks = w.talks ++ t ∷ [];
         secrets_left = t.new.1;
         served = gone_at conns desk w.talks conns' desk' w.so_far t mid given stands gone;
         watched = record { behind = at; turn = now; left = new_gate; each = told_too at now told; last = subst (λ l. WatchesLast m.watches at now l new_gate) (sym lost_too) last };
+        events = w.events ++ more;
+        observer_left = new_observer;
+        tells = tells_more w.talks t w.events more w.tells tells;
+        heard = heard_too;
         counted = counted;
         clean_ones = clean_ones;
       }
 
   -- ---- the same, seen from elsewhere
 
-  module _ {R : Type 0} (reader reader_left : In) (writer writer_left : Out) (old new : GatedDesk R S G) (end : ConnEnd) (limit : ℕ) (same : limit ≡ max_body)
-      (served : IsConversation (GatedSteps {R = R} m.draws m.watches) limit (m.reads reader) (m.reads reader_left) old new (m.writes writer) (m.writes writer_left) end) where
+  -- a connection as it was served at the limit of this server
+  pub at_limit : {R : Type 0} (reader reader_left : In) (writer writer_left : Out) (old new : GatedDesk R S G) (was is : O) (end : ConnEnd) (limit : ℕ) → limit ≡ max_body
+      → IsTold (rules (GatedSteps {R = R} m.draws m.watches) m.told limit) (sides (m.reads reader) old was (m.writes writer)) (sides (m.reads reader_left) new is (m.writes writer_left)) end
+      → IsTold (rules (GatedSteps {R = R} m.draws m.watches) m.told max_body) (sides (m.reads reader) old was (m.writes writer)) (sides (m.reads reader_left) new is (m.writes writer_left)) end
+  at_limit {R} reader reader_left writer writer_left old new was is end limit same told =
+      subst (λ (n : ℕ). IsTold (rules (GatedSteps {R = R} m.draws m.watches) m.told n) (sides (m.reads reader) old was (m.writes writer)) (sides (m.reads reader_left) new is (m.writes writer_left)) end) same told
+
+  module _ {R : Type 0} (reader reader_left : In) (writer writer_left : Out) (old new : GatedDesk R S G) (was is : O) (end : ConnEnd)
+      (told : IsTold (rules (GatedSteps {R = R} m.draws m.watches) m.told max_body) (sides (m.reads reader) old was (m.writes writer)) (sides (m.reads reader_left) new is (m.writes writer_left)) end) where
     abbrev c : IsConversation (GatedSteps {R = R} m.draws m.watches) max_body (m.reads reader) (m.reads reader_left) old new (m.writes writer) (m.writes writer_left) end
-    c = subst (λ n. IsConversation (GatedSteps {R = R} m.draws m.watches) n (m.reads reader) (m.reads reader_left) old new (m.writes writer) (m.writes writer_left) end) same served
+    c = told.conversation
 
     abbrev see : GatedDesk R S G → SeatState × S
     see d = (seat_of d.desk, secrets_of d.desk)
@@ -288,6 +346,18 @@ module _ {C In Out S G : Type 0} (m : Means C In Out S G) (max_body : ℕ) where
     same_unanswered = see_unanswered {D = GatedDesk R S G} {E = SeatState × S} (GatedSteps {R = R} m.draws m.watches) (steps m max_body) see (λ a ask answer b moved. moved.0)
         max_body (length c.exchanges) c.at new c.rest (m.reads reader_left) c.mid (m.writes writer_left) end c.ended
 
+    -- what was told of it tells the talk
+    pub tells_talk : TellsTalk m max_body talk_of (told.of_exchanges ++ told.of_end)
+    unfolding seen_as
+    tells_talk = record {
+      of_exchanges = told.of_exchanges;
+      of_end = told.of_end;
+      each = told.each;
+      last = see_tells {D = GatedDesk R S G} {E = SeatState × S} (GatedSteps {R = R} m.draws m.watches) (steps m max_body) see (λ a ask answer b moved. moved.0)
+          max_body (length c.exchanges) c.at new c.rest (m.reads reader_left) c.mid (m.writes writer_left) end c.ended told.of_end told.last;
+      events_are = refl;
+    }
+
     -- and the gate was told of it
     pub told_on : (end ≡ DeskGone → ⊥) → WatchesEach m.watches old.gate old.turn (answered_on m max_body talk_of) new.gate new.turn
     told_on there = subst (λ l. WatchesEach m.watches old.gate old.turn l new.gate new.turn) (sym same_answered)
@@ -300,12 +370,7 @@ module _ {C In Out S G : Type 0} (m : Means C In Out S G) (max_body : ℕ) where
         max_body (m.reads reader) (m.reads reader_left) old new (m.writes writer) (m.writes writer_left) end c gone in
         (l.0, l.1, subst (λ xs. WatchesEach m.watches old.gate old.turn xs l.0 l.1) (sym same_answered) l.2, subst (λ us. WatchesLast m.watches l.0 l.1 us new.gate) (sym same_unanswered) l.3)
 
-  pub worked_as : (conns : C) (secrets : S) (gate : G) (seat new new' : SeatState) (taken taken' clean clean' : ℕ) → IsWorked m max_body conns secrets gate seat new taken clean
-      → new' ≡ new → taken' ≡ taken → clean' ≡ clean → IsWorked m max_body conns secrets gate seat new' taken' clean'
-  worked_as conns secrets gate seat new new' taken taken' clean clean' w p q r =
-      subst (λ (x : SeatState × (ℕ × ℕ)). IsWorked m max_body conns secrets gate seat x.0 x.1.0 x.1.1) (λ i. (sym p i, (sym q i, sym r i))) w
-
-pub promised : {C In Out S G : Type 0} (m : Means C In Out S G) (max_body max_body' : ℕ) (conns conns' : C) (secrets secrets' : S) (gate gate' : G) (seat seat' new : SeatState) (taken clean : ℕ)
-    → max_body ≡ max_body' → conns ≡ conns' → secrets ≡ secrets' → gate ≡ gate' → seat ≡ seat' → IsWorked m max_body conns secrets gate seat new taken clean → IsWorked m max_body' conns' secrets' gate' seat' new taken clean
-promised {C} {In} {Out} {S} {G} m max_body max_body' conns conns' secrets secrets' gate gate' seat seat' new taken clean p q r g s w =
-    subst (λ (x : ℕ × (C × (S × (G × SeatState)))). IsWorked m x.0 x.1.0 x.1.1.0 x.1.1.1.0 x.1.1.1.1 new taken clean) (λ i. (p i, (q i, (r i, (g i, s i))))) w
+  pub worked_as : (conns : C) (secrets : S) (gate : G) (observer : O) (seat new new' : SeatState) (taken taken' clean clean' : ℕ) → IsWorked m max_body conns secrets gate observer seat new taken clean
+      → new' ≡ new → taken' ≡ taken → clean' ≡ clean → IsWorked m max_body conns secrets gate observer seat new' taken' clean'
+  worked_as conns secrets gate observer seat new new' taken taken' clean clean' w p q r =
+      subst (λ (x : SeatState × (ℕ × ℕ)). IsWorked m max_body conns secrets gate observer seat x.0 x.1.0 x.1.1) (λ i. (sym p i, (sym q i, sym r i))) w

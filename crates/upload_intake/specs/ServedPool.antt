@@ -2,7 +2,7 @@
 -- conversation. What all these conversations asked was served by one service in one order, and nothing else was. In it stand each worker's
 -- requests, in the order in which it read them, each once, with the answers that it wrote. At moments that the clock told, and that don't fall,
 -- this order takes the service that was handed in to the one handed back, and the headline holds of it. Each worker's gate was told of
--- its requests and their answers, in the order in which it read them.
+-- its requests and their answers, in the order in which it read them, and its observer of each head and of each reply on its connections.
 use Rattle.std.specs.Prelude.{◌≡◌, ℕ, ◌<◌, ◌==◌, ◌⊎◌, List, [], ◌++◌, map, filter, length, get_or}
 use Rattle.std.specs.List.{AllByRecursion}
 use Rattle.upload_service.specs.declared.ask.Ask.{Ask}
@@ -37,33 +37,33 @@ pub record Carries (seat : ℕ) (steps : List Step) (answered : List Exchange) (
   pub in_order : map asked_and_answered (of_seat seat steps) ≡ map read_and_replied answered ++ map asked_and_answered unheard
   pub lost : (asks unheard ≡ []) ⊎ (asks unheard ≡ unanswered)
 
--- The part of the worker on a seat, from its connections, its secrets and its gate to its two counts: what it served over a seat that had
+-- The part of the worker on a seat, from its connections, its secrets, its gate and its observer to its two counts: what it served over a seat that had
 -- asked nothing, the steps that its conversations are, and the jobs among them with the secrets that it drew.
-pub record HasPart {C In Out S G : Type 0}
-    (m : Means C In Out S G) (max_body : ℕ) (seat : ℕ) (steps : List Step) (part : Worker C S G × WorkerEnd) : Type 0 where
+pub record HasPart {C In Out S G O : Type 0}
+    (m : Means C In Out S G O) (max_body : ℕ) (seat : ℕ) (steps : List Step) (part : Worker C S G O × WorkerEnd) : Type 0 where
   pub old : SeatState
   pub new : SeatState
   pub fresh : IsFresh old
-  pub worked : IsWorked m max_body part.0.conns part.0.secrets part.0.gate old new part.1.conns part.1.clean
+  pub worked : IsWorked m max_body part.0.conns part.0.secrets part.0.gate part.0.observer old new part.1.conns part.1.clean
   pub carried : Carries seat steps (all_answered m max_body worked.talks) (all_unanswered m max_body worked.talks)
   pub sent : jobs_of seat (taken_by steps) ≡ new.sent
 
 -- what is handed to a pool, and what it leaves: the workers and their ends are in the order of their seats
-pub record Given (M C S G : Type 0) : Type 0 where
+pub record Given (M C S G O : Type 0) : Type 0 where
   pub service : State
   pub moments : M
-  pub workers : List (Worker C S G)
+  pub workers : List (Worker C S G O)
 
 pub record Left : Type 0 where
   pub service : State
   pub ends : List WorkerEnd
 
-pub record IsServedPool {C In Out S G M : Type 0} (m : Means C In Out S G) (tells : M → ℕ → M → Type 0) (given : Given M C S G) (left : Left) : Type 0 where
+pub record IsServedPool {C In Out S G O M : Type 0} (m : Means C In Out S G O) (tells : M → ℕ → M → Type 0) (given : Given M C S G O) (left : Left) : Type 0 where
   pub steps : List Step
   -- no step is of another seat
   pub seated : AllByRecursion (λ (s : Step). s.seat < length given.workers) steps
   pub counted : length left.ends ≡ length given.workers
-  pub parts : (seat : ℕ) (worker : Worker C S G) (end : WorkerEnd) → seat < length given.workers
+  pub parts : (seat : ℕ) (worker : Worker C S G O) (end : WorkerEnd) → seat < length given.workers
       → HasPart m given.service.limits.max_body seat steps (get_or given.workers seat worker, get_or left.ends seat end)
   pub served : IsServed given.service (exchanges_of steps) left.service
   pub clock : M

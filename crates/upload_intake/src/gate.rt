@@ -5,8 +5,8 @@ ghost use Rattle.upload_intake.specs.Notices.Notice.{Asking, Answered};
 
 use upload_service::{Answer, Ask};
 
-/// Stands between a worker and its seat: what logs requests stands there, and a test may hold a worker there. It is told
-/// which of the worker's requests it is, counted from 1; the count stays at 2^64 - 1 once there.
+/// Stands between a worker and its seat, where a test may hold the worker. It is told of each request that is asked: which of
+/// the worker's it is, counted from 1, and what it is answered. The count stays at 2^64 - 1 once there.
 pub trait Gate {
     // Holds of the state before, which request it is, what is told of it, and the state after.
     ghost watches: { Self → ℕ → Notice → Self → Type 0 };
@@ -18,16 +18,6 @@ pub trait Gate {
     /// The request was answered so. Where the keeper is gone this isn't called.
     fn after_answer(&mut self, turn: u64, answer: &Answer)
         ensures { watches self.old turn (Answered answer.now) self.new };
-
-    /// The head of a request has come, as `Desk::hears` says.
-    fn hears(&mut self, _method: &[u8], _target: &[u8])
-        ensures { self.new ≡ self.old }
-    {}
-
-    /// A reply was written, or failed while it was, as `Desk::replied` says.
-    fn replied(&mut self, _status: u16, _size: u64)
-        ensures { self.new ≡ self.old }
-    {}
 }
 
 /// Holds nobody.

@@ -7,6 +7,7 @@ ghost use Rattle.upload_intake.specs.Working.{means};
 use crate::conns::Conns;
 use crate::gate::Gate;
 use crate::secrets::Secrets;
+use upload_wire::Observer;
 
 /// Of every conversation over a seat with these secrets: its asks, in order, are what was added to what the seat sent, and
 /// its answers are what was added to what it heard. The last ask was given back unsent, or got no answer, where the
@@ -17,8 +18,8 @@ pub fn conversations_fill_the_seat<S: Secrets>()
 
 /// If a worker is given connections on which nothing was read or written, the transcripts of each connection that it served
 /// tell all: its reads gave what its conversation read, its writes took what its conversation wrote, and nothing else.
-pub fn transcripts_tell_connections<C: Conns, S: Secrets, G: Gate>()
-    ensures { TranscriptsTellConnections (means C.gives C.In.state C.Out.state S.draws G.watches) }
+pub fn transcripts_tell_connections<C: Conns, S: Secrets, G: Gate, O: Observer>()
+    ensures { TranscriptsTellConnections (means C.gives C.In.state C.Out.state S.draws G.watches O.told) }
 {}
 
 /// Two services that begin in the same state, and serve the same jobs of the same seats in the same order, with the same

@@ -23,7 +23,7 @@ use std::sync::Wait;
 use std::thread::{PromisedHandle, Threads};
 use std::{fmt, thread};
 use upload_service::{Limits, Service};
-use upload_wire::ConnectionServer;
+use upload_wire::{ConnectionServer, Observer};
 
 /// What is left of a pool.
 #[derive(Drop)]
@@ -74,7 +74,7 @@ impl std::error::Error for ServeFault {}
 const STACK: usize = 524_288;
 
 /// A worker's thread, which promises what it leaves.
-type Started<C, S, G> = PromisedHandle<(SeatEnd, WorkerEnd), Work<C, S, G>>;
+type Started<C, S, G, O> = PromisedHandle<(SeatEnd, WorkerEnd), Work<C, S, G, O>>;
 
 /// What the workers left, in the order of their seats.
 #[derive(Drop)]
@@ -96,16 +96,17 @@ impl Ends {
 }
 
 /// The workers at their seats, each with a server for all its connections.
-fn stations<C, S, G>(
+fn stations<C, S, G, O>(
     alloc: Global,
     limits: Limits,
     seats: Vec<Seat>,
-    workers: Vec<Worker<C, S, G>>,
-) -> Result<Vec<Station<C, S, G>>, AllocError>
+    workers: Vec<Worker<C, S, G, O>>,
+) -> Result<Vec<Station<C, S, G, O>>, AllocError>
 where
     C: Drop,
     S: Drop,
     G: Drop,
+    O: Drop,
     requires limits { AreLawful limits }
     requires len { length seats.items ≡ length workers.items }
     ensures seats { IfOk result (λ stations. seats_of stations.items ≡ seats.items) }
@@ -129,15 +130,16 @@ where
 }
 
 /// A keeper that has the service, and the workers at its seats, of which none has asked anything.
-fn seated<C, S, G>(
+fn seated<C, S, G, O>(
     alloc: Global,
     service: Service,
-    workers: Vec<Worker<C, S, G>>,
-) -> Result<(Keeper, Vec<Station<C, S, G>>), AllocError>
+    workers: Vec<Worker<C, S, G, O>>,
+) -> Result<(Keeper, Vec<Station<C, S, G, O>>), AllocError>
 where
     C: Drop,
     S: Drop,
     G: Drop,
+    O: Drop,
     requires { 0 < vec_len workers }
     ensures of_one_call { IfOk result (λ r. AreOfOneCall r.0 (seats_of r.1.items)) }
     ensures seats { IfOk result (λ r. All IsFresh (seats_of r.1.items)) }
@@ -154,17 +156,18 @@ where
 }
 
 /// Joins each worker, in order. What they left goes where there is room for it.
-fn join_all<R, C, S, G>(rt: &R, started: Vec<Started<C, S, G>>, room: Ends) -> Ends
+fn join_all<R, C, S, G, O>(rt: &R, started: Vec<Started<C, S, G, O>>, room: Ends) -> Ends
 where
     R: Threads,
     C: Conns,
     S: Secrets,
     G: Gate,
+    O: Observer,
     requires seats { (room.seats.items ≡ []) × (vec_len started ≤ vec_capacity room.seats) }
     requires workers { (room.workers.items ≡ []) × (vec_len started ≤ vec_capacity room.workers) }
     ensures seats { vec_len result.seats ≡ vec_len started }
     ensures workers { vec_len result.workers ≡ vec_len started }
-    ensures each { EachWorks (means C.gives C.In.state C.Out.state S.draws G.watches)
+    ensures each { EachWorks (means C.gives C.In.state C.Out.state S.draws G.watches O.told)
         (promised started.items) result.seats.items result.workers.items }
 {
     let mut ends = room;
@@ -184,11 +187,11 @@ where
 /// pool itself needs is taken before the first one is, so that what was served isn't lost. `NoThread` comes where a worker
 /// couldn't be started, once those that were started have ended. They may wait for a connection: the first that asks
 /// something ends `DeskGone`, and its worker takes no more. After either the service is dropped.
-pub fn serve_workers<R, M, C, S, G>(
+pub fn serve_workers<R, M, C, S, G, O>(
     rt: &R,
     alloc: Global,
     service: Service,
-    workers: Vec<Worker<C, S, G>>,
+    workers: Vec<Worker<C, S, G, O>>,
     moments: &mut M,
 ) -> Result<Pool, ServeFault>
 where
@@ -197,9 +200,10 @@ where
     C: Conns + Send + Drop,
     S: Secrets + Send + Drop,
     G: Gate + Send + Drop,
+    O: Observer + Send + Drop,
     requires { 0 < vec_len workers }
     ensures served { IfOk result (λ pool. IsServedPool
-        (means C.gives C.In.state C.Out.state S.draws G.watches) M.tells
+        (means C.gives C.In.state C.Out.state S.draws G.watches O.told) M.tells
         (record { service = service; moments = moments.old; workers = workers.items })
         (record { service = pool.service; ends = pool.ends.items })) }
     ensures lawful { IfOk result (λ pool. IsLawful pool.service) }
@@ -215,9 +219,9 @@ where
             requires seats { All IsFresh (seats_of stations.items) }
             requires servers { All (λ n. n ≡ keeper.start.limits.max_body) (limits_of stations.items) }
             requires fresh { keeper.log ≡ [] }
-            requires cross { IsSend C.row × IsSend S.row × IsSend G.row × IsSend C.In.row × IsSend C.Out.row × IsSync R.row }
+            requires cross { IsSend C.row × IsSend S.row × IsSend G.row × IsSend O.row × IsSend C.In.row × IsSend C.Out.row × IsSync R.row }
             ensures served { IfOk result (λ pool. IsServedPool
-                (means C.gives C.In.state C.Out.state S.draws G.watches) M.tells
+                (means C.gives C.In.state C.Out.state S.draws G.watches O.told) M.tells
                 (record { service = keeper.start; moments = moments.entry.now; workers = workers_of stations.items })
                 (record { service = pool.service; ends = pool.ends.items })) }
             ensures lawful { IfOk result (λ pool. IsLawful pool.service) }
@@ -263,12 +267,12 @@ fn two<T: Drop>(alloc: Global, first: T, second: T) -> Result<Vec<T>, AllocError
 }
 
 /// Serves the connections of two workers, as `serve_workers` does those of many.
-pub fn serve_pair<R, M, C, S, G>(
+pub fn serve_pair<R, M, C, S, G, O>(
     rt: &R,
     alloc: Global,
     service: Service,
-    left: Worker<C, S, G>,
-    right: Worker<C, S, G>,
+    left: Worker<C, S, G, O>,
+    right: Worker<C, S, G, O>,
     moments: &mut M,
 ) -> Result<Pair, ServeFault>
 where
@@ -277,8 +281,9 @@ where
     C: Conns + Send + Drop,
     S: Secrets + Send + Drop,
     G: Gate + Send + Drop,
+    O: Observer + Send + Drop,
     ensures served { IfOk result (λ pair. IsServedPool
-        (means C.gives C.In.state C.Out.state S.draws G.watches) M.tells
+        (means C.gives C.In.state C.Out.state S.draws G.watches O.told) M.tells
         (record { service = service; moments = moments.old; workers = left ∷ right ∷ [] })
         (record { service = pair.service; ends = pair.left ∷ pair.right ∷ [] })) }
     ensures lawful { IfOk result (λ pair. IsLawful pair.service) }

@@ -14,17 +14,19 @@ use std::snapshot::Snapshot;
 use std::sync::Wait;
 use std::thread::Promise;
 use upload_service::{Answer, Ask};
-use upload_wire::{ConnEnd, ConnectionServer, Desk};
+use upload_wire::{ConnEnd, ConnectionServer, Desk, Observer};
 
-/// What a worker serves, with which secrets, and what is told of it.
+/// What a worker serves, with which secrets, and who is told of it.
 #[derive(Drop)]
-pub struct Worker<C, S, G> {
+pub struct Worker<C, S, G, O> {
     /// What it serves.
     pub conns: C,
     /// Of the sessions that its requests open.
     pub secrets: S,
-    /// What is told of each request.
+    /// Who is told of each request that is asked, and of its answer.
     pub gate: G,
+    /// Who is told of each head that is read, and of each reply.
+    pub observer: O,
 }
 
 /// What a worker did. A count stays at 2^64 - 1 once there.
@@ -61,21 +63,22 @@ fn is_gone(end: ConnEnd) -> bool
 
 /// A worker at its seat, and the server of all its connections.
 #[derive(Drop)]
-pub(crate) struct Station<C, S, G> {
+pub(crate) struct Station<C, S, G, O> {
     pub(crate) seat: Seat,
-    pub(crate) worker: Worker<C, S, G>,
+    pub(crate) worker: Worker<C, S, G, O>,
     pub(crate) server: ConnectionServer,
 }
 
 /// What the thread of a worker promises of its station: the end comes of this seat, and over it these connections were
-/// served, with these secrets and by this server, and this gate was told of it.
+/// served, with these secrets and by this server, and this gate and this observer were told of it.
 #[derive(Drop)]
-pub(crate) struct Work<C, S, G> {
-    pub(crate) station: Snapshot<Station<C, S, G>>,
+pub(crate) struct Work<C, S, G, O> {
+    pub(crate) station: Snapshot<Station<C, S, G, O>>,
 }
 
-impl<C: Conns, S: Secrets, G: Gate> Promise<(SeatEnd, WorkerEnd)> for Work<C, S, G> {
-    ghost kept_by = { λ promise end. Works (means C.gives C.In.state C.Out.state S.draws G.watches)
+impl<C: Conns, S: Secrets, G: Gate, O: Observer> Promise<(SeatEnd, WorkerEnd)>
+    for Work<C, S, G, O> {
+    ghost kept_by = { λ promise end. Works (means C.gives C.In.state C.Out.state S.draws G.watches O.told)
         promise.station.value end.0 end.1 };
 }
 
@@ -103,32 +106,31 @@ impl<'a, R: Wait, S: Secrets, G: Gate> Desk for GatedDesk<'a, R, S, G> {
         self.gate.after_answer(self.turn, &answer);
         Some(answer)
     }
-
-    fn hears(&mut self, method: &[u8], target: &[u8]) {
-        self.gate.hears(method, target);
-    }
-
-    fn replied(&mut self, status: u16, size: u64) {
-        self.gate.replied(status, size);
-    }
 }
 
 /// Serves a worker's connections one after the other, none behind one that ended `DeskGone`, and finishes its seat. One
 /// server serves them all, so that none is turned away for want of a buffer.
-fn serve_seat<R: Wait, C: Conns + Drop, S: Secrets + Drop, G: Gate + Drop>(
+fn serve_seat<R, C, S, G, O>(
     rt: &R,
     seat: Seat,
-    worker: Worker<C, S, G>,
+    worker: Worker<C, S, G, O>,
     mut server: ConnectionServer,
 ) -> (SeatEnd, WorkerEnd)
+where
+    R: Wait,
+    C: Conns + Drop,
+    S: Secrets + Drop,
+    G: Gate + Drop,
+    O: Observer + Drop,
     ensures seat { IsSameSeat seat result.0 }
-    ensures worked { IsWorked (means C.gives C.In.state C.Out.state S.draws G.watches)
-        server.max_body worker.conns worker.secrets worker.gate seat result.0 result.1.conns result.1.clean }
+    ensures worked { IsWorked (means C.gives C.In.state C.Out.state S.draws G.watches O.told)
+        server.max_body worker.conns worker.secrets worker.gate worker.observer seat result.0 result.1.conns result.1.clean }
 {
     let Worker {
         mut conns,
         secrets,
         gate,
+        mut observer,
     } = worker;
     let mut desk = GatedDesk {
         desk: SeatDesk::new(rt, seat, secrets),
@@ -140,7 +142,7 @@ fn serve_seat<R: Wait, C: Conns + Drop, S: Secrets + Drop, G: Gate + Drop>(
         let Some((mut source, mut sink)) = conns.next_conn() else {
             break;
         };
-        let ended = server.serve(&mut source, &mut sink, &mut desk);
+        let ended = server.serve(&mut source, &mut sink, &mut desk, &mut observer);
         end.count(ended);
         // A desk that is gone stays gone: the next client would get no reply.
         if is_gone(ended) {
@@ -152,13 +154,17 @@ fn serve_seat<R: Wait, C: Conns + Drop, S: Secrets + Drop, G: Gate + Drop>(
 }
 
 /// The worker of a station serves its connections, and keeps the promise of its thread.
-pub(crate) fn serve_station<R, C, S, G>(rt: &R, station: Station<C, S, G>) -> (SeatEnd, WorkerEnd)
+pub(crate) fn serve_station<R, C, S, G, O>(
+    rt: &R,
+    station: Station<C, S, G, O>,
+) -> (SeatEnd, WorkerEnd)
 where
     R: Wait,
     C: Conns + Drop,
     S: Secrets + Drop,
     G: Gate + Drop,
-    ensures { Works (means C.gives C.In.state C.Out.state S.draws G.watches) station result.0 result.1 }
+    O: Observer + Drop,
+    ensures { Works (means C.gives C.In.state C.Out.state S.draws G.watches O.told) station result.0 result.1 }
 {
     let Station {
         seat,

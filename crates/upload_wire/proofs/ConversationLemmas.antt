@@ -34,7 +34,7 @@ ok_not_err value error same = cc
 
 module _ {D : Type 0} (step : Moves D) (max count : ℕ) (held rest : List ℕ) (first left : SourceState) (ask : Ask) (style : Style)
     (at new : D) (mid : SinkState) (answer : Answer) (after : SinkState) where
-  pub one_more : (kept : List ℕ) (next : ℕ) → kept ≡ rest → next ≡ count + 1 → (r : Option ConnEnd) → ReadsNext max held first rest left (Ok (Request ask style))
+  unfoldable pub one_more : (kept : List ℕ) (next : ℕ) → kept ≡ rest → next ≡ count + 1 → (r : Option ConnEnd) → ReadsNext max held first rest left (Ok (Request ask style))
       → left.failed_reads ≡ first.failed_reads → step at ask (Some answer) new → Replies count answer style mid after r → r ≡ None
       → GoesOn step max (stand count held first at mid) (stand next kept left new after)
   one_more kept next stays one None n same answered a e = record {
@@ -55,11 +55,11 @@ module _ {D : Type 0} (step : Moves D) (max count : ℕ) (held rest : List ℕ) 
   abbrev last_exchange : ReadsNext max held first rest left (Ok (Request ask style)) → Exchange
   last_exchange n = record { message = n.found.message; ask = ask; style = style; answer = answer }
 
-  answers_next : (n : ReadsNext max held first rest left (Ok (Request ask style))) → step at ask (Some answer) new
+  pub answers_next : (n : ReadsNext max held first rest left (Ok (Request ask style))) → step at ask (Some answer) new
       → AnswersNext step max at new (held ++ n.given) (last_exchange n)
   answers_next n answered = record { more = rest; read = n.found.cut; request = n.found.request; answered = answered }
 
-  pub one_last : (kept : List ℕ) (next : ℕ) (r : Option ConnEnd) → ReadsNext max held first rest left (Ok (Request ask style)) → left.failed_reads ≡ first.failed_reads
+  unfoldable pub one_last : (kept : List ℕ) (next : ℕ) (r : Option ConnEnd) → ReadsNext max held first rest left (Ok (Request ask style)) → left.failed_reads ≡ first.failed_reads
       → step at ask (Some answer) new → Replies count answer style mid after r
       → IfSome r (Stops step max (stand count held first at mid) (stand next kept left new after))
   one_last kept next None n same answered a = tt
@@ -74,7 +74,7 @@ module _ {D : Type 0} (step : Moves D) (max count : ℕ) (held rest : List ℕ) 
   one_last kept next (Some (Fault Conn.Write)) n same answered a =
       record { given = n.given; gives = n.gives; reads = same; ended = inl (last_exchange n, answers_next n answered, a) }
 
-pub after_refusal : {D : Type 0} (step : Moves D) (max : ℕ) (old new : Standing D) (rest : List ℕ) (why : Bad) (end : ConnEnd)
+unfoldable pub after_refusal : {D : Type 0} (step : Moves D) (max : ℕ) (old new : Standing D) (rest : List ℕ) (why : Bad) (end : ConnEnd)
     → ReadsNext max old.held old.source rest new.source (Ok (nexts.Bad why)) → new.source.failed_reads ≡ old.source.failed_reads
     → new.desk ≡ old.desk → RefusedWith old.sink new.sink why end → Stops step max old new end
 after_refusal step max old new rest why AfterBad n same unasked told =
@@ -104,11 +104,11 @@ pub kept_more : (max : ℕ) (xs : List Exchange) (x : Exchange) → AllByRecursi
 kept_more max [] x h k = (k, tt)
 kept_more max (y ∷ xs) x h k = (h.0, kept_more max xs x h.1 k)
 
-messages_more : (xs : List Exchange) (x : Exchange) → messages (xs ++ x ∷ []) ≡ messages xs ++ x.message
+pub messages_more : (xs : List Exchange) (x : Exchange) → messages (xs ++ x ∷ []) ≡ messages xs ++ x.message
 messages_more xs x =
     flat_map-append (λ x. x.message) xs (x ∷ []) ∙ ap (λ t. messages xs ++ t) (append-nil x.message)
 
-replies_more : (xs : List Exchange) (x : Exchange) → replies (xs ++ x ∷ []) ≡ replies xs ++ reply x.answer x.style
+pub replies_more : (xs : List Exchange) (x : Exchange) → replies (xs ++ x ∷ []) ≡ replies xs ++ reply x.answer x.style
 replies_more xs x =
     flat_map-append (λ x. reply x.answer x.style) xs (x ∷ []) ∙ ap (λ t. replies xs ++ t) (append-nil (reply x.answer x.style))
 
@@ -121,7 +121,7 @@ pub record SoFar {D : Type 0} (step : Moves D) (max : ℕ) (begun now : Standing
   pub counted : length exchanges ≡ now.answered
   pub served : Serves step max begun.desk now.desk given now.held begun.sink now.sink exchanges
 
-pub starts : {D : Type 0} (step : Moves D) (max : ℕ) (before : ℕ) (left : List ℕ) (source : SourceState) (desk : D) (sink : SinkState) (held : List ℕ) (answered : ℕ)
+unfoldable pub starts : {D : Type 0} (step : Moves D) (max : ℕ) (before : ℕ) (left : List ℕ) (source : SourceState) (desk : D) (sink : SinkState) (held : List ℕ) (answered : ℕ)
     → held ≡ [] → answered ≡ 0 → SoFar step max (stand before left source desk sink) (stand answered held source desk sink)
 starts step max before left source desk sink held answered empty none = record {
   given = [];
@@ -132,11 +132,10 @@ starts step max before left source desk sink held answered empty none = record {
   served = record { few = lit< tt; read = sym empty; kept = tt; answered = refl; written = took_none sink; handed_on = refl };
 }
 
-pub goes_on : {D : Type 0} (step : Moves D) (max limit : ℕ) (begun now next : Standing D) → limit ≡ max → SoFar step max begun now
-    → GoesOn step limit now next → SoFar step max begun next
-goes_on step max limit begun now next same s more =
+unfoldable pub goes_on : {D : Type 0} (step : Moves D) (max : ℕ) (begun now next : Standing D) → SoFar step max begun now
+    → GoesOn step max now next → SoFar step max begun next
+goes_on step max begun now next s n =
     let counted = s.counted in
-    let n = subst (λ k. GoesOn step k now next) same more in
     let one = n.counted in
     record {
       given = s.given ++ n.given;
@@ -157,31 +156,31 @@ goes_on step max limit begun now next same s more =
       };
     }
 
-reads_fail_from : (end : ConnEnd) (a b c : ℕ) → b ≡ a → ReadsFail end b c → ReadsFail end a c
+pub reads_fail_from : (end : ConnEnd) (a b c : ℕ) → b ≡ a → ReadsFail end b c → ReadsFail end a c
 reads_fail_from end a b c same h = subst (λ n. ReadsFail end n c) same h
 
-pub ends : {D : Type 0} (step : Moves D) (max limit : ℕ) (begun now last : Standing D) (end : ConnEnd) → limit ≡ max → SoFar step max begun now
-    → Stops step limit now last end → IsConversation step max begun.source last.source begun.desk last.desk begun.sink last.sink end
-ends step max limit begun now last end same s stopped =
-    let n = subst (λ k. Stops step k now last end) same stopped in
-    record {
-      bytes = s.given ++ n.given;
-      gives = gives_both begun.source now.source last.source s.given n.given s.gives n.gives;
-      reads = reads_fail_from end begun.source.failed_reads now.source.failed_reads last.source.failed_reads s.unfailed n.reads;
-      exchanges = s.exchanges;
-      rest = now.held ++ n.given;
-      at = now.desk;
-      mid = now.sink;
-      served = record {
-        few = s.served.few;
-        read = ap (λ t. t ++ n.given) s.served.read ∙ append_assoc (messages s.exchanges) now.held n.given;
-        kept = s.served.kept;
-        answered = s.served.answered;
-        written = s.served.written;
-        handed_on = s.served.handed_on;
-      };
-      ended = subst (λ k. EndsWith step max (stand k (now.held ++ n.given) last.source now.desk now.sink) last.desk last.sink end) (sym s.counted) n.ended;
-    }
+unfoldable pub ends : {D : Type 0} (step : Moves D) (max : ℕ) (begun now last : Standing D) (end : ConnEnd) (s : SoFar step max begun now)
+    (n : Stops step max now last end)
+    → EndsWith step max (stand (length s.exchanges) (now.held ++ n.given) last.source now.desk now.sink) last.desk last.sink end
+    → IsConversation step max begun.source last.source begun.desk last.desk begun.sink last.sink end
+ends step max begun now last end s n ended = record {
+  bytes = s.given ++ n.given;
+  gives = gives_both begun.source now.source last.source s.given n.given s.gives n.gives;
+  reads = reads_fail_from end begun.source.failed_reads now.source.failed_reads last.source.failed_reads s.unfailed n.reads;
+  exchanges = s.exchanges;
+  rest = now.held ++ n.given;
+  at = now.desk;
+  mid = now.sink;
+  served = record {
+    few = s.served.few;
+    read = ap (λ t. t ++ n.given) s.served.read ∙ append_assoc (messages s.exchanges) now.held n.given;
+    kept = s.served.kept;
+    answered = s.served.answered;
+    written = s.served.written;
+    handed_on = s.served.handed_on;
+  };
+  ended = ended;
+}
 
 -- no buffer could be made
 pub ends_at_once : {D : Type 0} (step : Moves D) (max : ℕ) (first : SourceState) (desk : D) (before : SinkState)

@@ -1,5 +1,6 @@
 pub mod ReplyLemmas
 pub mod ConversationLemmas
+pub mod ToldLemmas
 pub mod ServiceLemmas
 pub mod TranscriptLemmas
 pub mod TargetLemmas

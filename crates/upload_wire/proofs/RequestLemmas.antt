@@ -16,6 +16,7 @@ use Rattle.http_wire.specs.States.{SourceState}
 use Rattle.http_wire.specs.Reading.{Gave}
 use Rattle.http_wire.specs.Inner.BodyFinding.{CutsBody, FindsBody}
 use Rattle.upload_wire.specs.Inner.RequestReading.{DescribesAll, FindsRequest}
+use Rattle.upload_wire.specs.Told.{HasLine}
 use Rattle.upload_wire.specs.RequestText.{style_of, HasCutBody, FindsNext, ReadsNext}
 use Rattle.http_wire.specs.declared.requests.parsed.ParsedRequest.{ParsedRequest}
 use Rattle.http_wire.specs.declared.framing.Framing.{Framing}
@@ -102,6 +103,19 @@ style_same max text p d f says =
     says.keeps ∙ ap (λ n. keeps_connection n (fields_of (take p.spans.len text) p)) f.head.1.1.version
     ∙ ap (keeps_connection h.minor) (fields_same text p f) in
     (λ i. record { head = is_head i; keep = keeps i })
+
+-- its line
+pub line_read : (text : List ℕ) (p : ParsedRequest) (f : IsHeadAtFront text p) (method target : List ℕ)
+    → method ≡ span_bytes (take p.spans.len text) p.spans.method → target ≡ span_bytes (take p.spans.len text) p.spans.path
+    → HasLine text method target
+line_read text p f method target m t = record {
+  head = the_head f;
+  rest = drop p.spans.len text;
+  reads = subst (λ t. ReadsHead t (the_head f) (drop p.spans.len text)) (take-append-drop p.spans.len text)
+      (head_then text (drop p.spans.len text) p f);
+  is_method = m ∙ f.head.1.1.method;
+  is_target = t ∙ f.head.1.1.path;
+}
 
 -- a head of bad framing
 pub bad_framing_next : (max : ℕ) (old : SourceState) (held rest : List ℕ) (p : ParsedRequest) (why : Bad) (f : IsHeadAtFront held p)
@@ -197,7 +211,7 @@ head_fault_next max text rest new Input.Read h = elim h [
 ]
 
 -- a read, and then what came next
-pub reads_after : (max : ℕ) (held text rest : List ℕ) (old mid new : SourceState) (r : Result Next WireFault)
+unfoldable pub reads_after : (max : ℕ) (held text rest : List ℕ) (old mid new : SourceState) (r : Result Next WireFault)
     → Gave old mid held text → ReadsNext max text mid rest new r → ReadsNext max held old rest new r
 reads_after max held text rest old mid new r gave next = record {
   given = gave.given ++ next.given;

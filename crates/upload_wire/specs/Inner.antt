@@ -1,4 +1,5 @@
 -- How the code gets there: what its own steps find and hold. Nothing here is part of what it promises.
 pub mod ConversationSteps
+pub mod ToldSteps
 pub mod RequestReading
 pub mod InputState

@@ -1,14 +1,21 @@
 //! A connection, served: requests are read, asked of a desk and replied to, in turn.
-ghost use Rattle.std.specs.Prelude.{◌≡◌, ◌+◌, ◌<◌, None, IfOk, IfSome};
+ghost use Rattle.std.specs.Prelude.{◌≡◌, ◌+◌, ◌<◌, None, Err, IfOk, IfSome};
+ghost use Rattle.http_wire.specs.HeadText.{bad_status, status_number};
+ghost use Rattle.http_wire.specs.Reading.{Costs};
 ghost use Rattle.upload_service.specs.Machine.{AreLawful};
 ghost use Rattle.upload_wire.specs.Conversation.{IsConversation, last_style};
-ghost use Rattle.upload_wire.specs.Inner.ConversationSteps.{Replies, RefusedWith, standing, GoesOn, Stops};
+ghost use Rattle.upload_wire.specs.Events.{Replied};
+ghost use Rattle.upload_wire.specs.Phases.{most_reads};
+ghost use Rattle.upload_wire.specs.Told.{IsTold, event_of, rules, sides};
+ghost use Rattle.upload_wire.specs.Inner.ConversationSteps.{Replies, RefusedWith, standing};
+ghost use Rattle.upload_wire.specs.Inner.ToldSteps.{ReadsTold, GoesOnTold, StopsTold, listening, observed};
 
 use crate::desk::Desk;
 use crate::input::RequestInput;
+use crate::observer::{NoObserver, Observer};
 use crate::reply::{body_size, reply_status, write_reply};
 use crate::request::{Next, Style};
-use http_wire::{Bad, ByteSink, ByteSource, WireFault, bad_status, write_bad};
+use http_wire::{Bad, ByteSink, ByteSource, HeadRead, WireFault, bad_status, write_bad};
 use std::alloc::{AllocError, Global};
 use std::fmt;
 use std::marker::Model;
@@ -76,7 +83,7 @@ pub fn serve_connection<S: ByteSource, W: ByteSink, D: Desk>(
     let Ok(mut server) = ConnectionServer::new(alloc, limits) else {
         return ConnEnd::Fault(ConnFault::Wire(WireFault::NoMemory));
     };
-    server.serve(reader, writer, desk)
+    server.serve(reader, writer, desk, &mut NoObserver)
 }
 
 /// Serves one connection after the other through one buffer, so that only a request may want memory.
@@ -109,47 +116,50 @@ impl ConnectionServer {
         Ok(ConnectionServer { input, answered: 0 })
     }
 
-    /// Serves a connection, as `serve_connection` does. What the buffer holds of another is forgotten first.
-    pub fn serve<S: ByteSource, W: ByteSink, D: Desk>(
+    /// Serves a connection, as `serve_connection` does, and tells the observer of it. What the buffer holds of another
+    /// is forgotten first.
+    pub fn serve<S: ByteSource, W: ByteSink, D: Desk, O: Observer>(
         &mut self,
         reader: &mut S,
         writer: &mut W,
         desk: &mut D,
+        observer: &mut O,
     ) -> ConnEnd
-        ensures conversation { IsConversation D.moves self.old.max_body (S.state reader.old) (S.state reader.new)
-            desk.old desk.new (W.state writer.old) (W.state writer.new) result }
+        ensures told { IsTold (rules D.moves O.told self.old.max_body)
+            (sides (S.state reader.old) desk.old observer.old (W.state writer.old))
+            (sides (S.state reader.new) desk.new observer.new (W.state writer.new)) result }
         ensures limit { self.new.max_body ≡ self.old.max_body }
     {
         self.input.begin();
         self.answered = 0;
         loop {
-            if let Some(end) = self.serve_next(reader, writer, desk) {
+            if let Some(end) = self.serve_next(reader, writer, desk, observer) {
                 return end;
             }
         }
     }
 
     /// Serves what comes next. `None`: the connection goes on.
-    fn serve_next<S: ByteSource, W: ByteSink, D: Desk>(
+    fn serve_next<S: ByteSource, W: ByteSink, D: Desk, O: Observer>(
         &mut self,
         reader: &mut S,
         writer: &mut W,
         desk: &mut D,
+        observer: &mut O,
     ) -> Option<ConnEnd>
-        ensures goes_on { result ≡ None → GoesOn D.moves self.old.max_body
-            (standing self.old (S.state reader.old) desk.old (W.state writer.old))
-            (standing self.new (S.state reader.new) desk.new (W.state writer.new)) }
-        ensures stops { IfSome result (Stops D.moves self.old.max_body
-            (standing self.old (S.state reader.old) desk.old (W.state writer.old))
-            (standing self.new (S.state reader.new) desk.new (W.state writer.new))) }
+        ensures goes_on { result ≡ None → GoesOnTold (rules D.moves O.told self.old.max_body)
+            (observed (standing self.old (S.state reader.old) desk.old (W.state writer.old)) observer.old)
+            (observed (standing self.new (S.state reader.new) desk.new (W.state writer.new)) observer.new) }
+        ensures stops { IfSome result (StopsTold (rules D.moves O.told self.old.max_body)
+            (observed (standing self.old (S.state reader.old) desk.old (W.state writer.old)) observer.old)
+            (observed (standing self.new (S.state reader.new) desk.new (W.state writer.new)) observer.new)) }
         ensures limit { self.new.max_body ≡ self.old.max_body }
     {
-        match self.input.next(reader, desk) {
+        match self.read_next(reader, observer) {
             Ok(Next::Request { ask, style }) => match desk.ask(ask) {
                 Some(answer) => {
                     let end = self.reply(writer, &answer, style);
-                    let size = if style.head { 0 } else { body_size(&answer) };
-                    desk.replied(reply_status(&answer), size);
+                    tell_reply(observer, &answer, style);
                     end
                 }
                 None => Some(ConnEnd::DeskGone),
@@ -157,10 +167,41 @@ impl ConnectionServer {
             Ok(Next::Over) => Some(ConnEnd::Clean),
             Ok(Next::Bad(why)) => {
                 let end = refuse(writer, why);
-                desk.replied(bad_status(why).number(), 0);
+                observer.replied(bad_status(why).number(), 0);
                 Some(end)
             }
             Err(fault) => Some(ConnEnd::Fault(ConnFault::Wire(fault))),
+        }
+    }
+
+    /// Reads what comes next. The observer is told of its head before the body is read.
+    fn read_next<S: ByteSource, O: Observer>(
+        &mut self,
+        reader: &mut S,
+        observer: &mut O,
+    ) -> Result<Next, WireFault>
+        ensures told { ReadsTold O.told self.old.max_body
+            (listening self.old.held (S.state reader.old) observer.old)
+            (listening self.new.held (S.state reader.new) observer.new) result }
+        ensures costs { Costs (most_reads self.old.max_body) (result ≡ Err WireFault.Read)
+            (S.state reader.old) (S.state reader.new) }
+        ensures answered { self.new.answered ≡ self.old.answered }
+        ensures limit { self.new.max_body ≡ self.old.max_body }
+    {
+        match self.input.next_head(reader)? {
+            HeadRead::Head(parsed) => {
+                observer.hears(Some(self.input.line(&parsed)));
+                self.input.next_body(reader, &parsed)
+            }
+            HeadRead::Over => Ok(Next::Over),
+            HeadRead::Refused => {
+                observer.hears(None);
+                Ok(Next::Bad(Bad::Head))
+            }
+            HeadRead::TooLong => {
+                observer.hears(None);
+                Ok(Next::Bad(Bad::LongHead))
+            }
         }
     }
 
@@ -189,6 +230,14 @@ impl ConnectionServer {
         self.answered += 1;
         None
     }
+}
+
+/// Tells an observer of the reply to an answer.
+fn tell_reply<O: Observer>(observer: &mut O, answer: &Answer, style: Style)
+    ensures { O.told observer.old (event_of answer.now style) observer.new }
+{
+    let size = if style.head { 0 } else { body_size(answer) };
+    observer.replied(reply_status(answer), size);
 }
 
 /// Replies to what is no request.

@@ -5,8 +5,7 @@ ghost use Rattle.upload_service.specs.declared.answer.Answer.{Answer as AnswerMo
 
 use upload_service::{Answer, Ask, Service};
 
-/// What answers the requests of a connection, one after another. What else it is told is for a log: nothing that it
-/// answers depends on it.
+/// What answers the requests of a connection, one after another.
 pub trait Desk {
     // How it moves: from a state, by an ask, with an answer or none where it is gone, to a new state.
     ghost moves: { Self → AskModel → Option AnswerModel → Self → Type 0 };
@@ -14,18 +13,6 @@ pub trait Desk {
     /// The answer, or `None` where the desk is gone.
     fn ask(&mut self, ask: Ask) -> Option<Answer>
         ensures { moves self.old ask result self.new };
-
-    /// The head of a request has come, with this method and this target; both are empty where it can't be read. What it
-    /// asks follows, unless its framing or its body is bad.
-    fn hears(&mut self, _method: &[u8], _target: &[u8])
-        ensures { self.new ≡ self.old }
-    {}
-
-    /// A reply was written, or failed while it was, to that whose head came last. It has this status, and so many bytes
-    /// of body.
-    fn replied(&mut self, _status: u16, _size: u64)
-        ensures { self.new ≡ self.old }
-    {}
 }
 
 /// A service of one's own, with one secret for the sessions that are opened, at one moment in seconds. It is

@@ -1,16 +1,20 @@
 //! Requests, one after another.
-ghost use Rattle.std.specs.Prelude.{◌≡◌, ◌^◌, ◌≤◌, [], Err, IfOk};
-ghost use Rattle.http_wire.specs.Reading.{Costs};
+ghost use Rattle.std.specs.Prelude.{◌≡◌, ◌+◌, ◌*◌, ◌^◌, ◌≤◌, [], Ok, Err, IfOk};
+ghost use Rattle.http_wire.specs.Fronts.{max_head};
+ghost use Rattle.http_wire.specs.Reading.{Costs, Gave};
 ghost use Rattle.http_wire.specs.Inputs.{ReadsAtMost};
-ghost use Rattle.http_wire.specs.Inner.RequestSpans.{IsHeadOf};
+ghost use Rattle.http_wire.specs.Inner.HeadReading.{FindsHead};
+ghost use Rattle.http_wire.specs.Inner.RequestSpans.{IsHeadAtFront, request_spans};
 ghost use Rattle.upload_service.specs.Machine.{AreLawful};
 ghost use Rattle.upload_wire.specs.Phases.{most_reads};
 ghost use Rattle.upload_wire.specs.RequestText.{ReadsNext};
+ghost use Rattle.upload_wire.specs.Told.{HasLine};
 
-use crate::desk::Desk;
+use crate::observer::RequestLine;
 use crate::request::{Next, describe, read_request};
 use http_wire::{
-    Bad, ByteSource, HeadRead, Input, ParsedRequest, ReadBuffer, Requests, WireFault, read_head,
+    Bad, ByteSource, HeadRead, Input, InputFault, ParsedRequest, ReadBuffer, Requests, WireFault,
+    read_head,
 };
 use std::alloc::{AllocError, Global};
 use std::marker::Model;
@@ -69,69 +73,93 @@ impl RequestInput {
         self.filled = filled_by(answer).or(self.filled);
     }
 
-    /// Reads what comes next, behind what the buffer holds of it. The desk hears of each head.
-    pub fn next<S: ByteSource, D: Desk>(
+    /// Reads what comes next, behind what the buffer holds of it.
+    pub fn next<S: ByteSource>(&mut self, source: &mut S) -> Result<Next, WireFault>
+        ensures found { ReadsNext self.old.max_body self.old.held (S.state source.old)
+            self.new.held (S.state source.new) result }
+        ensures costs { Costs (most_reads self.old.max_body) (result ≡ Err WireFault.Read)
+            (S.state source.old) (S.state source.new) }
+        ensures limit { self.new.max_body ≡ self.old.max_body }
+    {
+        match self.next_head(source)? {
+            HeadRead::Head(parsed) => self.next_body(source, &parsed),
+            HeadRead::Over => Ok(Next::Over),
+            HeadRead::Refused => Ok(Next::Bad(Bad::Head)),
+            HeadRead::TooLong => Ok(Next::Bad(Bad::LongHead)),
+        }
+    }
+
+    /// Reads the head of what comes next, behind what the buffer holds of it. It isn't taken.
+    pub fn next_head<S: ByteSource>(
         &mut self,
         source: &mut S,
-        desk: &mut D,
-    ) -> Result<Next, WireFault>
-        ensures found { ReadsNext self.old.max_body self.old.held (S.state source.old) self.new.held (S.state source.new) result }
-        ensures costs { Costs (most_reads self.old.max_body) (result ≡ Err WireFault.Read) (S.state source.old) (S.state source.new) }
+    ) -> Result<HeadRead<ParsedRequest>, InputFault>
+        ensures gave { Gave (S.state source.old) (S.state source.new) self.old.held self.new.held }
+        ensures found { FindsHead request_spans self.new.held (S.state source.new) result }
+        ensures costs { Costs max_head (result ≡ Err InputFault.Read)
+            (S.state source.old) (S.state source.new) }
         ensures limit { self.new.max_body ≡ self.old.max_body }
-        ensures unasked { desk.new ≡ desk.old }
     {
         let mut input = Input::new(source, &mut self.buffer);
-        read_next(self.alloc, &mut input, self.max_body, self.filled, desk)
+        read_head::<Requests, S>(&mut input)
+    }
+
+    /// The method and the target of the head that was read, and isn't taken.
+    pub fn line(&self, parsed: &ParsedRequest) -> RequestLine<'_>
+        requires { IsHeadAtFront self.now.held parsed.now }
+        ensures { HasLine self.now.held result.method.now result.target.now }
+    {
+        let head = &self.buffer.as_slice()[..parsed.spans.len];
+        RequestLine {
+            method: parsed.spans.method.of(head),
+            target: parsed.spans.path.of(head),
+        }
+    }
+
+    /// Takes the head that was read, and reads the body behind it.
+    pub fn next_body<S: ByteSource>(
+        &mut self,
+        source: &mut S,
+        parsed: &ParsedRequest,
+    ) -> Result<Next, WireFault>
+        requires { IsHeadAtFront self.old.held parsed.now }
+        ensures found { ReadsNext self.old.max_body self.old.held (S.state source.old)
+            self.new.held (S.state source.new) result }
+        ensures came { ¬ (result ≡ Ok Next.Over) }
+        ensures costs { Costs (12 + 13 * self.old.max_body) (result ≡ Err WireFault.Read)
+            (S.state source.old) (S.state source.new) }
+        ensures limit { self.new.max_body ≡ self.old.max_body }
+    {
+        let mut input = Input::new(source, &mut self.buffer);
+        read_behind(self.alloc, &mut input, parsed, self.max_body, self.filled)
     }
 }
 
-/// Reads what comes next, with a body of at most `max_body` bytes. `filled` is an upload that is known to have bytes.
-fn read_next<S: ByteSource, D: Desk>(
+/// Reads the request whose head was read and isn't taken, with a body of at most `max_body` bytes. `filled` is an
+/// upload that is known to have bytes.
+fn read_behind<S: ByteSource>(
     alloc: Global,
     input: &mut Input<'_, S>,
+    parsed: &ParsedRequest,
     max_body: u64,
     filled: Option<UploadRef>,
-    desk: &mut D,
 ) -> Result<Next, WireFault>
-    requires { max_body ≤ 2 ^ 31 }
+    requires limit { max_body ≤ 2 ^ 31 }
+    requires head { IsHeadAtFront input.old.buffer.now parsed.now }
     ensures found { ReadsNext max_body input.old.buffer.now (S.state input.old.source.now)
         input.new.buffer.now (S.state input.new.source.now) result }
-    ensures costs { ReadsAtMost S.state (most_reads max_body) (result ≡ Err WireFault.Read) input.old input.new }
-    ensures unasked { desk.new ≡ desk.old }
+    ensures came { ¬ (result ≡ Ok Next.Over) }
+    ensures costs { ReadsAtMost S.state (12 + 13 * max_body) (result ≡ Err WireFault.Read)
+        input.old input.new }
 {
-    match read_head::<Requests, S>(input)? {
-        HeadRead::Head(parsed) => {
-            let head = &input.unread()[..parsed.spans.len];
-            tell(desk, head, &parsed);
-            match describe(alloc, head, &parsed, max_body)? {
-                Ok(described) => {
-                    input.take(parsed.spans.len);
-                    read_request(alloc, input, described, filled)
-                }
-                Err(bad) => Ok(Next::Bad(bad)),
-            }
+    let head = &input.unread()[..parsed.spans.len];
+    match describe(alloc, head, parsed, max_body)? {
+        Ok(described) => {
+            input.take(parsed.spans.len);
+            read_request(alloc, input, described, filled)
         }
-        HeadRead::Over => Ok(Next::Over),
-        HeadRead::Refused => Ok(unreadable(desk, Bad::Head)),
-        HeadRead::TooLong => Ok(unreadable(desk, Bad::LongHead)),
+        Err(bad) => Ok(Next::Bad(bad)),
     }
-}
-
-/// Tells a desk of a head that can't be read, which is refused so.
-fn unreadable<D: Desk>(desk: &mut D, why: Bad) -> Next
-    ensures next { result ≡ Next.Bad why }
-    ensures unasked { desk.new ≡ desk.old }
-{
-    desk.hears(b"", b"");
-    Next::Bad(why)
-}
-
-/// Tells a desk of a head.
-fn tell<D: Desk>(desk: &mut D, head: &[u8], parsed: &ParsedRequest)
-    requires { IsHeadOf head.now parsed.now }
-    ensures { desk.new ≡ desk.old }
-{
-    desk.hears(parsed.spans.method.of(head), parsed.spans.path.of(head));
 }
 
 /// The upload that an answer says to have bytes: a hash of a further body alone would be of no use to it.

@@ -1,8 +1,8 @@
 //! HTTP/1.1 requests and replies of the blob-upload service, from bytes and to bytes.
 //!
 //! Requests come through `input`, which has `http_wire` read a head, and `request` reads what that asks (`target`, `asks`)
-//! and its body (`body`). `connection` asks a `desk`, and `reply` gathers the head of the reply and has it written with its
-//! body.
+//! and its body (`body`). `connection` asks a `desk`, tells an `observer`, and `reply` gathers the head of the reply and has it
+//! written with its body.
 #![tactic(auto)]
 
 mod asks;
@@ -11,6 +11,7 @@ mod connection;
 mod desk;
 mod input;
 mod laws;
+mod observer;
 mod reader;
 mod reply;
 mod request;
@@ -22,6 +23,7 @@ pub use laws::{
     connections_run_the_service, conversations_are_determined, requests_are_unambiguous,
     service_desks_are_deterministic, transcripts_tell_conversations,
 };
+pub use observer::{NoObserver, Observer, RequestLine};
 pub use reader::RequestReader;
 pub use reply::{body_size, reply_status, write_reply};
 pub use request::{Next, Style};

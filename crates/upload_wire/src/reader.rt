@@ -5,13 +5,12 @@ ghost use Rattle.http_wire.specs.Reading.{Costs};
 ghost use Rattle.upload_wire.specs.RequestText.{ReadsNext};
 ghost use Rattle.upload_wire.specs.Phases.{phase_after, most_reads};
 
-use crate::desk::Desk;
 use crate::input::RequestInput;
 use crate::request::Next;
 use http_wire::{ByteSource, WireFault};
 use std::alloc::{AllocError, Global};
 use std::marker::Model;
-use upload_service::{Answer, Ask, Limits};
+use upload_service::Limits;
 
 /// What a reader does when it is asked again.
 #[derive(Clone, Copy, Debug, PartialEq, Eq)]
@@ -22,20 +21,6 @@ pub enum Phase {
     Over,
     /// It answers that an earlier call ended the reading.
     Ended,
-}
-
-/// A desk of nobody's: a reader tells nobody of the heads that it reads.
-#[derive(Drop)]
-struct Nobody;
-
-impl Desk for Nobody {
-    ghost use Rattle.std.specs.Prelude.{None};
-
-    ghost moves = { λ old ask answer new. answer ≡ None };
-
-    fn ask(&mut self, _ask: Ask) -> Option<Answer> {
-        None
-    }
 }
 
 /// Requests, read from a source one after another.
@@ -101,7 +86,7 @@ impl<S: ByteSource> RequestReader<S> {
             Phase::Ended => return Err(WireFault::Ended),
             Phase::Ready => {}
         }
-        let next = self.input.next(&mut self.source, &mut Nobody);
+        let next = self.input.next(&mut self.source);
         self.phase = match &next {
             Ok(Next::Request { ask: _, style: _ }) => Phase::Ready,
             Ok(Next::Over) => Phase::Over,

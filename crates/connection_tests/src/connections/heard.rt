@@ -1,4 +1,4 @@
-//! What a desk hears beside what it is asked.
+//! What an observer is told of the connections that are served.
 
 use super::LIMITS;
 use crate::expect::{same, same_bytes};
@@ -9,42 +9,41 @@ use std::marker::Model;
 use std::process::Abort;
 use std::str;
 use std::test::Fail;
-use upload_service::{Answer, Ask, Service};
-use upload_wire::{ConnEnd, ConnFault, ConnectionServer, Desk, ServiceDesk};
+use upload_service::Service;
+use upload_wire::{ConnEnd, ConnFault, ConnectionServer, Observer, RequestLine, ServiceDesk};
 
-/// Has a service answer, and writes down what it hears, a line for each head.
+/// Writes down what it is told, a line for each head.
 #[derive(Drop)]
-struct HearingDesk {
-    desk: ServiceDesk,
+struct Notes {
     alloc: Global,
-    heard: String,
+    lines: String,
 }
 
-impl Model for HearingDesk {
+impl Model for Notes {
     ghost Value = { Unit {0} };
 
     ghost view = { λ _. tt };
 }
 
-impl HearingDesk {
-    /// Writes down some more; where there is no memory for it, what was heard is lost.
+impl Notes {
+    /// Writes down some more; where there is no memory for it, what was written is lost.
     fn note(&mut self, more: &str) {
-        if let Ok(heard) = format!(in self.alloc; "{}{more}", self.heard) {
-            self.heard = heard;
+        if let Ok(lines) = format!(in self.alloc; "{}{more}", self.lines) {
+            self.lines = lines;
         }
     }
 }
 
-impl Desk for HearingDesk {
-    ghost moves = { λ _ _ _ _. Unit {0} };
+impl Observer for Notes {
+    ghost told = { λ _ _ _. Unit {0} };
 
-    fn ask(&mut self, ask: Ask) -> Option<Answer> {
-        self.note(" asked");
-        self.desk.ask(ask)
-    }
-
-    fn hears(&mut self, method: &[u8], target: &[u8]) {
-        for text in [b"\n".as_slice(), method, b" ", target] {
+    fn hears(&mut self, line: Option<RequestLine<'_>>) {
+        self.note("\n");
+        let Some(line) = line else {
+            self.note("unreadable");
+            return;
+        };
+        for text in [line.method, b" ", line.target] {
             self.note(str::from_utf8(text).unwrap_or("?"));
         }
     }
@@ -75,36 +74,31 @@ PATCH /v2/lib/a/blobs/uploads/ HTTP/1.1\r\nTransfer-Encoding: gzip\r\n\r\n",
     ("GET /v2/ HTTP/9.9\r\n\r\n", ConnEnd::AfterBad),
 ];
 
-/// What is heard of them: of the last one's head that it can't be read.
-const HEARD: &[u8] = b"\n\
-GET /v2/ asked 200 0\n\
-POST /v2/lib/a/blobs/uploads/?digest=sha256:ba7816bf8f01cfea414140de5dae2223b00361a396177a9cb410ff61f20015ad asked 201 0\n\
-GET /v2/lib/a/blobs/sha256:ba7816bf8f01cfea414140de5dae2223b00361a396177a9cb410ff61f20015ad asked 200 3\n\
-HEAD /v2/lib/a/blobs/sha256:ba7816bf8f01cfea414140de5dae2223b00361a396177a9cb410ff61f20015ad asked 200 0\n\
-DELETE /v2/lib/a/blobs/uploads/?a=%20b asked 405 76\n\
+/// What is told of them: of the last one's head that it can't be read.
+const TOLD: &[u8] = b"\n\
+GET /v2/ 200 0\n\
+POST /v2/lib/a/blobs/uploads/?digest=sha256:ba7816bf8f01cfea414140de5dae2223b00361a396177a9cb410ff61f20015ad 201 0\n\
+GET /v2/lib/a/blobs/sha256:ba7816bf8f01cfea414140de5dae2223b00361a396177a9cb410ff61f20015ad 200 3\n\
+HEAD /v2/lib/a/blobs/sha256:ba7816bf8f01cfea414140de5dae2223b00361a396177a9cb410ff61f20015ad 200 0\n\
+DELETE /v2/lib/a/blobs/uploads/?a=%20b 405 76\n\
 PATCH /v2/lib/a/blobs/uploads/ 411 0\n\
-PUT /v2/\n  400 0";
+PUT /v2/\nunreadable 400 0";
 
 #[test]
-fn a_desk_hears_of_heads_and_replies(rt: HostRuntime) -> Result<(), Fail> {
+fn an_observer_is_told_of_heads_and_replies(rt: HostRuntime) -> Result<(), Fail> {
     assert!(rt; LIMITS.lawful());
     let mut server = ConnectionServer::new(rt.alloc(), LIMITS)?;
-    let mut desk = HearingDesk {
-        desk: ServiceDesk::new(Service::new(rt.alloc(), LIMITS), [0; 12], 0),
+    let mut desk = ServiceDesk::new(Service::new(rt.alloc(), LIMITS), [0; 12], 0);
+    let mut notes = Notes {
         alloc: rt.alloc(),
-        heard: String::new(rt.alloc()),
+        lines: String::new(rt.alloc()),
     };
     for (input, end) in SENT.iter() {
         let mut reader = MemorySource::new(input.as_bytes(), 65_536, false);
         let mut writer = MemorySink::new(Vec::new(rt.alloc()), 65_536, 65_536);
-        let ended = server.serve(&mut reader, &mut writer, &mut desk);
+        let ended = server.serve(&mut reader, &mut writer, &mut desk, &mut notes);
         same(&rt, ended, *end, &"its end");
     }
-    same_bytes(
-        &rt,
-        desk.heard.as_str().as_bytes(),
-        HEARD,
-        &"what was heard",
-    );
+    same_bytes(&rt, notes.lines.as_str().as_bytes(), TOLD, &"what was told");
     Ok(())
 }

@@ -10,6 +10,7 @@ use std::test::*;
 use std::thread::Threads;
 use upload_intake::{NoGate, Pair, ServeFault, Worker, ZeroSecrets, serve_pair};
 use upload_names::{BlobDigest, NameFault, RepoName};
+use upload_wire::NoObserver;
 
 /// The same blob twice.
 const LEFT: &[u8] =
@@ -20,7 +21,7 @@ const RIGHT: &[u8] =
     b"POST /v2/lib/b/blobs/uploads/?digest=sha256:ba7816bf8f01cfea414140de5dae2223b00361a396177a9cb410ff61f20015ad HTTP/1.1\r\nContent-Length: 3\r\n\r\nabc\
 POST /v2/lib/b/blobs/uploads/?digest=sha256:ba7816bf8f01cfea414140de5dae2223b00361a396177a9cb410ff61f20015ad HTTP/1.1\r\nContent-Length: 3\r\n\r\nabc";
 
-type TextWorker = Worker<Texts, ZeroSecrets, NoGate>;
+type TextWorker = Worker<Texts, ZeroSecrets, NoGate, NoObserver>;
 
 /// A worker with one connection. One growth may be refused.
 fn worker(alloc: Global, text: &[u8]) -> Result<TextWorker, AllocError> {
@@ -32,6 +33,7 @@ fn worker(alloc: Global, text: &[u8]) -> Result<TextWorker, AllocError> {
         conns,
         secrets: ZeroSecrets,
         gate: NoGate,
+        observer: NoObserver,
     })
 }
 

@@ -6,6 +6,7 @@ use crate::checks::check;
 use http_wire::{ByteSource, Failed, Transcript};
 use std::test::*;
 use upload_intake::{Conns, NoGate, Worker, ZeroSecrets, serve_pair};
+use upload_wire::NoObserver;
 
 const MANY: u64 = 100_001;
 
@@ -67,11 +68,12 @@ impl Conns for Same {
     }
 }
 
-fn worker(count: u64) -> Worker<Same, ZeroSecrets, NoGate> {
+fn worker(count: u64) -> Worker<Same, ZeroSecrets, NoGate, NoObserver> {
     Worker {
         conns: Same { left: count },
         secrets: ZeroSecrets,
         gate: NoGate,
+        observer: NoObserver,
     }
 }
 

@@ -14,6 +14,7 @@ use std::thread::Threads;
 use std::vec;
 use upload_intake::{Conns, Moments, NoGate, Pair, ServeFault, Worker, ZeroSecrets, serve_pair};
 use upload_service::{Limits, Service};
+use upload_wire::NoObserver;
 
 /// An opening and two chunks.
 const TEXT: &[u8] = b"POST /v2/lib/a/blobs/uploads/ HTTP/1.1\r\nContent-Length: 0\r\n\r\n\
@@ -117,13 +118,14 @@ impl<'a> Conns for One<'a> {
     }
 }
 
-type OneWorker<'a> = Worker<One<'a>, ZeroSecrets, NoGate>;
+type OneWorker<'a> = Worker<One<'a>, ZeroSecrets, NoGate, NoObserver>;
 
 fn worker<'a>(text: Option<Vec<u8>>, seen: &'a AtomicU64) -> OneWorker<'a> {
     Worker {
         conns: One { text, seen },
         secrets: ZeroSecrets,
         gate: NoGate,
+        observer: NoObserver,
     }
 }
 

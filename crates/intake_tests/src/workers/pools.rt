@@ -13,6 +13,7 @@ use std::thread::Threads;
 use upload_intake::{Gate, Pool, Worker, ZeroSecrets, serve_workers};
 use upload_names::{BlobDigest, RepoName};
 use upload_service::{Answer, Ask};
+use upload_wire::NoObserver;
 
 /// Holds each worker before its first request, until all workers of the pool are there.
 #[derive(Drop)]
@@ -48,7 +49,7 @@ impl<'a> Gate for Together<'a> {
     fn after_answer(&mut self, _turn: u64, _answer: &Answer) {}
 }
 
-type TextWorker<'a> = Worker<Texts, ZeroSecrets, Together<'a>>;
+type TextWorker<'a> = Worker<Texts, ZeroSecrets, Together<'a>, NoObserver>;
 
 /// A worker with two connections, each of which uploads `abc` under the worker's own name; and one that is cut.
 fn worker<'a>(alloc: Global, number: u64, gate: Together<'a>) -> Result<TextWorker<'a>, Fail> {
@@ -60,6 +61,7 @@ fn worker<'a>(alloc: Global, number: u64, gate: Together<'a>) -> Result<TextWork
         conns: Texts::new(alloc, &[bytes, bytes, b"x"])?,
         secrets: ZeroSecrets,
         gate,
+        observer: NoObserver,
     })
 }
 

@@ -12,7 +12,7 @@ use Rattle.upload_intake.proofs.pool.join_all.Goals as goal
 
 pub loop-worker-preserved : goal.loop-worker-preserved
 loop-worker-preserved g c =
-    let m = means g.C.Conns.gives g.C.In.ByteSource.state g.C.Out.ByteSink.state g.S.Secrets.draws g.G.Gate.watches in
+    let m = means g.C.Conns.gives g.C.In.ByteSource.state g.C.Out.ByteSink.state g.S.Secrets.draws g.G.Gate.watches g.O.Observer.told in
     let was = c.loop-worker.invariant in
     let step = c.in-Some.ensures.steps in
     let before = c.loop-worker.yielded in
@@ -33,13 +33,13 @@ loop-worker-preserved g c =
       workers = counted.len ∙ ap (λ k. k + 1) was.workers ∙ sym pushed.len;
       seat_room = omega (arith, was.seat_room, step.1, pushed.len, pushed.capacity);
       worker_room = omega (arith, was.worker_room, step.1, counted.len, counted.capacity);
-      each = subst (λ (x : List (Station _ _ _) × (List SeatState × List WorkerEnd)). EachWorks m x.0 x.1.0 x.1.1) (λ i. (sym grown i, (sym pushed.items i, sym counted.items i)))
+      each = subst (λ (x : List (Station _ _ _ _) × (List SeatState × List WorkerEnd)). EachWorks m x.0 x.1.0 x.1.1) (λ i. (sym grown i, (sym pushed.items i, sym counted.items i)))
           (works_more m (promised before) seats.items workers.items one c.join-seat.result.0 c.join-seat.result.1 p q was.each c.join-seat.ensures);
     }
 
 pub returns-clause-each : goal.returns-clause-each
 returns-clause-each g c =
-    let m = means g.C.Conns.gives g.C.In.ByteSource.state g.C.Out.ByteSink.state g.S.Secrets.draws g.G.Gate.watches in
+    let m = means g.C.Conns.gives g.C.In.ByteSource.state g.C.Out.ByteSink.state g.S.Secrets.draws g.G.Gate.watches g.O.Observer.told in
     let was = c.loop-worker.invariant in
     let rest = into_iter_items c.loop-worker.worker-iterator in
     let none : length (promised rest) ≡ 0 = length-map rest _ ∙ sym c.loop-worker.worker-iterator.rest.ok.0 ∙ c.in-None.ensures.steps.0 in

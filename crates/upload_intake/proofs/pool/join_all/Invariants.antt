@@ -12,6 +12,6 @@ invariant-loop-worker g l = record {
   workers : vec_len l.ends.workers ≡ vec_len l.ends.seats;
   seat_room : vec_len l.ends.seats + into_iter_len l.worker-iterator ≤ vec_capacity l.ends.seats;
   worker_room : vec_len l.ends.workers + into_iter_len l.worker-iterator ≤ vec_capacity l.ends.workers;
-  each : EachWorks (means g.C.Conns.gives g.C.In.ByteSource.state g.C.Out.ByteSink.state g.S.Secrets.draws g.G.Gate.watches)
+  each : EachWorks (means g.C.Conns.gives g.C.In.ByteSource.state g.C.Out.ByteSink.state g.S.Secrets.draws g.G.Gate.watches g.O.Observer.told)
       (promised l.yielded) l.ends.seats.items l.ends.workers.items;
 }

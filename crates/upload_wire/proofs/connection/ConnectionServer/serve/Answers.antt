@@ -1,25 +1,25 @@
 use Rattle.std.proofs.Common.{◌∙◌, ap, arith, refl}
-use Rattle.upload_wire.proofs.ConversationLemmas.{starts, goes_on, ends}
+use Rattle.upload_wire.proofs.ToldLemmas.{starts_told, goes_on_told, ends_told}
 use Rattle.upload_wire.proofs.connection.ConnectionServer.serve.Goals as goal
 
 pub loop-end-init : goal.loop-end-init
-loop-end-init g c = (starts g.D.Desk.moves _ _ _ _ _ _ _ _ (ap (λ i. i.held) c.begin.ensures) refl, refl)
+loop-end-init g c = (starts_told g.D.Desk.moves g.O.Observer.told _ _ _ _ _ _ _ _ _ (ap (λ i. i.held) c.begin.ensures) refl, refl)
 
 pub loop-end-preserved : goal.loop-end-preserved
 loop-end-preserved g c = (
-  goes_on g.D.Desk.moves c.begin.new.self.max_body c.loop-end.self.max_body _ _ _
+  goes_on_told g.D.Desk.moves g.O.Observer.told c.begin.new.self.max_body c.loop-end.self.max_body _ _ _
       c.loop-end.invariant.1 c.loop-end.invariant.0 (c.in_default.ensures.goes_on refl),
   c.in_default.ensures.limit ∙ c.loop-end.invariant.1,
 )
 
 pub loop-end-smaller : goal.loop-end-smaller
 loop-end-smaller g c =
-    let counted = c.loop-end.invariant.0.counted in
-    let few = c.loop-end.invariant.0.served.few in
-    let more = (c.in_default.ensures.goes_on refl).counted in
+    let counted = c.loop-end.invariant.0.so_far.counted in
+    let few = c.loop-end.invariant.0.so_far.served.few in
+    let more = (c.in_default.ensures.goes_on refl).goes_on.counted in
     omega (arith, counted, few, more)
 
-pub returns-in-Some-clause-conversation : goal.returns-in-Some-clause-conversation
-returns-in-Some-clause-conversation g c = rw (← c.self.view_is, ← ap (λ i. i.max_body) c.begin.ensures)
-    (ends g.D.Desk.moves c.begin.new.self.max_body c.loop-end.self.max_body _ _ _
+pub returns-in-Some-clause-told : goal.returns-in-Some-clause-told
+returns-in-Some-clause-told g c = rw (← c.self.view_is, ← ap (λ i. i.max_body) c.begin.ensures)
+    (ends_told g.D.Desk.moves g.O.Observer.told c.begin.new.self.max_body c.loop-end.self.max_body _ _ _
     c.in-Some.end c.loop-end.invariant.1 c.loop-end.invariant.0 c.in-Some.ensures.stops)

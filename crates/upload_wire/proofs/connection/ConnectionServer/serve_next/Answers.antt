@@ -1,53 +1,80 @@
-use Rattle.std.proofs.Common.{◌∙◌, subst, sym}
-use Rattle.std.specs.Prelude.{Ok, Some}
-use Rattle.upload_wire.specs.RequestText.{ReadsNext}
+use Rattle.std.proofs.Common.{◌≡◌, ◌+◌, ◌∙◌, ap, subst}
+use Rattle.std.specs.Prelude.{Ok}
+use Rattle.upload_wire.specs.Inner.ConversationSteps.{Replies}
+use Rattle.http_wire.specs.HeadText.{status_number}
+use Rattle.upload_wire.specs.Events.{Replied}
+use Rattle.upload_wire.specs.Inner.ToldSteps.{ReadsTold, listening}
 use Rattle.http_wire.specs.declared.fault.WireFault.TheVariants.{Read}
-use Rattle.upload_wire.proofs.ConversationLemmas.{ok_not_err, one_more, one_last, after_refusal}
+use Rattle.upload_wire.proofs.ConversationLemmas.{ok_not_err}
+use Rattle.upload_wire.proofs.ToldLemmas.{one_more_told, one_last_told, gone_told, refusal_told, stopped_told}
 use Rattle.upload_wire.proofs.connection.ConnectionServer.serve_next.Goals as goal
 
-pub returns-after-style-clause-goes_on : goal.returns-after-style-clause-goes_on
-returns-after-style-clause-goes_on g c =
-    let s = c.self.inside.input in
-    let asked = subst (λ d. g.D.Desk.moves d c.in-Ok-Request.ask (Some c.in-Some.answer) c.ask.new.self) c.in-Ok-Request.ensures.unasked c.in-Some.ensures in
-    rw (← c.self.view_is)
-    (λ none.
-    one_more g.D.Desk.moves s.max_body c.self.inside.answered s.held c.next.new.self.held
-    (g.S.ByteSource.state c.args.reader.now)
-    (g.S.ByteSource.state c.next.new.source)
-    c.in-Ok-Request.ask c.in-Ok-Request.style c.args.desk.now c.replied.new.self
-    (g.W.ByteSink.state c.args.writer.now) c.in-Some.answer
-    (g.W.ByteSink.state c.reply-end.new.writer)
-    c.reply-end.new.self.held c.reply-end.new.self.answered c.reply-end.ensures.held (c.reply-end.ensures.counted none) c.reply-end.result
-    (subst (λ n. ReadsNext s.max_body s.held (g.S.ByteSource.state c.args.reader.now) c.next.new.self.held (g.S.ByteSource.state c.next.new.source) (Ok n))
-    c.in-Ok-Request.field-0-is c.in-Ok-Request.ensures.found)
+pub returns-in-Some-clause-goes_on : goal.returns-in-Some-clause-goes_on
+returns-in-Some-clause-goes_on g c =
+    λ none.
+    one_more_told g.D.Desk.moves g.O.Observer.told c.args.self.now.max_body c.args.self.now.answered c.args.self.now.held c.read_next.new.self.held
+    (g.S.ByteSource.state c.args.reader.now) (g.S.ByteSource.state c.read_next.new.reader) c.in-Ok-Request.ask c.in-Ok-Request.style
+    c.args.desk.now c.ask.new.self (g.W.ByteSink.state c.args.writer.now) c.args.observer.now c.read_next.new.observer
+    (subst (λ n. ReadsTold g.O.Observer.told c.args.self.now.max_body
+    (listening c.args.self.now.held (g.S.ByteSource.state c.args.reader.now) c.args.observer.now)
+    (listening c.read_next.new.self.held (g.S.ByteSource.state c.read_next.new.reader) c.read_next.new.observer) (Ok n))
+    c.in-Ok-Request.field-0-is c.in-Ok-Request.ensures.told)
     (c.in-Ok-Request.ensures.costs.unfailed (ok_not_err c.in-Ok-Request.field-0 Read))
-    (subst (λ d. g.D.Desk.moves c.args.desk.now c.in-Ok-Request.ask (Some c.in-Some.answer) d) (sym c.replied.ensures) asked)
-    c.reply-end.ensures.replies none)
+    c.in-Some.answer (g.W.ByteSink.state c.reply-end.new.writer) c.tell_reply.new.observer c.tell_reply.ensures c.in-Some.ensures
+    c.reply-end.new.self.held c.reply-end.new.self.answered c.reply-end.ensures.held
+    (subst (λ n. c.reply-end.new.self.answered ≡ n + 1) c.in-Ok-Request.ensures.answered (c.reply-end.ensures.counted none))
+    c.reply-end.result
+    (subst (λ n. Replies n c.in-Some.answer c.in-Ok-Request.style (g.W.ByteSink.state c.args.writer.now) (g.W.ByteSink.state c.reply-end.new.writer) c.reply-end.result)
+    c.in-Ok-Request.ensures.answered c.reply-end.ensures.replies)
+    none
 
-pub returns-after-style-clause-stops : goal.returns-after-style-clause-stops
-returns-after-style-clause-stops g c =
-    let s = c.self.inside.input in
-    let asked = subst (λ d. g.D.Desk.moves d c.in-Ok-Request.ask (Some c.in-Some.answer) c.ask.new.self) c.in-Ok-Request.ensures.unasked c.in-Some.ensures in
-    rw (← c.self.view_is)
-    (one_last g.D.Desk.moves s.max_body c.self.inside.answered s.held c.next.new.self.held
-    (g.S.ByteSource.state c.args.reader.now)
-    (g.S.ByteSource.state c.next.new.source)
-    c.in-Ok-Request.ask c.in-Ok-Request.style c.args.desk.now c.replied.new.self
-    (g.W.ByteSink.state c.args.writer.now) c.in-Some.answer
-    (g.W.ByteSink.state c.reply-end.new.writer)
-    c.reply-end.new.self.held c.reply-end.new.self.answered c.reply-end.result
-    (subst (λ n. ReadsNext s.max_body s.held (g.S.ByteSource.state c.args.reader.now) c.next.new.self.held (g.S.ByteSource.state c.next.new.source) (Ok n))
-    c.in-Ok-Request.field-0-is c.in-Ok-Request.ensures.found)
+pub returns-in-Some-clause-stops : goal.returns-in-Some-clause-stops
+returns-in-Some-clause-stops g c =
+    one_last_told g.D.Desk.moves g.O.Observer.told c.args.self.now.max_body c.args.self.now.answered c.args.self.now.held c.read_next.new.self.held
+    (g.S.ByteSource.state c.args.reader.now) (g.S.ByteSource.state c.read_next.new.reader) c.in-Ok-Request.ask c.in-Ok-Request.style
+    c.args.desk.now c.ask.new.self (g.W.ByteSink.state c.args.writer.now) c.args.observer.now c.read_next.new.observer
+    (subst (λ n. ReadsTold g.O.Observer.told c.args.self.now.max_body
+    (listening c.args.self.now.held (g.S.ByteSource.state c.args.reader.now) c.args.observer.now)
+    (listening c.read_next.new.self.held (g.S.ByteSource.state c.read_next.new.reader) c.read_next.new.observer) (Ok n))
+    c.in-Ok-Request.field-0-is c.in-Ok-Request.ensures.told)
     (c.in-Ok-Request.ensures.costs.unfailed (ok_not_err c.in-Ok-Request.field-0 Read))
-    (subst (λ d. g.D.Desk.moves c.args.desk.now c.in-Ok-Request.ask (Some c.in-Some.answer) d) (sym c.replied.ensures) asked)
-    c.reply-end.ensures.replies)
+    c.in-Some.answer (g.W.ByteSink.state c.reply-end.new.writer) c.tell_reply.new.observer c.tell_reply.ensures c.in-Some.ensures
+    c.reply-end.new.self.held c.reply-end.new.self.answered c.reply-end.result
+    (subst (λ n. Replies n c.in-Some.answer c.in-Ok-Request.style (g.W.ByteSink.state c.args.writer.now) (g.W.ByteSink.state c.reply-end.new.writer) c.reply-end.result)
+    c.in-Ok-Request.ensures.answered c.reply-end.ensures.replies)
+
+pub returns-in-None-clause-stops : goal.returns-in-None-clause-stops
+returns-in-None-clause-stops g c =
+    gone_told g.D.Desk.moves g.O.Observer.told c.args.self.now.max_body c.args.self.now.answered c.args.self.now.held c.read_next.new.self.held
+    (g.S.ByteSource.state c.args.reader.now) (g.S.ByteSource.state c.read_next.new.reader) c.in-Ok-Request.ask c.in-Ok-Request.style
+    c.args.desk.now c.ask.new.self (g.W.ByteSink.state c.args.writer.now) c.args.observer.now c.read_next.new.observer
+    (subst (λ n. ReadsTold g.O.Observer.told c.args.self.now.max_body
+    (listening c.args.self.now.held (g.S.ByteSource.state c.args.reader.now) c.args.observer.now)
+    (listening c.read_next.new.self.held (g.S.ByteSource.state c.read_next.new.reader) c.read_next.new.observer) (Ok n))
+    c.in-Ok-Request.field-0-is c.in-Ok-Request.ensures.told)
+    (c.in-Ok-Request.ensures.costs.unfailed (ok_not_err c.in-Ok-Request.field-0 Read))
+    c.read_next.new.self.held c.read_next.new.self.answered c.in-None.ensures
 
 pub returns-in-Ok-Bad-clause-stops : goal.returns-in-Ok-Bad-clause-stops
 returns-in-Ok-Bad-clause-stops g c =
-    let s = c.self.inside.input in
-    rw (← c.self.view_is)
-    (after_refusal g.D.Desk.moves s.max_body _ _ c.next.new.self.held c.in-Ok-Bad.why c.refuse-end.result
-    (subst (λ n. ReadsNext s.max_body s.held (g.S.ByteSource.state c.args.reader.now) c.next.new.self.held (g.S.ByteSource.state c.next.new.source) (Ok n))
-    c.in-Ok-Bad.field-0-is c.in-Ok-Bad.ensures.found)
+    refusal_told g.D.Desk.moves g.O.Observer.told c.args.self.now.max_body c.args.self.now.answered c.args.self.now.held c.read_next.new.self.held
+    (g.S.ByteSource.state c.args.reader.now) (g.S.ByteSource.state c.read_next.new.reader)
+    c.args.desk.now (g.W.ByteSink.state c.args.writer.now) c.args.observer.now c.read_next.new.observer
+    c.in-Ok-Bad.why
+    (subst (λ n. ReadsTold g.O.Observer.told c.args.self.now.max_body
+    (listening c.args.self.now.held (g.S.ByteSource.state c.args.reader.now) c.args.observer.now)
+    (listening c.read_next.new.self.held (g.S.ByteSource.state c.read_next.new.reader) c.read_next.new.observer) (Ok n))
+    c.in-Ok-Bad.field-0-is c.in-Ok-Bad.ensures.told)
     (c.in-Ok-Bad.ensures.costs.unfailed (ok_not_err c.in-Ok-Bad.field-0 Read))
-    (c.replied-in-Ok-Bad.ensures ∙ c.in-Ok-Bad.ensures.unasked) c.refuse-end.ensures)
+    (g.W.ByteSink.state c.refuse-end.new.writer) c.replied.new.self
+    (subst (λ n. g.O.Observer.told c.read_next.new.observer (Replied n 0) c.replied.new.self)
+    (c.number.ensures ∙ ap status_number c.bad_status.ensures) c.replied.ensures)
+    c.read_next.new.self.held c.read_next.new.self.answered c.refuse-end.result c.refuse-end.ensures
+
+pub returns-in-Err-clause-stops : goal.returns-in-Err-clause-stops
+returns-in-Err-clause-stops g c =
+    stopped_told g.D.Desk.moves g.O.Observer.told c.args.self.now.max_body c.args.self.now.answered c.args.self.now.held c.read_next.new.self.held
+    (g.S.ByteSource.state c.args.reader.now) (g.S.ByteSource.state c.read_next.new.reader)
+    c.args.desk.now (g.W.ByteSink.state c.args.writer.now) c.args.observer.now c.read_next.new.observer
+    c.in-Err.fault c.in-Err.ensures.told c.in-Err.ensures.costs
+    c.read_next.new.self.held c.read_next.new.self.answered

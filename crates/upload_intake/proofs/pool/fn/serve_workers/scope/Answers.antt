@@ -12,11 +12,11 @@ use Rattle.upload_intake.proofs.pool.fn.serve_workers.scope.Goals as goal
 pub spawn_scoped_with-requires-clause-runs : goal.spawn_scoped_with-requires-clause-runs
 spawn_scoped_with-requires-clause-runs g c κs within =
     let s = c.requires.cross in
-    (search (sendable, s) depth 20, search (sendable, s) depth 20, search (sendable, s) depth 20, search (sendable, s) depth 20, search (sendable, s) depth 20, search (sendable, s) depth 20)
+    (search (sendable, s) depth 20, search (sendable, s) depth 20, search (sendable, s) depth 20, search (sendable, s) depth 20, search (sendable, s) depth 20, search (sendable, s) depth 20, search (sendable, s) depth 20)
 
 pub settle_all-service-requires : goal.settle_all-service-requires
 settle_all-service-requires g c =
-    let m = means g.C.Conns.gives g.C.In.ByteSource.state g.C.Out.ByteSink.state g.S.Secrets.draws g.G.Gate.watches in
+    let m = means g.C.Conns.gives g.C.In.ByteSource.state g.C.Out.ByteSink.state g.S.Secrets.draws g.G.Gate.watches g.O.Observer.told in
     let stations = c.captures.stations.items in
     let started = c.loop-station.started.items in
     let rest = into_iter_items c.loop-station.station-iterator in
@@ -31,7 +31,7 @@ settle_all-service-requires g c =
 
 pub returns : goal.returns
 returns g c =
-    let m = means g.C.Conns.gives g.C.In.ByteSource.state g.C.Out.ByteSink.state g.S.Secrets.draws g.G.Gate.watches in
+    let m = means g.C.Conns.gives g.C.In.ByteSource.state g.C.Out.ByteSink.state g.S.Secrets.draws g.G.Gate.watches g.O.Observer.told in
     let stations = c.captures.stations.items in
     let started = c.loop-station.started.items in
     let rest = into_iter_items c.loop-station.station-iterator in

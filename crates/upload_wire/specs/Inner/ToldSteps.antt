@@ -1,0 +1,68 @@
+-- What the observer is told by the parts of a served connection.
+use Rattle.std.specs.Prelude.{◌≡◌, ℕ, List, [], ◌∷◌, ◌++◌, Result, Ok, Err}
+use Rattle.http_wire.specs.States.{SourceState}
+use Rattle.http_wire.specs.declared.fault.WireFault.{WireFault}
+use Rattle.upload_wire.specs.Events.{Event, Telling, Hears}
+use Rattle.upload_wire.specs.Told.{TellsHead, TellsLine, TellsExchange, TellsCut, TellsEnd, Rules}
+use Rattle.upload_wire.specs.RequestText.{ReadsNext}
+use Rattle.upload_wire.specs.Conversation.{Standing, stand}
+use Rattle.upload_wire.specs.Inner.ConversationSteps.{GoesOn, Stops}
+use Rattle.upload_wire.specs.declared.request.Next.{Next}
+use Rattle.upload_wire.specs.declared.request.Next.TheVariants.{Request, Over}
+use Rattle.upload_wire.specs.declared.request.Next.TheVariants as nexts
+use Rattle.upload_wire.specs.declared.connection.ConnEnd.{ConnEnd}
+
+-- ---- reading
+
+-- what is held, what is read, and the observer
+pub record Listening (O : Type 0) : Type 0 where
+  pub held : List ℕ
+  pub source : SourceState
+  pub observer : O
+
+abbrev pub listening : {O : Type 0} → List ℕ → SourceState → O → Listening O
+listening held source observer = record { held = held; source = source; observer = observer }
+
+-- what is told of what was found in the text
+abbrev pub TellsNext : List ℕ → Result Next WireFault → List Event → Type 0
+TellsNext text (Ok (Request ask style)) events = TellsLine text events
+TellsNext text (Ok Over) events = events ≡ []
+TellsNext text (Ok (nexts.Bad why)) events = (head : Event) × TellsHead text head × (events ≡ head ∷ [])
+TellsNext text (Err fault) events = TellsCut text events
+
+-- what came next was read, and its head was told
+pub record ReadsTold {O : Type 0} (telling : Telling O) (max_body : ℕ) (old new : Listening O) (r : Result Next WireFault) : Type 0 where
+  pub next : ReadsNext max_body old.held old.source new.held new.source r
+  pub events : List Event
+  pub tells : TellsNext (old.held ++ next.given) r events
+  pub told : Hears telling old.observer events new.observer
+
+-- ---- serving
+
+-- where a connection stands, and its observer
+pub record Observed (D O : Type 0) : Type 0 where
+  pub standing : Standing D
+  pub observer : O
+
+abbrev pub observed : {D O : Type 0} → Standing D → O → Observed D O
+observed standing observer = record { standing = standing; observer = observer }
+
+-- the connection goes on behind a request that was told with its reply
+pub record GoesOnTold {D O : Type 0} (r : Rules D O) (old new : Observed D O) : Type 0 where
+  pub goes_on : GoesOn r.moves r.max_body old.standing new.standing
+  pub events : List Event
+  pub tells : TellsExchange goes_on.exchange events
+  pub told : Hears r.told old.observer events new.observer
+
+-- what ended the connection was told
+pub record StopsTold {D O : Type 0} (r : Rules D O) (old new : Observed D O) (end : ConnEnd) : Type 0 where
+  pub stops : Stops r.moves r.max_body old.standing new.standing end
+  pub events : List Event
+  pub tells : TellsEnd (record {
+    moves = r.moves;
+    max_body = r.max_body;
+    stood = stand old.standing.answered (old.standing.held ++ stops.given) new.standing.source old.standing.desk old.standing.sink;
+    desk = new.standing.desk;
+    sink = new.standing.sink;
+  }) end stops.ended events
+  pub told : Hears r.told old.observer events new.observer
