@@ -96,7 +96,7 @@ impl<'r, R: Net<Stream = TcpStream>> Dialer<'r, R> {
         (course, bar)
     }
 
-    /// A new connection, or `None` where it can't be made, for want of memory too.
+    /// A new connection, or `None` if it can't be made, also if memory is full.
     fn dial(&self) -> Option<Wire<'r>>
         ensures { IfSome result (IsNew (string_bytes self.now.host)) }
     {

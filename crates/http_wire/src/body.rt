@@ -17,7 +17,7 @@ pub trait BodyBuffer {
     // The bytes that it holds.
     ghost bytes: { Self → List ℕ };
 
-    /// Puts a piece behind the bytes that it holds. An `Err`, want of memory, changes none of them.
+    /// Puts a piece behind the bytes that it holds. An `Err`, out of memory, changes none of them.
     fn extend(&mut self, piece: &[u8]) -> Result<(), AllocError>
         ensures ok { OnOk result (bytes self.new ≡ bytes self.old ++ piece.now) }
         ensures err { OnErr result (bytes self.new ≡ bytes self.old) };

@@ -6,7 +6,7 @@ ghost use Rattle.http_wire.specs.Query.{parameter};
 use std::alloc::{AllocError, Global};
 use std::borrow::CowStr;
 
-/// The value of a parameter, decoded. Of a repeated one the first counts. The error is a want of memory.
+/// The value of a parameter, decoded. Of a repeated one the first counts. The error is out of memory.
 pub fn parameter<'q>(
     alloc: Global,
     query: &'q [u8],

@@ -126,7 +126,7 @@ impl From<SaidFault> for HeardFault {
     }
 }
 
-/// What is heard in the reply to an answer, or want of memory for its texts.
+/// What is heard in the reply to an answer, or out of memory for its texts.
 pub fn heard_of(alloc: Global, answer: &Answer) -> Result<Heard, AllocError>
     ensures { IfOk result (λ heard. heard ≡ reply_heard answer.now) }
 {

@@ -13,7 +13,7 @@ use Rattle.upload_wire.specs.Conversation.{Exchange}
 abbrev pub taken : Step → ℕ × (Ask × (List ℕ × ℕ))
 taken s = (s.seat, (s.exchange.ask, (s.exchange.secret, s.exchange.now)))
 
--- no answer was want of memory
+-- no answer was out of memory
 abbrev pub HaveMemory : List Step → Type 0
 HaveMemory steps = AllByRecursion (λ (s : Step). s.exchange.answer ≢ NoMemory) steps
 

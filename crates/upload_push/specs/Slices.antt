@@ -185,7 +185,7 @@ abbrev pub Leads : {S : Type 0} → (S → Ask → Option Heard → S → Type 0
 Leads {S} asked old [] new = new ≡ old
 Leads {S} asked old (e ∷ log) new = (mid : S) × Leads asked old log mid × asked mid e.ask e.heard new
 
--- how a push may answer in this phase; want of memory may end it in any
+-- how a push may answer in this phase; out of memory may end it in any
 abbrev pub IsEnd : Phase → Result Outcome PushFault → Type 0
 IsEnd phase (Ok outcome) = phase ≡ phases.Done outcome
 IsEnd phase (Err (faults.GaveUp why)) = phase ≡ phases.GaveUp why

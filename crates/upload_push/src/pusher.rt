@@ -28,7 +28,7 @@ pub enum Why {
 }
 
 impl Why {
-    /// An equal value; an error is want of memory for the code.
+    /// An equal value; an error is out of memory for the code.
     pub(crate) fn copy(&self, alloc: Global) -> Result<Why, AllocError>
         ensures { IfOk result (λ why. why ≡ self.now) }
     {

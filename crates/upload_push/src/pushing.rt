@@ -117,7 +117,7 @@ pub fn push_under<T: Transport>(
     }
 }
 
-/// Asks what a pusher asks, with the name, the digest and the bytes of the file, which are lent. An error is want of memory for a
+/// Asks what a pusher asks, with the name, the digest and the bytes of the file, which are lent. An error is out of memory for a
 /// copy of the name, or of the bytes where the transport wants one; nothing was asked then.
 fn ask_once<T: Transport>(
     alloc: Global,

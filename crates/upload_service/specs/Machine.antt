@@ -196,7 +196,7 @@ outcome s (asks.Status name at) secret now = at_session s.limits.max_blob (awake
 outcome s (asks.Close name at range digest body) secret now =
     at_session s.limits.max_blob (awake s now at) name at (Closes range digest body)
 
--- where want of memory may be answered: at a change, and where the bytes of a blob are handed out
+-- where out of memory may be answered: at a change, and where the bytes of a blob are handed out
 abbrev pub hands_out : Answer → Bool
 hands_out (answers.Blob digest size (Some bytes)) = true
 hands_out other = false

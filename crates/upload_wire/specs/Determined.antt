@@ -56,7 +56,7 @@ IsDeterministic {D} step =
     (old : D) (ask : Ask) (answer other : Option Answer) (new another : D) → step old ask answer new → step old ask other another
     → answer ≢ Some NoMemory → other ≢ Some NoMemory → (answer ≡ other) × (new ≡ another)
 
--- no answer was want of memory
+-- no answer was out of memory
 abbrev pub HasMemory : List Exchange → Type 0
 HasMemory xs = AllByRecursion (λ x. x.answer ≢ NoMemory) xs
 
@@ -76,7 +76,7 @@ pub record AreTheSame {D : Type 0} (step : Moves D) (max_body : ℕ) (d e : Dial
 
 -- Of two conversations over the same bytes, whose ends these decide: what is asked is the same, whatever the desk answers, unless it was gone.
 -- What is answered and written, and how the desk is left, is the same too where the desk is deterministic and stood at the same state, and no
--- answer was want of memory.
+-- answer was out of memory.
 pub record ConversationsAreDetermined {D : Type 0} (step : Moves D) : Type 0 where
   pub by_bytes : (max_body : ℕ) (d e : Dialogue step max_body) → d.is.bytes ≡ e.is.bytes → IsDecided step max_body d → IsDecided step max_body e
       → d.end ≢ DeskGone → e.end ≢ DeskGone → AskTheSame step max_body d e

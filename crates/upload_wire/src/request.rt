@@ -62,7 +62,7 @@ fn range_of(head: &[u8], parsed: &ParsedRequest) -> Extent
     }
 }
 
-/// What a head describes, or what is bad in how it frames its body. The error is a want of memory.
+/// What a head describes, or what is bad in how it frames its body. The error is out of memory.
 pub(crate) fn describe(
     alloc: Global,
     head: &[u8],
