@@ -64,8 +64,8 @@ def make_image(folder):
             json.dump(content, file)
 
 
-def greeting(folder, password):
-    """What is printed once it serves: lines that work as they stand, without a network."""
+def greeting(folder, password, local):
+    """What is printed once it serves: lines that work as they stand, without a network, and HAProxy's local address."""
     certificates, image, back = (os.path.join(folder, name) for name in ("ca", "image", "back"))
     there = f"docker://{TLS}/lib/hello:latest"
     lines = [
@@ -82,7 +82,10 @@ def greeting(folder, password):
     ]
     if servers.missing("skopeo"):
         lines += ["(skopeo isn't installed: apt-get install skopeo)"]
-    lines += [f"Docker and Podman push and pull too (docs/OPERATIONS.md). Requests are logged in {folder}/haproxy.log"]
+    lines += [
+        f"Docker and Podman push and pull too (docs/OPERATIONS.md). Requests are logged in {folder}/haproxy.log",
+        f"Tools of this machine reach it without TLS and without a login at http://{local}, such as: blobd push {local} lib/file FILE",
+    ]
     return "\n".join(lines)
 
 
@@ -94,7 +97,7 @@ def serve(binary, folder):
     servers.logins(folder, {USER: password})
     shard = servers.blobd(binary, folder, BLOBD, workers=WORKERS)
     with shard as store, servers.HAProxy(folder, [BLOBD], TLS, workers=WORKERS) as proxy:
-        print(greeting(folder, password), flush=True)
+        print(greeting(folder, password, proxy.local), flush=True)
         while not (store.ended() or proxy.ended()):
             time.sleep(0.5)
         ended = store if store.ended() else proxy
