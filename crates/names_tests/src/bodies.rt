@@ -4,7 +4,8 @@ use crate::digests::{ABC_256, ABC_512, EMPTY_256, EMPTY_512};
 use std::alloc::{AllocError, Global};
 use std::process::Abort;
 use std::test::Fail;
-use upload_names::{Algorithm, BlobDigest, Bytes};
+use std::thread::Threads;
+use upload_names::{Algorithm, BlobDigest, Bytes, BytesBuilder, HashPlace, InPlace, InThreads};
 
 /// By what a body may be hashed as it comes.
 static HASHES: [Option<Algorithm>; 3] = [None, Some(Algorithm::Sha256), Some(Algorithm::Sha512)];
@@ -87,6 +88,83 @@ fn a_refused_growth_leaves_a_body_and_its_hash(rt: HostRuntime) -> Result<(), Fa
     for hashed in HASHES.iter() {
         for (pieces, content, digests) in PIECES.iter() {
             check_pieces(&rt, rt.alloc(), *hashed, pieces, content, digests)?;
+        }
+    }
+    Ok(())
+}
+
+/// The bytes that are hashed at once as a body is read.
+const PART_ROOM: usize = 1_048_576;
+
+/// Sizes about the ends of parts, and of several parts.
+static SIZES: [usize; 6] = [
+    0,
+    PART_ROOM - 1,
+    PART_ROOM,
+    PART_ROOM + 1,
+    2 * PART_ROOM,
+    3 * PART_ROOM + 7,
+];
+
+/// The bytes of a content of so many.
+fn content_of(alloc: Global, size: usize) -> Result<Vec<u8>, AllocError> {
+    let mut content = Vec::with_capacity(alloc, size)?;
+    for at in 0..size {
+        content.push((at % 251) as u8)?;
+    }
+    Ok(content)
+}
+
+/// The body that a content is read into at a place, in pieces of `step` bytes.
+fn read_at<P: HashPlace>(
+    alloc: Global,
+    place: &P,
+    hashed: Option<Algorithm>,
+    content: &[u8],
+    step: usize,
+) -> Result<Bytes, AllocError> {
+    let mut body = BytesBuilder::new(alloc, hashed);
+    for piece in content.chunks(step.max(1)) {
+        body.extend(place, piece)?;
+    }
+    Ok(body.finish(place))
+}
+
+/// Whether a body is the content, and carries its hash where it was asked for.
+fn is_hashed(body: &Bytes, hashed: Option<Algorithm>, content: &[u8]) -> bool {
+    carries(body, hashed)
+        && body.as_slice() == content
+        && BlobDigest::of_body(Algorithm::Sha256, body).same(&BlobDigest::of(
+            Algorithm::Sha256,
+            content,
+        ))
+        && BlobDigest::of_body(Algorithm::Sha512, body).same(&BlobDigest::of(
+            Algorithm::Sha512,
+            content,
+        ))
+}
+
+#[test]
+fn a_body_is_hashed_across_its_parts(rt: HostRuntime) -> Result<(), Fail> {
+    check_sizes(&rt, rt.alloc())?;
+    Ok(())
+}
+
+/// Ends a test in which a body of some size isn't its content, or carries another hash.
+fn check_sizes<R: Threads + Abort>(rt: &R, alloc: Global) -> Result<(), AllocError> {
+    for size in SIZES.iter() {
+        let content = content_of(alloc, *size)?;
+        for hashed in HASHES.iter() {
+            let here = read_at(alloc, &InPlace, *hashed, content.as_slice(), 65_536)?;
+            assert!(rt;
+                is_hashed(&here, *hashed, content.as_slice()),
+                "{size} {hashed:?}"
+            );
+            let beside = read_at(alloc, &InThreads(rt), *hashed, content.as_slice(), 65_535)?;
+            assert!(rt;
+                is_hashed(&beside, *hashed, content.as_slice()),
+                "{size} {hashed:?}"
+            );
         }
     }
     Ok(())

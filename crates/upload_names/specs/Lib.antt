@@ -7,3 +7,4 @@ pub mod Sum
 pub mod ByteRange
 pub mod Reference
 pub mod Running
+pub mod Hashing

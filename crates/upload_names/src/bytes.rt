@@ -1,7 +1,7 @@
 //! Bodies and texts.
 ghost use Rattle.std.specs.Prelude.{◌≡◌, ◌++◌, [], List, ℕ, length, IfSome, OnOk, OnErr};
 ghost use Rattle.sha2.specs.Hashers.{Holds256, Holds512};
-ghost use Rattle.upload_names.specs.Running.{Holds};
+ghost use Rattle.upload_names.specs.Running.{Holds, Carries};
 
 use crate::digest::Algorithm;
 use sha2::{Digest, Sha256, Sha512};
@@ -16,7 +16,7 @@ pub enum Running {
 }
 
 /// A running hash of no bytes.
-fn hash_of_none(algorithm: Algorithm) -> Running
+pub(crate) fn hash_of_none(algorithm: Algorithm) -> Running
     ensures { Holds result [] }
 {
     match algorithm {
@@ -26,7 +26,7 @@ fn hash_of_none(algorithm: Algorithm) -> Running
 }
 
 /// Has a running hash take a piece in.
-fn take_in(running: &mut Running, piece: &[u8])
+pub(crate) fn take_in(running: &mut Running, piece: &[u8])
     ensures { (bytes : List ℕ) → Holds running.old bytes → Holds running.new (bytes ++ piece.now) }
 {
     match running {
@@ -65,6 +65,14 @@ impl Bytes {
             bytes,
             running: None,
         }
+    }
+
+    /// The bytes of a vector, which is moved and not copied, and their hash where there is one.
+    pub(crate) fn carrying(bytes: Vec<u8>, running: Option<Running>) -> Bytes
+        requires { Carries running bytes.items }
+        ensures { result ≡ bytes.items }
+    {
+        Bytes { bytes, running }
     }
 
     /// No bytes. What it is extended by is hashed as it comes, if that is asked for. It takes no memory.

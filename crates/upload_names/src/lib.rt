@@ -3,15 +3,19 @@
 //! that its text spells; the definitions are those of `specs/`.
 #![tactic(auto)]
 
+mod builder;
 mod bytes;
 mod digest;
 mod grammar;
+mod hashing;
 mod name;
 mod range;
 mod reference;
 
-pub use bytes::Bytes;
+pub use builder::BytesBuilder;
+pub use bytes::{Bytes, Running};
 pub use digest::{Algorithm, BlobDigest, DigestText, NotADigest, digests_are_decided};
+pub use hashing::{Behind, HashPlace, Hashing, InPlace, InThreads};
 pub use name::{NameFault, RepoName, names_are_decided};
 pub use range::{ByteRange, NotARange, ranges_are_decided};
 pub use reference::{NotAReference, UploadRef, references_read_back};

@@ -2,19 +2,20 @@
 
 use http_wire::BodyBuffer;
 use std::alloc::AllocError;
-use upload_names::Bytes;
+use upload_names::{BytesBuilder, HashPlace};
 
-/// The body of a request, as far as it came.
+/// The body of a request, as far as it came, and where it is hashed.
 #[derive(Drop)]
-pub struct Body {
-    pub bytes: Bytes,
+pub struct Body<'a, P: HashPlace> {
+    pub bytes: BytesBuilder,
+    pub place: &'a P,
 }
 
-impl BodyBuffer for Body {
+impl<'a, P: HashPlace> BodyBuffer for Body<'a, P> {
     ghost bytes = { λ b. b.bytes };
 
     fn extend(&mut self, piece: &[u8]) -> Result<(), AllocError> {
-        self.bytes.extend(piece)?;
+        self.bytes.extend(self.place, piece)?;
         Ok(())
     }
 

@@ -19,6 +19,7 @@ use http_wire::{Bad, ByteSink, ByteSource, HeadRead, WireFault, bad_status, writ
 use std::alloc::{AllocError, Global};
 use std::fmt;
 use std::marker::Model;
+use upload_names::{HashPlace, InPlace};
 use upload_service::{Answer, Limits};
 
 /// The most requests that are answered on one connection.
@@ -83,7 +84,7 @@ pub fn serve_connection<S: ByteSource, W: ByteSink, D: Desk>(
     let Ok(mut server) = ConnectionServer::new(alloc, limits) else {
         return ConnEnd::Fault(ConnFault::Wire(WireFault::NoMemory));
     };
-    server.serve(reader, writer, desk, &mut NoObserver)
+    server.serve(&InPlace, reader, writer, desk, &mut NoObserver)
 }
 
 /// Serves one connection after the other through one buffer, so that only a request may want memory.
@@ -117,9 +118,10 @@ impl ConnectionServer {
     }
 
     /// Serves a connection, as `serve_connection` does, and tells the observer of it. What the buffer holds of another
-    /// is forgotten first.
-    pub fn serve<S: ByteSource, W: ByteSink, D: Desk, O: Observer>(
+    /// is forgotten first. A large body is hashed at the place as it comes.
+    pub fn serve<P: HashPlace, S: ByteSource, W: ByteSink, D: Desk, O: Observer>(
         &mut self,
+        place: &P,
         reader: &mut S,
         writer: &mut W,
         desk: &mut D,
@@ -133,15 +135,16 @@ impl ConnectionServer {
         self.input.begin();
         self.answered = 0;
         loop {
-            if let Some(end) = self.serve_next(reader, writer, desk, observer) {
+            if let Some(end) = self.serve_next(place, reader, writer, desk, observer) {
                 return end;
             }
         }
     }
 
     /// Serves what comes next. `None`: the connection goes on.
-    fn serve_next<S: ByteSource, W: ByteSink, D: Desk, O: Observer>(
+    fn serve_next<P: HashPlace, S: ByteSource, W: ByteSink, D: Desk, O: Observer>(
         &mut self,
+        place: &P,
         reader: &mut S,
         writer: &mut W,
         desk: &mut D,
@@ -155,7 +158,7 @@ impl ConnectionServer {
             (observed (standing self.new (S.state reader.new) desk.new (W.state writer.new)) observer.new)) }
         ensures limit { self.new.max_body ≡ self.old.max_body }
     {
-        match self.read_next(reader, observer) {
+        match self.read_next(place, reader, observer) {
             Ok(Next::Request { ask, style }) => match desk.ask(ask) {
                 Some(answer) => {
                     let end = self.reply(writer, &answer, style);
@@ -175,8 +178,9 @@ impl ConnectionServer {
     }
 
     /// Reads what comes next. The observer is told of its head before the body is read.
-    fn read_next<S: ByteSource, O: Observer>(
+    fn read_next<P: HashPlace, S: ByteSource, O: Observer>(
         &mut self,
+        place: &P,
         reader: &mut S,
         observer: &mut O,
     ) -> Result<Next, WireFault>
@@ -191,7 +195,7 @@ impl ConnectionServer {
         match self.input.next_head(reader)? {
             HeadRead::Head(parsed) => {
                 observer.hears(Some(self.input.line(&parsed)));
-                self.input.next_body(reader, &parsed)
+                self.input.next_body(place, reader, &parsed)
             }
             HeadRead::Over => Ok(Next::Over),
             HeadRead::Refused => {

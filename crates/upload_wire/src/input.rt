@@ -18,7 +18,7 @@ use http_wire::{
 };
 use std::alloc::{AllocError, Global};
 use std::marker::Model;
-use upload_names::UploadRef;
+use upload_names::{HashPlace, InPlace, UploadRef};
 use upload_service::{Answer, Limits};
 
 /// The requests of one connection after the other, through one buffer.
@@ -73,7 +73,7 @@ impl RequestInput {
         self.filled = filled_by(answer).or(self.filled);
     }
 
-    /// Reads what comes next, behind what the buffer holds of it.
+    /// Reads what comes next, behind what the buffer holds of it. Nothing is hashed in a thread.
     pub fn next<S: ByteSource>(&mut self, source: &mut S) -> Result<Next, WireFault>
         ensures found { ReadsNext self.old.max_body self.old.held (S.state source.old)
             self.new.held (S.state source.new) result }
@@ -82,7 +82,7 @@ impl RequestInput {
         ensures limit { self.new.max_body ≡ self.old.max_body }
     {
         match self.next_head(source)? {
-            HeadRead::Head(parsed) => self.next_body(source, &parsed),
+            HeadRead::Head(parsed) => self.next_body(&InPlace, source, &parsed),
             HeadRead::Over => Ok(Next::Over),
             HeadRead::Refused => Ok(Next::Bad(Bad::Head)),
             HeadRead::TooLong => Ok(Next::Bad(Bad::LongHead)),
@@ -117,8 +117,9 @@ impl RequestInput {
     }
 
     /// Takes the head that was read, and reads the body behind it.
-    pub fn next_body<S: ByteSource>(
+    pub fn next_body<S: ByteSource, P: HashPlace>(
         &mut self,
+        place: &P,
         source: &mut S,
         parsed: &ParsedRequest,
     ) -> Result<Next, WireFault>
@@ -131,14 +132,16 @@ impl RequestInput {
         ensures limit { self.new.max_body ≡ self.old.max_body }
     {
         let mut input = Input::new(source, &mut self.buffer);
-        read_behind(self.alloc, &mut input, parsed, self.max_body, self.filled)
+        let (alloc, max_body) = (self.alloc, self.max_body);
+        read_behind(alloc, place, &mut input, parsed, max_body, self.filled)
     }
 }
 
 /// Reads the request whose head was read and isn't taken, with a body of at most `max_body` bytes. `filled` is an
 /// upload that is known to have bytes.
-fn read_behind<S: ByteSource>(
+fn read_behind<S: ByteSource, P: HashPlace>(
     alloc: Global,
+    place: &P,
     input: &mut Input<'_, S>,
     parsed: &ParsedRequest,
     max_body: u64,
@@ -156,7 +159,7 @@ fn read_behind<S: ByteSource>(
     match describe(alloc, head, parsed, max_body)? {
         Ok(described) => {
             input.take(parsed.spans.len);
-            read_request(alloc, input, described, filled)
+            read_request(alloc, place, input, described, filled)
         }
         Err(bad) => Ok(Next::Bad(bad)),
     }

@@ -15,7 +15,7 @@ use http_wire::{
     framing_of, keeps_connection, read_body,
 };
 use std::alloc::Global;
-use upload_names::{ByteRange, Bytes, UploadRef};
+use upload_names::{ByteRange, BytesBuilder, HashPlace, UploadRef};
 use upload_service::{Ask, Extent};
 
 /// How a request wants its reply.
@@ -94,9 +94,11 @@ pub(crate) fn describe(
     }))
 }
 
-/// Reads the request whose head describes this, and was taken. `filled` is an upload that is known to have bytes.
-pub(crate) fn read_request<S: ByteSource>(
+/// Reads the request whose head describes this, and was taken. `filled` is an upload that is known to have bytes. A body
+/// that is hashed as it comes is hashed at the place.
+pub(crate) fn read_request<S: ByteSource, P: HashPlace>(
     alloc: Global,
+    place: &P,
     input: &mut Input<'_, S>,
     described: Described,
     filled: Option<UploadRef>,
@@ -112,14 +114,15 @@ pub(crate) fn read_request<S: ByteSource>(
         framing,
     } = described;
     let mut body = Body {
-        bytes: Bytes::begin(alloc, ask.hash_wanted(framing, filled)),
+        bytes: BytesBuilder::new(alloc, ask.hash_wanted(framing, filled)),
+        place,
     };
     match read_body(input, &mut body, framing)? {
         BodyEnd::Whole => {
             // It may stay as long as its blob does, so the room that it grew by in advance goes.
-            body.bytes.shrink_to_fit();
+            let Body { bytes, place } = body;
             Ok(Next::Request {
-                ask: ask.with_body(body.bytes),
+                ask: ask.with_body(bytes.finish(place)),
                 style,
             })
         }

@@ -9,6 +9,7 @@ use std::marker::Model;
 use std::process::Abort;
 use std::str;
 use std::test::Fail;
+use upload_names::InPlace;
 use upload_service::Service;
 use upload_wire::{ConnEnd, ConnFault, ConnectionServer, Observer, RequestLine, ServiceDesk};
 
@@ -96,7 +97,7 @@ fn an_observer_is_told_of_heads_and_replies(rt: HostRuntime) -> Result<(), Fail>
     for (input, end) in SENT.iter() {
         let mut reader = MemorySource::new(input.as_bytes(), 65_536, false);
         let mut writer = MemorySink::new(Vec::new(rt.alloc()), 65_536, 65_536);
-        let ended = server.serve(&mut reader, &mut writer, &mut desk, &mut notes);
+        let ended = server.serve(&InPlace, &mut reader, &mut writer, &mut desk, &mut notes);
         same(&rt, ended, *end, &"its end");
     }
     same_bytes(&rt, notes.lines.as_str().as_bytes(), TOLD, &"what was told");

@@ -7,6 +7,7 @@ use memory_ends::{MemorySink, MemorySource};
 use std::alloc::Global;
 use std::process::Abort;
 use std::test::Fail;
+use upload_names::InPlace;
 use upload_wire::{ConnEnd, ConnFault, ConnectionServer, NoObserver};
 
 /// What is sent, which is more than is answered, and how the connection ends.
@@ -35,7 +36,13 @@ fn served(
     let mut desk = LeavingDesk { left: 9, asked: 0 };
     let mut reader = MemorySource::new(input, 65_536, false);
     let mut writer = MemorySink::new(Vec::new(alloc), 65_536, 65_536);
-    let end = server.serve(&mut reader, &mut writer, &mut desk, &mut NoObserver);
+    let end = server.serve(
+        &InPlace,
+        &mut reader,
+        &mut writer,
+        &mut desk,
+        &mut NoObserver,
+    );
     (end, writer, desk.asked)
 }
 

@@ -11,7 +11,7 @@ returns-in-Whole-clause-found g c = record {
   body = c.read_body.new.body.bytes;
   taken = subst (λ r. FindsBody c.args.described.framing (g.S.ByteSource.state c.args.input.now.source.now) c.args.input.now.buffer.now
       (g.S.ByteSource.state c.read_body.new.input.source.now) c.read_body.new.input.buffer.now c.read_body.new.body.bytes (Ok r)) c.in-Whole.is c.in_ok-read_body.ensures.found;
-  asked = c.with_body.ensures ∙ ap (with_body c.args.described.ask) c.shrink_to_fit.ensures;
+  asked = c.with_body.ensures ∙ ap (with_body c.args.described.ask) c.finish.ensures;
   styled = refl;
 }
 
