@@ -17,13 +17,14 @@ use Rattle.blobd.specs.Status.{IsPrinted, IsServed, line}
 
 -- a pool whose workers each took so many, and were given connections on which nothing was read or written
 tells_all : {C In Out S G O M : Type 0} (m : Means C In Out S G O) (tells : M → ℕ → M → Type 0) (number count : ℕ) (moments : M) (workers : List (Worker C S G O)) (service : State)
-    (ends : List WorkerEnd) → length workers ≡ number → All (λ (end : WorkerEnd). end.conns ≡ count) ends → GivesUnused m
-    → IsServedPool m tells (record { service = empty_state program_limits 0; moments = moments; workers = workers }) (record { service = service; ends = ends })
+    (moments_left : M) (ends : List WorkerEnd) → length workers ≡ number → All (λ (end : WorkerEnd). end.conns ≡ count) ends → GivesUnused m
+    → IsServedPool m tells (record { service = empty_state program_limits 0; moments = moments; workers = workers }) (record { service = service; moments = moments_left; ends = ends })
     → HasServed m tells number count
-tells_all m tells number count moments workers service ends numbered took unused pool = record {
+tells_all m tells number count moments workers service moments_left ends numbered took unused pool = record {
   moments = moments;
   workers = workers;
   service = service;
+  moments_left = moments_left;
   ends = ends;
   numbered = numbered;
   took = took;
@@ -34,12 +35,12 @@ tells_all m tells number count moments workers service ends numbered took unused
 }
 
 pub has_served : {C In Out S G O M : Type 0} (m : Means C In Out S G O) (tells : M → ℕ → M → Type 0) (number count : ℕ) (start : State) (moments : M) (workers : List (Worker C S G O)) (service : State)
-    (ends : List WorkerEnd) → start ≡ empty_state program_limits 0 → length workers ≡ number → All (λ (end : WorkerEnd). end.conns ≡ count) ends
-    → IsServedPool m tells (record { service = start; moments = moments; workers = workers }) (record { service = service; ends = ends }) → GivesUnused m
+    (moments_left : M) (ends : List WorkerEnd) → start ≡ empty_state program_limits 0 → length workers ≡ number → All (λ (end : WorkerEnd). end.conns ≡ count) ends
+    → IsServedPool m tells (record { service = start; moments = moments; workers = workers }) (record { service = service; moments = moments_left; ends = ends }) → GivesUnused m
     → HasServed m tells number count
-has_served m tells number count start moments workers service ends new numbered took pool unused =
-    tells_all m tells number count moments workers service ends numbered took unused
-    (subst (λ (s : State). IsServedPool m tells (record { service = s; moments = moments; workers = workers }) (record { service = service; ends = ends })) new pool)
+has_served m tells number count start moments workers service moments_left ends new numbered took pool unused =
+    tells_all m tells number count moments workers service moments_left ends numbered took unused
+    (subst (λ (s : State). IsServedPool m tells (record { service = s; moments = moments; workers = workers }) (record { service = service; moments = moments_left; ends = ends })) new pool)
 
 pub served : (did : Type 0) → did → (before between after : Option (List ℕ)) (addr : SocketAddr) (listening result : ℕ) → listening ≡ 0
     → IsPrinted (Some (codes "listening " ++ socket_text addr)) before between 0 listening

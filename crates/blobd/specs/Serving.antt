@@ -16,10 +16,11 @@ pub record HasServed {C In Out S G O M : Type 0} (m : Means C In Out S G O) (tel
   pub moments : M
   pub workers : List (Worker C S G O)
   pub service : State
+  pub moments_left : M
   pub ends : List WorkerEnd
   pub numbered : length workers ≡ number
   pub took : All (λ (end : WorkerEnd). end.conns ≡ count) ends
   pub pool : IsServedPool m tells (record { service = empty_state program_limits 0; moments = moments; workers = workers })
-      (record { service = service; ends = ends })
+      (record { service = service; moments = moments_left; ends = ends })
   pub told : (seat : ℕ) (worker : Worker C S G O) (end : WorkerEnd) (within : seat < length workers)
       → AllByRecursion (TellsAll m (empty_state program_limits 0).limits.max_body) (pool.parts seat worker end within).worked.talks

@@ -218,13 +218,13 @@ where
         ⟦<SystemSecrets as Secrets>⟧.draws ⟦<NoGate as Gate>⟧.watches ⟦<RequestLog<'a, R> as Observer>⟧.told)
         ⟦<SinceStart<'a, R> as Moments>⟧.tells terms.workers terms.count) }
 {
-    let mut moments = SinceStart {
+    let moments = SinceStart {
         rt,
         start: Instant::now(rt).ok(),
     };
     let mut service = Service::new(alloc, limits());
     service.keep_free(SLACK);
-    let pool = serve_workers(rt, alloc, service, workers, &mut moments)?;
+    let pool = serve_workers(rt, alloc, service, workers, moments)?;
     Ok(took_all(&pool.ends, terms.count))
 }
 

@@ -115,7 +115,7 @@ some_worker (w ∷ ws) seat within = w
 none_yet : WorkerEnd
 none_yet = record { conns = 0; clean = 0 }
 
-module _ {C In Out S G O M : Type 0} (m : Means C In Out S G O) (tells : M → ℕ → M → Type 0) (given : Given M C S G O) (left : Left) (pool : IsServedPool m tells given left)
+module _ {C In Out S G O M : Type 0} (m : Means C In Out S G O) (tells : M → ℕ → M → Type 0) (given : Given M C S G O) (left : Left M) (pool : IsServedPool m tells given left)
     (p : Push) (log : List push.Exchange) (sound : IsSound p log) (account : IsAccount m tells given left pool p log) (laws : Laws) (lawful : IsLawful given.service)
     (limits : AreLawful given.service.limits) where
   abbrev max : ℕ
@@ -162,7 +162,7 @@ module _ {C In Out S G O M : Type 0} (m : Means C In Out S G O) (tells : M → �
   pub in_place : Placed p given.service log account.marked left.service
   in_place = placed p given.service log account.marked left.service run account.order agree (all_fair p account.marked own) account.apart account.secrets
 
-module _ {C In Out S G O M : Type 0} (m : Means C In Out S G O) (tells : M → ℕ → M → Type 0) (laws : Laws) (given : Given M C S G O) (left : Left) (pool : IsServedPool m tells given left)
+module _ {C In Out S G O M : Type 0} (m : Means C In Out S G O) (tells : M → ℕ → M → Type 0) (laws : Laws) (given : Given M C S G O) (left : Left M) (pool : IsServedPool m tells given left)
     (p : Push) (told : List (Option Heard)) (lawful : IsLawful given.service) (limits : AreLawful given.service.limits) (lawful_push : IsLawfulPush p)
     (account : IsAccount m tells given left pool p (log_of p told)) where
   at : Placed p given.service (log_of p told) account.marked left.service

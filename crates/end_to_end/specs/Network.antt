@@ -93,7 +93,7 @@ module _ {C In Out S G O : Type 0} (m : Means C In Out S G O) (max_body : ℕ) (
     pub unserved : List Mark
     pub marks : flat_map marks_of whose ≡ map (λ (n : Marked). n.1) ms ++ unserved
 
-module _ {C In Out S G O M : Type 0} (m : Means C In Out S G O) (tells : M → ℕ → M → Type 0) (given : Given M C S G O) (left : Left) (pool : IsServedPool m tells given left)
+module _ {C In Out S G O M : Type 0} (m : Means C In Out S G O) (tells : M → ℕ → M → Type 0) (given : Given M C S G O) (left : Left M) (pool : IsServedPool m tells given left)
     (p : Push) (log : List push.Exchange) where
   -- An account of the network between a push and a pool: whose request each step served.
   pub record IsAccount : Type 0 where
@@ -143,11 +143,11 @@ pub record IsFoundThere (p : Push) (start : State) (steps : List Step) (end : St
 -- in the one order in which the pool served all requests, if the push ended Pushed, the step of its close committed what its upload had received,
 -- which is exactly the file, under its digest and its name; and if it ended Already, the repository had the digest at some step.
 pub record PushesAreServed {C In Out S G O M : Type 0} (m : Means C In Out S G O) (tells : M → ℕ → M → Type 0) : Type 0 where
-  pub pushed : (given : Given M C S G O) (left : Left) (pool : IsServedPool m tells given left) (p : Push) (told : List (Option Heard))
+  pub pushed : (given : Given M C S G O) (left : Left M) (pool : IsServedPool m tells given left) (p : Push) (told : List (Option Heard))
       → IsLawful given.service → AreLawful given.service.limits → push.IsLawfulPush p → (push.after_all p told).phase ≡ Done Pushed
       → IsAccount m tells given left pool p (push.log_of p told)
       → IsLeftThere p given.service pool.steps left.service
-  pub already : (given : Given M C S G O) (left : Left) (pool : IsServedPool m tells given left) (p : Push) (told : List (Option Heard))
+  pub already : (given : Given M C S G O) (left : Left M) (pool : IsServedPool m tells given left) (p : Push) (told : List (Option Heard))
       → IsLawful given.service → AreLawful given.service.limits → push.IsLawfulPush p → (push.after_all p told).phase ≡ Done Already
       → IsAccount m tells given left pool p (push.log_of p told)
       → IsFoundThere p given.service pool.steps left.service

@@ -160,7 +160,10 @@ fn served_at_once<'n, R>(
     workers: Vec<PoolWorker<'n, R>>,
     left: Dialer<'n, R>,
     right: Dialer<'n, R>,
-) -> ((Option<Ended>, Option<Ended>), Result<Pool, ServeFault>)
+) -> (
+    (Option<Ended>, Option<Ended>),
+    Result<Pool<Still>, ServeFault>,
+)
 where
     R: Threads + Wait + Sync,
     requires { 0 < vec_len workers }
@@ -180,9 +183,9 @@ where
                 { looked_and_pushed(alloc, right, NAMES[1]) },
             )
         },
-        move || -> Result<Pool, ServeFault>
+        move || -> Result<Pool<Still>, ServeFault>
             requires { IsSync R.row × (0 < vec_len workers) }
-        { serve_workers(rt, alloc, Service::new(alloc, LIMITS), workers, &mut Still) },
+        { serve_workers(rt, alloc, Service::new(alloc, LIMITS), workers, Still) },
     )
 }
 

@@ -271,7 +271,7 @@ fn meet<'a, R: Threads + Wait + Sync>(
     alloc: Global,
     texts: (Texts, Texts),
     gates: (Meeting<'a>, Meeting<'a>),
-) -> Result<Pair, ServeFault> {
+) -> Result<Pair<Still>, ServeFault> {
     let left = Worker {
         conns: texts.0,
         secrets: ZeroSecrets,
@@ -284,7 +284,7 @@ fn meet<'a, R: Threads + Wait + Sync>(
         gate: gates.1,
         observer: NoObserver,
     };
-    serve_pair(rt, alloc, service(alloc), left, right, &mut Still)
+    serve_pair(rt, alloc, service(alloc), left, right, Still)
 }
 
 /// Whether the service has the blob `abc` under this name.

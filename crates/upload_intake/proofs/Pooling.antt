@@ -82,7 +82,7 @@ module _ {C In Out S G O M : Type 0} (m : Means C In Out S G O) (tells : M → �
   pub served_pool : (keeper behind : KeeperState) (stations : List (Station C S G O)) (seats : List SeatState) (ends : List WorkerEnd) (before after : M) (service : State) (log_length : ℕ)
       → keeper.log ≡ [] → All IsFresh (seats_of stations) → All (λ n. n ≡ keeper.start.limits.max_body) (limits_of stations) → length seats ≡ length stations → length ends ≡ length stations
       → EachWorks m stations seats ends → IsSameKeeper keeper behind → Grows tells keeper before behind after → IsSettled behind seats service log_length
-      → IsServedPool m tells (record { service = keeper.start; moments = before; workers = workers_of stations }) (record { service = service; ends = ends })
+      → IsServedPool m tells (record { service = keeper.start; moments = before; workers = workers_of stations }) (record { service = service; moments = after; ends = ends })
   served_pool keeper behind stations seats ends before after service log_length none fresh limits len count works same grown settled =
       let all : grown.more ≡ behind.log = ap (λ (x : List Step). x ++ grown.more) (sym none) ∙ sym grown.log in
       let p = length-map stations (λ (s : Station C S G O). s.worker) in
@@ -92,7 +92,6 @@ module _ {C In Out S G O M : Type 0} (m : Means C In Out S G O) (tells : M → �
         counted = count ∙ sym p;
         parts = λ k worker end below. parts keeper.start.limits.max_body behind.log stations seats ends fresh limits len works settled.each k worker end (omega arith);
         served = subst (λ s. IsServed s (exchanges_of behind.log) service) same.start settled.served;
-        clock = after;
         told = subst (λ (x : List Step). Told tells 0 before (exchanges_of x) after) all (subst (λ (x : List Step). Told tells (last_moment 0 (exchanges_of x)) before (exchanges_of grown.more) after) none grown.told);
       }
 

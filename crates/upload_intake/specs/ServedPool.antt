@@ -54,11 +54,12 @@ pub record Given (M C S G O : Type 0) : Type 0 where
   pub moments : M
   pub workers : List (Worker C S G O)
 
-pub record Left : Type 0 where
+pub record Left (M : Type 0) : Type 0 where
   pub service : State
+  pub moments : M
   pub ends : List WorkerEnd
 
-pub record IsServedPool {C In Out S G O M : Type 0} (m : Means C In Out S G O) (tells : M → ℕ → M → Type 0) (given : Given M C S G O) (left : Left) : Type 0 where
+pub record IsServedPool {C In Out S G O M : Type 0} (m : Means C In Out S G O) (tells : M → ℕ → M → Type 0) (given : Given M C S G O) (left : Left M) : Type 0 where
   pub steps : List Step
   -- no step is of another seat
   pub seated : AllByRecursion (λ (s : Step). s.seat < length given.workers) steps
@@ -66,5 +67,4 @@ pub record IsServedPool {C In Out S G O M : Type 0} (m : Means C In Out S G O) (
   pub parts : (seat : ℕ) (worker : Worker C S G O) (end : WorkerEnd) → seat < length given.workers
       → HasPart m given.service.limits.max_body seat steps (get_or given.workers seat worker, get_or left.ends seat end)
   pub served : IsServed given.service (exchanges_of steps) left.service
-  pub clock : M
-  pub told : Told tells 0 given.moments (exchanges_of steps) clock
+  pub told : Told tells 0 given.moments (exchanges_of steps) left.moments

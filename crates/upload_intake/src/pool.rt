@@ -27,22 +27,26 @@ use upload_wire::{ConnectionServer, Observer};
 
 /// What is left of a pool.
 #[derive(Drop)]
-pub struct Pool {
+pub struct Pool<M> {
     /// The service as the last request left it.
     pub service: Service,
     /// What each worker did, in the order in which they were handed in.
     pub ends: Vec<WorkerEnd>,
+    /// The clock as the last request left it.
+    pub moments: M,
 }
 
 /// What is left of a pair.
 #[derive(Drop)]
-pub struct Pair {
+pub struct Pair<M> {
     /// The service as the last request left it.
     pub service: Service,
     /// What the left worker did.
     pub left: WorkerEnd,
     /// What the right one did.
     pub right: WorkerEnd,
+    /// The clock as the last request left it.
+    pub moments: M,
 }
 
 /// Why a pool was not served. The service is dropped. The discriminant is its number.
@@ -180,23 +184,24 @@ where
 }
 
 /// Serves the connections of all workers at once, each worker's one after the other until no more come. All workers are
-/// started before the keeper runs on this thread, and every thread is joined. `moments` is asked once for each request.
+/// started before the keeper runs on this thread, and every thread is joined. `moments` is asked once for each request, and
+/// handed back.
 /// What a worker reads through is taken before, once for all its connections.
 ///
 /// `NoMemory` comes where the workers' buffers or the lines found no memory: no worker was started. All memory that the
 /// pool itself needs is taken before the first one is, so that what was served isn't lost. `NoThread` comes where a worker
 /// couldn't be started, once those that were started have ended. They may wait for a connection: the first that asks
-/// something ends `DeskGone`, and its worker takes no more. After either the service is dropped.
+/// something ends `DeskGone`, and its worker takes no more. After either the service and the clock are dropped.
 pub fn serve_workers<R, M, C, S, G, O>(
     rt: &R,
     alloc: Global,
     service: Service,
     workers: Vec<Worker<C, S, G, O>>,
-    moments: &mut M,
-) -> Result<Pool, ServeFault>
+    moments: M,
+) -> Result<Pool<M>, ServeFault>
 where
     R: Threads + Wait + Sync,
-    M: Moments,
+    M: Moments + Drop,
     C: Conns + Send + Drop,
     S: Secrets + Send + Drop,
     G: Gate + Send + Drop,
@@ -204,8 +209,8 @@ where
     requires { 0 < vec_len workers }
     ensures served { IfOk result (λ pool. IsServedPool
         (means C.gives C.In.state C.Out.state S.draws G.watches O.told) M.tells
-        (record { service = service; moments = moments.old; workers = workers.items })
-        (record { service = pool.service; ends = pool.ends.items })) }
+        (record { service = service; moments = moments; workers = workers.items })
+        (record { service = pool.service; moments = pool.moments; ends = pool.ends.items })) }
     ensures lawful { IfOk result (λ pool. IsLawful pool.service) }
 {
     let Ok((keeper, stations)) = seated(alloc, service, workers) else {
@@ -214,7 +219,7 @@ where
     thread::scope(
         thread::scope_env(),
         rt,
-        |scope| -> Result<Pool, ServeFault>
+        |scope| -> Result<Pool<M>, ServeFault>
             requires of_one_call { AreOfOneCall keeper (seats_of stations.items) }
             requires seats { All IsFresh (seats_of stations.items) }
             requires servers { All (λ n. n ≡ keeper.start.limits.max_body) (limits_of stations.items) }
@@ -222,8 +227,8 @@ where
             requires cross { IsSend C.row × IsSend S.row × IsSend G.row × IsSend O.row × IsSend C.In.row × IsSend C.Out.row × IsSync R.row }
             ensures served { IfOk result (λ pool. IsServedPool
                 (means C.gives C.In.state C.Out.state S.draws G.watches O.told) M.tells
-                (record { service = keeper.start; moments = moments.entry.now; workers = workers_of stations.items })
-                (record { service = pool.service; ends = pool.ends.items })) }
+                (record { service = keeper.start; moments = moments; workers = workers_of stations.items })
+                (record { service = pool.service; moments = pool.moments; ends = pool.ends.items })) }
             ensures lawful { IfOk result (λ pool. IsLawful pool.service) }
         {
             let Ok(room) = Ends::with_capacity(alloc, stations.len()) else {
@@ -245,12 +250,14 @@ where
                 };
                 started.push_reserved(worker);
             }
-            let served = keeper.run(rt, moments);
+            let mut clock = moments;
+            let served = keeper.run(rt, &mut clock);
             let ends = join_all(rt, started, room);
             let Settled { service, .. } = settle_all(served, ends.seats);
             Ok(Pool {
                 service,
                 ends: ends.workers,
+                moments: clock,
             })
         },
     )
@@ -273,29 +280,34 @@ pub fn serve_pair<R, M, C, S, G, O>(
     service: Service,
     left: Worker<C, S, G, O>,
     right: Worker<C, S, G, O>,
-    moments: &mut M,
-) -> Result<Pair, ServeFault>
+    moments: M,
+) -> Result<Pair<M>, ServeFault>
 where
     R: Threads + Wait + Sync,
-    M: Moments,
+    M: Moments + Drop,
     C: Conns + Send + Drop,
     S: Secrets + Send + Drop,
     G: Gate + Send + Drop,
     O: Observer + Send + Drop,
     ensures served { IfOk result (λ pair. IsServedPool
         (means C.gives C.In.state C.Out.state S.draws G.watches O.told) M.tells
-        (record { service = service; moments = moments.old; workers = left ∷ right ∷ [] })
-        (record { service = pair.service; ends = pair.left ∷ pair.right ∷ [] })) }
+        (record { service = service; moments = moments; workers = left ∷ right ∷ [] })
+        (record { service = pair.service; moments = pair.moments; ends = pair.left ∷ pair.right ∷ [] })) }
     ensures lawful { IfOk result (λ pair. IsLawful pair.service) }
 {
     let Ok(workers) = two(alloc, left, right) else {
         return Err(ServeFault::NoMemory);
     };
-    let Pool { service, ends } = serve_workers(rt, alloc, service, workers, moments)?;
+    let Pool {
+        service,
+        ends,
+        moments,
+    } = serve_workers(rt, alloc, service, workers, moments)?;
     let (left, right) = (ends[0], ends[1]);
     Ok(Pair {
         service,
         left,
         right,
+        moments,
     })
 }

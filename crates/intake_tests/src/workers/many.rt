@@ -82,7 +82,7 @@ fn worker(count: u64) -> Worker<Same, ZeroSecrets, NoGate, NoObserver> {
 fn very_many_connections_are_served(rt: HostRuntime) -> Result<(), Fail> {
     let alloc = rt.alloc();
     let (left, right) = (worker(MANY), worker(FEW));
-    let pair = serve_pair(&rt, alloc, service(alloc), left, right, &mut Still)?;
+    let pair = serve_pair(&rt, alloc, service(alloc), left, right, Still)?;
     check(
         &rt,
         (pair.left.conns, pair.left.clean) == (MANY, MANY),

@@ -141,8 +141,8 @@ fn served<R: Threads + Wait + Sync>(
     alloc: Global,
     left: OneWorker<'_>,
     right: OneWorker<'_>,
-    moments: &mut Told,
-) -> Result<Pair, ServeFault> {
+    moments: Told,
+) -> Result<Pair<Told>, ServeFault> {
     let service = Service::new(alloc, LIMITS);
     serve_pair(rt, alloc, service, left, right, moments)
 }
@@ -156,10 +156,10 @@ where
     let seen = AtomicU64::new(0);
     let left = worker(Some(TEXT.to_vec(alloc)?), &seen);
     let right = worker(None, &seen);
-    let mut moments = Told {
+    let moments = Told {
         moments: told.to_vec(alloc)?.into_iter(),
     };
-    let pair = served(rt, alloc, left, right, &mut moments)?;
+    let pair = served(rt, alloc, left, right, moments)?;
     check(rt, pair.left.clean == 1, "ended well");
     Ok(seen.load(Ordering::SeqCst))
 }

@@ -87,7 +87,7 @@ fn workers<'a>(
 }
 
 /// Each worker took its three connections, of which two ended well, and its blob is held under its name.
-fn check_pool(rt: &impl Abort, alloc: Global, pool: &Pool, count: u64) -> Result<(), Fail> {
+fn check_pool(rt: &impl Abort, alloc: Global, pool: &Pool<Still>, count: u64) -> Result<(), Fail> {
     check(rt, pool.ends.len() as u64 == count, "counted");
     let digest = BlobDigest::of_sha256(b"abc");
     for (number, end) in pool.ends.iter().enumerate() {
@@ -105,7 +105,7 @@ fn serve<R: Threads + Wait + Sync + Abort>(rt: &R, alloc: Global, count: u64) ->
     let arrived = AtomicU64::new(0);
     let late = AtomicU64::new(0);
     let workers = workers(alloc, count, &arrived, &late)?;
-    let pool = serve_workers(rt, alloc, service(alloc), workers, &mut Still)?;
+    let pool = serve_workers(rt, alloc, service(alloc), workers, Still)?;
     check(rt, late.load(Ordering::SeqCst) == 0, "in time");
     check_pool(rt, alloc, &pool, count)
 }

@@ -41,7 +41,7 @@ returns g c =
     let seats = c.join_all-ends.result.seats in
     let workers = c.join_all-ends.result.workers in
     record {
-      served = served_pool m g.M.Moments.tells c.captures.keeper c.run-served.result stations seats.items workers.items c.captures.moments.now c.run-served.new.moments
+      served = served_pool m g.M.Moments.tells c.captures.keeper c.run-served.result stations seats.items workers.items c.captures.moments c.run-served.new.moments
           c.settle_all-service.result.service c.settle_all-service.result.log_length c.requires.fresh c.requires.seats c.requires.servers
           (sym seats.ok.0 ∙ c.join_all-ends.ensures.seats ∙ c.loop-station.started.ok.0 ∙ count)
           (sym workers.ok.0 ∙ c.join_all-ends.ensures.workers ∙ c.loop-station.started.ok.0 ∙ count)
