@@ -12,7 +12,7 @@ use crate::limits::Limits;
 use crate::sessions::Sessions;
 use crate::slack::Slack;
 use crate::stock::Stock;
-use crate::turn::{Tables, turn};
+use crate::turn::{Tables, Verdict, judge, turn};
 use std::alloc::{AllocError, Global};
 use std::marker::Model;
 use std::thread::Threads;
@@ -116,8 +116,8 @@ impl Service {
         self.tables.sessions.catch_up_beside(rt, self.alloc, at);
     }
 
-    /// As `step`. A close by a SHA-256 waits for the thread that hashes for its session. `step` can't wait: it hashes all
-    /// bytes of such a session again.
+    /// As `step`. A close by a SHA-256 waits for the thread that hashes for its session, unless it is refused before
+    /// a hash is looked at. `step` can't wait: it hashes all bytes of such a session again.
     pub fn step_joining<R: Threads>(
         &mut self,
         rt: &R,
@@ -128,10 +128,38 @@ impl Service {
         ensures turn { Turn self.old ask secret now result self.new }
         ensures lawful { IsLawful self.new }
     {
-        if let Some(at) = closed_by_sha256(&ask) {
+        if let Some(at) = self.needs_sha256(&ask, now) {
             self.bring_home(rt, &at);
         }
         self.step(ask, secret, now)
+    }
+
+    /// The session whose SHA-256 a request needs: one that it closes by a SHA-256, if that is open under that name and not
+    /// idle, and the body fits. A close that is refused for one of these looks at no hash.
+    fn needs_sha256(&self, ask: &Ask, now: u64) -> Option<UploadRef> {
+        let Ask::Close {
+            name,
+            at,
+            range,
+            digest: Some(digest),
+            body,
+        } = ask
+        else {
+            return None;
+        };
+        if let Algorithm::Sha512 = digest.algorithm() {
+            return None;
+        }
+        let sessions = &self.tables.sessions;
+        let Some(session) = sessions.find_awake(name, at, self.limits.max_idle, now) else {
+            return None;
+        };
+        let size = body.as_slice().len() as u64;
+        let verdict = judge(self.limits.max_blob, session.received.len(), *range, size);
+        match verdict {
+            Verdict::Fits => Some(*at),
+            Verdict::Misplaced | Verdict::Refused(_) => None,
+        }
     }
 
     /// Waits for the thread that hashes for a session, if there is one. Nothing that is seen changes.
@@ -196,21 +224,5 @@ impl Service {
             }
         }
         Ok(answers)
-    }
-}
-
-/// The session that a request closes by a SHA-256.
-fn closed_by_sha256(ask: &Ask) -> Option<UploadRef> {
-    let Ask::Close {
-        at,
-        digest: Some(digest),
-        ..
-    } = ask
-    else {
-        return None;
-    };
-    match digest.algorithm() {
-        Algorithm::Sha256 => Some(*at),
-        Algorithm::Sha512 => None,
     }
 }

@@ -30,7 +30,7 @@ pub struct Tables {
 
 /// What a body is judged to be.
 #[derive(Clone, Copy)]
-enum Verdict {
+pub(crate) enum Verdict {
     Fits,
     Misplaced,
     Refused(Refusal),
@@ -38,7 +38,7 @@ enum Verdict {
 
 /// Judges a body of this size behind `next` bytes. The offset goes before the range's length, and that before the
 /// blob's size.
-fn judge(max_blob: u64, next: u64, range: Extent, size: u64) -> Verdict
+pub(crate) fn judge(max_blob: u64, next: u64, range: Extent, size: u64) -> Verdict
     ensures verdict { IsVerdict max_blob next range size result }
     ensures small { result ≡ Verdict.Fits → next + size ≤ max_blob }
 {
