@@ -1,4 +1,5 @@
 pub mod Halves
+pub mod LogLine
 pub mod Once
 pub mod Pace
 pub mod Pushed

@@ -1,8 +1,9 @@
 //! The lines of a log, which a thread of their own writes to standard error: no request waits for who reads them.
-ghost use Rattle.std.specs.Prelude.{◌≡◌, ◌+◌, ◌⊎◌, min, IfOk};
-ghost use Rattle.upload_intake.specs.Settled.{count_limit};
+ghost use Rattle.std.specs.Prelude.{◌≡◌, ◌⊎◌, [], IfOk, string_bytes};
+ghost use Rattle.blobd.specs.LogLine.{HandsOn, Loses};
 
 use crossbeam_channel::{Receiver, Sender, bounded};
+use http_wire::Transcript;
 use std::alloc::{AllocError, Global};
 use std::io::Eprint;
 use std::rt::Clock;
@@ -28,6 +29,8 @@ struct Line {
 #[derive(Drop)]
 pub struct LogLines {
     lines: Sender<Line>,
+    /// The bytes of those that were handed on, one behind the other.
+    handed: Transcript,
     /// How many were lost since the last one that wasn't.
     lost: u64,
 }
@@ -35,21 +38,25 @@ pub struct LogLines {
 impl LogLines {
     /// Hands a line on to the thread that writes. If too many wait there, it is lost and counted.
     pub fn send<R: Wait>(&mut self, rt: &R, text: String)
-        ensures { (self.new.lost ≡ 0) ⊎ (self.new.lost ≡ min (self.old.lost + 1) count_limit) }
+        ensures { HandsOn self.old (string_bytes text) self.new ⊎ Loses self.old self.new }
     {
+        let handed = self.handed.and(text.as_bytes());
         let line = Line {
             lost: self.lost,
             text,
         };
         match self.lines.try_send(rt, line) {
-            Ok(()) => self.lost = 0,
+            Ok(()) => {
+                self.handed = handed;
+                self.lost = 0;
+            }
             Err(_) => self.lose(),
         }
     }
 
     /// Counts a line for which there was no room or no memory. The count stays at 2^64 - 1 once there.
     pub fn lose(&mut self)
-        ensures { self.new.lost ≡ min (self.old.lost + 1) count_limit }
+        ensures { Loses self.old self.new }
     {
         self.lost = self.lost.saturating_add(1);
     }
@@ -83,10 +90,11 @@ impl Log {
 
     /// A place for the lines of a worker, of which none is lost yet. An error is out of memory.
     pub fn lines(&self) -> Result<LogLines, AllocError>
-        ensures { IfOk result (λ lines. lines.lost ≡ 0) }
+        ensures { IfOk result (λ lines. (lines.lost ≡ 0) × (lines.handed.bytes ≡ [])) }
     {
         Ok(LogLines {
             lines: self.lines.clone()?,
+            handed: Transcript::none(),
             lost: 0,
         })
     }

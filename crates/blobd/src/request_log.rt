@@ -1,9 +1,10 @@
 //! A log of requests: a line for each reply, on standard error.
-ghost use Rattle.std.specs.Prelude.{◌≡◌, is_some};
+ghost use Rattle.std.specs.Prelude.{◌≡◌, is_some, IfOk, string_bytes};
+ghost use Rattle.blobd.specs.LogLine.{line_text};
 
 use crate::log_lines::LogLines;
 use crate::shown::shown_request;
-use std::alloc::Global;
+use std::alloc::{AllocError, Global};
 use std::marker::Model;
 use std::rt::Clock;
 use std::str;
@@ -64,8 +65,7 @@ impl<'a, R: Clock + Wait> RequestLog<'a, R> {
             Some(line) => str::from_utf8(line).unwrap_or("-"),
             None => "-",
         };
-        let millis = self.millis();
-        format!(in self.alloc; "{line} {status} {size} {millis}ms").ok()
+        line_text(self.alloc, line, status, size, self.millis()).ok()
     }
 
     /// Hands on the line of a request that got this reply.
@@ -104,4 +104,17 @@ impl<'a, R: Clock + Wait> Observer for RequestLog<'a, R> {
 fn line_of(alloc: Global, line: Option<RequestLine<'_>>) -> Option<Vec<u8>> {
     let line = line?;
     shown_request(alloc, line.method, line.target).ok()
+}
+
+/// The line of a head that is shown so, and of its reply's status and size. An error is out of memory.
+fn line_text(
+    alloc: Global,
+    head: &str,
+    status: u16,
+    size: u64,
+    millis: u64,
+) -> Result<String, AllocError>
+    ensures { IfOk result (λ text. string_bytes text ≡ line_text head.now status size millis) }
+{
+    format!(in alloc; "{head} {status} {size} {millis}ms")
 }
