@@ -83,8 +83,8 @@ def greeting(folder, password, local):
     if servers.missing("skopeo"):
         lines += ["(skopeo isn't installed: apt-get install skopeo)"]
     lines += [
-        f"Docker and Podman push and pull too (docs/OPERATIONS.md). Requests are logged in {folder}/haproxy.log",
         f"Tools of this machine reach it without TLS and without a login at http://{local}, such as: blobd push {local} lib/file FILE",
+        f"Docker and Podman push and pull too (docs/OPERATIONS.md). Requests are logged in {folder}/haproxy.log",
     ]
     return "\n".join(lines)
 

@@ -1132,6 +1132,8 @@ def the_newcomers_registry():
         client = Client(tls, (user, word), os.path.join(folder, "front.crt"))
         check("the registry answers", client.ask("GET", "/v2/")[0] == 200)
         check("and takes an image", push_image(client, "lib/new") == ([UPLOADED] * 2, 201))
+        local = [line.split("http://")[1].split(",")[0] for line in lines if "without a login" in line]
+        check("its local address asks for no login", [Client(address).ask("GET", "/v2/")[0] for address in local] == [200], lines)
         if wanted("the registry's lines", "skopeo"):
             environment = os.environ | {"REGISTRY_AUTH_FILE": os.path.join(folder, "auth.json")}
             for line in told:
