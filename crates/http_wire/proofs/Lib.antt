@@ -5,11 +5,7 @@ pub mod TranscriptLemmas
 pub mod GatherLemmas
 pub mod HeadTextLemmas
 pub mod HeadLemmas
-pub mod LineEnds
-pub mod RequestHeads
-pub mod RequestLaws
-pub mod ResponseHeads
-pub mod ResponseLaws
+pub mod HeadLaws
 pub mod ElementLemmas
 pub mod FieldLemmas
 pub mod FirstFieldLemmas

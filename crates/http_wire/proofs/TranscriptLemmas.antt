@@ -1,11 +1,10 @@
 -- Transcripts beside what is known.
-use Rattle.std.proofs.Common.{◌≡◌, ℕ, List, [], ◌++◌, refl, sym, ap, ◌∙◌, subst, append_assoc}
+use Rattle.std.proofs.Common.{◌≡◌, ℕ, List, [], ◌++◌, refl, sym, ap, ◌∙◌, append_assoc}
 use Rattle.std.specs.Prelude.{Option, Some, None}
 use Rattle.std.specs.Io.KnownBytes.{Appends, Consumes, IsAtEnd}
 use Rattle.std.proofs.lemmas.List.{append-nil}
-use Rattle.http_wire.specs.States.{SourceState, SinkState}
-use Rattle.http_wire.specs.Reading.{Gives, HasEnded}
-use Rattle.http_wire.specs.Writing.{Takes}
+use Rattle.http_wire.specs.States.{SourceState}
+use Rattle.http_wire.specs.Reading.{Gives}
 use Rattle.http_wire.specs.Transcripts.{TranscriptsAreOfTheKnown}
 
 some_same : (xs ys : List ℕ) → ◌≡◌ {A = Option (List ℕ)} (Some xs) (Some ys) → xs ≡ ys

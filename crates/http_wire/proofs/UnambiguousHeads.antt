@@ -3,13 +3,10 @@ use Rattle.std.proofs.Common.{◌≡◌, ℕ, ◌+◌, ◌<◌, ◌≤◌, List,
 use Rattle.std.proofs.lemmas.Bool.{cases_lt}
 use Rattle.httparse.specs.Ascii.{line_feed}
 use Rattle.httparse.proofs.GrammarLemmas.{request_unique, response_unique}
-use Rattle.http_wire.specs.RequestFronts.{requests}
-use Rattle.http_wire.specs.ResponseFronts.{responses}
-use Rattle.http_wire.specs.Fronts.{Words, Reads, ReadsHead, MayBeRefused, IsRefused, IsTooLong, IsUnfinished, line_feeds, max_fields}
+use Rattle.http_wire.specs.Fronts.{Words, requests, responses, Reads, ReadsHead, MayBeRefused, IsRefused, IsTooLong, IsUnfinished, line_feeds, max_fields}
 use Rattle.http_wire.specs.Unambiguous.{HeadParse, head, long, unfinished, BeginsWith, HeadsAreUnambiguous}
-use Rattle.http_wire.proofs.RequestLaws as request
-use Rattle.http_wire.proofs.ResponseLaws as response
 use Rattle.http_wire.proofs.HeadLemmas.{snoc_cases, snoc_inj, line_feeds-append, EndsInLineFeed}
+use Rattle.http_wire.proofs.HeadLaws.{request_ends, response_ends}
 
 -- the longer of two fronts goes on behind the shorter
 pub longer_front : (a b c d : List ℕ) → a ++ b ≡ c ++ d → length a ≤ length c → (more : List ℕ) × (c ≡ a ++ more) × (b ≡ more ++ d)
@@ -94,7 +91,7 @@ heads_unambiguous : (w : Words) → IsUnique w → EndsInLineFeed w → HeadsAre
 heads_unambiguous w law ends = record { one = one_parse w law; refused = refused_is_long w ends }
 
 pub requests_unambiguous : HeadsAreUnambiguous requests
-requests_unambiguous = heads_unambiguous requests request_unique request.head_ends
+requests_unambiguous = heads_unambiguous requests request_unique request_ends
 
 pub responses_unambiguous : HeadsAreUnambiguous responses
-responses_unambiguous = heads_unambiguous responses response_unique response.head_ends
+responses_unambiguous = heads_unambiguous responses response_unique response_ends

@@ -53,7 +53,7 @@ framing_of max_body minor fields =
     framing_by max_body minor (values_of (codes "transfer-encoding") fields) (values_of (codes "content-length") fields)
 
 abbrev pub head_framing : ℕ → RequestHead → Result Framing Bad
-head_framing max_body head = framing_of max_body head.minor (head_fields head)
+head_framing max_body head = framing_of max_body head.minor (head_fields head.fields)
 
 -- the most bytes of a body of that framing
 abbrev pub most_of : Framing → ℕ

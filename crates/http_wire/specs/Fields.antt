@@ -3,7 +3,7 @@ use Rattle.std.specs.Prelude.{ℕ, Bool, not, ◌&&◌, ◌==◌, List, [], ◌�
 use Rattle.std.specs.List.{list_any}
 use Rattle.std.specs.Char.{to_ascii_lowercase}
 use Rattle.httparse.specs.Ascii.{comma}
-use Rattle.httparse.specs.Grammar.{RequestHead, trim_ows}
+use Rattle.httparse.specs.Grammar.{Field, trim_ows}
 use Rattle.httparse.specs.Spans.{name_and_value}
 use Rattle.form_urlencoded.specs.Form.{split}
 
@@ -12,8 +12,8 @@ abbrev pub Fields : Type 0
 Fields = List (List ℕ × List ℕ)
 
 -- the fields of a head, in their order
-abbrev pub head_fields : RequestHead → Fields
-head_fields head = map name_and_value head.fields
+abbrev pub head_fields : List Field → Fields
+head_fields fields = map name_and_value fields
 
 -- the text in lower case
 abbrev pub lowercase : List ℕ → List ℕ

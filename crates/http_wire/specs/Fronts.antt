@@ -2,7 +2,7 @@
 use Rattle.std.specs.Prelude.{◌≡◌, ℕ, ◌+◌, ◌<◌, ◌≤◌, ◌⊎◌, List, [], ◌∷◌, ◌++◌, length, ◌==◌}
 use Rattle.std.specs.List.{count_by}
 use Rattle.httparse.specs.Ascii.{line_feed}
-use Rattle.httparse.specs.Grammar.{Field}
+use Rattle.httparse.specs.Grammar.{Field, RequestHead, IsRequestHead, print_request, ResponseHead, IsResponseHead, print_response}
 
 -- the most bytes of a head, with its empty line
 abbrev pub max_head : ℕ
@@ -22,6 +22,12 @@ pub record Words : Type 1 where
   pub IsHead : Head → Type 0
   pub print : Head → List ℕ
   pub fields : Head → List Field
+
+abbrev pub requests : Words
+requests = record { Head = RequestHead; IsHead = IsRequestHead; print = print_request; fields = λ h. h.fields }
+
+abbrev pub responses : Words
+responses = record { Head = ResponseHead; IsHead = IsResponseHead; print = print_response; fields = λ h. h.fields }
 
 -- the text is that head and then rest
 abbrev pub Reads : (w : Words) → List ℕ → w.Head → List ℕ → Type 0
@@ -73,3 +79,7 @@ pub record IsTooLong (w : Words) (text : List ℕ) : Type 0 where
 pub record IsUnfinished (w : Words) (text : List ℕ) : Type 0 where
   pub short : length text < max_head
   pub none : HasNone w text
+
+-- the text ends inside a head: it has a byte, and no head yet
+abbrev pub IsCutHead : Words → List ℕ → Type 0
+IsCutHead w text = (0 < length text) × IsUnfinished w text

@@ -7,8 +7,6 @@ pub mod Inputs
 pub mod Writing
 pub mod Transcripts
 pub mod Fronts
-pub mod RequestFronts
-pub mod ResponseFronts
 pub mod Fields
 pub mod HeadText
 pub mod Body

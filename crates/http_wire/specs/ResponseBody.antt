@@ -1,8 +1,6 @@
 -- The body of a response: how far it goes, by its head (RFC 9112, section 6.3), and whether the connection stays behind it (section 9.3).
-use Rattle.std.specs.Prelude.{◌≡◌, ℕ, ◌≤◌, Bool, false, ◌||◌, ◌==◌, nat_lt, List, [], ◌∷◌, length, map, codes, if◌then◌else◌, Result, Ok, Err}
+use Rattle.std.specs.Prelude.{◌≡◌, ℕ, ◌≤◌, Bool, false, ◌||◌, ◌==◌, nat_lt, List, [], ◌∷◌, length, codes, if◌then◌else◌, Result, Ok, Err}
 use Rattle.std.specs.Str.Parse.{digits_value}
-use Rattle.httparse.specs.Grammar.{ResponseHead}
-use Rattle.httparse.specs.Spans.{name_and_value}
 use Rattle.http_wire.specs.States.{SourceState}
 use Rattle.http_wire.specs.Reading.{HasEnded}
 use Rattle.http_wire.specs.Fields.{Fields, values_of, keeps_connection}
@@ -11,10 +9,6 @@ use Rattle.http_wire.specs.declared.responses.framing.ResponseFraming.{ResponseF
 use Rattle.http_wire.specs.declared.responses.framing.ResponseFraming.TheVariants.{Length, ToEnd}
 use Rattle.http_wire.specs.declared.responses.framing.FramingFault.{FramingFault}
 use Rattle.http_wire.specs.declared.responses.framing.FramingFault.TheVariants as Fault
-
--- the fields of a head, in their order
-abbrev pub head_fields : ResponseHead → Fields
-head_fields head = map name_and_value head.fields
 
 -- ---- framing
 

@@ -3,8 +3,9 @@ ghost use Rattle.std.specs.Prelude.{◌≡◌, ℕ, ◌≤◌, List, ◌∷◌, 
 ghost use Rattle.std.specs.List.{list_any};
 ghost use Rattle.httparse.specs.Spans.{IsHeaderWithin, header_bytes};
 ghost use Rattle.http_wire.specs.Fields.{Fields, first_of, same_word, values_of, lists_close, keeps_connection};
-ghost use Rattle.http_wire.specs.Inner.RequestSpans.{IsHeadOf};
-ghost use Rattle.http_wire.specs.Inner.FieldReading.{IsOccurrence, fields_of};
+ghost use Rattle.http_wire.specs.Inner.HeadReading.{fields_of};
+ghost use Rattle.http_wire.specs.Inner.HeadSpans.{request_spans};
+ghost use Rattle.http_wire.specs.Inner.FieldReading.{IsOccurrence};
 
 use crate::elements::Elements;
 use crate::requests::ParsedRequest;
@@ -69,8 +70,8 @@ pub fn field_among<'b>(head: &'b [u8], headers: &[HeaderSpan], name: &[u8]) -> O
 
 /// The field of that name in a head.
 pub fn field_named<'b>(head: &'b [u8], parsed: &ParsedRequest, name: &[u8]) -> Occurrence<'b>
-    requires { IsHeadOf head.now parsed.now }
-    ensures { IsOccurrence (values_of name.now (fields_of head.now parsed.now)) result }
+    requires { request_spans.IsHeadOf head.now parsed.now }
+    ensures { IsOccurrence (values_of name.now (fields_of request_spans head.now parsed.now)) result }
 {
     field_among(head, &parsed.headers[..parsed.spans.headers], name)
 }
@@ -109,8 +110,8 @@ pub fn lists_close(head: &[u8], headers: &[HeaderSpan]) -> bool
 
 /// Whether the connection stays after the request of this head (RFC 9112, section 9.3).
 pub fn keeps_connection(head: &[u8], parsed: &ParsedRequest) -> bool
-    requires { IsHeadOf head.now parsed.now }
-    ensures { result ≡ keeps_connection parsed.now.spans.version (fields_of head.now parsed.now) }
+    requires { request_spans.IsHeadOf head.now parsed.now }
+    ensures { result ≡ keeps_connection parsed.now.spans.version (fields_of request_spans head.now parsed.now) }
 {
     parsed.spans.version == 1 && !lists_close(head, &parsed.headers[..parsed.spans.headers])
 }

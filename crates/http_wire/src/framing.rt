@@ -1,8 +1,8 @@
 //! How long a body is, and how it is written.
 ghost use Rattle.std.specs.Prelude.{◌≡◌, ◌^◌, ◌≤◌, IfOk};
 ghost use Rattle.http_wire.specs.Body.{length_of, framing_of, most_of};
-ghost use Rattle.http_wire.specs.Inner.RequestSpans.{IsHeadOf};
-ghost use Rattle.http_wire.specs.Inner.FieldReading.{fields_of};
+ghost use Rattle.http_wire.specs.Inner.HeadReading.{fields_of};
+ghost use Rattle.http_wire.specs.Inner.HeadSpans.{request_spans};
 
 use crate::fault::Bad;
 use crate::fields::{Occurrence, field_named, is_same_word};
@@ -45,8 +45,8 @@ pub fn length_of(value: &[u8], max_body: u64) -> Result<u64, Bad>
 /// too. `TooLarge`: its length is over the limit. `Coding`: a coding other than one `chunked` in HTTP/1.1.
 pub fn framing_of(head: &[u8], parsed: &ParsedRequest, max_body: u64) -> Result<Framing, Bad>
     requires limit { max_body ≤ 2 ^ 31 }
-    requires head { IsHeadOf head.now parsed.now }
-    ensures framed { result ≡ framing_of max_body parsed.now.spans.version (fields_of head.now parsed.now) }
+    requires head { request_spans.IsHeadOf head.now parsed.now }
+    ensures framed { result ≡ framing_of max_body parsed.now.spans.version (fields_of request_spans head.now parsed.now) }
     ensures kept { IfOk result (λ framing. most_of framing ≤ max_body) }
 {
     let coding = field_named(head, parsed, b"transfer-encoding");

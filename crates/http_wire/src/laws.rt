@@ -1,6 +1,5 @@
 //! What follows from the definitions: a text is read in one way, and what a transcript is.
-ghost use Rattle.http_wire.specs.RequestFronts.{requests};
-ghost use Rattle.http_wire.specs.ResponseFronts.{responses};
+ghost use Rattle.http_wire.specs.Fronts.{requests, responses};
 ghost use Rattle.http_wire.specs.Transcripts.{TranscriptsAreOfTheKnown};
 ghost use Rattle.http_wire.specs.Unambiguous.{HeadsAreUnambiguous, BodiesAreUnambiguous};
 

@@ -1,5 +1,5 @@
 //! The grammar of requests.
-ghost use Rattle.http_wire.specs.Inner.RequestSpans.{request_spans};
+ghost use Rattle.http_wire.specs.Inner.HeadSpans.{request_spans};
 
 mod parsed;
 

@@ -1,5 +1,5 @@
 //! Responses: the grammar of their heads, and how far their bodies go.
-ghost use Rattle.http_wire.specs.Inner.ResponseSpans.{response_spans};
+ghost use Rattle.http_wire.specs.Inner.HeadSpans.{response_spans};
 
 mod body;
 mod framing;

@@ -2,13 +2,13 @@
 use Rattle.std.proofs.Common.{◌≡◌, ◌≢◌, ℕ, ◌<◌, ◌≤◌, Bool, List, [], ◌++◌, length, refl, sym, ap, subst, subst₂, ◌∙◌, arith, append-nil, length-append, inl, inr}
 use Rattle.std.specs.Prelude.{◌⊎◌, Option, Some, None, Result, Ok, Err}
 use Rattle.httparse.specs.Grammar.{ResponseHead, status_code}
-use Rattle.http_wire.specs.ResponseFronts.{responses}
+use Rattle.http_wire.specs.Fronts.{responses}
 use Rattle.http_wire.specs.States.{SourceState}
-use Rattle.http_wire.specs.Fields.{Fields}
+use Rattle.http_wire.specs.Fields.{Fields, head_fields}
 use Rattle.http_wire.specs.Unambiguous.{HeadParse, head, long, unfinished, BeginsWith}
 use Rattle.http_wire.proofs.ChunkLemmas.{same_front}
 use Rattle.http_wire.proofs.UnambiguousHeads.{responses_unambiguous}
-use Rattle.http_wire.specs.ResponseBody.{IsBody, framing_of, head_fields, keeps_on}
+use Rattle.http_wire.specs.ResponseBody.{IsBody, framing_of, keeps_on}
 use Rattle.upload_client.specs.AnswerText.{max_answer, IsPlaceOf, location, IsHeard, IsMisplaced, IsWhole, HasFramingFault}
 use Rattle.upload_client.specs.UnambiguousReplies.{ReplyParse, heard, refused, unreadable, too_large, cut, ParsesAs, RepliesAreUnambiguous}
 use Rattle.http_wire.specs.declared.responses.framing.ResponseFraming.{ResponseFraming}
@@ -46,15 +46,15 @@ heard_not_misplaced status fields body a x (inr upto) = let one = x.upto_is in a
 -- what a whole reply with this body, and then rest, makes of the text
 abbrev Says : ResponseHead → ResponseFraming → List ℕ → List ℕ → ReplyParse → Type 0
 Says h framing body rest p =
-    ((a : Heard) × IsHeard (status_code h) (head_fields h) body a × (p ≡ heard a (keeps_on h.minor (head_fields h) framing) rest))
-    ⊎ (IsMisplaced (head_fields h) × (p ≡ unreadable))
+    ((a : Heard) × IsHeard (status_code h) (head_fields h.fields) body a × (p ≡ heard a (keeps_on h.minor (head_fields h.fields) framing) rest))
+    ⊎ (IsMisplaced (head_fields h.fields) × (p ≡ unreadable))
 
 says_one : (h : ResponseHead) (framing : ResponseFraming) (body rest : List ℕ) (p q : ReplyParse) → Says h framing body rest p → Says h framing body rest q → p ≡ q
 says_one h framing body rest p q (inl x) (inl y) =
-    let same = heard_unique (status_code h) (head_fields h) body x.0 y.0 x.1 y.1 in
-    x.2 ∙ ap (λ a. heard a (keeps_on h.minor (head_fields h) framing) rest) same ∙ sym y.2
-says_one h framing body rest p q (inl x) (inr y) = absurd (heard_not_misplaced _ (head_fields h) body x.0 x.1 y.0)
-says_one h framing body rest p q (inr x) (inl y) = absurd (heard_not_misplaced _ (head_fields h) body y.0 y.1 x.0)
+    let same = heard_unique (status_code h) (head_fields h.fields) body x.0 y.0 x.1 y.1 in
+    x.2 ∙ ap (λ a. heard a (keeps_on h.minor (head_fields h.fields) framing) rest) same ∙ sym y.2
+says_one h framing body rest p q (inl x) (inr y) = absurd (heard_not_misplaced _ (head_fields h.fields) body x.0 x.1 y.0)
+says_one h framing body rest p q (inr x) (inl y) = absurd (heard_not_misplaced _ (head_fields h.fields) body y.0 y.1 x.0)
 says_one h framing body rest p q (inr x) (inr y) = x.1 ∙ sym y.1
 
 -- ---- what stands behind a head
@@ -76,7 +76,7 @@ FromFraming h (Ok (ToEnd most)) behind p = FromEnd most h behind p
 FromFraming h (Err fault) behind p = ((fault ≡ Fault.Unreadable) × (p ≡ unreadable)) ⊎ ((fault ≡ Fault.TooLarge) × (p ≡ too_large))
 
 abbrev FromHead : Bool → HeadParse responses → ReplyParse → Type 0
-FromHead head_only (head h behind) p = FromFraming h (framing_of max_answer head_only (status_code h) (head_fields h)) behind p
+FromHead head_only (head h behind) p = FromFraming h (framing_of max_answer head_only (status_code h) (head_fields h.fields)) behind p
 FromHead head_only long p = p ≡ too_large
 FromHead head_only unfinished p = p ≡ cut
 
@@ -117,7 +117,7 @@ from_framing h (Ok (ToEnd most)) behind p q x y = from_end most h behind p q x y
 from_framing h (Err fault) behind p q x y = from_fault fault p q x y
 
 from_head : (head_only : Bool) (front : HeadParse responses) (p q : ReplyParse) → FromHead head_only front p → FromHead head_only front q → p ≡ q
-from_head head_only (head h behind) p q x y = from_framing h (framing_of max_answer head_only (status_code h) (head_fields h)) behind p q x y
+from_head head_only (head h behind) p q x y = from_framing h (framing_of max_answer head_only (status_code h) (head_fields h.fields)) behind p q x y
 from_head head_only long p q x y = x ∙ sym y
 from_head head_only unfinished p q x y = x ∙ sym y
 

@@ -10,9 +10,9 @@ use Rattle.serde_json.specs.Find.{get, at, as_str}
 use Rattle.upload_names.specs.ByteRange.{Span, range_of}
 use Rattle.http_wire.specs.States.{SourceState}
 use Rattle.http_wire.specs.Reading.{Gives, HasEnded}
-use Rattle.http_wire.specs.Fields.{Fields, first_of, values_of}
-use Rattle.http_wire.specs.ResponseBody.{IsBody, framing_of, head_fields, keeps_on}
-use Rattle.http_wire.specs.ResponseFronts.{ReadsHead, IsRefused, IsTooLong, IsUnfinished}
+use Rattle.http_wire.specs.Fields.{Fields, first_of, values_of, head_fields}
+use Rattle.http_wire.specs.ResponseBody.{IsBody, framing_of, keeps_on}
+use Rattle.http_wire.specs.Fronts.{IsRefused, IsTooLong, IsUnfinished, ReadsHead, responses}
 use Rattle.http_wire.specs.declared.responses.framing.ResponseFraming.{ResponseFraming}
 use Rattle.http_wire.specs.declared.responses.framing.ResponseFraming.TheVariants.{Length, ToEnd}
 use Rattle.http_wire.specs.declared.responses.framing.FramingFault.{FramingFault}
@@ -77,8 +77,8 @@ IsMisplaced fields =
 pub record ReadsFramed
     (head_only : Bool) (text : List ℕ) (framing : Result ResponseFraming FramingFault) (head : ResponseHead) (rest : List ℕ)
     : Type 0 where
-  pub reads : ReadsHead text head rest
-  pub framed : framing_of max_answer head_only (status_code head) (head_fields head) ≡ framing
+  pub reads : ReadsHead responses text head rest
+  pub framed : framing_of max_answer head_only (status_code head) (head_fields head.fields) ≡ framing
 
 -- a whole reply and then rest
 pub record IsWhole (head_only : Bool) (text rest : List ℕ) (new : SourceState) (head : ResponseHead) (body : List ℕ) : Type 0 where
@@ -91,15 +91,15 @@ pub record TellsHeard (head_only : Bool) (text rest : List ℕ) (new : SourceSta
   pub head : ResponseHead
   pub body : List ℕ
   pub whole : IsWhole head_only text rest new head body
-  pub says : IsHeard (status_code head) (head_fields head) body heard
-  pub keeps : keep ≡ keeps_on head.minor (head_fields head) whole.framing
+  pub says : IsHeard (status_code head) (head_fields head.fields) body heard
+  pub keeps : keep ≡ keeps_on head.minor (head_fields head.fields) whole.framing
 
 -- a reply whose Location or Range is unreadable
 pub record TellsMisplaced (head_only : Bool) (text rest : List ℕ) (new : SourceState) : Type 0 where
   pub head : ResponseHead
   pub body : List ℕ
   pub whole : IsWhole head_only text rest new head body
-  pub misplaced : IsMisplaced (head_fields head)
+  pub misplaced : IsMisplaced (head_fields head.fields)
 
 -- a head whose framing is this fault
 pub record HasFramingFault (head_only : Bool) (text : List ℕ) (fault : FramingFault) : Type 0 where
@@ -133,17 +133,17 @@ pub record HasOpenBody (head_only : Bool) (text : List ℕ) : Type 0 where
 
 -- the text holds no whole reply: it has no head yet, or ends inside a body
 abbrev pub HoldsNone : Bool → List ℕ → Type 0
-HoldsNone head_only text = IsUnfinished text ⊎ (HasCutBody head_only text ⊎ HasOpenBody head_only text)
+HoldsNone head_only text = IsUnfinished responses text ⊎ (HasCutBody head_only text ⊎ HasOpenBody head_only text)
 
 -- What was found in the text, where the reader holds rest and the source is left as new. Behind a fault nothing is said of whether the
 -- connection stays.
 abbrev pub FindsAnswer : Bool → List ℕ → List ℕ → SourceState → Result Heard HeardFault → Bool → Type 0
 FindsAnswer head_only text rest new (Ok heard) keep = TellsHeard head_only text rest new heard keep
 FindsAnswer head_only text rest new (Err Fault.Unreadable) keep =
-    IsRefused text ⊎ (HasFramingFault head_only text Framing.Unreadable ⊎ TellsMisplaced head_only text rest new)
+    IsRefused responses text ⊎ (HasFramingFault head_only text Framing.Unreadable ⊎ TellsMisplaced head_only text rest new)
 FindsAnswer head_only text rest new (Err Fault.TooLarge) keep =
-    IsTooLong text ⊎ (HasFramingFault head_only text Framing.TooLarge ⊎ HasLongBody head_only text)
-FindsAnswer head_only text rest new (Err Fault.Truncated) keep = HasEnded new × (IsUnfinished text ⊎ HasCutBody head_only text)
+    IsTooLong responses text ⊎ (HasFramingFault head_only text Framing.TooLarge ⊎ HasLongBody head_only text)
+FindsAnswer head_only text rest new (Err Fault.Truncated) keep = HasEnded new × (IsUnfinished responses text ⊎ HasCutBody head_only text)
 FindsAnswer head_only text rest new (Err Fault.Read) keep = HoldsNone head_only text
 FindsAnswer head_only text rest new (Err Fault.NoMemory) keep = ⊤
 FindsAnswer head_only text rest new (Err Fault.Ended) keep = ⊥

@@ -5,7 +5,8 @@ ghost use Rattle.http_wire.specs.Reading.{Costs};
 ghost use Rattle.http_wire.specs.Inputs.{ReadsAtMost};
 ghost use Rattle.http_wire.specs.Fields.{Fields};
 ghost use Rattle.upload_client.specs.AnswerText.{ReadsAnswer, code_in, code_of, most_answer_reads, upto_of};
-ghost use Rattle.http_wire.specs.Inner.ResponseSpans.{IsHeadAtFront, IsHeadOf, fields_of};
+ghost use Rattle.http_wire.specs.Inner.HeadReading.{IsHeadAtFront, fields_of};
+ghost use Rattle.http_wire.specs.Inner.HeadSpans.{response_spans};
 ghost use Rattle.upload_client.specs.Inner.AnswerReading.{FindsReply, PlaceUnlessNoMemory, Says, SaysBare};
 
 use crate::heard::{Heard, HeardFault, SaidFault};
@@ -94,8 +95,8 @@ fn upto_of(value: Option<&[u8]>) -> Result<Option<u64>, SaidFault>
 
 /// What a head says, with no code yet.
 fn said_of(alloc: Global, head: &[u8], parsed: &ParsedResponse) -> Result<Heard, SaidFault>
-    requires { IsHeadOf head.now parsed.now }
-    ensures { SaysBare parsed.now.spans.code (fields_of head.now parsed.now) result }
+    requires { response_spans.IsHeadOf head.now parsed.now }
+    ensures { SaysBare parsed.now.spans.code (fields_of response_spans head.now parsed.now) result }
 {
     let headers = &parsed.headers[..parsed.spans.headers];
     let place = place_of(alloc, first_among(head, headers, b"location"))?;
@@ -134,7 +135,7 @@ fn read_framed<S: ByteSource>(
     parsed: &ParsedResponse,
     head_only: bool,
 ) -> Result<ReplyRead, HeardFault>
-    requires { IsHeadAtFront input.old.buffer.now parsed.now }
+    requires { IsHeadAtFront response_spans input.old.buffer.now parsed.now }
     ensures found { FindsReply head_only input.old.buffer.now (S.state input.old.source.now)
         input.new.buffer.now (S.state input.new.source.now) result }
     ensures costs { ReadsAtMost S.state 65537 (result ≡ Err HeardFault.Read) input.old input.new }

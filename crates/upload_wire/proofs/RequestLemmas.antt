@@ -6,12 +6,11 @@ use Rattle.std.proofs.Math.ListN.{drop_of_length-le}
 use Rattle.httparse.specs.Grammar.{RequestHead, print_request}
 use Rattle.httparse.specs.Spans.{span_bytes, header_bytes, name_and_value}
 use Rattle.upload_service.specs.declared.ask.Extent.{Extent}
-use Rattle.http_wire.specs.RequestFronts.{ReadsHead}
+use Rattle.http_wire.specs.Fronts.{ReadsHead, requests}
 use Rattle.http_wire.specs.Fields.{head_fields, values_of, keeps_connection}
 use Rattle.http_wire.specs.Body.{framing_of, head_framing}
 use Rattle.upload_wire.specs.Target.{Asks, AsksWhole, extent_of, head_range, with_body}
-use Rattle.http_wire.specs.Inner.RequestSpans.{IsHeadAtFront, request_spans}
-use Rattle.http_wire.specs.Inner.FieldReading.{fields_of}
+use Rattle.http_wire.specs.Inner.HeadSpans.{request_spans}
 use Rattle.http_wire.specs.States.{SourceState}
 use Rattle.http_wire.specs.Reading.{Gave}
 use Rattle.http_wire.specs.Inner.BodyFinding.{CutsBody, FindsBody}
@@ -21,7 +20,7 @@ use Rattle.upload_wire.specs.RequestText.{style_of, HasCutBody, FindsNext, Reads
 use Rattle.http_wire.specs.declared.requests.parsed.ParsedRequest.{ParsedRequest}
 use Rattle.http_wire.specs.declared.framing.Framing.{Framing}
 use Rattle.http_wire.specs.declared.fault.Bad.{Bad}
-use Rattle.http_wire.specs.Inner.HeadReading.{FindsHead}
+use Rattle.http_wire.specs.Inner.HeadReading.{FindsHead, IsHeadAtFront, fields_of}
 use Rattle.http_wire.specs.Faults.{wire_of_input, wire_of_body}
 use Rattle.http_wire.specs.declared.fault.InputFault.{InputFault}
 use Rattle.http_wire.specs.declared.fault.InputFault.TheVariants as Input
@@ -36,21 +35,21 @@ use Rattle.upload_wire.specs.declared.request.Next.TheVariants as nexts
 use Rattle.http_wire.proofs.GaveLemmas.{gives_none, gives_both}
 
 -- the head that the spans cover
-abbrev pub the_head : {text : List ℕ} {p : ParsedRequest} → IsHeadAtFront text p → RequestHead
+abbrev pub the_head : {text : List ℕ} {p : ParsedRequest} → IsHeadAtFront request_spans text p → RequestHead
 the_head f = f.head.1.0
 
 drop_all : (n : ℕ) (text : List ℕ) → n ≤ length text → drop n (take n text) ≡ []
 drop_all n text le = drop_of_length-le (take n text) (omega (arith, length-take n text))
 
-front_printed : (text : List ℕ) (p : ParsedRequest) (f : IsHeadAtFront text p) → take p.spans.len text ≡ print_request (the_head f)
+front_printed : (text : List ℕ) (p : ParsedRequest) (f : IsHeadAtFront request_spans text p) → take p.spans.len text ≡ print_request (the_head f)
 front_printed text p f =
     f.head.1.1.reads.1 ∙ ap (λ t. print_request (the_head f) ++ t) (drop_all p.spans.len text f.in_range) ∙ append-nil (print_request (the_head f))
 
-fields_same : (text : List ℕ) (p : ParsedRequest) (f : IsHeadAtFront text p) → fields_of (take p.spans.len text) p ≡ head_fields (the_head f)
+fields_same : (text : List ℕ) (p : ParsedRequest) (f : IsHeadAtFront request_spans text p) → fields_of request_spans (take p.spans.len text) p ≡ head_fields (the_head f).fields
 fields_same text p f = f.head.1.1.fields
 
 -- the head, and then any text
-pub head_then : (text more : List ℕ) (p : ParsedRequest) (f : IsHeadAtFront text p) → ReadsHead (take p.spans.len text ++ more) (the_head f) more
+pub head_then : (text more : List ℕ) (p : ParsedRequest) (f : IsHeadAtFront request_spans text p) → ReadsHead requests (take p.spans.len text ++ more) (the_head f) more
 head_then text more p f =
     let len = f.head.1.1.len in
     let short = f.short in
@@ -70,10 +69,10 @@ head_then text more p f =
     }
 
 -- what the fields of the spans frame, the head frames
-framing_same : (max : ℕ) (text : List ℕ) (p : ParsedRequest) (r : Result Framing Bad) (f : IsHeadAtFront text p)
-    → framing_of max p.spans.version (fields_of (take p.spans.len text) p) ≡ r → head_framing max (the_head f) ≡ r
+framing_same : (max : ℕ) (text : List ℕ) (p : ParsedRequest) (r : Result Framing Bad) (f : IsHeadAtFront request_spans text p)
+    → framing_of max p.spans.version (fields_of request_spans (take p.spans.len text) p) ≡ r → head_framing max (the_head f) ≡ r
 framing_same max text p r f framed =
-    ap (λ n. framing_of max n (head_fields (the_head f))) (sym f.head.1.1.version)
+    ap (λ n. framing_of max n (head_fields (the_head f).fields)) (sym f.head.1.1.version)
     ∙ ap (framing_of max p.spans.version) (sym (fields_same text p f)) ∙ framed
 
 -- the text in front of the body, what was read of the body, and what was read in all
@@ -81,12 +80,12 @@ whole_text : (text given more : List ℕ) (n : ℕ) → more ≡ drop n text ++ 
 whole_text text given more n same =
     ap (λ t. t ++ given) (sym (take-append-drop n text)) ∙ append_assoc (take n text) (drop n text) given ∙ ap (λ t. take n text ++ t) (sym same)
 
-asks_same : (max : ℕ) (text body : List ℕ) (p : ParsedRequest) (d : Described) (f : IsHeadAtFront text p)
+asks_same : (max : ℕ) (text body : List ℕ) (p : ParsedRequest) (d : Described) (f : IsHeadAtFront request_spans text p)
     → DescribesAll max (take p.spans.len text) p d → AsksWhole (the_head f) body (with_body d.ask body)
 asks_same max text body p d f says =
     let h = the_head f in
     let front : List ℕ = take p.spans.len text in
-    let range : extent_of (values_of (codes "content-range") (fields_of front p)) ≡ head_range h =
+    let range : extent_of (values_of (codes "content-range") (fields_of request_spans front p)) ≡ head_range h =
     ap (λ fields. extent_of (values_of (codes "content-range") fields)) (fields_same text p f) in
     let by_range : Asks (span_bytes front p.spans.method) (span_bytes front p.spans.path) (head_range h) d.ask =
     subst (λ r. Asks (span_bytes front p.spans.method) (span_bytes front p.spans.path) r d.ask) range says.asks in
@@ -94,51 +93,51 @@ asks_same max text body p d f says =
     subst (λ t. Asks (span_bytes front p.spans.method) t (head_range h) d.ask) f.head.1.1.path by_range in
     (d.ask, subst (λ m. Asks m h.target (head_range h) d.ask) f.head.1.1.method by_target, refl)
 
-style_same : (max : ℕ) (text : List ℕ) (p : ParsedRequest) (d : Described) (f : IsHeadAtFront text p)
+style_same : (max : ℕ) (text : List ℕ) (p : ParsedRequest) (d : Described) (f : IsHeadAtFront request_spans text p)
     → DescribesAll max (take p.spans.len text) p d → d.style ≡ style_of (the_head f)
 style_same max text p d f says =
     let h = the_head f in
     let is_head : d.style.head ≡ bytes_eq h.method (codes "HEAD") = says.is_head ∙ ap (λ m. bytes_eq m (codes "HEAD")) f.head.1.1.method in
-    let keeps : d.style.keep ≡ keeps_connection h.minor (head_fields h) =
-    says.keeps ∙ ap (λ n. keeps_connection n (fields_of (take p.spans.len text) p)) f.head.1.1.version
+    let keeps : d.style.keep ≡ keeps_connection h.minor (head_fields h.fields) =
+    says.keeps ∙ ap (λ n. keeps_connection n (fields_of request_spans (take p.spans.len text) p)) f.head.1.1.version
     ∙ ap (keeps_connection h.minor) (fields_same text p f) in
     (λ i. record { head = is_head i; keep = keeps i })
 
 -- its line
-pub line_read : (text : List ℕ) (p : ParsedRequest) (f : IsHeadAtFront text p) (method target : List ℕ)
+pub line_read : (text : List ℕ) (p : ParsedRequest) (f : IsHeadAtFront request_spans text p) (method target : List ℕ)
     → method ≡ span_bytes (take p.spans.len text) p.spans.method → target ≡ span_bytes (take p.spans.len text) p.spans.path
     → HasLine text method target
 line_read text p f method target m t = record {
   head = the_head f;
   rest = drop p.spans.len text;
-  reads = subst (λ t. ReadsHead t (the_head f) (drop p.spans.len text)) (take-append-drop p.spans.len text)
+  reads = subst (λ t. ReadsHead requests t (the_head f) (drop p.spans.len text)) (take-append-drop p.spans.len text)
       (head_then text (drop p.spans.len text) p f);
   is_method = m ∙ f.head.1.1.method;
   is_target = t ∙ f.head.1.1.path;
 }
 
 -- a head of bad framing
-pub bad_framing_next : (max : ℕ) (old : SourceState) (held rest : List ℕ) (p : ParsedRequest) (why : Bad) (f : IsHeadAtFront held p)
-    → framing_of max p.spans.version (fields_of (take p.spans.len held) p) ≡ Err why → ReadsNext max held old rest old (Ok (nexts.Bad why))
+pub bad_framing_next : (max : ℕ) (old : SourceState) (held rest : List ℕ) (p : ParsedRequest) (why : Bad) (f : IsHeadAtFront request_spans held p)
+    → framing_of max p.spans.version (fields_of request_spans (take p.spans.len held) p) ≡ Err why → ReadsNext max held old rest old (Ok (nexts.Bad why))
 bad_framing_next max old held rest p why f refused = record {
   given = [];
   gives = gives_none old;
   found = inr (inr (inl (record {
     head = the_head f;
     rest = drop p.spans.len held;
-    reads = subst (λ t. ReadsHead t (the_head f) (drop p.spans.len held)) (take-append-drop p.spans.len held ∙ sym (append-nil held)) (head_then held (drop p.spans.len held) p f);
+    reads = subst (λ t. ReadsHead requests t (the_head f) (drop p.spans.len held)) (take-append-drop p.spans.len held ∙ sym (append-nil held)) (head_then held (drop p.spans.len held) p f);
     refused = framing_same max held p (Err why) f refused;
   })));
 }
 
 -- what came behind the head ends inside the body
-cut_next : (max : ℕ) (old new : SourceState) (held : List ℕ) (p : ParsedRequest) (d : Described) (f : IsHeadAtFront held p)
+cut_next : (max : ℕ) (old new : SourceState) (held : List ℕ) (p : ParsedRequest) (d : Described) (f : IsHeadAtFront request_spans held p)
     → DescribesAll max (take p.spans.len held) p d
     → (b : CutsBody d.framing old (drop p.spans.len held) new) → HasCutBody max (held ++ b.gave.given)
 cut_next max old new held p d f says b = record {
   head = the_head f;
   rest = b.text;
-  reads = subst (λ t. ReadsHead t (the_head f) b.text) (sym (whole_text held b.gave.given b.text p.spans.len b.gave.joined)) (head_then held b.text p f);
+  reads = subst (λ t. ReadsHead requests t (the_head f) b.text) (sym (whole_text held b.gave.given b.text p.spans.len b.gave.joined)) (head_then held b.text p f);
   framing = d.framing;
   framed = framing_same max held p (Ok d.framing) f says.framed;
   short = b.cut;
@@ -146,7 +145,7 @@ cut_next max old new held p d f says b = record {
 
 -- what comes next, by what was found behind the head
 pub request_next : (max : ℕ) (old new : SourceState) (held rest : List ℕ) (p : ParsedRequest) (d : Described) (r : Result Next WireFault)
-    (f : IsHeadAtFront held p) → DescribesAll max (take p.spans.len held) p d → FindsRequest d old (drop p.spans.len held) new rest r
+    (f : IsHeadAtFront request_spans held p) → DescribesAll max (take p.spans.len held) p d → FindsRequest d old (drop p.spans.len held) new rest r
     → ReadsNext max held old rest new r
 request_next max old new held rest p d (Ok (Request ask style)) f says b = record {
   given = b.taken.gave.given;
@@ -175,7 +174,7 @@ request_next max old new held rest p d (Ok (nexts.Bad why)) f says b = record {
   found = inr (inr (inr (record {
     head = the_head f;
     rest = b.text;
-    reads = subst (λ t. ReadsHead t (the_head f) b.text) (sym (whole_text held b.gave.given b.text p.spans.len b.gave.joined)) (head_then held b.text p f);
+    reads = subst (λ t. ReadsHead requests t (the_head f) b.text) (sym (whole_text held b.gave.given b.text p.spans.len b.gave.joined)) (head_then held b.text p f);
     framing = d.framing;
     framed = framing_same max held p (Ok d.framing) f says.framed;
     refused = b.bad;
@@ -221,12 +220,12 @@ reads_after max held text rest old mid new r gave next = record {
 
 pub described : (max : ℕ) (front : List ℕ) (p : ParsedRequest) (d : Described) (method target : List ℕ) (range : Extent)
     → method ≡ span_bytes front p.spans.method → target ≡ span_bytes front p.spans.path
-    → range ≡ extent_of (values_of (codes "content-range") (fields_of front p)) → Asks method target range d.ask
-    → d.style.head ≡ bytes_eq method (codes "HEAD") → d.style.keep ≡ keeps_connection p.spans.version (fields_of front p)
-    → Ok d.framing ≡ framing_of max p.spans.version (fields_of front p) → DescribesAll max front p d
+    → range ≡ extent_of (values_of (codes "content-range") (fields_of request_spans front p)) → Asks method target range d.ask
+    → d.style.head ≡ bytes_eq method (codes "HEAD") → d.style.keep ≡ keeps_connection p.spans.version (fields_of request_spans front p)
+    → Ok d.framing ≡ framing_of max p.spans.version (fields_of request_spans front p) → DescribesAll max front p d
 described max front p d method target range m t r asks is_head keeps framed = record {
-  asks = subst (λ x. Asks x (span_bytes front p.spans.path) (extent_of (values_of (codes "content-range") (fields_of front p))) d.ask) m
-      (subst (λ x. Asks method x (extent_of (values_of (codes "content-range") (fields_of front p))) d.ask) t
+  asks = subst (λ x. Asks x (span_bytes front p.spans.path) (extent_of (values_of (codes "content-range") (fields_of request_spans front p))) d.ask) m
+      (subst (λ x. Asks method x (extent_of (values_of (codes "content-range") (fields_of request_spans front p))) d.ask) t
       (subst (λ x. Asks method target x d.ask) r asks));
   is_head = is_head ∙ ap (λ x. bytes_eq x (codes "HEAD")) m;
   keeps = keeps;

@@ -9,9 +9,9 @@ use Rattle.http_wire.specs.States.{SourceState, SinkState}
 use Rattle.http_wire.specs.Reading.{Gave, Costs}
 use Rattle.http_wire.specs.Faults.{wire_of_input}
 use Rattle.http_wire.specs.HeadText.{bad_status, status_number}
-use Rattle.http_wire.specs.RequestFronts.{requests, ReadsHead, IsRefused, IsTooLong}
+use Rattle.http_wire.specs.Fronts.{IsRefused, IsTooLong, ReadsHead, requests}
 use Rattle.http_wire.specs.Unambiguous.{HeadParse, head, long, unfinished}
-use Rattle.http_wire.specs.Inner.RequestSpans.{request_spans}
+use Rattle.http_wire.specs.Inner.HeadSpans.{request_spans}
 use Rattle.http_wire.specs.Inner.HeadReading.{FindsHead}
 use Rattle.http_wire.specs.declared.fault.Bad.{Bad}
 use Rattle.http_wire.specs.declared.fault.InputFault.{InputFault}
@@ -69,7 +69,7 @@ pub line_within : (max : ℕ) (text message rest : List ℕ) (ask : Ask) (style 
 unfolding head_in
 line_within max text message rest ask style method target cut request line =
     let r = request.reads in
-    let whole : ReadsHead text request.head (request.rest ++ rest) = record {
+    let whole : ReadsHead requests text request.head (request.rest ++ rest) = record {
       reads = (r.reads.0, cut ∙ ap (λ t. t ++ rest) r.reads.1 ∙ append_assoc (print_request request.head) request.rest rest);
       short = r.short;
       few = r.few;
@@ -110,7 +110,7 @@ module _ {O : Type 0} (telling : Telling O) (max : ℕ) (held text : List ℕ) (
       }
 
   -- there is no head that can be read
-  pub told_unreadable : (new : O) (why : Bad) → IsBad max text why → (IsRefused text) ⊎ (IsTooLong text) → telling old Unreadable new
+  pub told_unreadable : (new : O) (why : Bad) → IsBad max text why → (IsRefused requests text) ⊎ (IsTooLong requests text) → telling old Unreadable new
       → ReadsTold telling max (listening held first old) (listening text mid new) (Ok (nexts.Bad why))
   told_unreadable new why is_bad none tells = record {
     next = record {
@@ -119,7 +119,7 @@ module _ {O : Type 0} (telling : Telling O) (max : ℕ) (held text : List ℕ) (
       found = subst (λ t. IsBad max t why) gave.joined is_bad;
     };
     events = Unreadable ∷ [];
-    tells = (Unreadable, subst (λ t. (IsRefused t) ⊎ (IsTooLong t)) gave.joined none, refl);
+    tells = (Unreadable, subst (λ t. (IsRefused requests t) ⊎ (IsTooLong requests t)) gave.joined none, refl);
     told = (new, tells, refl);
   }
 

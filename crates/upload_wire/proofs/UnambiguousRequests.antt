@@ -5,7 +5,7 @@ use Rattle.std.specs.Str.Parse.{digits_value}
 use Rattle.httparse.specs.Grammar.{RequestHead, print_request}
 use Rattle.upload_service.specs.declared.ask.Ask.{Ask}
 use Rattle.http_wire.specs.Fronts as front
-use Rattle.http_wire.specs.RequestFronts.{requests, ReadsHead, IsRefused}
+use Rattle.http_wire.specs.Fronts.{IsRefused, ReadsHead, requests}
 use Rattle.http_wire.specs.Fields.{same_word, values_of, head_fields}
 use Rattle.http_wire.specs.Body.{is_number, sized, framing_by, head_framing, IsBadBody}
 use Rattle.http_wire.specs.Unambiguous.{HeadParse, head, long, unfinished, BeginsWith, BodyParse, whole, refused, IsReadAs, cut as cut_body}
@@ -14,7 +14,7 @@ use Rattle.http_wire.specs.declared.framing.Framing.TheVariants.{Length, Chunked
 use Rattle.http_wire.specs.declared.fault.Bad.{Bad}
 use Rattle.http_wire.specs.declared.fault.Bad.TheVariants as bads
 use Rattle.http_wire.proofs.HeadLemmas.{none_at_start}
-use Rattle.http_wire.proofs.RequestLaws.{head_ends}
+use Rattle.http_wire.proofs.HeadLaws.{request_ends}
 use Rattle.http_wire.proofs.UnambiguousHeads.{requests_unambiguous}
 use Rattle.http_wire.proofs.UnambiguousBodies.{bodies_unambiguous}
 use Rattle.upload_wire.specs.Target.{AsksWhole}
@@ -49,11 +49,11 @@ body_no_head (Length n) text x = x
 body_no_head (Chunked most) text (inl x) = let e = x.0 in absurd (cc)
 body_no_head (Chunked most) text (inr x) = let e = x.0 in absurd (cc)
 
-refused_head : (max : ℕ) (text : List ℕ) → IsBad max text bads.Head → IsRefused text
+refused_head : (max : ℕ) (text : List ℕ) → IsBad max text bads.Head → IsRefused requests text
 refused_head max text (inl x) = x.1
 refused_head max text (inr (inl x)) = let e = x.0 in absurd (cc)
 refused_head max text (inr (inr (inl x))) = absurd (framing_no_head max x.head.minor
-    (values_of (codes "transfer-encoding") (head_fields x.head)) (values_of (codes "content-length") (head_fields x.head)) x.refused)
+    (values_of (codes "transfer-encoding") (head_fields x.head.fields)) (values_of (codes "content-length") (head_fields x.head.fields)) x.refused)
 refused_head max text (inr (inr (inr x))) = absurd (body_no_head x.framing x.rest x.refused)
 
 -- ---- what stands behind a head
@@ -108,7 +108,7 @@ record Parsed (max : ℕ) (text : List ℕ) (p : RequestParse) : Type 0 where
 
 -- the head of a request begins the text
 pub request_head : (max : ℕ) (text rest : List ℕ) (ask : Ask) (style : Style) (x : ReadsOne max text rest ask style)
-    → ReadsHead text x.request.head (x.request.rest ++ rest)
+    → ReadsHead requests text x.request.head (x.request.rest ++ rest)
 request_head max text rest ask style x =
     let r = x.request.reads in
     record {
@@ -144,7 +144,7 @@ parsed_cut max text (inr x) = record {
 }
 
 nothing_begins : front.IsUnfinished requests []
-nothing_begins = record { short = omega arith; none = none_at_start requests head_ends }
+nothing_begins = record { short = omega arith; none = none_at_start requests request_ends }
 
 parsed : (max : ℕ) (text : List ℕ) (p : RequestParse) → ParsesAs max text p → p ≢ bad bads.Head → Parsed max text p
 parsed max text (request ask style rest) x other =

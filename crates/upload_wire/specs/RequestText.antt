@@ -4,7 +4,7 @@ use Rattle.httparse.specs.Grammar.{RequestHead}
 use Rattle.upload_service.specs.declared.ask.Ask.{Ask}
 use Rattle.http_wire.specs.States.{SourceState}
 use Rattle.http_wire.specs.Reading.{Gives, HasEnded}
-use Rattle.http_wire.specs.RequestFronts.{ReadsHead, IsRefused, IsTooLong, IsUnfinished}
+use Rattle.http_wire.specs.Fronts.{IsCutHead, IsRefused, IsTooLong, ReadsHead, requests}
 use Rattle.http_wire.specs.Fields.{head_fields, keeps_connection}
 use Rattle.http_wire.specs.Body.{head_framing, IsBodyText, IsBadBody, IsCutBody}
 use Rattle.upload_wire.specs.Target.{AsksWhole}
@@ -22,14 +22,14 @@ use Rattle.upload_wire.specs.declared.request.Next.TheVariants as nexts
 abbrev pub style_of : RequestHead → Style
 style_of head = record {
   head = bytes_eq head.method (codes "HEAD");
-  keep = keeps_connection head.minor (head_fields head);
+  keep = keeps_connection head.minor (head_fields head.fields);
 }
 
 -- the text is a head and the body that its fields announce, and it asks this
 pub record IsRequest (max_body : ℕ) (text : List ℕ) (ask : Ask) (style : Style) : Type 0 where
   pub head : RequestHead
   pub rest : List ℕ
-  pub reads : ReadsHead text head rest
+  pub reads : ReadsHead requests text head rest
   pub framing : Framing
   pub framed : head_framing max_body head ≡ Ok framing
   pub body : List ℕ
@@ -41,14 +41,14 @@ pub record IsRequest (max_body : ℕ) (text : List ℕ) (ask : Ask) (style : Sty
 pub record RefusesFraming (max_body : ℕ) (text : List ℕ) (why : Bad) : Type 0 where
   pub head : RequestHead
   pub rest : List ℕ
-  pub reads : ReadsHead text head rest
+  pub reads : ReadsHead requests text head rest
   pub refused : head_framing max_body head ≡ Err why
 
 -- the text begins with a head, and what follows is refused as its body
 pub record RefusesBody (max_body : ℕ) (text : List ℕ) (why : Bad) : Type 0 where
   pub head : RequestHead
   pub rest : List ℕ
-  pub reads : ReadsHead text head rest
+  pub reads : ReadsHead requests text head rest
   pub framing : Framing
   pub framed : head_framing max_body head ≡ Ok framing
   pub refused : IsBadBody framing rest why
@@ -56,21 +56,21 @@ pub record RefusesBody (max_body : ℕ) (text : List ℕ) (why : Bad) : Type 0 w
 -- the input that begins with the text is no request, and this is bad in it
 abbrev pub IsBad : ℕ → List ℕ → Bad → Type 0
 IsBad max_body text why =
-    ((why ≡ bads.Head) × IsRefused text) ⊎ (((why ≡ bads.LongHead) × IsTooLong text)
+    ((why ≡ bads.Head) × IsRefused requests text) ⊎ (((why ≡ bads.LongHead) × IsTooLong requests text)
     ⊎ (RefusesFraming max_body text why ⊎ RefusesBody max_body text why))
 
 -- the text has a head, and ends inside its body
 pub record HasCutBody (max_body : ℕ) (text : List ℕ) : Type 0 where
   pub head : RequestHead
   pub rest : List ℕ
-  pub reads : ReadsHead text head rest
+  pub reads : ReadsHead requests text head rest
   pub framing : Framing
   pub framed : head_framing max_body head ≡ Ok framing
   pub short : IsCutBody framing rest
 
 -- the input that is no more than the text ends inside a request
 abbrev pub IsTruncated : ℕ → List ℕ → Type 0
-IsTruncated max_body text = IsUnfinished text ⊎ HasCutBody max_body text
+IsTruncated max_body text = IsCutHead requests text ⊎ HasCutBody max_body text
 
 -- the text holds no request: it is empty, or ends inside one
 abbrev pub HoldsNone : ℕ → List ℕ → Type 0

@@ -143,7 +143,7 @@ extent_of (value ∷ other ∷ values) = Bad
 
 -- the range that a head gives
 abbrev pub head_range : RequestHead → Extent
-head_range head = extent_of (values_of (codes "content-range") (head_fields head))
+head_range head = extent_of (values_of (codes "content-range") (head_fields head.fields))
 
 -- what is asked at a path
 abbrev pub AsksAt : List ℕ → Method → List ℕ → Extent → HeadAsk → Type 0

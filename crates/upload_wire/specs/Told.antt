@@ -4,7 +4,7 @@ use Rattle.std.specs.Prelude.{◌≡◌, ℕ, ◌⊎◌, List, [], ◌∷◌, �
 use Rattle.httparse.specs.Grammar.{RequestHead}
 use Rattle.http_wire.specs.States.{SourceState, SinkState}
 use Rattle.http_wire.specs.HeadText.{status_number, bad_status}
-use Rattle.http_wire.specs.RequestFronts.{ReadsHead, IsRefused, IsTooLong, IsUnfinished}
+use Rattle.http_wire.specs.Fronts.{IsCutHead, IsRefused, IsTooLong, ReadsHead, requests}
 use Rattle.http_wire.specs.declared.fault.Bad.{Bad}
 use Rattle.upload_service.specs.declared.answer.Answer.{Answer}
 use Rattle.upload_wire.specs.declared.request.Style.{Style}
@@ -23,14 +23,14 @@ use mathlib.Core.Logic.{⊎_elim}
 pub record HasLine (text method target : List ℕ) : Type 0 where
   pub head : RequestHead
   pub rest : List ℕ
-  pub reads : ReadsHead text head rest
+  pub reads : ReadsHead requests text head rest
   pub is_method : method ≡ head.method
   pub is_target : target ≡ head.target
 
 -- the event tells the head that the text begins with, or that it has none which can be read
 abbrev pub TellsHead : List ℕ → Event → Type 0
 TellsHead text (Head method target) = HasLine text method target
-TellsHead text Unreadable = IsRefused text ⊎ IsTooLong text
+TellsHead text Unreadable = IsRefused requests text ⊎ IsTooLong requests text
 TellsHead text (Replied status size) = ⊥
 
 -- just a head that the text begins with is told
@@ -65,7 +65,7 @@ pub record TellsRefusal (text : List ℕ) (why : Bad) (events : List Event) : Ty
 
 -- the head that the text begins with, and nothing where it begins with none
 abbrev pub TellsCut : List ℕ → List Event → Type 0
-TellsCut text events = (((text ≡ []) ⊎ IsUnfinished text) × (events ≡ [])) ⊎ TellsLine text events
+TellsCut text events = (((text ≡ []) ⊎ IsCutHead requests text) × (events ≡ [])) ⊎ TellsLine text events
 
 -- ---- an end
 

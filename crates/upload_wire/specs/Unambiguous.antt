@@ -2,8 +2,7 @@
 use Rattle.std.specs.Prelude.{◌≡◌, ◌≢◌, ℕ, ◌+◌, ◌<◌, List, []}
 use Rattle.httparse.specs.Grammar.{RequestHead, print_request}
 use Rattle.upload_service.specs.declared.ask.Ask.{Ask}
-use Rattle.http_wire.specs.Fronts.{line_feeds, max_fields}
-use Rattle.http_wire.specs.RequestFronts.{ReadsHead}
+use Rattle.http_wire.specs.Fronts.{line_feeds, max_fields, ReadsHead, requests}
 use Rattle.http_wire.specs.declared.fault.Bad.{Bad}
 use Rattle.http_wire.specs.declared.fault.Bad.TheVariants.{Head}
 use Rattle.upload_wire.specs.RequestText.{IsBad, IsTruncated, ReadsOne}
@@ -28,5 +27,5 @@ ParsesAs max_body text nothing = text ≡ []
 pub record RequestsAreUnambiguous : Type 0 where
   pub one : (max_body : ℕ) (text : List ℕ) (parse other : RequestParse) → ParsesAs max_body text parse → ParsesAs max_body text other
       → parse ≢ bad Head → other ≢ bad Head → parse ≡ other
-  pub refused : (max_body : ℕ) (text : List ℕ) (head : RequestHead) (rest : List ℕ) → ReadsHead text head rest → IsBad max_body text Head
+  pub refused : (max_body : ℕ) (text : List ℕ) (head : RequestHead) (rest : List ℕ) → ReadsHead requests text head rest → IsBad max_body text Head
       → max_fields + 2 < line_feeds (print_request head)

@@ -3,8 +3,8 @@ ghost use Rattle.std.specs.Prelude.{◌≡◌, ◌+◌, ◌*◌, ◌^◌, ◌≤
 ghost use Rattle.http_wire.specs.Fronts.{max_head};
 ghost use Rattle.http_wire.specs.Reading.{Costs, Gave};
 ghost use Rattle.http_wire.specs.Inputs.{ReadsAtMost};
-ghost use Rattle.http_wire.specs.Inner.HeadReading.{FindsHead};
-ghost use Rattle.http_wire.specs.Inner.RequestSpans.{IsHeadAtFront, request_spans};
+ghost use Rattle.http_wire.specs.Inner.HeadReading.{FindsHead, IsHeadAtFront};
+ghost use Rattle.http_wire.specs.Inner.HeadSpans.{request_spans};
 ghost use Rattle.upload_service.specs.Machine.{AreLawful};
 ghost use Rattle.upload_wire.specs.Phases.{most_reads};
 ghost use Rattle.upload_wire.specs.RequestText.{ReadsNext};
@@ -106,7 +106,7 @@ impl RequestInput {
 
     /// The method and the target of the head that was read, and isn't taken.
     pub fn line(&self, parsed: &ParsedRequest) -> RequestLine<'_>
-        requires { IsHeadAtFront self.now.held parsed.now }
+        requires { IsHeadAtFront request_spans self.now.held parsed.now }
         ensures { HasLine self.now.held result.method.now result.target.now }
     {
         let head = &self.buffer.as_slice()[..parsed.spans.len];
@@ -123,7 +123,7 @@ impl RequestInput {
         source: &mut S,
         parsed: &ParsedRequest,
     ) -> Result<Next, WireFault>
-        requires { IsHeadAtFront self.old.held parsed.now }
+        requires { IsHeadAtFront request_spans self.old.held parsed.now }
         ensures found { ReadsNext self.old.max_body self.old.held (S.state source.old)
             self.new.held (S.state source.new) result }
         ensures came { ¬ (result ≡ Ok Next.Over) }
@@ -148,7 +148,7 @@ fn read_behind<S: ByteSource, P: HashPlace>(
     filled: Option<UploadRef>,
 ) -> Result<Next, WireFault>
     requires limit { max_body ≤ 2 ^ 31 }
-    requires head { IsHeadAtFront input.old.buffer.now parsed.now }
+    requires head { IsHeadAtFront request_spans input.old.buffer.now parsed.now }
     ensures found { ReadsNext max_body input.old.buffer.now (S.state input.old.source.now)
         input.new.buffer.now (S.state input.new.source.now) result }
     ensures came { ¬ (result ≡ Ok Next.Over) }

@@ -4,8 +4,8 @@ ghost use Rattle.http_wire.specs.Body.{most_of};
 ghost use Rattle.http_wire.specs.Inputs.{ReadsAtMost};
 ghost use Rattle.http_wire.specs.Fields.{values_of};
 ghost use Rattle.upload_wire.specs.Target.{extent_of};
-ghost use Rattle.http_wire.specs.Inner.RequestSpans.{IsHeadOf};
-ghost use Rattle.http_wire.specs.Inner.FieldReading.{fields_of};
+ghost use Rattle.http_wire.specs.Inner.HeadReading.{fields_of};
+ghost use Rattle.http_wire.specs.Inner.HeadSpans.{request_spans};
 ghost use Rattle.upload_wire.specs.Inner.RequestReading.{Describes, FindsRequest};
 
 use crate::asks::{HeadAsk, ask_of};
@@ -49,8 +49,8 @@ pub(crate) struct Described {
 
 /// The range that a head gives.
 fn range_of(head: &[u8], parsed: &ParsedRequest) -> Extent
-    requires { IsHeadOf head.now parsed.now }
-    ensures { result ≡ extent_of (values_of (codes "content-range") (fields_of head.now parsed.now)) }
+    requires { request_spans.IsHeadOf head.now parsed.now }
+    ensures { result ≡ extent_of (values_of (codes "content-range") (fields_of request_spans head.now parsed.now)) }
 {
     match field_named(head, parsed, b"content-range") {
         Occurrence::Absent => Extent::Absent,
@@ -70,7 +70,7 @@ pub(crate) fn describe(
     max_body: u64,
 ) -> Result<Result<Described, Bad>, WireFault>
     requires limit { max_body ≤ 2 ^ 31 }
-    requires head { IsHeadOf head.now parsed.now }
+    requires head { request_spans.IsHeadOf head.now parsed.now }
     ensures found { Describes max_body head.now parsed.now result }
     ensures kept { IfOk result (λ head. IfOk head (λ described. most_of described.framing ≤ max_body)) }
 {

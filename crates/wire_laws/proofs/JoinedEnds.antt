@@ -8,9 +8,9 @@ use Rattle.std.proofs.lemmas.Grind.{flat_map-append}
 use Rattle.std.proofs.lemmas.List.{append_cancel_left, append_cancel_right, nil_from_length}
 use Rattle.httparse.specs.Ascii.{line_feed}
 use Rattle.httparse.specs.Grammar.{RequestHead, print_request, print_response}
-use Rattle.http_wire.specs.RequestFronts.{ReadsHead}
+use Rattle.http_wire.specs.Fronts.{ReadsHead, requests}
 use Rattle.http_wire.specs.declared.fault.Bad.{Bad}
-use Rattle.http_wire.proofs.RequestLaws.{head_ends as request_ends}
+use Rattle.http_wire.proofs.HeadLaws.{request_ends, response_ends}
 use Rattle.upload_service.specs.declared.ask.Ask.{Ask}
 use Rattle.upload_service.specs.declared.answer.Answer.{Answer}
 use Rattle.upload_service.specs.declared.answer.Answer.TheVariants.{Base, Blob, Begun, Stored, Taken, Standing, Misplaced, Refused, NoMemory}
@@ -21,7 +21,6 @@ use Rattle.http_wire.specs.declared.fault.Bad.TheVariants.{Head}
 use Rattle.http_wire.specs.declared.responses.framing.ResponseFraming.{ResponseFraming}
 use Rattle.http_wire.specs.declared.responses.framing.ResponseFraming.TheVariants.{Length, ToEnd}
 use Rattle.http_wire.specs.declared.writing.WriteFault.{WriteFault}
-use Rattle.http_wire.proofs.ResponseLaws.{head_ends}
 use Rattle.upload_wire.specs.Conversation.{Moves, Exchange, IsKept, IsRead, EndsWith, last_style, messages, replies, stand}
 use Rattle.upload_wire.specs.ConnectionRuns.{answered, answered_last, unanswered, unanswered_last}
 use Rattle.upload_wire.specs.ReplyText.{reply}
@@ -159,7 +158,7 @@ read_as_said : (answer : Answer) (head keep : Bool) (rest : List ℕ) → IsShor
 read_as_said answer true keep rest short = (None, refl)
 read_as_said answer false keep rest short = whole_said answer keep rest short
 
-no_empty_head : (text : List ℕ) (h : RequestHead) (rest : List ℕ) → ReadsHead text h rest → text ≡ [] → ⊥
+no_empty_head : (text : List ℕ) (h : RequestHead) (rest : List ℕ) → ReadsHead requests text h rest → text ≡ [] → ⊥
 no_empty_head text h rest reads none =
     let all = ap length (sym none ∙ reads.reads.1) in
     let ends = request_ends h in
@@ -169,7 +168,7 @@ no_empty_head text h rest reads none =
 no_empty_reply : (head_only : Bool) (text rest : List ℕ) (new : SourceState) (what : Heard) (keep : Bool) → TellsHeard head_only text rest new what keep → text ≡ [] → ⊥
 no_empty_reply head_only text rest new what keep t none =
     let all = ap length (sym none ∙ t.whole.framed.reads.reads.1) in
-    let ends = head_ends t.head in
+    let ends = response_ends t.head in
     let one = ap length ends.1 in
     absurd (omega (arith, all, one, length-append (print_response t.head) (t.body ++ rest), length-append ends.0 (line_feed ∷ [])))
 

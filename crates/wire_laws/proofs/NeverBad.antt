@@ -4,8 +4,7 @@ use Rattle.httparse.specs.Ascii.{line_feed}
 use Rattle.httparse.specs.Grammar.{RequestHead, print_request}
 use Rattle.upload_service.specs.declared.ask.Ask.{Ask}
 use Rattle.http_wire.specs.Body.{head_framing, IsBadBody, IsBodyText}
-use Rattle.http_wire.specs.Fronts.{line_feeds, max_fields}
-use Rattle.http_wire.specs.RequestFronts.{requests, ReadsHead}
+use Rattle.http_wire.specs.Fronts.{line_feeds, max_fields, ReadsHead, requests}
 use Rattle.http_wire.specs.Unambiguous.{HeadParse, head, long, whole, refused}
 use Rattle.http_wire.specs.declared.fault.Bad.{Bad}
 use Rattle.http_wire.specs.declared.fault.Bad.TheVariants as bads
@@ -23,7 +22,7 @@ use Rattle.wire_laws.proofs.WrittenRequests.{asks_read_back, heads_written}
 
 -- ---- what is bad stays bad, whatever follows
 
-read_longer : (text more : List ℕ) (h : RequestHead) (rest : List ℕ) → ReadsHead text h rest → ReadsHead (text ++ more) h (rest ++ more)
+read_longer : (text more : List ℕ) (h : RequestHead) (rest : List ℕ) → ReadsHead requests text h rest → ReadsHead requests (text ++ more) h (rest ++ more)
 read_longer text more h rest r = record {
   reads = (r.reads.0, ap (λ t. t ++ more) r.reads.1 ∙ append_assoc (print_request h) rest more);
   short = r.short;
@@ -96,7 +95,7 @@ record SameHead (h k : RequestHead) (rest more : List ℕ) : Type 0 where
   heads : h ≡ k
   rests : rest ≡ more
 
-same_head : (text : List ℕ) (h k : RequestHead) (rest more : List ℕ) → ReadsHead text h rest → ReadsHead text k more → SameHead h k rest more
+same_head : (text : List ℕ) (h k : RequestHead) (rest more : List ℕ) → ReadsHead requests text h rest → ReadsHead requests text k more → SameHead h k rest more
 same_head text h k rest more a b =
     let same : ◌≡◌ {A = HeadParse requests} (head h rest) (head k more) = requests_unambiguous.one text (head h rest) (head k more) a b in
     let heads : h ≡ k = cc in
@@ -108,7 +107,7 @@ no_bad_body framing text body more why is bad =
     absurd (cc (bodies_unambiguous framing (text ++ more) (whole body more) (refused why) (record { message = text; split = refl; written = is }) bad))
 
 not_bad : (max : ℕ) (message behind : List ℕ) (ask : Ask) (style : Style) (h : RequestHead) (rest : List ℕ) → IsRequest max message ask style
-    → ReadsHead message h rest → line_feeds (print_request h) ≤ max_fields + 2 → (why : Bad) → IsBad max (message ++ behind) why → ⊥
+    → ReadsHead requests message h rest → line_feeds (print_request h) ≤ max_fields + 2 → (why : Bad) → IsBad max (message ++ behind) why → ⊥
 not_bad max message behind ask style h rest is reads few why (inl x) =
     let bad : IsBad max (message ++ behind) bads.Head = inl (refl, x.1) in
     let many = requests_are_unambiguous.refused max (message ++ behind) h (rest ++ behind) (read_longer message behind h rest reads) bad in

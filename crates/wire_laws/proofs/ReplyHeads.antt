@@ -8,11 +8,9 @@ use Rattle.std.specs.List.{flat_map, list_all}
 use Rattle.std.specs.Char.{is_ascii_digit}
 use Rattle.httparse.specs.Grammar.{AllPass, IsField, ResponseHead, crlf, print_response, is_token_byte, is_value_byte, status_code}
 use Rattle.httparse.specs.Ascii.{crlf_bytes}
-use Rattle.http_wire.specs.Fronts.{max_head, max_fields, line_feeds}
-use Rattle.http_wire.specs.Fields.{Fields}
+use Rattle.http_wire.specs.Fronts.{max_head, max_fields, line_feeds, ReadsHead, responses}
+use Rattle.http_wire.specs.Fields.{Fields, head_fields}
 use Rattle.http_wire.specs.HeadText.{print_field, status_line, status_number, status_text}
-use Rattle.http_wire.specs.ResponseBody.{head_fields}
-use Rattle.http_wire.specs.ResponseFronts.{ReadsHead}
 use Rattle.http_wire.specs.declared.status.Status.{Status}
 use Rattle.http_wire.specs.declared.status.Status.TheVariants as statuses
 use Rattle.http_wire.proofs.HeadLemmas.{line_feeds-append}
@@ -199,7 +197,7 @@ pub code_is : (status : Status) (fields : Fields) → status_code (head_of statu
 code_is status fields = sym (is_line status).code
 
 pub fields_are : (status : Status) (fields : Fields) → AreWritten fields
-    → head_fields (head_of status fields) ≡ fields
+    → head_fields (head_of status fields).fields ≡ fields
 fields_are status fields h = values_kept fields (all_plain fields h)
 
 head_short : (status : Status) (fields : Fields) → AreWritten fields
@@ -233,7 +231,7 @@ few_lines status fields h =
     )
 
 pub head_read : (status : Status) (fields : Fields) (behind : List ℕ) → AreWritten fields
-    → ReadsHead (head_text status fields ++ behind) (head_of status fields) behind
+    → ReadsHead responses (head_text status fields ++ behind) (head_of status fields) behind
 head_read status fields behind h =
     let few = h.few in
     let valid : All IsField (map field_of fields) =

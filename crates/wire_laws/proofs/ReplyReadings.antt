@@ -2,8 +2,9 @@
 use Rattle.std.proofs.Common.{◌≡◌, ◌≢◌, ℕ, Bool, List, refl, ◌∙◌, sym, subst, Ok, Err}
 use Rattle.std.specs.Prelude.{Result, ⊤}
 use Rattle.httparse.specs.Grammar.{ResponseHead, status_code}
-use Rattle.http_wire.specs.ResponseBody.{framing_of, head_fields}
-use Rattle.http_wire.specs.ResponseFronts.{responses}
+use Rattle.http_wire.specs.ResponseBody.{framing_of}
+use Rattle.http_wire.specs.Fields.{head_fields}
+use Rattle.http_wire.specs.Fronts.{responses}
 use Rattle.http_wire.specs.Unambiguous.{HeadParse, head, long, unfinished}
 use Rattle.http_wire.specs.declared.responses.framing.ResponseFraming.{ResponseFraming}
 use Rattle.http_wire.specs.declared.responses.framing.ResponseFraming.TheVariants.{ToEnd}
@@ -60,7 +61,7 @@ large_gives cut left keep e = absurd (cc e)
 
 -- how far the body goes behind what the text begins with
 abbrev FramedAs : Bool → Framed → HeadParse responses → Type 0
-FramedAs head_only r (head h behind) = framing_of max_answer head_only (status_code h) (head_fields h) ≡ r
+FramedAs head_only r (head h behind) = framing_of max_answer head_only (status_code h) (head_fields h.fields) ≡ r
 FramedAs head_only r long = ⊤
 FramedAs head_only r unfinished = ⊤
 

@@ -2,10 +2,10 @@
 use Rattle.std.proofs.Common.{◌≡◌, ◌≢◌, ℕ, Bool, false, codes, List, ◌++◌, length, refl, arith, ◌∙◌, sym, ap, subst, Option, Ok, Err, inl, inr, nat_lt}
 use Rattle.std.specs.Prelude.{Result}
 use Rattle.httparse.specs.Grammar.{ResponseHead, status_code}
-use Rattle.http_wire.specs.Fields.{Fields, values_of}
+use Rattle.http_wire.specs.Fields.{Fields, values_of, head_fields}
 use Rattle.http_wire.specs.HeadText.{status_number}
-use Rattle.http_wire.specs.ResponseFronts.{IsRefused}
-use Rattle.http_wire.specs.ResponseBody.{framing_by_length, framing_of, framing_without_coding, head_fields, is_empty, keeps_on}
+use Rattle.http_wire.specs.Fronts.{IsRefused, responses}
+use Rattle.http_wire.specs.ResponseBody.{framing_by_length, framing_of, framing_without_coding, is_empty, keeps_on}
 use Rattle.http_wire.specs.States.{SourceState}
 use Rattle.http_wire.specs.declared.responses.framing.ResponseFraming.TheVariants.{Length, ToEnd}
 use Rattle.http_wire.specs.declared.responses.framing.FramingFault.TheVariants as Fault
@@ -63,13 +63,13 @@ abbrev framed_by : Bool → ℕ → Fields → Framed
 framed_by head_only status fields = framing_of max_answer head_only status fields
 
 framing_is : (head_only : Bool) (sent : Sent) (r : Framed) → framing_behind head_only sent ≡ r
-    → framed_by head_only (status_code (head_sent sent)) (head_fields (head_sent sent)) ≡ r
+    → framed_by head_only (status_code (head_sent sent)) (head_fields (head_sent sent).fields) ≡ r
 framing_is head_only sent r e =
     let empty = is_empty head_only (status_number sent.status) in
     let by_length : List (List ℕ) → Framed = framing_by_length max_answer empty in
     let lengths = values_of (codes "content-length") sent.fields in
     let by_coding : List (List ℕ) → Framed = λ codings. framing_without_coding codings (by_length lengths) in
-    ap (λ n. framed_by head_only n (head_fields (head_sent sent))) (code_is sent.status sent.fields)
+    ap (λ n. framed_by head_only n (head_fields (head_sent sent).fields)) (code_is sent.status sent.fields)
     ∙ ap (framed_by head_only (status_number sent.status)) (fields_are sent.status sent.fields sent.says.written)
     ∙ rw (final sent.status) refl
     ∙ ap by_coding sent.says.coding
@@ -89,9 +89,9 @@ pub record IsSaidBy (sent : Sent) (body : List ℕ) (what : Heard) : Type 0 wher
   pub code : what.code ≡ code_of body
 
 heard_in : (sent : Sent) (body : List ℕ) (what : Heard) → IsSaidBy sent body what
-    → IsHeard (status_code (head_sent sent)) (head_fields (head_sent sent)) body what
+    → IsHeard (status_code (head_sent sent)) (head_fields (head_sent sent).fields) body what
 heard_in sent body what h =
-    let same : head_fields (head_sent sent) ≡ sent.fields = fields_are sent.status sent.fields sent.says.written in
+    let same : head_fields (head_sent sent).fields ≡ sent.fields = fields_are sent.status sent.fields sent.says.written in
     let place = subst (λ p. IsPlaceOf (location sent.fields) (Ok p)) (sym h.place_is) sent.says.place_is in
     record {
       status_is = h.status_is ∙ sym (code_is sent.status sent.fields);
@@ -106,7 +106,7 @@ tells : (head_only : Bool) (sent : Sent) (body rest : List ℕ) (new : SourceSta
     → TellsHeard head_only (text_of sent (body ++ rest)) rest new what sent.keep
 tells head_only sent body rest new what e h =
     let size = Length (length body) in
-    let same : head_fields (head_sent sent) ≡ sent.fields = fields_are sent.status sent.fields sent.says.written in
+    let same : head_fields (head_sent sent).fields ≡ sent.fields = fields_are sent.status sent.fields sent.says.written in
     record {
       head = head_sent sent;
       body = body;
@@ -124,7 +124,7 @@ module _ (head_only : Bool) (sent : Sent) (behind : List ℕ) (new : SourceState
       replies_unambiguous.one head_only (text_of sent behind) new other parse x reads whole (not_refused parse reading)
 
   -- it isn't refused: its head has few lines
-  lines : IsRefused (text_of sent behind) → ⊥
+  lines : IsRefused responses (text_of sent behind) → ⊥
   lines x =
       let head = head_read sent.status sent.fields behind sent.says.written in
       let many = replies_unambiguous.refused_head (text_of sent behind) (head_sent sent) behind head x in

@@ -10,8 +10,7 @@ use Rattle.httparse.specs.Grammar.{AllPass, IsToken, IsField, Field, RequestHead
 use Rattle.httparse.specs.Ascii.{crlf_bytes}
 use Rattle.httparse.specs.Spans.{name_and_value}
 use Rattle.httparse.proofs.TrimLemmas.{trim_ows_space, AllPass-reverse}
-use Rattle.http_wire.specs.Fronts.{max_head, max_fields}
-use Rattle.http_wire.specs.RequestFronts.{ReadsHead}
+use Rattle.http_wire.specs.Fronts.{max_head, max_fields, ReadsHead, requests}
 use Rattle.http_wire.specs.Fields.{Fields}
 use Rattle.upload_client.specs.AskText.{Message, print_message, target_of, request_line, host_text, section_text}
 use Rattle.http_wire.specs.HeadText as written
@@ -112,7 +111,7 @@ pub record IsSendable (m : Message) (host : List ℕ) : Type 0 where
   pub few : length (sent_fields m host) ≤ max_fields
   pub short : length (print_request (head_of m host)) ≤ max_head
 
-pub reads_head : (m : Message) (host : List ℕ) → IsSendable m host → ReadsHead (print_message m host) (head_of m host) m.body
+pub reads_head : (m : Message) (host : List ℕ) → IsSendable m host → ReadsHead requests (print_message m host) (head_of m host) m.body
 reads_head m host h =
     let sent = sent_fields m host in
     let fields : All IsField (map field_of sent) =

@@ -22,9 +22,8 @@ use Rattle.upload_service.specs.declared.ask.Extent.TheVariants.{Absent}
 use Rattle.upload_wire.specs.declared.target.PathForm.{PathForm}
 use Rattle.upload_wire.specs.declared.target.PathForm.TheVariants as Path
 use Rattle.http_wire.specs.declared.framing.Framing.TheVariants.{Length}
-use Rattle.http_wire.specs.Fronts.{max_fields, max_head, line_feeds}
+use Rattle.http_wire.specs.Fronts.{max_fields, max_head, line_feeds, ReadsHead, requests}
 use Rattle.http_wire.specs.HeadText.{print_field}
-use Rattle.http_wire.specs.RequestFronts.{ReadsHead}
 use Rattle.http_wire.proofs.HeadLemmas.{line_feeds-append}
 use Rattle.http_wire.specs.Query.{parameter}
 use Rattle.http_wire.specs.Fields.{Fields, values_of, keeps_connection, head_fields}
@@ -87,9 +86,9 @@ read_as : {max_body : ℕ} {m : Message} {host : List ℕ} {range : Extent} {for
     → IsRequest max_body (print_message m host) ask (record { head = bytes_eq m.method (codes "HEAD"); keep = true })
 read_as {max_body} {m} {host} {range} {form} h short =
     let fields = sent_fields m host in
-    let kept : head_fields (head_of m host) ≡ fields = values_kept fields h.fields.plain in
+    let kept : head_fields (head_of m host).fields ≡ fields = values_kept fields h.fields.plain in
     let s = spelled m.path m.query h.path h.slash h.query (target_short m host short) in
-    let ranged : extent_of (values_of (codes "content-range") (head_fields (head_of m host))) ≡ range =
+    let ranged : extent_of (values_of (codes "content-range") (head_fields (head_of m host).fields)) ≡ range =
     ap (λ f. extent_of (values_of (codes "content-range") f)) kept ∙ h.fields.range_is in
     let bare = ask_of_form form (method_of m.method) (unwrap_or m.query []) range in
     let asks : Asks m.method (target_of m) range bare =
@@ -333,7 +332,7 @@ lines_of m host h =
 pub record HeadWritten (ask : Ask) (host : List ℕ) : Type 0 where
   pub head : RequestHead
   pub rest : List ℕ
-  pub reads : ReadsHead (ask_text ask host) head rest
+  pub reads : ReadsHead requests (ask_text ask host) head rest
   pub lines : line_feeds (print_request head) ≤ max_fields + 2
 
 head_as : {max_body : ℕ} {host : List ℕ} {range : Extent} {form : PathForm} {asked_as : Ask} (ask : Ask) → ReadsAs max_body (message_of ask) host range form asked_as

@@ -1,16 +1,10 @@
 -- What the functions find that read fields.
-use Rattle.std.specs.Prelude.{◌≡◌, ℕ, ◌<◌, List, [], ◌∷◌, length, map, take, Option, Some, None}
+use Rattle.std.specs.Prelude.{◌≡◌, ℕ, ◌<◌, List, [], ◌∷◌, length, Option, Some, None}
 use Rattle.std.specs.Borrow.{Bor}
-use Rattle.httparse.specs.Spans.{header_bytes}
-use Rattle.http_wire.specs.Fields.{Fields, elements}
-use Rattle.http_wire.specs.declared.requests.parsed.ParsedRequest.{ParsedRequest}
+use Rattle.http_wire.specs.Fields.{elements}
 use Rattle.http_wire.specs.declared.elements.Elements.{Elements}
 use Rattle.http_wire.specs.declared.fields.Occurrence.{Occurrence}
 use Rattle.http_wire.specs.declared.fields.Occurrence.TheVariants.{Absent, Once, Repeated}
-
--- the fields that the spans of a head cover
-abbrev pub fields_of : List ℕ → ParsedRequest → Fields
-fields_of head p = map (header_bytes head) (take p.spans.headers p.headers)
 
 -- how often a field stands there
 abbrev pub IsOccurrence : List (List ℕ) → Occurrence → Type 0

@@ -1,9 +1,12 @@
 -- What the functions find that read a head, of any grammar.
-use Rattle.std.specs.Prelude.{◌≡◌, ℕ, ◌+◌, ◌<◌, ◌≤◌, ◌⊎◌, List, [], ◌∷◌, ◌++◌, length, take, drop, Result, Ok, Err}
+use Rattle.std.specs.Prelude.{◌≡◌, ℕ, ◌+◌, ◌≤◌, ◌⊎◌, List, [], ◌∷◌, ◌++◌, length, map, take, drop, Result, Ok, Err}
 use Rattle.httparse.specs.Ascii.{line_feed}
+use Rattle.httparse.specs.Spans.{header_bytes}
+use Rattle.httparse.specs.declared.spans.HeaderSpan.{HeaderSpan}
 use Rattle.http_wire.specs.States.{SourceState}
 use Rattle.http_wire.specs.Reading.{HasEnded}
-use Rattle.http_wire.specs.Fronts.{max_head, Words, Reads, HasNone, IsRefused, IsTooLong, IsUnfinished, MayBeRefused}
+use Rattle.http_wire.specs.Fields.{Fields}
+use Rattle.http_wire.specs.Fronts.{max_head, Words, Reads, HasNone, IsRefused, IsTooLong, IsCutHead, MayBeRefused}
 use Rattle.http_wire.specs.declared.head.Verdict.{Verdict}
 use Rattle.http_wire.specs.declared.head.Verdict.TheVariants.{Complete, Refused, Open}
 use Rattle.http_wire.specs.declared.head.HeadRead.{HeadRead}
@@ -11,17 +14,23 @@ use Rattle.http_wire.specs.declared.head.HeadRead.TheVariants as Found
 use Rattle.http_wire.specs.declared.fault.InputFault.{InputFault}
 use Rattle.http_wire.specs.declared.fault.InputFault.TheVariants as Fault
 
--- what a parser of the grammar answers: which heads that begin a text it covers, and how many bytes they have
+-- what a parser of the grammar answers: which heads that begin a text it covers, how many bytes they have, and where
+-- their fields are
 pub record Spans (P : Type 0) : Type 1 where
   pub words : Words
   pub IsHeadOf : List ℕ → P → Type 0
   pub len : P → ℕ
+  pub headers : P → List HeaderSpan
 
 -- each head ends in a line feed, and what is covered is a head of the text
 pub record AreLawful {P : Type 0} (s : Spans P) : Type 0 where
   pub ends : (h : s.words.Head) → (front : List ℕ) × (s.words.print h ≡ front ++ line_feed ∷ [])
   pub fits : (text : List ℕ) (p : P) → s.IsHeadOf text p → s.len p ≤ length text
   pub reads : (text : List ℕ) (p : P) → s.IsHeadOf text p → (h : s.words.Head) × Reads s.words text h (drop (s.len p) text)
+
+-- the fields that the spans of a head cover
+abbrev pub fields_of : {P : Type 0} → Spans P → List ℕ → P → Fields
+fields_of s head p = map (header_bytes head) (s.headers p)
 
 -- what the verdict says of a front
 abbrev pub Judges : {P : Type 0} → Spans P → List ℕ → Verdict P → Type 0
@@ -47,5 +56,5 @@ FindsHead s text new (Ok Found.Over) = (text ≡ []) × HasEnded new
 FindsHead s text new (Ok Found.Refused) = IsRefused s.words text
 FindsHead s text new (Ok Found.TooLong) = IsTooLong s.words text
 FindsHead s text new (Ok (Found.Head p)) = IsHeadAtFront s text p
-FindsHead s text new (Err Fault.Truncated) = ((0 < length text) × IsUnfinished s.words text) × HasEnded new
-FindsHead s text new (Err Fault.Read) = (text ≡ []) ⊎ ((0 < length text) × IsUnfinished s.words text)
+FindsHead s text new (Err Fault.Truncated) = IsCutHead s.words text × HasEnded new
+FindsHead s text new (Err Fault.Read) = (text ≡ []) ⊎ IsCutHead s.words text

@@ -1,7 +1,8 @@
 //! How far the body of a response goes, and whether the connection stays behind it.
 ghost use Rattle.std.specs.Prelude.{◌≡◌, ◌∷◌, ◌^◌, ◌≤◌, [], IfOk};
 ghost use Rattle.http_wire.specs.ResponseBody.{IsFraming, framing_by_length, framing_of, keeps_on};
-ghost use Rattle.http_wire.specs.Inner.ResponseSpans.{IsHeadOf, fields_of};
+ghost use Rattle.http_wire.specs.Inner.HeadReading.{fields_of};
+ghost use Rattle.http_wire.specs.Inner.HeadSpans.{response_spans};
 
 use super::parsed::ParsedResponse;
 use crate::fault::Bad;
@@ -55,8 +56,8 @@ pub fn response_framing(
     max_body: u64,
 ) -> Result<ResponseFraming, FramingFault>
     requires limit { max_body ≤ 2 ^ 31 }
-    requires head { IsHeadOf head.now parsed.now }
-    ensures framed { result ≡ framing_of max_body to_head parsed.now.spans.code (fields_of head.now parsed.now) }
+    requires head { response_spans.IsHeadOf head.now parsed.now }
+    ensures framed { result ≡ framing_of max_body to_head parsed.now.spans.code (fields_of response_spans head.now parsed.now) }
     ensures kept { IfOk result (IsFraming max_body) }
 {
     let status = parsed.spans.code;
@@ -87,8 +88,8 @@ pub fn response_keeps_connection(
     parsed: &ParsedResponse,
     framing: ResponseFraming,
 ) -> bool
-    requires { IsHeadOf head.now parsed.now }
-    ensures { result ≡ keeps_on parsed.now.spans.version (fields_of head.now parsed.now) framing }
+    requires { response_spans.IsHeadOf head.now parsed.now }
+    ensures { result ≡ keeps_on parsed.now.spans.version (fields_of response_spans head.now parsed.now) framing }
 {
     match framing {
         ResponseFraming::Length(_) => {

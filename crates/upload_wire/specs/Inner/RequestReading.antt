@@ -7,7 +7,8 @@ use Rattle.http_wire.specs.Reading.{HasEnded}
 use Rattle.http_wire.specs.Fields.{values_of, keeps_connection}
 use Rattle.http_wire.specs.Body.{framing_of}
 use Rattle.upload_wire.specs.Target.{Asks, extent_of, with_body}
-use Rattle.http_wire.specs.Inner.FieldReading.{fields_of}
+use Rattle.http_wire.specs.Inner.HeadReading.{fields_of}
+use Rattle.http_wire.specs.Inner.HeadSpans.{request_spans}
 use Rattle.http_wire.specs.Inner.BodyReading.{MovedNone}
 use Rattle.http_wire.specs.Inner.BodyFinding.{TakesBody, RefusesBodyText, CutsBody}
 use Rattle.http_wire.specs.declared.requests.parsed.ParsedRequest.{ParsedRequest}
@@ -25,15 +26,15 @@ use Rattle.upload_wire.specs.declared.request.Described.{Described}
 -- what the spans of a head ask, how they want the reply, and how they frame the body
 pub record DescribesAll (max_body : ℕ) (head : List ℕ) (p : ParsedRequest) (d : Described) : Type 0 where
   pub asks : Asks (span_bytes head p.spans.method) (span_bytes head p.spans.path)
-      (extent_of (values_of (codes "content-range") (fields_of head p))) d.ask
+      (extent_of (values_of (codes "content-range") (fields_of request_spans head p))) d.ask
   pub is_head : d.style.head ≡ bytes_eq (span_bytes head p.spans.method) (codes "HEAD")
-  pub keeps : d.style.keep ≡ keeps_connection p.spans.version (fields_of head p)
-  pub framed : framing_of max_body p.spans.version (fields_of head p) ≡ Ok d.framing
+  pub keeps : d.style.keep ≡ keeps_connection p.spans.version (fields_of request_spans head p)
+  pub framed : framing_of max_body p.spans.version (fields_of request_spans head p) ≡ Ok d.framing
 
 -- what is made of a head: that, or what is bad in how it frames its body, unless memory was refused
 abbrev pub Describes : ℕ → List ℕ → ParsedRequest → Result (Result Described Bad) WireFault → Type 0
 Describes max_body head p (Ok (Ok d)) = DescribesAll max_body head p d
-Describes max_body head p (Ok (Err why)) = framing_of max_body p.spans.version (fields_of head p) ≡ Err why
+Describes max_body head p (Ok (Err why)) = framing_of max_body p.spans.version (fields_of request_spans head p) ≡ Err why
 Describes max_body head p (Err fault) = fault ≡ Fault.NoMemory
 
 -- ---- the body behind it

@@ -1,11 +1,11 @@
 use Rattle.std.proofs.Common.{ap}
 use Rattle.std.specs.Prelude.{Err}
-use Rattle.http_wire.specs.RequestFronts.{requests}
+use Rattle.http_wire.specs.Fronts.{requests}
 use Rattle.http_wire.proofs.HeadLemmas.{refused_by_error}
-use Rattle.http_wire.proofs.RequestHeads.{has_lines}
+use Rattle.http_wire.proofs.HeadLaws.{request_lines}
 use Rattle.http_wire.proofs.requests.RequestsGrammar.judge.Goals as goal
 
 pub returns-in-Err : goal.returns-in-Err
 returns-in-Err c =
-    refused_by_error requests has_lines c.args.front.now c.in-Err.field-0 c.in-Err.ensures.invalid c.in-Err.ensures.no_room
+    refused_by_error requests request_lines c.args.front.now c.in-Err.field-0 c.in-Err.ensures.invalid c.in-Err.ensures.no_room
     (λ e. c.in-Err.ensures.too_many (ap Err e))

@@ -15,7 +15,6 @@ use denote.Ref.{shr_vals, shr_Tells}
 use denote.Slice.{shr_slice_vals, shr_slice_Tells}
 use denote.Shadow.{pure_i}
 use denote.Signature.{plain, types_at}
-use denote.Steps.{nothing}
 use denote.Triple.Entry.{alive}
 use denote.Triple.Walked.{says, Stays, stay_none_ref, stay_none_slice, Goes-none_ref, Goes-none_slice, walk_of, ends_at}
 use Rattle.http_wire.specs.contracts.transcript.Transcript as R

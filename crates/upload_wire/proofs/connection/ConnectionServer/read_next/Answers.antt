@@ -2,7 +2,7 @@ use Rattle.std.proofs.Common.{subst, refl, inl, inr}
 use Rattle.std.specs.Prelude.{Ok}
 use Rattle.std.proofs.lemmas.Result.{err_from_is_err_and}
 use Rattle.http_wire.specs.Inner.HeadReading.{FindsHead}
-use Rattle.http_wire.specs.Inner.RequestSpans.{request_spans}
+use Rattle.http_wire.specs.Inner.HeadSpans.{request_spans}
 use Rattle.http_wire.specs.declared.fault.Bad.TheVariants.{Head, LongHead}
 use Rattle.upload_wire.specs.RequestText.{ReadsNext}
 use Rattle.upload_wire.proofs.ToldLemmas.{told_behind, told_unreadable, told_fault}
