@@ -1,5 +1,6 @@
 -- The window of a read buffer.
-use Rattle.std.proofs.Common.{◌≡◌, ℕ, ◌+◌, ◌-◌, ◌≤◌, List, [], ◌++◌, length, take, drop, slice_range, sym, ap, ◌∙◌, arith, length-take, length-drop}
+use Rattle.std.proofs.Common.{◌≡◌, ℕ, ◌+◌, ◌-◌, ◌≤◌, List, [], ◌++◌, length, take, drop, slice_range, sym, ap, ◌∙◌}
+use Rattle.std.proofs.Common.{arith, length-take, length-drop}
 use Rattle.std.specs.List.{copy_within}
 use Rattle.std.specs.Prelude.{Vec}
 use Rattle.std.specs.declared.alloc.Global.{Global}
@@ -35,7 +36,8 @@ consumed xs start end count fits =
     range_is xs (start + count) end fits ∙ sym (drop-drop count start (take end xs))
     ∙ ap (drop count) (sym (range_is xs start end (omega arith)))
 
-pub window_length : (xs : List ℕ) (start end : ℕ) → start ≤ end → end ≤ length xs → length (slice_range xs start end) ≡ end - start
+pub window_length : (xs : List ℕ) (start end : ℕ) → start ≤ end → end ≤ length xs
+    → length (slice_range xs start end) ≡ end - start
 window_length xs start end le fits = omega (arith, length-take (end - start) (drop start xs), length-drop start xs)
 
 -- a read behind the first bytes
@@ -47,7 +49,8 @@ read_on old got after end n fits few =
     ∙ take-append-add (take end old) (got ++ after) n
     ∙ ap (λ t. take end old ++ t) (take-append-le n got after few)
 
-pub read_nothing : (old more : List ℕ) (end : ℕ) → end ≤ length old → take (end + 0) (take end old ++ more) ≡ take end old ++ []
+pub read_nothing : (old more : List ℕ) (end : ℕ) → end ≤ length old
+    → take (end + 0) (take end old ++ more) ≡ take end old ++ []
 read_nothing old more end fits =
     let len : length (take end old) ≡ end = omega (arith, length-take end old) in
     ap (λ k. take (k + 0) (take end old ++ more)) (sym len) ∙ take-append-add (take end old) more 0
@@ -82,10 +85,12 @@ pub window_grows : (x : Inside) (held new given : List ℕ) (n : ℕ) → IsWind
 window_grows x held new given n at more =
     let fits = at.fits in
     let whole = at.whole in
-    grown x.bytes.items new given x.start x.end n at.order (omega (arith, fits, whole)) more ∙ ap (λ t. t ++ given) at.window
+    grown x.bytes.items new given x.start x.end n at.order (omega (arith, fits, whole)) more
+    ∙ ap (λ t. t ++ given) at.window
 
 -- the window where the first bytes stayed
 pub window_stays : (x : Inside) (held new : List ℕ) → IsWindow x held → take x.end new ≡ take x.end x.bytes.items
     → slice_range new x.start x.end ≡ held
 window_stays x held new at same =
-    range_is new x.start x.end at.order ∙ ap (drop x.start) same ∙ sym (range_is x.bytes.items x.start x.end at.order) ∙ at.window
+    range_is new x.start x.end at.order ∙ ap (drop x.start) same
+    ∙ sym (range_is x.bytes.items x.start x.end at.order) ∙ at.window

@@ -1,5 +1,6 @@
 -- From a chunk's parts to the chunk, and from chunks to the body.
-use Rattle.std.proofs.Common.{◌≡◌, ℕ, ◌-◌, ◌<◌, ◌≤◌, List, [], ◌∷◌, ◌++◌, All, length, refl, arith, ◌∙◌, sym, ap, subst, append_assoc, length-append, inl, inr}
+use Rattle.std.proofs.Common.{◌≡◌, ℕ, ◌-◌, ◌<◌, ◌≤◌, List, [], ◌∷◌, ◌++◌, All, length, refl, arith, ◌∙◌, sym, ap, subst}
+use Rattle.std.proofs.Common.{append_assoc, length-append, inl, inr}
 use Rattle.std.specs.Prelude.{Err, ◌⊎◌}
 use Rattle.std.proofs.lemmas.List.{append-nil}
 use Rattle.std.proofs.lemmas.Grind.{flat_map-append}
@@ -7,9 +8,11 @@ use Rattle.std.proofs.lemmas.List.Elements.{All-append, All-cons, All-nil}
 use Rattle.std.specs.Str.Parse.{digits_value}
 use Rattle.http_wire.specs.States.{SourceState}
 use Rattle.http_wire.specs.Reading.{Gave}
-use Rattle.http_wire.specs.Body.{Chunk, print_chunk, IsChunk, chunks_text, chunks_data, NeverChunked, IsBadBody, IsCutBody}
+use Rattle.http_wire.specs.Body.{Chunk, print_chunk, IsChunk, chunks_text, chunks_data, NeverChunked, IsBadBody}
+use Rattle.http_wire.specs.Body.{IsCutBody}
 use Rattle.http_wire.specs.Inner.BodyReading.{Moved, ReadsBytes}
-use Rattle.http_wire.specs.Inner.ChunkReading.{TakesLine, BreaksLine, CutsLine, FindsLine, BreaksEnd, CutsEnd, FindsEnd, TakesChunk, TakesLast, RefusesChunk, CutsChunk, FindsChunk}
+use Rattle.http_wire.specs.Inner.ChunkReading.{TakesLine, BreaksLine, CutsLine, FindsLine, BreaksEnd, CutsEnd, FindsEnd}
+use Rattle.http_wire.specs.Inner.ChunkReading.{TakesChunk, TakesLast, RefusesChunk, CutsChunk, FindsChunk}
 use Rattle.http_wire.specs.Inner.ChunksRead.{AreTaken}
 use Rattle.http_wire.specs.Inner.BodyFinding.{TakesBody, RefusesBodyText, CutsBody, FindsBody}
 use Rattle.http_wire.specs.declared.framing.Framing.TheVariants.{Length, Chunked}
@@ -22,12 +25,14 @@ use Rattle.http_wire.specs.declared.fault.BodyFault.{BodyFault}
 use Rattle.http_wire.specs.declared.fault.BodyFault.TheVariants as Fault
 use Rattle.http_wire.proofs.MovedLemmas.{StopsBefore, stops}
 use Rattle.http_wire.proofs.GaveLemmas.{gave_none, gave_as, gave_after}
-use Rattle.http_wire.proofs.ChunkLemmas.{never_from_line, never_after, front_after, under_after, over_after, under_inside, never_end, empty_of}
+use Rattle.http_wire.proofs.ChunkLemmas.{never_from_line, never_after, front_after, under_after, over_after}
+use Rattle.http_wire.proofs.ChunkLemmas.{under_inside, never_end, empty_of}
 use Rattle.http_wire.proofs.FrontLemmas.{front_line, front_data, front_data_end, under_line}
 
 -- ---- one chunk
 
-pub chunk_line_broken : (room : ℕ) (a b : SourceState) (held : List ℕ) → BreaksLine a held b → RefusesChunk room a held b bads.Chunks
+pub chunk_line_broken : (room : ℕ) (a b : SourceState) (held : List ℕ) → BreaksLine a held b
+    → RefusesChunk room a held b bads.Chunks
 chunk_line_broken room a b held h = record {
   text = h.before ++ h.byte ∷ h.rest;
   gave = h.gave;
@@ -52,12 +57,13 @@ chunk_line_cut room a b held h = record {
   cut = (front_line h.text h.state h.stands, under_line room h.text h.state h.stands);
 }
 
-pub chunk_line_fault : (room : ℕ) (a b : SourceState) (held rest x y : List ℕ) (e : InputFault) → FindsLine a held b rest (Err e)
-    → FindsChunk room a held x b rest y (Err (body_of_input e))
+pub chunk_line_fault : (room : ℕ) (a b : SourceState) (held rest x y : List ℕ) (e : InputFault)
+    → FindsLine a held b rest (Err e) → FindsChunk room a held x b rest y (Err (body_of_input e))
 chunk_line_fault room a b held rest x y Input.Truncated h = (chunk_line_cut room a b held h.0, h.1)
 chunk_line_fault room a b held rest x y Input.Read h = chunk_line_cut room a b held h
 
-pub chunk_over : (room : ℕ) (a b : SourceState) (held rest : List ℕ) (value : ℕ) → TakesLine a held b rest value → room < value → RefusesChunk room a held b bads.TooLarge
+pub chunk_over : (room : ℕ) (a b : SourceState) (held rest : List ℕ) (value : ℕ) → TakesLine a held b rest value
+    → room < value → RefusesChunk room a held b bads.TooLarge
 chunk_over room a b held rest value h over =
     let l = h.is_line in
     let valued = l.value_is in
@@ -98,7 +104,8 @@ chunk_data_cut room a b c held mid value h fits end =
     }
 
 pub chunk_data_fault : (room : ℕ) (a b c : SourceState) (held mid rest x y : List ℕ) (value : ℕ) (e : BodyFault)
-    → TakesLine a held b mid value → value ≤ room → ReadsBytes b mid x c rest y value (Err e) → FindsChunk room a held x c rest y (Err e)
+    → TakesLine a held b mid value → value ≤ room → ReadsBytes b mid x c rest y value (Err e)
+    → FindsChunk room a held x c rest y (Err e)
 chunk_data_fault room a b c held mid rest x y value Fault.Truncated h fits end =
     (chunk_data_cut room a b c held mid value h fits (stops b c mid x rest y value end.0), end.1)
 chunk_data_fault room a b c held mid rest x y value Fault.Read h fits end =
@@ -107,13 +114,14 @@ chunk_data_fault room a b c held mid rest x y value Fault.NoMemory h fits none =
     record { text = h.line ++ none.text; gave = gave_after a b c held h.line mid none.text h.gave none.gave }
 
 -- a line and its data were taken, and then some text was seen
-gave_chunk : (a b c d : SourceState) (held mid rest more x y : List ℕ) (value : ℕ) (h : TakesLine a held b mid value) (m : Moved b mid x c rest y value)
-    → Gave c d rest more → Gave a d held (h.line ++ (m.bytes ++ more))
+gave_chunk : (a b c d : SourceState) (held mid rest more x y : List ℕ) (value : ℕ) (h : TakesLine a held b mid value)
+    (m : Moved b mid x c rest y value) → Gave c d rest more → Gave a d held (h.line ++ (m.bytes ++ more))
 gave_chunk a b c d held mid rest more x y value h m g =
     gave_after a b d held h.line mid (m.bytes ++ more) h.gave (gave_after b c d mid m.bytes rest more m.gave g)
 
 pub chunk_end_broken : (room : ℕ) (a b c d : SourceState) (held mid rest x y : List ℕ) (value : ℕ)
-    → TakesLine a held b mid value → value ≤ room → Moved b mid x c rest y value → BreaksEnd c rest d → RefusesChunk room a held d bads.Chunks
+    → TakesLine a held b mid value → value ≤ room → Moved b mid x c rest y value → BreaksEnd c rest d
+    → RefusesChunk room a held d bads.Chunks
 chunk_end_broken room a b c d held mid rest x y value h fits m e =
     let l = h.is_line in
     let valued = l.value_is in
@@ -136,17 +144,21 @@ chunk_end_broken room a b c d held mid rest x y value h fits m e =
           under = under_inside room l.digits (m.bytes ++ e.before) l.size (omega (arith, valued, fits))
               (omega (arith, same, len, some, length-append m.bytes e.before, length-append e.before front.1));
           front = front_data_end l.digits m.bytes e.before front.1 l.size same front.2 front.3;
-          never = subst NeverChunked (simp append_assoc) (never_end l.digits m.bytes (e.before ++ e.byte ∷ []) l.size same e.never);
+          never =
+              subst NeverChunked (simp append_assoc)
+              (never_end l.digits m.bytes (e.before ++ e.byte ∷ []) l.size same e.never);
         },
       );
     }
   where
-    front_of : (x : List ℕ) → (x ≡ []) ⊎ (x ≡ 13 ∷ []) → (u : ℕ) × (y : List ℕ) × (x ++ y ≡ 13 ∷ 10 ∷ []) × (0 < length y)
+    front_of : (x : List ℕ) → (x ≡ []) ⊎ (x ≡ 13 ∷ [])
+        → (u : ℕ) × (y : List ℕ) × (x ++ y ≡ 13 ∷ 10 ∷ []) × (0 < length y)
     front_of x (inl e) = (0, 13 ∷ 10 ∷ [], ap (λ t. t ++ (13 ∷ 10 ∷ [])) e, omega arith)
     front_of x (inr e) = (0, 10 ∷ [], ap (λ t. t ++ (10 ∷ [])) e, omega arith)
 
 pub chunk_end_cut : (room : ℕ) (a b c d : SourceState) (held mid rest x y : List ℕ) (value : ℕ)
-    → TakesLine a held b mid value → value ≤ room → Moved b mid x c rest y value → CutsEnd c rest d → CutsChunk room a held d
+    → TakesLine a held b mid value → value ≤ room → Moved b mid x c rest y value → CutsEnd c rest d
+    → CutsChunk room a held d
 chunk_end_cut room a b c d held mid rest x y value h fits m e =
     let l = h.is_line in
     let valued = l.value_is in
@@ -165,7 +177,8 @@ chunk_end_cut room a b c d held mid rest x y value h fits m e =
       );
     }
   where
-    front_of : (x : List ℕ) → (x ≡ []) ⊎ (x ≡ 13 ∷ []) → (u : ℕ) × (y : List ℕ) × (x ++ y ≡ 13 ∷ 10 ∷ []) × (0 < length y)
+    front_of : (x : List ℕ) → (x ≡ []) ⊎ (x ≡ 13 ∷ [])
+        → (u : ℕ) × (y : List ℕ) × (x ++ y ≡ 13 ∷ 10 ∷ []) × (0 < length y)
     front_of x (inl e) = (0, 13 ∷ 10 ∷ [], ap (λ t. t ++ (13 ∷ 10 ∷ [])) e, omega arith)
     front_of x (inr e) = (0, 10 ∷ [], ap (λ t. t ++ (10 ∷ [])) e, omega arith)
 
@@ -174,11 +187,12 @@ pub chunk_end_fault : (room : ℕ) (a b c d : SourceState) (held mid rest last x
     → FindsChunk room a held x d last y (Err (body_of_input e))
 chunk_end_fault room a b c d held mid rest last x y value Input.Truncated h fits m f =
     (chunk_end_cut room a b c d held mid rest x y value h fits m f.0, f.1)
-chunk_end_fault room a b c d held mid rest last x y value Input.Read h fits m f = chunk_end_cut room a b c d held mid rest x y value h fits m f
+chunk_end_fault room a b c d held mid rest last x y value Input.Read h fits m f =
+    chunk_end_cut room a b c d held mid rest x y value h fits m f
 
 pub chunk_taken : (room : ℕ) (a b c d : SourceState) (held mid rest last x y : List ℕ) (value : ℕ)
-    → TakesLine a held b mid value → value ≤ room → 0 < value → Moved b mid x c rest y value → Gave c d rest (13 ∷ 10 ∷ last)
-    → TakesChunk room a held x d last y
+    → TakesLine a held b mid value → value ≤ room → 0 < value → Moved b mid x c rest y value
+    → Gave c d rest (13 ∷ 10 ∷ last) → TakesChunk room a held x d last y
 chunk_taken room a b c d held mid rest last x y value h fits some m end =
     let l = h.is_line in
     let valued = l.value_is in
@@ -192,7 +206,8 @@ chunk_taken room a b c d held mid rest last x y value h fits some m end =
       joined = m.joined;
     }
   where
-    flat : (ds d : List ℕ) → (ds ++ (13 ∷ 10 ∷ (d ++ (13 ∷ 10 ∷ [])))) ++ last ≡ ds ++ (13 ∷ 10 ∷ (d ++ (13 ∷ 10 ∷ last)))
+    flat : (ds d : List ℕ)
+        → (ds ++ (13 ∷ 10 ∷ (d ++ (13 ∷ 10 ∷ [])))) ++ last ≡ ds ++ (13 ∷ 10 ∷ (d ++ (13 ∷ 10 ∷ last)))
     flat ds d = simp append_assoc
 
 pub chunk_last : (a b c d : SourceState) (held mid rest last x y : List ℕ) (value : ℕ)
@@ -218,10 +233,11 @@ chunk_last a b c d held mid rest last x y value h zero m end =
 -- ---- all chunks
 
 pub taken_nothing : (max : ℕ) (known : SourceState) (held : List ℕ) → AreTaken max known held known held []
-taken_nothing max known held = record { chunks = []; each = All-nil IsChunk; gave = gave_none known held; joined = refl; fits = omega arith }
+taken_nothing max known held =
+    record { chunks = []; each = All-nil IsChunk; gave = gave_none known held; joined = refl; fits = omega arith }
 
-pub taken_more : (max room : ℕ) (a b c : SourceState) (held mid rest x y : List ℕ) → room ≡ max - length x → AreTaken max a held b mid x
-    → TakesChunk room b mid x c rest y → AreTaken max a held c rest y
+pub taken_more : (max room : ℕ) (a b c : SourceState) (held mid rest x y : List ℕ) → room ≡ max - length x
+    → AreTaken max a held b mid x → TakesChunk room b mid x c rest y → AreTaken max a held c rest y
 taken_more max room a b c held mid rest x y left t h =
     let fits = t.fits in
     let more = h.fits in
@@ -229,8 +245,11 @@ taken_more max room a b c held mid rest x y left t h =
     let gave = gave_after a b c held (chunks_text t.chunks) mid (print_chunk h.chunk ++ rest) t.gave h.gave in
     record {
       chunks = t.chunks ++ h.chunk ∷ [];
-      each = All-append IsChunk t.chunks (h.chunk ∷ []) t.each (All-cons IsChunk h.chunk [] h.is_chunk (All-nil IsChunk));
-      gave = gave_as (ap (λ s. s ++ rest) (flat_map-append print_chunk t.chunks (h.chunk ∷ []) ∙ ap (λ s. chunks_text t.chunks ++ s) (append-nil (print_chunk h.chunk)))
+      each =
+          All-append IsChunk t.chunks (h.chunk ∷ []) t.each (All-cons IsChunk h.chunk [] h.is_chunk (All-nil IsChunk));
+      gave =
+          gave_as (ap (λ s. s ++ rest) (flat_map-append print_chunk t.chunks (h.chunk ∷ [])
+          ∙ ap (λ s. chunks_text t.chunks ++ s) (append-nil (print_chunk h.chunk)))
           ∙ append_assoc (chunks_text t.chunks) (print_chunk h.chunk) rest) gave;
       joined = h.joined ∙ ap (λ s. s ++ h.chunk.data_bytes) t.joined
           ∙ ap (λ s. chunks_data t.chunks ++ s) (sym (append-nil h.chunk.data_bytes))
@@ -249,17 +268,26 @@ body_whole max a b c held mid rest x y t h =
       text = chunks_text t.chunks ++ last;
       gave = gave_as (append_assoc (chunks_text t.chunks) last rest) gave;
       written = (
-        record { chunks = t.chunks; zeros = h.zeros; each = t.each; last = h.is_zero; cut = refl; joined = h.joined ∙ t.joined },
+        record {
+          chunks = t.chunks;
+          zeros = h.zeros;
+          each = t.each;
+          last = h.is_zero;
+          cut = refl;
+          joined = h.joined ∙ t.joined;
+        },
         omega (arith, fits, same),
       );
     }
 
 -- the room that is left, by the chunks
-room_left : (max room : ℕ) (x : List ℕ) (chunks : List Chunk) → room ≡ max - length x → x ≡ chunks_data chunks → room ≡ max - length (chunks_data chunks)
+room_left : (max room : ℕ) (x : List ℕ) (chunks : List Chunk) → room ≡ max - length x → x ≡ chunks_data chunks
+    → room ≡ max - length (chunks_data chunks)
 room_left max room x chunks left same = left ∙ ap (λ t. max - length t) same
 
-pub bad_after : (max : ℕ) (chunks : List Chunk) (text : List ℕ) (why : Bad) → All IsChunk chunks → length (chunks_data chunks) ≤ max
-    → IsBadBody (Chunked (max - length (chunks_data chunks))) text why → IsBadBody (Chunked max) (chunks_text chunks ++ text) why
+pub bad_after : (max : ℕ) (chunks : List Chunk) (text : List ℕ) (why : Bad) → All IsChunk chunks
+    → length (chunks_data chunks) ≤ max → IsBadBody (Chunked (max - length (chunks_data chunks))) text why
+    → IsBadBody (Chunked max) (chunks_text chunks ++ text) why
 bad_after max chunks text why each fits bad = elim bad [
   | inl b ↦ inl (b.0, over_after max chunks text each fits b.1)
   | inr b ↦
@@ -270,7 +298,9 @@ bad_after max chunks text why each fits bad = elim bad [
           before = chunks_text chunks ++ broken.before;
           byte = broken.byte;
           rest = broken.rest;
-          cut = ap (λ t. chunks_text chunks ++ t) broken.cut ∙ sym (append_assoc (chunks_text chunks) broken.before (broken.byte ∷ broken.rest));
+          cut =
+              ap (λ t. chunks_text chunks ++ t) broken.cut
+              ∙ sym (append_assoc (chunks_text chunks) broken.before (broken.byte ∷ broken.rest));
           under = under_after max chunks broken.before each fits broken.under;
           front = front_after chunks broken.before each broken.front;
           never = subst NeverChunked (sym (append_assoc (chunks_text chunks) broken.before (broken.byte ∷ [])))
@@ -279,8 +309,8 @@ bad_after max chunks text why each fits bad = elim bad [
       )
 ]
 
-pub body_refused : (max room : ℕ) (a b c : SourceState) (held mid x : List ℕ) (why : Bad) → room ≡ max - length x → AreTaken max a held b mid x
-    → RefusesChunk room b mid c why → RefusesBodyText (Chunked max) a held c why
+pub body_refused : (max room : ℕ) (a b c : SourceState) (held mid x : List ℕ) (why : Bad) → room ≡ max - length x
+    → AreTaken max a held b mid x → RefusesChunk room b mid c why → RefusesBodyText (Chunked max) a held c why
 body_refused max room a b c held mid x why left t h =
     let fits = t.fits in
     let same = ap length t.joined in
@@ -291,8 +321,8 @@ body_refused max room a b c held mid x why left t h =
           (subst (λ n. IsBadBody (Chunked n) h.text why) (room_left max room x t.chunks left t.joined) h.bad);
     }
 
-body_cut : (max room : ℕ) (a b c : SourceState) (held mid x : List ℕ) → room ≡ max - length x → AreTaken max a held b mid x
-    → CutsChunk room b mid c → CutsBody (Chunked max) a held c
+body_cut : (max room : ℕ) (a b c : SourceState) (held mid x : List ℕ) → room ≡ max - length x
+    → AreTaken max a held b mid x → CutsChunk room b mid c → CutsBody (Chunked max) a held c
 body_cut max room a b c held mid x left t h =
     let fits = t.fits in
     let same = ap length t.joined in
@@ -300,23 +330,33 @@ body_cut max room a b c held mid x left t h =
     record {
       text = chunks_text t.chunks ++ h.text;
       gave = gave_after a b c held (chunks_text t.chunks) mid h.text t.gave h.gave;
-      cut = (front_after t.chunks h.text t.each cut.0, under_after max t.chunks h.text t.each (omega (arith, fits, same)) cut.1);
+      cut = (
+        front_after t.chunks h.text t.each cut.0,
+        under_after max t.chunks h.text t.each (omega (arith, fits, same)) cut.1,
+      );
     }
 
-pub body_fault : (max room : ℕ) (a b c : SourceState) (held mid rest x y : List ℕ) (e : BodyFault) → room ≡ max - length x → AreTaken max a held b mid x
-    → FindsChunk room b mid x c rest y (Err e) → FindsBody (Chunked max) a held c rest y (Err e)
-body_fault max room a b c held mid rest x y Fault.Truncated left t h = (body_cut max room a b c held mid x left t h.0, h.1)
+pub body_fault : (max room : ℕ) (a b c : SourceState) (held mid rest x y : List ℕ) (e : BodyFault)
+    → room ≡ max - length x → AreTaken max a held b mid x → FindsChunk room b mid x c rest y (Err e)
+    → FindsBody (Chunked max) a held c rest y (Err e)
+body_fault max room a b c held mid rest x y Fault.Truncated left t h =
+    (body_cut max room a b c held mid x left t h.0, h.1)
 body_fault max room a b c held mid rest x y Fault.Read left t h = body_cut max room a b c held mid x left t h
 body_fault max room a b c held mid rest x y Fault.NoMemory left t h =
-    record { text = chunks_text t.chunks ++ h.text; gave = gave_after a b c held (chunks_text t.chunks) mid h.text t.gave h.gave }
+    record {
+      text = chunks_text t.chunks ++ h.text;
+      gave = gave_after a b c held (chunks_text t.chunks) mid h.text t.gave h.gave;
+    }
 
 -- ---- a body of a length
 
-pub length_whole : (n : ℕ) (a b : SourceState) (held rest y : List ℕ) → Moved a held [] b rest y n → TakesBody (Length n) a held b rest y
-length_whole n a b held rest y m = record { text = m.bytes; gave = m.gave; written = (sym m.joined, ap length m.joined ∙ m.counted) }
+pub length_whole : (n : ℕ) (a b : SourceState) (held rest y : List ℕ) → Moved a held [] b rest y n
+    → TakesBody (Length n) a held b rest y
+length_whole n a b held rest y m =
+    record { text = m.bytes; gave = m.gave; written = (sym m.joined, ap length m.joined ∙ m.counted) }
 
-pub length_fault : (n : ℕ) (a b : SourceState) (held rest y : List ℕ) (e : BodyFault) → ReadsBytes a held [] b rest y n (Err e)
-    → FindsBody (Length n) a held b rest y (Err e)
+pub length_fault : (n : ℕ) (a b : SourceState) (held rest y : List ℕ) (e : BodyFault)
+    → ReadsBytes a held [] b rest y n (Err e) → FindsBody (Length n) a held b rest y (Err e)
 length_fault n a b held rest y Fault.Truncated h =
     let end = stops a b held [] rest y n h.0 in (record { text = end.text; gave = end.gave; cut = end.short }, h.1)
 length_fault n a b held rest y Fault.Read h =

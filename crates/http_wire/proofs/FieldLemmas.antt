@@ -1,5 +1,6 @@
 -- Fields one after another, and numbers digit by digit.
-use Rattle.std.proofs.Common.{◌≡◌, ℕ, ◌+◌, ◌*◌, ◌-◌, ◌<◌, ◌≤◌, Bool, true, false, List, [], ◌∷◌, ◌++◌, length, map, get_or, take, refl, sym, ap, ◌∙◌, arith, cond, filter, add-one}
+use Rattle.std.proofs.Common.{◌≡◌, ℕ, ◌+◌, ◌*◌, ◌-◌, ◌<◌, ◌≤◌, Bool, true, false, List, [], ◌∷◌, ◌++◌, length, map}
+use Rattle.std.proofs.Common.{get_or, take, refl, sym, ap, ◌∙◌, arith, cond, filter, add-one}
 use Rattle.std.specs.Prelude.{Err, Ok, nat_lt, ◌&&◌, ◌||◌, codes}
 use Rattle.std.specs.List.{list_all, list_any}
 use Rattle.std.specs.Char.{is_ascii_digit, digit_value}
@@ -63,7 +64,8 @@ or-false false = refl
 pub map_take-next : {A B : Type 0} (f : A → B) (xs : List A) (i : ℕ) (d : A) → i < length xs
     → map f (take (i + 1) xs) ≡ map f (take i xs) ++ f (get_or xs i d) ∷ []
 map_take-next f xs i d lt =
-    ap (λ n. map f (take n xs)) (add-one i) ∙ ap (map f) (take-suc xs i d lt) ∙ map-append f (take i xs) (get_or xs i d ∷ [])
+    ap (λ n. map f (take n xs)) (add-one i) ∙ ap (map f) (take-suc xs i d lt)
+    ∙ map-append f (take i xs) (get_or xs i d ∷ [])
 
 -- ---- numbers
 
@@ -74,7 +76,8 @@ and-false false = refl
 length_by : (max : ℕ) (value : List ℕ) (a b : Bool) → is_number value ≡ a → nat_lt max (digits_value 10 value) ≡ b
     → length_of max value ≡ cond a (cond b (Err bads.TooLarge) (Ok (digits_value 10 value))) (Err bads.Length)
 length_by max value a b p q =
-    ap (λ t. cond t (cond (nat_lt max (digits_value 10 value)) (Err bads.TooLarge) (Ok (digits_value 10 value))) (Err bads.Length)) p
+    ap (λ t. cond t (cond (nat_lt max (digits_value 10 value)) (Err bads.TooLarge) (Ok (digits_value 10 value)))
+    (Err bads.Length)) p
     ∙ ap (λ t. cond a (cond t (Err bads.TooLarge) (Ok (digits_value 10 value))) (Err bads.Length)) q
 
 is_number-empty : (v : List ℕ) → length v ≡ 0 → is_number v ≡ false
@@ -95,7 +98,8 @@ length_of-other max value i lt other =
 
 is_number-yes : (value : List ℕ) → 0 < length value → list_all is_ascii_digit value ≡ true → is_number value ≡ true
 unfolding is_number
-is_number-yes value some each = ap (λ b. nat_lt 0 (length value) && b) each ∙ ap (λ b. b && true) (lt-ltb 0 (length value) some)
+is_number-yes value some each =
+    ap (λ b. nat_lt 0 (length value) && b) each ∙ ap (λ b. b && true) (lt-ltb 0 (length value) some)
 
 pub length_of-over : (max : ℕ) (value : List ℕ) → 0 < length value → list_all is_ascii_digit value ≡ true
     → max < digits_value 10 value → length_of max value ≡ Err bads.TooLarge

@@ -1,5 +1,6 @@
 -- How a front of a chunked text can go on.
-use Rattle.std.proofs.Common.{◌≡◌, ℕ, zero, suc, ◌-◌, ◌<◌, ◌≤◌, List, [], ◌∷◌, ◌++◌, length, refl, arith, ◌∙◌, sym, ap, subst, append-nil, append_assoc, length-append, inl, inr}
+use Rattle.std.proofs.Common.{◌≡◌, ℕ, zero, suc, ◌-◌, ◌<◌, ◌≤◌, List, [], ◌∷◌, ◌++◌, length, refl, arith, ◌∙◌, sym, ap}
+use Rattle.std.proofs.Common.{subst, append-nil, append_assoc, length-append, inl, inr}
 use Rattle.std.proofs.lemmas.List.Elements.{All-nil}
 use Rattle.std.proofs.lemmas.Bool.{cases_lt}
 use Rattle.std.proofs.lemmas.List.Sums.{AllPass-from_list_all}
@@ -23,10 +24,18 @@ length-padding zero = refl
 length-padding (suc n) = ap suc (length-padding n)
 
 zero_size : IsSize (48 ∷ [])
-zero_size = record { some = omega arith; few = omega arith; hex = AllPass-from_list_all is_ascii_hexdigit (48 ∷ []) refl }
+zero_size =
+    record { some = omega arith; few = omega arith; hex = AllPass-from_list_all is_ascii_hexdigit (48 ∷ []) refl }
 
 last_chunked : IsChunked (48 ∷ 13 ∷ 10 ∷ 13 ∷ 10 ∷ []) []
-last_chunked = record { chunks = []; zeros = 48 ∷ []; each = All-nil IsChunk; last = record { size = zero_size; zero = refl }; cut = refl; joined = refl }
+last_chunked = record {
+  chunks = [];
+  zeros = 48 ∷ [];
+  each = All-nil IsChunk;
+  last = record { size = zero_size; zero = refl };
+  cut = refl;
+  joined = refl;
+}
 
 pub front_start : IsFrontOfChunked []
 front_start = record { more = 48 ∷ 13 ∷ 10 ∷ 13 ∷ 10 ∷ []; body = []; some = omega arith; chunked = last_chunked }
@@ -43,8 +52,8 @@ front_shorter a b f =
     }
 
 -- a size line, its data, and what stands of the line end
-pub front_data_end : (ds d x y : List ℕ) → IsSize ds → digits_value 16 ds ≡ length d → x ++ y ≡ 13 ∷ 10 ∷ [] → 0 < length y
-    → IsFrontOfChunked (ds ++ (13 ∷ 10 ∷ (d ++ x)))
+pub front_data_end : (ds d x y : List ℕ) → IsSize ds → digits_value 16 ds ≡ length d → x ++ y ≡ 13 ∷ 10 ∷ []
+    → 0 < length y → IsFrontOfChunked (ds ++ (13 ∷ 10 ∷ (d ++ x)))
 front_data_end ds d x y is same end some = elim (cases_lt 0 (length d)) [
   | inl filled ↦
       let c : Chunk = record { digits = ds; data_bytes = d } in
@@ -54,7 +63,8 @@ front_data_end ds d x y is same end some = elim (cases_lt 0 (length d)) [
         body = d ++ [];
         some = omega (arith, some, length-append y (48 ∷ 13 ∷ 10 ∷ 13 ∷ 10 ∷ []));
         chunked = subst (λ t. IsChunked t (d ++ [])) (sym (joined (48 ∷ 13 ∷ 10 ∷ 13 ∷ 10 ∷ [])))
-            (subst (λ t. IsChunked t (d ++ [])) (chunk_flat c (48 ∷ 13 ∷ 10 ∷ 13 ∷ 10 ∷ [])) (chunk_more c (48 ∷ 13 ∷ 10 ∷ 13 ∷ 10 ∷ []) [] is_chunk last_chunked));
+            (subst (λ t. IsChunked t (d ++ [])) (chunk_flat c (48 ∷ 13 ∷ 10 ∷ 13 ∷ 10 ∷ []))
+            (chunk_more c (48 ∷ 13 ∷ 10 ∷ 13 ∷ 10 ∷ []) [] is_chunk last_chunked));
       }
   | inr none ↦
       let empty : d ≡ [] = empty_of d (omega (arith, none)) in
@@ -67,7 +77,9 @@ front_data_end ds d x y is same end some = elim (cases_lt 0 (length d)) [
           zeros = ds;
           each = All-nil IsChunk;
           last = record { size = is; zero = omega (arith, same, none) };
-          cut = ap (λ t. t) (flat y) ∙ ap (λ b. ds ++ (13 ∷ 10 ∷ (b ++ (x ++ y)))) empty ∙ ap (λ t. ds ++ (13 ∷ 10 ∷ t)) end;
+          cut =
+              ap (λ t. t) (flat y) ∙ ap (λ b. ds ++ (13 ∷ 10 ∷ (b ++ (x ++ y)))) empty
+              ∙ ap (λ t. ds ++ (13 ∷ 10 ∷ t)) end;
           joined = refl;
         };
       }
@@ -83,20 +95,25 @@ front_data_end ds d x y is same end some = elim (cases_lt 0 (length d)) [
 pub front_data : (ds d : List ℕ) → IsSize ds → length d ≤ digits_value 16 ds → IsFrontOfChunked (ds ++ (13 ∷ 10 ∷ d))
 front_data ds d is le =
     let rest : List ℕ = padding (digits_value 16 ds - length d) in
-    let len : digits_value 16 ds ≡ length (d ++ rest) = omega (arith, le, length-append d rest, length-padding (digits_value 16 ds - length d)) in
+    let len : digits_value 16 ds ≡ length (d ++ rest) =
+    omega (arith, le, length-append d rest, length-padding (digits_value 16 ds - length d)) in
     front_shorter (ds ++ (13 ∷ 10 ∷ d)) rest
-    (subst IsFrontOfChunked (simp (append_assoc, append-nil)) (front_data_end ds (d ++ rest) [] (13 ∷ 10 ∷ []) is len refl (omega arith)))
+    (subst IsFrontOfChunked (simp (append_assoc, append-nil))
+    (front_data_end ds (d ++ rest) [] (13 ∷ 10 ∷ []) is len refl (omega arith)))
 
 pub front_digits : (ds : List ℕ) → IsSize ds → IsFrontOfChunked ds
 front_digits ds is = front_shorter ds (13 ∷ 10 ∷ []) (front_data ds [] is (omega arith))
 
 pub front_cr : (ds : List ℕ) → IsSize ds → IsFrontOfChunked (ds ++ 13 ∷ [])
-front_cr ds is = front_shorter (ds ++ 13 ∷ []) (10 ∷ []) (subst IsFrontOfChunked (sym (append_assoc ds (13 ∷ []) (10 ∷ []))) (front_data ds [] is (omega arith)))
+front_cr ds is =
+    front_shorter (ds ++ 13 ∷ []) (10 ∷ [])
+    (subst IsFrontOfChunked (sym (append_assoc ds (13 ∷ []) (10 ∷ []))) (front_data ds [] is (omega arith)))
 
 -- where a line stands it can go on
 pub front_line : (front : List ℕ) (state : LineState) → StandsAt front state → IsFrontOfChunked front
 front_line [] (Digits count value) h = front_start
-front_line (b ∷ front) (Digits count value) h = front_digits (b ∷ front) (record { some = omega arith; few = h.few; hex = h.hex })
+front_line (b ∷ front) (Digits count value) h =
+    front_digits (b ∷ front) (record { some = omega arith; few = h.few; hex = h.hex })
 front_line front (Ended value) h = subst IsFrontOfChunked (sym h.cut) (front_cr h.digits h.size)
 
 -- a line that stands has no size line in it

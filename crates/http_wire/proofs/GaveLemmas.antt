@@ -15,7 +15,8 @@ consumes_kept None new kept = tt
 consumes_kept (Some xs) None kept = absurd kept
 consumes_kept (Some xs) (Some ys) kept = sym kept
 
-pub consumes_both : (a b c : Option (List ℕ)) (xs ys : List ℕ) → Consumes a b xs → Consumes b c ys → Consumes a c (xs ++ ys)
+pub consumes_both : (a b c : Option (List ℕ)) (xs ys : List ℕ) → Consumes a b xs → Consumes b c ys
+    → Consumes a c (xs ++ ys)
 consumes_both None b c xs ys h k = tt
 consumes_both (Some s) None c xs ys h k = absurd h
 consumes_both (Some s) (Some t) None xs ys h k = absurd k
@@ -45,7 +46,8 @@ gave_both a b c s t u g h = record {
 }
 
 -- a read behind the part that is left, after a front of the text was taken
-pub gave_after : (a b c : SourceState) (s front t u : List ℕ) → Gave a b s (front ++ t) → Gave b c t u → Gave a c s (front ++ u)
+pub gave_after : (a b c : SourceState) (s front t u : List ℕ) → Gave a b s (front ++ t) → Gave b c t u
+    → Gave a c s (front ++ u)
 gave_after a b c s front t u g h =
     gave_both a b c s (front ++ t) (front ++ u) g (record {
       given = h.given;

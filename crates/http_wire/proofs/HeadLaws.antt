@@ -1,9 +1,11 @@
--- The heads of requests and of responses meet the laws of a grammar: both are a start line, with empty lines in front, and a section of fields.
+-- The heads of requests and of responses meet the laws of a grammar: both are a start line, with empty lines in front,
+-- and a section of fields.
 use Rattle.std.proofs.Common.{◌≡◌, ℕ, List, [], ◌∷◌, ◌++◌, refl, sym, ap, ◌∙◌, arith, append_assoc}
 use Rattle.std.proofs.Math.Seq.{append_snoc}
 use Rattle.std.specs.List.{flat_map}
 use Rattle.httparse.specs.Ascii.{line_feed}
-use Rattle.httparse.specs.Grammar.{LineEnd, crlf, lf, print_end, print_blank, print_version, print_reason, print_field, print_section, print_request, print_response}
+use Rattle.httparse.specs.Grammar.{LineEnd, crlf, lf, print_end, print_blank, print_version, print_reason, print_field}
+use Rattle.httparse.specs.Grammar.{print_section, print_request, print_response}
 use Rattle.http_wire.specs.Fronts.{Words, requests, responses, line_feeds}
 use Rattle.http_wire.specs.Inner.HeadReading.{AreLawful}
 use Rattle.http_wire.specs.Inner.HeadSpans.{request_spans, response_spans}

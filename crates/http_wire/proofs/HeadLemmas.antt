@@ -1,5 +1,7 @@
 -- A head ends in a line feed and has one for each line, so no head ends anywhere else.
-use Rattle.std.proofs.Common.{◌≡◌, ◌≢◌, ℕ, ◌+◌, ◌<◌, ◌≤◌, List, [], ◌∷◌, ◌++◌, length, refl, sym, ap, ◌∙◌, subst, arith, append_assoc, length-append, inl, inr, add-one, get_or, take, drop, length-take, length-drop}
+use Rattle.std.proofs.Common.{◌≡◌, ◌≢◌, ℕ, ◌+◌, ◌<◌, ◌≤◌, List, [], ◌∷◌, ◌++◌, length, refl, sym, ap, ◌∙◌, subst, arith}
+use Rattle.std.proofs.Common.{append_assoc, length-append, inl, inr, add-one, get_or, take, drop, length-take}
+use Rattle.std.proofs.Common.{length-drop}
 use Rattle.std.specs.Prelude.{◌⊎◌}
 use Rattle.std.specs.List.{flat_map}
 use Rattle.std.proofs.Math.Seq.{take-suc}
@@ -9,11 +11,13 @@ use Rattle.std.proofs.lemmas.List.Concat.{flat_map-cons}
 use Rattle.httparse.specs.Ascii.{line_feed}
 use Rattle.httparse.specs.Grammar.{LineEnd, crlf, lf, print_end, Field, print_field}
 use Rattle.httparse.specs.declared.Error.{Error}
-use Rattle.httparse.specs.declared.Error.TheVariants.{HeaderName, HeaderValue, NewLine, Status, Token, TooManyHeaders, Version}
+use Rattle.httparse.specs.declared.Error.TheVariants.{HeaderName, HeaderValue, NewLine, Status, Token, TooManyHeaders}
+use Rattle.httparse.specs.declared.Error.TheVariants.{Version}
 use Rattle.http_wire.specs.declared.head.Verdict.{Verdict}
 use Rattle.http_wire.specs.declared.head.Verdict.TheVariants.{Complete, Refused, Open}
 use Rattle.http_wire.specs.Inner.HeadReading.{Spans, AreLawful, IsHeadAtFront, Judges, JudgesAt}
-use Rattle.http_wire.specs.Fronts.{Words, Reads, HasNone, NeverHas, IsRefused, IsTooLong, line_feeds, max_fields, MayBeRefused}
+use Rattle.http_wire.specs.Fronts.{Words, Reads, HasNone, NeverHas, IsRefused, IsTooLong, line_feeds, max_fields}
+use Rattle.http_wire.specs.Fronts.{MayBeRefused}
 
 -- ---- lists
 
@@ -52,7 +56,13 @@ pub line_feeds-fields : (fields : List Field) → length fields ≤ line_feeds (
 line_feeds-fields [] = omega arith
 line_feeds-fields (f ∷ fields) =
     let split = ap line_feeds (flat_map-cons print_field f fields) in
-    omega (arith, split, line_feeds-append (print_field f) (flat_map print_field fields), line_feeds-field f, line_feeds-fields fields)
+    omega (
+      arith,
+      split,
+      line_feeds-append (print_field f) (flat_map print_field fields),
+      line_feeds-field f,
+      line_feeds-fields fields,
+    )
 
 -- ---- what the laws of a grammar give
 
@@ -78,8 +88,8 @@ only_whole w front b h rest none x =
     ]
 
 -- and that byte is a line feed
-pub whole_ends : (w : Words) → EndsInLineFeed w → (front : List ℕ) (b : ℕ) (h : w.Head) (rest : List ℕ) → HasNone w front
-    → Reads w (front ++ b ∷ []) h rest → b ≡ line_feed
+pub whole_ends : (w : Words) → EndsInLineFeed w → (front : List ℕ) (b : ℕ) (h : w.Head) (rest : List ℕ)
+    → HasNone w front → Reads w (front ++ b ∷ []) h rest → b ≡ line_feed
 whole_ends w law front b h rest none x =
     let e = only_whole w front b h rest none x in
     let ends = law h in
@@ -157,8 +167,8 @@ pub take-next : (text : List ℕ) (at : ℕ) → at < length text → take (at +
 take-next text at lt = ap (λ n. take n text) (add-one at) ∙ take-suc text at 0 lt
 
 -- one more byte that is no line feed
-pub none_at_next : (w : Words) → EndsInLineFeed w → (text : List ℕ) (at : ℕ) → at < length text → HasNone w (take at text)
-    → get_or text at 0 ≢ line_feed → HasNone w (take (at + 1) text)
+pub none_at_next : (w : Words) → EndsInLineFeed w → (text : List ℕ) (at : ℕ) → at < length text
+    → HasNone w (take at text) → get_or text at 0 ≢ line_feed → HasNone w (take (at + 1) text)
 none_at_next w law text at lt none other =
     subst (HasNone w) (sym (take-next text at lt)) (none_more w law (take at text) (get_or text at 0) none other)
 
@@ -178,8 +188,8 @@ refused_at w text at lt short none same may =
     }
 
 -- a head that the parser finds there is all of the front
-pub head_at : {P : Type 0} (s : Spans P) → AreLawful s → (text : List ℕ) (at : ℕ) (p : P) → at < length text → at < 16384
-    → HasNone s.words (take at text) → s.IsHeadOf (take (at + 1) text) p → IsHeadAtFront s text p
+pub head_at : {P : Type 0} (s : Spans P) → AreLawful s → (text : List ℕ) (at : ℕ) (p : P) → at < length text
+    → at < 16384 → HasNone s.words (take at text) → s.IsHeadOf (take (at + 1) text) p → IsHeadAtFront s text p
 head_at s laws text at p lt short none found =
     let front : List ℕ = take (at + 1) text in
     let long : length front ≡ at + 1 = omega (arith, length-take (at + 1) text) in
@@ -197,8 +207,9 @@ head_at s laws text at p lt short none found =
       head = subst (λ n. s.IsHeadOf (take n text) p) (sym same) found;
     }
 
-pub judged_at : {P : Type 0} (s : Spans P) → AreLawful s → (text : List ℕ) (at : ℕ) (v : Verdict P) → at < length text → at < 16384
-    → HasNone s.words (take at text) → get_or text at 0 ≡ line_feed → Judges s (take (at + 1) text) v → JudgesAt s text at v
+pub judged_at : {P : Type 0} (s : Spans P) → AreLawful s → (text : List ℕ) (at : ℕ) (v : Verdict P) → at < length text
+    → at < 16384 → HasNone s.words (take at text) → get_or text at 0 ≡ line_feed → Judges s (take (at + 1) text) v
+    → JudgesAt s text at v
 judged_at s laws text at (Complete p) lt short none same says = head_at s laws text at p lt short none says
 judged_at s laws text at Refused lt short none same says = refused_at s.words text at lt short none same says
 judged_at s laws text at Open lt short none same says = says
@@ -221,9 +232,9 @@ line_feeds-next text at lt same =
     ∙ line_feeds-append (take at text) (line_feed ∷ [])
 
 -- more lines than a head has, and no head
-pub given_up : (w : Words) (text : List ℕ) (at lines : ℕ) → at < length text → at < 16384 → lines ≡ line_feeds (take at text)
-    → HasNone w (take at text) → get_or text at 0 ≡ line_feed → 64 < lines → HasNone w (take (at + 1) text)
-    → IsRefused w text
+pub given_up : (w : Words) (text : List ℕ) (at lines : ℕ) → at < length text → at < 16384
+    → lines ≡ line_feeds (take at text) → HasNone w (take at text) → get_or text at 0 ≡ line_feed → 64 < lines
+    → HasNone w (take (at + 1) text) → IsRefused w text
 given_up w text at lines lt short counted none same many none_at =
     let more = line_feeds-next text at lt same in
     refused_at w text at lt short none same

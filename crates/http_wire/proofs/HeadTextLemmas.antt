@@ -9,4 +9,5 @@ pub bad_text : (before : List ℕ) {line : List ℕ} (status : Status) → line 
     → ((before ++ line) ++ print_field (length_field 0)) ++ (flat_map print_field (closing_fields false) ++ crlf_bytes)
     ≡ before ++ print_head status (length_field 0 ∷ []) false
 bad_text before status line =
-    (λ i. ((before ++ line i) ++ print_field (length_field 0)) ++ (flat_map print_field (closing_fields false) ++ crlf_bytes)) ∙ simp append_assoc
+    (λ i. ((before ++ line i) ++ print_field (length_field 0))
+    ++ (flat_map print_field (closing_fields false) ++ crlf_bytes)) ∙ simp append_assoc

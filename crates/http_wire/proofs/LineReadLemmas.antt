@@ -1,5 +1,6 @@
 -- A size line in the buffer.
-use Rattle.std.proofs.Common.{◌≡◌, ◌≢◌, ℕ, ◌+◌, ◌^◌, ◌<◌, ◌≤◌, true, List, [], ◌∷◌, ◌++◌, All, length, take, drop, get_or, arith, ◌∙◌, sym, ap, subst, append_assoc, add-one}
+use Rattle.std.proofs.Common.{◌≡◌, ◌≢◌, ℕ, ◌+◌, ◌^◌, ◌<◌, ◌≤◌, true, List, [], ◌∷◌, ◌++◌, All, length, take, drop}
+use Rattle.std.proofs.Common.{get_or, arith, ◌∙◌, sym, ap, subst, append_assoc, add-one}
 use Rattle.std.specs.Prelude.{◌⊎◌}
 use Rattle.std.proofs.Math.Seq.{take-suc}
 use Rattle.std.proofs.Math.Nat.{pow-le-pow_right}
@@ -44,25 +45,29 @@ bounded front (Ended value) h =
     omega (arith, valued, small)
 
 -- a read behind the bytes leaves them
-pub front_kept : (a b : SourceState) (old new : List ℕ) (at : ℕ) → Gave a b old new → at ≤ length old → take at new ≡ take at old
+pub front_kept : (a b : SourceState) (old new : List ℕ) (at : ℕ) → Gave a b old new → at ≤ length old
+    → take at new ≡ take at old
 front_kept a b old new at gave le = ap (take at) gave.joined ∙ take-append-le at old gave.given le
 
-pub front_stands : (a b : SourceState) (old new : List ℕ) (at : ℕ) (state : LineState) → Gave a b old new → at ≤ length old
-    → StandsAt (take at old) state → StandsAt (take at new) state
+pub front_stands : (a b : SourceState) (old new : List ℕ) (at : ℕ) (state : LineState) → Gave a b old new
+    → at ≤ length old → StandsAt (take at old) state → StandsAt (take at new) state
 front_stands a b old new at state gave le = subst (λ t. StandsAt t state) (sym (front_kept a b old new at gave le))
 
 -- one more byte
-pub front_next : (text : List ℕ) (at byte : ℕ) → (at < length text) × (byte ≡ get_or text at 0) → take (at + 1) text ≡ take at text ++ byte ∷ []
+pub front_next : (text : List ℕ) (at byte : ℕ) → (at < length text) × (byte ≡ get_or text at 0)
+    → take (at + 1) text ≡ take at text ++ byte ∷ []
 front_next text at byte there =
     ap (λ n. take n text) (add-one at) ∙ take-suc text at 0 there.0 ∙ ap (λ b. take at text ++ b ∷ []) (sym there.1)
 
-pub cut_round : (text : List ℕ) (at b : ℕ) → take (at + 1) text ≡ take at text ++ b ∷ [] → take at text ++ b ∷ drop (at + 1) text ≡ text
+pub cut_round : (text : List ℕ) (at b : ℕ) → take (at + 1) text ≡ take at text ++ b ∷ []
+    → take at text ++ b ∷ drop (at + 1) text ≡ text
 cut_round text at b next =
     sym (append_assoc (take at text) (b ∷ []) (drop (at + 1) text))
     ∙ ap (λ t. t ++ drop (at + 1) text) (sym next) ∙ take-append-drop (at + 1) text
 
 pub line_taken : (a b : SourceState) (held text front : List ℕ) (at byte value : ℕ) → Gave a b held text
-    → take (at + 1) text ≡ front ++ byte ∷ [] → IsLine (front ++ byte ∷ []) value → TakesLine a held b (drop (at + 1) text) value
+    → take (at + 1) text ≡ front ++ byte ∷ [] → IsLine (front ++ byte ∷ []) value
+    → TakesLine a held b (drop (at + 1) text) value
 line_taken a b held text front at byte value gave next is = record {
   line = take (at + 1) text;
   is_line = subst (λ t. IsLine t value) (sym next) is;
@@ -70,7 +75,8 @@ line_taken a b held text front at byte value gave next is = record {
 }
 
 pub line_broken : (a b : SourceState) (held text : List ℕ) (at byte : ℕ) (state : LineState) → Gave a b held text
-    → take (at + 1) text ≡ take at text ++ byte ∷ [] → StandsAt (take at text) state → NeverLine (take at text ++ byte ∷ []) → BreaksLine a held b
+    → take (at + 1) text ≡ take at text ++ byte ∷ [] → StandsAt (take at text) state
+    → NeverLine (take at text ++ byte ∷ []) → BreaksLine a held b
 line_broken a b held text at byte state gave next stands never = record {
   before = take at text;
   byte = byte;
@@ -99,12 +105,15 @@ pub never_second : (b : ℕ) → b ≢ 10 → NeverEnd ((13 ∷ []) ++ b ∷ [])
 never_second b other more rest e = other (cc)
 
 pub end_broken : (a b : SourceState) (held text front : List ℕ) (at byte : ℕ) → Gave a b held text
-    → take (at + 1) text ≡ front ++ byte ∷ [] → (front ≡ []) ⊎ (front ≡ 13 ∷ []) → NeverEnd (front ++ byte ∷ []) → BreaksEnd a held b
+    → take (at + 1) text ≡ front ++ byte ∷ [] → (front ≡ []) ⊎ (front ≡ 13 ∷ []) → NeverEnd (front ++ byte ∷ [])
+    → BreaksEnd a held b
 end_broken a b held text front at byte gave next which never = record {
   before = front;
   byte = byte;
   rest = drop (at + 1) text;
-  gave = gave_as (sym (append_assoc front (byte ∷ []) (drop (at + 1) text)) ∙ ap (λ t. t ++ drop (at + 1) text) (sym next) ∙ take-append-drop (at + 1) text) gave;
+  gave =
+      gave_as (sym (append_assoc front (byte ∷ []) (drop (at + 1) text)) ∙ ap (λ t. t ++ drop (at + 1) text) (sym next)
+      ∙ take-append-drop (at + 1) text) gave;
   front = which;
   never = never;
 }

@@ -1,5 +1,6 @@
 -- Bytes of a body, moved a part at a time.
-use Rattle.std.proofs.Common.{◌≡◌, ℕ, ◌+◌, ◌<◌, List, [], ◌∷◌, ◌++◌, length, refl, sym, ap, ◌∙◌, arith, append_assoc, length-append}
+use Rattle.std.proofs.Common.{◌≡◌, ℕ, ◌+◌, ◌<◌, List, [], ◌∷◌, ◌++◌, length, refl, sym, ap, ◌∙◌, arith, append_assoc}
+use Rattle.std.proofs.Common.{length-append}
 use Rattle.std.specs.Prelude.{Err}
 use Rattle.std.proofs.lemmas.List.{append-nil}
 use Rattle.http_wire.specs.States.{SourceState}
@@ -34,13 +35,14 @@ empty_of [] none = refl
 empty_of (x ∷ xs) none = absurd (omega arith)
 
 -- nothing came before a part
-pub nothing_came : (a b : SourceState) (held rest body : List ℕ) → Gave a b held rest → length rest ≡ 0 → MovedNothing a held body b rest body
+pub nothing_came : (a b : SourceState) (held rest body : List ℕ) → Gave a b held rest → length rest ≡ 0
+    → MovedNothing a held body b rest body
 nothing_came a b held rest body gave none =
     (record { bytes = []; gave = gave; joined = sym (append-nil body); counted = refl }, empty_of rest none)
 
 -- nothing more came behind the parts
-all_moved : (a b c : SourceState) (held mid rest x y z : List ℕ) (n count : ℕ) → Moved a held x b mid y n → MovedNothing b mid y c rest z → n < count
-    → MovedAll a held x c rest z count
+all_moved : (a b c : SourceState) (held mid rest x y z : List ℕ) (n count : ℕ) → Moved a held x b mid y n
+    → MovedNothing b mid y c rest z → n < count → MovedAll a held x c rest z count
 all_moved a b c held mid rest x y z n count first end few = record {
   moved = n + 0;
   bytes = moved_both a b c held mid rest x y z n 0 first end.0;
@@ -50,10 +52,14 @@ all_moved a b c held mid rest x y z n count first end few = record {
 
 -- a fault of a part, behind the parts before it
 pub bytes_fault : (a b c : SourceState) (held mid rest x y z : List ℕ) (n left count : ℕ) (e : BodyFault)
-    → Moved a held x b mid y n → n < count → ReadsPart b mid y c rest z left (Err e) → ReadsBytes a held x c rest z count (Err e)
-bytes_fault a b c held mid rest x y z n left count Fault.Truncated first few end = (all_moved a b c held mid rest x y z n count first end.0 few, end.1)
-bytes_fault a b c held mid rest x y z n left count Fault.Read first few end = all_moved a b c held mid rest x y z n count first end few
-bytes_fault a b c held mid rest x y z n left count Fault.NoMemory first few none = none_after a b c held mid x y n first none
+    → Moved a held x b mid y n → n < count → ReadsPart b mid y c rest z left (Err e)
+    → ReadsBytes a held x c rest z count (Err e)
+bytes_fault a b c held mid rest x y z n left count Fault.Truncated first few end =
+    (all_moved a b c held mid rest x y z n count first end.0 few, end.1)
+bytes_fault a b c held mid rest x y z n left count Fault.Read first few end =
+    all_moved a b c held mid rest x y z n count first end few
+bytes_fault a b c held mid rest x y z n left count Fault.NoMemory first few none =
+    none_after a b c held mid x y n first none
 
 -- fewer than so many bytes came
 pub record StopsBefore (old : SourceState) (held : List ℕ) (new : SourceState) (count : ℕ) : Type 0 where
@@ -61,7 +67,8 @@ pub record StopsBefore (old : SourceState) (held : List ℕ) (new : SourceState)
   pub gave : Gave old new held text
   pub short : length text < count
 
-pub stops : (old new : SourceState) (held before rest after : List ℕ) (n : ℕ) → MovedAll old held before new rest after n → StopsBefore old held new n
+pub stops : (old new : SourceState) (held before rest after : List ℕ) (n : ℕ)
+    → MovedAll old held before new rest after n → StopsBefore old held new n
 stops old new held before rest after n m =
     let none = ap length m.none_left in
     let few = m.few in

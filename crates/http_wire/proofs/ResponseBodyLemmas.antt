@@ -18,19 +18,23 @@ err_same e f h = cc
 body_is : (before bytes after : List ℕ) → before ≡ [] → after ≡ before ++ bytes → after ≡ bytes
 body_is before bytes after none e = e ∙ ap (λ t. t ++ bytes) none
 
-pub body_whole : (old new : SourceState) (held before rest after : List ℕ) (n : ℕ) → before ≡ [] → Moved old held before new rest after n
-    → FindsBody (Length n) held old after rest new (Ok Whole)
+pub body_whole : (old new : SourceState) (held before rest after : List ℕ) (n : ℕ) → before ≡ []
+    → Moved old held before new rest after n → FindsBody (Length n) held old after rest new (Ok Whole)
 body_whole old new held before rest after n none m =
     let same = body_is before m.bytes after none m.joined in
-    record { text = m.bytes ++ rest; gave = m.gave; found = (ap (λ t. t ++ rest) (sym same), ap length same ∙ m.counted) }
+    record {
+      text = m.bytes ++ rest;
+      gave = m.gave;
+      found = (ap (λ t. t ++ rest) (sym same), ap length same ∙ m.counted);
+    }
 
-body_cut : (old new : SourceState) (held before rest after : List ℕ) (n : ℕ) → MovedAll old held before new rest after n → HasEnded new
-    → FindsBody (Length n) held old after rest new (Err Fault.Truncated)
+body_cut : (old new : SourceState) (held before rest after : List ℕ) (n : ℕ) → MovedAll old held before new rest after n
+    → HasEnded new → FindsBody (Length n) held old after rest new (Err Fault.Truncated)
 body_cut old new held before rest after n m end =
     let s = stops old new held before rest after n m in record { text = s.text; gave = s.gave; found = (s.short, end) }
 
-body_unread : (old new : SourceState) (held before rest after : List ℕ) (n : ℕ) → MovedAll old held before new rest after n
-    → FindsBody (Length n) held old after rest new (Err Fault.Read)
+body_unread : (old new : SourceState) (held before rest after : List ℕ) (n : ℕ)
+    → MovedAll old held before new rest after n → FindsBody (Length n) held old after rest new (Err Fault.Read)
 body_unread old new held before rest after n m =
     let s = stops old new held before rest after n m in record { text = s.text; gave = s.gave; found = s.short }
 
@@ -46,14 +50,15 @@ length_fault old new held before rest after n Fault.Read m = body_unread old new
 length_fault old new held before rest after n Fault.NoMemory m = body_unmoved (Length n) old new held rest after m
 
 -- a body up to the end
-pub long_body : (old new : SourceState) (held before rest after : List ℕ) (most : ℕ) → Moved old held before new rest after (most + 1)
-    → FindsBody (ToEnd most) held old after rest new (Ok TooLarge)
+pub long_body : (old new : SourceState) (held before rest after : List ℕ) (most : ℕ)
+    → Moved old held before new rest after (most + 1) → FindsBody (ToEnd most) held old after rest new (Ok TooLarge)
 long_body old new held before rest after most m =
     let counted = m.counted in
     record { text = m.bytes ++ rest; gave = m.gave; found = omega (arith, counted, length-append m.bytes rest) }
 
-ended_body : (old new : SourceState) (held before rest after : List ℕ) (most : ℕ) → before ≡ [] → MovedAll old held before new rest after (most + 1)
-    → HasEnded new → FindsBody (ToEnd most) held old after rest new (Ok Whole)
+ended_body : (old new : SourceState) (held before rest after : List ℕ) (most : ℕ) → before ≡ []
+    → MovedAll old held before new rest after (most + 1) → HasEnded new
+    → FindsBody (ToEnd most) held old after rest new (Ok Whole)
 ended_body old new held before rest after most none m end =
     let same = body_is before m.bytes.bytes after none m.bytes.joined in
     let lengths = ap length same in
@@ -65,17 +70,21 @@ ended_body old new held before rest after most none m end =
       found = (ap (λ t. t ++ rest) (sym same), (omega (arith, lengths, few, counted), m.none_left, end));
     }
 
-open_body : (old new : SourceState) (held before rest after : List ℕ) (most : ℕ) → MovedAll old held before new rest after (most + 1)
+open_body : (old new : SourceState) (held before rest after : List ℕ) (most : ℕ)
+    → MovedAll old held before new rest after (most + 1)
     → FindsBody (ToEnd most) held old after rest new (Err Fault.Read)
 open_body old new held before rest after most m =
     let s = stops old new held before rest after (most + 1) m in
     let short = s.short in record { text = s.text; gave = s.gave; found = omega (arith, short) }
 
 pub end_found : (old new : SourceState) (held before rest after : List ℕ) (most : ℕ) (e : BodyFault) → before ≡ []
-    → ReadsBytes old held before new rest after (most + 1) (Err e) → FindsBody (ToEnd most) held old after rest new (end_of e)
-end_found old new held before rest after most Fault.Truncated none m = ended_body old new held before rest after most none m.0 m.1
+    → ReadsBytes old held before new rest after (most + 1) (Err e)
+    → FindsBody (ToEnd most) held old after rest new (end_of e)
+end_found old new held before rest after most Fault.Truncated none m =
+    ended_body old new held before rest after most none m.0 m.1
 end_found old new held before rest after most Fault.Read none m = open_body old new held before rest after most m
-end_found old new held before rest after most Fault.NoMemory none m = body_unmoved (ToEnd most) old new held rest after m
+end_found old new held before rest after most Fault.NoMemory none m =
+    body_unmoved (ToEnd most) old new held rest after m
 
 -- a failed read stays one
 pub end_read : (e : BodyFault) → end_of e ≡ Err Fault.Read → e ≡ Fault.Read

@@ -28,14 +28,16 @@ none_left : (known : Option (List ℕ)) (rest : List ℕ) → IsAtEnd known → 
 none_left None rest end e = absurd (none_other rest e)
 none_left (Some xs) rest end e = sym (some_same xs rest e) ∙ end
 
-stands : (old new : SourceState) (bytes input rest : List ℕ) → Gives old new bytes → input ≡ bytes ++ rest → old.given ++ input ≡ new.given ++ rest
+stands : (old new : SourceState) (bytes input rest : List ℕ) → Gives old new bytes → input ≡ bytes ++ rest
+    → old.given ++ input ≡ new.given ++ rest
 stands old new bytes input rest h cut =
     ap (λ t. old.given ++ t) cut ∙ sym (append_assoc old.given bytes rest) ∙ ap (λ t. t ++ rest) (sym h.told)
 
 pub transcripts_known : TranscriptsAreOfTheKnown
 transcripts_known = record {
   given = λ old new bytes input h e.
-      let r = rest_of old.remaining new.remaining bytes input h.consumed e in (r.0, r.1, stands old new bytes input r.0 h r.2);
+      let r = rest_of old.remaining new.remaining bytes input h.consumed e in
+      (r.0, r.1, stands old new bytes input r.0 h r.2);
   all_given = λ old new bytes input h end e.
       let r = rest_of old.remaining new.remaining bytes input h.consumed e in
       let none = none_left new.remaining r.0 end.none_left r.1 in

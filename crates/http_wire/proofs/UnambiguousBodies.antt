@@ -1,10 +1,12 @@
 -- Behind a head stands at most one body.
-use Rattle.std.proofs.Common.{◌≡◌, ℕ, ◌+◌, ◌<◌, ◌≤◌, List, [], ◌∷◌, ◌++◌, All, length, refl, sym, ap, ◌∙◌, subst, arith, append_assoc, append-nil, length-append, inl, inr}
+use Rattle.std.proofs.Common.{◌≡◌, ℕ, ◌+◌, ◌<◌, ◌≤◌, List, [], ◌∷◌, ◌++◌, All, length, refl, sym, ap, ◌∙◌, subst, arith}
+use Rattle.std.proofs.Common.{append_assoc, append-nil, length-append, inl, inr}
 use Rattle.std.specs.Prelude.{◌⊎◌}
 use Rattle.std.proofs.lemmas.Bool.{cases_lt}
 use Rattle.std.proofs.lemmas.List.Elements.{All-head, All-tail}
 use Rattle.std.specs.Str.Parse.{digits_value}
-use Rattle.http_wire.specs.Body.{IsSize, Chunk, print_chunk, IsChunk, IsZero, chunks_text, chunks_data, IsChunked, IsFrontOfChunked, IsOver, IsBroken, IsBadBody, IsCutBody}
+use Rattle.http_wire.specs.Body.{IsSize, Chunk, print_chunk, IsChunk, IsZero, chunks_text, chunks_data, IsChunked}
+use Rattle.http_wire.specs.Body.{IsFrontOfChunked, IsOver, IsBroken, IsBadBody, IsCutBody}
 use Rattle.http_wire.specs.Unambiguous.{BodyParse, whole, refused, cut, IsReadAs, BodiesAreUnambiguous}
 use Rattle.http_wire.specs.declared.framing.Framing.TheVariants.{Length, Chunked}
 use Rattle.http_wire.specs.declared.fault.Bad.{Bad}
@@ -24,7 +26,8 @@ last_flat zeros a = append_assoc zeros (13 ∷ 10 ∷ 13 ∷ 10 ∷ []) a
 
 -- the first chunk, flat
 first_flat : (c : Chunk) (chunks : List Chunk) (more a : List ℕ)
-    → (chunks_text (c ∷ chunks) ++ more) ++ a ≡ c.digits ++ (13 ∷ 10 ∷ (c.data_bytes ++ (13 ∷ 10 ∷ ((chunks_text chunks ++ more) ++ a))))
+    → (chunks_text (c ∷ chunks) ++ more) ++ a
+    ≡ c.digits ++ (13 ∷ 10 ∷ (c.data_bytes ++ (13 ∷ 10 ∷ ((chunks_text chunks ++ more) ++ a))))
 first_flat c chunks more a =
     append_assoc (print_chunk c ++ chunks_text chunks) more a
     ∙ append_assoc (print_chunk c) (chunks_text chunks) (more ++ a)
@@ -38,16 +41,19 @@ record SameChunk (c d : Chunk) (r q : List ℕ) : Type 0 where
   rest : r ≡ q
 
 same_chunk : (c d : Chunk) (r q : List ℕ) → IsChunk c → IsChunk d
-    → c.digits ++ (13 ∷ 10 ∷ (c.data_bytes ++ (13 ∷ 10 ∷ r))) ≡ d.digits ++ (13 ∷ 10 ∷ (d.data_bytes ++ (13 ∷ 10 ∷ q))) → SameChunk c d r q
+    → c.digits ++ (13 ∷ 10 ∷ (c.data_bytes ++ (13 ∷ 10 ∷ r))) ≡ d.digits ++ (13 ∷ 10 ∷ (d.data_bytes ++ (13 ∷ 10 ∷ q)))
+    → SameChunk c d r q
 same_chunk c d r q is is_d e =
-    let s = lines_same c.digits d.digits (c.data_bytes ++ (13 ∷ 10 ∷ r)) (d.data_bytes ++ (13 ∷ 10 ∷ q)) is.size is_d.size e in
+    let s =
+    lines_same c.digits d.digits (c.data_bytes ++ (13 ∷ 10 ∷ r)) (d.data_bytes ++ (13 ∷ 10 ∷ q)) is.size is_d.size e in
     let lengths : length c.data_bytes ≡ length d.data_bytes = sym is.same ∙ ap (digits_value 16) s.0 ∙ is_d.same in
     let parts = same_front c.data_bytes d.data_bytes (13 ∷ 10 ∷ r) (13 ∷ 10 ∷ q) lengths s.1 in
     let behind = parts.1 in
     record { digits = s.0; bytes = parts.0; rest = cc }
 
 -- a chunk isn't the last one
-not_last : (c : Chunk) (zeros r q : List ℕ) → IsChunk c → IsZero zeros → c.digits ++ (13 ∷ 10 ∷ r) ≡ zeros ++ (13 ∷ 10 ∷ q) → ⊥
+not_last : (c : Chunk) (zeros r q : List ℕ) → IsChunk c → IsZero zeros
+    → c.digits ++ (13 ∷ 10 ∷ r) ≡ zeros ++ (13 ∷ 10 ∷ q) → ⊥
 not_last c zeros r q is last e =
     let value = ap (digits_value 16) (lines_same c.digits zeros r q is.size last.size e).0 in
     let some = is.some in
@@ -64,7 +70,8 @@ record SameText (cs ds : List Chunk) (zs ws a b : List ℕ) : Type 0 where
 same_text : (cs ds : List Chunk) (zs ws a b : List ℕ) → All IsChunk cs → All IsChunk ds → IsZero zs → IsZero ws
     → text_of cs zs ++ a ≡ text_of ds ws ++ b → SameText cs ds zs ws a b
 same_text [] [] zs ws a b each other last end e =
-    let s = lines_same zs ws (13 ∷ 10 ∷ a) (13 ∷ 10 ∷ b) last.size end.size (sym (last_flat zs a) ∙ e ∙ last_flat ws b) in
+    let s =
+    lines_same zs ws (13 ∷ 10 ∷ a) (13 ∷ 10 ∷ b) last.size end.size (sym (last_flat zs a) ∙ e ∙ last_flat ws b) in
     let tail = s.1 in
     record { text = ap (λ t. t ++ (13 ∷ 10 ∷ 13 ∷ 10 ∷ [])) s.0; joined = refl; rest = cc }
 same_text [] (d ∷ ds) zs ws a b each other last end e =
@@ -74,8 +81,10 @@ same_text (c ∷ cs) [] zs ws a b each other last end e =
     absurd (not_last c ws _ _ (All-head IsChunk c cs each) end
     (sym (first_flat c cs (zs ++ (13 ∷ 10 ∷ 13 ∷ 10 ∷ [])) a) ∙ e ∙ last_flat ws b))
 same_text (c ∷ cs) (d ∷ ds) zs ws a b each other last end e =
-    let s = same_chunk c d (text_of cs zs ++ a) (text_of ds ws ++ b) (All-head IsChunk c cs each) (All-head IsChunk d ds other)
-    (sym (first_flat c cs (zs ++ (13 ∷ 10 ∷ 13 ∷ 10 ∷ [])) a) ∙ e ∙ first_flat d ds (ws ++ (13 ∷ 10 ∷ 13 ∷ 10 ∷ [])) b) in
+    let s =
+    same_chunk c d (text_of cs zs ++ a) (text_of ds ws ++ b) (All-head IsChunk c cs each) (All-head IsChunk d ds other)
+    (sym (first_flat c cs (zs ++ (13 ∷ 10 ∷ 13 ∷ 10 ∷ [])) a) ∙ e
+    ∙ first_flat d ds (ws ++ (13 ∷ 10 ∷ 13 ∷ 10 ∷ [])) b) in
     let next = same_text cs ds zs ws a b (All-tail IsChunk c cs each) (All-tail IsChunk d ds other) last end s.rest in
     record {
       text = append_assoc (print_chunk c) (chunks_text cs) (zs ++ (13 ∷ 10 ∷ 13 ∷ 10 ∷ []))
@@ -91,7 +100,8 @@ record SameBody (t u body other a b : List ℕ) : Type 0 where
   joined : body ≡ other
   rest : a ≡ b
 
-same_body : (t u body other a b : List ℕ) → IsChunked t body → IsChunked u other → t ++ a ≡ u ++ b → SameBody t u body other a b
+same_body : (t u body other a b : List ℕ) → IsChunked t body → IsChunked u other → t ++ a ≡ u ++ b
+    → SameBody t u body other a b
 same_body t u body other a b x y e =
     let s = same_text x.chunks y.chunks x.zeros y.zeros a b x.each y.each x.last y.last
     (ap (λ m. m ++ a) (sym x.cut) ∙ e ∙ ap (λ m. m ++ b) y.cut) in
@@ -107,16 +117,18 @@ no_proper_front t body more other x y some =
 -- ---- whole, refused and cut short
 
 -- where the chunks and what was taken before keep the limit, no size line goes over it
-within_limit : (max have : ℕ) (cs ds : List Chunk) (zs digits a rest : List ℕ) → All IsChunk cs → All IsChunk ds → IsZero zs → IsSize digits
-    → text_of cs zs ++ a ≡ chunks_text ds ++ (digits ++ (13 ∷ 10 ∷ rest)) → have + length (chunks_data cs) ≤ max
-    → max < have + (length (chunks_data ds) + digits_value 16 digits) → ⊥
+within_limit : (max have : ℕ) (cs ds : List Chunk) (zs digits a rest : List ℕ) → All IsChunk cs
+    → All IsChunk ds → IsZero zs → IsSize digits → text_of cs zs ++ a ≡ chunks_text ds ++ (digits ++ (13 ∷ 10 ∷ rest))
+    → have + length (chunks_data cs) ≤ max → max < have + (length (chunks_data ds) + digits_value 16 digits) → ⊥
 within_limit max have [] [] zs digits a rest each other last size e fits over =
-    let value = ap (digits_value 16) (lines_same zs digits (13 ∷ 10 ∷ a) rest last.size size (sym (last_flat zs a) ∙ e)).0 in
+    let value =
+    ap (digits_value 16) (lines_same zs digits (13 ∷ 10 ∷ a) rest last.size size (sym (last_flat zs a) ∙ e)).0 in
     let zero = last.zero in
     omega (arith, value, zero, fits, over)
 within_limit max have [] (d ∷ ds) zs digits a rest each other last size e fits over =
     not_last d zs _ _ (All-head IsChunk d ds other) last
-    (sym (append_assoc (print_chunk d) (chunks_text ds) (digits ++ (13 ∷ 10 ∷ rest)) ∙ chunk_flat d (chunks_text ds ++ (digits ++ (13 ∷ 10 ∷ rest)))) ∙ sym e ∙ last_flat zs a)
+    (sym (append_assoc (print_chunk d) (chunks_text ds) (digits ++ (13 ∷ 10 ∷ rest))
+    ∙ chunk_flat d (chunks_text ds ++ (digits ++ (13 ∷ 10 ∷ rest)))) ∙ sym e ∙ last_flat zs a)
 within_limit max have (c ∷ cs) [] zs digits a rest each other last size e fits over =
     let is : IsChunk c = All-head IsChunk c cs each in
     let value = ap (digits_value 16)
@@ -124,11 +136,15 @@ within_limit max have (c ∷ cs) [] zs digits a rest each other last size e fits
     let same = is.same in
     omega (arith, value, same, fits, over, length-append c.data_bytes (chunks_data cs))
 within_limit max have (c ∷ cs) (d ∷ ds) zs digits a rest each other last size e fits over =
-    let s = same_chunk c d (text_of cs zs ++ a) (chunks_text ds ++ (digits ++ (13 ∷ 10 ∷ rest))) (All-head IsChunk c cs each) (All-head IsChunk d ds other)
+    let s =
+    same_chunk c d (text_of cs zs ++ a) (chunks_text ds ++ (digits ++ (13 ∷ 10 ∷ rest))) (All-head IsChunk c cs each)
+    (All-head IsChunk d ds other)
     (sym (first_flat c cs (zs ++ (13 ∷ 10 ∷ 13 ∷ 10 ∷ [])) a) ∙ e
-    ∙ append_assoc (print_chunk d) (chunks_text ds) (digits ++ (13 ∷ 10 ∷ rest)) ∙ chunk_flat d (chunks_text ds ++ (digits ++ (13 ∷ 10 ∷ rest)))) in
+    ∙ append_assoc (print_chunk d) (chunks_text ds) (digits ++ (13 ∷ 10 ∷ rest))
+    ∙ chunk_flat d (chunks_text ds ++ (digits ++ (13 ∷ 10 ∷ rest)))) in
     let lengths = ap length s.bytes in
-    within_limit max (have + length c.data_bytes) cs ds zs digits a rest (All-tail IsChunk c cs each) (All-tail IsChunk d ds other) last size s.rest
+    within_limit max (have + length c.data_bytes) cs ds zs digits a rest (All-tail IsChunk c cs each)
+    (All-tail IsChunk d ds other) last size s.rest
     (omega (arith, fits, length-append c.data_bytes (chunks_data cs)))
     (omega (arith, over, lengths, length-append d.data_bytes (chunks_data ds)))
 
@@ -144,14 +160,16 @@ broken_never : (max : ℕ) (text more body : List ℕ) → IsBroken max text →
 broken_never max text more body y x =
     y.never (y.rest ++ more) body
     (subst (λ t. IsChunked t body)
-    (ap (λ t. t ++ more) (y.cut ∙ sym (append_assoc y.before (y.byte ∷ []) y.rest)) ∙ append_assoc (y.before ++ y.byte ∷ []) y.rest more) x)
+    (ap (λ t. t ++ more) (y.cut ∙ sym (append_assoc y.before (y.byte ∷ []) y.rest))
+    ∙ append_assoc (y.before ++ y.byte ∷ []) y.rest more) x)
 
 -- a text that is longer than a front has the byte behind it
 has_byte : (before rest text a : List ℕ) (byte : ℕ) → text ++ a ≡ before ++ byte ∷ rest → length before < length text
     → (more : List ℕ) × (text ≡ (before ++ byte ∷ []) ++ more)
 has_byte before rest text a byte e longer =
     let one : (before ++ byte ∷ []) ++ rest ≡ text ++ a = append_assoc before (byte ∷ []) rest ∙ sym e in
-    let next = longer_front (before ++ byte ∷ []) rest text a one (omega (arith, longer, length-append before (byte ∷ []))) in
+    let next =
+    longer_front (before ++ byte ∷ []) rest text a one (omega (arith, longer, length-append before (byte ∷ []))) in
     (next.0, next.1)
 
 whole_not_broken : (max : ℕ) (t body a : List ℕ) → IsChunked t body → IsBroken max (t ++ a) → ⊥
@@ -164,13 +182,16 @@ whole_not_broken max t body a x y = elim (cases_lt (length y.before) (length t))
       let front = y.front in
       let some = front.some in
       no_proper_front t body (next.0 ++ front.more) front.body x
-      (subst (λ m. IsChunked m front.body) (ap (λ m. m ++ front.more) next.1 ∙ append_assoc t next.0 front.more) front.chunked)
+      (subst (λ m. IsChunked m front.body)
+      (ap (λ m. m ++ front.more) next.1 ∙ append_assoc t next.0 front.more) front.chunked)
       (omega (arith, some, length-append next.0 front.more))
 ]
 
 -- the chunks and the size line that go over the limit begin some chunked text
-over_is_front : (ds : List Chunk) (digits : List ℕ) → All IsChunk ds → IsSize digits → IsFrontOfChunked (chunks_text ds ++ (digits ++ (13 ∷ 10 ∷ [])))
-over_is_front ds digits each size = front_after ds (digits ++ (13 ∷ 10 ∷ [])) each (front_data digits [] size (omega arith))
+over_is_front : (ds : List Chunk) (digits : List ℕ) → All IsChunk ds → IsSize digits
+    → IsFrontOfChunked (chunks_text ds ++ (digits ++ (13 ∷ 10 ∷ [])))
+over_is_front ds digits each size =
+    front_after ds (digits ++ (13 ∷ 10 ∷ [])) each (front_data digits [] size (omega arith))
 
 over_not_broken : (max : ℕ) (text : List ℕ) → IsOver max text → IsBroken max text → ⊥
 over_not_broken max text x y = by (cases_lt (length y.before) (length line))
@@ -213,17 +234,20 @@ whole_not_cut t body a x y =
 
 -- ---- parses
 
-whole_not_bad : (max : ℕ) (t body a : List ℕ) (why : Bad) → IsChunked t body → length body ≤ max → IsBadBody (Chunked max) (t ++ a) why → ⊥
+whole_not_bad : (max : ℕ) (t body a : List ℕ) (why : Bad) → IsChunked t body → length body ≤ max
+    → IsBadBody (Chunked max) (t ++ a) why → ⊥
 whole_not_bad max t body a why x fits (inl y) = whole_not_over max t body a x fits y.1
 whole_not_bad max t body a why x fits (inr y) = whole_not_broken max t body a x y.1
 
-one_bad : (max : ℕ) (text : List ℕ) (why other : Bad) → IsBadBody (Chunked max) text why → IsBadBody (Chunked max) text other → why ≡ other
+one_bad : (max : ℕ) (text : List ℕ) (why other : Bad) → IsBadBody (Chunked max) text why
+    → IsBadBody (Chunked max) text other → why ≡ other
 one_bad max text why other (inl x) (inl y) = x.0 ∙ sym y.0
 one_bad max text why other (inl x) (inr y) = absurd (over_not_broken max text x.1 y.1)
 one_bad max text why other (inr x) (inl y) = absurd (over_not_broken max text y.1 x.1)
 one_bad max text why other (inr x) (inr y) = x.0 ∙ sym y.0
 
-bad_not_cut : (max : ℕ) (text : List ℕ) (why : Bad) → IsBadBody (Chunked max) text why → IsCutBody (Chunked max) text → ⊥
+bad_not_cut : (max : ℕ) (text : List ℕ) (why : Bad) → IsBadBody (Chunked max) text why
+    → IsCutBody (Chunked max) text → ⊥
 bad_not_cut max text why (inl x) y = y.1 x.1
 bad_not_cut max text why (inr x) y = broken_never max text y.0.more y.0.body x.1 y.0.chunked
 
@@ -234,7 +258,8 @@ sized_parse n text (whole body rest) (whole other more) x y =
     let two = ap length y.written.0 in
     let long = x.written.1 in
     let same_long = y.written.1 in
-    let s = same_front x.message y.message rest more (omega (arith, one, two, long, same_long)) (sym x.split ∙ y.split) in
+    let s =
+    same_front x.message y.message rest more (omega (arith, one, two, long, same_long)) (sym x.split ∙ y.split) in
     λ i. whole ((sym x.written.0 ∙ s.0 ∙ y.written.0) i) (s.1 i)
 sized_parse n text (whole body rest) (refused why) x y = absurd y
 sized_parse n text (whole body rest) cut x y =
@@ -257,11 +282,13 @@ chunked_parse max text (whole body rest) (whole other more) x y =
     let s = same_body x.message y.message body other rest more x.written.0 y.written.0 (sym x.split ∙ y.split) in
     λ i. whole (s.joined i) (s.rest i)
 chunked_parse max text (whole body rest) (refused why) x y =
-    absurd (whole_not_bad max x.message body rest why x.written.0 x.written.1 (subst (λ t. IsBadBody (Chunked max) t why) x.split y))
+    absurd (whole_not_bad max x.message body rest why x.written.0 x.written.1
+    (subst (λ t. IsBadBody (Chunked max) t why) x.split y))
 chunked_parse max text (whole body rest) cut x y =
     absurd (whole_not_cut x.message body rest x.written.0 (subst IsFrontOfChunked x.split y.0))
 chunked_parse max text (refused why) (whole other more) x y =
-    absurd (whole_not_bad max y.message other more why y.written.0 y.written.1 (subst (λ t. IsBadBody (Chunked max) t why) y.split x))
+    absurd (whole_not_bad max y.message other more why y.written.0 y.written.1
+    (subst (λ t. IsBadBody (Chunked max) t why) y.split x))
 chunked_parse max text (refused why) (refused other) x y = ap refused (one_bad max text why other x y)
 chunked_parse max text (refused why) cut x y = absurd (bad_not_cut max text why x y)
 chunked_parse max text cut (whole other more) x y =

@@ -1,15 +1,18 @@
 -- A text begins with at most one head.
-use Rattle.std.proofs.Common.{◌≡◌, ℕ, ◌+◌, ◌<◌, ◌≤◌, List, [], ◌∷◌, ◌++◌, length, refl, sym, ap, ◌∙◌, arith, append_assoc, length-append, inl, inr}
+use Rattle.std.proofs.Common.{◌≡◌, ℕ, ◌+◌, ◌<◌, ◌≤◌, List, [], ◌∷◌, ◌++◌, length, refl, sym, ap, ◌∙◌, arith}
+use Rattle.std.proofs.Common.{append_assoc, length-append, inl, inr}
 use Rattle.std.proofs.lemmas.Bool.{cases_lt}
 use Rattle.httparse.specs.Ascii.{line_feed}
 use Rattle.httparse.proofs.GrammarLemmas.{request_unique, response_unique}
-use Rattle.http_wire.specs.Fronts.{Words, requests, responses, Reads, ReadsHead, MayBeRefused, IsRefused, IsTooLong, IsUnfinished, line_feeds, max_fields}
+use Rattle.http_wire.specs.Fronts.{Words, requests, responses, Reads, ReadsHead, MayBeRefused, IsRefused, IsTooLong}
+use Rattle.http_wire.specs.Fronts.{IsUnfinished, line_feeds, max_fields}
 use Rattle.http_wire.specs.Unambiguous.{HeadParse, head, long, unfinished, BeginsWith, HeadsAreUnambiguous}
 use Rattle.http_wire.proofs.HeadLemmas.{snoc_cases, snoc_inj, line_feeds-append, EndsInLineFeed}
 use Rattle.http_wire.proofs.HeadLaws.{request_ends, response_ends}
 
 -- the longer of two fronts goes on behind the shorter
-pub longer_front : (a b c d : List ℕ) → a ++ b ≡ c ++ d → length a ≤ length c → (more : List ℕ) × (c ≡ a ++ more) × (b ≡ more ++ d)
+pub longer_front : (a b c d : List ℕ) → a ++ b ≡ c ++ d → length a ≤ length c
+    → (more : List ℕ) × (c ≡ a ++ more) × (b ≡ more ++ d)
 longer_front [] b c d e le = (c, refl, e)
 longer_front (x ∷ a) b [] d e le = absurd (omega arith)
 longer_front (x ∷ a) b (y ∷ c) d e le =
@@ -40,7 +43,8 @@ long_not_short w text x y =
 
 one_parse : (w : Words) → IsUnique w → (text : List ℕ) (parse other : HeadParse w)
     → BeginsWith w text parse → BeginsWith w text other → parse ≡ other
-one_parse w law text (head h r) (head k q) x y = let same = law text h k r q x.reads y.reads in λ i. head (same.0 i) (same.1 i)
+one_parse w law text (head h r) (head k q) x y =
+    let same = law text h k r q x.reads y.reads in λ i. head (same.0 i) (same.1 i)
 one_parse w law text (head h r) long x y = absurd (head_not_long w text h r x y)
 one_parse w law text (head h r) unfinished x y = absurd (y.none h r x.reads)
 one_parse w law text long (head k q) x y = absurd (head_not_long w text k q y x)
@@ -65,8 +69,8 @@ one_more_line w ends front m h e some = elim (snoc_cases m) [
 ]
 
 -- what may be refused has no head of few lines
-refused_is_long : (w : Words) → EndsInLineFeed w → (text : List ℕ) (h : w.Head) (r : List ℕ) → ReadsHead w text h r → IsRefused w text
-    → max_fields + 2 < line_feeds (w.print h)
+refused_is_long : (w : Words) → EndsInLineFeed w → (text : List ℕ) (h : w.Head) (r : List ℕ) → ReadsHead w text h r
+    → IsRefused w text → max_fields + 2 < line_feeds (w.print h)
 refused_is_long w ends text h r x y = by y.refused
   where
     front : List ℕ

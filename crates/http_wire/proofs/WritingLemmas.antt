@@ -1,5 +1,6 @@
 -- Writes one after another.
-use Rattle.std.proofs.Common.{◌≡◌, ℕ, zero, suc, ◌+◌, ◌-◌, ◌<◌, List, [], ◌∷◌, ◌++◌, length, take, drop, get_or, sym, ap, ◌∙◌, subst, append_assoc, arith, length-drop}
+use Rattle.std.proofs.Common.{◌≡◌, ℕ, zero, suc, ◌+◌, ◌-◌, ◌<◌, List, [], ◌∷◌, ◌++◌, length, take, drop, get_or, sym}
+use Rattle.std.proofs.Common.{ap, ◌∙◌, subst, append_assoc, arith, length-drop}
 use Rattle.std.specs.Prelude.{Option, Some, None, Result, Ok, Err, ⊤}
 use Rattle.std.specs.List.{concat}
 use Rattle.std.proofs.lemmas.List.{append-nil, take_all}
@@ -36,21 +37,26 @@ takes_both a b c xs ys h k = record {
 }
 
 -- a call that took nothing
-pub takes_kept : (a b c : SinkState) (xs : List ℕ) → Takes a b xs → c.taken ≡ b.taken → Keeps b.contents c.contents → Takes a c xs
-takes_kept a b c xs h told kept = record { told = told ∙ h.told; grown = appends_kept a.contents b.contents c.contents xs h.grown kept }
+pub takes_kept : (a b c : SinkState) (xs : List ℕ) → Takes a b xs → c.taken ≡ b.taken
+    → Keeps b.contents c.contents → Takes a c xs
+takes_kept a b c xs h told kept =
+    record { told = told ∙ h.told; grown = appends_kept a.contents b.contents c.contents xs h.grown kept }
 
 -- the front that one more write makes
 pub taken_more : (xs : List ℕ) (i n : ℕ) → take (i + n) xs ≡ take i xs ++ take n (take (length xs - i) (drop i xs))
 taken_more xs i n =
-    take-add i n xs ∙ ap (λ t. take i xs ++ take n t) (sym (take_all (length xs - i) (drop i xs) (omega (arith, length-drop i xs))))
+    take-add i n xs
+    ∙ ap (λ t. take i xs ++ take n t) (sym (take_all (length xs - i) (drop i xs) (omega (arith, length-drop i xs))))
 
-pub took_both : (a b c : SinkState) (text bytes : List ℕ) → TookAll a b text → TookAll b c bytes → TookAll a c (text ++ bytes)
+pub took_both : (a b c : SinkState) (text bytes : List ℕ) → TookAll a b text → TookAll b c bytes
+    → TookAll a c (text ++ bytes)
 took_both a b c text bytes h k = record {
   takes = takes_both a b c text bytes h.takes k.takes;
   unfailed = k.unfailed ∙ h.unfailed;
 }
 
-pub took_more : (a b c : SinkState) (text bytes : List ℕ) → TookAll a b text → TookFront b c bytes → TookFront a c (text ++ bytes)
+pub took_more : (a b c : SinkState) (text bytes : List ℕ) → TookAll a b text → TookFront b c bytes
+    → TookFront a c (text ++ bytes)
 took_more a b c text bytes h k = record {
   front = text ++ k.front;
   back = k.back;
@@ -59,16 +65,18 @@ took_more a b c text bytes h k = record {
   failed = subst (λ m. CountsUp m c.failed_writes) h.unfailed k.failed;
 }
 
-pub wrote_more : (a b c : SinkState) (text bytes : List ℕ) (r : Result ⊤ WriteFault) → TookAll a b text → Wrote b c bytes r
-    → Wrote a c (text ++ bytes) r
+pub wrote_more : (a b c : SinkState) (text bytes : List ℕ) (r : Result ⊤ WriteFault) → TookAll a b text
+    → Wrote b c bytes r → Wrote a c (text ++ bytes) r
 wrote_more a b c text bytes (Ok u) h k = took_both a b c text bytes h k
 wrote_more a b c text bytes (Err e) h k = took_more a b c text bytes h k
 
 -- the next part comes behind those that were taken
-pub concat-take_next : (xs : List (List ℕ)) (i : ℕ) (d : List ℕ) → i < length xs → concat (take (i + 1) xs) ≡ concat (take i xs) ++ get_or xs i d
+pub concat-take_next : (xs : List (List ℕ)) (i : ℕ) (d : List ℕ) → i < length xs
+    → concat (take (i + 1) xs) ≡ concat (take i xs) ++ get_or xs i d
 concat-take_next [] i d lt = absurd (omega arith)
 concat-take_next (x ∷ xs) zero d lt = append-nil x
 concat-take_next (x ∷ xs) (suc i) d lt =
     let e : suc i + 1 ≡ suc (i + 1) = omega arith in
     ap (λ n. concat (take n (x ∷ xs))) e
-    ∙ ap (λ r. x ++ r) (concat-take_next xs i d (omega arith)) ∙ sym (append_assoc x (concat (take i xs)) (get_or xs i d))
+    ∙ ap (λ r. x ++ r) (concat-take_next xs i d (omega arith))
+    ∙ sym (append_assoc x (concat (take i xs)) (get_or xs i d))

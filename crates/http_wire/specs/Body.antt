@@ -1,6 +1,7 @@
 -- The body of a request: how its head frames it (RFC 9112, section 6), and the text of a chunked one
 -- (section 7.1), which has no chunk extensions and no trailers here.
-use Rattle.std.specs.Prelude.{◌≡◌, ℕ, ◌+◌, ◌<◌, ◌≤◌, ◌⊎◌, ◌==◌, nat_lt, Bool, ◌&&◌, List, [], ◌∷◌, ◌++◌, length, codes, All, if◌then◌else◌, Result, Ok, Err}
+use Rattle.std.specs.Prelude.{◌≡◌, ℕ, ◌+◌, ◌<◌, ◌≤◌, ◌⊎◌, ◌==◌, nat_lt, Bool, ◌&&◌, List, [], ◌∷◌, ◌++◌, length, codes}
+use Rattle.std.specs.Prelude.{All, if◌then◌else◌, Result, Ok, Err}
 use Rattle.std.specs.List.{flat_map, list_all}
 use Rattle.std.specs.Char.{is_ascii_digit, is_ascii_hexdigit}
 use Rattle.std.specs.Str.Parse.{digits_value}
@@ -21,7 +22,8 @@ is_number value = nat_lt 0 (length value) && list_all is_ascii_digit value
 -- the number of the digits; unreadable where they are none, and too large above the limit
 abbrev pub length_of : ℕ → List ℕ → Result ℕ Bad
 length_of max_body value =
-    if is_number value then (if nat_lt max_body (digits_value 10 value) then Err bads.TooLarge else Ok (digits_value 10 value))
+    if is_number value then
+    (if nat_lt max_body (digits_value 10 value) then Err bads.TooLarge else Ok (digits_value 10 value))
     else Err bads.Length
 
 abbrev pub sized : Result ℕ Bad → Result Framing Bad
@@ -144,7 +146,8 @@ IsBodyText (Chunked most) text body = IsChunked text body × (length body ≤ mo
 -- the text is refused as a body of that framing, and so bad
 abbrev pub IsBadBody : Framing → List ℕ → Bad → Type 0
 IsBadBody (Length n) text bad = ⊥
-IsBadBody (Chunked most) text bad = ((bad ≡ bads.TooLarge) × IsOver most text) ⊎ ((bad ≡ bads.Chunks) × IsBroken most text)
+IsBadBody (Chunked most) text bad =
+    ((bad ≡ bads.TooLarge) × IsOver most text) ⊎ ((bad ≡ bads.Chunks) × IsBroken most text)
 
 -- the text ends inside a body of that framing
 abbrev pub IsCutBody : Framing → List ℕ → Type 0

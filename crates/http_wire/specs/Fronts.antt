@@ -2,7 +2,8 @@
 use Rattle.std.specs.Prelude.{◌≡◌, ℕ, ◌+◌, ◌<◌, ◌≤◌, ◌⊎◌, List, [], ◌∷◌, ◌++◌, length, ◌==◌}
 use Rattle.std.specs.List.{count_by}
 use Rattle.httparse.specs.Ascii.{line_feed}
-use Rattle.httparse.specs.Grammar.{Field, RequestHead, IsRequestHead, print_request, ResponseHead, IsResponseHead, print_response}
+use Rattle.httparse.specs.Grammar.{Field, RequestHead, IsRequestHead, print_request, ResponseHead, IsResponseHead}
+use Rattle.httparse.specs.Grammar.{print_response}
 
 -- the most bytes of a head, with its empty line
 abbrev pub max_head : ℕ

@@ -1,5 +1,5 @@
--- The text of a head that is written: its status, its fields, and an empty line (RFC 9112, sections 4 and 5; RFC 9110, section 15, for the
--- numbers and the reasons).
+-- The text of a head that is written: its status, its fields, and an empty line (RFC 9112, sections 4 and 5; RFC 9110,
+-- section 15, for the numbers and the reasons).
 use Rattle.std.specs.Prelude.{ℕ, Bool, false, List, [], ◌∷◌, ◌++◌, codes, decimal, flat_map, if◌then◌else◌}
 use Rattle.httparse.specs.Ascii.{crlf_bytes}
 use Rattle.http_wire.specs.declared.fault.Bad.{Bad}
@@ -57,7 +57,8 @@ closing_fields keep = if keep then [] else (codes "Connection", codes "close") �
 
 -- the status line, the fields, and an empty line
 abbrev pub print_head : Status → List HeadField → Bool → List ℕ
-print_head status fields keep = status_line status ++ (flat_map print_field (fields ++ closing_fields keep) ++ crlf_bytes)
+print_head status fields keep =
+    status_line status ++ (flat_map print_field (fields ++ closing_fields keep) ++ crlf_bytes)
 
 -- Content-Length: <count>
 abbrev pub length_field : ℕ → HeadField

@@ -4,13 +4,15 @@ use Rattle.std.specs.Io.KnownBytes.{Consumes, IsAtEnd}
 use Rattle.http_wire.specs.Counts.{CountsUp, CountsAtMost}
 use Rattle.http_wire.specs.States.{SourceState}
 
--- what one read adds to the transcript: at `Ok(n)` the first n bytes of the buffer, where 0 is the end, and at `Err` nothing
+-- what one read adds to the transcript: at `Ok(n)` the first n bytes of the buffer, where 0 is the end, and at `Err`
+-- nothing
 abbrev pub ReadTells : {E : Type 0} → SourceState → SourceState → Result ℕ E → List ℕ → Type 0
 ReadTells old new r buf =
     MatchResult r (λ n. (new.given ≡ old.given ++ take n buf) × (new.ended ≡ (n == 0)))
     (λ _. (new.given ≡ old.given) × (new.ended ≡ old.ended))
 
--- reads gave these bytes: they were added to the transcript, and bytes that were known to come began with them, and lost them
+-- reads gave these bytes: they were added to the transcript, and bytes that were known to come began with them, and
+-- lost them
 pub record Gives (old new : SourceState) (bytes : List ℕ) : Type 0 where
   pub told : new.given ≡ old.given ++ bytes
   pub consumed : Consumes old.remaining new.remaining bytes

@@ -1,5 +1,7 @@
--- The body of a response: how far it goes, by its head (RFC 9112, section 6.3), and whether the connection stays behind it (section 9.3).
-use Rattle.std.specs.Prelude.{◌≡◌, ℕ, ◌≤◌, Bool, false, ◌||◌, ◌==◌, nat_lt, List, [], ◌∷◌, length, codes, if◌then◌else◌, Result, Ok, Err}
+-- The body of a response: how far it goes, by its head (RFC 9112, section 6.3), and whether the connection stays behind
+-- it (section 9.3).
+use Rattle.std.specs.Prelude.{◌≡◌, ℕ, ◌≤◌, Bool, false, ◌||◌, ◌==◌, nat_lt, List, [], ◌∷◌, length, codes, if◌then◌else◌}
+use Rattle.std.specs.Prelude.{Result, Ok, Err}
 use Rattle.std.specs.Str.Parse.{digits_value}
 use Rattle.http_wire.specs.States.{SourceState}
 use Rattle.http_wire.specs.Reading.{HasEnded}
@@ -20,11 +22,13 @@ sized max_body n = if nat_lt max_body n then Err Fault.TooLarge else Ok (Length 
 abbrev pub framing_by_length : ℕ → Bool → List (List ℕ) → Result ResponseFraming FramingFault
 framing_by_length max_body empty [] = if empty then Ok (Length 0) else Ok (ToEnd max_body)
 framing_by_length max_body empty (value ∷ []) =
-    if is_number value then (if empty then Ok (Length 0) else sized max_body (digits_value 10 value)) else Err Fault.Unreadable
+    if is_number value then (if empty then Ok (Length 0) else sized max_body (digits_value 10 value)) else Err
+    Fault.Unreadable
 framing_by_length max_body empty (value ∷ other ∷ values) = Err Fault.Unreadable
 
 -- by the values of Transfer-Encoding: there is none
-abbrev pub framing_without_coding : List (List ℕ) → Result ResponseFraming FramingFault → Result ResponseFraming FramingFault
+abbrev pub framing_without_coding : List (List ℕ) → Result ResponseFraming FramingFault
+    → Result ResponseFraming FramingFault
 framing_without_coding [] framing = framing
 framing_without_coding (coding ∷ codings) framing = Err Fault.Unreadable
 
@@ -48,7 +52,8 @@ most_of (ToEnd most) = most
 abbrev pub IsFraming : ℕ → ResponseFraming → Type 0
 IsFraming max_body framing = most_of framing ≤ max_body
 
--- whether the connection stays behind the response: its version and its fields keep it, and its body doesn't go to the end of the input
+-- whether the connection stays behind the response: its version and its fields keep it, and its body doesn't go to the
+-- end of the input
 abbrev pub keeps_on : ℕ → Fields → ResponseFraming → Bool
 keeps_on minor fields (Length n) = keeps_connection minor fields
 keeps_on minor fields (ToEnd most) = false

@@ -1,8 +1,9 @@
 -- What contracts see of a source and of a sink.
 use Rattle.std.specs.Prelude.{ℕ, Bool, List, Option}
 
--- of a source: its transcript, which is the bytes that its reads have given so far, in order, and whether the last read that didn't fail said
--- that the source has ended; the bytes that reads will give from here on, if they are known; how many reads there were, and how many failed
+-- of a source: its transcript, which is the bytes that its reads have given so far, in order, and whether the last read
+-- that didn't fail said that the source has ended; the bytes that reads will give from here on, if they are known; how
+-- many reads there were, and how many failed
 pub record SourceState : Type 0 where
   pub given : List ℕ
   pub ended : Bool
@@ -10,8 +11,9 @@ pub record SourceState : Type 0 where
   pub reads : ℕ
   pub failed_reads : ℕ
 
--- of a sink: its transcript, which is the bytes that its writes have taken so far, in order; the bytes that it holds, if they are known; how
--- many writes and flushes there were, and how many failed; whether all that was written was handed on
+-- of a sink: its transcript, which is the bytes that its writes have taken so far, in order; the bytes that it holds,
+-- if they are known; how many writes and flushes there were, and how many failed; whether all that was written was
+-- handed on
 pub record SinkState : Type 0 where
   pub taken : List ℕ
   pub contents : Option (List ℕ)

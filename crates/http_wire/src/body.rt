@@ -76,7 +76,8 @@ pub fn read_bytes<S: ByteSource, B: BodyBuffer>(
     body: &mut B,
     count: usize,
 ) -> Result<(), BodyFault>
-    ensures found { ReadsBytes (S.state input.old.source.now) input.old.buffer.now (B.bytes body.old)
+    ensures found { ReadsBytes (S.state input.old.source.now) input.old.buffer.now
+        (B.bytes body.old)
         (S.state input.new.source.now) input.new.buffer.now (B.bytes body.new) count result }
     ensures costs { ReadsAtMost S.state count (result ≡ Err BodyFault.Read) input.old input.new }
 {
@@ -98,7 +99,8 @@ pub fn read_body<S: ByteSource, B: BodyBuffer>(
     requires empty { B.bytes body.old ≡ [] }
     ensures found { FindsBody framing (S.state input.old.source.now) input.old.buffer.now
         (S.state input.new.source.now) input.new.buffer.now (B.bytes body.new) result }
-    ensures costs { ReadsAtMost S.state (12 + 13 * most_of framing) (result ≡ Err BodyFault.Read) input.old input.new }
+    ensures costs { ReadsAtMost S.state (12 + 13 * most_of framing) (result ≡ Err BodyFault.Read)
+        input.old input.new }
 {
     match framing {
         Framing::Length(length) => {

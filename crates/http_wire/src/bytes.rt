@@ -38,11 +38,13 @@ pub trait ByteSource {
     fn read(&mut self, buf: &mut [u8]) -> Result<usize, Failed>
         requires { 0 < length buf.old }
         ensures bound { IfOk result (λ n. n ≤ length buf.new) }
-        ensures bytes { ReadConsumes (state self.old).remaining (state self.new).remaining result buf.new }
+        ensures bytes { ReadConsumes (state self.old).remaining (state self.new).remaining
+            result buf.new }
         ensures told { ReadTells (state self.old) (state self.new) result buf.new }
         ensures counted { CountsUp (state self.old).reads (state self.new).reads }
         ensures ok { OnOk result ((state self.new).failed_reads ≡ (state self.old).failed_reads) }
-        ensures err { OnErr result (CountsUp (state self.old).failed_reads (state self.new).failed_reads) };
+        ensures err { OnErr result
+            (CountsUp (state self.old).failed_reads (state self.new).failed_reads) };
 }
 
 /// Where requests and replies are written to.
@@ -56,11 +58,13 @@ pub trait ByteSink {
     fn write(&mut self, buf: &[u8]) -> Result<usize, Failed>
         ensures bound { IfOk result (λ n. n ≤ length buf.now) }
         ensures some { IfOk result (λ n. 0 < length buf.now → 0 < n) }
-        ensures bytes { WriteAppends (state self.old).contents (state self.new).contents result buf.now }
+        ensures bytes { WriteAppends (state self.old).contents (state self.new).contents
+            result buf.now }
         ensures told { WriteTells (state self.old) (state self.new) result buf.now }
         ensures counted { CountsUp (state self.old).writes (state self.new).writes }
         ensures ok { OnOk result ((state self.new).failed_writes ≡ (state self.old).failed_writes) }
-        ensures err { OnErr result (CountsUp (state self.old).failed_writes (state self.new).failed_writes) };
+        ensures err { OnErr result
+            (CountsUp (state self.old).failed_writes (state self.new).failed_writes) };
 
     /// Hands on what was written. `Failed` is any error of it.
     fn flush(&mut self) -> Result<(), Failed>
@@ -69,7 +73,8 @@ pub trait ByteSink {
         ensures flushed { OnOk result (IsTrue (state self.new).flushed) }
         ensures counted { CountsUp (state self.old).writes (state self.new).writes }
         ensures ok { OnOk result ((state self.new).failed_writes ≡ (state self.old).failed_writes) }
-        ensures err { OnErr result (CountsUp (state self.old).failed_writes (state self.new).failed_writes) };
+        ensures err { OnErr result
+            (CountsUp (state self.old).failed_writes (state self.new).failed_writes) };
 }
 
 /// A reader of std as a source. Its transcript and its counts are there for contracts alone.

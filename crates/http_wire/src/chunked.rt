@@ -1,6 +1,7 @@
 //! Chunked bodies (RFC 9112, section 7.1), read chunk by chunk. A size line has 1 to 8 hexadecimal digits and
 //! no extension, and no trailer stands behind the last one.
-ghost use Rattle.std.specs.Prelude.{◌≡◌, ℕ, ◌+◌, ◌*◌, ◌-◌, ◌^◌, ◌<◌, ◌≤◌, List, [], ◌∷◌, ◌++◌, length, Ok, Err, MatchOption, IsFalse, true};
+ghost use Rattle.std.specs.Prelude.{◌≡◌, ℕ, ◌+◌, ◌*◌, ◌-◌, ◌^◌, ◌<◌, ◌≤◌, List, [], ◌∷◌, ◌++◌, length, Ok, Err};
+ghost use Rattle.std.specs.Prelude.{MatchOption, IsFalse, true};
 ghost use Rattle.std.specs.Char.{is_ascii_hexdigit, digit_value};
 ghost use Rattle.http_wire.specs.Counts.{CountsAtMost};
 ghost use Rattle.http_wire.specs.Inputs.{ReadsAtMost};
@@ -147,9 +148,11 @@ fn read_chunk<S: ByteSource, B: BodyBuffer>(
     room: u64,
 ) -> Result<ChunkRead, BodyFault>
     requires { room ≤ 2 ^ 31 }
-    ensures found { FindsChunk room (S.state input.old.source.now) input.old.buffer.now (B.bytes body.old)
+    ensures found { FindsChunk room (S.state input.old.source.now) input.old.buffer.now
+        (B.bytes body.old)
         (S.state input.new.source.now) input.new.buffer.now (B.bytes body.new) result }
-    ensures costs { ReadsAtMost S.state (12 + room) (result ≡ Err BodyFault.Read) input.old input.new }
+    ensures costs { ReadsAtMost S.state (12 + room) (result ≡ Err BodyFault.Read)
+        input.old input.new }
     ensures few { result ≡ Ok ChunkRead.More
         → CountsAtMost (S.state input.old.source.now).reads (S.state input.new.source.now).reads
         (12 + (length (B.bytes body.new) - length (B.bytes body.old))) }
@@ -179,9 +182,11 @@ pub fn read_chunks<S: ByteSource, B: BodyBuffer>(
 ) -> Result<BodyEnd, BodyFault>
     requires limit { most ≤ 2 ^ 31 }
     requires empty { B.bytes body.old ≡ [] }
-    ensures found { FindsBody (Framing.Chunked most) (S.state input.old.source.now) input.old.buffer.now
+    ensures found { FindsBody (Framing.Chunked most) (S.state input.old.source.now)
+        input.old.buffer.now
         (S.state input.new.source.now) input.new.buffer.now (B.bytes body.new) result }
-    ensures costs { ReadsAtMost S.state (12 + 13 * most) (result ≡ Err BodyFault.Read) input.old input.new }
+    ensures costs { ReadsAtMost S.state (12 + 13 * most) (result ≡ Err BodyFault.Read)
+        input.old input.new }
 {
     // Each chunk but the last has a byte, so there are at most one more than the most bytes of a body.
     for _chunk in 0..most + 1 {

@@ -1,4 +1,5 @@
-//! Why no message could be read. Each function answers no more faults than it has, and `?` makes the wider of the narrower.
+//! Why no message could be read. Each function answers no more faults than it has, and `?` makes the wider of the
+//! narrower.
 
 use crate::bytes::Failed;
 use std::alloc::AllocError;

@@ -71,7 +71,8 @@ pub fn field_among<'b>(head: &'b [u8], headers: &[HeaderSpan], name: &[u8]) -> O
 /// The field of that name in a head.
 pub fn field_named<'b>(head: &'b [u8], parsed: &ParsedRequest, name: &[u8]) -> Occurrence<'b>
     requires { request_spans.IsHeadOf head.now parsed.now }
-    ensures { IsOccurrence (values_of name.now (fields_of request_spans head.now parsed.now)) result }
+    ensures { IsOccurrence (values_of name.now (fields_of request_spans head.now parsed.now))
+        result }
 {
     field_among(head, &parsed.headers[..parsed.spans.headers], name)
 }
@@ -86,8 +87,10 @@ fn has_close(value: &[u8]) -> bool
 /// Whether a field `Connection` listed `close` so far, with one more field.
 fn closes_after(found: bool, head: &[u8], header: HeaderSpan) -> bool
     requires { IsHeaderWithin (length head.now) header }
-    ensures { (fields : Fields) → found ≡ list_any lists_close (values_of (codes "connection") fields)
-        → result ≡ list_any lists_close (values_of (codes "connection") (fields ++ header_bytes head.now header ∷ [])) }
+    ensures { (fields : Fields)
+        → found ≡ list_any lists_close (values_of (codes "connection") fields)
+        → result ≡ list_any lists_close
+        (values_of (codes "connection") (fields ++ header_bytes head.now header ∷ [])) }
 {
     if is_same_word(header.name.of(head), b"connection") {
         found || has_close(header.value.of(head))
@@ -99,7 +102,8 @@ fn closes_after(found: bool, head: &[u8], header: HeaderSpan) -> bool
 /// Whether a field `Connection` lists `close`.
 pub fn lists_close(head: &[u8], headers: &[HeaderSpan]) -> bool
     requires { All (IsHeaderWithin (length head.now)) headers.now }
-    ensures { result ≡ list_any lists_close (values_of (codes "connection") (map (header_bytes head.now) headers.now)) }
+    ensures { result ≡ list_any lists_close
+        (values_of (codes "connection") (map (header_bytes head.now) headers.now)) }
 {
     let mut found = false;
     for header in headers {
@@ -111,7 +115,8 @@ pub fn lists_close(head: &[u8], headers: &[HeaderSpan]) -> bool
 /// Whether the connection stays after the request of this head (RFC 9112, section 9.3).
 pub fn keeps_connection(head: &[u8], parsed: &ParsedRequest) -> bool
     requires { request_spans.IsHeadOf head.now parsed.now }
-    ensures { result ≡ keeps_connection parsed.now.spans.version (fields_of request_spans head.now parsed.now) }
+    ensures { result
+        ≡ keeps_connection parsed.now.spans.version (fields_of request_spans head.now parsed.now) }
 {
     parsed.spans.version == 1 && !lists_close(head, &parsed.headers[..parsed.spans.headers])
 }
@@ -124,8 +129,10 @@ fn with_first<'b>(
     name: &[u8],
 ) -> Option<&'b [u8]>
     requires { IsHeaderWithin (length head.now) header }
-    ensures { (fields : Fields) → option_map (λ v. v.now) found.entry ≡ first_of (values_of name.now fields)
-        → option_map (λ v. v.now) result ≡ first_of (values_of name.now (fields ++ header_bytes head.now header ∷ [])) }
+    ensures { (fields : Fields)
+        → option_map (λ v. v.now) found.entry ≡ first_of (values_of name.now fields)
+        → option_map (λ v. v.now) result
+        ≡ first_of (values_of name.now (fields ++ header_bytes head.now header ∷ [])) }
 {
     match found {
         Some(value) => Some(value),
@@ -142,7 +149,8 @@ fn with_first<'b>(
 /// The value of the first field of that name, where there is one.
 pub fn first_among<'b>(head: &'b [u8], headers: &[HeaderSpan], name: &[u8]) -> Option<&'b [u8]>
     requires { All (IsHeaderWithin (length head.now)) headers.now }
-    ensures { option_map (λ v. v.now) result ≡ first_of (values_of name.now (map (header_bytes head.now) headers.now)) }
+    ensures { option_map (λ v. v.now) result
+        ≡ first_of (values_of name.now (map (header_bytes head.now) headers.now)) }
 {
     let mut found = None;
     for header in headers {

@@ -41,12 +41,14 @@ pub fn length_of(value: &[u8], max_body: u64) -> Result<u64, Bad>
     Ok(total)
 }
 
-/// How the body behind a head is written, which has at most `max_body` bytes. `Length`: its length is unreadable or said twice, or it has a coding
-/// too. `TooLarge`: its length is over the limit. `Coding`: a coding other than one `chunked` in HTTP/1.1.
+/// How the body behind a head is written, which has at most `max_body` bytes. `Length`: its length is unreadable or
+/// said twice, or it has a coding too. `TooLarge`: its length is over the limit. `Coding`: a coding other than one
+/// `chunked` in HTTP/1.1.
 pub fn framing_of(head: &[u8], parsed: &ParsedRequest, max_body: u64) -> Result<Framing, Bad>
     requires limit { max_body ≤ 2 ^ 31 }
     requires head { request_spans.IsHeadOf head.now parsed.now }
-    ensures framed { result ≡ framing_of max_body parsed.now.spans.version (fields_of request_spans head.now parsed.now) }
+    ensures framed { result ≡ framing_of max_body parsed.now.spans.version
+        (fields_of request_spans head.now parsed.now) }
     ensures kept { IfOk result (λ framing. most_of framing ≤ max_body) }
 {
     let coding = field_named(head, parsed, b"transfer-encoding");

@@ -56,7 +56,8 @@ impl Gather {
 
     /// Puts the decimal digits of a number.
     pub fn put_number<W: ByteSink>(&mut self, writer: &mut W, number: u64)
-        ensures { Puts (W.state writer.old) self.old (W.state writer.new) self.new (decimal number) }
+        ensures { Puts (W.state writer.old) self.old (W.state writer.new) self.new
+            (decimal number) }
     {
         let mut digits = Buffer::new();
         let text = digits.format(number);
@@ -65,7 +66,8 @@ impl Gather {
 
     /// Puts a field.
     pub fn put_field<W: ByteSink>(&mut self, writer: &mut W, name: &[u8], value: &[u8])
-        ensures { Puts (W.state writer.old) self.old (W.state writer.new) self.new (print_field (name.now, value.now)) }
+        ensures { Puts (W.state writer.old) self.old (W.state writer.new) self.new
+            (print_field (name.now, value.now)) }
     {
         self.put(writer, name);
         self.put(writer, b": ");
@@ -75,7 +77,8 @@ impl Gather {
 
     /// Puts the length of the body.
     pub fn put_length<W: ByteSink>(&mut self, writer: &mut W, size: u64)
-        ensures { Puts (W.state writer.old) self.old (W.state writer.new) self.new (print_field (length_field size)) }
+        ensures { Puts (W.state writer.old) self.old (W.state writer.new) self.new
+            (print_field (length_field size)) }
     {
         self.put(writer, b"Content-Length: ");
         self.put_number(writer, size);
@@ -85,7 +88,8 @@ impl Gather {
     /// Puts the field that closes the connection, where it closes, and the empty line.
     pub fn put_end<W: ByteSink>(&mut self, writer: &mut W, keep: bool)
         ensures { Puts (W.state writer.old) self.old
-            (W.state writer.new) self.new (flat_map print_field (closing_fields keep) ++ crlf_bytes) }
+            (W.state writer.new) self.new
+            (flat_map print_field (closing_fields keep) ++ crlf_bytes) }
     {
         if !keep {
             self.put_field(writer, b"Connection", b"close");

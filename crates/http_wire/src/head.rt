@@ -94,7 +94,8 @@ pub fn read_head<G: Grammar, S: ByteSource>(
     ensures gave { Gave (S.state input.old.source.now) (S.state input.new.source.now)
         input.old.buffer.now input.new.buffer.now }
     ensures found { FindsHead G.spans input.new.buffer.now (S.state input.new.source.now) result }
-    ensures costs { ReadsAtMost S.state MAX_HEAD (result ≡ Err InputFault.Read) input.old input.new }
+    ensures costs { ReadsAtMost S.state MAX_HEAD (result ≡ Err InputFault.Read)
+        input.old input.new }
 {
     let mut lines = 0;
     for at in 0..MAX_HEAD {

@@ -48,7 +48,8 @@ impl<'a, S: ByteSource> Input<'a, S> {
         ensures there { IfOk result (λ found. IfSome found (λ byte.
             (at < length self.new.buffer.now) × (byte ≡ get_or self.new.buffer.now at 0))) }
         ensures ended { IfOk result (λ found. IfNone found ((length self.new.buffer.now ≡ at)
-            × (self.new.buffer.now ≡ self.old.buffer.now) × HasEnded (S.state self.new.source.now))) }
+            × (self.new.buffer.now ≡ self.old.buffer.now)
+            × HasEnded (S.state self.new.source.now))) }
         ensures kept { OnErr result ((length self.new.buffer.now ≡ at)
             × (self.new.buffer.now ≡ self.old.buffer.now)) }
         ensures costs { ReadsAtMost S.state 1 (IsErr result) self.old self.new }

@@ -1,11 +1,11 @@
 //! HTTP/1.1 messages, from bytes and to bytes (RFC 9112): what is the same for each service and each client.
 //!
-//! Readers and writers (`bytes`) tell their contracts which bytes they move, which they have moved so far (`transcript`),
-//! and how often they are called. What is read
-//! stands in one buffer (`buffer`) until it is taken. A head is read by one loop over the grammar of requests
-//! (`requests`) or of responses (`responses`), and its fields (`fields`, `elements`) say how its body is framed
-//! (`framing`), which is read behind it (`body`, `chunked`); a response's stands in `responses`. What is written goes
-//! out whole (`writing`), and a head is gathered first (`gather`). A query has parameters (`query`).
+//! Readers and writers (`bytes`) tell their contracts which bytes they move, which they have moved so far
+//! (`transcript`), and how often they are called. What is read stands in one buffer (`buffer`) until it is taken. A
+//! head is read by one loop over the grammar of requests (`requests`) or of responses (`responses`), and its fields
+//! (`fields`, `elements`) say how its body is framed (`framing`), which is read behind it (`body`, `chunked`); a
+//! response's stands in `responses`. What is written goes out whole (`writing`), and a head is gathered first
+//! (`gather`). A query has parameters (`query`).
 #![tactic(auto)]
 
 mod body;

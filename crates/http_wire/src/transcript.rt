@@ -4,8 +4,8 @@ ghost use Rattle.std.specs.Borrow.{ftrue};
 
 use std::marker::Model;
 
-/// A clause reads the bytes as `bytes`, in order, and as `ended` whether the last piece was empty, which is how a read says
-/// that its source has ended.
+/// A clause reads the bytes as `bytes`, in order, and as `ended` whether the last piece was empty, which is how a read
+/// says that its source has ended.
 #[derive(Drop)]
 pub struct Transcript {
     pub ghost bytes: { List ℕ },
@@ -32,7 +32,8 @@ impl Transcript {
 
     /// These bytes behind those that it has.
     pub fn and(&self, piece: &[u8]) -> Transcript
-        ensures { result ≡ record { bytes = self.now.bytes ++ piece.now; ended = length piece.now == 0 } }
+        ensures { result
+            ≡ record { bytes = self.now.bytes ++ piece.now; ended = length piece.now == 0 } }
     {
         Transcript {}
     }

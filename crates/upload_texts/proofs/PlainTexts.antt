@@ -1,6 +1,7 @@
 -- The bytes of written targets: those of names, digests and references may stand in a path, in a query and in a
 -- request line.
-use Rattle.std.proofs.Common.{◌≡◌, ◌≢◌, ℕ, ◌/◌, ◌%◌, ◌<◌, ◌||◌, ◌==◌, cond, Bool, true, false, codes, List, [], ◌∷◌, ◌++◌, All, length, get_or, refl, arith, ◌∙◌, sym, ap, IsTrue, inl, inr}
+use Rattle.std.proofs.Common.{◌≡◌, ◌≢◌, ℕ, ◌/◌, ◌%◌, ◌<◌, ◌||◌, ◌==◌, cond, Bool, true, false, codes, List, [], ◌∷◌}
+use Rattle.std.proofs.Common.{◌++◌, All, length, get_or, refl, arith, ◌∙◌, sym, ap, IsTrue, inl, inr}
 use Rattle.std.specs.Prelude.{Option, Some, None, nat_le}
 use Rattle.std.proofs.lemmas.Bool.{and_parts, cases_Bool}
 use Rattle.std.proofs.lemmas.Bool.Decides.{nat_tests}
@@ -24,16 +25,19 @@ use Rattle.upload_texts.specs.Paths.{blob_path, upload_path}
 
 -- ---- texts whose bytes pass a test
 
-pub AllPass-each : (test : ℕ → Bool) (P : ℕ → Type 0) (text : List ℕ) → ((b : ℕ) → test b ≡ true → P b) → AllPass test text → All P text
+pub AllPass-each : (test : ℕ → Bool) (P : ℕ → Type 0) (text : List ℕ) → ((b : ℕ) → test b ≡ true → P b)
+    → AllPass test text → All P text
 AllPass-each test P text h = All-weaker (λ b. IsTrue (test b)) P h text
 
-pub AllPass-weaker : (test other : ℕ → Bool) (text : List ℕ) → ((b : ℕ) → test b ≡ true → other b ≡ true) → AllPass test text → AllPass other text
+pub AllPass-weaker : (test other : ℕ → Bool) (text : List ℕ) → ((b : ℕ) → test b ≡ true → other b ≡ true)
+    → AllPass test text → AllPass other text
 AllPass-weaker test other text h = AllPass-each test (λ b. IsTrue (other b)) text h
 
 pub AllPass-append : (test : ℕ → Bool) (a b : List ℕ) → AllPass test a → AllPass test b → AllPass test (a ++ b)
 AllPass-append test a b = All-append (λ c. IsTrue (test c)) a b
 
-pub AllPass-cons : (test : ℕ → Bool) (b : ℕ) (text : List ℕ) → test b ≡ true → AllPass test text → AllPass test (b ∷ text)
+pub AllPass-cons : (test : ℕ → Bool) (b : ℕ) (text : List ℕ) → test b ≡ true → AllPass test text
+    → AllPass test (b ∷ text)
 AllPass-cons test b text h t = All-cons (λ c. IsTrue (test c)) b text h t
 
 pub AllPass-nil : (test : ℕ → Bool) → AllPass test []
@@ -134,7 +138,8 @@ passes_plain (c ∷ text) place h =
       | inr other ↦ let none : false ≡ true = sym (ap (λ o. passes o text) (no_place place c other)) ∙ h in cc none
     ]
   where
-    behind_some : (o : Option Place) → ((next : Place) → passes (Some next) text ≡ true → IsPlain text) → passes o text ≡ true → IsPlain text
+    behind_some : (o : Option Place) → ((next : Place) → passes (Some next) text ≡ true → IsPlain text)
+        → passes o text ≡ true → IsPlain text
     behind_some None ih e = cc e
     behind_some (Some next) ih e = ih next e
 
@@ -159,7 +164,8 @@ pub IsPlain-tail : (text : List ℕ) → IsTail text → IsPlain text
 IsPlain-tail text h = AllPass-weaker is_tail_byte is_plain_byte text tail_is_plain h
 
 lower_digit : (i : ℕ) → i < 16 → is_tail_byte (get_or lower_digits i 0) ≡ true
-lower_digit i h = All-get_or (λ c. IsTrue (is_tail_byte c)) lower_digits i 0 h (AllPass-from_list_all is_tail_byte lower_digits refl)
+lower_digit i h =
+    All-get_or (λ c. IsTrue (is_tail_byte c)) lower_digits i 0 h (AllPass-from_list_all is_tail_byte lower_digits refl)
 
 hex_tail : (bytes : List ℕ) → All (λ b. b < 256) bytes → IsTail (encode_lower bytes)
 unfolding encode_with
@@ -167,8 +173,11 @@ hex_tail [] h = AllPass-nil is_tail_byte
 hex_tail (b ∷ bytes) h =
     let small : b < 256 = All-head (λ b. b < 256) b bytes h in
     let low = get_or lower_digits (b % 16) 0 in
-    let rest = AllPass-cons is_tail_byte low (encode_lower bytes) (lower_digit (b % 16) (omega arith)) (hex_tail bytes (All-tail (λ b. b < 256) b bytes h)) in
-    AllPass-cons is_tail_byte (get_or lower_digits (b / 16) 0) (low ∷ encode_lower bytes) (lower_digit (b / 16) (omega arith)) rest
+    let rest =
+    AllPass-cons is_tail_byte low (encode_lower bytes) (lower_digit (b % 16) (omega arith))
+    (hex_tail bytes (All-tail (λ b. b < 256) b bytes h)) in
+    AllPass-cons is_tail_byte (get_or lower_digits (b / 16) 0) (low ∷ encode_lower bytes)
+    (lower_digit (b / 16) (omega arith)) rest
 
 prefix_tail : (algorithm : Algorithm) → IsTail (prefix_of algorithm)
 prefix_tail Sha256 = AllPass-from_list_all is_tail_byte (codes "sha256:") refl
@@ -177,7 +186,8 @@ prefix_tail Sha512 = AllPass-from_list_all is_tail_byte (codes "sha512:") refl
 pub digest_tail : (digest : Digest) → IsDigest digest → IsTail (digest_text digest)
 unfolding digest_text
 digest_tail digest h =
-    AllPass-append is_tail_byte (prefix_of digest.algorithm) (encode_lower digest.bytes) (prefix_tail digest.algorithm) (hex_tail digest.bytes h.bytes)
+    AllPass-append is_tail_byte (prefix_of digest.algorithm) (encode_lower digest.bytes) (prefix_tail digest.algorithm)
+    (hex_tail digest.bytes h.bytes)
 
 pub digest_plain : (digest : Digest) → IsDigest digest → IsPlain (digest_text digest)
 digest_plain digest h = IsPlain-tail (digest_text digest) (digest_tail digest h)
@@ -186,7 +196,8 @@ reference_is_tail : (b : ℕ) → is_reference_byte b ≡ true → is_tail_byte 
 reference_is_tail b h = grind (arith, nat_tests)
 
 pub reference_tail : (at : List ℕ) → IsTail (reference_text at)
-reference_tail at = AllPass-weaker is_reference_byte is_tail_byte (reference_text at) reference_is_tail (reference_text-bytes at)
+reference_tail at =
+    AllPass-weaker is_reference_byte is_tail_byte (reference_text at) reference_is_tail (reference_text-bytes at)
 
 -- ---- paths
 
@@ -194,15 +205,19 @@ reference_tail at = AllPass-weaker is_reference_byte is_tail_byte (reference_tex
 path_plain : (name kind tail : List ℕ) → is_name name ≡ true → list_all is_plain_byte kind ≡ true → IsPlain tail
     → IsPlain (codes "/v2/" ++ (name ++ (kind ++ tail)))
 path_plain name kind tail n k t =
-    AllPass-append is_plain_byte (codes "/v2/") (name ++ (kind ++ tail)) (AllPass-from_list_all is_plain_byte (codes "/v2/") refl)
+    AllPass-append is_plain_byte (codes "/v2/") (name ++ (kind ++ tail))
+    (AllPass-from_list_all is_plain_byte (codes "/v2/") refl)
     (AllPass-append is_plain_byte name (kind ++ tail) (name_plain name n)
     (AllPass-append is_plain_byte kind tail (AllPass-from_list_all is_plain_byte kind k) t))
 
-pub blob_plain : (name : List ℕ) (digest : Digest) → is_name name ≡ true → IsDigest digest → IsPlain (blob_path name (digest_text digest))
+pub blob_plain : (name : List ℕ) (digest : Digest) → is_name name ≡ true → IsDigest digest
+    → IsPlain (blob_path name (digest_text digest))
 blob_plain name digest n d = path_plain name (codes "/blobs/") (digest_text digest) n refl (digest_plain digest d)
 
 pub uploads_plain : (name : List ℕ) → is_name name ≡ true → IsPlain (upload_path name [])
 uploads_plain name n = path_plain name (codes "/blobs/uploads/") [] n refl (AllPass-nil is_plain_byte)
 
 pub upload_plain : (name at : List ℕ) → is_name name ≡ true → IsPlain (upload_path name (reference_text at))
-upload_plain name at n = path_plain name (codes "/blobs/uploads/") (reference_text at) n refl (IsPlain-tail (reference_text at) (reference_tail at))
+upload_plain name at n =
+    path_plain name (codes "/blobs/uploads/") (reference_text at) n refl
+    (IsPlain-tail (reference_text at) (reference_tail at))

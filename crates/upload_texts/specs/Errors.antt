@@ -1,4 +1,5 @@
--- The errors that replies name, and the status and the error of a refusal (OCI Distribution Specification 1.1, section "Error Codes").
+-- The errors that replies name, and the status and the error of a refusal (OCI Distribution Specification 1.1, section
+-- "Error Codes").
 use Rattle.std.specs.Prelude.{ℕ, List, ◌++◌, codes}
 use Rattle.upload_service.specs.declared.answer.Refusal.{Refusal}
 use Rattle.upload_service.specs.declared.answer.Refusal.TheVariants as refusals
@@ -31,7 +32,8 @@ message errors.TooManyRequests = codes "too many requests"
 -- {"errors":[{"code":"<code>","message":"<message>"}]}
 abbrev pub error_body : ErrorCode → List ℕ
 error_body code =
-    codes "{\"errors\":[{\"code\":\"" ++ (code_text code ++ (codes "\",\"message\":\"" ++ (message code ++ codes "\"}]}")))
+    codes "{\"errors\":[{\"code\":\""
+    ++ (code_text code ++ (codes "\",\"message\":\"" ++ (message code ++ codes "\"}]}")))
 
 abbrev pub refusal_status : Refusal → Status
 refusal_status refusals.NoForm = statuses.NotFound

@@ -48,13 +48,15 @@ impl ErrorCode {
                 "{\"errors\":[{\"code\":\"BLOB_UPLOAD_UNKNOWN\",\"message\":\"blob upload unknown to registry\"}]}"
             }
             ErrorCode::DigestInvalid => {
-                "{\"errors\":[{\"code\":\"DIGEST_INVALID\",\"message\":\"provided digest did not match uploaded content\"}]}"
+                "{\"errors\":[{\"code\":\"DIGEST_INVALID\",\
+                 \"message\":\"provided digest did not match uploaded content\"}]}"
             }
             ErrorCode::NameInvalid => {
                 "{\"errors\":[{\"code\":\"NAME_INVALID\",\"message\":\"invalid repository name\"}]}"
             }
             ErrorCode::SizeInvalid => {
-                "{\"errors\":[{\"code\":\"SIZE_INVALID\",\"message\":\"provided length did not match content length\"}]}"
+                "{\"errors\":[{\"code\":\"SIZE_INVALID\",\
+                 \"message\":\"provided length did not match content length\"}]}"
             }
             ErrorCode::Unsupported => {
                 "{\"errors\":[{\"code\":\"UNSUPPORTED\",\"message\":\"the operation is unsupported\"}]}"

@@ -1,5 +1,5 @@
-//! Texts that a server of uploads writes and a client knows: the paths of uploads and of blobs (`specs/Paths.antt`), and
-//! the errors that replies name, with the status and the error of each refusal.
+//! Texts that a server of uploads writes and a client knows: the paths of uploads and of blobs (`specs/Paths.antt`),
+//! and the errors that replies name, with the status and the error of each refusal.
 //!
 //! Both halves speak of these, `upload_wire` and `upload_client`, and neither stands on the other. They aren't part of
 //! `http_wire`, which knows no upload, nor of `upload_service`, which knows no HTTP.

@@ -12,13 +12,15 @@ use Rattle.http_wire.specs.declared.fault.BodyFault.{BodyFault}
 use Rattle.http_wire.specs.declared.fault.BodyFault.TheVariants as Fault
 
 -- a whole body was taken
-pub record TakesBody (framing : Framing) (old : SourceState) (held : List ℕ) (new : SourceState) (rest body : List ℕ) : Type 0 where
+pub record TakesBody (framing : Framing) (old : SourceState) (held : List ℕ) (new : SourceState)
+    (rest body : List ℕ) : Type 0 where
   pub text : List ℕ
   pub gave : Gave old new held (text ++ rest)
   pub written : IsBodyText framing text body
 
 -- what came is refused as a body
-pub record RefusesBodyText (framing : Framing) (old : SourceState) (held : List ℕ) (new : SourceState) (why : Bad) : Type 0 where
+pub record RefusesBodyText (framing : Framing) (old : SourceState) (held : List ℕ) (new : SourceState)
+    (why : Bad) : Type 0 where
   pub text : List ℕ
   pub gave : Gave old new held text
   pub bad : IsBadBody framing text why
@@ -29,7 +31,8 @@ pub record CutsBody (framing : Framing) (old : SourceState) (held : List ℕ) (n
   pub gave : Gave old new held text
   pub cut : IsCutBody framing text
 
-abbrev pub FindsBody : Framing → SourceState → List ℕ → SourceState → List ℕ → List ℕ → Result BodyEnd BodyFault → Type 0
+abbrev pub FindsBody : Framing → SourceState → List ℕ → SourceState → List ℕ → List ℕ
+    → Result BodyEnd BodyFault → Type 0
 FindsBody framing old held new rest body (Ok Whole) = TakesBody framing old held new rest body
 FindsBody framing old held new rest body (Ok (Refused why)) = RefusesBodyText framing old held new why
 FindsBody framing old held new rest body (Err Fault.Truncated) = CutsBody framing old held new × HasEnded new

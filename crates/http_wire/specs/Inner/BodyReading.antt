@@ -6,7 +6,8 @@ use Rattle.http_wire.specs.declared.fault.BodyFault.{BodyFault}
 use Rattle.http_wire.specs.declared.fault.BodyFault.TheVariants as Fault
 
 -- some bytes were moved from the input to the end of a body
-pub record Moved (old : SourceState) (held before : List ℕ) (new : SourceState) (rest after : List ℕ) (count : ℕ) : Type 0 where
+pub record Moved (old : SourceState) (held before : List ℕ) (new : SourceState) (rest after : List ℕ)
+    (count : ℕ) : Type 0 where
   pub bytes : List ℕ
   pub gave : Gave old new held (bytes ++ rest)
   pub joined : after ≡ before ++ bytes
@@ -22,7 +23,8 @@ abbrev pub MovedNothing : SourceState → List ℕ → List ℕ → SourceState 
 MovedNothing old held before new rest after = Moved old held before new rest after 0 × (rest ≡ [])
 
 -- all that came was moved, and it is fewer bytes than so many
-pub record MovedAll (old : SourceState) (held before : List ℕ) (new : SourceState) (rest after : List ℕ) (count : ℕ) : Type 0 where
+pub record MovedAll (old : SourceState) (held before : List ℕ) (new : SourceState) (rest after : List ℕ)
+    (count : ℕ) : Type 0 where
   pub moved : ℕ
   pub bytes : Moved old held before new rest after moved
   pub few : moved < count
@@ -32,13 +34,16 @@ pub record MovedAll (old : SourceState) (held before : List ℕ) (new : SourceSt
 abbrev pub ReadsPart : SourceState → List ℕ → List ℕ → SourceState → List ℕ → List ℕ → ℕ → Result ℕ BodyFault → Type 0
 ReadsPart old held before new rest after left (Ok count) =
     Moved old held before new rest after count × (0 < count) × (count ≤ left)
-ReadsPart old held before new rest after left (Err Fault.Truncated) = MovedNothing old held before new rest after × HasEnded new
+ReadsPart old held before new rest after left (Err Fault.Truncated) =
+    MovedNothing old held before new rest after × HasEnded new
 ReadsPart old held before new rest after left (Err Fault.Read) = MovedNothing old held before new rest after
 ReadsPart old held before new rest after left (Err Fault.NoMemory) = MovedNone old held new
 
 -- so many bytes of a body, or all of fewer before the end of the input or a failed read
-abbrev pub ReadsBytes : SourceState → List ℕ → List ℕ → SourceState → List ℕ → List ℕ → ℕ → Result (Unit {0}) BodyFault → Type 0
+abbrev pub ReadsBytes : SourceState → List ℕ → List ℕ → SourceState → List ℕ → List ℕ → ℕ
+    → Result (Unit {0}) BodyFault → Type 0
 ReadsBytes old held before new rest after count (Ok done) = Moved old held before new rest after count
-ReadsBytes old held before new rest after count (Err Fault.Truncated) = MovedAll old held before new rest after count × HasEnded new
+ReadsBytes old held before new rest after count (Err Fault.Truncated) =
+    MovedAll old held before new rest after count × HasEnded new
 ReadsBytes old held before new rest after count (Err Fault.Read) = MovedAll old held before new rest after count
 ReadsBytes old held before new rest after count (Err Fault.NoMemory) = MovedNone old held new

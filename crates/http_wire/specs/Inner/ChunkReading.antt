@@ -73,7 +73,8 @@ FindsEnd old held new rest (Err Input.Truncated) = CutsEnd old held new × HasEn
 FindsEnd old held new rest (Err Input.Read) = CutsEnd old held new
 
 -- a whole chunk was taken
-pub record TakesChunk (room : ℕ) (old : SourceState) (held before : List ℕ) (new : SourceState) (rest after : List ℕ) : Type 0 where
+pub record TakesChunk (room : ℕ) (old : SourceState) (held before : List ℕ) (new : SourceState)
+    (rest after : List ℕ) : Type 0 where
   pub chunk : Chunk
   pub is_chunk : IsChunk chunk
   pub fits : length chunk.data_bytes ≤ room
@@ -99,7 +100,8 @@ pub record CutsChunk (room : ℕ) (old : SourceState) (held : List ℕ) (new : S
   pub gave : Gave old new held text
   pub cut : IsCutBody (Chunked room) text
 
-abbrev pub FindsChunk : ℕ → SourceState → List ℕ → List ℕ → SourceState → List ℕ → List ℕ → Result ChunkRead BodyFault → Type 0
+abbrev pub FindsChunk : ℕ → SourceState → List ℕ → List ℕ → SourceState → List ℕ → List ℕ
+    → Result ChunkRead BodyFault → Type 0
 FindsChunk room old held before new rest after (Ok More) = TakesChunk room old held before new rest after
 FindsChunk room old held before new rest after (Ok Last) = TakesLast old held before new rest after
 FindsChunk room old held before new rest after (Ok (Refused why)) = RefusesChunk room old held new why

@@ -5,7 +5,8 @@ use Rattle.http_wire.specs.Reading.{Gave}
 use Rattle.http_wire.specs.Body.{Chunk, IsChunk, chunks_text, chunks_data}
 
 -- chunks were taken, and the body is their data joined
-pub record AreTaken (max_body : ℕ) (old : SourceState) (held : List ℕ) (new : SourceState) (rest body : List ℕ) : Type 0 where
+pub record AreTaken (max_body : ℕ) (old : SourceState) (held : List ℕ) (new : SourceState)
+    (rest body : List ℕ) : Type 0 where
   pub chunks : List Chunk
   pub each : All IsChunk chunks
   pub gave : Gave old new held (chunks_text chunks ++ rest)

@@ -26,7 +26,8 @@ pub record Spans (P : Type 0) : Type 1 where
 pub record AreLawful {P : Type 0} (s : Spans P) : Type 0 where
   pub ends : (h : s.words.Head) → (front : List ℕ) × (s.words.print h ≡ front ++ line_feed ∷ [])
   pub fits : (text : List ℕ) (p : P) → s.IsHeadOf text p → s.len p ≤ length text
-  pub reads : (text : List ℕ) (p : P) → s.IsHeadOf text p → (h : s.words.Head) × Reads s.words text h (drop (s.len p) text)
+  pub reads : (text : List ℕ) (p : P) → s.IsHeadOf text p
+      → (h : s.words.Head) × Reads s.words text h (drop (s.len p) text)
 
 -- the fields that the spans of a head cover
 abbrev pub fields_of : {P : Type 0} → Spans P → List ℕ → P → Fields

@@ -1,4 +1,5 @@
--- What the parser answers of the heads of requests and of responses: the spans are those of a head that begins the text.
+-- What the parser answers of the heads of requests and of responses: the spans are those of a head that begins the
+-- text.
 use Rattle.std.specs.Prelude.{take}
 use Rattle.httparse.specs.Spans.{IsRequestWithin, IsRequestOf, IsResponseWithin, IsResponseOf}
 use Rattle.http_wire.specs.Fronts.{requests, responses}

@@ -17,7 +17,8 @@ end_of Fault.Read = Err Fault.Read
 end_of Fault.NoMemory = Err Fault.NoMemory
 
 -- what was found of a body in the text that was held behind its head and read
-abbrev pub FindsBodyIn : ResponseFraming → List ℕ → List ℕ → List ℕ → SourceState → Result ResponseBodyEnd BodyFault → Type 0
+abbrev pub FindsBodyIn : ResponseFraming → List ℕ → List ℕ → List ℕ → SourceState
+    → Result ResponseBodyEnd BodyFault → Type 0
 FindsBodyIn framing text body rest new (Ok Whole) = (text ≡ body ++ rest) × IsBody framing body rest new
 FindsBodyIn (Length n) text body rest new (Ok TooLarge) = ⊥
 FindsBodyIn (ToEnd most) text body rest new (Ok TooLarge) = most < length text
@@ -29,7 +30,8 @@ FindsBodyIn framing text body rest new (Err Fault.NoMemory) = ⊤
 
 -- some bytes were read, and this was found of a body in what was held and read
 pub record FindsBody
-    (framing : ResponseFraming) (held : List ℕ) (old : SourceState) (body rest : List ℕ) (new : SourceState) (r : Result ResponseBodyEnd BodyFault)
+    (framing : ResponseFraming) (held : List ℕ) (old : SourceState) (body rest : List ℕ) (new : SourceState)
+    (r : Result ResponseBodyEnd BodyFault)
     : Type 0 where
   pub text : List ℕ
   pub gave : Gave old new held text

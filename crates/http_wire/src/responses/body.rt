@@ -27,9 +27,11 @@ fn read_to_end<S: ByteSource, B: BodyBuffer>(
 ) -> Result<ResponseBodyEnd, BodyFault>
     requires small { most ≤ 2 ^ 31 }
     requires empty { B.bytes body.old ≡ [] }
-    ensures found { FindsBody (ResponseFraming.ToEnd most) input.old.buffer.now (S.state input.old.source.now)
+    ensures found { FindsBody (ResponseFraming.ToEnd most) input.old.buffer.now
+        (S.state input.old.source.now)
         (B.bytes body.new) input.new.buffer.now (S.state input.new.source.now) result }
-    ensures costs { ReadsAtMost S.state (most + 1) (result ≡ Err BodyFault.Read) input.old input.new }
+    ensures costs { ReadsAtMost S.state (most + 1) (result ≡ Err BodyFault.Read)
+        input.old input.new }
 {
     match read_bytes(input, body, most as usize + 1) {
         Ok(()) => Ok(ResponseBodyEnd::TooLarge),
@@ -47,8 +49,8 @@ fn end_of(fault: BodyFault) -> Result<ResponseBodyEnd, BodyFault>
     }
 }
 
-/// Reads the body of that framing into an empty buffer, which grows as it comes. `Truncated`: the input ended inside a body
-/// of a length. `Read`: a read failed. `NoMemory`: a growth was refused.
+/// Reads the body of that framing into an empty buffer, which grows as it comes. `Truncated`: the input ended inside a
+/// body of a length. `Read`: a read failed. `NoMemory`: a growth was refused.
 pub fn read_response_body<S: ByteSource, B: BodyBuffer>(
     input: &mut Input<'_, S>,
     body: &mut B,
@@ -56,9 +58,11 @@ pub fn read_response_body<S: ByteSource, B: BodyBuffer>(
 ) -> Result<ResponseBodyEnd, BodyFault>
     requires small { IsFraming (2 ^ 31) framing }
     requires empty { B.bytes body.old ≡ [] }
-    ensures found { FindsBody framing input.old.buffer.now (S.state input.old.source.now) (B.bytes body.new)
+    ensures found { FindsBody framing input.old.buffer.now (S.state input.old.source.now)
+        (B.bytes body.new)
         input.new.buffer.now (S.state input.new.source.now) result }
-    ensures costs { ReadsAtMost S.state (most_of framing + 1) (result ≡ Err BodyFault.Read) input.old input.new }
+    ensures costs { ReadsAtMost S.state (most_of framing + 1) (result ≡ Err BodyFault.Read)
+        input.old input.new }
 {
     match framing {
         ResponseFraming::Length(length) => {

@@ -46,9 +46,9 @@ fn sized(value: &[u8], max_body: u64, empty: bool) -> Result<ResponseFraming, Fr
     }
 }
 
-/// How far the body behind a head goes (RFC 9112, section 6.3), where the request was a HEAD or another. `Unreadable`: a status
-/// below 200, a coding, or a length that is unreadable or said twice. `TooLarge`: a length over the limit, of a response that
-/// has a body.
+/// How far the body behind a head goes (RFC 9112, section 6.3), where the request was a HEAD or another. `Unreadable`:
+/// a status below 200, a coding, or a length that is unreadable or said twice. `TooLarge`: a length over the limit, of
+/// a response that has a body.
 pub fn response_framing(
     head: &[u8],
     parsed: &ParsedResponse,
@@ -57,7 +57,8 @@ pub fn response_framing(
 ) -> Result<ResponseFraming, FramingFault>
     requires limit { max_body ≤ 2 ^ 31 }
     requires head { response_spans.IsHeadOf head.now parsed.now }
-    ensures framed { result ≡ framing_of max_body to_head parsed.now.spans.code (fields_of response_spans head.now parsed.now) }
+    ensures framed { result ≡ framing_of max_body to_head parsed.now.spans.code
+        (fields_of response_spans head.now parsed.now) }
     ensures kept { IfOk result (IsFraming max_body) }
 {
     let status = parsed.spans.code;
@@ -89,7 +90,8 @@ pub fn response_keeps_connection(
     framing: ResponseFraming,
 ) -> bool
     requires { response_spans.IsHeadOf head.now parsed.now }
-    ensures { result ≡ keeps_on parsed.now.spans.version (fields_of response_spans head.now parsed.now) framing }
+    ensures { result
+        ≡ keeps_on parsed.now.spans.version (fields_of response_spans head.now parsed.now) framing }
 {
     match framing {
         ResponseFraming::Length(_) => {

@@ -7,11 +7,14 @@ use Rattle.http_wire.proofs.body.read_bytes.Given as goal
 abbrev pub invariant-loop-left : goal.invariant-loop-left
 invariant-loop-left g l = record {
   within : l.left ≤ l.fn.count;
-  moved : Moved (g.S.ByteSource.state l.initial.input.source.now) l.initial.input.buffer.now (g.B.BodyBuffer.bytes l.initial.body)
+  moved : Moved (g.S.ByteSource.state l.initial.input.source.now) l.initial.input.buffer.now
+      (g.B.BodyBuffer.bytes l.initial.body)
       (g.S.ByteSource.state l.input.source.now) l.input.buffer.now (g.B.BodyBuffer.bytes l.body) (l.fn.count - l.left);
-  reads : CountsAtMost (g.S.ByteSource.state l.initial.input.source.now).reads (g.S.ByteSource.state l.input.source.now).reads (l.fn.count - l.left);
+  reads : CountsAtMost (g.S.ByteSource.state l.initial.input.source.now).reads
+      (g.S.ByteSource.state l.input.source.now).reads (l.fn.count - l.left);
   same : StaysOver l.initial.input l.input;
-  unfailed : (g.S.ByteSource.state l.input.source.now).failed_reads ≡ (g.S.ByteSource.state l.initial.input.source.now).failed_reads;
+  unfailed : (g.S.ByteSource.state l.input.source.now).failed_reads
+      ≡ (g.S.ByteSource.state l.initial.input.source.now).failed_reads;
 }
 
 abbrev pub decreases-loop-left : goal.decreases-loop-left

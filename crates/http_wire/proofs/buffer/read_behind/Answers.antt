@@ -11,11 +11,15 @@ use Rattle.http_wire.proofs.GaveLemmas.{consumes_kept}
 use Rattle.http_wire.proofs.buffer.read_behind.Goals as goal
 
 -- one read, behind the first bytes
-gave_by : (a b : SourceState) (old got after : List ℕ) (end : ℕ) (r : Result ℕ Failed) → end ≤ length old → IfOk r (λ n. n ≤ length got)
-    → ReadConsumes a.remaining b.remaining r got → ReadTells a b r got
+gave_by : (a b : SourceState) (old got after : List ℕ) (end : ℕ) (r : Result ℕ Failed)
+    → end ≤ length old → IfOk r (λ n. n ≤ length got) → ReadConsumes a.remaining b.remaining r got → ReadTells a b r got
     → Gave a b (take end old) (take (end + result_unwrap_or r 0) (take end old ++ (got ++ after)))
 gave_by a b old got after end (Ok n) fits few read told =
-    record { given = take n got; gives = record { told = told.0; consumed = read.0 }; joined = read_on old got after end n fits few }
+    record {
+      given = take n got;
+      gives = record { told = told.0; consumed = read.0 };
+      joined = read_on old got after end n fits few;
+    }
 gave_by a b old got after end (Err e) fits few read told = record {
   given = [];
   gives = record { told = told.0 ∙ sym (append-nil a.given); consumed = consumes_kept a.remaining b.remaining read };
@@ -23,8 +27,8 @@ gave_by a b old got after end (Err e) fits few read told = record {
 }
 
 -- a read that gave nothing said the end
-end_by : (a b : SourceState) (got : List ℕ) (r : Result ℕ Failed) → 0 < length got → ReadConsumes a.remaining b.remaining r got → ReadTells a b r got
-    → IfOk r (λ n. n ≡ 0 → HasEnded b)
+end_by : (a b : SourceState) (got : List ℕ) (r : Result ℕ Failed) → 0 < length got
+    → ReadConsumes a.remaining b.remaining r got → ReadTells a b r got → IfOk r (λ n. n ≡ 0 → HasEnded b)
 end_by a b got (Ok n) some read told = λ none. record {
   told = subst IsTrue (sym told.1) (subst (λ m. IsTrue (m == 0)) (sym none) refl);
   none_left = read.1 none some;
@@ -33,8 +37,10 @@ end_by a b got (Err e) some read told = tt
 
 pub returns-clause-gave : goal.returns-clause-gave
 returns-clause-gave g c =
-    gave_by _ _ c.args.bytes.now c.read.new.buf _ c.args.end c.read.result (omega (arith, c.requires)) c.read.ensures.bound c.read.ensures.bytes c.read.ensures.told
+    gave_by _ _ c.args.bytes.now c.read.new.buf _ c.args.end c.read.result (omega (arith, c.requires))
+    c.read.ensures.bound c.read.ensures.bytes c.read.ensures.told
 
 pub returns-clause-end : goal.returns-clause-end
 returns-clause-end g c =
-    end_by (g.S.ByteSource.state c.args.source.now) (g.S.ByteSource.state c.read.new.self) c.read.new.buf c.read.result (omega (arith, c.requires)) c.read.ensures.bytes c.read.ensures.told
+    end_by (g.S.ByteSource.state c.args.source.now) (g.S.ByteSource.state c.read.new.self) c.read.new.buf c.read.result
+    (omega (arith, c.requires)) c.read.ensures.bytes c.read.ensures.told

@@ -19,7 +19,8 @@ returns-in-Some c = λ front held.
     let few = h.few in
     let counted = h.count_is in
     let under : c.in-Digits.count < 8 = omega (arith, few, counted, c.if-count-eq8.false) in
-    subst (λ d. AreDigits (front ++ c.args.byte ∷ []) (c.in-Digits.count + 1) (c.in-Digits.value * 16 + d)) (sym c.in-Some.ensures.1)
+    subst (λ d. AreDigits (front ++ c.args.byte ∷ []) (c.in-Digits.count + 1) (c.in-Digits.value * 16 + d))
+    (sym c.in-Some.ensures.1)
     (one_digit front c.args.byte c.in-Digits.count c.in-Digits.value h under c.in-Some.ensures.0)
 
 pub returns-in-None : goal.returns-in-None

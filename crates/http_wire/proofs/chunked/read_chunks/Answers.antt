@@ -11,7 +11,9 @@ ok-not-err a b e = cc
 
 pub loop-chunk-init : goal.loop-chunk-init
 loop-chunk-init g c = record {
-  taken = subst (λ body. AreTaken c.args.most (g.S.ByteSource.state c.args.input.now.source.now) c.args.input.now.buffer.now (g.S.ByteSource.state c.args.input.now.source.now) c.args.input.now.buffer.now body)
+  taken =
+      subst (λ body. AreTaken c.args.most (g.S.ByteSource.state c.args.input.now.source.now) c.args.input.now.buffer.now
+      (g.S.ByteSource.state c.args.input.now.source.now) c.args.input.now.buffer.now body)
       (sym c.requires.empty) (taken_nothing c.args.most _ c.args.input.now.buffer.now);
   filled = omega arith;
   reads = λ _. omega arith;
@@ -21,47 +23,69 @@ loop-chunk-init g c = record {
 
 pub loop-chunk-preserved : goal.loop-chunk-preserved
 loop-chunk-preserved g c =
-    let h : TakesChunk (c.args.most - c.len.result) (g.S.ByteSource.state c.loop-chunk.input.source.now) c.loop-chunk.input.buffer.now (g.B.BodyBuffer.bytes c.loop-chunk.body)
-    (g.S.ByteSource.state c.read_chunk.new.input.source.now) c.read_chunk.new.input.buffer.now (g.B.BodyBuffer.bytes c.read_chunk.new.body) = subst (λ r. FindsChunk (c.args.most - c.len.result) (g.S.ByteSource.state c.loop-chunk.input.source.now) c.loop-chunk.input.buffer.now (g.B.BodyBuffer.bytes c.loop-chunk.body)
-    (g.S.ByteSource.state c.read_chunk.new.input.source.now) c.read_chunk.new.input.buffer.now (g.B.BodyBuffer.bytes c.read_chunk.new.body) (Ok r))
+    let h : TakesChunk (c.args.most - c.len.result) (g.S.ByteSource.state c.loop-chunk.input.source.now)
+    c.loop-chunk.input.buffer.now (g.B.BodyBuffer.bytes c.loop-chunk.body)
+    (g.S.ByteSource.state c.read_chunk.new.input.source.now) c.read_chunk.new.input.buffer.now
+    (g.B.BodyBuffer.bytes c.read_chunk.new.body) =
+    subst (λ r. FindsChunk (c.args.most - c.len.result) (g.S.ByteSource.state c.loop-chunk.input.source.now)
+    c.loop-chunk.input.buffer.now (g.B.BodyBuffer.bytes c.loop-chunk.body)
+    (g.S.ByteSource.state c.read_chunk.new.input.source.now) c.read_chunk.new.input.buffer.now
+    (g.B.BodyBuffer.bytes c.read_chunk.new.body) (Ok r))
     c.in-More.is c.in_ok-read_chunk.ensures.found in
     let taken = c.loop-chunk.invariant.taken in
     let filled = c.loop-chunk.invariant.filled in
     let some = h.is_chunk.some in
-    let grown : length (g.B.BodyBuffer.bytes c.read_chunk.new.body) ≡ length (g.B.BodyBuffer.bytes c.loop-chunk.body) + length h.chunk.data_bytes =
+    let grown : length (g.B.BodyBuffer.bytes c.read_chunk.new.body)
+    ≡ length (g.B.BodyBuffer.bytes c.loop-chunk.body) + length h.chunk.data_bytes =
     ap length h.joined ∙ length-append (g.B.BodyBuffer.bytes c.loop-chunk.body) h.chunk.data_bytes in
     record {
-      taken = taken_more c.args.most _ _ _ _ c.args.input.now.buffer.now c.loop-chunk.input.buffer.now c.read_chunk.new.input.buffer.now (g.B.BodyBuffer.bytes c.loop-chunk.body) (g.B.BodyBuffer.bytes c.read_chunk.new.body)
+      taken =
+          taken_more c.args.most _ _ _ _ c.args.input.now.buffer.now c.loop-chunk.input.buffer.now
+          c.read_chunk.new.input.buffer.now (g.B.BodyBuffer.bytes c.loop-chunk.body)
+          (g.B.BodyBuffer.bytes c.read_chunk.new.body)
           (omega arith) taken h;
       filled = omega (arith, filled, some, grown);
       reads = λ low. let before = c.loop-chunk.invariant.reads (omega (arith, low, grown)) in
-          let one = c.in_ok-read_chunk.ensures.few (ap Ok c.in-More.is) (omega (arith, low, before, grown, some)) in omega (arith, one, before, grown, some);
+          let one = c.in_ok-read_chunk.ensures.few (ap Ok c.in-More.is) (omega (arith, low, before, grown, some)) in
+          omega (arith, one, before, grown, some);
       same = record {
         same_source = c.read_chunk.ensures.costs.same_source ∙ c.loop-chunk.invariant.same.same_source;
         same_buffer = c.read_chunk.ensures.costs.same_buffer ∙ c.loop-chunk.invariant.same.same_buffer;
       };
-      unfailed = c.in_ok-read_chunk.ensures.costs.costs.unfailed (λ e. ok-not-err _ _ e) ∙ c.loop-chunk.invariant.unfailed;
+      unfailed =
+          c.in_ok-read_chunk.ensures.costs.costs.unfailed (λ e. ok-not-err _ _ e) ∙ c.loop-chunk.invariant.unfailed;
     }
 
 pub returns-in-Last-clause-found : goal.returns-in-Last-clause-found
 returns-in-Last-clause-found g c =
-    let found = subst (λ r. FindsChunk (c.args.most - c.len.result) (g.S.ByteSource.state c.loop-chunk.input.source.now) c.loop-chunk.input.buffer.now (g.B.BodyBuffer.bytes c.loop-chunk.body)
-    (g.S.ByteSource.state c.read_chunk.new.input.source.now) c.read_chunk.new.input.buffer.now (g.B.BodyBuffer.bytes c.read_chunk.new.body) (Ok r))
+    let found =
+    subst (λ r. FindsChunk (c.args.most - c.len.result) (g.S.ByteSource.state c.loop-chunk.input.source.now)
+    c.loop-chunk.input.buffer.now (g.B.BodyBuffer.bytes c.loop-chunk.body)
+    (g.S.ByteSource.state c.read_chunk.new.input.source.now) c.read_chunk.new.input.buffer.now
+    (g.B.BodyBuffer.bytes c.read_chunk.new.body) (Ok r))
     c.in-Last.is c.in_ok-read_chunk.ensures.found in
-    body_whole c.args.most _ _ _ c.args.input.now.buffer.now c.loop-chunk.input.buffer.now c.read_chunk.new.input.buffer.now (g.B.BodyBuffer.bytes c.loop-chunk.body) (g.B.BodyBuffer.bytes c.read_chunk.new.body)
+    body_whole c.args.most _ _ _ c.args.input.now.buffer.now c.loop-chunk.input.buffer.now
+    c.read_chunk.new.input.buffer.now (g.B.BodyBuffer.bytes c.loop-chunk.body)
+    (g.B.BodyBuffer.bytes c.read_chunk.new.body)
     c.loop-chunk.invariant.taken found
 
 pub returns-in-Refused-clause-found : goal.returns-in-Refused-clause-found
 returns-in-Refused-clause-found g c =
-    let found = subst (λ r. FindsChunk (c.args.most - c.len.result) (g.S.ByteSource.state c.loop-chunk.input.source.now) c.loop-chunk.input.buffer.now (g.B.BodyBuffer.bytes c.loop-chunk.body)
-    (g.S.ByteSource.state c.read_chunk.new.input.source.now) c.read_chunk.new.input.buffer.now (g.B.BodyBuffer.bytes c.read_chunk.new.body) (Ok r))
+    let found =
+    subst (λ r. FindsChunk (c.args.most - c.len.result) (g.S.ByteSource.state c.loop-chunk.input.source.now)
+    c.loop-chunk.input.buffer.now (g.B.BodyBuffer.bytes c.loop-chunk.body)
+    (g.S.ByteSource.state c.read_chunk.new.input.source.now) c.read_chunk.new.input.buffer.now
+    (g.B.BodyBuffer.bytes c.read_chunk.new.body) (Ok r))
     c.in-Refused.is c.in_ok-read_chunk.ensures.found in
-    body_refused c.args.most _ _ _ _ c.args.input.now.buffer.now c.loop-chunk.input.buffer.now (g.B.BodyBuffer.bytes c.loop-chunk.body) c.in-Refused.bad
+    body_refused c.args.most _ _ _ _ c.args.input.now.buffer.now c.loop-chunk.input.buffer.now
+    (g.B.BodyBuffer.bytes c.loop-chunk.body) c.in-Refused.bad
     (omega arith) c.loop-chunk.invariant.taken found
 
 pub returns-in_err-read_chunk-clause-found : goal.returns-in_err-read_chunk-clause-found
 returns-in_err-read_chunk-clause-found g c =
     let p = err_from_is_err_and c.from_residual.result c.from_residual.ensures.1 in
     rw (p.1, p.2)
-    (body_fault c.args.most _ _ _ _ c.args.input.now.buffer.now c.loop-chunk.input.buffer.now c.read_chunk.new.input.buffer.now (g.B.BodyBuffer.bytes c.loop-chunk.body) (g.B.BodyBuffer.bytes c.read_chunk.new.body)
+    (body_fault c.args.most _ _ _ _ c.args.input.now.buffer.now c.loop-chunk.input.buffer.now
+    c.read_chunk.new.input.buffer.now (g.B.BodyBuffer.bytes c.loop-chunk.body)
+    (g.B.BodyBuffer.bytes c.read_chunk.new.body)
     c.in_err-read_chunk.field-0.0 (omega arith) c.loop-chunk.invariant.taken c.in_err-read_chunk.ensures.found)

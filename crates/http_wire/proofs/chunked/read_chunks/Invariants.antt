@@ -6,9 +6,12 @@ use Rattle.http_wire.proofs.chunked.read_chunks.Given as goal
 
 abbrev pub invariant-loop-chunk : goal.invariant-loop-chunk
 invariant-loop-chunk g l = record {
-  taken : AreTaken l.most (g.S.ByteSource.state l.initial.input.source.now) l.initial.input.buffer.now (g.S.ByteSource.state l.input.source.now) l.input.buffer.now (g.B.BodyBuffer.bytes l.body);
+  taken : AreTaken l.most (g.S.ByteSource.state l.initial.input.source.now) l.initial.input.buffer.now
+      (g.S.ByteSource.state l.input.source.now) l.input.buffer.now (g.B.BodyBuffer.bytes l.body);
   filled : l._chunk ≤ length (g.B.BodyBuffer.bytes l.body);
-  reads : CountsAtMost (g.S.ByteSource.state l.initial.input.source.now).reads (g.S.ByteSource.state l.input.source.now).reads (13 * length (g.B.BodyBuffer.bytes l.body));
+  reads : CountsAtMost (g.S.ByteSource.state l.initial.input.source.now).reads
+      (g.S.ByteSource.state l.input.source.now).reads (13 * length (g.B.BodyBuffer.bytes l.body));
   same : StaysOver l.initial.input l.input;
-  unfailed : (g.S.ByteSource.state l.input.source.now).failed_reads ≡ (g.S.ByteSource.state l.initial.input.source.now).failed_reads;
+  unfailed : (g.S.ByteSource.state l.input.source.now).failed_reads
+      ≡ (g.S.ByteSource.state l.initial.input.source.now).failed_reads;
 }

@@ -7,10 +7,13 @@ use Rattle.http_wire.proofs.chunked.read_line.Given as goal
 
 abbrev pub invariant-loop-at : goal.invariant-loop-at
 invariant-loop-at g l = record {
-  gave : Gave (g.S.ByteSource.state l.initial.input.source.now) (g.S.ByteSource.state l.input.source.now) l.initial.input.buffer.now l.input.buffer.now;
+  gave : Gave (g.S.ByteSource.state l.initial.input.source.now) (g.S.ByteSource.state l.input.source.now)
+      l.initial.input.buffer.now l.input.buffer.now;
   within : l.at ≤ length l.input.buffer.now;
   stands : StandsAt (take l.at l.input.buffer.now) l.state;
-  reads : CountsAtMost (g.S.ByteSource.state l.initial.input.source.now).reads (g.S.ByteSource.state l.input.source.now).reads l.at;
+  reads : CountsAtMost (g.S.ByteSource.state l.initial.input.source.now).reads
+      (g.S.ByteSource.state l.input.source.now).reads l.at;
   same : StaysOver l.initial.input l.input;
-  unfailed : (g.S.ByteSource.state l.input.source.now).failed_reads ≡ (g.S.ByteSource.state l.initial.input.source.now).failed_reads;
+  unfailed : (g.S.ByteSource.state l.input.source.now).failed_reads
+      ≡ (g.S.ByteSource.state l.initial.input.source.now).failed_reads;
 }

@@ -8,14 +8,16 @@ use Rattle.http_wire.proofs.fields.closes_after.Goals as goal
 pub returns-then-found : goal.returns-then-found
 returns-then-found c = λ fields so_far.
     let f = header_bytes c.args.head.now c.args.header in
-    let same : same_word f.0 (codes "connection") ≡ true = ap (λ t. same_word t (codes "connection")) (sym c.of.ensures) ∙ sym c.if-is_same_word.ensures in
+    let same : same_word f.0 (codes "connection") ≡ true =
+    ap (λ t. same_word t (codes "connection")) (sym c.of.ensures) ∙ sym c.if-is_same_word.ensures in
     let found : c.args.found ≡ true = c.if-found.true in
     found ∙ ap (λ b. b || (lists_close f.1 || false)) (sym found) ∙ close-same fields f c.args.found same so_far
 
 pub returns-else-found : goal.returns-else-found
 returns-else-found c = λ fields so_far.
     let f = header_bytes c.args.head.now c.args.header in
-    let same : same_word f.0 (codes "connection") ≡ true = ap (λ t. same_word t (codes "connection")) (sym c.of.ensures) ∙ sym c.if-is_same_word.ensures in
+    let same : same_word f.0 (codes "connection") ≡ true =
+    ap (λ t. same_word t (codes "connection")) (sym c.of.ensures) ∙ sym c.if-is_same_word.ensures in
     let found : c.args.found ≡ false = c.if-found.false in
     c.has_close.ensures ∙ ap lists_close c.of-else-found.ensures ∙ or-false (lists_close f.1)
     ∙ ap (λ b. b || (lists_close f.1 || false)) (sym found) ∙ close-same fields f c.args.found same so_far
@@ -23,5 +25,6 @@ returns-else-found c = λ fields so_far.
 pub returns-else-is_same_word : goal.returns-else-is_same_word
 returns-else-is_same_word c = λ fields so_far.
     let f = header_bytes c.args.head.now c.args.header in
-    let differs : same_word f.0 (codes "connection") ≡ false = ap (λ t. same_word t (codes "connection")) (sym c.of.ensures) ∙ sym c.if-is_same_word.ensures in
+    let differs : same_word f.0 (codes "connection") ≡ false =
+    ap (λ t. same_word t (codes "connection")) (sym c.of.ensures) ∙ sym c.if-is_same_word.ensures in
     close-differs fields f c.args.found differs so_far

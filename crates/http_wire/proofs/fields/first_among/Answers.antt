@@ -12,5 +12,7 @@ loop-header-init c = refl
 pub loop-header-preserved : goal.loop-header-preserved
 loop-header-preserved c =
     subst (λ fields. option_map (λ v. v.now) c.with_first-found.result ≡ first_of (values_of c.args.name.now fields))
-    (sym (map_take-next (header_bytes c.args.head.now) c.args.headers.now c.loop-header.header-index _ c.loop-header-test.true))
-    (c.with_first-found.ensures (map (header_bytes c.args.head.now) (take c.loop-header.header-index c.args.headers.now)) c.loop-header.invariant)
+    (sym (map_take-next (header_bytes c.args.head.now) c.args.headers.now c.loop-header.header-index _
+    c.loop-header-test.true))
+    (c.with_first-found.ensures
+    (map (header_bytes c.args.head.now) (take c.loop-header.header-index c.args.headers.now)) c.loop-header.invariant)

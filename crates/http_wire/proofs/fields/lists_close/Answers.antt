@@ -13,5 +13,7 @@ loop-header-init c = refl
 pub loop-header-preserved : goal.loop-header-preserved
 loop-header-preserved c =
     subst (λ fields. c.closes_after-found.result ≡ list_any lists_close (values_of (codes "connection") fields))
-    (sym (map_take-next (header_bytes c.args.head.now) c.args.headers.now c.loop-header.header-index _ c.loop-header-test.true))
-    (c.closes_after-found.ensures (map (header_bytes c.args.head.now) (take c.loop-header.header-index c.args.headers.now)) c.loop-header.invariant)
+    (sym (map_take-next (header_bytes c.args.head.now) c.args.headers.now c.loop-header.header-index _
+    c.loop-header-test.true))
+    (c.closes_after-found.ensures
+    (map (header_bytes c.args.head.now) (take c.loop-header.header-index c.args.headers.now)) c.loop-header.invariant)

@@ -7,4 +7,5 @@ use Rattle.http_wire.proofs.fields.lists_close.Given as goal
 
 abbrev pub invariant-loop-header : goal.invariant-loop-header
 invariant-loop-header l =
-    l.found ≡ list_any lists_close (values_of (codes "connection") (map (header_bytes l.head) (take l.header-index l.headers)))
+    l.found
+    ≡ list_any lists_close (values_of (codes "connection") (map (header_bytes l.head) (take l.header-index l.headers)))

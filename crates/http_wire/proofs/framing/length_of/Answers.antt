@@ -4,16 +4,20 @@ use Rattle.std.specs.List.{list_all}
 use Rattle.std.specs.Char.{is_ascii_digit}
 use Rattle.std.specs.Str.Parse.{digits_value}
 use Rattle.std.specs.Prelude.{Ok}
-use Rattle.http_wire.proofs.FieldLemmas.{length_of-empty, length_of-other, length_of-over, length_of-ok, value-next, take_to_end, some_length, digits-next, digit-minus}
+use Rattle.http_wire.proofs.FieldLemmas.{length_of-empty, length_of-other, length_of-over, length_of-ok, value-next}
+use Rattle.http_wire.proofs.FieldLemmas.{take_to_end, some_length, digits-next, digit-minus}
 use Rattle.http_wire.proofs.framing.length_of.Goals as goal
 use Rattle.http_wire.proofs.framing.length_of.Goals.{then-total-max_body, else-total-max_body}
 
 pub returns-then-is_empty-clause-value : goal.returns-then-is_empty-clause-value
-returns-then-is_empty-clause-value c = sym (length_of-empty c.args.max_body c.args.value.now (eqb-true (length c.args.value.now) 0 (sym c.if-is_empty.ensures)))
+returns-then-is_empty-clause-value c =
+    sym (length_of-empty c.args.max_body c.args.value.now
+    (eqb-true (length c.args.value.now) 0 (sym c.if-is_empty.ensures)))
 
 pub returns-then-not-is_ascii_digit-clause-value : goal.returns-then-not-is_ascii_digit-clause-value
 returns-then-not-is_ascii_digit-clause-value c =
-    sym (length_of-other c.args.max_body c.args.value.now c.loop-b.b-index c.loop-b-test.true (sym c.if-not-is_ascii_digit.ensures.value))
+    sym (length_of-other c.args.max_body c.args.value.now c.loop-b.b-index c.loop-b-test.true
+    (sym c.if-not-is_ascii_digit.ensures.value))
 
 pub loop-b-preserved : goal.loop-b-preserved
 loop-b-preserved c =
@@ -24,17 +28,24 @@ loop-b-preserved c =
     let digit = digit-minus b c.if-not-is_ascii_digit.ensures.cases in
     elim c.if-total-max_body.branch [
       | then-total-max_body w ↦
-          let total : c.if-total-max_body.total ≡ c.loop-b.total * 10 + (b - 48) = w.total-is ∙ ap (λ d. c.loop-b.total * 10 + d) w.from.ensures in
-          let kept : c.loop-b.total ≡ digits_value 10 (take c.loop-b.b-index c.args.value.now) = c.loop-b.invariant.2 w.if-total-max_body.true in
-          let same : c.if-total-max_body.total ≡ digits_value 10 (take (c.loop-b.b-index + 1) c.args.value.now) = omega (arith, total, kept, next, digit.0) in
+          let total : c.if-total-max_body.total ≡ c.loop-b.total * 10 + (b - 48) =
+          w.total-is ∙ ap (λ d. c.loop-b.total * 10 + d) w.from.ensures in
+          let kept : c.loop-b.total ≡ digits_value 10 (take c.loop-b.b-index c.args.value.now) =
+          c.loop-b.invariant.2 w.if-total-max_body.true in
+          let same : c.if-total-max_body.total ≡ digits_value 10 (take (c.loop-b.b-index + 1) c.args.value.now) =
+          omega (arith, total, kept, next, digit.0) in
           let small = w.if-total-max_body.true in
           (each, omega (arith, total, digit.1, small), λ _. same, λ over. omega (arith, same, over))
       | else-total-max_body w ↦
           let same = w.total-is in
           let over = w.if-total-max_body.false in
           let bound = c.loop-b.invariant.1 in
-          let more = c.loop-b.invariant.3 over in
-          (each, omega (arith, same, bound), λ fits. absurd (omega (arith, same, fits, over)), λ _. omega (arith, next, more))
+          let more = c.loop-b.invariant.3 over in (
+            each,
+            omega (arith, same, bound),
+            λ fits. absurd (omega (arith, same, fits, over)),
+            λ _. omega (arith, next, more),
+          )
     ]
 
 pub returns-then-total-max_body-2-clause-value : goal.returns-then-total-max_body-2-clause-value

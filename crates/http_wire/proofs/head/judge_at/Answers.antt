@@ -3,19 +3,23 @@ use Rattle.http_wire.proofs.head.judge_at.Goals as goal
 
 pub returns-then-text-at-ne10 : goal.returns-then-text-at-ne10
 returns-then-text-at-ne10 g c =
-    none_at_next g.G.Grammar.spans.words c.requires.lawful.ends c.args.text.now c.args.at c.requires.in_range c.requires.none_before c.if-text-at-ne10.true
+    none_at_next g.G.Grammar.spans.words c.requires.lawful.ends c.args.text.now c.args.at c.requires.in_range
+    c.requires.none_before c.if-text-at-ne10.true
 
 pub returns-then-lines-le-MAX_FIELDS : goal.returns-then-lines-le-MAX_FIELDS
 returns-then-lines-le-MAX_FIELDS g c =
-    judged_at g.G.Grammar.spans c.requires.lawful c.args.text.now c.args.at c.judge-verdict.result c.requires.in_range c.requires.short c.requires.none_before
+    judged_at g.G.Grammar.spans c.requires.lawful c.args.text.now c.args.at c.judge-verdict.result c.requires.in_range
+    c.requires.short c.requires.none_before
     c.if-text-at-ne10.false c.judge-verdict.ensures
 
 pub returns-in-Open : goal.returns-in-Open
 returns-in-Open g c =
-    given_up g.G.Grammar.spans.words c.args.text.now c.args.at c.args.lines c.requires.in_range c.requires.short c.requires.counted c.requires.none_before
+    given_up g.G.Grammar.spans.words c.args.text.now c.args.at c.args.lines c.requires.in_range c.requires.short
+    c.requires.counted c.requires.none_before
     c.if-text-at-ne10.false c.if-lines-le-MAX_FIELDS.false c.in-Open.ensures
 
 pub returns-in_default : goal.returns-in_default
 returns-in_default g c =
-    judged_at g.G.Grammar.spans c.requires.lawful c.args.text.now c.args.at c.judge-verdict.result c.requires.in_range c.requires.short c.requires.none_before
+    judged_at g.G.Grammar.spans c.requires.lawful c.args.text.now c.args.at c.judge-verdict.result c.requires.in_range
+    c.requires.short c.requires.none_before
     c.if-text-at-ne10.false c.judge-verdict.ensures

@@ -10,8 +10,11 @@ invariant-loop-at g l = record {
   within : l.at ≤ length l.input.buffer.now;
   counted : l.lines ≡ line_feeds (take l.at l.input.buffer.now);
   none : HasNone g.G.Grammar.spans.words (take l.at l.input.buffer.now);
-  gave : Gave (g.S.ByteSource.state l.initial.input.source.now) (g.S.ByteSource.state l.input.source.now) l.initial.input.buffer.now l.input.buffer.now;
-  reads : CountsAtMost (g.S.ByteSource.state l.initial.input.source.now).reads (g.S.ByteSource.state l.input.source.now).reads l.at;
+  gave : Gave (g.S.ByteSource.state l.initial.input.source.now) (g.S.ByteSource.state l.input.source.now)
+      l.initial.input.buffer.now l.input.buffer.now;
+  reads : CountsAtMost (g.S.ByteSource.state l.initial.input.source.now).reads
+      (g.S.ByteSource.state l.input.source.now).reads l.at;
   same : StaysOver l.initial.input l.input;
-  unfailed : (g.S.ByteSource.state l.input.source.now).failed_reads ≡ (g.S.ByteSource.state l.initial.input.source.now).failed_reads;
+  unfailed : (g.S.ByteSource.state l.input.source.now).failed_reads
+      ≡ (g.S.ByteSource.state l.initial.input.source.now).failed_reads;
 }

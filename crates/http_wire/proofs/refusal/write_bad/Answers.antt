@@ -11,5 +11,8 @@ returns-clause-wrote g c =
     let start = g.W.ByteSink.state c.args.writer.now in
     let new = g.W.ByteSink.state c.finish.new.writer in
     let line = c.as_bytes.ensures.value ∙ c.line.ensures ∙ ap status_line c.bad_status.ensures in
-    let held = c.put_end.ensures start _ (c.put_length.ensures start _ (c.put.ensures start [] (gathered_none start c.new-head.result c.new-head.ensures))) in
-    subst (λ t. Wrote start new t c.finish.result) (append-nil _ ∙ bad_text [] (bad_status c.args.why) line) (c.finish.ensures.wrote start _ held)
+    let held =
+    c.put_end.ensures start _ (c.put_length.ensures start _
+    (c.put.ensures start [] (gathered_none start c.new-head.result c.new-head.ensures))) in
+    subst (λ t. Wrote start new t c.finish.result) (append-nil _ ∙ bad_text [] (bad_status c.args.why) line)
+    (c.finish.ensures.wrote start _ held)

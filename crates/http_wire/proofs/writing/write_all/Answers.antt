@@ -29,5 +29,7 @@ returns-in-Err g c = record {
   back = drop c.loop-at.at c.args.bytes.now;
   cut = sym (take-append-drop c.loop-at.at c.args.bytes.now);
   takes = takes_kept _ _ _ _ c.loop-at.invariant.1.takes c.in-Err.ensures.told c.in-Err.ensures.bytes;
-  failed = subst (λ n. CountsUp n (g.W.ByteSink.state c.write.new.self).failed_writes) c.loop-at.invariant.1.unfailed c.in-Err.ensures.err;
+  failed =
+      subst (λ n. CountsUp n (g.W.ByteSink.state c.write.new.self).failed_writes) c.loop-at.invariant.1.unfailed
+      c.in-Err.ensures.err;
 }

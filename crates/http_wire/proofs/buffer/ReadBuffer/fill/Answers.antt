@@ -13,10 +13,20 @@ returns-clause-gave g c =
     elim c.if-self-eq-CAPACITY.branch [
       | then-self-eq-CAPACITY w ↦ subst (λ v. IsWindow v c.args.self.now) (sym w.self-inside-is)
           (moved_window c.self.inside w.copy_within.new.self c.args.self.now
-          (record { window = c.self.view_is; order = c.self.invariant.0; fits = c.self.invariant.1; whole = c.self.invariant.2 })
+          (record {
+            window = c.self.view_is;
+            order = c.self.invariant.0;
+            fits = c.self.invariant.1;
+            whole = c.self.invariant.2;
+          })
           w.if-self-eq-CAPACITY.true w.copy_within.ensures.items (omega arith))
       | else-self-eq-CAPACITY w ↦ subst (λ v. IsWindow v c.args.self.now) (sym w.self-inside-is)
-          (record { window = c.self.view_is; order = c.self.invariant.0; fits = c.self.invariant.1; whole = c.self.invariant.2 })
+          (record {
+            window = c.self.view_is;
+            order = c.self.invariant.0;
+            fits = c.self.invariant.1;
+            whole = c.self.invariant.2;
+          })
     ] in
     let value : c.deref_mut.result.now ≡ x.bytes.items = c.deref_mut.ensures.value in
     let items : (with_items x.bytes c.read_behind.new.bytes).items ≡ c.read_behind.new.bytes =
@@ -25,7 +35,8 @@ returns-clause-gave g c =
       given = gave.given;
       gives = gave.gives;
       joined = ap (λ t. slice_range t x.start (x.end + c.in_ok-count.count)) items
-          ∙ window_grows x c.args.self.now c.read_behind.new.bytes gave.given c.in_ok-count.count at (gave.joined ∙ ap (λ t. take x.end t ++ gave.given) value);
+          ∙ window_grows x c.args.self.now c.read_behind.new.bytes gave.given c.in_ok-count.count at
+          (gave.joined ∙ ap (λ t. take x.end t ++ gave.given) value);
     }
 
 pub returns-in_err-count-clause-gave : goal.returns-in_err-count-clause-gave
@@ -35,10 +46,20 @@ returns-in_err-count-clause-gave g c =
     elim c.if-self-eq-CAPACITY.branch [
       | then-self-eq-CAPACITY w ↦ subst (λ v. IsWindow v c.args.self.now) (sym w.self-inside-is)
           (moved_window c.self.inside w.copy_within.new.self c.args.self.now
-          (record { window = c.self.view_is; order = c.self.invariant.0; fits = c.self.invariant.1; whole = c.self.invariant.2 })
+          (record {
+            window = c.self.view_is;
+            order = c.self.invariant.0;
+            fits = c.self.invariant.1;
+            whole = c.self.invariant.2;
+          })
           w.if-self-eq-CAPACITY.true w.copy_within.ensures.items (omega arith))
       | else-self-eq-CAPACITY w ↦ subst (λ v. IsWindow v c.args.self.now) (sym w.self-inside-is)
-          (record { window = c.self.view_is; order = c.self.invariant.0; fits = c.self.invariant.1; whole = c.self.invariant.2 })
+          (record {
+            window = c.self.view_is;
+            order = c.self.invariant.0;
+            fits = c.self.invariant.1;
+            whole = c.self.invariant.2;
+          })
     ] in
     let value : c.deref_mut.result.now ≡ x.bytes.items = c.deref_mut.ensures.value in
     let items : (with_items x.bytes c.read_behind.new.bytes).items ≡ c.read_behind.new.bytes =
@@ -46,8 +67,11 @@ returns-in_err-count-clause-gave g c =
     let gave = c.in_err-count.ensures.gave in record {
       given = gave.given;
       gives = gave.gives;
-      joined = ap (λ t. slice_range t x.start x.end) items ∙ ap (λ n. slice_range c.read_behind.new.bytes x.start n) (omega arith)
-          ∙ window_grows x c.args.self.now c.read_behind.new.bytes gave.given 0 at (gave.joined ∙ ap (λ t. take x.end t ++ gave.given) value);
+      joined =
+          ap (λ t. slice_range t x.start x.end) items
+          ∙ ap (λ n. slice_range c.read_behind.new.bytes x.start n) (omega arith)
+          ∙ window_grows x c.args.self.now c.read_behind.new.bytes gave.given 0 at
+          (gave.joined ∙ ap (λ t. take x.end t ++ gave.given) value);
     }
 
 pub returns-in_err-count-clause-kept : goal.returns-in_err-count-clause-kept
@@ -57,10 +81,20 @@ returns-in_err-count-clause-kept g c =
     elim c.if-self-eq-CAPACITY.branch [
       | then-self-eq-CAPACITY w ↦ subst (λ v. IsWindow v c.args.self.now) (sym w.self-inside-is)
           (moved_window c.self.inside w.copy_within.new.self c.args.self.now
-          (record { window = c.self.view_is; order = c.self.invariant.0; fits = c.self.invariant.1; whole = c.self.invariant.2 })
+          (record {
+            window = c.self.view_is;
+            order = c.self.invariant.0;
+            fits = c.self.invariant.1;
+            whole = c.self.invariant.2;
+          })
           w.if-self-eq-CAPACITY.true w.copy_within.ensures.items (omega arith))
       | else-self-eq-CAPACITY w ↦ subst (λ v. IsWindow v c.args.self.now) (sym w.self-inside-is)
-          (record { window = c.self.view_is; order = c.self.invariant.0; fits = c.self.invariant.1; whole = c.self.invariant.2 })
+          (record {
+            window = c.self.view_is;
+            order = c.self.invariant.0;
+            fits = c.self.invariant.1;
+            whole = c.self.invariant.2;
+          })
     ] in
     let value : c.deref_mut.result.now ≡ x.bytes.items = c.deref_mut.ensures.value in
     let items : (with_items x.bytes c.read_behind.new.bytes).items ≡ c.read_behind.new.bytes =

@@ -7,7 +7,8 @@ use Rattle.http_wire.proofs.elements.ElementsIterator.next.Goals.{After-trim, Af
 use Rattle.http_wire.proofs.elements.ElementsIterator.next.Goals as goal
 
 -- the element ends at the first comma
-at_comma : (c : After-trim) → elements_left c.args.self.now ≡ c.trim.result.now ∷ elements (take (length c.in_ok-rest.rest.now - (c.in-Some.comma + 1)) (drop (c.in-Some.comma + 1) c.in_ok-rest.rest.now))
+at_comma : (c : After-trim) → elements_left c.args.self.now ≡ c.trim.result.now ∷ elements (take
+    (length c.in_ok-rest.rest.now - (c.in-Some.comma + 1)) (drop (c.in-Some.comma + 1) c.in_ok-rest.rest.now))
 at_comma c =
     let rest = c.in_ok-rest.rest.now in
     let at = c.in-Some.comma in
@@ -17,7 +18,8 @@ at_comma c =
 
 at_end : (c : After-trim-in-None) → elements_left c.args.self.now ≡ c.trim-in-None.result.now ∷ []
 at_end c =
-    ap elements_of_rest c.in_ok-rest.was ∙ elements_whole c.in_ok-rest.rest.now (search rules) ∙ ap (λ x. x ∷ []) (sym c.trim-in-None.ensures)
+    ap elements_of_rest c.in_ok-rest.was ∙ elements_whole c.in_ok-rest.rest.now (search rules)
+    ∙ ap (λ x. x ∷ []) (sym c.trim-in-None.ensures)
 
 pub returns-in-Some-clause-steps : goal.returns-in-Some-clause-steps
 returns-in-Some-clause-steps c = at_comma c

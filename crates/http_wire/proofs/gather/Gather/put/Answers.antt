@@ -14,7 +14,8 @@ returns-then-is_ok g c = λ start before held.
     let failed = sym (ap (λ (h : Held). h.failed) c.self.view_is) ∙ c.if-self.false in
     let bytes = ap (λ (h : Held). h.bytes) c.self.view_is in
     let added = given_ok _ (sym c.is_ok.ensures.value ∙ c.if-is_ok.true) c.try_extend_from_slice.ensures.ok in
-    put_held start _ c.args.self.now before c.args.text.now _ _ failed c.if-self.false (added ∙ ap (λ t. t ++ c.args.text.now) bytes) held
+    put_held start _ c.args.self.now before c.args.text.now _ _ failed c.if-self.false
+    (added ∙ ap (λ t. t ++ c.args.text.now) bytes) held
 
 pub returns : goal.returns
 returns g c = λ start before held.
@@ -26,4 +27,5 @@ returns g c = λ start before held.
     let both = c.then_write.ensures _ _ c.write_all-done.ensures in
     let wrote = write_held start now new c.args.self.now before c.args.text.now c.then_write.result failed held
     (subst (λ t. Wrote now new (t ++ c.args.text.now) c.then_write.result) bytes both) in
-    gathered_after start new (before ++ c.args.text.now) _ _ c.then_write.result c.is_err-self-inside.ensures.value c.clear.ensures wrote
+    gathered_after start new (before ++ c.args.text.now) _ _ c.then_write.result c.is_err-self-inside.ensures.value
+    c.clear.ensures wrote

@@ -7,5 +7,6 @@ use Rattle.http_wire.proofs.requests.RequestsGrammar.judge.Goals as goal
 
 pub returns-in-Err : goal.returns-in-Err
 returns-in-Err c =
-    refused_by_error requests request_lines c.args.front.now c.in-Err.field-0 c.in-Err.ensures.invalid c.in-Err.ensures.no_room
+    refused_by_error requests request_lines c.args.front.now c.in-Err.field-0 c.in-Err.ensures.invalid
+    c.in-Err.ensures.no_room
     (λ e. c.in-Err.ensures.too_many (ap Err e))
