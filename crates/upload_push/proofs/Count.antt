@@ -1,11 +1,14 @@
 -- The number of requests falls.
-use Rattle.std.proofs.Common.{◌≡◌, ℕ, zero, suc, ◌+◌, ◌-◌, ◌*◌, ◌/◌, ◌<◌, ◌≤◌, min, true, false, ◌==◌, nat_lt, nat_le, List, [], ◌∷◌, length, Option, Some, None, refl, arith, ap, subst, sym}
+use Rattle.std.proofs.Common.{◌≡◌, ℕ, zero, suc, ◌+◌, ◌-◌, ◌*◌, ◌/◌, ◌<◌, ◌≤◌, min, true, false, ◌==◌, nat_lt, nat_le}
+use Rattle.std.proofs.Common.{List, [], ◌∷◌, length, Option, Some, None, refl, arith, ap, subst, sym}
 use Rattle.std.proofs.Math.Nat.{div-mul-le_self}
 use Rattle.std.proofs.lemmas.Nat.{le-div, div_below}
 use Rattle.std.proofs.lemmas.Bool.{eqb-false, ltb-true, leb-true, leb-false}
 use Rattle.upload_push.proofs.Cases.{cond_case}
-use Rattle.upload_push.specs.Steps.{Plan, Stand, IsLawfulPlan, IsWithin, turn, answered, unheard, retry, send_from, opened, taken, place_of, chunk_end, count_to, ask_at}
-use Rattle.upload_push.specs.Slices.{Push, IsLawfulPush, chunks, most_asks, after_all, log_of, logged, plan_of, Exchange}
+use Rattle.upload_push.specs.Steps.{Plan, Stand, IsLawfulPlan, IsWithin, turn, answered, unheard, retry, send_from}
+use Rattle.upload_push.specs.Steps.{opened, taken, place_of, chunk_end, count_to, ask_at}
+use Rattle.upload_push.specs.Slices.{Push, IsLawfulPush, chunks, most_asks, after_all, log_of, logged, plan_of}
+use Rattle.upload_push.specs.Slices.{Exchange}
 use Rattle.upload_push.proofs.AsksLeft.{most_in_try, left_in_try, asks_left}
 use Rattle.upload_client.specs.declared.heard.Heard.{Heard}
 use Rattle.upload_push.specs.declared.pusher.PushAsk.{PushAsk}
@@ -34,9 +37,11 @@ chunks_none c pos =
 pub chunks_some : (rest c : ℕ) → 1 ≤ c → 1 ≤ rest → 1 ≤ chunks rest c
 chunks_some rest c pos some = le-div 1 (rest + (c - 1)) c (omega arith) (omega arith)
 
-pub chunks_next : (size offset c : ℕ) → 1 ≤ c → offset < size → chunks (size - min (offset + c) size) c + 1 ≤ chunks (size - offset) c
+pub chunks_next : (size offset c : ℕ) → 1 ≤ c → offset < size
+    → chunks (size - min (offset + c) size) c + 1 ≤ chunks (size - offset) c
 chunks_next size offset c pos lt =
-    elim (nat_le (offset + c) size) as (λ b. nat_le (offset + c) size ≡ b → chunks (size - min (offset + c) size) c + 1 ≤ chunks (size - offset) c) [
+    elim (nat_le (offset + c) size)
+    as (λ b. nat_le (offset + c) size ≡ b → chunks (size - min (offset + c) size) c + 1 ≤ chunks (size - offset) c) [
       | true ↦ λ is.
           let le : offset + c ≤ size = leb-true (offset + c) size is in
           let sum : (size - min (offset + c) size) + c ≡ size - offset = omega arith in
@@ -81,13 +86,17 @@ pub unheard_falls : (p : Plan) (s : Stand) (phase : Phase) → s.phase ≡ phase
     → Falls p s phase (unheard s phase)
 unfolding Falls
 unheard_falls p s Opening is lawful within =
-    let left = retry_left p s Opening (omega arith) in let one = asked_once (ask_at p Opening) in omega (arith, left, one)
+    let left = retry_left p s Opening (omega arith) in
+    let one = asked_once (ask_at p Opening) in omega (arith, left, one)
 unheard_falls p s (Sending at offset) is lawful within =
-    let left = retry_left p s (Asking at) (omega arith) in let one = asked_once (ask_at p (Sending at offset)) in omega (arith, left, one)
+    let left = retry_left p s (Asking at) (omega arith) in
+    let one = asked_once (ask_at p (Sending at offset)) in omega (arith, left, one)
 unheard_falls p s (Asking at) is lawful within =
-    let left = retry_left p s (Asking at) (omega arith) in let one = asked_once (ask_at p (Asking at)) in omega (arith, left, one)
+    let left = retry_left p s (Asking at) (omega arith) in
+    let one = asked_once (ask_at p (Asking at)) in omega (arith, left, one)
 unheard_falls p s Looking is lawful within =
-    let left = retry_left p s Looking (omega arith) in let one = asked_once (ask_at p Looking) in omega (arith, left, one)
+    let left = retry_left p s Looking (omega arith) in
+    let one = asked_once (ask_at p Looking) in omega (arith, left, one)
 unheard_falls p s (Done outcome) is lawful within =
     let same = ap (left_in_try p) is in omega (arith, same)
 unheard_falls p s (GaveUp why) is lawful within =
@@ -98,10 +107,12 @@ pub send_from_left : (p : Plan) (at : List ℕ) (offset : ℕ) → IsLawfulPlan 
     → left_in_try p (send_from p at offset) ≤ chunks p.size p.chunk + 1
 send_from_left p at offset lawful =
     cond_case (λ phase. left_in_try p phase ≤ chunks p.size p.chunk + 1) (nat_le offset p.size) _ _
-    (λ le. let fewer = chunks_mono (p.size - offset) p.size p.chunk lawful.chunk_least (omega arith) in omega (arith, fewer))
+    (λ le. let fewer = chunks_mono (p.size - offset) p.size p.chunk lawful.chunk_least (omega arith) in
+    omega (arith, fewer))
     (λ gt. omega arith)
 
-pub opened_left : (p : Plan) (place : Option (List ℕ)) → IsLawfulPlan p → left_in_try p (opened place) ≤ chunks p.size p.chunk + 1
+pub opened_left : (p : Plan) (place : Option (List ℕ)) → IsLawfulPlan p
+    → left_in_try p (opened place) ≤ chunks p.size p.chunk + 1
 opened_left p (Some at) lawful =
     let same = chunks_mono (p.size - 0) p.size p.chunk lawful.chunk_least (omega arith) in omega (arith, same)
 opened_left p None lawful = omega arith
@@ -116,8 +127,8 @@ taken_left p offset (Some at) (Some last) lawful lt =
 taken_left p offset None upto lawful lt = omega arith
 taken_left p offset (Some at) None lawful lt = omega arith
 
-pub answered_falls : (p : Plan) (s : Stand) (phase : Phase) (h : Heard) → s.phase ≡ phase → IsLawfulPlan p → IsWithin p.size phase
-    → Falls p s phase (answered p s phase h)
+pub answered_falls : (p : Plan) (s : Stand) (phase : Phase) (h : Heard) → s.phase ≡ phase → IsLawfulPlan p
+    → IsWithin p.size phase → Falls p s phase (answered p s phase h)
 unfolding Falls
 answered_falls p s Opening h is lawful within =
     let left = opened_left p (place_of p.name h) lawful in
@@ -191,7 +202,8 @@ taken_within p offset (Some at) (Some last) =
 taken_within p offset None upto = tt
 taken_within p offset (Some at) None = tt
 
-pub unheard_within : (p : Plan) (s : Stand) (phase : Phase) → s.phase ≡ phase → IsWithin p.size phase → Stays p (unheard s phase)
+pub unheard_within : (p : Plan) (s : Stand) (phase : Phase) → s.phase ≡ phase → IsWithin p.size phase
+    → Stays p (unheard s phase)
 unfolding Stays
 unheard_within p s Opening is within = retry_within p s Opening tt
 unheard_within p s (Sending at offset) is within = retry_within p s (Asking at) tt
@@ -221,7 +233,8 @@ answered_within p s Looking h is within = cond_case (Stays p) (h.status == 200) 
 answered_within p s (Done outcome) h is within = subst (IsWithin p.size) (sym is) within
 answered_within p s (GaveUp why) h is within = subst (IsWithin p.size) (sym is) within
 
-pub turn_within : (p : Plan) (s : Stand) (heard : Option Heard) → IsWithin p.size s.phase → IsWithin p.size (turn p s heard).phase
+pub turn_within : (p : Plan) (s : Stand) (heard : Option Heard) → IsWithin p.size s.phase
+    → IsWithin p.size (turn p s heard).phase
 unfolding Stays
 turn_within p s None within = unheard_within p s s.phase refl within
 turn_within p s (Some h) within =

@@ -1,5 +1,6 @@
 -- What the last request of a push leaves in the service.
-use Rattle.std.proofs.Common.{◌≡◌, ℕ, inl, inr, true, List, [], ◌++◌, length, Option, Some, None, refl, arith, ap, subst, sym, ◌∙◌}
+use Rattle.std.proofs.Common.{◌≡◌, ℕ, inl, inr, true, List, [], ◌++◌, length, Option, Some, None, refl, arith, ap}
+use Rattle.std.proofs.Common.{subst, sym, ◌∙◌}
 use Rattle.std.specs.Prelude.{IsTrue, IsSome}
 use Rattle.std.proofs.lemmas.List.{take_all, append-nil}
 use Rattle.std.specs.FinMap as map
@@ -10,7 +11,8 @@ use Rattle.upload_service.specs.declared.ask.Extent.TheVariants.{Absent}
 use Rattle.upload_service.specs.declared.answer.Answer.{Answer}
 use Rattle.upload_service.specs.declared.answer.Answer.TheVariants as answers
 use Rattle.upload_service.specs.UploadView.{Closes}
-use Rattle.upload_service.specs.Machine.{same_digest, Session, State, Outcome, Replies, Commits, state_after, unless_fault, checked, blob_reply, holds, Comes, Turn, IsLawful}
+use Rattle.upload_service.specs.Machine.{same_digest, Session, State, Outcome, Replies, Commits, state_after}
+use Rattle.upload_service.specs.Machine.{unless_fault, checked, blob_reply, holds, Comes, Turn, IsLawful}
 use Rattle.upload_client.specs.Heard.{reply_heard}
 use Rattle.upload_push.specs.Slices.{Push}
 use Rattle.upload_push.specs.Promise.{IsStored, IsThere}
@@ -37,7 +39,8 @@ abbrev ShownBy : (State → Type 0) → ℕ → State → ℕ → Outcome → Ty
 ShownBy Q status s now o = (answer : Answer) (new : State) → Comes s now o answer new → Shows Q status answer new
 
 -- an outcome that only replies
-shown : (Q : State → Type 0) (status : ℕ) (s : State) (now : ℕ) (a : Answer) → Shows Q status a s → Shows Q status answers.NoMemory s → ShownBy Q status s now (Replies a)
+shown : (Q : State → Type 0) (status : ℕ) (s : State) (now : ℕ) (a : Answer) → Shows Q status a s
+    → Shows Q status answers.NoMemory s → ShownBy Q status s now (Replies a)
 shown Q status s now a shows lacks answer new comes =
     let K : Answer → State → Type 0 = Shows Q status in
     elim comes [
@@ -57,8 +60,10 @@ committed Q s now name at digest blob there answer new comes =
 
 -- a close of the push that is answered 201
 close_shows : (p : Push) (s : State) (now : ℕ) (secret at : List ℕ) (answer : Answer) (new : State) (Q : State → Type 0)
-    → ((session : Session) → map.get s.sessions at ≡ Some session → Q (state_after s now (Commits p.name at p.digest (session.received ++ []))))
-    → Turn s (asks.Close p.name at Absent (Some p.digest) []) secret now answer new → (reply_heard answer).status ≡ 201 → Q new
+    → ((session : Session) → map.get s.sessions at ≡ Some session
+    → Q (state_after s now (Commits p.name at p.digest (session.received ++ []))))
+    → Turn s (asks.Close p.name at Absent (Some p.digest) []) secret now answer new
+    → (reply_heard answer).status ≡ 201 → Q new
 close_shows p s now secret at answer new Q commits turn =
     let ask : Ask = asks.Close p.name at Absent (Some p.digest) [] in
     let P : Outcome → Type 0 = ShownBy Q 201 s now in
@@ -78,20 +83,24 @@ close_shows p s now secret at answer new Q commits turn =
 
 -- whatever others did, the pair is there
 pub close_leaves_pair : (p : Push) (s : State) (now : ℕ) (secret at : List ℕ) (answer : Answer) (new : State)
-    → Turn s (asks.Close p.name at Absent (Some p.digest) []) secret now answer new → (reply_heard answer).status ≡ 201 → IsTrue (holds new p.name p.digest)
+    → Turn s (asks.Close p.name at Absent (Some p.digest) []) secret now answer new → (reply_heard answer).status ≡ 201
+    → IsTrue (holds new p.name p.digest)
 close_leaves_pair p s now secret at answer new turn is_201 =
-    close_shows p s now secret at answer new (λ t. IsTrue (holds t p.name p.digest)) (λ session is. contains-insert_same s.pairs (p.name, p.digest)) turn is_201
+    close_shows p s now secret at answer new (λ t. IsTrue (holds t p.name p.digest))
+    (λ session is. contains-insert_same s.pairs (p.name, p.digest)) turn is_201
 
 -- where the upload is the push's own, the file is there
-pub close_leaves_file : (p : Push) (s : State) (now : ℕ) (secret at : List ℕ) (offset : ℕ) (answer : Answer) (new : State)
-    → IsUpload p.file s (Some at) offset → offset ≡ length p.file
-    → Turn s (asks.Close p.name at Absent (Some p.digest) []) secret now answer new → (reply_heard answer).status ≡ 201 → IsStored p new
+pub close_leaves_file : (p : Push) (s : State) (now : ℕ) (secret at : List ℕ) (offset : ℕ) (answer : Answer)
+    (new : State) → IsUpload p.file s (Some at) offset → offset ≡ length p.file
+    → Turn s (asks.Close p.name at Absent (Some p.digest) []) secret now answer new → (reply_heard answer).status ≡ 201
+    → IsStored p new
 close_leaves_file p s now secret at offset answer new up all turn is_201 =
     close_shows p s now secret at answer new (IsStored p)
     (λ session is.
     let has = found_front p.file s at offset session up is in
     let reaches = has.reaches in
-    let whole : session.received ++ [] ≡ p.file = append-nil session.received ∙ has.front ∙ take_all (length session.received) p.file (omega (arith, all, reaches)) in
+    let whole : session.received ++ [] ≡ p.file =
+    append-nil session.received ∙ has.front ∙ take_all (length session.received) p.file (omega (arith, all, reaches)) in
     record {
       bytes = blob-insert_same s.blobs p.digest (session.received ++ []) ∙ ap (λ (x : List ℕ). Some x) whole;
       pair = contains-insert_same s.pairs (p.name, p.digest);
@@ -105,7 +114,8 @@ blob_shows p s now (Some blob) pair = shown _ 200 s now _ (λ _. pair) (λ e. ab
 
 -- a look for the blob that is answered 200
 pub head_finds_pair : (p : Push) (s : State) (now : ℕ) (secret : List ℕ) (answer : Answer) (new : State)
-    → Turn s (asks.Has p.name p.digest true) secret now answer new → (reply_heard answer).status ≡ 200 → IsTrue (holds new p.name p.digest)
+    → Turn s (asks.Has p.name p.digest true) secret now answer new → (reply_heard answer).status ≡ 200
+    → IsTrue (holds new p.name p.digest)
 head_finds_pair p s now secret answer new turn =
     let Q : State → Type 0 = λ t. IsTrue (holds t p.name p.digest) in
     turn_case (Shows Q 200) s (asks.Has p.name p.digest true) secret now answer new

@@ -14,10 +14,12 @@ use Rattle.upload_push.specs.declared.world.Event.{Event}
 use Rattle.upload_push.specs.declared.world.Event.TheVariants.{Other}
 
 -- the first of what is left, and then the rest
-pub first_left : (events rest : List Event) (next : Option Event) (event : Event) → events ≡ option_to_list next ++ rest → next ≡ Some event → events ≡ event ∷ rest
+pub first_left : (events rest : List Event) (next : Option Event) (event : Event) → events ≡ option_to_list next ++ rest
+    → next ≡ Some event → events ≡ event ∷ rest
 first_left events rest next event is some = is ∙ ap (λ (o : Option Event). option_to_list o ++ rest) some
 
-pub nothing_left : (old new : IntoIter Event Global) (next : Option Event) → into_iter_steps old next new → next ≡ None → into_iter_len new ≡ 0
+pub nothing_left : (old new : IntoIter Event Global) (next : Option Event) → into_iter_steps old next new → next ≡ None
+    → into_iter_len new ≡ 0
 nothing_left old new next steps none =
     let step : Option Event → Type 0 = λ o. into_iter_steps old o new in
     (subst step none steps).1
@@ -25,20 +27,24 @@ nothing_left old new next steps none =
 none_left : (rest : List Event) → length rest ≡ 0 → rest ≡ []
 none_left rest e = nil_from_length rest e
 
-pub all_left : (events rest : List Event) (next : Option Event) → events ≡ option_to_list next ++ rest → next ≡ None → length rest ≡ 0 → events ≡ []
+pub all_left : (events rest : List Event) (next : Option Event) → events ≡ option_to_list next ++ rest → next ≡ None
+    → length rest ≡ 0 → events ≡ []
 all_left events rest next is none e = is ∙ ap (λ (o : Option Event). option_to_list o ++ rest) none ∙ none_left rest e
 
 -- another client's request in front
-pub other_in_front : (service mid : State) (secret : List ℕ) (now : ℕ) (events rest : List Event) (other : Ask) → events ≡ Other other ∷ rest
-    → ((answer : Answer) × Turn service other secret now answer mid)
-    → (ask : Ask) (heard : Option Heard) (new : World) → Asked (world_of mid secret now rest) ask heard new → Asked (world_of service secret now events) ask heard new
+pub other_in_front : (service mid : State) (secret : List ℕ) (now : ℕ) (events rest : List Event) (other : Ask)
+    → events ≡ Other other ∷ rest → ((answer : Answer) × Turn service other secret now answer mid)
+    → (ask : Ask) (heard : Option Heard) (new : World) → Asked (world_of mid secret now rest) ask heard new
+    → Asked (world_of service secret now events) ask heard new
 other_in_front service mid secret now events rest other is turn ask heard new later =
     let asked : List Event → Type 0 = λ es. AskedBy (world_of service secret now es) es ask heard new in
     subst asked (sym is) (turn.0, mid, turn.1, later)
 
 -- no event is left
-pub nothing_in_front : (service : State) (secret : List ℕ) (now : ℕ) (events rest : List Event) → events ≡ [] → length rest ≡ 0
-    → (ask : Ask) (heard : Option Heard) (new : World) → IsDelivered (world_of service secret now rest) rest ask heard new → Asked (world_of service secret now events) ask heard new
+pub nothing_in_front : (service : State) (secret : List ℕ) (now : ℕ) (events rest : List Event)
+    → events ≡ [] → length rest ≡ 0 → (ask : Ask) (heard : Option Heard) (new : World)
+    → IsDelivered (world_of service secret now rest) rest ask heard new
+    → Asked (world_of service secret now events) ask heard new
 nothing_in_front service secret now events rest is none ask heard new delivered =
     let asked : List Event → Type 0 = λ es. AskedBy (world_of service secret now es) es ask heard new in
     let left : List Event → Type 0 = λ es. IsDelivered (world_of service secret now es) es ask heard new in

@@ -17,7 +17,8 @@ own_after : (events : List Event) (log : List Exchange) → AreOwn events → Ar
 own_after events [] own = own
 own_after events (e ∷ log) own = own_left (events_after events log) (own_after events log own)
 
-none_in_front : (place : Option (List ℕ)) (events : List Event) → AreOwn events → AvoidAll place (others_in_front events)
+none_in_front : (place : Option (List ℕ)) (events : List Event) → AreOwn events
+    → AvoidAll place (others_in_front events)
 none_in_front place [] own = tt
 none_in_front place (Other ask ∷ events) own = absurd own
 none_in_front place (Passes seconds ∷ events) own = none_in_front place events own
@@ -27,5 +28,7 @@ none_in_front place (NotDelivered ∷ events) own = tt
 
 pub alone_is_quiet : AloneIsQuiet
 alone_is_quiet name events [] own = tt
-alone_is_quiet name events (e ∷ log) own =
-    (none_in_front (heard_place name log) (events_after events log) (own_after events log own), alone_is_quiet name events log own)
+alone_is_quiet name events (e ∷ log) own = (
+  none_in_front (heard_place name log) (events_after events log) (own_after events log own),
+  alone_is_quiet name events log own,
+)

@@ -30,8 +30,11 @@ reference_is n secret is =
     let marked : List ℕ = slice_set whole 8 variant in
     let version : ℕ = slice_index marked 6 % 16 + 128 in
     record {
-      sixteen = length-set marked 6 version ∙ length-set whole 8 variant ∙ length-append (to_be_bytes w32 n) secret ∙ ap (λ (k : ℕ). 4 + k) is.twelve;
+      sixteen =
+          length-set marked 6 version ∙ length-set whole 8 variant ∙ length-append (to_be_bytes w32 n) secret
+          ∙ ap (λ (k : ℕ). 4 + k) is.twelve;
       bytes =
           All-set byte marked 6 version (omega arith)
-          (All-set byte whole 8 variant (omega arith) (All-append byte (to_be_bytes w32 n) secret (four_bytes n) is.bytes));
+          (All-set byte whole 8 variant (omega arith)
+          (All-append byte (to_be_bytes w32 n) secret (four_bytes n) is.bytes));
     }

@@ -1,10 +1,14 @@
 -- Each request is right after what was asked and heard before it.
-use Rattle.std.proofs.Common.{◌≡◌, ℕ, ◌+◌, ◌-◌, ◌<◌, ◌≤◌, true, false, ◌==◌, nat_lt, nat_le, if◌then◌else◌, List, [], ◌∷◌, length, Option, Some, None, refl, arith, subst, sym, inl, inr, ◌⊎◌, ◌∙◌}
+use Rattle.std.proofs.Common.{◌≡◌, ℕ, ◌+◌, ◌-◌, ◌<◌, ◌≤◌, true, false, ◌==◌, nat_lt, nat_le, if◌then◌else◌, List, []}
+use Rattle.std.proofs.Common.{◌∷◌, length, Option, Some, None, refl, arith, subst, sym, inl, inr, ◌⊎◌, ◌∙◌}
 use Rattle.std.proofs.lemmas.Bool.{eqb-true, ne_eqb, ltb-true, ltb-false}
 use Rattle.upload_push.proofs.Cases.{cond_case, cond_case_both, cond_yes, cond_no}
 use Rattle.upload_push.proofs.Count.{all_within}
-use Rattle.upload_push.specs.Steps.{Plan, Stand, IsOver, IsWithin, turn, turn_at, answered, unheard, retry, send_from, opened, taken, place_of, refused, to_phase, chunk_end, count_to, ask_at}
-use Rattle.upload_push.specs.Slices.{Push, IsLawfulPush, Exchange, after_all, log_of, logged, plan_of, request, heard_offset, heard_place, place_after, IsSound, EndsWith, EndsRefused, AreUnheard, IsClose, IsHead}
+use Rattle.upload_push.specs.Steps.{Plan, Stand, IsOver, IsWithin, turn, turn_at, answered, unheard, retry, send_from}
+use Rattle.upload_push.specs.Steps.{opened, taken, place_of, refused, to_phase, chunk_end, count_to, ask_at}
+use Rattle.upload_push.specs.Slices.{Push, IsLawfulPush, Exchange, after_all, log_of, logged, plan_of, request}
+use Rattle.upload_push.specs.Slices.{heard_offset, heard_place, place_after, IsSound, EndsWith, EndsRefused, AreUnheard}
+use Rattle.upload_push.specs.Slices.{IsClose, IsHead}
 use Rattle.upload_client.specs.declared.heard.Heard.{Heard}
 use Rattle.upload_push.specs.declared.pusher.PushAsk.{PushAsk}
 use Rattle.upload_push.specs.declared.pusher.PushAsk.TheVariants as asks
@@ -32,7 +36,8 @@ grown p ask heard log = record { ask = request p ask; heard = heard } ∷ log
 pub Follows : Push → List Exchange → Stand → Type 0
 Follows p log s = Tracks p log s.phase
 
-pub retry_follows : (p : Push) (log : List Exchange) (s : Stand) (phase : Phase) → Tracks p log phase → Follows p log (retry s phase)
+pub retry_follows : (p : Push) (log : List Exchange) (s : Stand) (phase : Phase) → Tracks p log phase
+    → Follows p log (retry s phase)
 unfolding Follows
 retry_follows p log s phase tracks = cond_case (Follows p log) (s.tries == 0) _ _ (λ is. tt) (λ not. tracks)
 
@@ -57,16 +62,18 @@ taken_follows p log end (Some at) None is to = tt
 pub Next : Push → List Exchange → Option Heard → Option PushAsk → Stand → Type 0
 Next p log heard ask s = Tracks p (logged p ask heard log) s.phase
 
-pub unheard_next : (p : Push) (log : List Exchange) (s : Stand) (phase : Phase) (heard : Option Heard) → s.phase ≡ phase → Tracks p log phase
-    → (place_after p.name heard (heard_place p.name log) ≡ heard_place p.name log)
+pub unheard_next : (p : Push) (log : List Exchange) (s : Stand) (phase : Phase) (heard : Option Heard) → s.phase ≡ phase
+    → Tracks p log phase → (place_after p.name heard (heard_place p.name log) ≡ heard_place p.name log)
     → Next p log heard (ask_at (plan_of p) phase) (unheard s phase)
 unfolding Next Follows
 unheard_next p log s Opening heard is tracks same = retry_follows p (grown p asks.Opening heard log) s Opening tt
 unheard_next p log s (Sending at offset) heard is tracks same =
     cond_case (λ ask. Next p log heard ask (retry s (Asking at))) (nat_lt offset (length p.file)) _ _
-    (λ lt. retry_follows p (grown p (asks.Chunk at (record { first = offset; last = chunk_end (plan_of p) offset - 1 })) heard log) s (Asking at) (same ∙ tracks.0))
+    (λ lt. retry_follows p (grown p (asks.Chunk at (record { first = offset; last = chunk_end (plan_of p) offset - 1 }))
+    heard log) s (Asking at) (same ∙ tracks.0))
     (λ ge. retry_follows p (grown p (asks.Close at) heard log) s (Asking at) (same ∙ tracks.0))
-unheard_next p log s (Asking at) heard is tracks same = retry_follows p (grown p (asks.Status at) heard log) s (Asking at) (same ∙ tracks)
+unheard_next p log s (Asking at) heard is tracks same =
+    retry_follows p (grown p (asks.Status at) heard log) s (Asking at) (same ∙ tracks)
 unheard_next p log s Looking heard is tracks same = retry_follows p (grown p asks.Head heard log) s Looking tt
 unheard_next p log s (Done outcome) heard is tracks same = subst (Tracks p log) (sym is) tracks
 unheard_next p log s (GaveUp why) heard is tracks same = subst (Tracks p log) (sym is) tracks
@@ -75,7 +82,8 @@ unheard_next p log s (GaveUp why) heard is tracks same = subst (Tracks p log) (s
 pub other : (status one two : ℕ) → (status == one) ≡ true → (one ≡ two → ⊥) → (status == two) ≡ false
 other status one two is differ = ne_eqb status two (λ e. differ (sym (eqb-true status one is) ∙ e))
 
-pub chunk_next : (p : Push) (log : List Exchange) (s : Stand) (at : List ℕ) (offset : ℕ) (h : Heard) → Tracks p log (Sending at offset)
+pub chunk_next : (p : Push) (log : List Exchange) (s : Stand) (at : List ℕ) (offset : ℕ) (h : Heard)
+    → Tracks p log (Sending at offset)
     → Next p log (Some h) (Some (asks.Chunk at (record { first = offset; last = chunk_end (plan_of p) offset - 1 })))
     (if h.status == 202 then to_phase s (taken (chunk_end (plan_of p) offset) (place_of p.name h) h.upto)
     else if h.status == 416 then retry s (send_from (plan_of p) at (count_to h.upto))
@@ -85,14 +93,15 @@ chunk_next p log s at offset h tracks =
     let chunk = asks.Chunk at (record { first = offset; last = chunk_end (plan_of p) offset - 1 }) in
     let now = grown p chunk (Some h) log in
     cond_case (Next p log (Some h) (Some chunk)) (h.status == 202) _ _
-    (λ ok. taken_follows p now (chunk_end (plan_of p) offset) (place_of p.name h) h.upto (cond_yes _ _ ok) (cond_yes _ _ ok))
+    (λ ok. taken_follows p now (chunk_end (plan_of p) offset) (place_of p.name h) h.upto (cond_yes _ _ ok)
+    (cond_yes _ _ ok))
     (λ not. cond_case (Next p log (Some h) (Some chunk)) (h.status == 416) _ _
     (λ ok. retry_follows p now s _
     (send_from_follows p now at (count_to h.upto) (cond_no _ _ not ∙ tracks.0) (cond_no _ _ not ∙ cond_yes _ _ ok)))
     (λ not. (refl, refl)))
 
-pub answered_next : (p : Push) (log : List Exchange) (s : Stand) (phase : Phase) (h : Heard) → s.phase ≡ phase → Tracks p log phase
-    → Next p log (Some h) (ask_at (plan_of p) phase) (answered (plan_of p) s phase h)
+pub answered_next : (p : Push) (log : List Exchange) (s : Stand) (phase : Phase) (h : Heard) → s.phase ≡ phase
+    → Tracks p log phase → Next p log (Some h) (ask_at (plan_of p) phase) (answered (plan_of p) s phase h)
 unfolding Next Follows
 answered_next p log s Opening h is tracks =
     cond_case (Next p log (Some h) (Some asks.Opening)) (h.status == 202) _ _
@@ -108,7 +117,8 @@ answered_next p log s (Asking at) h is tracks =
     cond_case (Next p log (Some h) (Some (asks.Status at))) (h.status == 204) _ _
     (λ ok. send_from_follows p (grown p (asks.Status at) (Some h) log) at (count_to h.upto)
     (cond_no _ _ (other h.status 204 202 ok (λ e. omega arith)) ∙ tracks) (cond_yes _ _ ok))
-    (λ not. cond_case (Next p log (Some h) (Some (asks.Status at))) (h.status == 404) _ _ (λ ok. tt) (λ not. (refl, refl)))
+    (λ not. cond_case (Next p log (Some h) (Some (asks.Status at))) (h.status == 404) _ _ (λ ok. tt)
+    (λ not. (refl, refl)))
 answered_next p log s Looking h is tracks =
     cond_case (Next p log (Some h) (Some asks.Head)) (h.status == 200) _ _
     (λ ok. (refl, eqb-true h.status 200 ok))
@@ -122,7 +132,8 @@ unfolding Next
 turn_next p log s None tracks = unheard_next p log s s.phase None refl tracks refl
 turn_next p log s (Some h) tracks =
     cond_case (Next p log (Some h) (ask_at (plan_of p) s.phase)) (h.status == 503) _ _
-    (λ is. unheard_next p log s s.phase (Some h) refl tracks (cond_no _ _ (other h.status 503 202 is (λ e. omega arith))))
+    (λ is.
+    unheard_next p log s s.phase (Some h) refl tracks (cond_no _ _ (other h.status 503 202 is (λ e. omega arith))))
     (λ not. answered_next p log s s.phase h refl tracks)
 
 -- a log tells where its push stands
@@ -130,8 +141,9 @@ pub all_tracks : (p : Push) (heard : List (Option Heard)) → Tracks p (log_of p
 all_tracks p [] = tt
 all_tracks p (h ∷ earlier) = turn_next p (log_of p earlier) (after_all p earlier) h (all_tracks p earlier)
 
-pub sound_next : (p : Push) (log : List Exchange) (phase : Phase) (heard : Option Heard) → IsLawfulPush p → IsWithin (length p.file) phase
-    → Tracks p log phase → IsSound p log → IsSound p (logged p (ask_at (plan_of p) phase) heard log)
+pub sound_next : (p : Push) (log : List Exchange) (phase : Phase) (heard : Option Heard) → IsLawfulPush p
+    → IsWithin (length p.file) phase → Tracks p log phase → IsSound p log
+    → IsSound p (logged p (ask_at (plan_of p) phase) heard log)
 sound_next p log Opening heard lawful within tracks sound = (refl, sound)
 sound_next p log (Sending at offset) heard lawful within tracks sound =
     cond_case (λ ask. IsSound p (logged p ask heard log)) (nat_lt offset (length p.file)) _ _
@@ -166,10 +178,12 @@ all_sound p (h ∷ earlier) lawful =
     sound_next p (log_of p earlier) (after_all p earlier).phase h lawful (all_within p earlier) (all_tracks p earlier)
     (all_sound p earlier lawful)
 
-pub pushed_last : (p : Push) (heard : List (Option Heard)) → (after_all p heard).phase ≡ Done Pushed → EndsWith IsClose 201 (log_of p heard)
+pub pushed_last : (p : Push) (heard : List (Option Heard)) → (after_all p heard).phase ≡ Done Pushed
+    → EndsWith IsClose 201 (log_of p heard)
 pushed_last p heard is = subst (Tracks p (log_of p heard)) is (all_tracks p heard)
 
-pub already_last : (p : Push) (heard : List (Option Heard)) → (after_all p heard).phase ≡ Done Already → EndsWith IsHead 200 (log_of p heard)
+pub already_last : (p : Push) (heard : List (Option Heard)) → (after_all p heard).phase ≡ Done Already
+    → EndsWith IsHead 200 (log_of p heard)
 already_last p heard is = subst (Tracks p (log_of p heard)) is (all_tracks p heard)
 
 pub refused_last : (p : Push) (heard : List (Option Heard)) (status : ℕ) (code : Option (List ℕ))
@@ -195,7 +209,8 @@ unheard_waits p (h ∷ earlier) none =
 -- once a push has ended, nothing changes it
 over_at : (p : Plan) (s : Stand) (phase : Phase) (heard : Option Heard) → IsOver phase → turn_at p s phase heard ≡ s
 over_at p s (Done outcome) None over = refl
-over_at p s (Done outcome) (Some h) over = cond_case (λ (t : Stand). t ≡ s) (h.status == 503) _ _ (λ _. refl) (λ _. refl)
+over_at p s (Done outcome) (Some h) over =
+    cond_case (λ (t : Stand). t ≡ s) (h.status == 503) _ _ (λ _. refl) (λ _. refl)
 over_at p s (GaveUp why) None over = refl
 over_at p s (GaveUp why) (Some h) over = cond_case (λ (t : Stand). t ≡ s) (h.status == 503) _ _ (λ _. refl) (λ _. refl)
 over_at p s Opening heard over = absurd over

@@ -1,5 +1,6 @@
 -- What a turn of the service does, case by case.
-use Rattle.std.proofs.Common.{◌≡◌, ℕ, ◌+◌, ◌-◌, ◌<◌, ◌≤◌, List, [], ◌∷◌, length, Bool, true, false, Option, Some, None, refl, sym, subst, inl, inr, not, arith}
+use Rattle.std.proofs.Common.{◌≡◌, ℕ, ◌+◌, ◌-◌, ◌<◌, ◌≤◌, List, [], ◌∷◌, length, Bool, true, false, Option, Some, None}
+use Rattle.std.proofs.Common.{refl, sym, subst, inl, inr, not, arith}
 use Rattle.std.specs.Prelude.{◌||◌, ◌==◌, nat_lt, nat_le}
 use Rattle.std.proofs.lemmas.Bool.{true≢false, leb-false, eqb-true}
 use Rattle.std.specs.FinMap as map
@@ -11,7 +12,10 @@ use Rattle.upload_service.specs.declared.answer.Answer.{Answer}
 use Rattle.upload_service.specs.declared.answer.Answer.TheVariants as answers
 use Rattle.upload_service.specs.declared.answer.Refusal.TheVariants as refusals
 use Rattle.upload_service.specs.UploadView.{Act}
-use Rattle.upload_service.specs.Machine.{same, is_idle, unless_idle, awake, Session, State, Outcome, Replies, Begins, Takes, Commits, Stores, Mounts, state_after, refused, size_fault, body_fault, in_session, at_session, last_number, opening, outcome, Comes, Turn, IsLawful, all_awake}
+use Rattle.upload_service.specs.Machine.{same, is_idle, unless_idle, awake, Session, State, Outcome, Replies, Begins}
+use Rattle.upload_service.specs.Machine.{Takes, Commits, Stores, Mounts, state_after, refused, size_fault, body_fault}
+use Rattle.upload_service.specs.Machine.{in_session, at_session, last_number, opening, outcome, Comes, Turn, IsLawful}
+use Rattle.upload_service.specs.Machine.{all_awake}
 use Rattle.upload_service.specs.Run.{Exchange}
 use Rattle.upload_service.specs.Headline.{HeadlineHolds}
 use Rattle.upload_push.proofs.Cases.{cond_case}
@@ -23,8 +27,10 @@ pub same_inside : {A : Type 0} {x y : A} → Some x ≡ Some y → x ≡ y
 same_inside e = cc
 
 -- the cases of a body's length
-pub size_case : (P : Option Answer → Type 0) (max_blob next : ℕ) (body : List ℕ) → P (Some (answers.Refused refusals.TooLarge)) → P None → P (size_fault max_blob next body)
-size_case P max_blob next body large fits = cond_case P (nat_lt max_blob (next + length body)) _ _ (λ _. large) (λ _. fits)
+pub size_case : (P : Option Answer → Type 0) (max_blob next : ℕ) (body : List ℕ)
+    → P (Some (answers.Refused refusals.TooLarge)) → P None → P (size_fault max_blob next body)
+size_case P max_blob next body large fits =
+    cond_case P (nat_lt max_blob (next + length body)) _ _ (λ _. large) (λ _. fits)
 
 not_false : (b : Bool) → not b ≡ false → b ≡ true
 not_false true e = refl
@@ -32,8 +38,9 @@ not_false false e = absurd (true≢false e)
 
 -- the cases of a body with a range
 pub body_case : (P : Option Answer → Type 0) (max_blob : ℕ) (name at : List ℕ) (next : ℕ) (range : Span) (body : List ℕ)
-    → P (Some (answers.Misplaced name at next)) → P (Some (answers.Refused refusals.WrongLength)) → P (Some (answers.Refused refusals.TooLarge))
-    → (range.first ≡ next → P None) → P (body_fault max_blob name at next (Given range) body)
+    → P (Some (answers.Misplaced name at next)) → P (Some (answers.Refused refusals.WrongLength))
+    → P (Some (answers.Refused refusals.TooLarge)) → (range.first ≡ next → P None)
+    → P (body_fault max_blob name at next (Given range) body)
 body_case P max_blob name at next range body misplaced wrong large fits =
     cond_case P (not (range.first == next)) _ _
     (λ _. misplaced)
@@ -44,8 +51,9 @@ body_case P max_blob name at next range body misplaced wrong large fits =
     (λ _. size_case P max_blob next body large (fits at_next)))
 
 -- the cases of a request to a session: it isn't there, idle or of another name, or it is open
-pub session_case : (P : Outcome → Type 0) (s : State) (now : ℕ) (name at : List ℕ) (act : Act) → P (refused refusals.NoUpload)
-    → ((session : Session) → map.get s.sessions at ≡ Some session → P (in_session s.limits.max_blob session name at act))
+pub session_case : (P : Outcome → Type 0) (s : State) (now : ℕ) (name at : List ℕ) (act : Act)
+    → P (refused refusals.NoUpload) → ((session : Session) → map.get s.sessions at ≡ Some session
+    → P (in_session s.limits.max_blob session name at act))
     → P (at_session s.limits.max_blob (awake s now at) name at act)
 session_case P s now name at act none opened =
     let Q : Option Session → Type 0 = λ found. P (at_session s.limits.max_blob found name at act) in
@@ -69,13 +77,15 @@ opening_case P s name secret now many begins =
     (λ room. begins (leb-false last_number s.issued (or_false _ _ room)))
 
 -- a turn of which each outcome's reply and state are known
-pub turn_case : (Q : Answer → State → Type 0) (s : State) (ask : Ask) (secret : List ℕ) (now : ℕ) (answer : Answer) (new : State)
-    → ((a : Answer) (t : State) → Comes s now (outcome s ask secret now) a t → Q a t) → Turn s ask secret now answer new → Q answer new
+pub turn_case : (Q : Answer → State → Type 0) (s : State) (ask : Ask) (secret : List ℕ) (now : ℕ) (answer : Answer)
+    (new : State) → ((a : Answer) (t : State) → Comes s now (outcome s ask secret now) a t → Q a t)
+    → Turn s ask secret now answer new → Q answer new
 unfolding Turn
 turn_case Q s ask secret now answer new each turn = each answer new turn
 
 -- each turn leaves a lawful service lawful
-pub lawful_turn : HeadlineHolds → (s : State) (ask : Ask) (secret : List ℕ) (now : ℕ) (answer : Answer) (new : State) → IsLawful s → Turn s ask secret now answer new → IsLawful new
+pub lawful_turn : HeadlineHolds → (s : State) (ask : Ask) (secret : List ℕ) (now : ℕ) (answer : Answer) (new : State)
+    → IsLawful s → Turn s ask secret now answer new → IsLawful new
 lawful_turn headline s ask secret now answer new lawful turn =
     let x : Exchange = record { ask = ask; secret = secret; now = now; answer = answer } in
     (headline s (x ∷ []) new lawful (omega arith, tt) (new, turn, refl)).lawful
@@ -89,7 +99,8 @@ issued_after s now (Commits name at digest blob) = omega arith
 issued_after s now (Stores name digest blob) = omega arith
 issued_after s now (Mounts name digest) = omega arith
 
-pub issued_turn : (s : State) (ask : Ask) (secret : List ℕ) (now : ℕ) (answer : Answer) (new : State) → Turn s ask secret now answer new → s.issued ≤ new.issued
+pub issued_turn : (s : State) (ask : Ask) (secret : List ℕ) (now : ℕ) (answer : Answer) (new : State)
+    → Turn s ask secret now answer new → s.issued ≤ new.issued
 issued_turn s ask secret now answer new turn =
     let Q : Answer → State → Type 0 = λ a t. s.issued ≤ t.issued in
     turn_case Q s ask secret now answer new

@@ -3,7 +3,8 @@ use Rattle.std.proofs.Common.{◌≡◌, ℕ, ◌<◌, List, [], ◌∷◌, leng
 use Rattle.std.specs.Prelude.{Result}
 use Rattle.upload_push.proofs.Count.{Falls, turn_falls, all_within, lawful_plan, asked}
 use Rattle.upload_push.specs.Steps.{Plan, PushState, turn, ask_at, after, IsStepAt, IsStepOf, IsAskWithin}
-use Rattle.upload_push.specs.Slices.{Push, IsLawfulPush, after_all, log_of, logged, plan_of, request, request_of, Leads, IsPush, IsEnd}
+use Rattle.upload_push.specs.Slices.{Push, IsLawfulPush, after_all, log_of, logged, plan_of, request, request_of, Leads}
+use Rattle.upload_push.specs.Slices.{IsPush, IsEnd}
 use Rattle.upload_push.proofs.AsksLeft.{asks_left}
 use Rattle.upload_client.specs.declared.heard.Heard.{Heard}
 use Rattle.upload_service.specs.declared.ask.Ask.{Ask}
@@ -18,12 +19,14 @@ use Rattle.upload_push.specs.declared.pusher.Phase.TheVariants.{Opening, Sending
 use Rattle.upload_push.specs.declared.pushing.PushFault.{PushFault}
 
 -- what the loop keeps: all that was heard, and the transport's way by these requests
-pub record IsUnderway {S : Type 0} (asks : S → Ask → Option Heard → S → Type 0) (p : Push) (old new : S) (s : PushState) : Type 0 where
+pub record IsUnderway {S : Type 0} (asks : S → Ask → Option Heard → S → Type 0) (p : Push) (old new : S)
+    (s : PushState) : Type 0 where
   pub heard : List (Option Heard)
   pub leads : Leads asks old (log_of p heard) new
   pub stands : s ≡ record { plan = plan_of p; stand = after_all p heard }
 
-pub step_asks : (p : Plan) (phase : Phase) (ask : PushAsk) → IsStepAt p phase (steps.Ask ask) → ask_at p phase ≡ Some ask
+pub step_asks : (p : Plan) (phase : Phase) (ask : PushAsk) → IsStepAt p phase (steps.Ask ask)
+    → ask_at p phase ≡ Some ask
 step_asks p Opening ask step = step
 step_asks p (Sending at offset) ask step = step
 step_asks p (Asking at) ask step = step
@@ -31,7 +34,8 @@ step_asks p Looking ask step = step
 step_asks p (Done outcome) ask step = cc
 step_asks p (GaveUp why) ask step = absurd step
 
-pub step_done : (p : Plan) (phase : Phase) (outcome : Outcome) → IsStepAt p phase (steps.Done outcome) → phase ≡ Done outcome
+pub step_done : (p : Plan) (phase : Phase) (outcome : Outcome) → IsStepAt p phase (steps.Done outcome)
+    → phase ≡ Done outcome
 step_done p Opening outcome step = absurd step
 step_done p (Sending at offset) outcome step = absurd step
 step_done p (Asking at) outcome step = absurd step
@@ -55,12 +59,16 @@ step_says p (Asking at) (steps.GaveUp shown) is = absurd is
 step_says p Looking (steps.GaveUp shown) is = absurd is
 step_says p (Done outcome) (steps.GaveUp shown) is = cc
 
-pub started : {S : Type 0} (asks : S → Ask → Option Heard → S → Type 0) (p : Push) (old : S) (s : PushState) (name : List ℕ) (digest : Digest)
-    → name ≡ p.name → digest ≡ p.digest
-    → s ≡ record { plan = record { name = name; digest = digest; size = length p.file; chunk = p.chunk }; stand = record { phase = Opening; tries = p.tries } }
-    → IsUnderway asks p old old s
+pub started : {S : Type 0} (asks : S → Ask → Option Heard → S → Type 0) (p : Push) (old : S) (s : PushState)
+    (name : List ℕ) (digest : Digest) → name ≡ p.name → digest ≡ p.digest → s ≡ record {
+      plan = record { name = name; digest = digest; size = length p.file; chunk = p.chunk };
+      stand = record { phase = Opening; tries = p.tries };
+    } → IsUnderway asks p old old s
 started asks p old s name digest name_is digest_is is =
-    let named : (List ℕ → Digest → PushState) = λ n d. record { plan = record { name = n; digest = d; size = length p.file; chunk = p.chunk }; stand = record { phase = Opening; tries = p.tries } } in
+    let named : (List ℕ → Digest → PushState) = λ n d. record {
+      plan = record { name = n; digest = d; size = length p.file; chunk = p.chunk };
+      stand = record { phase = Opening; tries = p.tries };
+    } in
     record {
       heard = [];
       leads = refl;
@@ -68,13 +76,14 @@ started asks p old s name digest name_is digest_is is =
     }
 
 -- the request as the loop makes it
-pub sent : {S : Type 0} (asks : S → Ask → Option Heard → S → Type 0) (p : Push) (mid new : S) (digest : Digest) (ask : PushAsk) (h : Option Heard)
-    → digest ≡ p.digest → asks mid (request_of p.name digest p.file ask) h new → asks mid (request p ask) h new
+pub sent : {S : Type 0} (asks : S → Ask → Option Heard → S → Type 0) (p : Push) (mid new : S) (digest : Digest)
+    (ask : PushAsk) (h : Option Heard) → digest ≡ p.digest → asks mid (request_of p.name digest p.file ask) h new
+    → asks mid (request p ask) h new
 sent asks p mid new digest ask h digest_is done =
     subst (λ (d : Digest). asks mid (request_of p.name d p.file ask) h new) digest_is done
 
-pub within_file : {S : Type 0} (asks : S → Ask → Option Heard → S → Type 0) (p : Push) (old new : S) (s : PushState) (ask : PushAsk)
-    → IsUnderway asks p old new s → IsAskWithin s.plan.size ask → IsAskWithin (length p.file) ask
+pub within_file : {S : Type 0} (asks : S → Ask → Option Heard → S → Type 0) (p : Push) (old new : S) (s : PushState)
+    (ask : PushAsk) → IsUnderway asks p old new s → IsAskWithin s.plan.size ask → IsAskWithin (length p.file) ask
 within_file asks p old new s ask so_far within =
     subst (λ (t : PushState). IsAskWithin t.plan.size ask) so_far.stands within
 
@@ -85,9 +94,9 @@ ask_now p s heard ask is step =
     step_asks (plan_of p) (after_all p heard).phase ask (subst (λ (t : PushState). IsStepOf t (steps.Ask ask)) is step)
 
 -- one request more
-pub moved : {S : Type 0} (asks : S → Ask → Option Heard → S → Type 0) (p : Push) (old mid new : S) (s next : PushState) (ask : PushAsk) (h : Option Heard)
-    → IsUnderway asks p old mid s → IsStepOf s (steps.Ask ask) → asks mid (request p ask) h new
-    → next ≡ after s (turn s.plan s.stand h) → IsUnderway asks p old new next
+pub moved : {S : Type 0} (asks : S → Ask → Option Heard → S → Type 0) (p : Push) (old mid new : S) (s next : PushState)
+    (ask : PushAsk) (h : Option Heard) → IsUnderway asks p old mid s → IsStepOf s (steps.Ask ask)
+    → asks mid (request p ask) h new → next ≡ after s (turn s.plan s.stand h) → IsUnderway asks p old new next
 moved asks p old mid new s next ask h so_far step asked_it is =
     let now = ask_now p s so_far.heard ask so_far.stands step in
     record {
@@ -98,8 +107,8 @@ moved asks p old mid new s next ask h so_far step asked_it is =
     }
 
 -- fewer requests are left
-pub fewer : {S : Type 0} (asks : S → Ask → Option Heard → S → Type 0) (p : Push) (old mid : S) (s next : PushState) (ask : PushAsk) (h : Option Heard)
-    → IsLawfulPush p → IsUnderway asks p old mid s → IsStepOf s (steps.Ask ask)
+pub fewer : {S : Type 0} (asks : S → Ask → Option Heard → S → Type 0) (p : Push) (old mid : S) (s next : PushState)
+    (ask : PushAsk) (h : Option Heard) → IsLawfulPush p → IsUnderway asks p old mid s → IsStepOf s (steps.Ask ask)
     → next ≡ after s (turn s.plan s.stand h) → asks_left next.plan next.stand < asks_left s.plan s.stand
 unfolding Falls
 fewer asks p old mid s next ask h lawful so_far step is =
@@ -112,8 +121,8 @@ fewer asks p old mid s next ask h lawful so_far step is =
     let left_here = ap (λ (t : PushState). asks_left t.plan t.stand) so_far.stands in
     omega (arith, falls, one, left_next, left_here)
 
-pub ended : {S : Type 0} (asks : S → Ask → Option Heard → S → Type 0) (p : Push) (old new : S) (s : PushState) (end : Result Outcome PushFault)
-    → IsUnderway asks p old new s → IsEnd s.stand.phase end → IsPush asks p old new end
+pub ended : {S : Type 0} (asks : S → Ask → Option Heard → S → Type 0) (p : Push) (old new : S) (s : PushState)
+    (end : Result Outcome PushFault) → IsUnderway asks p old new s → IsEnd s.stand.phase end → IsPush asks p old new end
 ended asks p old new s end so_far is =
     record {
       heard = so_far.heard;
@@ -122,7 +131,8 @@ ended asks p old new s end so_far is =
     }
 
 -- the transport was asked nothing more
-pub unasked : {S : Type 0} (asks : S → Ask → Option Heard → S → Type 0) (p : Push) (old mid new : S) (s : PushState) (end : Result Outcome PushFault)
-    → IsUnderway asks p old mid s → new ≡ mid → IsEnd s.stand.phase end → IsPush asks p old new end
+pub unasked : {S : Type 0} (asks : S → Ask → Option Heard → S → Type 0) (p : Push) (old mid new : S) (s : PushState)
+    (end : Result Outcome PushFault) → IsUnderway asks p old mid s → new ≡ mid → IsEnd s.stand.phase end
+    → IsPush asks p old new end
 unasked asks p old mid new s end so_far same is =
     ended asks p old new s end (subst (λ t. IsUnderway asks p old t s) (sym same) so_far) is

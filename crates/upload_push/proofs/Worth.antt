@@ -11,12 +11,16 @@ use Rattle.upload_service.specs.Machine.{State, Turn, IsLawful, holds}
 use Rattle.upload_service.specs.Headline.{HeadlineHolds, OthersLeaveIt}
 use Rattle.upload_service.specs.Run as served
 use Rattle.upload_service.specs.Run.{Run}
-use Rattle.upload_service.specs.UploadView.{Sends, AsksOffset, Closes, UploadView, OfSession, Opens, WholeBlob, Unrelated, upload_view}
+use Rattle.upload_service.specs.UploadView.{Sends, AsksOffset, Closes, UploadView, OfSession, Opens, WholeBlob}
+use Rattle.upload_service.specs.UploadView.{Unrelated, upload_view}
 use Rattle.upload_client.specs.Heard.{reply_heard}
-use Rattle.upload_push.specs.Slices.{Push, Exchange, after_all, log_of, heard_offset, heard_place, offset_by, offset_after, place_after, IsSound, IsSoundAsk, EndsWith, IsClose, IsHead, HeardStatus, Leads, IsEnd}
+use Rattle.upload_push.specs.Slices.{Push, Exchange, after_all, log_of, heard_offset, heard_place, offset_by}
+use Rattle.upload_push.specs.Slices.{offset_after, place_after, IsSound, IsSoundAsk, EndsWith, IsClose, IsHead}
+use Rattle.upload_push.specs.Slices.{HeardStatus, Leads, IsEnd}
 use Rattle.upload_push.specs.World.{IsSecret}
 use Rattle.upload_push.specs.Promise.{IsStored}
-use Rattle.upload_push.specs.Runs.{IsHeardOf, IsTurn, ComesTo, AskedInRun, IsRequestOf, IsHarmless, AreHarmless, IsQuietRun, PushPromiseInRuns}
+use Rattle.upload_push.specs.Runs.{IsHeardOf, IsTurn, ComesTo, AskedInRun, IsRequestOf, IsHarmless, AreHarmless}
+use Rattle.upload_push.specs.Runs.{IsQuietRun, PushPromiseInRuns}
 use Rattle.upload_client.specs.declared.heard.Heard.{Heard}
 use Rattle.upload_push.specs.declared.pusher.Outcome.{Outcome}
 use Rattle.upload_push.specs.declared.pusher.Outcome.TheVariants.{Pushed, Already}
@@ -25,7 +29,8 @@ use Rattle.upload_push.specs.declared.pusher.Phase.TheVariants.{Done}
 use Rattle.upload_push.specs.declared.pushing.PushFault.{PushFault}
 use Rattle.upload_push.proofs.Sound.{all_sound, pushed_last, already_last}
 use Rattle.upload_push.proofs.Turns.{lawful_turn, None≢Some, same_inside}
-use Rattle.upload_push.proofs.Uploads.{IsUpload, IsKept, PlacesReadBack, others_keep, part_of_next, chunk_keeps, status_keeps, close_keeps, opening_keeps, has_keeps}
+use Rattle.upload_push.proofs.Uploads.{IsUpload, IsKept, PlacesReadBack, others_keep, part_of_next, chunk_keeps}
+use Rattle.upload_push.proofs.Uploads.{status_keeps, close_keeps, opening_keeps, has_keeps}
 use Rattle.upload_push.proofs.Ends.{there_by_pair, close_leaves_pair, close_leaves_file, head_finds_pair}
 
 -- what is known of every run of the service, and of every place that is written
@@ -35,8 +40,9 @@ pub record Laws : Type 0 where
   pub reads : PlacesReadBack
 
 -- a close of the push, spelled out
-whole_close : (p : Push) (s : State) (secret : List ℕ) (now : ℕ) (at : List ℕ) (range : Extent) (digest : Option Digest) (body : List ℕ) (answer : Answer) (new : State)
-    → range ≡ Absent → digest ≡ Some p.digest → body ≡ [] → Turn s (asks.Close p.name at range digest body) secret now answer new
+whole_close : (p : Push) (s : State) (secret : List ℕ) (now : ℕ) (at : List ℕ) (range : Extent) (digest : Option Digest)
+    (body : List ℕ) (answer : Answer) (new : State) → range ≡ Absent → digest ≡ Some p.digest → body ≡ []
+    → Turn s (asks.Close p.name at range digest body) secret now answer new
     → Turn s (asks.Close p.name at Absent (Some p.digest) []) secret now answer new
 whole_close p s secret now at range digest body answer new no_range own_digest no_body turn =
     let T : Ask → Type 0 = λ a. Turn s a secret now answer new in
@@ -44,23 +50,28 @@ whole_close p s secret now at range digest body answer new no_range own_digest n
     (subst (λ (d : Option Digest). T (asks.Close p.name at Absent d body)) own_digest
     (subst (λ (x : Extent). T (asks.Close p.name at x digest body)) no_range turn))
 
-sound_close : (p : Push) (log : List Exchange) (s : State) (secret : List ℕ) (now : ℕ) (name at : List ℕ) (range : Extent) (digest : Option Digest) (body : List ℕ) (answer : Answer) (new : State)
-    → IsSoundAsk p log (asks.Close name at range digest body) → Turn s (asks.Close name at range digest body) secret now answer new
+sound_close : (p : Push) (log : List Exchange) (s : State) (secret : List ℕ) (now : ℕ)
+    (name at : List ℕ) (range : Extent) (digest : Option Digest) (body : List ℕ) (answer : Answer) (new : State)
+    → IsSoundAsk p log (asks.Close name at range digest body)
+    → Turn s (asks.Close name at range digest body) secret now answer new
     → Turn s (asks.Close p.name at Absent (Some p.digest) []) secret now answer new
 sound_close p log s secret now name at range digest body answer new sound turn =
     let T : List ℕ → Type 0 = λ n. Turn s (asks.Close n at range digest body) secret now answer new in
-    whole_close p s secret now at range digest body answer new sound.2.no_range sound.2.own_digest sound.2.no_body (subst T sound.0 turn)
+    whole_close p s secret now at range digest body answer new sound.2.no_range sound.2.own_digest sound.2.no_body
+    (subst T sound.0 turn)
 
 -- ---- what is served between its requests
 
-lawful_run : Laws → (old : State) (xs : List served.Exchange) (new : State) → IsLawful old → Run old xs new → IsLawful new
+lawful_run : Laws → (old : State) (xs : List served.Exchange) (new : State) → IsLawful old
+    → Run old xs new → IsLawful new
 lawful_run laws old [] new lawful run = subst IsLawful (sym run) lawful
 lawful_run laws old (x ∷ xs) new lawful run =
     lawful_run laws run.0 xs new (lawful_turn laws.headline old x.ask x.secret x.now x.answer run.0 lawful run.1) run.2
 
 -- a request of the push that comes late leaves its upload
-late_keeps : Laws → (p : Push) (s : State) (secret : List ℕ) (now : ℕ) (at : List ℕ) (offset : ℕ) (ask : Ask) (answer : Answer) (new : State)
-    → IsLawful s → IsRequestOf p at (upload_view ask) → IsUpload p.file s (Some at) offset → Turn s ask secret now answer new → IsUpload p.file new (Some at) offset
+late_keeps : Laws → (p : Push) (s : State) (secret : List ℕ) (now : ℕ) (at : List ℕ) (offset : ℕ) (ask : Ask)
+    (answer : Answer) (new : State) → IsLawful s → IsRequestOf p at (upload_view ask)
+    → IsUpload p.file s (Some at) offset → Turn s ask secret now answer new → IsUpload p.file new (Some at) offset
 late_keeps laws p s secret now at offset (asks.Chunk name to (Given range) body) answer new lawful is up turn =
     let T : List ℕ → List ℕ → Type 0 = λ n r. Turn s (asks.Chunk n r (Given range) body) secret now answer new in
     (chunk_keeps laws.reads p s now secret at offset range body answer new is.2 up
@@ -69,16 +80,19 @@ late_keeps laws p s secret now at offset (asks.Chunk name to Absent body) answer
 late_keeps laws p s secret now at offset (asks.Chunk name to Bad body) answer new lawful is up turn = absurd is.2
 late_keeps laws p s secret now at offset (asks.Status name to) answer new lawful is up turn =
     let T : List ℕ → List ℕ → Type 0 = λ n r. Turn s (asks.Status n r) secret now answer new in
-    (status_keeps p s now secret at offset answer new up (subst (λ (n : List ℕ). T n at) is.0 (subst (λ (r : List ℕ). T name r) is.1 turn))).0
+    (status_keeps p s now secret at offset answer new up
+    (subst (λ (n : List ℕ). T n at) is.0 (subst (λ (r : List ℕ). T name r) is.1 turn))).0
 late_keeps laws p s secret now at offset (asks.Close name to range digest body) answer new lawful is up turn =
     let T : List ℕ → List ℕ → Type 0 = λ n r. Turn s (asks.Close n r range digest body) secret now answer new in
     let mine = subst (λ (n : List ℕ). T n at) is.0 (subst (λ (r : List ℕ). T name r) is.1 turn) in
-    (close_keeps p s now secret at offset answer new lawful up (whole_close p s secret now at range digest body answer new is.2.no_range is.2.own_digest is.2.no_body mine)).0
+    (close_keeps p s now secret at offset answer new lawful up
+    (whole_close p s secret now at range digest body answer new is.2.no_range is.2.own_digest is.2.no_body mine)).0
 late_keeps laws p s secret now at offset other answer new lawful is up turn = absurd is
 
 -- so does what doesn't carry its reference
-harmless_keeps : Laws → (p : Push) (s : State) (x : served.Exchange) (new : State) (place : Option (List ℕ)) (offset : ℕ) → IsLawful s → IsHarmless p place x.ask
-    → IsUpload p.file s place offset → Turn s x.ask x.secret x.now x.answer new → IsUpload p.file new place offset
+harmless_keeps : Laws → (p : Push) (s : State) (x : served.Exchange) (new : State) (place : Option (List ℕ))
+    (offset : ℕ) → IsLawful s → IsHarmless p place x.ask → IsUpload p.file s place offset
+    → Turn s x.ask x.secret x.now x.answer new → IsUpload p.file new place offset
 harmless_keeps laws p s x new None offset lawful harmless up turn = tt
 harmless_keeps laws p s x new (Some at) offset lawful harmless up turn =
     elim harmless [
@@ -86,48 +100,62 @@ harmless_keeps laws p s x new (Some at) offset lawful harmless up turn =
       | inr own ↦ late_keeps laws p s x.secret x.now at offset x.ask x.answer new lawful own up turn
     ]
 
-run_keeps : Laws → (p : Push) (old : State) (xs : List served.Exchange) (new : State) (place : Option (List ℕ)) (offset : ℕ) → IsLawful old → AreHarmless p place xs
-    → IsUpload p.file old place offset → Run old xs new → IsUpload p.file new place offset
-run_keeps laws p old [] new place offset lawful harmless up run = subst (λ (s : State). IsUpload p.file s place offset) (sym run) up
+run_keeps : Laws → (p : Push) (old : State) (xs : List served.Exchange) (new : State) (place : Option (List ℕ))
+    (offset : ℕ) → IsLawful old → AreHarmless p place xs → IsUpload p.file old place offset → Run old xs new
+    → IsUpload p.file new place offset
+run_keeps laws p old [] new place offset lawful harmless up run =
+    subst (λ (s : State). IsUpload p.file s place offset) (sym run) up
 run_keeps laws p old (x ∷ xs) new place offset lawful harmless up run =
-    run_keeps laws p run.0 xs new place offset (lawful_turn laws.headline old x.ask x.secret x.now x.answer run.0 lawful run.1) harmless.1
+    run_keeps laws p run.0 xs new place offset
+    (lawful_turn laws.headline old x.ask x.secret x.now x.answer run.0 lawful run.1) harmless.1
     (harmless_keeps laws p old x run.0 place offset lawful harmless.0 up run.1) run.2
 
 -- ---- its own requests
 
 -- one request of a push, by what it asks
-own_keeps : Laws → (p : Push) (log : List Exchange) (s : State) (secret : List ℕ) (now : ℕ) (ask : Ask) (answer : Answer) (new : State)
-    → IsSecret secret → IsLawful s → IsSoundAsk p log ask → IsUpload p.file s (heard_place p.name log) (heard_offset log)
-    → Turn s ask secret now answer new → IsKept p ask (heard_place p.name log) (heard_offset log) answer new
+own_keeps : Laws → (p : Push) (log : List Exchange) (s : State) (secret : List ℕ)
+    (now : ℕ) (ask : Ask) (answer : Answer) (new : State) → IsSecret secret → IsLawful s → IsSoundAsk p log ask
+    → IsUpload p.file s (heard_place p.name log) (heard_offset log) → Turn s ask secret now answer new
+    → IsKept p ask (heard_place p.name log) (heard_offset log) answer new
 own_keeps laws p log s secret now (asks.Opening name) answer new is_secret lawful sound up turn =
     let K : List ℕ → Type 0 = λ n. Turn s (asks.Opening n) secret now answer new in
-    opening_keeps laws.reads laws.others p s now secret (heard_place p.name log) (heard_offset log) answer new is_secret lawful up (subst K sound turn)
+    opening_keeps laws.reads laws.others p s now secret (heard_place p.name log) (heard_offset log) answer new is_secret
+    lawful up (subst K sound turn)
 own_keeps laws p log s secret now (asks.Chunk name at (Given range) body) answer new is_secret lawful sound up turn =
     let K : List ℕ → Type 0 = λ n. Turn s (asks.Chunk n at (Given range) body) secret now answer new in
     let U : Option (List ℕ) → Type 0 = λ x. IsUpload p.file s x (heard_offset log) in
-    let V : Option (List ℕ) → Type 0 = λ x. IsKept p (asks.Chunk name at (Given range) body) x (heard_offset log) answer new in
+    let V : Option (List ℕ) → Type 0 =
+    λ x. IsKept p (asks.Chunk name at (Given range) body) x (heard_offset log) answer new in
     subst V (sym sound.1)
-    (chunk_keeps laws.reads p s now secret at (heard_offset log) range body answer new (part_of_next p (heard_offset log) range body sound.2) (subst U sound.1 up) (subst K sound.0 turn))
-own_keeps laws p log s secret now (asks.Chunk name at Absent body) answer new is_secret lawful sound up turn = absurd sound.2
-own_keeps laws p log s secret now (asks.Chunk name at Bad body) answer new is_secret lawful sound up turn = absurd sound.2
+    (chunk_keeps laws.reads p s now secret at (heard_offset log) range body answer new
+    (part_of_next p (heard_offset log) range body sound.2) (subst U sound.1 up) (subst K sound.0 turn))
+own_keeps laws p log s secret now (asks.Chunk name at Absent body) answer new is_secret lawful sound up turn =
+    absurd sound.2
+own_keeps laws p log s secret now (asks.Chunk name at Bad body) answer new is_secret lawful sound up turn =
+    absurd sound.2
 own_keeps laws p log s secret now (asks.Status name at) answer new is_secret lawful sound up turn =
     let K : List ℕ → Type 0 = λ n. Turn s (asks.Status n at) secret now answer new in
     let U : Option (List ℕ) → Type 0 = λ x. IsUpload p.file s x (heard_offset log) in
     let V : Option (List ℕ) → Type 0 = λ x. IsKept p (asks.Status name at) x (heard_offset log) answer new in
-    subst V (sym sound.1) (status_keeps p s now secret at (heard_offset log) answer new (subst U sound.1 up) (subst K sound.0 turn))
+    subst V (sym sound.1)
+    (status_keeps p s now secret at (heard_offset log) answer new (subst U sound.1 up) (subst K sound.0 turn))
 own_keeps laws p log s secret now (asks.Close name at range digest body) answer new is_secret lawful sound up turn =
     let U : Option (List ℕ) → Type 0 = λ x. IsUpload p.file s x (heard_offset log) in
-    let V : Option (List ℕ) → Type 0 = λ x. IsKept p (asks.Close name at range digest body) x (heard_offset log) answer new in
+    let V : Option (List ℕ) → Type 0 =
+    λ x. IsKept p (asks.Close name at range digest body) x (heard_offset log) answer new in
     subst V (sym sound.1)
-    (close_keeps p s now secret at (heard_offset log) answer new lawful (subst U sound.1 up) (sound_close p log s secret now name at range digest body answer new sound turn))
+    (close_keeps p s now secret at (heard_offset log) answer new lawful (subst U sound.1 up)
+    (sound_close p log s secret now name at range digest body answer new sound turn))
 own_keeps laws p log s secret now (asks.Has name digest head) answer new is_secret lawful sound up turn =
     let K : List ℕ → Type 0 = λ n. Turn s (asks.Has n digest head) secret now answer new in
-    has_keeps p s now secret (heard_place p.name log) (heard_offset log) digest head answer new up (subst K sound.0 turn)
+    has_keeps p s now secret (heard_place p.name log) (heard_offset log) digest head answer new up
+    (subst K sound.0 turn)
 own_keeps laws p log s secret now other answer new is_secret lawful sound up turn = absurd sound
 
 -- ---- what its requests come to
 
-came_lawful : Laws → (s : State) (ask : Ask) (heard : Option Heard) (new : State) → IsLawful s → ComesTo s ask heard new → IsLawful new
+came_lawful : Laws → (s : State) (ask : Ask) (heard : Option Heard) (new : State) → IsLawful s
+    → ComesTo s ask heard new → IsLawful new
 came_lawful laws s ask heard new lawful comes =
     elim comes [
       | inl t ↦ lawful_turn laws.headline s ask t.secret t.now t.answer new lawful t.turn
@@ -135,7 +163,8 @@ came_lawful laws s ask heard new lawful comes =
     ]
 
 -- no code that is heard says how far an upload is
-code_apart : (view : UploadView) (h : Heard) (code : Option (List ℕ)) (offset : ℕ) → offset_by view (record h { code = code }) offset ≡ offset_by view h offset
+code_apart : (view : UploadView) (h : Heard) (code : Option (List ℕ)) (offset : ℕ)
+    → offset_by view (record h { code = code }) offset ≡ offset_by view h offset
 code_apart (OfSession name at (Sends range body)) h code offset = refl
 code_apart (OfSession name at AsksOffset) h code offset = refl
 code_apart (OfSession name at (Closes range digest body)) h code offset = refl
@@ -144,8 +173,9 @@ code_apart (WholeBlob body) h code offset = refl
 code_apart Unrelated h code offset = refl
 
 -- the upload after a request that came to this
-came_kept : (p : Push) (s : State) (ask : Ask) (heard : Option Heard) (new : State) (place : Option (List ℕ)) (offset : ℕ)
-    → IsUpload p.file s place offset → ComesTo s ask heard new → ((t : IsTurn s ask heard new) → IsKept p ask place offset t.answer new)
+came_kept : (p : Push) (s : State) (ask : Ask) (heard : Option Heard) (new : State)
+    (place : Option (List ℕ)) (offset : ℕ) → IsUpload p.file s place offset → ComesTo s ask heard new
+    → ((t : IsTurn s ask heard new) → IsKept p ask place offset t.answer new)
     → IsUpload p.file new (place_after p.name heard place) (offset_after ask heard offset)
 came_kept p s ask heard new place offset up comes kept =
     let U : Option Heard → Type 0 = λ h. IsUpload p.file new (place_after p.name h place) (offset_after ask h offset) in
@@ -155,36 +185,47 @@ came_kept p s ask heard new place offset up comes kept =
         | inr told ↦
             let what : Heard = record (reply_heard t.answer) { code = told.0 } in
             subst U (sym told.1)
-            (subst (λ (n : ℕ). IsUpload p.file new (place_after p.name (Some what) place) n) (sym (code_apart (upload_view ask) (reply_heard t.answer) told.0 offset)) (kept t).1)
+            (subst (λ (n : ℕ). IsUpload p.file new (place_after p.name (Some what) place) n)
+            (sym (code_apart (upload_view ask) (reply_heard t.answer) told.0 offset)) (kept t).1)
       ]
       | inr lost ↦ subst U (sym lost.1) (subst (λ (x : State). IsUpload p.file x place offset) (sym lost.0) up)
     ]
 
 -- the service after the requests of a push, and where the next one meets it
-pub lawful_after : Laws → (old new : State) (log : List Exchange) → IsLawful old → Leads AskedInRun old log new → IsLawful new
+pub lawful_after : Laws → (old new : State) (log : List Exchange) → IsLawful old
+    → Leads AskedInRun old log new → IsLawful new
 lawful_after laws old new [] lawful leads = subst IsLawful (sym leads) lawful
 lawful_after laws old new (e ∷ log) lawful leads =
     came_lawful laws leads.2.met e.ask e.heard new
-    (lawful_run laws leads.0 leads.2.before leads.2.met (lawful_after laws old leads.0 log lawful leads.1) leads.2.run) leads.2.comes
+    (lawful_run laws leads.0 leads.2.before leads.2.met (lawful_after laws old leads.0 log lawful leads.1) leads.2.run)
+    leads.2.comes
 
-lawful_met : Laws → (old mid new : State) (e : Exchange) (log : List Exchange) → IsLawful old → Leads AskedInRun old log mid → (asked : AskedInRun mid e.ask e.heard new) → IsLawful asked.met
-lawful_met laws old mid new e log lawful leads asked = lawful_run laws mid asked.before asked.met (lawful_after laws old mid log lawful leads) asked.run
+lawful_met : Laws → (old mid new : State) (e : Exchange) (log : List Exchange) → IsLawful old
+    → Leads AskedInRun old log mid → (asked : AskedInRun mid e.ask e.heard new) → IsLawful asked.met
+lawful_met laws old mid new e log lawful leads asked =
+    lawful_run laws mid asked.before asked.met (lawful_after laws old mid log lawful leads) asked.run
 
--- the upload after the requests of a push, and the one that the next meets, under the premise on what is served between them
-uploads : Laws → (p : Push) (old new : State) (log : List Exchange) → IsLawful old → IsSound p log → (leads : Leads AskedInRun old log new) → IsQuietRun p log old new leads
+-- the upload after the requests of a push, and the one that the next meets, under the premise on what is served between
+-- them
+uploads : Laws → (p : Push) (old new : State) (log : List Exchange) → IsLawful old → IsSound p log
+    → (leads : Leads AskedInRun old log new) → IsQuietRun p log old new leads
     → IsUpload p.file new (heard_place p.name log) (heard_offset log)
 uploads laws p old new [] lawful sound leads quiet = tt
 uploads laws p old new (e ∷ log) lawful sound leads quiet =
     let place = heard_place p.name log in
     let offset = heard_offset log in
     let asked = leads.2 in
-    let met = run_keeps laws p leads.0 asked.before asked.met place offset (lawful_after laws old leads.0 log lawful leads.1) quiet.0
+    let met =
+    run_keeps laws p leads.0 asked.before asked.met place offset
+    (lawful_after laws old leads.0 log lawful leads.1) quiet.0
     (uploads laws p old leads.0 log lawful sound.1 leads.1 quiet.1) asked.run in
     came_kept p asked.met e.ask e.heard new place offset met asked.comes
-    (λ t. own_keeps laws p log asked.met t.secret t.now e.ask t.answer new t.is_secret (lawful_met laws old leads.0 new e log lawful leads.1 asked) sound.0 met t.turn)
+    (λ t. own_keeps laws p log asked.met t.secret t.now e.ask t.answer new t.is_secret
+    (lawful_met laws old leads.0 new e log lawful leads.1 asked) sound.0 met t.turn)
 
 -- the status that was heard is the reply's
-told_status : (answer : Answer) (h : Heard) (status : ℕ) → IsHeardOf answer (Some h) → h.status ≡ status → (reply_heard answer).status ≡ status
+told_status : (answer : Answer) (h : Heard) (status : ℕ) → IsHeardOf answer (Some h) → h.status ≡ status
+    → (reply_heard answer).status ≡ status
 told_status answer h status reaches is =
     elim reaches [
       | inl lost ↦ absurd (None≢Some (sym lost))
@@ -193,10 +234,13 @@ told_status answer h status reaches is =
 
 -- a close that is answered 201, beside any clients
 closed_pair : (p : Push) (log : List Exchange) (s : State) (ask : Ask) (heard : Option Heard) (new : State)
-    → IsSoundAsk p log ask → IsClose ask → HeardStatus heard 201 → ComesTo s ask heard new → IsTrue (holds new p.name p.digest)
+    → IsSoundAsk p log ask → IsClose ask → HeardStatus heard 201 → ComesTo s ask heard new
+    → IsTrue (holds new p.name p.digest)
 closed_pair p log s (asks.Close name at range digest body) (Some h) new sound close status comes =
     elim comes [
-      | inl t ↦ close_leaves_pair p s t.now t.secret at t.answer new (sound_close p log s t.secret t.now name at range digest body t.answer new sound t.turn) (told_status t.answer h 201 t.reaches status)
+      | inl t ↦ close_leaves_pair p s t.now t.secret at t.answer new
+          (sound_close p log s t.secret t.now name at range digest body t.answer new sound t.turn)
+          (told_status t.answer h 201 t.reaches status)
       | inr lost ↦ absurd (None≢Some (sym lost.1))
     ]
 closed_pair p log s ask None new sound close status comes = absurd status
@@ -204,13 +248,15 @@ closed_pair p log s other (Some h) new sound close status comes = absurd close
 
 -- a close that is answered 201, of the push's own upload
 closed_file : (p : Push) (log : List Exchange) (s : State) (ask : Ask) (heard : Option Heard) (new : State)
-    → IsSoundAsk p log ask → IsUpload p.file s (heard_place p.name log) (heard_offset log) → IsClose ask → HeardStatus heard 201 → ComesTo s ask heard new → IsStored p new
+    → IsSoundAsk p log ask → IsUpload p.file s (heard_place p.name log) (heard_offset log) → IsClose ask
+    → HeardStatus heard 201 → ComesTo s ask heard new → IsStored p new
 closed_file p log s (asks.Close name at range digest body) (Some h) new sound up close status comes =
     let U : Option (List ℕ) → Type 0 = λ x. IsUpload p.file s x (heard_offset log) in
     elim comes [
       | inl t ↦
           close_leaves_file p s t.now t.secret at (heard_offset log) t.answer new (subst U sound.1 up) sound.2.all
-          (sound_close p log s t.secret t.now name at range digest body t.answer new sound t.turn) (told_status t.answer h 201 t.reaches status)
+          (sound_close p log s t.secret t.now name at range digest body t.answer new sound t.turn)
+          (told_status t.answer h 201 t.reaches status)
       | inr lost ↦ absurd (None≢Some (sym lost.1))
     ]
 closed_file p log s ask None new sound up close status comes = absurd status
@@ -218,14 +264,16 @@ closed_file p log s other (Some h) new sound up close status comes = absurd clos
 
 -- a look for the blob that is answered 200
 pub looked_pair : (p : Push) (log : List Exchange) (s : State) (ask : Ask) (heard : Option Heard) (new : State)
-    → IsSoundAsk p log ask → IsHead ask → HeardStatus heard 200 → ComesTo s ask heard new → IsTrue (holds new p.name p.digest)
+    → IsSoundAsk p log ask → IsHead ask → HeardStatus heard 200 → ComesTo s ask heard new
+    → IsTrue (holds new p.name p.digest)
 looked_pair p log s (asks.Has name digest head) (Some h) new sound is_head status comes =
     elim comes [
       | inl t ↦
           let T : Ask → Type 0 = λ a. Turn s a t.secret t.now t.answer new in
           head_finds_pair p s t.now t.secret t.answer new
           (subst (λ (b : Bool). T (asks.Has p.name p.digest b)) sound.2
-          (subst (λ (d : Digest). T (asks.Has p.name d head)) sound.1 (subst (λ (n : List ℕ). T (asks.Has n digest head)) sound.0 t.turn)))
+          (subst (λ (d : Digest). T (asks.Has p.name d head)) sound.1
+          (subst (λ (n : List ℕ). T (asks.Has n digest head)) sound.0 t.turn)))
           (told_status t.answer h 200 t.reaches status)
       | inr lost ↦ absurd (None≢Some (sym lost.1))
     ]
@@ -233,24 +281,30 @@ looked_pair p log s ask None new sound is_head status comes = absurd status
 looked_pair p log s other (Some h) new sound is_head status comes = absurd is_head
 
 -- the requests of a push that end with such a close, or such a look
-file_at_end : Laws → (p : Push) (old new : State) (log : List Exchange) → IsLawful old → IsSound p log → (leads : Leads AskedInRun old log new) → IsQuietRun p log old new leads
-    → EndsWith IsClose 201 log → IsStored p new
+file_at_end : Laws → (p : Push) (old new : State) (log : List Exchange) → IsLawful old
+    → IsSound p log → (leads : Leads AskedInRun old log new) → IsQuietRun p log old new leads → EndsWith IsClose 201 log
+    → IsStored p new
 file_at_end laws p old new [] lawful sound leads quiet ends = absurd ends
 file_at_end laws p old new (e ∷ log) lawful sound leads quiet ends =
     let asked = leads.2 in
-    let met = run_keeps laws p leads.0 asked.before asked.met (heard_place p.name log) (heard_offset log) (lawful_after laws old leads.0 log lawful leads.1) quiet.0
+    let met =
+    run_keeps laws p leads.0 asked.before asked.met (heard_place p.name log) (heard_offset log)
+    (lawful_after laws old leads.0 log lawful leads.1) quiet.0
     (uploads laws p old leads.0 log lawful sound.1 leads.1 quiet.1) asked.run in
     closed_file p log asked.met e.ask e.heard new sound.0 met ends.0 ends.1 asked.comes
 
 pub pair_at_end : (p : Push) (old new : State) (log : List Exchange) (P : Ask → Type 0) (status : ℕ)
     → ((before : List Exchange) (s : State) (ask : Ask) (heard : Option Heard) (t : State)
-    → IsSoundAsk p before ask → P ask → HeardStatus heard status → ComesTo s ask heard t → IsTrue (holds t p.name p.digest))
+    → IsSoundAsk p before ask → P ask → HeardStatus heard status → ComesTo s ask heard t
+    → IsTrue (holds t p.name p.digest))
     → IsSound p log → Leads AskedInRun old log new → EndsWith P status log → IsTrue (holds new p.name p.digest)
 pair_at_end p old new [] P status last sound leads ends = absurd ends
-pair_at_end p old new (e ∷ log) P status last sound leads ends = last log leads.2.met e.ask e.heard new sound.0 ends.0 ends.1 leads.2.comes
+pair_at_end p old new (e ∷ log) P status last sound leads ends =
+    last log leads.2.met e.ask e.heard new sound.0 ends.0 ends.1 leads.2.comes
 
 -- the phase in which a push ends well
-ended : (phase : Phase) (end : Result Outcome PushFault) (outcome : Outcome) → IsEnd phase end → end ≡ Ok outcome → phase ≡ Done outcome
+ended : (phase : Phase) (end : Result Outcome PushFault) (outcome : Outcome) → IsEnd phase end → end ≡ Ok outcome
+    → phase ≡ Done outcome
 ended phase end outcome ends is =
     let E : Result Outcome PushFault → Type 0 = λ r. IsEnd phase r in
     subst E is ends
@@ -264,8 +318,14 @@ worth_in_run laws p old new end lawful_push lawful push =
     let done : (outcome : Outcome) → end ≡ Ok outcome → (after_all p push.heard).phase ≡ Done outcome =
     λ outcome is. ended (after_all p push.heard).phase end outcome push.ends is in
     record {
-      pushed = λ is quiet. file_at_end laws p old new log lawful sound push.leads quiet (pushed_last p push.heard (done Pushed is));
-      pushed_beside_others = λ is. there_by_pair p new after (pair_at_end p old new log IsClose 201 (closed_pair p) sound push.leads (pushed_last p push.heard (done Pushed is)));
-      already = λ is. there_by_pair p new after (pair_at_end p old new log IsHead 200 (looked_pair p) sound push.leads (already_last p push.heard (done Already is)));
+      pushed =
+          λ is quiet.
+          file_at_end laws p old new log lawful sound push.leads quiet (pushed_last p push.heard (done Pushed is));
+      pushed_beside_others =
+          λ is. there_by_pair p new after (pair_at_end p old new log IsClose 201 (closed_pair p) sound push.leads
+          (pushed_last p push.heard (done Pushed is)));
+      already =
+          λ is. there_by_pair p new after (pair_at_end p old new log IsHead 200 (looked_pair p) sound push.leads
+          (already_last p push.heard (done Already is)));
       lawful = after;
     }

@@ -9,7 +9,8 @@ use Rattle.upload_push.specs.contracts.world.Event as event
 
 abbrev pub world_code : Coded World
 world_code =
-    code_by (State × (List ℕ × (ℕ × List Event))) (coded× state_code (coded× bytes_code (coded× coded_ℕ (coded_list event.the_row.coded))))
+    code_by (State × (List ℕ × (ℕ × List Event)))
+    (coded× state_code (coded× bytes_code (coded× coded_ℕ (coded_list event.the_row.coded))))
     (λ w. (w.service, (w.secret, (w.now, w.events))))
     (λ p. record { service = p.0; secret = p.1.0; now = p.1.1.0; events = p.1.1.1 })
     (λ _. refl)

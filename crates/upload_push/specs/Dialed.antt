@@ -4,8 +4,8 @@ use Rattle.upload_service.specs.declared.ask.Ask.{Ask}
 use Rattle.upload_client.specs.declared.heard.Heard.{Heard}
 use Rattle.upload_client.specs.TransportText.{WireState, AsksOverWire, stays_open}
 
--- A connection to a host over which nothing was asked: nothing was read, nothing was written, and both transcripts are empty. What its
--- server will send, and what its writer holds, are these bytes if they are known.
+-- A connection to a host over which nothing was asked: nothing was read, nothing was written, and both transcripts are
+-- empty. What its server will send, and what its writer holds, are these bytes if they are known.
 abbrev pub new_wire : List ℕ → Option (List ℕ) → Option (List ℕ) → WireState
 new_wire host remaining contents = record {
   reader = record {
@@ -33,9 +33,10 @@ Connects host None None = ⊤
 abbrev pub kept_or : Option WireState → WireState → Option WireState
 kept_or before wire = if stays_open wire then Some wire else before
 
--- One ask of a push, from the connection that was kept before it to the one that is kept behind it. Where there is a connection, this was
--- heard over it; where there is none, nothing was heard.
+-- One ask of a push, from the connection that was kept before it to the one that is kept behind it. Where there is a
+-- connection, this was heard over it; where there is none, nothing was heard.
 abbrev pub AsksDialed : List ℕ → Option WireState → Ask → Option Heard → Option WireState → Type 0
 AsksDialed host before ask heard behind =
-    ((wire new : WireState) × Connects host before (Some wire) × AsksOverWire wire ask heard new × (behind ≡ kept_or None new))
+    ((wire new : WireState) × Connects host before (Some wire) × AsksOverWire wire ask heard new
+    × (behind ≡ kept_or None new))
     ⊎ (Connects host before None × (heard ≡ None) × (behind ≡ None))

@@ -45,7 +45,8 @@ AvoidAll place (ask ∷ asks) = Avoids place ask × AvoidAll place asks
 -- reference that the pusher has heard by then.
 abbrev pub IsQuiet : List ℕ → List Event → List Exchange → Type 0
 IsQuiet name events [] = Unit {0}
-IsQuiet name events (e ∷ log) = AvoidAll (heard_place name log) (others_in_front (events_after events log)) × IsQuiet name events log
+IsQuiet name events (e ∷ log) =
+    AvoidAll (heard_place name log) (others_in_front (events_after events log)) × IsQuiet name events log
 
 -- no event is another client's request
 abbrev pub AreOwn : List Event → Type 0
@@ -70,7 +71,8 @@ pub record IsThere (p : Push) (s : State) : Type 0 where
   pub pair : IsTrue (holds s p.name p.digest)
 
 -- what a push is worth, by its end
-pub record IsWorth (p : Push) (heard : List (Option Heard)) (old new : World) (end : Result Outcome PushFault) : Type 0 where
+pub record IsWorth (p : Push) (heard : List (Option Heard)) (old new : World)
+    (end : Result Outcome PushFault) : Type 0 where
   pub pushed : end ≡ Ok Pushed → IsQuiet p.name old.events (log_of p heard) → IsStored p new.service
   pub pushed_beside_others : end ≡ Ok Pushed → IsThere p new.service
   pub already : end ≡ Ok Already → IsThere p new.service

@@ -19,12 +19,14 @@ pub record PushesRuleOut : Type 0 where
   -- a close behind a chunk of which nothing was heard isn't sound
   pub hasty : (p : Push) (log : List Exchange) (name at body : List ℕ) (range : Extent)
       (its_name its_at its_body : List ℕ) (its_range : Extent) (digest : Option Digest) (heard : Option Heard)
-      → IsSound p (exchange (Close its_name its_at its_range digest its_body) heard ∷ exchange (Chunk name at range body) None ∷ log) → ⊥
+      → IsSound p (exchange (Close its_name its_at its_range digest its_body) heard
+      ∷ exchange (Chunk name at range body) None ∷ log) → ⊥
   -- in the file that a push left no chunk stands twice
   pub twice : (p : Push) (heard : List (Option Heard)) (old new : World) (front chunk rest : List ℕ)
-      → IsWorth p heard old new (Ok Pushed) → IsQuiet p.name old.events (log_of p heard) → p.file ≡ front ++ (chunk ++ rest)
+      → IsWorth p heard old new (Ok Pushed) → IsQuiet p.name old.events (log_of p heard)
+      → p.file ≡ front ++ (chunk ++ rest)
       → map.get new.service.blobs p.digest ≡ Some (front ++ (chunk ++ (chunk ++ rest))) → chunk ≡ []
   -- and none is lacking
   pub lacking : (p : Push) (heard : List (Option Heard)) (old new : World) (front chunk rest : List ℕ)
-      → IsWorth p heard old new (Ok Pushed) → IsQuiet p.name old.events (log_of p heard) → p.file ≡ front ++ (chunk ++ rest)
-      → map.get new.service.blobs p.digest ≡ Some (front ++ rest) → chunk ≡ []
+      → IsWorth p heard old new (Ok Pushed) → IsQuiet p.name old.events (log_of p heard)
+      → p.file ≡ front ++ (chunk ++ rest) → map.get new.service.blobs p.digest ≡ Some (front ++ rest) → chunk ≡ []

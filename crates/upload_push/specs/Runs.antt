@@ -1,12 +1,14 @@
--- A push beside a run of the service: between its requests others are served, each turn has a secret and a moment of its own, and a
--- request of the push that was taken to be lost may be served late.
-use Rattle.std.specs.Prelude.{Result, Ok, ◌≡◌, ℕ, ◌+◌, ◌<◌, ◌≤◌, ◌⊎◌, List, [], ◌∷◌, length, slice_range, Option, Some, None, ⊤}
+-- A push beside a run of the service: between its requests others are served, each turn has a secret and a moment of
+-- its own, and a request of the push that was taken to be lost may be served late.
+use Rattle.std.specs.Prelude.{Result, Ok, ◌≡◌, ℕ, ◌+◌, ◌<◌, ◌≤◌, ◌⊎◌, List, [], ◌∷◌, length, slice_range, Option, Some}
+use Rattle.std.specs.Prelude.{None, ⊤}
 use Rattle.upload_names.specs.ByteRange.{Span}
 use Rattle.upload_names.specs.Digest.{Digest}
 use Rattle.upload_service.specs.Machine.{State, Turn, IsLawful}
 use Rattle.upload_service.specs.Run as served
 use Rattle.upload_service.specs.Run.{Run}
-use Rattle.upload_service.specs.UploadView.{Act, Sends, AsksOffset, Closes, UploadView, OfSession, Opens, WholeBlob, Unrelated, upload_view}
+use Rattle.upload_service.specs.UploadView.{Act, Sends, AsksOffset, Closes, UploadView, OfSession, Opens, WholeBlob}
+use Rattle.upload_service.specs.UploadView.{Unrelated, upload_view}
 use Rattle.upload_service.specs.declared.ask.Ask.{Ask}
 use Rattle.upload_service.specs.declared.ask.Extent.{Extent}
 use Rattle.upload_service.specs.declared.ask.Extent.TheVariants.{Absent}
@@ -20,10 +22,11 @@ use Rattle.upload_push.specs.declared.pusher.Outcome.{Outcome}
 use Rattle.upload_push.specs.declared.pusher.Outcome.TheVariants.{Pushed, Already}
 use Rattle.upload_push.specs.declared.pushing.PushFault.{PushFault}
 
--- Of the answer nothing is heard, or what it says, but perhaps for its error code: the reply to a HEAD lacks it, and no step of a push depends
--- on it.
+-- Of the answer nothing is heard, or what it says, but perhaps for its error code: the reply to a HEAD lacks it, and no
+-- step of a push depends on it.
 abbrev pub IsHeardOf : Answer → Option Heard → Type 0
-IsHeardOf answer heard = (heard ≡ None) ⊎ ((code : Option (List ℕ)) × (heard ≡ Some (record (reply_heard answer) { code = code })))
+IsHeardOf answer heard =
+    (heard ≡ None) ⊎ ((code : Option (List ℕ)) × (heard ≡ Some (record (reply_heard answer) { code = code })))
 
 -- the request is a turn of the service, and its reply is heard or not
 pub record IsTurn (met : State) (ask : Ask) (heard : Option Heard) (new : State) : Type 0 where
@@ -79,14 +82,16 @@ abbrev pub AreHarmless : Push → Option (List ℕ) → List served.Exchange →
 AreHarmless p place [] = ⊤
 AreHarmless p place (x ∷ xs) = IsHarmless p place x.ask × AreHarmless p place xs
 
--- The premise on what is served between the requests of a push: from the opening on whose reply the push heard, it doesn't carry the
--- reference that was heard by then, unless it is a late request of the push itself.
+-- The premise on what is served between the requests of a push: from the opening on whose reply the push heard, it
+-- doesn't carry the reference that was heard by then, unless it is a late request of the push itself.
 abbrev pub IsQuietRun : (p : Push) (log : List Exchange) (old new : State) → Leads AskedInRun old log new → Type 0
 IsQuietRun p [] old new leads = ⊤
-IsQuietRun p (e ∷ log) old new leads = AreHarmless p (heard_place p.name log) leads.2.before × IsQuietRun p log old leads.0 leads.1
+IsQuietRun p (e ∷ log) old new leads =
+    AreHarmless p (heard_place p.name log) leads.2.before × IsQuietRun p log old leads.0 leads.1
 
 -- what a push is worth, by its end
-pub record IsWorthInRun (p : Push) (old new : State) (end : Result Outcome PushFault) (push : IsPush AskedInRun p old new end) : Type 0 where
+pub record IsWorthInRun (p : Push) (old new : State) (end : Result Outcome PushFault)
+    (push : IsPush AskedInRun p old new end) : Type 0 where
   pub pushed : end ≡ Ok Pushed → IsQuietRun p (log_of p push.heard) old new push.leads → IsStored p new
   pub pushed_beside_others : end ≡ Ok Pushed → IsThere p new
   pub already : end ≡ Ok Already → IsThere p new

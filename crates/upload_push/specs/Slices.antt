@@ -1,5 +1,6 @@
 -- Whole pushes: the list of what was asked and heard, the newest first, and what is true of each such list.
-use Rattle.std.specs.Prelude.{Result, Ok, Err, ◌≡◌, ℕ, ◌+◌, ◌-◌, ◌*◌, ◌/◌, ◌^◌, ◌<◌, ◌≤◌, true, ◌==◌, if◌then◌else◌, List, [], ◌∷◌, length, slice_range, Option, Some, None}
+use Rattle.std.specs.Prelude.{Result, Ok, Err, ◌≡◌, ℕ, ◌+◌, ◌-◌, ◌*◌, ◌/◌, ◌^◌, ◌<◌, ◌≤◌, true, ◌==◌, if◌then◌else◌}
+use Rattle.std.specs.Prelude.{List, [], ◌∷◌, length, slice_range, Option, Some, None}
 use Rattle.std.specs.List.{AllByRecursion}
 use Rattle.upload_names.specs.Digest.{Digest, content_digest}
 use Rattle.upload_names.specs.ByteRange.{Span}
@@ -8,7 +9,8 @@ use Rattle.upload_service.specs.declared.ask.Extent.{Extent}
 use Rattle.upload_service.specs.declared.ask.Extent.TheVariants.{Absent, Given}
 use Rattle.upload_service.specs.declared.ask.Ask.{Ask}
 use Rattle.upload_service.specs.declared.ask.Ask.TheVariants.{Has, Opening, Chunk, Status, Close}
-use Rattle.upload_service.specs.UploadView.{Act, Sends, AsksOffset, Closes, UploadView, OfSession, Opens, WholeBlob, Unrelated, upload_view}
+use Rattle.upload_service.specs.UploadView.{Act, Sends, AsksOffset, Closes, UploadView, OfSession, Opens, WholeBlob}
+use Rattle.upload_service.specs.UploadView.{Unrelated, upload_view}
 use Rattle.upload_push.specs.Steps.{Plan, Stand, turn, ask_at, count_to, place_of}
 use Rattle.upload_client.specs.declared.heard.Heard.{Heard}
 use Rattle.upload_push.specs.declared.pusher.PushAsk.{PushAsk}
@@ -29,7 +31,8 @@ pub record Push : Type 0 where
 
 -- the push of a file under a name and under a digest
 abbrev pub push_under : Digest → List ℕ → List ℕ → ℕ → ℕ → Push
-push_under digest name file chunk tries = record { name = name; digest = digest; file = file; chunk = chunk; tries = tries }
+push_under digest name file chunk tries =
+    record { name = name; digest = digest; file = file; chunk = chunk; tries = tries }
 
 -- the same under its digest by an algorithm
 abbrev pub push_of : Algorithm → List ℕ → List ℕ → ℕ → ℕ → Push
@@ -52,7 +55,8 @@ plan_of p = record { name = p.name; digest = p.digest; size = length p.file; chu
 -- the request, with the bytes of the file
 abbrev pub request_of : List ℕ → Digest → List ℕ → PushAsk → Ask
 request_of name digest file asks.Opening = Opening name
-request_of name digest file (asks.Chunk at range) = Chunk name at (Given range) (slice_range file range.first (range.last + 1))
+request_of name digest file (asks.Chunk at range) =
+    Chunk name at (Given range) (slice_range file range.first (range.last + 1))
 request_of name digest file (asks.Status at) = Status name at
 request_of name digest file (asks.Close at) = Close name at Absent (Some digest) []
 request_of name digest file asks.Head = Has name digest true
@@ -78,7 +82,8 @@ log_of p (heard ∷ earlier) = logged p (ask_at (plan_of p) (after_all p earlier
 -- The heard offset: the offset that the server named last. It is 0 after the opening's 202, and one more than the
 -- last position (0 without one) after a chunk's 202 or 416 or a status' 204.
 abbrev pub offset_told : Act → Heard → ℕ → ℕ
-offset_told (Sends range body) h offset = if h.status == 202 then count_to h.upto else if h.status == 416 then count_to h.upto else offset
+offset_told (Sends range body) h offset =
+    if h.status == 202 then count_to h.upto else if h.status == 416 then count_to h.upto else offset
 offset_told AsksOffset h offset = if h.status == 204 then count_to h.upto else offset
 offset_told (Closes range digest body) h offset = offset
 

@@ -1,5 +1,6 @@
 -- The table of a push's steps: where it stands, what it asks there, and where a reply leads.
-use Rattle.std.specs.Prelude.{◌≡◌, ℕ, ◌+◌, ◌-◌, ◌^◌, ◌<◌, ◌≤◌, min, ◌==◌, nat_le, nat_lt, if◌then◌else◌, List, Option, Some, None}
+use Rattle.std.specs.Prelude.{◌≡◌, ℕ, ◌+◌, ◌-◌, ◌^◌, ◌<◌, ◌≤◌, min, ◌==◌, nat_le, nat_lt, if◌then◌else◌, List, Option}
+use Rattle.std.specs.Prelude.{Some, None}
 use Rattle.upload_names.specs.Digest.{Digest}
 use Rattle.upload_client.specs.Heard.{place_in}
 use Rattle.upload_client.specs.declared.heard.Heard.{Heard}

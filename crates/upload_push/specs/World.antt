@@ -34,7 +34,8 @@ world_with w service events = record { service = service; secret = w.secret; now
 
 -- the same world at a later moment
 abbrev pub world_later : World → ℕ → List Event → World
-world_later w seconds events = record { service = w.service; secret = w.secret; now = moment_after w.now seconds; events = events }
+world_later w seconds events =
+    record { service = w.service; secret = w.secret; now = moment_after w.now seconds; events = events }
 
 -- a reply is heard as what it says, or, where memory is wanting, not at all
 abbrev pub Reaches : Answer → Option Heard → Type 0
@@ -43,18 +44,21 @@ Reaches answer heard = (heard ≡ Some (reply_heard answer)) ⊎ (heard ≡ None
 -- the request is a turn of the service, and its reply comes back
 abbrev pub IsDelivered : World → List Event → Ask → Option Heard → World → Type 0
 IsDelivered w events ask heard new =
-    (answer : Answer) × (mid : State) × Turn w.service ask w.secret w.now answer mid × Reaches answer heard × (new ≡ world_with w mid events)
+    (answer : Answer) × (mid : State) × Turn w.service ask w.secret w.now answer mid × Reaches answer heard
+    × (new ≡ world_with w mid events)
 
 -- the request is a turn of the service, and nothing is heard of it
 abbrev pub IsReplyLost : World → List Event → Ask → Option Heard → World → Type 0
 IsReplyLost w events ask heard new =
-    (answer : Answer) × (mid : State) × Turn w.service ask w.secret w.now answer mid × (heard ≡ None) × (new ≡ world_with w mid events)
+    (answer : Answer) × (mid : State) × Turn w.service ask w.secret w.now answer mid × (heard ≡ None)
+    × (new ≡ world_with w mid events)
 
 -- One request, by the events to come. Another client's request in front of it is a turn of its own, and time may pass
 -- in front of it; then it is delivered, or its reply is lost, or it is lost itself. With no event left it is delivered.
 abbrev pub AskedBy : World → List Event → Ask → Option Heard → World → Type 0
 AskedBy w (Other other ∷ events) ask heard new =
-    (answer : Answer) × (mid : State) × Turn w.service other w.secret w.now answer mid × AskedBy (world_with w mid events) events ask heard new
+    (answer : Answer) × (mid : State) × Turn w.service other w.secret w.now answer mid
+    × AskedBy (world_with w mid events) events ask heard new
 AskedBy w (Passes seconds ∷ events) ask heard new = AskedBy (world_later w seconds events) events ask heard new
 AskedBy w (Delivered ∷ events) ask heard new = IsDelivered w events ask heard new
 AskedBy w (ReplyLost ∷ events) ask heard new = IsReplyLost w events ask heard new

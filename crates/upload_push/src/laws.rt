@@ -6,7 +6,8 @@ ghost use Rattle.upload_push.specs.Promise.{PushPromise, AloneIsQuiet};
 ghost use Rattle.upload_push.specs.Runs.{PushPromiseInRuns};
 ghost use Rattle.upload_push.specs.RuledOut.{PushesRuleOut};
 ghost use Rattle.upload_push.specs.Steps.{Plan, Stand, turn, IsOver};
-ghost use Rattle.upload_push.specs.Slices.{Push, IsLawfulPush, IsSound, IsClose, IsHead, EndsWith, EndsRefused, AreUnheard, after_all, log_of, most_asks};
+ghost use Rattle.upload_push.specs.Slices.{Push, IsLawfulPush, IsSound, IsClose, IsHead, EndsWith, EndsRefused};
+ghost use Rattle.upload_push.specs.Slices.{AreUnheard, after_all, log_of, most_asks};
 
 use crate::pusher::{Outcome, Phase, Why};
 use upload_client::written_places_are_read;
@@ -17,27 +18,34 @@ use upload_service::{headline_holds, others_leave_a_session};
 /// code; where nothing is heard it waits for its opening, or is out of tries. Once it has ended, nothing that is heard
 /// changes it.
 pub fn every_push()
-    ensures sound { (p : Push) (heard : List (Option Heard)) → IsLawfulPush p → IsSound p (log_of p heard) }
-    ensures pushed { (p : Push) (heard : List (Option Heard)) → (after_all p heard).phase ≡ Phase.Done Outcome.Pushed
+    ensures sound { (p : Push) (heard : List (Option Heard)) → IsLawfulPush p
+        → IsSound p (log_of p heard) }
+    ensures pushed { (p : Push) (heard : List (Option Heard))
+        → (after_all p heard).phase ≡ Phase.Done Outcome.Pushed
         → EndsWith IsClose 201 (log_of p heard) }
-    ensures already { (p : Push) (heard : List (Option Heard)) → (after_all p heard).phase ≡ Phase.Done Outcome.Already
+    ensures already { (p : Push) (heard : List (Option Heard))
+        → (after_all p heard).phase ≡ Phase.Done Outcome.Already
         → EndsWith IsHead 200 (log_of p heard) }
     ensures refused { (p : Push) (heard : List (Option Heard)) (status : ℕ) (code : Option (List ℕ))
-        → (after_all p heard).phase ≡ Phase.GaveUp (Why.Refused status code) → EndsRefused status code (log_of p heard) }
+        → (after_all p heard).phase ≡ Phase.GaveUp (Why.Refused status code)
+        → EndsRefused status code (log_of p heard) }
     ensures unheard { (p : Push) (heard : List (Option Heard)) → AreUnheard heard
-        → ((after_all p heard).phase ≡ Phase.Opening) ⊎ ((after_all p heard).phase ≡ Phase.GaveUp Why.OutOfTries) }
-    ensures over { (p : Plan) (s : Stand) (heard : Option Heard) → IsOver s.phase → turn p s heard ≡ s }
-    ensures count { (p : Push) (heard : List (Option Heard)) → IsLawfulPush p → length (log_of p heard) ≤ most_asks p }
+        → ((after_all p heard).phase ≡ Phase.Opening)
+        ⊎ ((after_all p heard).phase ≡ Phase.GaveUp Why.OutOfTries) }
+    ensures over { (p : Plan) (s : Stand) (heard : Option Heard) → IsOver s.phase
+        → turn p s heard ≡ s }
+    ensures count { (p : Push) (heard : List (Option Heard)) → IsLawfulPush p
+        → length (log_of p heard) ≤ most_asks p }
 {}
 
-/// The promise of a push: over a lossy world with any events, beside any clients, a push that ends `Pushed` or `Already` left
-/// or found the repository with its digest, and the bytes that stand under it have that digest. Where no other client's
-/// request carried the reference that the pusher had heard, a push that ends `Pushed` left exactly the file there. So it is
-/// if there is no other client. A look that finds the blob has the promise of `Already`, and whatever a look hears, a push
-/// behind it has this promise.
+/// The promise of a push: over a lossy world with any events, beside any clients, a push that ends `Pushed` or
+/// `Already` left or found the repository with its digest, and the bytes that stand under it have that digest. Where no
+/// other client's request carried the reference that the pusher had heard, a push that ends `Pushed` left exactly the
+/// file there. So it is if there is no other client. A look that finds the blob has the promise of `Already`, and
+/// whatever a look hears, a push behind it has this promise.
 ///
-/// The same is true in any run of a lawful service, whose turns have secrets and moments of their own, and in which requests
-/// of the push that were taken to be lost are served late.
+/// The same is true in any run of a lawful service, whose turns have secrets and moments of their own, and in which
+/// requests of the push that were taken to be lost are served late.
 pub fn push_promise()
     ensures promise { PushPromise }
     ensures in_runs { PushPromiseInRuns }
@@ -49,8 +57,8 @@ pub fn push_promise()
     written_places_are_read();
 }
 
-/// What the soundness of a push and its promise rule out, from their claims alone: that a push closes right behind a chunk
-/// of which nothing was heard, and that the file which a push left exactly has a chunk twice or lacks one.
+/// What the soundness of a push and its promise rule out, from their claims alone: that a push closes right behind a
+/// chunk of which nothing was heard, and that the file which a push left exactly has a chunk twice or lacks one.
 pub fn pushes_rule_out()
     ensures { PushesRuleOut }
 {}

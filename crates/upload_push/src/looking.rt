@@ -19,8 +19,9 @@ fn is_found(first: &Option<Heard>) -> bool
     }
 }
 
-/// Asks once, by a HEAD, whether the repository has a blob. `true` comes only with a 200; if anything else was heard, or
-/// nothing, it isn't known to be there. An error means that there was no memory for a copy of the name; nothing was asked.
+/// Asks once, by a HEAD, whether the repository has a blob. `true` comes only with a 200; if anything else was heard,
+/// or nothing, it isn't known to be there. An error means that there was no memory for a copy of the name; nothing was
+/// asked.
 pub fn has_blob<T: Transport>(
     alloc: Global,
     transport: &mut T,
@@ -28,7 +29,8 @@ pub fn has_blob<T: Transport>(
     digest: BlobDigest,
 ) -> Result<bool, AllocError>
     ensures asked { IfOk result (λ found. (first : Option Heard)
-        × T.asked transport.old (Ask.Has name.now digest true) first transport.new × (found ≡ is_found first)) }
+        × T.asked transport.old (Ask.Has name.now digest true) first transport.new
+        × (found ≡ is_found first)) }
     ensures unasked { OnErr result (transport.new ≡ transport.old) }
 {
     let name = name.copy(alloc)?;

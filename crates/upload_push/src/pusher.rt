@@ -1,6 +1,8 @@
 //! The steps of a push, by the table in `specs/Steps.antt`: what is asked next, and where what was heard leads.
 ghost use Rattle.std.specs.Prelude.{IfOk, ◌≡◌, ◌≤◌, ◌<◌, ◌^◌, ◌==◌, if◌then◌else◌};
-ghost use Rattle.upload_push.specs.Steps.{after, IsWithin, IsStepOf, IsStepWithin, turn, retry, unheard, answered, chunk_answered, close_answered, refused, place_of, send_from, count_to, to_phase};
+ghost use Rattle.upload_push.specs.Steps.{after, IsWithin, IsStepOf, IsStepWithin, turn, retry, unheard, answered};
+ghost use Rattle.upload_push.specs.Steps.{chunk_answered, close_answered, refused, place_of, send_from, count_to};
+ghost use Rattle.upload_push.specs.Steps.{to_phase};
 
 use std::alloc::{AllocError, Global};
 use std::marker::Model;
@@ -12,7 +14,8 @@ use upload_names::{BlobDigest, ByteRange, Bytes, RepoName, UploadRef};
 pub enum Outcome {
     /// This push's close was answered 201: the registry stored the file.
     Pushed,
-    /// The upload is gone, and the repository has a blob of the file's digest: a close whose reply was lost, or another client.
+    /// The upload is gone, and the repository has a blob of the file's digest: a close whose reply was lost, or another
+    /// client.
     Already,
 }
 
@@ -87,8 +90,8 @@ pub(crate) enum Phase {
     GaveUp(Why),
 }
 
-/// One push: what is pushed, and where it stands. It reads no file and no network; it says what to ask, and is told what
-/// was heard. None of its calls takes memory.
+/// One push: what is pushed, and where it stands. It reads no file and no network; it says what to ask, and is told
+/// what was heard. None of its calls takes memory.
 #[derive(Drop)]
 pub struct Pusher {
     name: RepoName,
@@ -110,13 +113,14 @@ impl Model for Pusher {
       stand = record { phase = p.phase; tries = p.tries };
     } };
 
-    ghost invariant = { λ p. IsLawfulPlan (record { name = p.name; digest = p.digest; size = p.length; chunk = p.chunk })
+    ghost invariant = { λ p.
+        IsLawfulPlan (record { name = p.name; digest = p.digest; size = p.length; chunk = p.chunk })
         × IsWithin p.length p.phase };
 }
 
 impl Pusher {
-    /// A push of `length` bytes (at most 2^40) of this digest under a name, in chunks of at most `chunk` bytes (1 to 2^31),
-    /// that is given up at the first loss after `tries` (at most 1,000) of them.
+    /// A push of `length` bytes (at most 2^40) of this digest under a name, in chunks of at most `chunk` bytes (1 to
+    /// 2^31), that is given up at the first loss after `tries` (at most 1,000) of them.
     pub fn new(name: RepoName, digest: BlobDigest, length: u64, chunk: u64, tries: u32) -> Pusher
         requires length { length ≤ 2 ^ 40 }
         requires chunk { (1 ≤ chunk) × (chunk ≤ 2 ^ 31) }
@@ -212,7 +216,8 @@ impl Pusher {
 
     /// Takes a reply other than 503.
     fn answered(&mut self, reply: Heard)
-        ensures { self.new ≡ after self.old (answered self.old.plan self.old.stand self.old.stand.phase reply) }
+        ensures { self.new
+            ≡ after self.old (answered self.old.plan self.old.stand self.old.stand.phase reply) }
     {
         match &self.phase {
             Phase::Opening => self.opening_answered(reply),
@@ -253,7 +258,8 @@ impl Pusher {
 
     /// Takes a reply to the opening.
     fn opening_answered(&mut self, reply: Heard)
-        ensures { self.new ≡ after self.old (answered self.old.plan self.old.stand Phase.Opening reply) }
+        ensures { self.new
+            ≡ after self.old (answered self.old.plan self.old.stand Phase.Opening reply) }
     {
         if reply.status == 202 {
             self.phase = match self.place_of(&reply) {
@@ -265,8 +271,8 @@ impl Pusher {
         }
     }
 
-    /// Sending from what the server has: behind the last position, or from the start where there is none. A position beyond
-    /// the file is given up.
+    /// Sending from what the server has: behind the last position, or from the start where there is none. A position
+    /// beyond the file is given up.
     fn send_from(&self, at: UploadRef, upto: Option<u64>) -> Phase
         ensures value { result ≡ send_from self.now.plan at (count_to upto) }
         ensures within { IsWithin self.now.plan.size result }
@@ -289,7 +295,8 @@ impl Pusher {
     /// Takes a reply to the chunk from an offset on.
     fn chunk_answered(&mut self, at: UploadRef, offset: u64, reply: Heard)
         requires { offset < self.old.plan.size }
-        ensures { self.new ≡ after self.old (chunk_answered self.old.plan self.old.stand at offset reply) }
+        ensures { self.new
+            ≡ after self.old (chunk_answered self.old.plan self.old.stand at offset reply) }
     {
         if reply.status == 202 {
             let end = (offset + self.chunk).min(self.length);
@@ -324,7 +331,8 @@ impl Pusher {
 
     /// Takes a reply to how much has arrived.
     fn status_answered(&mut self, at: UploadRef, reply: Heard)
-        ensures { self.new ≡ after self.old (answered self.old.plan self.old.stand (Phase.Asking at) reply) }
+        ensures { self.new
+            ≡ after self.old (answered self.old.plan self.old.stand (Phase.Asking at) reply) }
     {
         if reply.status == 204 {
             self.phase = self.send_from(at, reply.upto);
@@ -337,7 +345,8 @@ impl Pusher {
 
     /// Takes a reply to whether the blob is there.
     fn head_answered(&mut self, reply: Heard)
-        ensures { self.new ≡ after self.old (answered self.old.plan self.old.stand Phase.Looking reply) }
+        ensures { self.new
+            ≡ after self.old (answered self.old.plan self.old.stand Phase.Looking reply) }
     {
         if reply.status == 200 {
             self.phase = Phase::Done(Outcome::Already);

@@ -46,7 +46,8 @@ pub fn push<T: Transport>(
     requires size { length file.now ≤ 2 ^ 40 }
     requires chunk { (1 ≤ chunk) × (chunk ≤ 2 ^ 31) }
     requires tries { tries ≤ 1000 }
-    ensures { IsPush T.asked (push_of Algorithm.Sha256 name.now file.now chunk tries) transport.old transport.new result }
+    ensures { IsPush T.asked (push_of Algorithm.Sha256 name.now file.now chunk tries) transport.old
+        transport.new result }
 {
     push_with(
         alloc,
@@ -72,15 +73,16 @@ pub fn push_with<T: Transport>(
     requires size { length file.now ≤ 2 ^ 40 }
     requires chunk { (1 ≤ chunk) × (chunk ≤ 2 ^ 31) }
     requires tries { tries ≤ 1000 }
-    ensures { IsPush T.asked (push_of algorithm name.now file.now chunk tries) transport.old transport.new result }
+    ensures { IsPush T.asked (push_of algorithm name.now file.now chunk tries) transport.old
+        transport.new result }
 {
     let digest = BlobDigest::of(algorithm, file);
     push_under(alloc, transport, file, name, chunk, tries, digest)
 }
 
-/// Pushes a file of at most 2^40 bytes under a name and a digest, which should be the file's, in chunks of at most `chunk`
-/// bytes (1 to 2^31), and answers how that ended. The transport is asked what one run of the pusher asks, and nothing else.
-/// `GaveUp` comes with the reason of that run's end, `NoMemory` only where a growth was refused.
+/// Pushes a file of at most 2^40 bytes under a name and a digest, which should be the file's, in chunks of at most
+/// `chunk` bytes (1 to 2^31), and answers how that ended. The transport is asked what one run of the pusher asks, and
+/// nothing else. `GaveUp` comes with the reason of that run's end, `NoMemory` only where a growth was refused.
 pub fn push_under<T: Transport>(
     alloc: Global,
     transport: &mut T,
@@ -93,7 +95,8 @@ pub fn push_under<T: Transport>(
     requires size { length file.now ≤ 2 ^ 40 }
     requires chunk { (1 ≤ chunk) × (chunk ≤ 2 ^ 31) }
     requires tries { tries ≤ 1000 }
-    ensures { IsPush T.asked (push_under digest name.now file.now chunk tries) transport.old transport.new result }
+    ensures { IsPush T.asked (push_under digest name.now file.now chunk tries) transport.old
+        transport.new result }
 {
     let Ok(own) = name.copy(alloc) else {
         return Err(PushFault::NoMemory);
@@ -117,8 +120,8 @@ pub fn push_under<T: Transport>(
     }
 }
 
-/// Asks what a pusher asks, with the name, the digest and the bytes of the file, which are lent. An error is out of memory for a
-/// copy of the name, or of the bytes where the transport wants one; nothing was asked then.
+/// Asks what a pusher asks, with the name, the digest and the bytes of the file, which are lent. An error is out of
+/// memory for a copy of the name, or of the bytes where the transport wants one; nothing was asked then.
 fn ask_once<T: Transport>(
     alloc: Global,
     transport: &mut T,
@@ -128,7 +131,8 @@ fn ask_once<T: Transport>(
     ask: PushAsk,
 ) -> Result<Option<Heard>, AllocError>
     requires { IsAskWithin (length file.now) ask }
-    ensures asked { IfOk result (λ heard. T.asked transport.old (request_of name.now digest file.now ask) heard transport.new) }
+    ensures asked { IfOk result (λ heard.
+        T.asked transport.old (request_of name.now digest file.now ask) heard transport.new) }
     ensures unasked { OnErr result (transport.new ≡ transport.old) }
 {
     match ask {

@@ -1,5 +1,5 @@
-//! A service behind a network that loses requests and replies, beside other clients: the world in which the promise of a
-//! push is stated.
+//! A service behind a network that loses requests and replies, beside other clients: the world in which the promise of
+//! a push is stated.
 ghost use Rattle.std.specs.Prelude.{◌≡◌};
 ghost use Rattle.std.specs.Prelude.{Option, length};
 ghost use Rattle.upload_service.specs.declared.ask.Ask.{Ask};
@@ -37,8 +37,9 @@ enum Fate {
     NotDelivered,
 }
 
-/// A service behind a network that loses requests and replies, as a list of events says, beside other clients. Each request
-/// takes the events in front of it, and then one that says what becomes of it; when the events are used up, it is delivered.
+/// A service behind a network that loses requests and replies, as a list of events says, beside other clients. Each
+/// request takes the events in front of it, and then one that says what becomes of it; when the events are used up, it
+/// is delivered.
 #[derive(Drop)]
 pub struct LossyWorld {
     alloc: Global,
@@ -57,7 +58,12 @@ impl Model for LossyWorld {
 
     ghost coded = { world_code };
 
-    ghost view = { λ w. record { service = w.service; secret = w.secret; now = w.now; events = into_iter_items w.events } };
+    ghost view = { λ w. record {
+      service = w.service;
+      secret = w.secret;
+      now = w.now;
+      events = into_iter_items w.events;
+    } };
 }
 
 /// Serves a request whose answer nobody hears.
@@ -75,7 +81,8 @@ fn reply(
     secret: [u8; 12],
     now: u64,
 ) -> Option<Heard>
-    ensures { (answer : Answer) × Turn service.old ask secret now answer service.new × Reaches answer result }
+    ensures { (answer : Answer) × Turn service.old ask secret now answer service.new
+        × Reaches answer result }
 {
     let answer = service.step(ask, secret, now);
     heard_of(alloc, &answer).ok()
@@ -88,8 +95,8 @@ fn is_secret(secret: &[u8])
 {}
 
 impl LossyWorld {
-    /// A world of this service, whose turns have this secret and come at this moment in seconds until time passes. It takes
-    /// no memory; the allocator is for the replies to come.
+    /// A world of this service, whose turns have this secret and come at this moment in seconds until time passes. It
+    /// takes no memory; the allocator is for the replies to come.
     pub fn new(
         alloc: Global,
         service: Service,
@@ -97,7 +104,8 @@ impl LossyWorld {
         now: u64,
         events: Vec<Event>,
     ) -> LossyWorld
-        ensures value { result ≡ record { service = service; secret = secret; now = now; events = events.items } }
+        ensures value { result
+            ≡ record { service = service; secret = secret; now = now; events = events.items } }
         ensures lawful { IsLawfulWorld result }
     {
         // for their clauses: a service that is held is lawful, and the secret's bytes are bytes
@@ -121,7 +129,8 @@ impl LossyWorld {
 
     /// Takes what stands in front of the next request, and then what becomes of that.
     fn next_fate(&mut self) -> Fate
-        ensures { (ask : Ask) (heard : Option Heard) (new : World) → Meets result self.new ask heard new → Asked self.old ask heard new }
+        ensures { (ask : Ask) (heard : Option Heard) (new : World)
+            → Meets result self.new ask heard new → Asked self.old ask heard new }
     {
         while let Some(event) = self.events.next() {
             match event {

@@ -7,7 +7,8 @@ pub asks-init : goal.asks-init
 asks-init g c = started _ _ _ _ _ _ c.in-Ok.ensures refl c.new-pusher.ensures
 
 pub returns-in-Done : goal.returns-in-Done
-returns-in-Done g c = ended _ _ _ _ _ _ c.asks.invariant (step_says c.asks.pusher.plan c.asks.pusher.stand.phase _ c.in-Done.ensures.step)
+returns-in-Done g c =
+    ended _ _ _ _ _ _ c.asks.invariant (step_says c.asks.pusher.plan c.asks.pusher.stand.phase _ c.in-Done.ensures.step)
 
 pub ask_once-requires : goal.ask_once-requires
 ask_once-requires g c = within_file _ _ _ _ _ _ c.asks.invariant c.in-Ask.ensures.within
@@ -24,4 +25,5 @@ asks-smaller g c =
 pub asks-preserved : goal.asks-preserved
 asks-preserved g c =
     moved _ _ _ _ _ _ _ _ c.in-Ok-ask_once.heard c.asks.invariant c.in-Ask.ensures.step
-    (sent g.T.Transport.asked (push_under c.args.digest c.args.name.now c.args.file.now c.args.chunk c.args.tries) _ _ c.args.digest c.in-Ask.ask c.in-Ok-ask_once.heard refl c.in-Ok-ask_once.ensures.asked) c.heard.ensures
+    (sent g.T.Transport.asked (push_under c.args.digest c.args.name.now c.args.file.now c.args.chunk c.args.tries) _ _
+    c.args.digest c.in-Ask.ask c.in-Ok-ask_once.heard refl c.in-Ok-ask_once.ensures.asked) c.heard.ensures

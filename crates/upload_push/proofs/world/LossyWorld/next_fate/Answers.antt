@@ -7,10 +7,13 @@ use Rattle.upload_push.proofs.world.LossyWorld.next_fate.Goals as goal
 pub loop-event-preserved-in-Other : goal.loop-event-preserved-in-Other
 loop-event-preserved-in-Other c = λ ask heard new later.
     c.loop-event.invariant ask heard new
-    (other_in_front _ _ _ _ _ _ _ (first_left _ _ _ _ c.next.ensures.items (c.in-Some.is ∙ ap (λ (e : Event). Some e) c.in-Other.is)) c.serve.ensures ask heard new later)
+    (other_in_front _ _ _ _ _ _ _ (first_left _ _ _ _ c.next.ensures.items
+    (c.in-Some.is ∙ ap (λ (e : Event). Some e) c.in-Other.is)) c.serve.ensures ask heard new later)
 
 pub returns : goal.returns
 returns c = λ ask heard new met.
-    let none : length c.next.new.self.rest.items ≡ 0 = sym c.next.new.self.rest.ok.0 ∙ (nothing_left c.loop-event.self-inside.events c.next.new.self c.next.result c.next.ensures.cases c.in_default.is) in
+    let none : length c.next.new.self.rest.items ≡ 0 =
+    sym c.next.new.self.rest.ok.0 ∙ (nothing_left c.loop-event.self-inside.events c.next.new.self c.next.result
+    c.next.ensures.cases c.in_default.is) in
     c.loop-event.invariant ask heard new
     (nothing_in_front _ _ _ _ _ (all_left _ _ _ c.next.ensures.items c.in_default.is none) none ask heard new met)

@@ -7,4 +7,5 @@ returns-in-ReplyLost c = c.next_fate.ensures _ _ _
 
 pub returns-in-Delivered : goal.returns-in-Delivered
 returns-in-Delivered c = c.next_fate.ensures _ _ _
-    (rw (c.in-Delivered.is, ← c.self.view_is) (c.reply.ensures.0, c.reply.new.service, c.reply.ensures.1, c.reply.ensures.2, refl))
+    (rw (c.in-Delivered.is, ← c.self.view_is)
+    (c.reply.ensures.0, c.reply.new.service, c.reply.ensures.1, c.reply.ensures.2, refl))
