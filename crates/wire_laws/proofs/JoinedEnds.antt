@@ -1,5 +1,7 @@
 -- What a client asked and heard over a connection is what a worker read and answered on it.
-use Rattle.std.proofs.Common.{◌≡◌, ◌≢◌, ℕ, ◌≤◌, Bool, true, false, List, [], ◌∷◌, ◌++◌, length, map, refl, sym, ap, subst, ◌∙◌, arith, append-nil, append_assoc, length-append, inl, inr, Option, Some, None, Ok, Err, nat_lt}
+use Rattle.std.proofs.Common.{◌≡◌, ◌≢◌, ℕ, ◌≤◌, Bool, true, false, List, [], ◌∷◌, ◌++◌, length, map, refl, sym, ap}
+use Rattle.std.proofs.Common.{subst, ◌∙◌, arith, append-nil, append_assoc, length-append, inl, inr, Option, Some, None}
+use Rattle.std.proofs.Common.{Ok, Err, nat_lt}
 use Rattle.std.specs.Prelude.{Result, ⊤, is_err, not, ◌&&◌, ◌==◌, if◌then◌else◌}
 use Rattle.std.specs.List.{AllByRecursion, flat_map}
 use Rattle.std.specs.Result.{result_ok}
@@ -13,7 +15,8 @@ use Rattle.http_wire.specs.declared.fault.Bad.{Bad}
 use Rattle.http_wire.proofs.HeadLaws.{request_ends, response_ends}
 use Rattle.upload_service.specs.declared.ask.Ask.{Ask}
 use Rattle.upload_service.specs.declared.answer.Answer.{Answer}
-use Rattle.upload_service.specs.declared.answer.Answer.TheVariants.{Base, Blob, Begun, Stored, Taken, Standing, Misplaced, Refused, NoMemory}
+use Rattle.upload_service.specs.declared.answer.Answer.TheVariants.{Base, Blob, Begun, Stored, Taken, Standing}
+use Rattle.upload_service.specs.declared.answer.Answer.TheVariants.{Misplaced, Refused, NoMemory}
 use Rattle.http_wire.specs.States.{SourceState, SinkState}
 use Rattle.http_wire.specs.Writing.{Wrote}
 use Rattle.http_wire.specs.ResponseBody.{IsBody}
@@ -21,25 +24,30 @@ use Rattle.http_wire.specs.declared.fault.Bad.TheVariants.{Head}
 use Rattle.http_wire.specs.declared.responses.framing.ResponseFraming.{ResponseFraming}
 use Rattle.http_wire.specs.declared.responses.framing.ResponseFraming.TheVariants.{Length, ToEnd}
 use Rattle.http_wire.specs.declared.writing.WriteFault.{WriteFault}
-use Rattle.upload_wire.specs.Conversation.{Moves, Exchange, IsKept, IsRead, EndsWith, last_style, messages, replies, stand}
+use Rattle.upload_wire.specs.Conversation.{Moves, Exchange, IsKept, IsRead, EndsWith, last_style, messages, replies}
+use Rattle.upload_wire.specs.Conversation.{stand}
 use Rattle.upload_wire.specs.ConnectionRuns.{answered, answered_last, unanswered, unanswered_last}
 use Rattle.upload_wire.specs.ReplyText.{reply}
 use Rattle.upload_wire.specs.RequestText.{IsBad, IsRequest}
 use Rattle.upload_wire.specs.Unambiguous.{request, bad, nothing}
 use Rattle.upload_wire.specs.declared.request.Style.{Style}
 use Rattle.upload_wire.specs.declared.connection.ConnEnd.{ConnEnd}
-use Rattle.upload_wire.specs.declared.connection.ConnEnd.TheVariants.{Clean, AfterClose, AfterBad, TooMany, DeskGone, Fault}
+use Rattle.upload_wire.specs.declared.connection.ConnEnd.TheVariants.{Clean, AfterClose, AfterBad, TooMany, DeskGone}
+use Rattle.upload_wire.specs.declared.connection.ConnEnd.TheVariants.{Fault}
 use Rattle.upload_wire.specs.declared.connection.ConnFault.TheVariants as Conn
 use Rattle.upload_wire.proofs.UnambiguousRequests.{requests_are_unambiguous}
 use Rattle.upload_client.specs.AskText.{ask_text, wants_head}
-use Rattle.upload_client.specs.AnswerText.{AnswerReaderState, TellsHeard, HasOpenBody, HasLongBody, ReadsFramed, code_of, max_answer}
+use Rattle.upload_client.specs.AnswerText.{AnswerReaderState, TellsHeard, HasOpenBody, HasLongBody, ReadsFramed}
+use Rattle.upload_client.specs.AnswerText.{code_of, max_answer}
 use Rattle.upload_client.specs.Heard.{bare, reply_heard}
-use Rattle.upload_client.specs.TransportText.{WireState, AsksWhere, Exchanges, HearsBehind, ReadsReply, has_body, is_refusal, refusal_in, stays_open}
+use Rattle.upload_client.specs.TransportText.{WireState, AsksWhere, Exchanges, HearsBehind, ReadsReply, has_body}
+use Rattle.upload_client.specs.TransportText.{is_refusal, refusal_in, stays_open}
 use Rattle.upload_client.specs.UnambiguousReplies.{heard, too_large}
 use Rattle.upload_client.specs.declared.heard.Heard.{Heard}
 use Rattle.upload_client.specs.declared.heard.HeardFault.{HeardFault}
 use Rattle.upload_client.specs.declared.heard.HeardFault.TheVariants as Reply
-use Rattle.wire_laws.specs.Joined.{Asked, AsksInTurn, IsPrefix, IsShort, IsAudible, IsOneOf, Says, AreUnanswered, AreJoined, ConnectionsAreJoined}
+use Rattle.wire_laws.specs.Joined.{Asked, AsksInTurn, IsPrefix, IsShort, IsAudible, IsOneOf, Says, AreUnanswered}
+use Rattle.wire_laws.specs.Joined.{AreJoined, ConnectionsAreJoined}
 use Rattle.wire_laws.specs.WrittenAsks.{written_style}
 use Rattle.wire_laws.specs.WrittenExchanges.{MayBeAsked}
 use Rattle.wire_laws.specs.WrittenReplies.{FitsMethod, HasLawfulValues, IsReadOnlyAs, blob_read, read_whole, reply_read}
@@ -68,14 +76,21 @@ record SameRequest (a b : Ask) (s t : Style) (m n r q : List ℕ) : Type 0 where
   style : s ≡ t
   rest : r ≡ q
 
-same_request : (max : ℕ) (a b : Ask) (s t : Style) (m n r q : List ℕ) → IsRequest max m a s → IsRequest max n b t → m ++ r ≡ n ++ q → SameRequest a b s t m n r q
+same_request : (max : ℕ) (a b : Ask) (s t : Style) (m n r q : List ℕ) → IsRequest max m a s → IsRequest max n b t
+    → m ++ r ≡ n ++ q → SameRequest a b s t m n r q
 same_request max a b s t m n r q x y e =
     let same = requests_are_unambiguous.one max (m ++ r) (request a s r) (request b t q)
-    (record { message = m; cut = refl; request = x }) (record { message = n; cut = e; request = y }) (no_head a s r) (no_head b t q) in
+    (record { message = m; cut = refl; request = x }) (record { message = n; cut = e; request = y }) (no_head a s r)
+    (no_head b t q) in
     let rests : r ≡ q = cc in
     let asks : a ≡ b = cc in
     let styles : s ≡ t = cc in
-    record { message = append_cancel_right m n q (ap (λ x. m ++ x) (sym rests) ∙ e); ask = asks; style = styles; rest = rests }
+    record {
+      message = append_cancel_right m n q (ap (λ x. m ++ x) (sym rests) ∙ e);
+      ask = asks;
+      style = styles;
+      rest = rests;
+    }
 
 no_empty_request : (max : ℕ) (m : List ℕ) (ask : Ask) (style : Style) → IsRequest max m ask style → m ≡ [] → ⊥
 no_empty_request max m ask style is none =
@@ -120,7 +135,9 @@ none_read : (max : ℕ) (written : List ℕ) (ts : List Turn) (rest back : List 
     → written ≡ (written ++ (all_read ts ++ rest)) ++ back → ts ≡ []
 none_read max written [] rest back kept e = refl
 none_read max written (t ∷ ts) rest back kept e =
-    let more = none_added written ((all_read (t ∷ ts) ++ rest) ++ back) (e ∙ append_assoc written (all_read (t ∷ ts) ++ rest) back) in
+    let more =
+    none_added written ((all_read (t ∷ ts) ++ rest) ++ back)
+    (e ∙ append_assoc written (all_read (t ∷ ts) ++ rest) back) in
     let all = none_before (all_read (t ∷ ts)) rest (none_before (all_read (t ∷ ts) ++ rest) back more) in
     absurd (no_empty_request max t.0.message t.0.ask t.0.style kept.0 (none_before t.0.message (all_read ts) all))
 
@@ -128,7 +145,9 @@ none_unanswered : (max : ℕ) (written : List ℕ) (us : List Unanswered) (rest 
     → written ≡ (written ++ (unanswered_read us ++ rest)) ++ back → us ≡ []
 none_unanswered max written [] rest back read e = refl
 none_unanswered max written (u ∷ us) rest back read e =
-    let more = none_added written ((unanswered_read (u ∷ us) ++ rest) ++ back) (e ∙ append_assoc written (unanswered_read (u ∷ us) ++ rest) back) in
+    let more =
+    none_added written ((unanswered_read (u ∷ us) ++ rest) ++ back)
+    (e ∙ append_assoc written (unanswered_read (u ∷ us) ++ rest) back) in
     let all = none_before (unanswered_read (u ∷ us)) rest (none_before (unanswered_read (u ∷ us) ++ rest) back more) in
     absurd (no_empty_request max u.message u.ask u.style read.0 (none_before u.message (unanswered_read us) all))
 
@@ -138,10 +157,12 @@ none_unanswered max written (u ∷ us) rest back read e =
 abbrev said : Answer → Option (List ℕ) → Heard
 said answer code = record (reply_heard answer) { code = code }
 
-blob_said : (content : List ℕ) (keep : Bool) (rest : List ℕ) → length content ≤ max_answer → blob_read content keep rest ≡ heard (record (bare 200) { code = code_of content }) keep rest
+blob_said : (content : List ℕ) (keep : Bool) (rest : List ℕ) → length content ≤ max_answer
+    → blob_read content keep rest ≡ heard (record (bare 200) { code = code_of content }) keep rest
 blob_said content keep rest short = rw (le-ltb max_answer (length content) short) refl
 
-whole_said : (answer : Answer) (keep : Bool) (rest : List ℕ) → IsShort answer → (code : Option (List ℕ)) × (read_whole answer keep rest ≡ heard (said answer code) keep rest)
+whole_said : (answer : Answer) (keep : Bool) (rest : List ℕ) → IsShort answer
+    → (code : Option (List ℕ)) × (read_whole answer keep rest ≡ heard (said answer code) keep rest)
 whole_said Base keep rest short = (None, refl)
 whole_said (Blob digest size (Some content)) keep rest short = (code_of content, blob_said content keep rest short)
 whole_said (Blob digest size None) keep rest short = (None, refl)
@@ -154,7 +175,8 @@ whole_said (Refused refusal) keep rest short = ((reply_heard (Refused refusal)).
 whole_said NoMemory keep rest short = (None, refl)
 
 read_as_said : (answer : Answer) (head keep : Bool) (rest : List ℕ) → IsShort answer
-    → (code : Option (List ℕ)) × (reply_read answer (record { head = head; keep = keep }) rest ≡ heard (said answer code) keep rest)
+    → (code : Option (List ℕ))
+    × (reply_read answer (record { head = head; keep = keep }) rest ≡ heard (said answer code) keep rest)
 read_as_said answer true keep rest short = (None, refl)
 read_as_said answer false keep rest short = whole_said answer keep rest short
 
@@ -165,16 +187,24 @@ no_empty_head text h rest reads none =
     let one = ap length ends.1 in
     absurd (omega (arith, all, one, length-append (print_request h) rest, length-append ends.0 (line_feed ∷ [])))
 
-no_empty_reply : (head_only : Bool) (text rest : List ℕ) (new : SourceState) (what : Heard) (keep : Bool) → TellsHeard head_only text rest new what keep → text ≡ [] → ⊥
+no_empty_reply : (head_only : Bool) (text rest : List ℕ) (new : SourceState) (what : Heard) (keep : Bool)
+    → TellsHeard head_only text rest new what keep → text ≡ [] → ⊥
 no_empty_reply head_only text rest new what keep t none =
     let all = ap length (sym none ∙ t.whole.framed.reads.reads.1) in
     let ends = response_ends t.head in
     let one = ap length ends.1 in
-    absurd (omega (arith, all, one, length-append (print_response t.head) (t.body ++ rest), length-append ends.0 (line_feed ∷ [])))
+    absurd (omega (
+      arith,
+      all,
+      one,
+      length-append (print_response t.head) (t.body ++ rest),
+      length-append ends.0 (line_feed ∷ []),
+    ))
 
 -- the same reply with more behind it
-more_behind : (head_only : Bool) (text rest more : List ℕ) (new : SourceState) (what : Heard) (keep : Bool) (t : TellsHeard head_only text rest new what keep) (n : ℕ)
-    → t.whole.framing ≡ Length n → TellsHeard head_only (text ++ more) (rest ++ more) new what keep
+more_behind : (head_only : Bool) (text rest more : List ℕ) (new : SourceState) (what : Heard) (keep : Bool)
+    (t : TellsHeard head_only text rest new what keep) (n : ℕ) → t.whole.framing ≡ Length n
+    → TellsHeard head_only (text ++ more) (rest ++ more) new what keep
 more_behind head_only text rest more new what keep t n sized =
     record {
       head = t.head;
@@ -185,7 +215,8 @@ more_behind head_only text rest more new what keep t n sized =
           reads = record {
             reads = (
               t.whole.framed.reads.reads.0,
-              ap (λ x. x ++ more) t.whole.framed.reads.reads.1 ∙ append_assoc (print_response t.head) (t.body ++ rest) more
+              ap (λ x. x ++ more) t.whole.framed.reads.reads.1
+                  ∙ append_assoc (print_response t.head) (t.body ++ rest) more
                   ∙ ap (λ x. print_response t.head ++ x) (append_assoc t.body rest more),
             );
             short = t.whole.framed.reads.short;
@@ -193,7 +224,9 @@ more_behind head_only text rest more new what keep t n sized =
           };
           framed = t.whole.framed.framed;
         };
-        is_body = subst (λ f. IsBody f t.body (rest ++ more) new) (sym sized) (subst (λ f. IsBody f t.body rest new) sized t.whole.is_body);
+        is_body =
+            subst (λ f. IsBody f t.body (rest ++ more) new) (sym sized)
+            (subst (λ f. IsBody f t.body rest new) sized t.whole.is_body);
       };
       says = t.says;
       keeps = t.keeps;
@@ -205,7 +238,8 @@ record IsHeardAs (answer : Answer) (what : Heard) (behind rest : List ℕ) : Typ
   is : what ≡ said answer code
   left : behind ≡ rest
 
-module _ (answer : Answer) (head keep : Bool) (rest : List ℕ) (values : HasLawfulValues answer) (fits : FitsMethod answer head) (short : IsShort answer) where
+module _ (answer : Answer) (head keep : Bool) (rest : List ℕ) (values : HasLawfulValues answer)
+    (fits : FitsMethod answer head) (short : IsShort answer) where
   style : Style
   style = record { head = head; keep = keep }
 
@@ -213,32 +247,42 @@ module _ (answer : Answer) (head keep : Bool) (rest : List ℕ) (values : HasLaw
   written_text = reply answer style ++ rest
 
   -- it is read as that, and in no other way
-  read_so : (new : SourceState) → (code : Option (List ℕ)) × IsReadOnlyAs head written_text new (heard (said answer code) keep rest)
+  read_so : (new : SourceState)
+      → (code : Option (List ℕ)) × IsReadOnlyAs head written_text new (heard (said answer code) keep rest)
   unfolding written_text style
   read_so new =
-      let as_said = read_as_said answer head keep rest short in
-      (as_said.0, subst (IsReadOnlyAs head written_text new) as_said.1 (replies_heard answer style rest new values fits))
+      let as_said = read_as_said answer head keep rest short in (
+        as_said.0,
+        subst (IsReadOnlyAs head written_text new) as_said.1 (replies_heard answer style rest new values fits),
+      )
 
-  by_length : (g behind more : List ℕ) (new : SourceState) (what : Heard) (goes_on : Bool) (t : TellsHeard head g behind new what goes_on) (n : ℕ) → t.whole.framing ≡ Length n
-      → g ++ more ≡ written_text → IsHeardAs answer what (behind ++ more) rest
+  by_length : (g behind more : List ℕ) (new : SourceState) (what : Heard) (goes_on : Bool)
+      (t : TellsHeard head g behind new what goes_on) (n : ℕ) → t.whole.framing ≡ Length n → g ++ more ≡ written_text
+      → IsHeardAs answer what (behind ++ more) rest
   by_length g behind more new what goes_on t n sized e =
       let only = read_so new in
       let longer = more_behind head g behind more new what goes_on t n sized in
-      let same = only.1.alone (heard what goes_on (behind ++ more)) (subst (λ x. TellsHeard head x (behind ++ more) new what goes_on) e longer) in
+      let same =
+      only.1.alone (heard what goes_on (behind ++ more))
+      (subst (λ x. TellsHeard head x (behind ++ more) new what goes_on) e longer) in
       let whats : what ≡ said answer only.0 = cc in
       let lefts : behind ++ more ≡ rest = cc in
       record { code = only.0; is = whats; left = lefts }
 
   -- no such reply goes to the end of the input
-  not_to_end : {A : Type 0} (g behind more : List ℕ) (new : SourceState) (what : Heard) (goes_on : Bool) (t : TellsHeard head g behind new what goes_on) (most : ℕ)
-      → t.whole.framing ≡ ToEnd most → g ++ more ≡ written_text → A
+  not_to_end : {A : Type 0} (g behind more : List ℕ) (new : SourceState) (what : Heard) (goes_on : Bool)
+      (t : TellsHeard head g behind new what goes_on) (most : ℕ) → t.whole.framing ≡ ToEnd most
+      → g ++ more ≡ written_text → A
   not_to_end {A} g behind more new what goes_on t most to_end e =
       let only = read_so new in
       let all = (t.body ++ behind) ++ more in
       let read = t.whole.framed.reads in
       let framed : ReadsFramed head written_text (Ok (ToEnd most)) t.head all = record {
         reads = record {
-          reads = (read.reads.0, sym e ∙ ap (λ x. x ++ more) read.reads.1 ∙ append_assoc (print_response t.head) (t.body ++ behind) more);
+          reads = (
+            read.reads.0,
+            sym e ∙ ap (λ x. x ++ more) read.reads.1 ∙ append_assoc (print_response t.head) (t.body ++ behind) more,
+          );
           short = read.short;
           few = read.few;
         };
@@ -246,20 +290,35 @@ module _ (answer : Answer) (head keep : Bool) (rest : List ℕ) (values : HasLaw
       } in
       elim (nat_lt most (length all)) as (λ b. nat_lt most (length all) ≡ b → A) [
         | true ↦ λ over.
-            let long : HasLongBody head written_text = record { head = t.head; rest = all; most = most; framed = framed; long = ltb-true most (length all) over } in
+            let long : HasLongBody head written_text = record {
+              head = t.head;
+              rest = all;
+              most = most;
+              framed = framed;
+              long = ltb-true most (length all) over;
+            } in
             absurd (cc (only.1.alone too_large (inr (inr long))))
         | false ↦ λ under.
-            let body : HasOpenBody head written_text = record { head = t.head; rest = all; most = most; framed = framed; small = ltb-false most (length all) under } in
+            let body : HasOpenBody head written_text = record {
+              head = t.head;
+              rest = all;
+              most = most;
+              framed = framed;
+              small = ltb-false most (length all) under;
+            } in
             absurd (cc (only.1.gives [] (Err Reply.Read) goes_on (inr (inr body)) (λ x. absurd (cc x))).0)
       ] refl
 
-  by_framing : (g behind more : List ℕ) (new : SourceState) (what : Heard) (goes_on : Bool) (t : TellsHeard head g behind new what goes_on) (framing : ResponseFraming) → t.whole.framing ≡ framing
+  by_framing : (g behind more : List ℕ) (new : SourceState) (what : Heard) (goes_on : Bool)
+      (t : TellsHeard head g behind new what goes_on) (framing : ResponseFraming) → t.whole.framing ≡ framing
       → g ++ more ≡ written_text → IsHeardAs answer what (behind ++ more) rest
   by_framing g behind more new what goes_on t (Length n) is e = by_length g behind more new what goes_on t n is e
   by_framing g behind more new what goes_on t (ToEnd most) is e = not_to_end g behind more new what goes_on t most is e
 
-  heard_as : (g behind more : List ℕ) (new : SourceState) (what : Heard) (goes_on : Bool) → TellsHeard head g behind new what goes_on
-      → g ++ more ≡ reply answer (record { head = head; keep = keep }) ++ rest → IsHeardAs answer what (behind ++ more) rest
+  heard_as : (g behind more : List ℕ) (new : SourceState) (what : Heard) (goes_on : Bool)
+      → TellsHeard head g behind new what goes_on
+      → g ++ more ≡ reply answer (record { head = head; keep = keep }) ++ rest
+      → IsHeardAs answer what (behind ++ more) rest
   unfolding written_text style
   heard_as g behind more new what goes_on t e = by_framing g behind more new what goes_on t t.whole.framing refl e
 
@@ -273,7 +332,8 @@ record Grows (old new : WireState) : Type 0 where
   given : new.reader.source.given ≡ old.reader.source.given ++ read
   host : new.host ≡ old.host
 
-grows_none : (old new : WireState) → new.writer ≡ old.writer → new.reader ≡ old.reader → new.host ≡ old.host → Grows old new
+grows_none : (old new : WireState) → new.writer ≡ old.writer → new.reader ≡ old.reader
+    → new.host ≡ old.host → Grows old new
 grows_none old new w r h = record {
   written = [];
   read = [];
@@ -291,15 +351,18 @@ grows_twice old mid new a b = record {
   host = b.host ∙ a.host;
 }
 
-wrote_front : (written : Result ⊤ WriteFault) (old new : SinkState) (whole : List ℕ) → Wrote old new whole written → (front : List ℕ) × (new.taken ≡ old.taken ++ front)
+wrote_front : (written : Result ⊤ WriteFault) (old new : SinkState) (whole : List ℕ) → Wrote old new whole written
+    → (front : List ℕ) × (new.taken ≡ old.taken ++ front)
 wrote_front (Ok u) old new whole w = (whole, w.takes.told)
 wrote_front (Err fault) old new whole w = (w.front, w.takes.told)
 
-read_front : (written : Result ⊤ WriteFault) (body head_only : Bool) (old new : AnswerReaderState) (told : Option Heard) (broken : Bool) → HearsBehind written body head_only old told new broken
+read_front : (written : Result ⊤ WriteFault) (body head_only : Bool) (old new : AnswerReaderState) (told : Option Heard)
+    (broken : Bool) → HearsBehind written body head_only old told new broken
     → (given : List ℕ) × (new.source.given ≡ old.source.given ++ given)
 read_front (Ok u) body head_only old new told broken h = (h.1.read.given, h.1.read.gives.told)
 read_front (Err fault) true head_only old new told broken h = (h.1.read.given, h.1.read.gives.told)
-read_front (Err fault) false head_only old new told broken h = ([], ap (λ r. r.source.given) h.1 ∙ sym (append-nil old.source.given))
+read_front (Err fault) false head_only old new told broken h =
+    ([], ap (λ r. r.source.given) h.1 ∙ sym (append-nil old.source.given))
 
 exchange_grows : (old new : WireState) (ask : Ask) (told : Option Heard) → Exchanges old ask told new → Grows old new
 exchange_grows old new ask told x =
@@ -307,20 +370,26 @@ exchange_grows old new ask told x =
     let r = read_front x.written (has_body ask) (wants_head ask) old.reader new.reader told new.broken x.hears in
     record { written = w.0; read = r.0; taken = w.1; given = r.1; host = x.same_host }
 
-one_grows : (may_ask : Bool) (old new : WireState) (ask : Ask) (told : Option Heard) → AsksWhere may_ask old ask told new → Grows old new
+one_grows : (may_ask : Bool) (old new : WireState) (ask : Ask) (told : Option Heard)
+    → AsksWhere may_ask old ask told new → Grows old new
 one_grows true old new ask told x = exchange_grows old new ask told x
-one_grows false old new ask told x = grows_none old new (ap (λ w. w.writer) x.1) (ap (λ w. w.reader) x.1) (ap (λ w. w.host) x.1)
+one_grows false old new ask told x =
+    grows_none old new (ap (λ w. w.writer) x.1) (ap (λ w. w.reader) x.1) (ap (λ w. w.host) x.1)
 
 all_grow : (old new : WireState) (xs : List Asked) → AsksInTurn old xs new → Grows old new
-all_grow old new [] turn = grows_none old new (ap (λ w. w.writer) turn) (ap (λ w. w.reader) turn) (ap (λ w. w.host) turn)
-all_grow old new (x ∷ xs) turn = grows_twice old turn.0 new (one_grows (stays_open old) old turn.0 x.ask x.heard turn.1) (all_grow turn.0 new xs turn.2)
+all_grow old new [] turn =
+    grows_none old new (ap (λ w. w.writer) turn) (ap (λ w. w.reader) turn) (ap (λ w. w.host) turn)
+all_grow old new (x ∷ xs) turn =
+    grows_twice old turn.0 new (one_grows (stays_open old) old turn.0 x.ask x.heard turn.1)
+    (all_grow turn.0 new xs turn.2)
 
 -- a transport over which no more can be asked: nothing is written, read or heard
 record StaysClosed (old new : WireState) (xs : List Asked) : Type 0 where
   unheard : AllByRecursion (λ x. x.heard ≡ None) xs
   writer : new.writer ≡ old.writer
 
-stays_closed : (old new : WireState) (xs : List Asked) → stays_open old ≡ false → AsksInTurn old xs new → StaysClosed old new xs
+stays_closed : (old new : WireState) (xs : List Asked) → stays_open old ≡ false → AsksInTurn old xs new
+    → StaysClosed old new xs
 stays_closed old new [] closed turn = record { unheard = tt; writer = ap (λ w. w.writer) turn }
 stays_closed old new (x ∷ xs) closed turn =
     let here = subst (λ b. AsksWhere b old x.ask x.heard turn.0) closed turn.1 in
@@ -328,17 +397,22 @@ stays_closed old new (x ∷ xs) closed turn =
     record { unheard = (here.0, more.unheard); writer = more.writer ∙ ap (λ w. w.writer) here.1 }
 
 -- nothing is heard where nothing was read
-none_heard : (reply : Result Heard HeardFault) (head_only : Bool) (old new : AnswerReaderState) (r : ReadsReply head_only old reply new) → old.held ≡ [] → r.read.given ≡ []
+none_heard : (reply : Result Heard HeardFault) (head_only : Bool) (old new : AnswerReaderState)
+    (r : ReadsReply head_only old reply new) → old.held ≡ [] → r.read.given ≡ []
     → (result_ok reply ≡ None) × (refusal_in reply ≡ None)
 none_heard (Ok what) head_only old new r held none =
-    absurd (no_empty_reply head_only (old.held ++ r.read.given) new.held new.source what new.keep r.read.found (ap (λ x. x ++ r.read.given) held ∙ none))
+    absurd (no_empty_reply head_only (old.held ++ r.read.given) new.held new.source what new.keep r.read.found
+    (ap (λ x. x ++ r.read.given) held ∙ none))
 none_heard (Err fault) head_only old new r held none = (refl, refl)
 
-nothing_heard : (written : Result ⊤ WriteFault) (body head_only : Bool) (old new : AnswerReaderState) (told : Option Heard) (broken : Bool) (h : HearsBehind written body head_only old told new broken)
-    → old.held ≡ [] → (read_front written body head_only old new told broken h).0 ≡ [] → told ≡ None
+nothing_heard : (written : Result ⊤ WriteFault) (body head_only : Bool) (old new : AnswerReaderState)
+    (told : Option Heard) (broken : Bool) (h : HearsBehind written body head_only old told new broken) → old.held ≡ []
+    → (read_front written body head_only old new told broken h).0 ≡ [] → told ≡ None
 unfolding read_front
-nothing_heard (Ok u) body head_only old new told broken h held none = h.2 ∙ (none_heard h.0 head_only old new h.1 held none).0
-nothing_heard (Err fault) true head_only old new told broken h held none = h.2 ∙ (none_heard h.0 head_only old new h.1 held none).1
+nothing_heard (Ok u) body head_only old new told broken h held none =
+    h.2 ∙ (none_heard h.0 head_only old new h.1 held none).0
+nothing_heard (Err fault) true head_only old new told broken h held none =
+    h.2 ∙ (none_heard h.0 head_only old new h.1 held none).1
 nothing_heard (Err fault) false head_only old new told broken h held none = h.0
 
 -- where more can be asked no byte is held, and no fault broke it
@@ -348,28 +422,36 @@ and_true false b e = absurd (true≢false (sym e))
 
 none_held : (w : WireState) → stays_open w ≡ true → w.reader.held ≡ []
 none_held w is =
-    let held = (and_true w.reader.keep (length w.reader.held == 0) (and_true (not w.broken) (w.reader.keep && (length w.reader.held == 0)) is).1).1 in
+    let held =
+    (and_true w.reader.keep (length w.reader.held == 0)
+    (and_true (not w.broken) (w.reader.keep && (length w.reader.held == 0)) is).1).1 in
     nil_from_length w.reader.held (eqb-true (length w.reader.held) 0 held)
 
-unheard_one : (may_ask : Bool) (old new : WireState) (ask : Ask) (told : Option Heard) → stays_open old ≡ may_ask → (asked : AsksWhere may_ask old ask told new)
-    → (one_grows may_ask old new ask told asked).read ≡ [] → told ≡ None
+unheard_one : (may_ask : Bool) (old new : WireState) (ask : Ask) (told : Option Heard) → stays_open old ≡ may_ask
+    → (asked : AsksWhere may_ask old ask told new) → (one_grows may_ask old new ask told asked).read ≡ [] → told ≡ None
 unfolding one_grows exchange_grows
 unheard_one true old new ask told is asked none =
-    nothing_heard asked.written (has_body ask) (wants_head ask) old.reader new.reader told new.broken asked.hears (none_held old is) none
+    nothing_heard asked.written (has_body ask) (wants_head ask) old.reader new.reader told new.broken asked.hears
+    (none_held old is) none
 unheard_one false old new ask told is asked none = asked.0
 
 -- where nothing more was read nothing more was heard
-silent : (xs : List Asked) (old new : WireState) (more : List ℕ) → AsksInTurn old xs new → old.reader.source.given ≡ new.reader.source.given ++ more → AllByRecursion (λ x. x.heard ≡ None) xs
+silent : (xs : List Asked) (old new : WireState) (more : List ℕ) → AsksInTurn old xs new
+    → old.reader.source.given ≡ new.reader.source.given ++ more → AllByRecursion (λ x. x.heard ≡ None) xs
 silent [] old new more turn e = tt
 silent (x ∷ xs) old new more turn e =
     let here = one_grows (stays_open old) old turn.0 x.ask x.heard turn.1 in
     let later = all_grow turn.0 new xs turn.2 in
     let nothing_read = none_added old.reader.source.given (here.read ++ (later.read ++ more))
-    (e ∙ ap (λ t. t ++ more) later.given ∙ append_assoc turn.0.reader.source.given later.read more ∙ ap (λ t. t ++ (later.read ++ more)) here.given
+    (e ∙ ap (λ t. t ++ more) later.given ∙ append_assoc turn.0.reader.source.given later.read more
+    ∙ ap (λ t. t ++ (later.read ++ more)) here.given
     ∙ append_assoc old.reader.source.given here.read (later.read ++ more)) in
     let none_here : here.read ≡ [] = none_before here.read (later.read ++ more) nothing_read in
-    let same : turn.0.reader.source.given ≡ old.reader.source.given = here.given ∙ ap (λ t. old.reader.source.given ++ t) none_here ∙ append-nil old.reader.source.given in
-    (unheard_one (stays_open old) old turn.0 x.ask x.heard refl turn.1 none_here, silent xs turn.0 new more turn.2 (same ∙ e))
+    let same : turn.0.reader.source.given ≡ old.reader.source.given =
+    here.given ∙ ap (λ t. old.reader.source.given ++ t) none_here ∙ append-nil old.reader.source.given in (
+      unheard_one (stays_open old) old turn.0 x.ask x.heard refl turn.1 none_here,
+      silent xs turn.0 new more turn.2 (same ∙ e),
+    )
 
 -- ---- both ends
 
@@ -380,9 +462,11 @@ record IsAskRead (ask : Ask) (host message : List ℕ) (read : Ask) (style : Sty
   style_is : style ≡ written_style ask
   taken : new.taken ≡ old.taken ++ ask_text ask host
 
-ask_read : (written : Result ⊤ WriteFault) (max : ℕ) (ask : Ask) (host message : List ℕ) (read : Ask) (style : Style) (old new : SinkState) (more later : List ℕ) → MayBeAsked max ask host
-    → IsRequest max message read style → (w : Wrote old new (ask_text ask host) written) → (is_err written ≡ true → later ≡ [])
-    → message ++ more ≡ (wrote_front written old new (ask_text ask host) w).0 ++ later → IsAskRead ask host message read style old new
+ask_read : (written : Result ⊤ WriteFault) (max : ℕ) (ask : Ask) (host message : List ℕ) (read : Ask) (style : Style)
+    (old new : SinkState) (more later : List ℕ) → MayBeAsked max ask host → IsRequest max message read style
+    → (w : Wrote old new (ask_text ask host) written) → (is_err written ≡ true → later ≡ [])
+    → message ++ more ≡ (wrote_front written old new (ask_text ask host) w).0 ++ later
+    → IsAskRead ask host message read style old new
 unfolding wrote_front
 ask_read (Ok u) max ask host message read style old new more later may is w ends e =
     let asked = asks_read_back max ask host may.limit may.writable may.parts may.to_host may.short may.fits in
@@ -392,46 +476,66 @@ ask_read (Err fault) max ask host message read style old new more later may is w
     let asked = asks_read_back max ask host may.limit may.writable may.parts may.to_host may.short may.fits in
     let front_is : message ++ more ≡ w.front = e ∙ ap (λ t. w.front ++ t) (ends refl) ∙ append-nil w.front in
     let whole : message ++ (more ++ w.back) ≡ ask_text ask host ++ [] =
-    sym (append_assoc message more w.back) ∙ ap (λ t. t ++ w.back) front_is ∙ sym w.cut ∙ sym (append-nil (ask_text ask host)) in
-    let same = same_request max read ask style (written_style ask) message (ask_text ask host) (more ++ w.back) [] is asked whole in
+    sym (append_assoc message more w.back) ∙ ap (λ t. t ++ w.back) front_is ∙ sym w.cut
+    ∙ sym (append-nil (ask_text ask host)) in
+    let same =
+    same_request max read ask style (written_style ask) message (ask_text ask host)
+    (more ++ w.back) [] is asked whole in
     let none : more ≡ [] = none_before more w.back same.rest in
-    let all : w.front ≡ ask_text ask host = sym front_is ∙ ap (λ t. message ++ t) none ∙ append-nil message ∙ same.message in
-    record { message_is = same.message; ask_is = same.ask; style_is = same.style; taken = w.takes.told ∙ ap (λ t. old.taken ++ t) all }
+    let all : w.front ≡ ask_text ask host =
+    sym front_is ∙ ap (λ t. message ++ t) none ∙ append-nil message ∙ same.message in
+    record {
+      message_is = same.message;
+      ask_is = same.ask;
+      style_is = same.style;
+      taken = w.takes.told ∙ ap (λ t. old.taken ++ t) all;
+    }
 
 -- the style of a request decides how its reply is read
-reply_heard_in : (y : Exchange) (keep : Bool) (ask : Ask) → IsAudible y → y.style ≡ written_style ask → (g behind more replied : List ℕ) (new : SourceState) (what : Heard) (goes_on : Bool)
-    → TellsHeard (wants_head ask) g behind new what goes_on → g ++ more ≡ reply_of (y, keep) ++ replied → IsHeardAs y.answer what (behind ++ more) replied
+reply_heard_in : (y : Exchange) (keep : Bool) (ask : Ask) → IsAudible y → y.style ≡ written_style ask
+    → (g behind more replied : List ℕ) (new : SourceState) (what : Heard) (goes_on : Bool)
+    → TellsHeard (wants_head ask) g behind new what goes_on → g ++ more ≡ reply_of (y, keep) ++ replied
+    → IsHeardAs y.answer what (behind ++ more) replied
 reply_heard_in y keep ask audible style_is g behind more replied new what goes_on t e =
-    heard_as y.answer (wants_head ask) keep replied audible.values (subst (λ s. FitsMethod y.answer s.head) style_is audible.fits) audible.short g behind more new what goes_on t
+    heard_as y.answer (wants_head ask) keep replied audible.values
+    (subst (λ s. FitsMethod y.answer s.head) style_is audible.fits) audible.short g behind more new what goes_on t
     (e ∙ ap (λ s. reply y.answer (record { head = s.head; keep = keep }) ++ replied) style_is)
 
-refusal_says : (answer : Answer) (what : Heard) (refuses : Bool) (code : Option (List ℕ)) → what ≡ said answer code → Says answer (if refuses then Some what else None)
+refusal_says : (answer : Answer) (what : Heard) (refuses : Bool) (code : Option (List ℕ)) → what ≡ said answer code
+    → Says answer (if refuses then Some what else None)
 refusal_says answer what true code is = inr (code, ap Some is)
 refusal_says answer what false code is = inl refl
 
-module _ (y : Exchange) (keep : Bool) (ask : Ask) (audible : IsAudible y) (style_is : y.style ≡ written_style ask) (old new : AnswerReaderState) (held : old.held ≡ []) (later replied : List ℕ) where
+module _ (y : Exchange) (keep : Bool) (ask : Ask) (audible : IsAudible y) (style_is : y.style ≡ written_style ask)
+    (old new : AnswerReaderState) (held : old.held ≡ []) (later replied : List ℕ) where
   abbrev Whole : List ℕ → Type 0
   Whole given = given ++ later ≡ reply_of (y, keep) ++ replied
 
-  one_reply : (reply_read : Result Heard HeardFault) (r : ReadsReply (wants_head ask) old reply_read new) → Whole r.read.given
-      → Says y.answer (result_ok reply_read) × Says y.answer (refusal_in reply_read) × (is_err reply_read ≡ false → new.held ++ later ≡ replied)
+  one_reply : (reply_read : Result Heard HeardFault) (r : ReadsReply (wants_head ask) old reply_read new)
+      → Whole r.read.given → Says y.answer (result_ok reply_read) × Says y.answer (refusal_in reply_read)
+      × (is_err reply_read ≡ false → new.held ++ later ≡ replied)
   one_reply (Ok what) r e =
       let text_is : old.held ++ r.read.given ≡ r.read.given = ap (λ t. t ++ r.read.given) held in
       let told = subst (λ t. TellsHeard (wants_head ask) t new.held new.source what new.keep) text_is r.read.found in
-      let as_said = reply_heard_in y keep ask audible style_is r.read.given new.held later replied new.source what new.keep told e in (
+      let as_said =
+      reply_heard_in y keep ask audible style_is r.read.given new.held later replied new.source what
+      new.keep told e in (
         inr (as_said.code, ap Some as_said.is),
         refusal_says y.answer what (is_refusal what.status) as_said.code as_said.is,
         λ whole. as_said.left,
       )
   one_reply (Err fault) r e = (inl refl, inl refl, λ whole. absurd (true≢false whole))
 
-  reply_says : (written : Result ⊤ WriteFault) (body : Bool) (told : Option Heard) (broken : Bool) (h : HearsBehind written body (wants_head ask) old told new broken)
-      → Whole (read_front written body (wants_head ask) old new told broken h).0 → Says y.answer told × (broken ≡ false → new.held ++ later ≡ replied)
+  reply_says : (written : Result ⊤ WriteFault) (body : Bool) (told : Option Heard) (broken : Bool)
+      (h : HearsBehind written body (wants_head ask) old told new broken)
+      → Whole (read_front written body (wants_head ask) old new told broken h).0
+      → Says y.answer told × (broken ≡ false → new.held ++ later ≡ replied)
   unfolding read_front
   reply_says (Ok u) body told broken h e =
       let one = one_reply h.0 h.1 e in (subst (Says y.answer) (sym h.2) one.0, λ whole. one.2 (sym h.3 ∙ whole))
   reply_says (Err fault) true told broken h e =
-      let one = one_reply h.0 h.1 e in (subst (Says y.answer) (sym h.2) one.1, λ whole. absurd (true≢false (sym h.3 ∙ whole)))
+      let one = one_reply h.0 h.1 e in
+      (subst (Says y.answer) (sym h.2) one.1, λ whole. absurd (true≢false (sym h.3 ∙ whole)))
   reply_says (Err fault) false told broken h e = (inl h.0, λ whole. absurd (true≢false (sym h.2 ∙ whole)))
 
 not_true : (b : Bool) → not b ≡ true → b ≡ false
@@ -444,16 +548,18 @@ sound w is = not_true w.broken (and_true (not w.broken) (w.reader.keep && (lengt
 closed_by_fault : (w : WireState) → w.broken ≡ true → stays_open w ≡ false
 closed_by_fault w broken = ap (λ b. not b && (w.reader.keep && (length w.reader.held == 0))) broken
 
-err_breaks : (written : Result ⊤ WriteFault) (body head_only : Bool) (old new : AnswerReaderState) (told : Option Heard) (broken : Bool) → HearsBehind written body head_only old told new broken
-    → is_err written ≡ true → broken ≡ true
+err_breaks : (written : Result ⊤ WriteFault) (body head_only : Bool) (old new : AnswerReaderState) (told : Option Heard)
+    (broken : Bool) → HearsBehind written body head_only old told new broken → is_err written ≡ true → broken ≡ true
 err_breaks (Ok u) body head_only old new told broken h e = absurd (true≢false (sym e))
 err_breaks (Err fault) true head_only old new told broken h e = h.3
 err_breaks (Err fault) false head_only old new told broken h e = h.2
 
 -- what the worker read from here on begins what the client wrote
-next_text : (read : List ℕ) (x : Asked) (xs : List Asked) (old new : WireState) (turn : AsksInTurn old (x ∷ xs) new) (exchanged : Exchanges old x.ask x.heard turn.0) (message behind : List ℕ)
+next_text : (read : List ℕ) (x : Asked) (xs : List Asked) (old new : WireState) (turn : AsksInTurn old (x ∷ xs) new)
+    (exchanged : Exchanges old x.ask x.heard turn.0) (message behind : List ℕ)
     → read ≡ old.writer.taken ++ (message ++ behind) → (there : IsPrefix read new.writer.taken)
-    → message ++ (behind ++ there.0) ≡ (wrote_front exchanged.written old.writer turn.0.writer (ask_text x.ask old.host) exchanged.wrote).0 ++ (all_grow turn.0 new xs turn.2).written
+    → message ++ (behind ++ there.0) ≡ (wrote_front exchanged.written old.writer turn.0.writer (ask_text x.ask old.host)
+    exchanged.wrote).0 ++ (all_grow turn.0 new xs turn.2).written
 next_text read x xs old new turn exchanged message behind read_is there =
     let later : Grows turn.0 new = all_grow turn.0 new xs turn.2 in
     let front = wrote_front exchanged.written old.writer turn.0.writer (ask_text x.ask old.host) exchanged.wrote in
@@ -467,17 +573,21 @@ next_text read x xs old new turn exchanged message behind read_is there =
     ∙ append_assoc old.writer.taken front.0 later.written)
 
 -- behind a write that failed nothing more is written
-next_ends : (x : Asked) (xs : List Asked) (old new : WireState) (turn : AsksInTurn old (x ∷ xs) new) (exchanged : Exchanges old x.ask x.heard turn.0)
-    → is_err exchanged.written ≡ true → (all_grow turn.0 new xs turn.2).written ≡ []
+next_ends : (x : Asked) (xs : List Asked) (old new : WireState) (turn : AsksInTurn old (x ∷ xs) new)
+    (exchanged : Exchanges old x.ask x.heard turn.0) → is_err exchanged.written ≡ true
+    → (all_grow turn.0 new xs turn.2).written ≡ []
 next_ends x xs old new turn exchanged failed =
     let mid : WireState = turn.0 in
     let later : Grows mid new = all_grow mid new xs turn.2 in
-    let broken = err_breaks exchanged.written (has_body x.ask) (wants_head x.ask) old.reader mid.reader x.heard mid.broken exchanged.hears failed in
+    let broken =
+    err_breaks exchanged.written (has_body x.ask) (wants_head x.ask) old.reader mid.reader x.heard mid.broken
+    exchanged.hears failed in
     let stays = stays_closed mid new xs (closed_by_fault mid broken) turn.2 in
     none_added mid.writer.taken later.written (sym (ap (λ s. s.taken) stays.writer) ∙ later.taken)
 
 -- `read` is what the worker's reads gave, and `written` all its replies
-module _ (max : ℕ) (known : Ask → Type 0) (host rest read written : List ℕ) (us : List Unanswered) (us_read : AreUnansweredRead max us) (only : length us ≤ 1) where
+module _ (max : ℕ) (known : Ask → Type 0) (host rest read written : List ℕ) (us : List Unanswered)
+    (us_read : AreUnansweredRead max us) (only : length us ≤ 1) where
   -- what the worker read that is left where the client wrote so far
   abbrev IsLeft : List Turn → WireState → Type 0
   IsLeft ts old = read ≡ old.writer.taken ++ (all_read ts ++ (unanswered_read us ++ rest))
@@ -485,94 +595,129 @@ module _ (max : ℕ) (known : Ask → Type 0) (host rest read written : List ℕ
   abbrev asks_left : List Ask
   asks_left = map (λ (u : Unanswered). u.ask) us
 
-  none_left : (ts : List Turn) (old new : WireState) → AreRead max ts → new.writer ≡ old.writer → IsLeft ts old → IsPrefix read new.writer.taken → ts ≡ []
+  none_left : (ts : List Turn) (old new : WireState) → AreRead max ts → new.writer ≡ old.writer → IsLeft ts old
+      → IsPrefix read new.writer.taken → ts ≡ []
   none_left ts old new kept same is there =
-      none_read max old.writer.taken ts (unanswered_read us ++ rest) there.0 kept (sym (ap (λ s. s.taken) same) ∙ there.1 ∙ ap (λ t. t ++ there.0) is)
+      none_read max old.writer.taken ts (unanswered_read us ++ rest) there.0 kept
+      (sym (ap (λ s. s.taken) same) ∙ there.1 ∙ ap (λ t. t ++ there.0) is)
 
-  none_unanswered_left : (old new : WireState) → new.writer ≡ old.writer → IsLeft [] old → IsPrefix read new.writer.taken → us ≡ []
+  none_unanswered_left : (old new : WireState) → new.writer ≡ old.writer → IsLeft [] old
+      → IsPrefix read new.writer.taken → us ≡ []
   none_unanswered_left old new same is there =
-      none_unanswered max old.writer.taken us rest there.0 us_read (sym (ap (λ s. s.taken) same) ∙ there.1 ∙ ap (λ t. t ++ there.0) is)
+      none_unanswered max old.writer.taken us rest there.0 us_read
+      (sym (ap (λ s. s.taken) same) ∙ there.1 ∙ ap (λ t. t ++ there.0) is)
 
   -- the next request that the worker read is the next ask
-  next_read : (x : Asked) (xs : List Asked) (old new : WireState) (turn : AsksInTurn old (x ∷ xs) new) (exchanged : Exchanges old x.ask x.heard turn.0) → MayBeAsked max x.ask old.host
-      → (message : List ℕ) (ask : Ask) (style : Style) (behind : List ℕ) → IsRequest max message ask style → read ≡ old.writer.taken ++ (message ++ behind)
-      → IsPrefix read new.writer.taken → IsAskRead x.ask old.host message ask style old.writer turn.0.writer
+  next_read : (x : Asked) (xs : List Asked) (old new : WireState) (turn : AsksInTurn old (x ∷ xs) new)
+      (exchanged : Exchanges old x.ask x.heard turn.0) → MayBeAsked max x.ask old.host
+      → (message : List ℕ) (ask : Ask) (style : Style) (behind : List ℕ) → IsRequest max message ask style
+      → read ≡ old.writer.taken ++ (message ++ behind) → IsPrefix read new.writer.taken
+      → IsAskRead x.ask old.host message ask style old.writer turn.0.writer
   next_read x xs old new turn exchanged may message ask style behind is read_is there =
-      ask_read exchanged.written max x.ask old.host message ask style old.writer turn.0.writer (behind ++ there.0) (all_grow turn.0 new xs turn.2).written may is exchanged.wrote
+      ask_read exchanged.written max x.ask old.host message ask style old.writer turn.0.writer (behind ++ there.0)
+      (all_grow turn.0 new xs turn.2).written may is exchanged.wrote
       (next_ends x xs old new turn exchanged) (next_text read x xs old new turn exchanged message behind read_is there)
 
   -- behind the answered requests
-  unanswered_joined : (vs : List Unanswered) → us ≡ vs → (xs : List Asked) (old new : WireState) → AsksInTurn old xs new → old.host ≡ host
-      → AllByRecursion (λ x. MayBeAsked max x.ask host) xs → IsLeft [] old → IsPrefix read new.writer.taken → AllByRecursion (λ x. x.heard ≡ None) xs
+  unanswered_joined : (vs : List Unanswered) → us ≡ vs → (xs : List Asked) (old new : WireState) → AsksInTurn old xs new
+      → old.host ≡ host → AllByRecursion (λ x. MayBeAsked max x.ask host) xs
+      → IsLeft [] old → IsPrefix read new.writer.taken → AllByRecursion (λ x. x.heard ≡ None) xs
       → AreUnanswered xs (map (λ (u : Unanswered). u.ask) vs)
   unanswered_joined [] is xs old new turn host_is may left there unheard = unheard
-  unanswered_joined (u ∷ w ∷ vs) is xs old new turn host_is may left there unheard = let two = ap length is in absurd (omega (arith, two, only))
+  unanswered_joined (u ∷ w ∷ vs) is xs old new turn host_is may left there unheard =
+      let two = ap length is in absurd (omega (arith, two, only))
   unanswered_joined (u ∷ []) is [] old new turn host_is may left there unheard =
-      let none = none_unanswered_left old new (ap (λ w. w.writer) turn) left there in let both = sym is ∙ none in absurd (cc both)
+      let none = none_unanswered_left old new (ap (λ w. w.writer) turn) left there in
+      let both = sym is ∙ none in absurd (cc both)
   unanswered_joined (u ∷ []) is (x ∷ xs) old new turn host_is may left there unheard =
       elim (stays_open old) as (λ b. stays_open old ≡ b → AreUnanswered (x ∷ xs) (u.ask ∷ [])) [
         | true ↦ λ opened.
-            let exchanged : Exchanges old x.ask x.heard turn.0 = subst (λ b. AsksWhere b old x.ask x.heard turn.0) opened turn.1 in
+            let exchanged : Exchanges old x.ask x.heard turn.0 =
+            subst (λ b. AsksWhere b old x.ask x.heard turn.0) opened turn.1 in
             let may_here : MayBeAsked max x.ask old.host = subst (λ h. MayBeAsked max x.ask h) (sym host_is) may.0 in
             let u_read : AreUnansweredRead max (u ∷ []) = subst (AreUnansweredRead max) is us_read in
             let read_is : read ≡ old.writer.taken ++ (u.message ++ rest) =
-            left ∙ ap (λ vs. old.writer.taken ++ (unanswered_read vs ++ rest)) is ∙ ap (λ t. old.writer.taken ++ (t ++ rest)) (append-nil u.message) in
-            let found = next_read x xs old new turn exchanged may_here u.message u.ask u.style rest u_read.0 read_is there in
+            left ∙ ap (λ vs. old.writer.taken ++ (unanswered_read vs ++ rest)) is
+            ∙ ap (λ t. old.writer.taken ++ (t ++ rest)) (append-nil u.message) in
+            let found =
+            next_read x xs old new turn exchanged may_here u.message u.ask u.style rest u_read.0 read_is there in
             (found.ask_is, unheard.0, unheard.1)
         | false ↦ λ closed.
-            let none = none_unanswered_left old new (stays_closed old new (x ∷ xs) closed turn).writer left there in let both = sym is ∙ none in absurd (cc both)
+            let none = none_unanswered_left old new (stays_closed old new (x ∷ xs) closed turn).writer left there in
+            let both = sym is ∙ none in absurd (cc both)
       ] refl
 
   joined : (xs : List Asked) (ts : List Turn) (old new : WireState) → AsksInTurn old xs new → old.host ≡ host
-      → AllByRecursion (λ x. MayBeAsked max x.ask host) xs → AllByRecursion (λ x. known x.ask) xs → AreRead max ts → AllByRecursion (λ (t : Turn). MayBeHeard known t.0) ts
-      → IsLeft ts old → (stays_open old ≡ true → written ≡ old.reader.source.given ++ all_replies ts)
-      → IsPrefix read new.writer.taken → IsPrefix new.reader.source.given written → AreJoined xs (map (λ (t : Turn). t.0) ts) asks_left
+      → AllByRecursion (λ x. MayBeAsked max x.ask host) xs → AllByRecursion (λ x. known x.ask) xs → AreRead max ts
+      → AllByRecursion (λ (t : Turn). MayBeHeard known t.0) ts → IsLeft ts old
+      → (stays_open old ≡ true → written ≡ old.reader.source.given ++ all_replies ts) → IsPrefix read new.writer.taken
+      → IsPrefix new.reader.source.given written → AreJoined xs (map (λ (t : Turn). t.0) ts) asks_left
   joined [] ts old new turn host_is may knows kept audible read_is opened there back =
       let none = none_left ts old new kept (ap (λ w. w.writer) turn) read_is there in
       subst (λ l. AreJoined [] (map (λ (t : Turn). t.0) l) asks_left) (sym none)
       (unanswered_joined us refl [] old new turn host_is may (subst (λ l. IsLeft l old) none read_is) there tt)
   joined (x ∷ xs) [] old new turn host_is may knows kept audible read_is opened there back =
-      let unheard : AllByRecursion (λ x. x.heard ≡ None) (x ∷ xs) = elim (stays_open old) as (λ b. stays_open old ≡ b → AllByRecursion (λ x. x.heard ≡ None) (x ∷ xs)) [
-        | true ↦ λ is. silent (x ∷ xs) old new back.0 turn (sym (append-nil old.reader.source.given) ∙ sym (opened is) ∙ back.1)
+      let unheard : AllByRecursion (λ x. x.heard ≡ None) (x ∷ xs) =
+      elim (stays_open old) as (λ b. stays_open old ≡ b → AllByRecursion (λ x. x.heard ≡ None) (x ∷ xs)) [
+        | true ↦ λ is.
+            silent (x ∷ xs) old new back.0 turn (sym (append-nil old.reader.source.given) ∙ sym (opened is) ∙ back.1)
         | false ↦ λ closed. (stays_closed old new (x ∷ xs) closed turn).unheard
       ] refl in
       unanswered_joined us refl (x ∷ xs) old new turn host_is may read_is there unheard
   joined (x ∷ xs) (y ∷ ys) old new turn host_is may knows kept audible read_is opened there back =
-      elim (stays_open old) as (λ b. stays_open old ≡ b → AreJoined (x ∷ xs) (map (λ (t : Turn). t.0) (y ∷ ys)) asks_left) [
+      elim (stays_open old)
+      as (λ b. stays_open old ≡ b → AreJoined (x ∷ xs) (map (λ (t : Turn). t.0) (y ∷ ys)) asks_left) [
         | true ↦ λ is.
             let mid : WireState = turn.0 in
-            let exchanged : Exchanges old x.ask x.heard mid = subst (λ b. AsksWhere b old x.ask x.heard mid) is turn.1 in
+            let exchanged : Exchanges old x.ask x.heard mid =
+            subst (λ b. AsksWhere b old x.ask x.heard mid) is turn.1 in
             let may_here : MayBeAsked max x.ask old.host = subst (λ h. MayBeAsked max x.ask h) (sym host_is) may.0 in
             let later : Grows mid new = all_grow mid new xs turn.2 in
             let behind : List ℕ = all_read ys ++ (unanswered_read us ++ rest) in
             let read_here : read ≡ old.writer.taken ++ (y.0.message ++ behind) =
-            read_is ∙ ap (λ t. old.writer.taken ++ t) (append_assoc y.0.message (all_read ys) (unanswered_read us ++ rest)) in
-            let ask_is = next_read x xs old new turn exchanged may_here y.0.message y.0.ask y.0.style behind kept.0 read_here there in
+            read_is
+            ∙ ap (λ t. old.writer.taken ++ t) (append_assoc y.0.message (all_read ys) (unanswered_read us ++ rest)) in
+            let ask_is =
+            next_read x xs old new turn exchanged may_here y.0.message y.0.ask y.0.style behind kept.0
+            read_here there in
             let read_next : IsLeft ys mid =
             read_here
             ∙ ap (λ t. old.writer.taken ++ (t ++ behind)) ask_is.message_is
             ∙ sym (append_assoc old.writer.taken (ask_text x.ask old.host) behind)
             ∙ ap (λ t. t ++ behind) (sym ask_is.taken) in
-            let given = read_front exchanged.written (has_body x.ask) (wants_head x.ask) old.reader mid.reader x.heard mid.broken exchanged.hears in
+            let given =
+            read_front exchanged.written (has_body x.ask) (wants_head x.ask) old.reader mid.reader x.heard mid.broken
+            exchanged.hears in
             let reply_text : given.0 ++ (later.read ++ back.0) ≡ reply_of y ++ all_replies ys =
-            append_cancel_left old.reader.source.given (given.0 ++ (later.read ++ back.0)) (reply_of y ++ all_replies ys)
+            append_cancel_left old.reader.source.given (given.0 ++ (later.read ++ back.0))
+            (reply_of y ++ all_replies ys)
             (sym (append_assoc old.reader.source.given given.0 (later.read ++ back.0))
             ∙ ap (λ t. t ++ (later.read ++ back.0)) (sym given.1)
             ∙ sym (append_assoc mid.reader.source.given later.read back.0)
             ∙ ap (λ t. t ++ back.0) (sym later.given)
             ∙ sym back.1
             ∙ opened is) in
-            let can_hear : IsAudible y.0 = audible.0 (subst known (sym ask_is.ask_is) knows.0) (ask_is.style_is ∙ ap written_style (sym ask_is.ask_is)) in
-            let told = reply_says y.0 y.1 x.ask can_hear ask_is.style_is old.reader mid.reader (none_held old is) (later.read ++ back.0) (all_replies ys)
+            let can_hear : IsAudible y.0 =
+            audible.0 (subst known (sym ask_is.ask_is) knows.0)
+            (ask_is.style_is ∙ ap written_style (sym ask_is.ask_is)) in
+            let told =
+            reply_says y.0 y.1 x.ask can_hear ask_is.style_is old.reader mid.reader (none_held old is)
+            (later.read ++ back.0) (all_replies ys)
             exchanged.written (has_body x.ask) x.heard mid.broken exchanged.hears reply_text in
             let opened_next : stays_open mid ≡ true → written ≡ mid.reader.source.given ++ all_replies ys =
             λ o. back.1
             ∙ ap (λ t. t ++ back.0) later.given
             ∙ append_assoc mid.reader.source.given later.read back.0
-            ∙ ap (λ t. mid.reader.source.given ++ t) (ap (λ h. h ++ (later.read ++ back.0)) (sym (none_held mid o)) ∙ told.1 (sound mid o)) in
-            (ask_is.ask_is, told.0, joined xs ys mid new turn.2 (exchanged.same_host ∙ host_is) may.1 knows.1 kept.1 audible.1 read_next opened_next there back)
+            ∙ ap (λ t. mid.reader.source.given ++ t)
+            (ap (λ h. h ++ (later.read ++ back.0)) (sym (none_held mid o)) ∙ told.1 (sound mid o)) in (
+              ask_is.ask_is,
+              told.0,
+              joined xs ys mid new turn.2 (exchanged.same_host ∙ host_is) may.1 knows.1 kept.1 audible.1 read_next
+                  opened_next there back,
+            )
         | false ↦ λ closed.
-            let none = none_left (y ∷ ys) old new kept (stays_closed old new (x ∷ xs) closed turn).writer read_is there in
+            let none =
+            none_left (y ∷ ys) old new kept (stays_closed old new (x ∷ xs) closed turn).writer read_is there in
             absurd (cc none)
       ] refl
 
@@ -581,15 +726,23 @@ module _ (max : ℕ) (known : Ask → Type 0) (host rest read written : List ℕ
 no_empty_bad : (max : ℕ) (text : List ℕ) (why : Bad) → IsBad max text why → text ≡ [] → ⊥
 no_empty_bad max text why (inl x) none =
     let all = ap length (sym none ∙ x.1.cut) in
-    absurd (omega (arith, all, length-append (x.1.before ++ line_feed ∷ []) x.1.rest, length-append x.1.before (line_feed ∷ [])))
+    absurd (omega (
+      arith,
+      all,
+      length-append (x.1.before ++ line_feed ∷ []) x.1.rest,
+      length-append x.1.before (line_feed ∷ []),
+    ))
 no_empty_bad max text why (inr (inl x)) none =
-    let all = ap length (sym none ∙ x.1.cut) in let full = x.1.full in absurd (omega (arith, all, full, length-append x.1.front x.1.rest))
+    let all = ap length (sym none ∙ x.1.cut) in
+    let full = x.1.full in absurd (omega (arith, all, full, length-append x.1.front x.1.rest))
 no_empty_bad max text why (inr (inr (inl x))) none = no_empty_head text x.head x.rest x.reads none
 no_empty_bad max text why (inr (inr (inr x))) none = no_empty_head text x.head x.rest x.reads none
 
 -- where it was asked, a front of what was written is completed to the ask
-completed : (written : Result ⊤ WriteFault) (old new : SinkState) (whole rest there later : List ℕ) (w : Wrote old new whole written) → (is_err written ≡ true → later ≡ [])
-    → rest ++ there ≡ (wrote_front written old new whole w).0 ++ later → (more : List ℕ) × (behind : List ℕ) × (rest ++ more ≡ whole ++ behind)
+completed : (written : Result ⊤ WriteFault) (old new : SinkState) (whole rest there later : List ℕ)
+    (w : Wrote old new whole written) → (is_err written ≡ true → later ≡ [])
+    → rest ++ there ≡ (wrote_front written old new whole w).0 ++ later
+    → (more : List ℕ) × (behind : List ℕ) × (rest ++ more ≡ whole ++ behind)
 unfolding wrote_front
 completed (Ok u) old new whole rest there later w ends e = (there, later, e)
 completed (Err fault) old new whole rest there later w ends e = (
@@ -603,45 +756,63 @@ completed (Err fault) old new whole rest there later w ends e = (
 
 module _ (max : ℕ) (host rest read : List ℕ) where
   -- where no more was written nothing is left
-  none_behind : (ts : List Turn) (old new : WireState) → AreRead max ts → new.writer ≡ old.writer → read ≡ old.writer.taken ++ (all_read ts ++ rest) → IsPrefix read new.writer.taken → rest ≡ []
+  none_behind : (ts : List Turn) (old new : WireState) → AreRead max ts → new.writer ≡ old.writer
+      → read ≡ old.writer.taken ++ (all_read ts ++ rest) → IsPrefix read new.writer.taken → rest ≡ []
   none_behind ts old new kept same is there =
-      let none = none_read max old.writer.taken ts rest there.0 kept (sym (ap (λ s. s.taken) same) ∙ there.1 ∙ ap (λ t. t ++ there.0) is) in
+      let none =
+      none_read max old.writer.taken ts rest there.0 kept
+      (sym (ap (λ s. s.taken) same) ∙ there.1 ∙ ap (λ t. t ++ there.0) is) in
       let all = subst (λ l. read ≡ old.writer.taken ++ (all_read l ++ rest)) none is in
       none_before rest there.0 (none_added old.writer.taken (rest ++ there.0)
-      (sym (ap (λ s. s.taken) same) ∙ there.1 ∙ ap (λ t. t ++ there.0) all ∙ append_assoc old.writer.taken rest there.0))
+      (sym (ap (λ s. s.taken) same) ∙ there.1 ∙ ap (λ t. t ++ there.0) all
+      ∙ append_assoc old.writer.taken rest there.0))
 
-  never_bad : (xs : List Asked) (ts : List Turn) (old new : WireState) → AsksInTurn old xs new → old.host ≡ host → AllByRecursion (λ x. MayBeAsked max x.ask host) xs
-      → AreRead max ts → read ≡ old.writer.taken ++ (all_read ts ++ rest) → IsPrefix read new.writer.taken → (why : Bad) → IsBad max rest why → ⊥
+  never_bad : (xs : List Asked) (ts : List Turn) (old new : WireState) → AsksInTurn old xs new → old.host ≡ host
+      → AllByRecursion (λ x. MayBeAsked max x.ask host) xs → AreRead max ts
+      → read ≡ old.writer.taken ++ (all_read ts ++ rest) → IsPrefix read new.writer.taken → (why : Bad)
+      → IsBad max rest why → ⊥
   never_bad [] ts old new turn host_is may kept read_is there why is_bad =
       no_empty_bad max rest why is_bad (none_behind ts old new kept (ap (λ w. w.writer) turn) read_is there)
   never_bad (x ∷ xs) [] old new turn host_is may kept read_is there why is_bad =
       elim (stays_open old) as (λ b. stays_open old ≡ b → ⊥) [
         | true ↦ λ is.
-            let exchanged : Exchanges old x.ask x.heard turn.0 = subst (λ b. AsksWhere b old x.ask x.heard turn.0) is turn.1 in
+            let exchanged : Exchanges old x.ask x.heard turn.0 =
+            subst (λ b. AsksWhere b old x.ask x.heard turn.0) is turn.1 in
             let may_here : MayBeAsked max x.ask old.host = subst (λ h. MayBeAsked max x.ask h) (sym host_is) may.0 in
-            let text = next_text read x xs old new turn exchanged rest [] (read_is ∙ ap (λ t. old.writer.taken ++ t) (sym (append-nil rest))) there in
-            let whole = completed exchanged.written old.writer turn.0.writer (ask_text x.ask old.host) rest there.0 (all_grow turn.0 new xs turn.2).written exchanged.wrote
+            let text =
+            next_text read x xs old new turn exchanged rest []
+            (read_is ∙ ap (λ t. old.writer.taken ++ t) (sym (append-nil rest))) there in
+            let whole =
+            completed exchanged.written old.writer turn.0.writer (ask_text x.ask old.host) rest there.0
+            (all_grow turn.0 new xs turn.2).written exchanged.wrote
             (next_ends x xs old new turn exchanged) text in
             asked_not_bad max x.ask old.host rest whole.0 whole.1 may_here whole.2 why is_bad
-        | false ↦ λ closed. no_empty_bad max rest why is_bad (none_behind [] old new kept (stays_closed old new (x ∷ xs) closed turn).writer read_is there)
+        | false ↦ λ closed. no_empty_bad max rest why is_bad
+            (none_behind [] old new kept (stays_closed old new (x ∷ xs) closed turn).writer read_is there)
       ] refl
   never_bad (x ∷ xs) (y ∷ ys) old new turn host_is may kept read_is there why is_bad =
       elim (stays_open old) as (λ b. stays_open old ≡ b → ⊥) [
         | true ↦ λ is.
             let mid : WireState = turn.0 in
-            let exchanged : Exchanges old x.ask x.heard mid = subst (λ b. AsksWhere b old x.ask x.heard mid) is turn.1 in
+            let exchanged : Exchanges old x.ask x.heard mid =
+            subst (λ b. AsksWhere b old x.ask x.heard mid) is turn.1 in
             let may_here : MayBeAsked max x.ask old.host = subst (λ h. MayBeAsked max x.ask h) (sym host_is) may.0 in
             let behind : List ℕ = all_read ys ++ rest in
-            let read_here : read ≡ old.writer.taken ++ (y.0.message ++ behind) = read_is ∙ ap (λ t. old.writer.taken ++ t) (append_assoc y.0.message (all_read ys) rest) in
-            let ask_is = ask_read exchanged.written max x.ask old.host y.0.message y.0.ask y.0.style old.writer mid.writer (behind ++ there.0) (all_grow mid new xs turn.2).written may_here kept.0
-            exchanged.wrote (next_ends x xs old new turn exchanged) (next_text read x xs old new turn exchanged y.0.message behind read_here there) in
+            let read_here : read ≡ old.writer.taken ++ (y.0.message ++ behind) =
+            read_is ∙ ap (λ t. old.writer.taken ++ t) (append_assoc y.0.message (all_read ys) rest) in
+            let ask_is =
+            ask_read exchanged.written max x.ask old.host y.0.message y.0.ask y.0.style old.writer mid.writer
+            (behind ++ there.0) (all_grow mid new xs turn.2).written may_here kept.0
+            exchanged.wrote (next_ends x xs old new turn exchanged)
+            (next_text read x xs old new turn exchanged y.0.message behind read_here there) in
             let read_next : read ≡ mid.writer.taken ++ behind =
             read_here
             ∙ ap (λ t. old.writer.taken ++ (t ++ behind)) ask_is.message_is
             ∙ sym (append_assoc old.writer.taken (ask_text x.ask old.host) behind)
             ∙ ap (λ t. t ++ behind) (sym ask_is.taken) in
             never_bad xs ys mid new turn.2 (exchanged.same_host ∙ host_is) may.1 kept.1 read_next there why is_bad
-        | false ↦ λ closed. no_empty_bad max rest why is_bad (none_behind (y ∷ ys) old new kept (stays_closed old new (x ∷ xs) closed turn).writer read_is there)
+        | false ↦ λ closed. no_empty_bad max rest why is_bad
+            (none_behind (y ∷ ys) old new kept (stays_closed old new (x ∷ xs) closed turn).writer read_is there)
       ] refl
 
 -- ---- a conversation
@@ -657,15 +828,18 @@ kept_replies : (xs : List Exchange) → all_replies (kept_turns xs) ≡ replies 
 kept_replies [] = refl
 kept_replies (x ∷ xs) = ap (λ t. reply x.answer x.style ++ t) (kept_replies xs)
 
-turns_answered : (xs : List Exchange) (ts : List Turn) → map (λ (t : Turn). t.0) (kept_turns xs ++ ts) ≡ xs ++ map (λ (t : Turn). t.0) ts
+turns_answered : (xs : List Exchange) (ts : List Turn)
+    → map (λ (t : Turn). t.0) (kept_turns xs ++ ts) ≡ xs ++ map (λ (t : Turn). t.0) ts
 turns_answered [] ts = refl
 turns_answered (x ∷ xs) ts = ap (λ l. x ∷ l) (turns_answered xs ts)
 
-turns_read : (max : ℕ) (xs : List Exchange) (ts : List Turn) → AllByRecursion (IsKept max) xs → AreRead max ts → AreRead max (kept_turns xs ++ ts)
+turns_read : (max : ℕ) (xs : List Exchange) (ts : List Turn) → AllByRecursion (IsKept max) xs → AreRead max ts
+    → AreRead max (kept_turns xs ++ ts)
 turns_read max [] ts kept read = read
 turns_read max (x ∷ xs) ts kept read = (kept.0.0, turns_read max xs ts kept.1 read)
 
-turns_audible : (known : Ask → Type 0) (ts : List Turn) → AllByRecursion (MayBeHeard known) (map (λ (t : Turn). t.0) ts) → AllByRecursion (λ (t : Turn). MayBeHeard known t.0) ts
+turns_audible : (known : Ask → Type 0) (ts : List Turn) → AllByRecursion (MayBeHeard known) (map (λ (t : Turn). t.0) ts)
+    → AllByRecursion (λ (t : Turn). MayBeHeard known t.0) ts
 turns_audible known [] audible = tt
 turns_audible known (t ∷ ts) audible = (audible.0, turns_audible known ts audible.1)
 
@@ -698,8 +872,9 @@ no_more max held sink after same = record {
   asks_are = refl;
 }
 
-one_more : (max count : ℕ) (held : List ℕ) (sink after : SinkState) (x : Exchange) (more lost : List ℕ) → held ≡ x.message ++ more → IsRead max x
-    → after.taken ++ lost ≡ sink.taken ++ reply x.answer (last_style count x.style) → Ending max held sink after (x ∷ []) []
+one_more : (max count : ℕ) (held : List ℕ) (sink after : SinkState) (x : Exchange) (more lost : List ℕ) → held
+    ≡ x.message ++ more → IsRead max x → after.taken ++ lost ≡ sink.taken ++ reply x.answer (last_style count x.style)
+    → Ending max held sink after (x ∷ []) []
 one_more max count held sink after x more lost held_is read replied = record {
   ts = (x, (last_style count x.style).keep) ∷ [];
   us = [];
@@ -714,15 +889,19 @@ one_more max count held sink after x more lost held_is read replied = record {
   asks_are = refl;
 }
 
-ending : {D : Type 0} (step : Moves D) (max count : ℕ) (held : List ℕ) (source : SourceState) (desk new : D) (sink after : SinkState) (end : ConnEnd)
+ending : {D : Type 0} (step : Moves D) (max count : ℕ) (held : List ℕ) (source : SourceState) (desk new : D)
+    (sink after : SinkState) (end : ConnEnd)
     (e : EndsWith step max (stand count held source desk sink) new after end) → ((why : Bad) → IsBad max held why → ⊥)
-    → Ending max held sink after (answered_last step max (stand count held source desk sink) new after end e) (unanswered_last step max (stand count held source desk sink) new after end e)
+    → Ending max held sink after (answered_last step max (stand count held source desk sink) new after end e)
+    (unanswered_last step max (stand count held source desk sink) new after end e)
 ending step max count held source desk new sink after Clean e none = no_more max held sink after e.2.unwritten
 ending step max count held source desk new sink after AfterClose e none =
-    one_more max count held sink after e.0 e.1.more [] e.1.read e.1.request (append-nil after.taken ∙ e.3.took.takes.told)
+    one_more max count held sink after e.0 e.1.more [] e.1.read e.1.request
+    (append-nil after.taken ∙ e.3.took.takes.told)
 ending step max count held source desk new sink after AfterBad e none = absurd (none e.0 e.1.bad)
 ending step max count held source desk new sink after TooMany e none =
-    one_more max count held sink after e.0 e.1.more [] e.1.read e.1.request (append-nil after.taken ∙ e.4.took.takes.told)
+    one_more max count held sink after e.0 e.1.more [] e.1.read e.1.request
+    (append-nil after.taken ∙ e.4.took.takes.told)
 ending step max count held source desk new sink after DeskGone e none = record {
   ts = [];
   us = record { message = e.0.message; ask = e.0.ask; style = e.0.style } ∷ [];
@@ -736,13 +915,16 @@ ending step max count held source desk new sink after DeskGone e none = record {
   answers = refl;
   asks_are = refl;
 }
-ending step max count held source desk new sink after (Fault (Conn.Wire fault)) e none = no_more max held sink after e.1.unwritten
+ending step max count held source desk new sink after (Fault (Conn.Wire fault)) e none =
+    no_more max held sink after e.1.unwritten
 ending step max count held source desk new sink after (Fault Conn.Write) (inl w) none =
     one_more max count held sink after w.0 w.1.more w.2.back w.1.read w.1.request
-    (ap (λ t. t ++ w.2.back) w.2.takes.told ∙ append_assoc sink.taken w.2.front w.2.back ∙ ap (λ t. sink.taken ++ t) (sym w.2.cut))
+    (ap (λ t. t ++ w.2.back) w.2.takes.told ∙ append_assoc sink.taken w.2.front w.2.back
+    ∙ ap (λ t. sink.taken ++ t) (sym w.2.cut))
 ending step max count held source desk new sink after (Fault Conn.Write) (inr w) none = absurd (none w.0 w.1.bad)
 
-later_known : (x : Asked) (xs ys : List Asked) → AllByRecursion (λ y. IsOneOf xs y.ask) ys → AllByRecursion (λ y. IsOneOf (x ∷ xs) y.ask) ys
+later_known : (x : Asked) (xs ys : List Asked) → AllByRecursion (λ y. IsOneOf xs y.ask) ys
+    → AllByRecursion (λ y. IsOneOf (x ∷ xs) y.ask) ys
 later_known x xs [] all = tt
 later_known x xs (y ∷ ys) all = (inr all.0, later_known x xs ys all.1)
 
@@ -754,15 +936,19 @@ pub connections_joined : {D : Type 0} (step : Moves D) → ConnectionsAreJoined 
 connections_joined {D} step max first left old new before after end c xs can wire wire' is_new turn may carries =
     let all_kept : List Turn = kept_turns c.exchanges in
     let left_is : left.given ≡ wire.writer.taken ++ (all_read all_kept ++ c.rest) =
-    c.gives.told ∙ ap (λ t. t ++ c.bytes) can.given ∙ c.served.read ∙ ap (λ t. t ++ c.rest) (sym (kept_read c.exchanges))
+    c.gives.told ∙ ap (λ t. t ++ c.bytes) can.given ∙ c.served.read
+    ∙ ap (λ t. t ++ c.rest) (sym (kept_read c.exchanges))
     ∙ ap (λ t. t ++ (all_read all_kept ++ c.rest)) (sym is_new.taken) in
-    let all_were_read : AreRead max all_kept = subst (AreRead max) (append-nil all_kept) (turns_read max c.exchanges [] c.served.kept tt) in
+    let all_were_read : AreRead max all_kept =
+    subst (AreRead max) (append-nil all_kept) (turns_read max c.exchanges [] c.served.kept tt) in
     let e = ending step max (length c.exchanges) c.rest left c.at new c.mid after end c.ended
-    (never_bad max wire.host c.rest left.given xs all_kept wire wire' turn refl may all_were_read left_is carries.there) in
+    (never_bad max wire.host c.rest left.given xs all_kept wire wire' turn refl may all_were_read left_is
+    carries.there) in
     let ts : List Turn = kept_turns c.exchanges ++ e.ts in
     let tail : List ℕ = unanswered_read e.us ++ e.rest in
     let all_is : all_read ts ≡ messages c.exchanges ++ all_read e.ts =
-    flat_map-append (λ (t : Turn). t.0.message) (kept_turns c.exchanges) e.ts ∙ ap (λ t. t ++ all_read e.ts) (kept_read c.exchanges) in
+    flat_map-append (λ (t : Turn). t.0.message) (kept_turns c.exchanges) e.ts
+    ∙ ap (λ t. t ++ all_read e.ts) (kept_read c.exchanges) in
     let read_is : left.given ≡ wire.writer.taken ++ (all_read ts ++ tail) =
     c.gives.told ∙ ap (λ t. t ++ c.bytes) can.given ∙ c.served.read
     ∙ ap (λ t. messages c.exchanges ++ t) e.held_is
@@ -770,16 +956,22 @@ connections_joined {D} step max first left old new before after end c xs can wir
     ∙ ap (λ t. t ++ tail) (sym all_is)
     ∙ ap (λ t. t ++ (all_read ts ++ tail)) (sym is_new.taken) in
     let replies_are : all_replies ts ≡ replies c.exchanges ++ all_replies e.ts =
-    flat_map-append reply_of (kept_turns c.exchanges) e.ts ∙ ap (λ t. t ++ all_replies e.ts) (kept_replies c.exchanges) in
+    flat_map-append reply_of (kept_turns c.exchanges) e.ts
+    ∙ ap (λ t. t ++ all_replies e.ts) (kept_replies c.exchanges) in
     let written_is : after.taken ++ e.lost ≡ wire.reader.source.given ++ all_replies ts =
     e.replied
     ∙ ap (λ t. t ++ all_replies e.ts) (c.served.written.takes.told ∙ ap (λ t. t ++ replies c.exchanges) can.taken)
     ∙ sym replies_are
     ∙ ap (λ t. t ++ all_replies ts) (sym is_new.given) in
-    let back : IsPrefix wire'.reader.source.given (after.taken ++ e.lost) =
-    (carries.back.0 ++ e.lost, ap (λ t. t ++ e.lost) carries.back.1 ∙ append_assoc wire'.reader.source.given carries.back.0 e.lost) in
-    let answers_are : map (λ (t : Turn). t.0) ts ≡ answered step max first left old new before after end c = turns_answered c.exchanges e.ts ∙ ap (λ l. c.exchanges ++ l) e.answers in
-    let all = joined max (IsOneOf xs) wire.host e.rest left.given (after.taken ++ e.lost) e.us e.us_read e.only xs ts wire wire' turn refl may (all_known xs)
+    let back : IsPrefix wire'.reader.source.given (after.taken ++ e.lost) = (
+      carries.back.0 ++ e.lost,
+      ap (λ t. t ++ e.lost) carries.back.1 ∙ append_assoc wire'.reader.source.given carries.back.0 e.lost,
+    ) in
+    let answers_are : map (λ (t : Turn). t.0) ts ≡ answered step max first left old new before after end c =
+    turns_answered c.exchanges e.ts ∙ ap (λ l. c.exchanges ++ l) e.answers in
+    let all =
+    joined max (IsOneOf xs) wire.host e.rest left.given (after.taken ++ e.lost) e.us e.us_read e.only xs ts wire wire'
+    turn refl may (all_known xs)
     (turns_read max c.exchanges e.ts c.served.kept e.ts_read)
     (turns_audible (IsOneOf xs) ts (subst (AllByRecursion (MayBeHeard (IsOneOf xs))) (sym answers_are) can.audible))
     read_is (λ o. written_is) carries.there back in

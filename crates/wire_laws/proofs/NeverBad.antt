@@ -1,5 +1,6 @@
 -- No text that an ask begins with is refused as bad.
-use Rattle.std.proofs.Common.{◌≡◌, ℕ, ◌+◌, ◌≤◌, List, [], ◌∷◌, ◌++◌, refl, sym, ap, subst, ◌∙◌, arith, append_assoc, inl, inr, Ok, Err}
+use Rattle.std.proofs.Common.{◌≡◌, ℕ, ◌+◌, ◌≤◌, List, [], ◌∷◌, ◌++◌, refl, sym, ap, subst, ◌∙◌, arith, append_assoc}
+use Rattle.std.proofs.Common.{inl, inr, Ok, Err}
 use Rattle.httparse.specs.Ascii.{line_feed}
 use Rattle.httparse.specs.Grammar.{RequestHead, print_request}
 use Rattle.upload_service.specs.declared.ask.Ask.{Ask}
@@ -22,14 +23,16 @@ use Rattle.wire_laws.proofs.WrittenRequests.{asks_read_back, heads_written}
 
 -- ---- what is bad stays bad, whatever follows
 
-read_longer : (text more : List ℕ) (h : RequestHead) (rest : List ℕ) → ReadsHead requests text h rest → ReadsHead requests (text ++ more) h (rest ++ more)
+read_longer : (text more : List ℕ) (h : RequestHead) (rest : List ℕ) → ReadsHead requests text h rest
+    → ReadsHead requests (text ++ more) h (rest ++ more)
 read_longer text more h rest r = record {
   reads = (r.reads.0, ap (λ t. t ++ more) r.reads.1 ∙ append_assoc (print_request h) rest more);
   short = r.short;
   few = r.few;
 }
 
-body_longer : (framing : Framing) (text more : List ℕ) (why : Bad) → IsBadBody framing text why → IsBadBody framing (text ++ more) why
+body_longer : (framing : Framing) (text more : List ℕ) (why : Bad) → IsBadBody framing text why
+    → IsBadBody framing (text ++ more) why
 body_longer (Length n) text more why is = absurd is
 body_longer (Chunked most) text more why (inl over) = inl (
   over.0,
@@ -78,7 +81,12 @@ bad_longer max text more why (inr (inl x)) = inr (inl (
     none = x.1.none;
   },
 ))
-bad_longer max text more why (inr (inr (inl x))) = inr (inr (inl (record { head = x.head; rest = x.rest ++ more; reads = read_longer text more x.head x.rest x.reads; refused = x.refused })))
+bad_longer max text more why (inr (inr (inl x))) = inr (inr (inl (record {
+  head = x.head;
+  rest = x.rest ++ more;
+  reads = read_longer text more x.head x.rest x.reads;
+  refused = x.refused;
+})))
 bad_longer max text more why (inr (inr (inr x))) = inr (inr (inr (record {
   head = x.head;
   rest = x.rest ++ more;
@@ -95,41 +103,58 @@ record SameHead (h k : RequestHead) (rest more : List ℕ) : Type 0 where
   heads : h ≡ k
   rests : rest ≡ more
 
-same_head : (text : List ℕ) (h k : RequestHead) (rest more : List ℕ) → ReadsHead requests text h rest → ReadsHead requests text k more → SameHead h k rest more
+same_head : (text : List ℕ) (h k : RequestHead) (rest more : List ℕ) → ReadsHead requests text h rest
+    → ReadsHead requests text k more → SameHead h k rest more
 same_head text h k rest more a b =
-    let same : ◌≡◌ {A = HeadParse requests} (head h rest) (head k more) = requests_unambiguous.one text (head h rest) (head k more) a b in
+    let same : ◌≡◌ {A = HeadParse requests} (head h rest) (head k more) =
+    requests_unambiguous.one text (head h rest) (head k more) a b in
     let heads : h ≡ k = cc in
     let rests : rest ≡ more = cc in
     record { heads = heads; rests = rests }
 
-no_bad_body : (framing : Framing) (text body more : List ℕ) (why : Bad) → IsBodyText framing text body → IsBadBody framing (text ++ more) why → ⊥
+no_bad_body : (framing : Framing) (text body more : List ℕ) (why : Bad) → IsBodyText framing text body
+    → IsBadBody framing (text ++ more) why → ⊥
 no_bad_body framing text body more why is bad =
-    absurd (cc (bodies_unambiguous framing (text ++ more) (whole body more) (refused why) (record { message = text; split = refl; written = is }) bad))
+    absurd (cc (bodies_unambiguous framing (text ++ more) (whole body more) (refused why)
+    (record { message = text; split = refl; written = is }) bad))
 
-not_bad : (max : ℕ) (message behind : List ℕ) (ask : Ask) (style : Style) (h : RequestHead) (rest : List ℕ) → IsRequest max message ask style
-    → ReadsHead requests message h rest → line_feeds (print_request h) ≤ max_fields + 2 → (why : Bad) → IsBad max (message ++ behind) why → ⊥
+not_bad : (max : ℕ) (message behind : List ℕ) (ask : Ask) (style : Style) (h : RequestHead) (rest : List ℕ)
+    → IsRequest max message ask style → ReadsHead requests message h rest
+    → line_feeds (print_request h) ≤ max_fields + 2 → (why : Bad) → IsBad max (message ++ behind) why → ⊥
 not_bad max message behind ask style h rest is reads few why (inl x) =
     let bad : IsBad max (message ++ behind) bads.Head = inl (refl, x.1) in
-    let many = requests_are_unambiguous.refused max (message ++ behind) h (rest ++ behind) (read_longer message behind h rest reads) bad in
+    let many =
+    requests_are_unambiguous.refused max (message ++ behind) h (rest ++ behind)
+    (read_longer message behind h rest reads) bad in
     absurd (omega (arith, many, few))
 not_bad max message behind ask style h rest is reads few why (inr (inl x)) =
-    let same : ◌≡◌ {A = HeadParse requests} (head h (rest ++ behind)) long = requests_unambiguous.one (message ++ behind) (head h (rest ++ behind)) long (read_longer message behind h rest reads) x.1 in
+    let same : ◌≡◌ {A = HeadParse requests} (head h (rest ++ behind)) long =
+    requests_unambiguous.one (message ++ behind) (head h (rest ++ behind)) long
+    (read_longer message behind h rest reads) x.1 in
     absurd (cc same)
 not_bad max message behind ask style h rest is reads few why (inr (inr (inl x))) =
-    let same = same_head (message ++ behind) is.head x.head (is.rest ++ behind) x.rest (read_longer message behind is.head is.rest is.reads) x.reads in
+    let same =
+    same_head (message ++ behind) is.head x.head (is.rest ++ behind) x.rest
+    (read_longer message behind is.head is.rest is.reads) x.reads in
     let framings : ◌≡◌ (Ok is.framing) (Err why) = sym is.framed ∙ ap (head_framing max) same.heads ∙ x.refused in
     absurd (cc framings)
 not_bad max message behind ask style h rest is reads few why (inr (inr (inr x))) =
-    let same = same_head (message ++ behind) is.head x.head (is.rest ++ behind) x.rest (read_longer message behind is.head is.rest is.reads) x.reads in
+    let same =
+    same_head (message ++ behind) is.head x.head (is.rest ++ behind) x.rest
+    (read_longer message behind is.head is.rest is.reads) x.reads in
     let oks : ◌≡◌ (Ok is.framing) (Ok x.framing) = sym is.framed ∙ ap (head_framing max) same.heads ∙ x.framed in
     let framings : is.framing ≡ x.framing = cc in
     no_bad_body is.framing is.rest is.body behind why is.written
-    (subst (λ f. IsBadBody f (is.rest ++ behind) why) (sym framings) (subst (λ t. IsBadBody x.framing t why) (sym same.rests) x.refused))
+    (subst (λ f. IsBadBody f (is.rest ++ behind) why) (sym framings)
+    (subst (λ t. IsBadBody x.framing t why) (sym same.rests) x.refused))
 
 -- A text isn't bad where it and more are an ask that is written, and more.
-pub asked_not_bad : (max : ℕ) (ask : Ask) (host text more behind : List ℕ) → MayBeAsked max ask host → text ++ more ≡ ask_text ask host ++ behind → (why : Bad) → IsBad max text why → ⊥
+pub asked_not_bad : (max : ℕ) (ask : Ask) (host text more behind : List ℕ) → MayBeAsked max ask host
+    → text ++ more ≡ ask_text ask host ++ behind → (why : Bad) → IsBad max text why → ⊥
 asked_not_bad max ask host text more behind may is why bad =
-    let asked : IsRequest max (ask_text ask host) ask (written_style ask) = asks_read_back max ask host may.limit may.writable may.parts may.to_host may.short may.fits in
+    let asked : IsRequest max (ask_text ask host) ask (written_style ask) =
+    asks_read_back max ask host may.limit may.writable may.parts may.to_host may.short may.fits in
     let written = heads_written max ask host may.limit may.writable may.parts may.to_host may.short may.fits in
-    not_bad max (ask_text ask host) behind ask (written_style ask) written.head written.rest asked written.reads written.lines why
+    not_bad max (ask_text ask host) behind ask (written_style ask) written.head written.rest asked written.reads
+    written.lines why
     (subst (λ t. IsBad max t why) is (bad_longer max text more why bad))

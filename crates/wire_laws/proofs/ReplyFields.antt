@@ -1,5 +1,7 @@
 -- The fields of a written reply are read as what they say.
-use Rattle.std.proofs.Common.{◌≡◌, ℕ, ◌+◌, ◌-◌, ◌<◌, ◌≤◌, ◌^◌, Bool, true, false, codes, List, [], ◌∷◌, ◌++◌, All, length, filter, get_or, map, refl, arith, ◌∙◌, sym, ap, subst, Option, Some, None, Ok, append-nil, length-append, nat_le, ◌==◌, if◌then◌else◌, lit≤, lit<}
+use Rattle.std.proofs.Common.{◌≡◌, ℕ, ◌+◌, ◌-◌, ◌<◌, ◌≤◌, ◌^◌, Bool, true, false, codes, List, [], ◌∷◌, ◌++◌, All}
+use Rattle.std.proofs.Common.{length, filter, get_or, map, refl, arith, ◌∙◌, sym, ap, subst, Option, Some, None, Ok}
+use Rattle.std.proofs.Common.{append-nil, length-append, nat_le, ◌==◌, if◌then◌else◌, lit≤, lit<}
 use Rattle.std.proofs.lemmas.Bool.{and_parts}
 use Rattle.std.proofs.lemmas.Bool.Decides.{nat_tests}
 use Rattle.std.proofs.lemmas.Fmt.{length-decimal-le}
@@ -25,17 +27,20 @@ use Rattle.upload_service.specs.declared.answer.Refusal.TheVariants as refusals
 use Rattle.form_urlencoded.specs.Form.{split}
 use Rattle.http_wire.specs.Fields.{Fields, values_of, first_of, same_word, keeps_connection, lists_close}
 use Rattle.http_wire.specs.HeadText.{HeadField, closing_fields, length_field}
-use Rattle.upload_wire.specs.ReplyText.{allow_fields, body_fields, blob_location, error_fields, methods, upload_fields, upload_location}
+use Rattle.upload_wire.specs.ReplyText.{allow_fields, body_fields, blob_location, error_fields, methods, upload_fields}
+use Rattle.upload_wire.specs.ReplyText.{upload_location}
 use Rattle.upload_texts.specs.Errors.{error_body, refusal_code}
 use Rattle.upload_texts.specs.declared.error.ErrorCode.{ErrorCode}
 use Rattle.upload_texts.specs.declared.error.ErrorCode.TheVariants as errors
 use Rattle.upload_client.specs.AnswerText.{IsPlaceOf, location, range, upto_of}
 use Rattle.upload_client.specs.Heard.{last_below}
-use Rattle.upload_texts.proofs.PlainTexts.{IsPlain, AllPass-append, AllPass-weaker, is_plain_byte, digest_plain, upload_plain}
+use Rattle.upload_texts.proofs.PlainTexts.{IsPlain, AllPass-append, AllPass-weaker, is_plain_byte, digest_plain}
+use Rattle.upload_texts.proofs.PlainTexts.{upload_plain}
 use Rattle.wire_laws.specs.WrittenReplies.{most_told}
 use Rattle.wire_laws.proofs.DigestTexts.{short_text}
 use Rattle.wire_laws.proofs.ReplyHeads.{AreWritten, IsShortField}
-use Rattle.wire_laws.proofs.WrittenFields.{capped_decimal, decimal_graphic, is_numeral, length_plain, plain_field, type_plain}
+use Rattle.wire_laws.proofs.WrittenFields.{capped_decimal, decimal_graphic, is_numeral, length_plain, plain_field}
+use Rattle.wire_laws.proofs.WrittenFields.{type_plain}
 use Rattle.wire_laws.proofs.WrittenTargets.{spelled}
 
 -- ---- one field
@@ -57,7 +62,9 @@ digest_length digest h = short_text (digest_text digest) digest (digest_of-text 
 digest_short : (digest : Digest) → IsDigest digest → IsShortField (codes "Docker-Content-Digest", digest_text digest)
 unfolding is_token_byte
 digest_short digest h = record {
-  plain = plain_field (codes "Docker-Content-Digest") (digest_text digest) refl refl (graphic_text (digest_text digest) (digest_plain digest h));
+  plain =
+      plain_field (codes "Docker-Content-Digest") (digest_text digest) refl refl
+      (graphic_text (digest_text digest) (digest_plain digest h));
   short = omega (arith, digest_length digest h);
 }
 
@@ -67,7 +74,9 @@ octets_short = record { plain = type_plain; short = lit≤ tt }
 json_short : IsShortField (codes "Content-Type", codes "application/json")
 unfolding is_token_byte
 json_short = record {
-  plain = plain_field (codes "Content-Type") (codes "application/json") refl refl (AllPass-from_list_all is_ascii_graphic (codes "application/json") refl);
+  plain =
+      plain_field (codes "Content-Type") (codes "application/json") refl refl
+      (AllPass-from_list_all is_ascii_graphic (codes "application/json") refl);
   short = lit≤ tt;
 }
 
@@ -200,7 +209,9 @@ pub place_says : (path : List ℕ) → IsPlain path → length path ≤ 450 → 
     → Says ((codes "Location", path) ∷ length_field 0 ∷ []) (decimal 0 ∷ []) (Some path) None
 unfolding values_of
 place_says path h short slash = record {
-  short = with_field (codes "Location", path) (length_field 0 ∷ []) (location_short path h short) (one_length 0 (omega arith));
+  short =
+      with_field (codes "Location", path) (length_field 0 ∷ []) (location_short path h short)
+      (one_length 0 (omega arith));
   few = omega arith;
   coding = refl;
   lengths_are = refl;
@@ -219,7 +230,8 @@ range_field next = (codes "Range", codes "0-" ++ decimal (next - 1))
 upload_by : (none : Bool) (name at : List ℕ) (next : ℕ) (more : Fields) (lengths : List (List ℕ))
     → is_name name ≡ true → next ≤ most_told
     → length more ≤ 2 → Says more lengths None None → location more ≡ None → range more ≡ None
-    → Says ((place_field name at ∷ (if none then [] else range_field next ∷ [])) ++ more) lengths (Some (upload_location name at))
+    → Says ((place_field name at ∷ (if none then [] else range_field next ∷ [])) ++ more) lengths
+    (Some (upload_location name at))
     (if none then None else Some (next - 1))
 unfolding values_of
 upload_by none name at next more lengths n le few m no_place no_range = go none
@@ -237,7 +249,8 @@ upload_by none name at next more lengths n le few m no_place no_range = go none
     told = omega (arith, le)
 
     go : (none : Bool)
-        → Says ((place_field name at ∷ (if none then [] else range_field next ∷ [])) ++ more) lengths (Some (upload_location name at))
+        → Says ((place_field name at ∷ (if none then [] else range_field next ∷ [])) ++ more) lengths
+        (Some (upload_location name at))
         (if none then None else Some (next - 1))
     go true = record {
       short = with_field (place_field name at) more place_short m.short;
@@ -267,10 +280,12 @@ upload_says name at next more lengths n le few m no_place no_range =
     upload_by (next == 0) name at next more lengths n le few m no_place no_range
 
 pub taken_says : (name at : List ℕ) (next : ℕ) → is_name name ≡ true → next ≤ most_told
-    → Says (upload_fields name at next ++ length_field 0 ∷ []) (decimal 0 ∷ []) (Some (upload_location name at)) (last_below next)
+    → Says (upload_fields name at next ++ length_field 0 ∷ []) (decimal 0 ∷ []) (Some (upload_location name at))
+    (last_below next)
 unfolding values_of
 taken_says name at next n le =
-    upload_says name at next (length_field 0 ∷ []) (decimal 0 ∷ []) n le (omega arith) (length_says 0 (omega arith)) refl refl
+    upload_says name at next (length_field 0 ∷ []) (decimal 0 ∷ []) n le (omega arith)
+    (length_says 0 (omega arith)) refl refl
 
 nothing_says : Says [] [] None None
 unfolding values_of
@@ -293,11 +308,15 @@ standing_says name at next n le =
 
 -- the digest of a blob, and the kind and the length of its bytes
 pub found_says : (digest : Digest) (size : ℕ) → IsDigest digest → size < 2 ^ 64
-    → Says ((codes "Docker-Content-Digest", digest_text digest) ∷ body_fields (codes "application/octet-stream") size) (decimal size ∷ []) None None
+    → Says ((codes "Docker-Content-Digest", digest_text digest) ∷ body_fields (codes "application/octet-stream") size)
+    (decimal size ∷ []) None None
 unfolding values_of
 found_says digest size d small = record {
-  short = with_field (codes "Docker-Content-Digest", digest_text digest) (body_fields (codes "application/octet-stream") size) (digest_short digest d)
-      (with_field (codes "Content-Type", codes "application/octet-stream") (length_field size ∷ []) octets_short (one_length size small));
+  short =
+      with_field (codes "Docker-Content-Digest", digest_text digest)
+      (body_fields (codes "application/octet-stream") size) (digest_short digest d)
+      (with_field (codes "Content-Type", codes "application/octet-stream") (length_field size ∷ []) octets_short
+      (one_length size small));
   few = omega arith;
   coding = refl;
   lengths_are = refl;
@@ -322,7 +341,8 @@ error_lengths code = decimal (length (error_body code)) ∷ []
 
 error_short : (code : ErrorCode) → All IsShortField (error_fields code)
 error_short code =
-    with_field (codes "Content-Type", codes "application/json") (length_field (length (error_body code)) ∷ []) json_short
+    with_field (codes "Content-Type", codes "application/json")
+    (length_field (length (error_body code)) ∷ []) json_short
     (one_length (length (error_body code)) (omega (arith, error_size code)))
 
 error_says : (code : ErrorCode) → Says (error_fields code) (error_lengths code) None None
@@ -339,7 +359,8 @@ error_says code =
     }
 
 pub misplaced_says : (name at : List ℕ) (next : ℕ) (code : ErrorCode) → is_name name ≡ true → next ≤ most_told
-    → Says (upload_fields name at next ++ error_fields code) (error_lengths code) (Some (upload_location name at)) (last_below next)
+    → Says (upload_fields name at next ++ error_fields code) (error_lengths code) (Some (upload_location name at))
+    (last_below next)
 unfolding values_of
 misplaced_says name at next code n le =
     upload_says name at next (error_fields code) (error_lengths code) n le (omega arith) (error_says code) refl refl
@@ -358,7 +379,8 @@ method_says form code = record {
 }
 
 pub refused_says : (refusal : Refusal)
-    → Says (allow_fields refusal ++ error_fields (refusal_code refusal)) (error_lengths (refusal_code refusal)) None None
+    → Says (allow_fields refusal ++ error_fields (refusal_code refusal))
+    (error_lengths (refusal_code refusal)) None None
 refused_says refusals.NoForm = error_says errors.Unsupported
 refused_says refusals.BadName = error_says errors.NameInvalid
 refused_says (refusals.Method form) = method_says form errors.Unsupported
@@ -375,7 +397,8 @@ refused_says refusals.BadDigest = error_says errors.DigestInvalid
 
 -- ---- with the field that closes the connection
 
-pub record SaysAll (fields : Fields) (lengths : List (List ℕ)) (place : Option (List ℕ)) (upto : Option ℕ) (keep : Bool) : Type 0 where
+pub record SaysAll (fields : Fields) (lengths : List (List ℕ)) (place : Option (List ℕ)) (upto : Option ℕ)
+    (keep : Bool) : Type 0 where
   pub written : AreWritten fields
   pub coding : values_of (codes "transfer-encoding") fields ≡ []
   pub lengths_are : values_of (codes "content-length") fields ≡ lengths
@@ -402,7 +425,9 @@ values_behind name fields more none =
 close_short : IsShortField (codes "Connection", codes "close")
 unfolding is_token_byte
 close_short = record {
-  plain = plain_field (codes "Connection") (codes "close") refl refl (AllPass-from_list_all is_ascii_graphic (codes "close") refl);
+  plain =
+      plain_field (codes "Connection") (codes "close") refl refl
+      (AllPass-from_list_all is_ascii_graphic (codes "close") refl);
   short = lit≤ tt;
 }
 
@@ -429,12 +454,16 @@ closed fields lengths place upto false s =
     let close = values_behind (codes "connection") fields last s.connection in
     record {
       written = record {
-        short = All-append IsShortField fields last s.short (with_field (codes "Connection", codes "close") [] close_short no_fields);
+        short =
+            All-append IsShortField fields last s.short
+            (with_field (codes "Connection", codes "close") [] close_short no_fields);
         few = let few = s.few in omega (arith, few, length-append fields last);
       };
       coding = values_before (codes "transfer-encoding") fields last refl ∙ s.coding;
       lengths_are = values_before (codes "content-length") fields last refl ∙ s.lengths_are;
-      place_is = subst (λ v. IsPlaceOf (first_of v) (Ok place)) (sym (values_before (codes "location") fields last refl)) s.place_is;
+      place_is =
+          subst (λ v. IsPlaceOf (first_of v) (Ok place))
+          (sym (values_before (codes "location") fields last refl)) s.place_is;
       upto_is = ap (λ v. upto_of (first_of v)) (values_before (codes "range") fields last refl) ∙ s.upto_is;
       keeps = rw (close, closes) refl;
     }

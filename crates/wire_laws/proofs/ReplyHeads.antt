@@ -1,12 +1,14 @@
 -- A written reply is a head of the grammar, with few lines, and a body.
-use Rattle.std.proofs.Common.{◌≡◌, ◌≢◌, ℕ, ◌+◌, ◌*◌, ◌≤◌, ◌==◌, Bool, true, false, codes, List, [], ◌∷◌, ◌++◌, All, length, map, refl, arith, ◌∙◌, sym, ap, Some, append_assoc, length-append, lit≤}
+use Rattle.std.proofs.Common.{◌≡◌, ◌≢◌, ℕ, ◌+◌, ◌*◌, ◌≤◌, ◌==◌, Bool, true, false, codes, List, [], ◌∷◌, ◌++◌, All}
+use Rattle.std.proofs.Common.{length, map, refl, arith, ◌∙◌, sym, ap, Some, append_assoc, length-append, lit≤}
 use Rattle.std.proofs.lemmas.List.{length-map}
 use Rattle.std.proofs.lemmas.List.Sums.{AllPass-from_list_all}
 use Rattle.std.proofs.lemmas.Bool.Decides.{nat_tests}
 use Rattle.std.proofs.lemmas.List.Elements.{All-weaker, All-head, All-tail, All-map}
 use Rattle.std.specs.List.{flat_map, list_all}
 use Rattle.std.specs.Char.{is_ascii_digit}
-use Rattle.httparse.specs.Grammar.{AllPass, IsField, ResponseHead, crlf, print_response, is_token_byte, is_value_byte, status_code}
+use Rattle.httparse.specs.Grammar.{AllPass, IsField, ResponseHead, crlf, print_response, is_token_byte, is_value_byte}
+use Rattle.httparse.specs.Grammar.{status_code}
 use Rattle.httparse.specs.Ascii.{crlf_bytes}
 use Rattle.http_wire.specs.Fronts.{max_head, max_fields, line_feeds, ReadsHead, responses}
 use Rattle.http_wire.specs.Fields.{Fields, head_fields}
@@ -177,12 +179,14 @@ head_text status fields = status_line status ++ (flat_map print_field fields ++ 
 pub printed : (status : Status) (fields : Fields) → head_text status fields ≡ print_response (head_of status fields)
 unfolding print_response
 printed status fields =
-    ap (λ t. (codes "HTTP/1.1 " ++ (t ++ crlf_bytes)) ++ (flat_map print_field fields ++ crlf_bytes)) (is_line status).cut
+    ap (λ t. (codes "HTTP/1.1 " ++ (t ++ crlf_bytes)) ++ (flat_map print_field fields ++ crlf_bytes))
+    (is_line status).cut
     ∙ joined (digits_of status) (reason_of status) (flat_map print_field fields)
     ∙ rw (fields_printed fields) refl
   where
     joined : (d r c : List ℕ) → (codes "HTTP/1.1 " ++ ((d ++ (codes " " ++ r)) ++ crlf_bytes)) ++ (c ++ crlf_bytes)
-        ≡ [] ++ (codes "HTTP/1." ++ codes "1") ++ (codes " " ++ d) ++ (codes " " ++ r) ++ crlf_bytes ++ (c ++ crlf_bytes)
+        ≡ [] ++ (codes "HTTP/1." ++ codes "1") ++ (codes " " ++ d) ++ (codes " " ++ r) ++ crlf_bytes
+        ++ (c ++ crlf_bytes)
     joined d r c = simp append_assoc
 
 -- the fields of a written head: each is as it is written, and there are few
@@ -235,10 +239,16 @@ pub head_read : (status : Status) (fields : Fields) (behind : List ℕ) → AreW
 head_read status fields behind h =
     let few = h.few in
     let valid : All IsField (map field_of fields) =
-    All-map IsField field_of fields (All-weaker IsPlainField (λ f. IsField (field_of f)) field_valid fields (all_plain fields h)) in
+    All-map IsField field_of fields
+    (All-weaker IsPlainField (λ f. IsField (field_of f)) field_valid fields (all_plain fields h)) in
     record {
       reads = (
-        record { minor = omega arith; digits = (is_line status).digits; reason = (is_line status).reason; fields = valid },
+        record {
+          minor = omega arith;
+          digits = (is_line status).digits;
+          reason = (is_line status).reason;
+          fields = valid;
+        },
         ap (λ t. t ++ behind) (printed status fields),
       );
       short = head_short status fields h;

@@ -1,5 +1,6 @@
 -- A written reply is read in one way.
-use Rattle.std.proofs.Common.{◌≡◌, ◌≢◌, ℕ, Bool, false, codes, List, ◌++◌, length, refl, arith, ◌∙◌, sym, ap, subst, Option, Ok, Err, inl, inr, nat_lt}
+use Rattle.std.proofs.Common.{◌≡◌, ◌≢◌, ℕ, Bool, false, codes, List, ◌++◌, length, refl, arith, ◌∙◌, sym, ap, subst}
+use Rattle.std.proofs.Common.{Option, Ok, Err, inl, inr, nat_lt}
 use Rattle.std.specs.Prelude.{Result}
 use Rattle.httparse.specs.Grammar.{ResponseHead, status_code}
 use Rattle.http_wire.specs.Fields.{Fields, values_of, head_fields}
@@ -11,7 +12,8 @@ use Rattle.http_wire.specs.declared.responses.framing.ResponseFraming.TheVariant
 use Rattle.http_wire.specs.declared.responses.framing.FramingFault.TheVariants as Fault
 use Rattle.http_wire.specs.declared.status.Status.{Status}
 use Rattle.http_wire.specs.declared.status.Status.TheVariants as statuses
-use Rattle.upload_client.specs.AnswerText.{FindsAnswer, HasOpenBody, IsHeard, HasFramingFault, IsPlaceOf, ReadsFramed, TellsHeard, code_of, location, max_answer, range, upto_of}
+use Rattle.upload_client.specs.AnswerText.{FindsAnswer, HasOpenBody, IsHeard, HasFramingFault, IsPlaceOf, ReadsFramed}
+use Rattle.upload_client.specs.AnswerText.{TellsHeard, code_of, location, max_answer, range, upto_of}
 use Rattle.upload_client.specs.UnambiguousReplies.{ReplyParse, heard, refused, unreadable, too_large, cut, ParsesAs}
 use Rattle.upload_client.specs.declared.heard.Heard.{Heard}
 use Rattle.upload_client.specs.declared.heard.HeardFault.{HeardFault}
@@ -19,7 +21,8 @@ use Rattle.upload_client.specs.declared.heard.HeardFault.TheVariants as Reply
 use Rattle.upload_client.proofs.UnambiguousReplies.{replies_unambiguous}
 use Rattle.wire_laws.specs.WrittenReplies.{Gives, IsReadOnlyAs}
 use Rattle.wire_laws.proofs.ReplyFields.{SaysAll}
-use Rattle.wire_laws.proofs.ReplyReadings.{Framed, IsReading, heard_gives, large_gives, no_open_body, no_reading, not_refused}
+use Rattle.wire_laws.proofs.ReplyReadings.{Framed, IsReading, heard_gives, large_gives, no_open_body, no_reading}
+use Rattle.wire_laws.proofs.ReplyReadings.{not_refused}
 use Rattle.wire_laws.proofs.ReplyHeads.{code_is, few_lines, fields_are, head_of, head_read, head_text}
 
 final : (status : Status) → nat_lt (status_number status) 200 ≡ false
@@ -79,7 +82,10 @@ framing_is head_only sent r e =
 pub framed : (head_only : Bool) (sent : Sent) (r : Framed) (behind : List ℕ) → framing_behind head_only sent ≡ r
     → ReadsFramed head_only (text_of sent behind) r (head_sent sent) behind
 framed head_only sent r behind e =
-    record { reads = head_read sent.status sent.fields behind sent.says.written; framed = framing_is head_only sent r e }
+    record {
+      reads = head_read sent.status sent.fields behind sent.says.written;
+      framed = framing_is head_only sent r e;
+    }
 
 -- this is heard of the head and the body
 pub record IsSaidBy (sent : Sent) (body : List ℕ) (what : Heard) : Type 0 where
@@ -91,7 +97,8 @@ pub record IsSaidBy (sent : Sent) (body : List ℕ) (what : Heard) : Type 0 wher
 heard_in : (sent : Sent) (body : List ℕ) (what : Heard) → IsSaidBy sent body what
     → IsHeard (status_code (head_sent sent)) (head_fields (head_sent sent).fields) body what
 heard_in sent body what h =
-    let same : head_fields (head_sent sent).fields ≡ sent.fields = fields_are sent.status sent.fields sent.says.written in
+    let same : head_fields (head_sent sent).fields ≡ sent.fields =
+    fields_are sent.status sent.fields sent.says.written in
     let place = subst (λ p. IsPlaceOf (location sent.fields) (Ok p)) (sym h.place_is) sent.says.place_is in
     record {
       status_is = h.status_is ∙ sym (code_is sent.status sent.fields);
@@ -106,7 +113,8 @@ tells : (head_only : Bool) (sent : Sent) (body rest : List ℕ) (new : SourceSta
     → TellsHeard head_only (text_of sent (body ++ rest)) rest new what sent.keep
 tells head_only sent body rest new what e h =
     let size = Length (length body) in
-    let same : head_fields (head_sent sent).fields ≡ sent.fields = fields_are sent.status sent.fields sent.says.written in
+    let same : head_fields (head_sent sent).fields ≡ sent.fields =
+    fields_are sent.status sent.fields sent.says.written in
     record {
       head = head_sent sent;
       body = body;
@@ -138,10 +146,12 @@ module _ (head_only : Bool) (sent : Sent) (behind : List ℕ) (new : SourceState
   alone cut x = same cut (λ e. absurd (cc e)) x
 
   not_refused_text : {A : Type 0} → ParsesAs head_only (text_of sent behind) new refused → A
-  not_refused_text x = no_reading parse reading refused (λ e. absurd (cc e)) (λ w k l e. absurd (cc e)) (alone refused x)
+  not_refused_text x =
+      no_reading parse reading refused (λ e. absurd (cc e)) (λ w k l e. absurd (cc e)) (alone refused x)
 
   not_unreadable : {A : Type 0} → ParsesAs head_only (text_of sent behind) new unreadable → A
-  not_unreadable x = no_reading parse reading unreadable (λ e. absurd (cc e)) (λ w k l e. absurd (cc e)) (alone unreadable x)
+  not_unreadable x =
+      no_reading parse reading unreadable (λ e. absurd (cc e)) (λ w k l e. absurd (cc e)) (alone unreadable x)
 
   not_cut : {A : Type 0} → ParsesAs head_only (text_of sent behind) new cut → A
   not_cut x = no_reading parse reading cut (λ e. absurd (cc e)) (λ w k l e. absurd (cc e)) (alone cut x)

@@ -1,10 +1,13 @@
 -- What a service answers to an ask with lawful parts can be heard.
-use Rattle.std.proofs.Common.{◌≡◌, ℕ, ◌≤◌, Bool, true, false, List, ◌++◌, length, refl, arith, sym, subst, Option, Some, None, inl, inr, IfSome, length-append}
+use Rattle.std.proofs.Common.{◌≡◌, ℕ, ◌≤◌, Bool, true, false, List, ◌++◌, length, refl, arith, sym, subst, Option, Some}
+use Rattle.std.proofs.Common.{None, inl, inr, IfSome, length-append}
 use Rattle.std.specs.Prelude.{◌||◌, nat_le}
 use Rattle.std.specs.FinMap as map
 use Rattle.upload_names.specs.Digest.{Digest, IsDigest}
 use Rattle.upload_names.specs.NamePass.{is_name}
-use Rattle.upload_service.specs.Machine.{AreLawful, IsLawful, Outcome, Commits, Stores, Session, State, Turn, all_awake, answer_of, at_session, awake, blob_reply, holds, in_session, last_number, opening, outcome, refused, same}
+use Rattle.upload_service.specs.Machine.{AreLawful, IsLawful, Outcome, Commits, Stores, Session, State, Turn, all_awake}
+use Rattle.upload_service.specs.Machine.{answer_of, at_session, awake, blob_reply, holds, in_session, last_number}
+use Rattle.upload_service.specs.Machine.{opening, outcome, refused, same}
 use Rattle.upload_service.specs.UploadView.{Act, Sends, AsksOffset, Closes}
 use Rattle.upload_service.specs.declared.ask.Ask.{Ask}
 use Rattle.upload_service.specs.declared.ask.Ask.TheVariants as asks
@@ -50,7 +53,8 @@ module _ (s : State) (lawful : IsLawful s) (limits : AreLawful s.limits) (secret
 
   -- an ask of a session, by what is done inside one
   inside : (name at : List ℕ) (act : Act) (o : Option Session) → awake s now at ≡ o
-      → ((session : Session) → map.get s.sessions at ≡ Some session → Leads false (in_session s.limits.max_blob session name at act))
+      → ((session : Session) → map.get s.sessions at ≡ Some session
+      → Leads false (in_session s.limits.max_blob session name at act))
       → Leads false (at_session s.limits.max_blob o name at act)
   inside name at act None is each = λ sized. (tt, tt)
   inside name at act (Some session) is each =
@@ -74,14 +78,16 @@ module _ (s : State) (lawful : IsLawful s) (limits : AreLawful s.limits) (secret
   closed name at range digest body session n d is =
       by_body (Leads false) (refusals false) s.limits.max_blob name at (length session.received) range body _
       (λ r given missed sized. ((n, small at session is), tt))
-      (λ fits. by_digest (Leads false) (refusals false) digest (session.received ++ body) (λ x. Commits name at x (session.received ++ body))
+      (λ fits. by_digest (Leads false) (refusals false) digest (session.received ++ body)
+      (λ x. Commits name at x (session.received ++ body))
       (λ x e own sized. ((n, subst (λ o. IfSome o IsDigest) e d), tt)))
 
   outcomes : (ask : Ask) → HasLawfulParts ask → Leads (wants_head ask) (outcome s ask secret now)
   outcomes asks.Base h = λ sized. (tt, tt)
   outcomes (asks.Refused refusal) h = λ sized. (tt, tt)
   outcomes (asks.Has name digest head) h =
-      by_test (Leads (wants_head (asks.Has name digest head))) (holds s name digest) _ _ (λ _. found name digest head (map.get s.blobs digest) h.1) (λ _ sized. (tt, tt))
+      by_test (Leads (wants_head (asks.Has name digest head))) (holds s name digest) _ _
+      (λ _. found name digest head (map.get s.blobs digest) h.1) (λ _ sized. (tt, tt))
   outcomes (asks.Opening name) h = opened false name h
   outcomes (asks.Mount name digest source) h =
       by_test (Leads false) (holds s source digest) _ _ (λ _ sized. ((h.0, h.1), tt)) (λ _. opened false name h.0)
@@ -108,11 +114,14 @@ exchanges_heard max_body ask host service answer asked answers =
     let heard_of = audible service answers.lawful answers.limits answers.secret answers.now in
     let fits = heard_of ask answer answers.after asked.parts answers.turn answers.sized in
     record {
-      read = asks_read_back max_body ask host asked.limit asked.writable asked.parts asked.to_host asked.short asked.fits;
+      read =
+          asks_read_back max_body ask host asked.limit asked.writable asked.parts asked.to_host asked.short asked.fits;
       heard = λ rest new. replies_heard answer (written_style ask) rest new fits.0 fits.1;
     }
 
 -- the answer of a lawful service to an ask with lawful parts can be heard
-pub answers_heard : (s : State) → IsLawful s → AreLawful s.limits → (secret : List ℕ) (now : ℕ) (ask : Ask) (answer : Answer) (after : State) → HasLawfulParts ask
+pub answers_heard : (s : State) → IsLawful s → AreLawful s.limits
+    → (secret : List ℕ) (now : ℕ) (ask : Ask) (answer : Answer) (after : State) → HasLawfulParts ask
     → Turn s ask secret now answer after → HasSize answer → HasLawfulValues answer × FitsMethod answer (wants_head ask)
-answers_heard s lawful limits secret now ask answer after parts turn sized = audible s lawful limits secret now ask answer after parts turn sized
+answers_heard s lawful limits secret now ask answer after parts turn sized =
+    audible s lawful limits secret now ask answer after parts turn sized

@@ -1,5 +1,6 @@
 -- The fields of a written request are read as what they say.
-use Rattle.std.proofs.Common.{◌≡◌, ℕ, ◌+◌, ◌<◌, ◌≤◌, ◌^◌, ◌%◌, true, false, codes, List, [], ◌∷◌, ◌++◌, All, length, refl, arith, ap, Some, Ok, lt-ltb, le-ltb, nat_lt}
+use Rattle.std.proofs.Common.{◌≡◌, ℕ, ◌+◌, ◌<◌, ◌≤◌, ◌^◌, ◌%◌, true, false, codes, List, [], ◌∷◌, ◌++◌, All, length}
+use Rattle.std.proofs.Common.{refl, arith, ap, Some, Ok, lt-ltb, le-ltb, nat_lt}
 use Rattle.std.proofs.lemmas.Bool.{and_parts}
 use Rattle.std.proofs.lemmas.Bool.Decides.{nat_tests}
 use Rattle.std.proofs.lemmas.List.Elements.{All-cons, All-nil}
@@ -35,7 +36,8 @@ one_digit n h = AllPass-cons is_ascii_digit (48 + n) [] (digit_is n h) (AllPass-
 pub decimal_digits : (n : ℕ) → n < 2 ^ 64 → AllPass is_ascii_digit (decimal n)
 decimal_digits n h =
     decimal_by_steps (λ k digits. AllPass is_ascii_digit digits) one_digit
-    (λ k digits big so_far. AllPass-append is_ascii_digit digits ((48 + k % 10) ∷ []) so_far (one_digit (k % 10) (omega arith)))
+    (λ k digits big so_far.
+    AllPass-append is_ascii_digit digits ((48 + k % 10) ∷ []) so_far (one_digit (k % 10) (omega arith)))
     n h
 
 pub all_digits : (n : ℕ) → n < 2 ^ 64 → list_all is_ascii_digit (decimal n) ≡ true
@@ -82,7 +84,8 @@ range_graphic : (range : Span) → IsSpan range → AllPass is_ascii_graphic (ra
 range_graphic range h =
     let last = codes "-" ++ decimal range.last in
     AllPass-append is_ascii_graphic (decimal range.first) last (decimal_graphic range.first (omega (arith, h.0)))
-    (AllPass-append is_ascii_graphic (codes "-") (decimal range.last) (AllPass-from_list_all is_ascii_graphic (codes "-") refl) (decimal_graphic range.last (omega (arith, h.1))))
+    (AllPass-append is_ascii_graphic (codes "-") (decimal range.last)
+    (AllPass-from_list_all is_ascii_graphic (codes "-") refl) (decimal_graphic range.last (omega (arith, h.1))))
 
 -- ---- fields
 
@@ -94,24 +97,28 @@ pub record AreRead (max_body : ℕ) (fields : Fields) (size : ℕ) (range : Exte
   pub keeps : keeps_connection 1 fields ≡ true
   pub range_is : extent_of (values_of (codes "content-range") fields) ≡ range
 
-pub plain_field : (name value : List ℕ) → nat_lt 0 (length name) ≡ true → list_all is_token_byte name ≡ true → AllPass is_ascii_graphic value
-    → IsPlainField (name, value)
-plain_field name value some h v = graphic_field name value (grind (arith, nat_tests), AllPass-from_list_all is_token_byte name h) v
+pub plain_field : (name value : List ℕ) → nat_lt 0 (length name) ≡ true → list_all is_token_byte name ≡ true
+    → AllPass is_ascii_graphic value → IsPlainField (name, value)
+plain_field name value some h v =
+    graphic_field name value (grind (arith, nat_tests), AllPass-from_list_all is_token_byte name h) v
 
-with_field : (f : List ℕ × List ℕ) (fields : Fields) → IsPlainField f → All IsPlainField fields → All IsPlainField (f ∷ fields)
+with_field : (f : List ℕ × List ℕ) (fields : Fields) → IsPlainField f → All IsPlainField fields
+    → All IsPlainField (f ∷ fields)
 with_field f fields h t = All-cons IsPlainField f fields h t
 
 host_plain : (host : List ℕ) → is_host host ≡ true → IsPlainField (codes "Host", host)
 unfolding is_token_byte
 host_plain host h =
-    plain_field (codes "Host") host refl refl (AllPass-from_list_all is_ascii_graphic host (and_parts (nat_lt 0 (length host)) (list_all is_ascii_graphic host) h).1)
+    plain_field (codes "Host") host refl refl (AllPass-from_list_all is_ascii_graphic host
+    (and_parts (nat_lt 0 (length host)) (list_all is_ascii_graphic host) h).1)
 
 abbrev zero_field : List ℕ × List ℕ
 zero_field = (codes "Content-Length", codes "0")
 
 zero_plain : IsPlainField zero_field
 unfolding is_token_byte
-zero_plain = plain_field (codes "Content-Length") (codes "0") refl refl (AllPass-from_list_all is_ascii_graphic (codes "0") refl)
+zero_plain =
+    plain_field (codes "Content-Length") (codes "0") refl refl (AllPass-from_list_all is_ascii_graphic (codes "0") refl)
 
 pub type_plain : IsPlainField (codes "Content-Type", codes "application/octet-stream")
 unfolding is_token_byte
@@ -134,7 +141,8 @@ body_plain body small =
     (with_field size [] (length_plain (length body) small) (All-nil IsPlainField))
 
 -- no field but the Host
-pub bare_read : (max_body : ℕ) (host : List ℕ) → is_host host ≡ true → AreRead max_body ((codes "Host", host) ∷ []) 0 Absent
+pub bare_read : (max_body : ℕ) (host : List ℕ) → is_host host ≡ true
+    → AreRead max_body ((codes "Host", host) ∷ []) 0 Absent
 unfolding values_of
 bare_read max_body host h = record {
   plain = with_field (codes "Host", host) [] (host_plain host h) (All-nil IsPlainField);
@@ -145,10 +153,13 @@ bare_read max_body host h = record {
 }
 
 -- a length of 0
-pub post_read : (max_body : ℕ) (host : List ℕ) → is_host host ≡ true → AreRead max_body ((codes "Host", host) ∷ zero_field ∷ []) 0 Absent
+pub post_read : (max_body : ℕ) (host : List ℕ) → is_host host ≡ true
+    → AreRead max_body ((codes "Host", host) ∷ zero_field ∷ []) 0 Absent
 unfolding values_of is_number
 post_read max_body host h = record {
-  plain = with_field (codes "Host", host) (zero_field ∷ []) (host_plain host h) (with_field zero_field [] zero_plain (All-nil IsPlainField));
+  plain =
+      with_field (codes "Host", host) (zero_field ∷ []) (host_plain host h)
+      (with_field zero_field [] zero_plain (All-nil IsPlainField));
   few = omega arith;
   framed = rw (le-ltb max_body 0 (omega arith)) refl;
   keeps = refl;
@@ -170,8 +181,9 @@ body_read max_body host body h fits limit =
     }
 
 -- a range where it is given, and the fields of a body
-pub upload_read : (max_body : ℕ) (host : List ℕ) (range : Extent) (body : List ℕ) → is_host host ≡ true → IsAbsentOrGiven range → HasSpan range
-    → length body ≤ max_body → max_body < 2 ^ 64 → AreRead max_body ((codes "Host", host) ∷ (range_fields range ++ body_fields body)) (length body) range
+pub upload_read : (max_body : ℕ) (host : List ℕ) (range : Extent) (body : List ℕ) → is_host host ≡ true
+    → IsAbsentOrGiven range → HasSpan range → length body ≤ max_body → max_body < 2 ^ 64
+    → AreRead max_body ((codes "Host", host) ∷ (range_fields range ++ body_fields body)) (length body) range
 unfolding values_of
 upload_read max_body host Absent body h r s fits limit = body_read max_body host body h fits limit
 upload_read max_body host Bad body h r s fits limit = absurd r

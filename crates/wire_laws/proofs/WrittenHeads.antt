@@ -1,12 +1,14 @@
 -- A written message is a head of the grammar and a body.
-use Rattle.std.proofs.Common.{◌≡◌, ℕ, ◌<◌, ◌≤◌, true, false, codes, List, [], ◌∷◌, ◌++◌, All, length, map, reverse, refl, arith, ◌∙◌, sym, ap, IsTrue, append_assoc}
+use Rattle.std.proofs.Common.{◌≡◌, ℕ, ◌<◌, ◌≤◌, true, false, codes, List, [], ◌∷◌, ◌++◌, All, length, map, reverse}
+use Rattle.std.proofs.Common.{refl, arith, ◌∙◌, sym, ap, IsTrue, append_assoc}
 use Rattle.std.proofs.lemmas.List.{length-map}
 use Rattle.std.proofs.lemmas.Bool.Decides.{nat_tests}
 use Rattle.std.proofs.lemmas.List.Elements.{All-weaker, All-head, All-tail, All-map}
 use Rattle.std.specs.List.{flat_map}
 use Rattle.std.specs.Prelude.{IsUtf8}
 use Rattle.std.specs.Char.{is_ascii_graphic}
-use Rattle.httparse.specs.Grammar.{AllPass, IsToken, IsField, Field, RequestHead, crlf, print_request, print_field, is_value_byte, is_uri_byte, is_ows, skip_ows, trim_ows}
+use Rattle.httparse.specs.Grammar.{AllPass, IsToken, IsField, Field, RequestHead, crlf, print_request, print_field}
+use Rattle.httparse.specs.Grammar.{is_value_byte, is_uri_byte, is_ows, skip_ows, trim_ows}
 use Rattle.httparse.specs.Ascii.{crlf_bytes}
 use Rattle.httparse.specs.Spans.{name_and_value}
 use Rattle.httparse.proofs.TrimLemmas.{trim_ows_space, AllPass-reverse}
@@ -25,18 +27,28 @@ sent_fields m host = (codes "Host", host) ∷ m.fields
 
 abbrev pub head_with : List ℕ → List ℕ → Fields → RequestHead
 head_with method target fields =
-    record { blank = []; method = method; target = target; minor = 1; line_end = crlf; fields = map field_of fields; last = crlf }
+    record {
+      blank = [];
+      method = method;
+      target = target;
+      minor = 1;
+      line_end = crlf;
+      fields = map field_of fields;
+      last = crlf;
+    }
 
 -- the head that is written
 abbrev pub head_of : Message → List ℕ → RequestHead
 head_of m host = head_with m.method (target_of m) (sent_fields m host)
 
-pub fields_printed : (fields : Fields) → flat_map print_field (map field_of fields) ≡ flat_map written.print_field fields
+pub fields_printed : (fields : Fields)
+    → flat_map print_field (map field_of fields) ≡ flat_map written.print_field fields
 fields_printed [] = refl
 fields_printed ((name, value) ∷ fields) = rw (fields_printed fields) (simp append_assoc)
 
 whole_head : (method target : List ℕ) (fields : Fields)
-    → method ++ (codes " " ++ (target ++ (codes " HTTP/1.1" ++ (crlf_bytes ++ (flat_map written.print_field fields ++ crlf_bytes)))))
+    → method ++ (codes " "
+    ++ (target ++ (codes " HTTP/1.1" ++ (crlf_bytes ++ (flat_map written.print_field fields ++ crlf_bytes)))))
     ≡ print_request (head_with method target fields)
 unfolding print_request
 whole_head method target fields =
@@ -47,21 +59,26 @@ whole_head method target fields =
     joined a b c = simp append_assoc
 
 pub head_printed : (method target : List ℕ) (fields : Fields) → print_request (head_with method target fields)
-    ≡ method ++ (codes " " ++ (target ++ (codes " HTTP/1.1" ++ (crlf_bytes ++ (flat_map written.print_field fields ++ crlf_bytes)))))
+    ≡ method ++ (codes " "
+    ++ (target ++ (codes " HTTP/1.1" ++ (crlf_bytes ++ (flat_map written.print_field fields ++ crlf_bytes)))))
 head_printed method target fields = sym (whole_head method target fields)
 
 host_in_front : (method target host rest : List ℕ)
     → (method ++ (codes " " ++ target)) ++ (host_text host ++ (rest ++ crlf_bytes))
-    ≡ method ++ (codes " " ++ (target ++ (codes " HTTP/1.1" ++ (crlf_bytes ++ (((codes "Host" ++ (codes ": " ++ (host ++ crlf_bytes))) ++ rest) ++ crlf_bytes)))))
+    ≡ method ++ (codes " " ++ (target ++ (codes " HTTP/1.1"
+    ++ (crlf_bytes ++ (((codes "Host" ++ (codes ": " ++ (host ++ crlf_bytes))) ++ rest) ++ crlf_bytes)))))
 host_in_front method target host rest = simp append_assoc
 
-pub printed : (m : Message) (host : List ℕ) → request_line m ++ (host_text host ++ section_text m.fields) ≡ print_request (head_of m host)
+pub printed : (m : Message) (host : List ℕ)
+    → request_line m ++ (host_text host ++ section_text m.fields) ≡ print_request (head_of m host)
 printed m host =
-    host_in_front m.method (target_of m) host (flat_map written.print_field m.fields) ∙ whole_head m.method (target_of m) (sent_fields m host)
+    host_in_front m.method (target_of m) host (flat_map written.print_field m.fields)
+    ∙ whole_head m.method (target_of m) (sent_fields m host)
 
 pub printed_whole : (m : Message) (host : List ℕ) → print_message m host ≡ print_request (head_of m host) ++ m.body
 printed_whole m host =
-    parts_joined (request_line m) (host_text host) (section_text m.fields) m.body ∙ ap (λ t. t ++ m.body) (printed m host)
+    parts_joined (request_line m) (host_text host) (section_text m.fields) m.body
+    ∙ ap (λ t. t ++ m.body) (printed m host)
   where
     parts_joined : (a b c d : List ℕ) → a ++ (b ++ (c ++ d)) ≡ (a ++ (b ++ c)) ++ d
     parts_joined a b c d = simp append_assoc
@@ -88,7 +105,11 @@ trimmed v h = trim_ows_space v (graphic_kept v h) (graphic_kept (reverse v) (All
 -- a value of visible bytes
 pub graphic_field : (name value : List ℕ) → IsToken name → AllPass is_ascii_graphic value → IsPlainField (name, value)
 graphic_field name value n v =
-    record { name = n; value = AllPass-weaker is_ascii_graphic is_value_byte value graphic_value v; kept = trimmed value v }
+    record {
+      name = n;
+      value = AllPass-weaker is_ascii_graphic is_value_byte value graphic_value v;
+      kept = trimmed value v;
+    }
 
 pub values_kept : (fields : Fields) → All IsPlainField fields → map name_and_value (map field_of fields) ≡ fields
 values_kept [] h = refl
@@ -111,14 +132,21 @@ pub record IsSendable (m : Message) (host : List ℕ) : Type 0 where
   pub few : length (sent_fields m host) ≤ max_fields
   pub short : length (print_request (head_of m host)) ≤ max_head
 
-pub reads_head : (m : Message) (host : List ℕ) → IsSendable m host → ReadsHead requests (print_message m host) (head_of m host) m.body
+pub reads_head : (m : Message) (host : List ℕ) → IsSendable m host
+    → ReadsHead requests (print_message m host) (head_of m host) m.body
 reads_head m host h =
     let sent = sent_fields m host in
     let fields : All IsField (map field_of sent) =
     All-map IsField field_of sent (All-weaker IsPlainField (λ f. IsField (field_of f)) field_valid sent h.fields) in
     record {
       reads = (
-        record { method = h.method; target = h.target; target_text = h.target_text; minor = omega arith; fields = fields },
+        record {
+          method = h.method;
+          target = h.target;
+          target_text = h.target_text;
+          minor = omega arith;
+          fields = fields;
+        },
         printed_whole m host,
       );
       short = h.short;

@@ -1,5 +1,6 @@
 -- A written query gives its parameters back.
-use Rattle.std.proofs.Common.{ap, ◌≡◌, ◌≢◌, ℕ, ◌<◌, true, codes, List, [], ◌∷◌, ◌++◌, length, refl, arith, ◌∙◌, Some, None, length-append}
+use Rattle.std.proofs.Common.{ap, ◌≡◌, ◌≢◌, ℕ, ◌<◌, true, codes, List, [], ◌∷◌, ◌++◌, length, refl, arith, ◌∙◌, Some}
+use Rattle.std.proofs.Common.{None, length-append}
 use Rattle.std.proofs.lemmas.Bool.Decides.{nat_tests}
 use Rattle.std.proofs.lemmas.List.Elements.{All-append, All-cons}
 use Rattle.std.proofs.lemmas.List.Sums.{AllPass-from_list_all}
@@ -8,16 +9,20 @@ use Rattle.std.proofs.lemmas.Str.Ascii.{IsAscii-from_all}
 use Rattle.std.specs.List.{list_all}
 use Rattle.form_urlencoded.specs.Form.{raw_pairs, decode, split_once, split_pair}
 use Rattle.form_urlencoded.specs.Form as form
-use Rattle.form_urlencoded.proofs.FormLemmas.{raw_pairs-nil, raw_pairs_first, split_once_before_at, split_once_after_at, split_once_before_none, split_once_after_none, decode_plain}
+use Rattle.form_urlencoded.proofs.FormLemmas.{raw_pairs-nil, raw_pairs_first, split_once_before_at, split_once_after_at}
+use Rattle.form_urlencoded.proofs.FormLemmas.{split_once_before_none, split_once_after_none, decode_plain}
 use Rattle.http_wire.specs.Query.{parameter, first_value, decoded}
-use Rattle.upload_texts.proofs.PlainTexts.{IsPlain, IsParameters, Lacks, is_plain_byte, is_parameter_byte, lacks, AllPass-each, AllPass-append, IsParameters-plain, IsTarget-plain, ascii_bytes}
+use Rattle.upload_texts.proofs.PlainTexts.{IsPlain, IsParameters, Lacks, is_plain_byte, is_parameter_byte, lacks}
+use Rattle.upload_texts.proofs.PlainTexts.{AllPass-each, AllPass-append, IsParameters-plain, IsTarget-plain}
+use Rattle.upload_texts.proofs.PlainTexts.{ascii_bytes}
 
 -- a plain text decodes to itself
 read_plain : (text : List ℕ) → IsPlain text → decoded text ≡ text
 read_plain text h =
     let same : decode text ≡ text =
     decode_plain text (AllPass-each is_plain_byte form.IsPlain text (λ b p. (no_plus b p, no_percent b p)) h) in
-    rw same (utf8_lossy-IsUtf8 text (IsUtf8-from_ascii text (IsAscii-from_all text (ascii_bytes text (IsTarget-plain text h)))))
+    rw same
+    (utf8_lossy-IsUtf8 text (IsUtf8-from_ascii text (IsAscii-from_all text (ascii_bytes text (IsTarget-plain text h)))))
   where
     no_plus : (b : ℕ) → is_plain_byte b ≡ true → b ≢ 43
     no_plus b h = λ e. absurd (grind (arith, nat_tests))
@@ -38,8 +43,8 @@ pair_split name value n =
     rw (split_once_before_at 61 name value cut, split_once_after_at 61 name value cut) refl
 
 -- the pair in front of what is left
-first_pair : (name value text rest : List ℕ) → IsPlain name → (split_once 38 text).0 ≡ name ++ 61 ∷ value → (split_once 38 text).1 ≡ rest
-    → raw_pairs text ≡ (name, value) ∷ raw_pairs rest
+first_pair : (name value text rest : List ℕ) → IsPlain name → (split_once 38 text).0 ≡ name ++ 61 ∷ value
+    → (split_once 38 text).1 ≡ rest → raw_pairs text ≡ (name, value) ∷ raw_pairs rest
 first_pair name value text rest n before after =
     let some : 0 < length ((split_once 38 text).0) = rw before (omega (arith, length-append name (61 ∷ value))) in
     raw_pairs_first text some ∙ rw (before, after, pair_split name value n) refl
@@ -48,14 +53,17 @@ one_pair : (name value : List ℕ) → IsPlain name → IsPlain value → raw_pa
 one_pair name value n v =
     let text = name ++ 61 ∷ value in
     let cut : Lacks 38 text = pair_lacks_and name value n v in
-    first_pair name value text [] n (split_once_before_none 38 text cut) (split_once_after_none 38 text cut) ∙ rw raw_pairs-nil refl
+    first_pair name value text [] n (split_once_before_none 38 text cut) (split_once_after_none 38 text cut)
+    ∙ rw raw_pairs-nil refl
 
 -- <name>=<value>&<more>
-more_pairs : (name value more : List ℕ) → IsPlain name → IsPlain value → raw_pairs ((name ++ 61 ∷ value) ++ 38 ∷ more) ≡ (name, value) ∷ raw_pairs more
+more_pairs : (name value more : List ℕ) → IsPlain name → IsPlain value
+    → raw_pairs ((name ++ 61 ∷ value) ++ 38 ∷ more) ≡ (name, value) ∷ raw_pairs more
 more_pairs name value more n v =
     let text = name ++ 61 ∷ value in
     let cut : Lacks 38 text = pair_lacks_and name value n v in
-    first_pair name value (text ++ 38 ∷ more) more n (split_once_before_at 38 text more cut) (split_once_after_at 38 text more cut)
+    first_pair name value (text ++ 38 ∷ more) more n (split_once_before_at 38 text more cut)
+    (split_once_after_at 38 text more cut)
 
 -- ---- the queries that are written
 
@@ -64,22 +72,29 @@ literal text h = AllPass-from_list_all is_plain_byte text h
 
 pub digest_parameters : (value : List ℕ) → IsPlain value → IsParameters (codes "digest=" ++ value)
 digest_parameters value h =
-    AllPass-append is_parameter_byte (codes "digest=") value (AllPass-from_list_all is_parameter_byte (codes "digest=") refl) (IsParameters-plain value h)
+    AllPass-append is_parameter_byte (codes "digest=") value
+    (AllPass-from_list_all is_parameter_byte (codes "digest=") refl) (IsParameters-plain value h)
 
 -- digest=<digest>
 pub digest_parameter : (value : List ℕ) → IsPlain value
-    → (parameter (codes "mount") (codes "digest=" ++ value) ≡ None) × (parameter (codes "digest") (codes "digest=" ++ value) ≡ Some value)
+    → (parameter (codes "mount") (codes "digest=" ++ value) ≡ None)
+    × (parameter (codes "digest") (codes "digest=" ++ value) ≡ Some value)
 digest_parameter value v =
     let digest : IsPlain (codes "digest") = literal (codes "digest") refl in
-    let pairs : raw_pairs (codes "digest=" ++ value) ≡ (codes "digest", value) ∷ [] = one_pair (codes "digest") value digest v in
-    (rw (pairs, read_plain (codes "digest") digest) refl, rw (pairs, read_plain (codes "digest") digest, read_plain value v) refl)
+    let pairs : raw_pairs (codes "digest=" ++ value) ≡ (codes "digest", value) ∷ [] =
+    one_pair (codes "digest") value digest v in (
+      rw (pairs, read_plain (codes "digest") digest) refl,
+      rw (pairs, read_plain (codes "digest") digest, read_plain value v) refl,
+    )
 
 pub mount_parameters : (digest source : List ℕ) → IsPlain digest → IsPlain source
     → IsParameters (codes "mount=" ++ (digest ++ (codes "&from=" ++ source)))
 mount_parameters digest source d s =
-    AllPass-append is_parameter_byte (codes "mount=") (digest ++ (codes "&from=" ++ source)) (AllPass-from_list_all is_parameter_byte (codes "mount=") refl)
+    AllPass-append is_parameter_byte (codes "mount=") (digest ++ (codes "&from=" ++ source))
+    (AllPass-from_list_all is_parameter_byte (codes "mount=") refl)
     (AllPass-append is_parameter_byte digest (codes "&from=" ++ source) (IsParameters-plain digest d)
-    (AllPass-append is_parameter_byte (codes "&from=") source (AllPass-from_list_all is_parameter_byte (codes "&from=") refl) (IsParameters-plain source s)))
+    (AllPass-append is_parameter_byte (codes "&from=") source
+    (AllPass-from_list_all is_parameter_byte (codes "&from=") refl) (IsParameters-plain source s)))
 
 -- mount=<digest>&from=<source>
 pub mount_parameter : (digest source : List ℕ) → IsPlain digest → IsPlain source
@@ -88,8 +103,10 @@ pub mount_parameter : (digest source : List ℕ) → IsPlain digest → IsPlain 
 mount_parameter digest source d s =
     let mount : IsPlain (codes "mount") = literal (codes "mount") refl in
     let from : IsPlain (codes "from") = literal (codes "from") refl in
-    let pairs : raw_pairs (codes "mount=" ++ (digest ++ (codes "&from=" ++ source))) ≡ (codes "mount", digest) ∷ (codes "from", source) ∷ [] =
-    more_pairs (codes "mount") digest (codes "from=" ++ source) mount d ∙ rw (one_pair (codes "from") source from s) refl in (
+    let pairs : raw_pairs (codes "mount=" ++ (digest ++ (codes "&from=" ++ source)))
+    ≡ (codes "mount", digest) ∷ (codes "from", source) ∷ [] =
+    more_pairs (codes "mount") digest (codes "from=" ++ source) mount d
+    ∙ rw (one_pair (codes "from") source from s) refl in (
       rw (pairs, read_plain (codes "mount") mount, read_plain digest d) refl,
       rw (pairs, read_plain (codes "mount") mount, read_plain (codes "from") from, read_plain source s) refl,
     )

@@ -1,5 +1,7 @@
 -- The text of each reply is read as what its answer says.
-use Rattle.std.proofs.Common.{◌≡◌, ℕ, ◌<◌, ◌≤◌, ◌^◌, Bool, true, false, List, [], ◌∷◌, ◌++◌, All, length, refl, arith, ◌∙◌, sym, subst, Option, Some, None, Ok, Err, inl, inr, append_assoc, lt-ltb, le-ltb, nat_lt}
+use Rattle.std.proofs.Common.{◌≡◌, ℕ, ◌<◌, ◌≤◌, ◌^◌, Bool, true, false, List, [], ◌∷◌, ◌++◌, All, length, refl, arith}
+use Rattle.std.proofs.Common.{◌∙◌, sym, subst, Option, Some, None, Ok, Err, inl, inr, append_assoc, lt-ltb, le-ltb}
+use Rattle.std.proofs.Common.{nat_lt}
 use Rattle.std.proofs.lemmas.Bool.{cases_lt}
 use Rattle.std.proofs.lemmas.Bool.Decides.{nat_tests}
 use Rattle.std.proofs.lemmas.List.Sums.{AllPass-from_list_all}
@@ -14,7 +16,8 @@ use Rattle.serde_json.proofs.OnLiterals.{serde_json_on_literals}
 use Rattle.upload_names.specs.NamePass.{is_name}
 use Rattle.upload_names.specs.Digest.{Digest, IsDigest}
 use Rattle.upload_service.specs.declared.answer.Answer.{Answer}
-use Rattle.upload_service.specs.declared.answer.Answer.TheVariants.{Base, Blob, Begun, Stored, Taken, Standing, Misplaced, Refused, NoMemory}
+use Rattle.upload_service.specs.declared.answer.Answer.TheVariants.{Base, Blob, Begun, Stored, Taken, Standing}
+use Rattle.upload_service.specs.declared.answer.Answer.TheVariants.{Misplaced, Refused, NoMemory}
 use Rattle.upload_service.specs.declared.answer.Refusal.{Refusal}
 use Rattle.upload_service.specs.declared.answer.Refusal.TheVariants as refusals
 use Rattle.http_wire.specs.Body.{is_number}
@@ -33,8 +36,10 @@ use Rattle.upload_client.specs.AnswerText.{code_in, code_of, max_answer}
 use Rattle.upload_client.specs.Heard.{bare, reply_heard}
 use Rattle.upload_client.specs.UnambiguousReplies.{ReplyParse, heard, too_large}
 use Rattle.upload_client.specs.declared.heard.Heard.{Heard}
-use Rattle.wire_laws.specs.WrittenReplies.{FitsMethod, HasLawfulValues, IsReadOnlyAs, RepliesAreHeard, blob_read, heard_in_head, most_told, reply_read}
-use Rattle.wire_laws.proofs.ReplyFields.{Says, blob_length, closed, error_size, found_says, length_says, misplaced_says, place_says, refused_says, standing_says, taken_says, upload_length}
+use Rattle.wire_laws.specs.WrittenReplies.{FitsMethod, HasLawfulValues, IsReadOnlyAs, RepliesAreHeard, blob_read}
+use Rattle.wire_laws.specs.WrittenReplies.{heard_in_head, most_told, reply_read}
+use Rattle.wire_laws.proofs.ReplyFields.{Says, blob_length, closed, error_size, found_says, length_says, misplaced_says}
+use Rattle.wire_laws.proofs.ReplyFields.{place_says, refused_says, standing_says, taken_says, upload_length}
 use Rattle.wire_laws.proofs.ReplyHeads.{head_text}
 use Rattle.wire_laws.proofs.WrittenFields.{all_digits}
 use Rattle.wire_laws.proofs.SentReplies.{Sent, heard_only, large_only, text_of}
@@ -73,7 +78,8 @@ code_by body code small e = rw (is_utf8-from_IsUtf8 body (IsUtf8-from_ascii body
 
     ascii : All (λ b. b < 128) body
     ascii =
-        AllPass-each (λ b. nat_lt b 128) (λ b. b < 128) body under (AllPass-from_list_all (λ b. nat_lt b 128) body small)
+        AllPass-each (λ b. nat_lt b 128) (λ b. b < 128) body under
+        (AllPass-from_list_all (λ b. nat_lt b 128) body small)
 
 no_code : None ≡ code_of []
 unfolding serde_json_on_literals
@@ -102,7 +108,8 @@ error_code errors.TooManyRequests = code_in_body errors.TooManyRequests refl ref
 abbrev SaysFor : Answer → List (List ℕ) → Type 0
 SaysFor answer lengths = Says (reply_of answer).fields lengths (reply_heard answer).place (reply_heard answer).upto
 
--- What an answer's reply says, and how the body behind it is framed. It isn't said of a blob, whose bytes may be too many.
+-- What an answer's reply says, and how the body behind it is framed. It isn't said of a blob, whose bytes may be too
+-- many.
 record IsSaid (answer : Answer) : Type 0 where
   lengths : List (List ℕ)
   says : SaysFor answer lengths
@@ -310,7 +317,8 @@ replies_heard answer style rest new h fits = go answer style.head h fits
     go answer true h fits = head_heard answer style.keep rest new (said_of answer h)
     go Base false h fits = whole_heard Base style.keep rest new base_said
     go (Blob digest size (Some content)) false h fits =
-        subst (λ n. IsReply (Blob digest n (Some content)) false style.keep rest new (blob_read content style.keep rest)) h.2
+        subst
+        (λ n. IsReply (Blob digest n (Some content)) false style.keep rest new (blob_read content style.keep rest)) h.2
         (blob_heard digest content style.keep rest new h.0 (subst (λ n. n < 2 ^ 64) (sym h.2) h.1))
     go (Blob digest size None) false h fits = absurd (cc fits)
     go (Begun name at) false h fits = whole_heard (Begun name at) style.keep rest new (begun_said name at h)

@@ -1,5 +1,7 @@
 -- A written target is read as the URI of its path and its query.
-use Rattle.std.proofs.Common.{◌≡◌, ◌≢◌, ℕ, ◌<◌, ◌≤◌, ◌==◌, false, List, [], ◌∷◌, ◌++◌, length, get_or, refl, arith, ◌∙◌, sym, ap, subst, IfSome, Option, Some, None, inl, inr, append-nil, take_all, lt-ltb, le-ltb, length-append}
+use Rattle.std.proofs.Common.{◌≡◌, ◌≢◌, ℕ, ◌<◌, ◌≤◌, ◌==◌, false, List, [], ◌∷◌, ◌++◌, length, get_or, refl, arith, ◌∙◌}
+use Rattle.std.proofs.Common.{sym, ap, subst, IfSome, Option, Some, None, inl, inr, append-nil, take_all, lt-ltb}
+use Rattle.std.proofs.Common.{le-ltb, length-append}
 use Rattle.std.proofs.Math.Seq.{take-append_seam, get_or-append_seam, drop-append-add}
 use Rattle.std.proofs.lemmas.Bool.Decides.{nat_tests}
 use Rattle.std.proofs.lemmas.List.{get_or_append_left}
@@ -15,7 +17,9 @@ use Rattle.http_uri.specs.Uri.{Spells, uri_path, uri_query}
 use Rattle.http_uri.proofs.RunLemmas.{index_of_is}
 use Rattle.upload_client.specs.AskText.{query_text}
 use Rattle.upload_wire.specs.Target.{HasNoSlash}
-use Rattle.upload_texts.proofs.PlainTexts.{IsPlain, IsParameters, IsTail, IsTarget, Lacks, is_plain_byte, is_tail_byte, is_target_byte, lacks, AllPass-append, AllPass-cons, IsTarget-plain, IsTarget-parameters, path_bytes, query_bytes, ascii_bytes}
+use Rattle.upload_texts.proofs.PlainTexts.{IsPlain, IsParameters, IsTail, IsTarget, Lacks, is_plain_byte, is_tail_byte}
+use Rattle.upload_texts.proofs.PlainTexts.{is_target_byte, lacks, AllPass-append, AllPass-cons, IsTarget-plain}
+use Rattle.upload_texts.proofs.PlainTexts.{IsTarget-parameters, path_bytes, query_bytes, ascii_bytes}
 
 -- ---- texts cut at a byte
 
@@ -56,12 +60,20 @@ no_authority kept = λ n x e. cc e
 
 -- a path and a query that begin with a slash, spelled as they are
 abbrev uri_with : List ℕ → Uri
-uri_with kept = record { scheme = None; authority = None; path_and_query = kept; absolute = no_scheme; authority_alone = no_authority kept }
+uri_with kept = record {
+  scheme = None;
+  authority = None;
+  path_and_query = kept;
+  absolute = no_scheme;
+  authority_alone = no_authority kept;
+}
 
-pub target_bytes : (path : List ℕ) (query : Option (List ℕ)) → IsPlain path → IfSome query IsParameters → IsTarget (path ++ query_text query)
+pub target_bytes : (path : List ℕ) (query : Option (List ℕ)) → IsPlain path → IfSome query IsParameters
+    → IsTarget (path ++ query_text query)
 target_bytes path None p q = rw append-nil (IsTarget-plain path p)
 target_bytes path (Some query) p q =
-    AllPass-append is_target_byte path (63 ∷ query) (IsTarget-plain path p) (AllPass-cons is_target_byte 63 query refl (IsTarget-parameters query q))
+    AllPass-append is_target_byte path (63 ∷ query) (IsTarget-plain path p)
+    (AllPass-cons is_target_byte 63 query refl (IsTarget-parameters query q))
 
 -- a path and a query are read from the text that joins them
 pub record IsSpelled (path : List ℕ) (query : Option (List ℕ)) : Type 0 where
@@ -71,8 +83,8 @@ pub record IsSpelled (path : List ℕ) (query : Option (List ℕ)) : Type 0 wher
   pub query_is : uri_query uri ≡ query
 
 spells_kept : (text : List ℕ) → get_or text 0 0 ≡ 47 → IsTarget text
-    → AllPass is_path_byte (split_once_front 63 text) → IfSome (split_once_back 63 text) (AllPass is_query_byte) → length text ≤ 65534
-    → Spells text (uri_with text)
+    → AllPass is_path_byte (split_once_front 63 text) → IfSome (split_once_back 63 text) (AllPass is_query_byte)
+    → length text ≤ 65534 → Spells text (uri_with text)
 spells_kept text slash bytes path query short =
     let kept : IsPathAndQuery text = record {
       start = inr (inr (inl slash));
@@ -81,13 +93,19 @@ spells_kept text slash bytes path query short =
       utf8 = IsUtf8-from_ascii text (IsAscii-from_all text (ascii_bytes text bytes));
       short = short;
     } in
-    let same : split_once_front 35 text ≡ text = front_none 35 text (lacks is_target_byte 35 text refl bytes) in
-    (short, ((inr slash, record { start = inr (rw slash refl); short = short; kept = subst IsPathAndQuery (sym same) kept }), sym same))
+    let same : split_once_front 35 text ≡ text = front_none 35 text (lacks is_target_byte 35 text refl bytes) in (
+      short,
+      (
+        (inr slash, record { start = inr (rw slash refl); short = short; kept = subst IsPathAndQuery (sym same) kept }),
+        sym same,
+      ),
+    )
 
 not_zero : (n : ℕ) → 0 < n → (n == 0) ≡ false
 not_zero n h = grind (arith, nat_tests)
 
-path_read : (k path : List ℕ) → 0 < length k → 0 < length path → split_once_front 63 k ≡ path → uri_path (uri_with k) ≡ path
+path_read : (k path : List ℕ) → 0 < length k → 0 < length path → split_once_front 63 k ≡ path
+    → uri_path (uri_with k) ≡ path
 path_read k path h g e =
     let outer = not_zero (length k) h in
     let inner = not_zero (length path) g in
@@ -108,20 +126,22 @@ spelled_path path h slash short =
     let query : IfSome (split_once_back 63 path) (AllPass is_query_byte) = rw (back_none 63 path cut) tt in
     record {
       uri = uri_with path;
-      spells = rw append-nil (spells_kept path slash whole (rw (front_none 63 path cut) (path_bytes path h)) query short);
+      spells =
+          rw append-nil (spells_kept path slash whole (rw (front_none 63 path cut) (path_bytes path h)) query short);
       path_is = path_read path path some some (front_none 63 path cut);
       query_is = back_none 63 path cut;
     }
 
-spelled_both : (path query : List ℕ) → IsPlain path → get_or path 0 0 ≡ 47 → IsParameters query → length (path ++ 63 ∷ query) ≤ 65534
-    → IsSpelled path (Some query)
+spelled_both : (path query : List ℕ) → IsPlain path → get_or path 0 0 ≡ 47 → IsParameters query
+    → length (path ++ 63 ∷ query) ≤ 65534 → IsSpelled path (Some query)
 spelled_both path query h slash q short =
     let text = path ++ 63 ∷ query in
     let cut = no_mark path h in
     let some = nonempty path slash in
     let first : get_or text 0 0 ≡ 47 = get_or_append_left path (63 ∷ query) 0 0 some ∙ slash in
     let front : AllPass is_path_byte (split_once_front 63 text) = rw (front_at 63 path query cut) (path_bytes path h) in
-    let back : IfSome (split_once_back 63 text) (AllPass is_query_byte) = rw (back_at 63 path query cut) (query_bytes query q) in
+    let back : IfSome (split_once_back 63 text) (AllPass is_query_byte) =
+    rw (back_at 63 path query cut) (query_bytes query q) in
     record {
       uri = uri_with text;
       spells = spells_kept text first (target_bytes path (Some query) h q) front back short;
@@ -129,8 +149,8 @@ spelled_both path query h slash q short =
       query_is = back_at 63 path query cut;
     }
 
-pub spelled : (path : List ℕ) (query : Option (List ℕ)) → IsPlain path → get_or path 0 0 ≡ 47 → IfSome query IsParameters
-    → length (path ++ query_text query) ≤ 65534 → IsSpelled path query
+pub spelled : (path : List ℕ) (query : Option (List ℕ)) → IsPlain path → get_or path 0 0 ≡ 47
+    → IfSome query IsParameters → length (path ++ query_text query) ≤ 65534 → IsSpelled path query
 spelled path None p slash q short = spelled_path path p slash (subst (λ t. length t ≤ 65534) (append-nil path) short)
 spelled path (Some query) p slash q short = spelled_both path query p slash q short
 

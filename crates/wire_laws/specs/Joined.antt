@@ -35,8 +35,8 @@ pub record IsNew (wire : WireState) : Type 0 where
 abbrev pub IsPrefix : List ℕ → List ℕ → Type 0
 IsPrefix front text = (back : List ℕ) × (text ≡ front ++ back)
 
--- The network between the two ends: the worker's reads gave a prefix of what the client's writes took, and the client's reads gave a prefix
--- of what the worker's writes took. It may cut a connection in each direction, at any byte.
+-- The network between the two ends: the worker's reads gave a prefix of what the client's writes took, and the client's
+-- reads gave a prefix of what the worker's writes took. It may cut a connection in each direction, at any byte.
 pub record Carries (client : WireState) (source : SourceState) (sink : SinkState) : Type 0 where
   pub there : IsPrefix source.given client.writer.taken
   pub back : IsPrefix client.reader.source.given sink.taken
@@ -62,7 +62,8 @@ pub record IsAudible (x : Exchange) : Type 0 where
 
 -- nothing was heard; or what the answer says, but perhaps for its error code, which the reply to a HEAD lacks
 abbrev pub Says : Answer → Option Heard → Type 0
-Says answer heard = (heard ≡ None) ⊎ ((code : Option (List ℕ)) × (heard ≡ Some (record (reply_heard answer) { code = code })))
+Says answer heard =
+    (heard ≡ None) ⊎ ((code : Option (List ℕ)) × (heard ≡ Some (record (reply_heard answer) { code = code })))
 
 -- of these asks nothing was heard, and the first of them are these
 abbrev pub AreUnanswered : List Asked → List Ask → Type 0
@@ -70,8 +71,8 @@ AreUnanswered xs [] = AllByRecursion (λ x. x.heard ≡ None) xs
 AreUnanswered [] (u ∷ us) = ⊥
 AreUnanswered (x ∷ xs) (u ∷ us) = (u ≡ x.ask) × (x.heard ≡ None) × AreUnanswered xs us
 
--- Each request that was answered is what was asked at its place, and what was heard there is what the answer says. The one that was not
--- answered is what was asked next. Of what was asked after the answered ones nothing was heard.
+-- Each request that was answered is what was asked at its place, and what was heard there is what the answer says. The
+-- one that was not answered is what was asked next. Of what was asked after the answered ones nothing was heard.
 abbrev pub AreJoined : List Asked → List Exchange → List Ask → Type 0
 AreJoined xs [] us = AreUnanswered xs us
 AreJoined [] (y ∷ ys) us = ⊥
@@ -96,7 +97,8 @@ IsOneOf [] ask = ⊥
 IsOneOf (x ∷ xs) ask = (ask ≡ x.ask) ⊎ IsOneOf xs ask
 
 -- The conversation began with nothing read and nothing written, and the answers to what the client asked can be heard.
-pub record CanBeJoined (xs : List Asked) (first : SourceState) (before : SinkState) (answers : List Exchange) : Type 0 where
+pub record CanBeJoined (xs : List Asked) (first : SourceState) (before : SinkState)
+    (answers : List Exchange) : Type 0 where
   pub given : first.given ≡ []
   pub taken : before.taken ≡ []
   pub audible : AllByRecursion (λ y. IsOneOf xs y.ask → y.style ≡ written_style y.ask → IsAudible y) answers
@@ -108,4 +110,5 @@ ConnectionsAreJoined {D} step =
     → CanBeJoined xs first before (answered step max_body first left old new before after end c)
     → (wire wire' : WireState) → IsNew wire → AsksInTurn wire xs wire'
     → AllByRecursion (λ x. MayBeAsked max_body x.ask wire.host) xs → Carries wire' left after
-    → AreJoined xs (answered step max_body first left old new before after end c) (unanswered step max_body first left old new before after end c)
+    → AreJoined xs (answered step max_body first left old new before after end c)
+    (unanswered step max_body first left old new before after end c)

@@ -4,12 +4,14 @@ use Rattle.upload_names.specs.NamePass.{is_name}
 use Rattle.upload_names.specs.Digest.{IsDigest}
 use Rattle.upload_names.specs.ByteRange.{IsSpan}
 use Rattle.upload_service.specs.declared.ask.Ask.{Ask}
-use Rattle.upload_service.specs.declared.ask.Ask.TheVariants.{Base, Has, Opening, Single, Mount, Chunk, Status, Close, Refused}
+use Rattle.upload_service.specs.declared.ask.Ask.TheVariants.{Base, Has, Opening, Single, Mount, Chunk, Status, Close}
+use Rattle.upload_service.specs.declared.ask.Ask.TheVariants.{Refused}
 use Rattle.upload_service.specs.declared.ask.Extent.{Extent}
 use Rattle.upload_service.specs.declared.ask.Extent.TheVariants.{Absent, Bad, Given}
 use Rattle.http_wire.specs.Fronts.{max_head}
 use Rattle.upload_wire.specs.RequestText.{IsRequest}
-use Rattle.upload_client.specs.AskText.{CanBeWritten, ask_text, host_text, is_host, message_of, request_line, section_text, wants_head}
+use Rattle.upload_client.specs.AskText.{CanBeWritten, ask_text, host_text, is_host, message_of, request_line}
+use Rattle.upload_client.specs.AskText.{section_text, wants_head}
 use Rattle.upload_wire.specs.declared.request.Style.{Style}
 
 -- ---- the values that an ask is made of
@@ -34,7 +36,8 @@ HasLawfulParts (Single name digest body) = IsTrue (is_name name) × IfSome diges
 HasLawfulParts (Mount name digest source) = IsTrue (is_name name) × IsDigest digest × IsTrue (is_name source)
 HasLawfulParts (Chunk name at range body) = IsTrue (is_name name) × IsReference at × HasSpan range
 HasLawfulParts (Status name at) = IsTrue (is_name name) × IsReference at
-HasLawfulParts (Close name at range digest body) = IsTrue (is_name name) × IsReference at × HasSpan range × IfSome digest IsDigest
+HasLawfulParts (Close name at range digest body) =
+    IsTrue (is_name name) × IsReference at × HasSpan range × IfSome digest IsDigest
 HasLawfulParts (Refused refusal) = ⊤
 
 -- ---- the law
@@ -54,6 +57,7 @@ written_style ask = record { head = wants_head ask; keep = true }
 -- An ask that may be written is read as the same ask, where its head and its body keep the limits of the reader.
 abbrev pub AsksAreReadBack : Type 0
 AsksAreReadBack =
-    (max_body : ℕ) (ask : Ask) (host : List ℕ) → max_body < 2 ^ 64 → CanBeWritten ask → HasLawfulParts ask → IsTrue (is_host host)
+    (max_body : ℕ) (ask : Ask) (host : List ℕ) → max_body < 2 ^ 64 → CanBeWritten ask → HasLawfulParts ask
+    → IsTrue (is_host host)
     → length (head_text ask host) ≤ max_head → length (body_text ask) ≤ max_body
     → IsRequest max_body (ask_text ask host) ask (written_style ask)

@@ -1,10 +1,12 @@
 -- What the service writes to answer is heard as what it answered.
-use Rattle.std.specs.Prelude.{◌≡◌, ◌≢◌, ◌⊎◌, ℕ, ◌+◌, ◌<◌, ◌≤◌, ◌^◌, Bool, nat_lt, List, ◌++◌, length, Some, None, Result, Ok, Err, IfSome, IsTrue, ⊤, if◌then◌else◌}
+use Rattle.std.specs.Prelude.{◌≡◌, ◌≢◌, ◌⊎◌, ℕ, ◌+◌, ◌<◌, ◌≤◌, ◌^◌, Bool, nat_lt, List, ◌++◌, length, Some, None}
+use Rattle.std.specs.Prelude.{Result, Ok, Err, IfSome, IsTrue, ⊤, if◌then◌else◌}
 use Rattle.upload_names.specs.NamePass.{is_name}
 use Rattle.upload_names.specs.Digest.{IsDigest}
 use Rattle.upload_names.specs.ByteRange.{range_cap}
 use Rattle.upload_service.specs.declared.answer.Answer.{Answer}
-use Rattle.upload_service.specs.declared.answer.Answer.TheVariants.{Base, Blob, Begun, Stored, Taken, Standing, Misplaced, Refused, NoMemory}
+use Rattle.upload_service.specs.declared.answer.Answer.TheVariants.{Base, Blob, Begun, Stored, Taken, Standing}
+use Rattle.upload_service.specs.declared.answer.Answer.TheVariants.{Misplaced, Refused, NoMemory}
 use Rattle.http_wire.specs.States.{SourceState}
 use Rattle.upload_wire.specs.ReplyText.{reply}
 use Rattle.upload_wire.specs.declared.request.Style.{Style}

@@ -27,10 +27,10 @@ pub fn exchanges_are_heard()
     ensures { ExchangesAreHeard }
 {}
 
-/// A whole connection, over sockets too: if the reads of each end gave a prefix of what the writes of the other took, then
-/// each request that was answered on it is what the client asked at its place, and what the client heard there is what the
-/// answer says, or nothing. Of what it asked after these it heard nothing. So it is whichever bytes the network lost, in
-/// either direction, and however the connection ended. Its answers have to be such that can be heard.
+/// A whole connection, over sockets too: if the reads of each end gave a prefix of what the writes of the other took,
+/// then each request that was answered on it is what the client asked at its place, and what the client heard there is
+/// what the answer says, or nothing. Of what it asked after these it heard nothing. So it is whichever bytes the
+/// network lost, in either direction, and however the connection ended. Its answers have to be such that can be heard.
 pub fn connections_are_joined<D: Desk>()
     ensures { ConnectionsAreJoined D.moves }
 {}

@@ -1,5 +1,5 @@
-//! Laws over both halves of the wire, the server's (`upload_wire`) and the client's (`upload_client`): what one writes the
-//! other reads as what was meant.
+//! Laws over both halves of the wire, the server's (`upload_wire`) and the client's (`upload_client`): what one writes
+//! the other reads as what was meant.
 #![tactic(auto)]
 
 mod laws;
