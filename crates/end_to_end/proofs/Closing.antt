@@ -25,7 +25,8 @@ use Rattle.end_to_end.proofs.Placing.{IsLast}
 
 -- ---- the step of the close
 
-close_is : (p : Push) (log : List Exchange) (ask : Ask) → IsSoundAsk p log ask → IsClose ask → (upload : List ℕ) × (ask ≡ asks.Close p.name upload Absent (Some p.digest) [])
+close_is : (p : Push) (log : List Exchange) (ask : Ask) → IsSoundAsk p log ask → IsClose ask
+    → (upload : List ℕ) × (ask ≡ asks.Close p.name upload Absent (Some p.digest) [])
 close_is p log (asks.Close name at range digest body) sound close =
     (at, λ i. asks.Close (sound.0 i) at (sound.2.no_range i) (sound.2.own_digest i) (sound.2.no_body i))
 close_is p log other sound close = absurd close
@@ -41,7 +42,8 @@ pub record IsClosedBy (p : Push) (front : List Marked) : Type 0 where
   pub asked : ask ≡ asks.Close p.name upload Absent (Some p.digest) []
   pub is_created : what.status ≡ 201
 
-pub closed_by : (p : Push) (log : List Exchange) (front : List Marked) → IsSound p log → EndsWith IsClose 201 log → IsLast log front → IsClosedBy p front
+pub closed_by : (p : Push) (log : List Exchange) (front : List Marked) → IsSound p log → EndsWith IsClose 201 log
+    → IsLast log front → IsClosedBy p front
 closed_by p [] front sound ends last = absurd ends
 closed_by p (e ∷ log) front sound ends last =
     elim e.heard as (λ h. e.heard ≡ h → HeardStatus h 201 → IsClosedBy p front) [
@@ -63,7 +65,8 @@ closed_by p (e ∷ log) front sound ends last =
 
 -- ---- its answer
 
-status_told : (answer : Answer) (h : Heard) (status : ℕ) → IsHeardOf answer (Some h) → h.status ≡ status → (reply_heard answer).status ≡ status
+status_told : (answer : Answer) (h : Heard) (status : ℕ) → IsHeardOf answer (Some h) → h.status ≡ status
+    → (reply_heard answer).status ≡ status
 status_told answer h status reaches is =
     elim reaches [
       | inl lost ↦ absurd (None≢Some (sym lost))
@@ -71,7 +74,8 @@ status_told answer h status reaches is =
     ]
 
 -- nothing but a blob that was stored is answered 201
-stored_is : (answer : Answer) → (reply_heard answer).status ≡ 201 → (name : List ℕ) × (digest : Digest) × (answer ≡ answers.Stored name digest)
+stored_is : (answer : Answer) → (reply_heard answer).status ≡ 201
+    → (name : List ℕ) × (digest : Digest) × (answer ≡ answers.Stored name digest)
 stored_is (answers.Stored name digest) is = (name, digest, refl)
 stored_is answers.Base is = absurd (omega (arith, is))
 stored_is (answers.Blob digest size bytes) is = absurd (omega (arith, is))
@@ -104,12 +108,15 @@ pub never_fall_front : (xs ys : List served.Exchange) → NeverFall (xs ++ ys) �
 never_fall_front xs ys never = never_before_front 0 xs ys never
 
 -- a close that was answered 201, and whose file stands there then, was of an upload that had received exactly the file
-pub record IsWholeUpload (p : Push) (start : State) (front : List served.Exchange) (x : served.Exchange) (upload : List ℕ) : Type 0 where
+pub record IsWholeUpload (p : Push) (start : State) (front : List served.Exchange) (x : served.Exchange)
+    (upload : List ℕ) : Type 0 where
   pub answered : x.answer ≡ answers.Stored p.name p.digest
   pub received_all : received start (front ++ x ∷ []) upload ≡ p.file
 
-pub whole_upload : (p : Push) (start : State) (front : List served.Exchange) (x : served.Exchange) (end : State) (upload : List ℕ) (what : Heard) → Headline start (front ++ x ∷ []) end
-    → x.ask ≡ asks.Close p.name upload Absent (Some p.digest) [] → IsHeardOf x.answer (Some what) → what.status ≡ 201 → IsStored p end → IsWholeUpload p start front x upload
+pub whole_upload : (p : Push) (start : State) (front : List served.Exchange) (x : served.Exchange)
+    (end : State) (upload : List ℕ) (what : Heard) → Headline start (front ++ x ∷ []) end
+    → x.ask ≡ asks.Close p.name upload Absent (Some p.digest) [] → IsHeardOf x.answer (Some what) → what.status ≡ 201
+    → IsStored p end → IsWholeUpload p start front x upload
 whole_upload p start front x end upload what headline asked reaches is_created stored =
     let found = stored_is x.answer (status_told x.answer what 201 reaches is_created) in
     let name = found.0 in
@@ -121,8 +128,10 @@ whole_upload p start front x end upload what headline asked reaches is_created s
     let commits = orderly.committed p.name upload Absent (Some p.digest) [] name digest asked found.2 in
     let digest_is : p.digest ≡ digest = same_inside commits.asked_for in
     let all : List ℕ = received start (front ++ x ∷ []) upload in
-    let here : map.get after.blobs p.digest ≡ Some all = ap (λ (d : Digest). map.get after.blobs d) digest_is ∙ commits.stored in
-    let there : map.get after.blobs p.digest ≡ Some p.file = subst (λ (s : State). map.get s.blobs p.digest ≡ Some p.file) end_is stored.bytes in
+    let here : map.get after.blobs p.digest ≡ Some all =
+    ap (λ (d : Digest). map.get after.blobs d) digest_is ∙ commits.stored in
+    let there : map.get after.blobs p.digest ≡ Some p.file =
+    subst (λ (s : State). map.get s.blobs p.digest ≡ Some p.file) end_is stored.bytes in
     record {
       answered = found.2 ∙ (λ i. answers.Stored (commits.named i) (sym digest_is i));
       received_all = same_inside (sym here ∙ there);

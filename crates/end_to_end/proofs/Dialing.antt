@@ -1,5 +1,6 @@
 -- The connections of a push that makes them as it needs them.
-use Rattle.std.proofs.Common.{◌≡◌, ℕ, Bool, true, false, List, [], ◌∷◌, ◌++◌, refl, sym, ap, subst, ◌∙◌, append-nil, append_assoc, inl, inr, Option, Some, None}
+use Rattle.std.proofs.Common.{◌≡◌, ℕ, Bool, true, false, List, [], ◌∷◌, ◌++◌, refl, sym, ap, subst, ◌∙◌, append-nil}
+use Rattle.std.proofs.Common.{append_assoc, inl, inr, Option, Some, None}
 use Rattle.std.specs.Prelude.{⊤, if◌then◌else◌}
 use Rattle.std.specs.List.{AllByRecursion}
 use Rattle.upload_service.specs.declared.ask.Ask.{Ask}
@@ -11,7 +12,8 @@ use Rattle.upload_push.proofs.Turns.{same_inside}
 use Rattle.wire_laws.specs.Joined.{Asked, AsksInTurn, IsNoGet}
 use Rattle.wire_laws.specs.WrittenExchanges.{MayBeAsked}
 use Rattle.end_to_end.specs.Network.{Connection, IsAskOf}
-use Rattle.end_to_end.specs.Dialing.{Leg, over, unmet, asked_in, asked_by, IsLegTo, DialedPushesHaveConnections, DialedConnectionsAreCarried}
+use Rattle.end_to_end.specs.Dialing.{Leg, over, unmet, asked_in, asked_by, IsLegTo, DialedPushesHaveConnections}
+use Rattle.end_to_end.specs.Dialing.{DialedConnectionsAreCarried}
 use Rattle.end_to_end.proofs.Seating.{all_both}
 
 -- ---- one more ask over a connection
@@ -19,8 +21,8 @@ use Rattle.end_to_end.proofs.Seating.{all_both}
 abbrev asked_of : Exchange → Asked
 asked_of e = record { ask = e.ask; heard = e.heard }
 
-in_turn_too : (made : WireState) (xs : List Asked) (left : WireState) (x : Asked) (new : WireState) → AsksInTurn made xs left → AsksOverWire left x.ask x.heard new
-    → AsksInTurn made (xs ++ x ∷ []) new
+in_turn_too : (made : WireState) (xs : List Asked) (left : WireState) (x : Asked) (new : WireState)
+    → AsksInTurn made xs left → AsksOverWire left x.ask x.heard new → AsksInTurn made (xs ++ x ∷ []) new
 in_turn_too made [] left x new turn asks = (new, subst (λ w. AsksOverWire w x.ask x.heard new) turn asks, refl)
 in_turn_too made (y ∷ ys) left x new turn asks = (turn.0, turn.1, in_turn_too turn.0 ys left x new turn.2 asks)
 
@@ -30,20 +32,25 @@ ask_of_newest : (e : Exchange) (log : List Exchange) → IsAskOf (e ∷ log) e.a
 ask_of_newest e log = record { later = []; at = e; earlier = log; split = refl; same = refl }
 
 ask_of_longer : (e : Exchange) (log : List Exchange) (ask : Ask) → IsAskOf log ask → IsAskOf (e ∷ log) ask
-ask_of_longer e log ask is = record { later = e ∷ is.later; at = is.at; earlier = is.earlier; split = ap (λ l. e ∷ l) is.split; same = is.same }
+ask_of_longer e log ask is =
+    record { later = e ∷ is.later; at = is.at; earlier = is.earlier; split = ap (λ l. e ∷ l) is.split; same = is.same }
 
-asks_of_longer : (e : Exchange) (log : List Exchange) (xs : List Asked) → AllByRecursion (λ x. IsAskOf log x.ask) xs → AllByRecursion (λ x. IsAskOf (e ∷ log) x.ask) xs
+asks_of_longer : (e : Exchange) (log : List Exchange) (xs : List Asked) → AllByRecursion (λ x. IsAskOf log x.ask) xs
+    → AllByRecursion (λ x. IsAskOf (e ∷ log) x.ask) xs
 asks_of_longer e log [] all = tt
 asks_of_longer e log (x ∷ xs) all = (ask_of_longer e log x.ask all.0, asks_of_longer e log xs all.1)
 
 -- ---- connections behind some asks
 
 module _ (host : List ℕ) (earlier : List Exchange) where
-  leg_of_longer : (e : Exchange) (log : List Exchange) (leg : Leg) → IsLegTo host earlier log leg → IsLegTo host earlier (e ∷ log) leg
-  leg_of_longer e log (over c) is = record { host_is = is.host_is; own = asks_of_longer e log c.asks is.own; before_it = is.before_it }
+  leg_of_longer : (e : Exchange) (log : List Exchange) (leg : Leg) → IsLegTo host earlier log leg
+      → IsLegTo host earlier (e ∷ log) leg
+  leg_of_longer e log (over c) is =
+      record { host_is = is.host_is; own = asks_of_longer e log c.asks is.own; before_it = is.before_it }
   leg_of_longer e log (unmet ask) is = tt
 
-  legs_of_longer : (e : Exchange) (log : List Exchange) (legs : List Leg) → AllByRecursion (IsLegTo host earlier log) legs → AllByRecursion (IsLegTo host earlier (e ∷ log)) legs
+  legs_of_longer : (e : Exchange) (log : List Exchange) (legs : List Leg)
+      → AllByRecursion (IsLegTo host earlier log) legs → AllByRecursion (IsLegTo host earlier (e ∷ log)) legs
   legs_of_longer e log [] all = tt
   legs_of_longer e log (leg ∷ legs) all = (leg_of_longer e log leg all.0, legs_of_longer e log legs all.1)
 
@@ -60,20 +67,25 @@ module _ (host : List ℕ) (earlier : List Exchange) where
     each : AllByRecursion (IsLegTo host earlier log) legs
     newest : IsKept kept legs
 
-  kept_newest : (c : Connection) (legs : List Leg) (stays : Bool) → IsKept (if stays then Some c.left else None) (over c ∷ legs)
+  kept_newest : (c : Connection) (legs : List Leg) (stays : Bool)
+      → IsKept (if stays then Some c.left else None) (over c ∷ legs)
   kept_newest c legs true = refl
   kept_newest c legs false = tt
 
   -- an ask over a connection that was made for it
-  over_new : (e : Exchange) (log : List Exchange) (wire new : WireState) (kept behind : Option WireState) → Connected log kept
-      → Connects host None (Some wire) → AsksOverWire wire e.ask e.heard new → behind ≡ kept_or None new → Connected (e ∷ log) behind
+  over_new : (e : Exchange) (log : List Exchange) (wire new : WireState) (kept behind : Option WireState)
+      → Connected log kept → Connects host None (Some wire) → AsksOverWire wire e.ask e.heard new
+      → behind ≡ kept_or None new → Connected (e ∷ log) behind
   over_new e log wire new kept behind at made asks is =
       let c : Connection = record {
         made = wire;
         before = [];
         asks = asked_of e ∷ [];
         left = new;
-        is_new = record { given = ap (λ (w : WireState). w.reader.source.given) made.2; taken = ap (λ (w : WireState). w.writer.taken) made.2 };
+        is_new = record {
+          given = ap (λ (w : WireState). w.reader.source.given) made.2;
+          taken = ap (λ (w : WireState). w.writer.taken) made.2;
+        };
         turn = (new, asks, refl);
       } in
       record {
@@ -87,14 +99,16 @@ module _ (host : List ℕ) (earlier : List Exchange) where
       }
 
   -- an ask over the connection that was kept
-  over_kept : (e : Exchange) (log : List Exchange) (wire new : WireState) (behind : Option WireState) (legs : List Leg) → asked_in legs ≡ asked_by log
-      → AllByRecursion (IsLegTo host earlier log) legs → IsKept (Some wire) legs → AsksOverWire wire e.ask e.heard new → behind ≡ kept_or None new → Connected (e ∷ log) behind
+  over_kept : (e : Exchange) (log : List Exchange) (wire new : WireState) (behind : Option WireState) (legs : List Leg)
+      → asked_in legs ≡ asked_by log → AllByRecursion (IsLegTo host earlier log) legs → IsKept (Some wire) legs
+      → AsksOverWire wire e.ask e.heard new → behind ≡ kept_or None new → Connected (e ∷ log) behind
   over_kept e log wire new behind [] all each newest asks is = absurd newest
   over_kept e log wire new behind (unmet ask ∷ legs) all each newest asks is = absurd newest
   over_kept e log wire new behind (over c ∷ legs) all each newest asks is =
       let x : Asked = asked_of e in
       let longer : AsksInTurn c.made ((c.before ++ c.asks) ++ x ∷ []) new =
-      in_turn_too c.made (c.before ++ c.asks) c.left x new c.turn (subst (λ w. AsksOverWire w e.ask e.heard new) (sym newest) asks) in
+      in_turn_too c.made (c.before ++ c.asks) c.left x new c.turn
+      (subst (λ w. AsksOverWire w e.ask e.heard new) (sym newest) asks) in
       let d : Connection = record {
         made = c.made;
         before = c.before;
@@ -109,7 +123,9 @@ module _ (host : List ℕ) (earlier : List Exchange) where
         each = (
           record {
             host_is = each.0.host_is;
-            own = all_both (λ y. IsAskOf (e ∷ log) y.ask) c.asks (x ∷ []) (asks_of_longer e log c.asks each.0.own) (ask_of_newest e log, tt);
+            own =
+                all_both (λ y. IsAskOf (e ∷ log) y.ask) c.asks (x ∷ []) (asks_of_longer e log c.asks each.0.own)
+                (ask_of_newest e log, tt);
             before_it = each.0.before_it;
           },
           legs_of_longer e log legs each.1,
@@ -118,7 +134,8 @@ module _ (host : List ℕ) (earlier : List Exchange) where
       }
 
   -- an ask for which there was no connection
-  over_none : (e : Exchange) (log : List Exchange) (kept behind : Option WireState) → Connected log kept → e.heard ≡ None → behind ≡ None → Connected (e ∷ log) behind
+  over_none : (e : Exchange) (log : List Exchange) (kept behind : Option WireState) → Connected log kept
+      → e.heard ≡ None → behind ≡ None → Connected (e ∷ log) behind
   over_none e log kept behind at none is = record {
     legs = unmet e.ask ∷ at.legs;
     all = λ i. at.all i ++ record { ask = e.ask; heard = (sym none) i } ∷ [];
@@ -126,17 +143,21 @@ module _ (host : List ℕ) (earlier : List Exchange) where
     newest = subst (λ k. IsKept k (unmet e.ask ∷ at.legs)) (sym is) tt;
   }
 
-  over_one : (e : Exchange) (log : List Exchange) (wire new : WireState) (kept behind : Option WireState) → Connected log kept
-      → Connects host kept (Some wire) → AsksOverWire wire e.ask e.heard new → behind ≡ kept_or None new → Connected (e ∷ log) behind
+  over_one : (e : Exchange) (log : List Exchange) (wire new : WireState) (kept behind : Option WireState)
+      → Connected log kept → Connects host kept (Some wire) → AsksOverWire wire e.ask e.heard new
+      → behind ≡ kept_or None new → Connected (e ∷ log) behind
   over_one e log wire new None behind at made asks is = over_new e log wire new None behind at made asks is
   over_one e log wire new (Some w) behind at same asks is =
-      over_kept e log wire new behind at.legs at.all at.each (subst (λ v. IsKept (Some v) at.legs) (sym (same_inside same)) at.newest) asks is
+      over_kept e log wire new behind at.legs at.all at.each
+      (subst (λ v. IsKept (Some v) at.legs) (sym (same_inside same)) at.newest) asks is
 
-  one_more : (e : Exchange) (log : List Exchange) (kept behind : Option WireState) → Connected log kept → AsksDialed host kept e.ask e.heard behind → Connected (e ∷ log) behind
+  one_more : (e : Exchange) (log : List Exchange) (kept behind : Option WireState) → Connected log kept
+      → AsksDialed host kept e.ask e.heard behind → Connected (e ∷ log) behind
   one_more e log kept behind at (inl asks) = over_one e log asks.0 asks.1 kept behind at asks.2 asks.3 asks.4
   one_more e log kept behind at (inr none) = over_none e log kept behind at none.1 none.2
 
-  connected : (first kept : Option WireState) (log : List Exchange) → Connected [] first → Leads (AsksDialed host) first log kept → Connected log kept
+  connected : (first kept : Option WireState) (log : List Exchange) → Connected [] first
+      → Leads (AsksDialed host) first log kept → Connected log kept
   connected first kept [] at leads = subst (Connected []) (sym leads) at
   connected first kept (e ∷ log) at leads = one_more e log leads.0 kept (connected first leads.0 log at leads.1) leads.2
 
@@ -162,7 +183,8 @@ module _ (host : List ℕ) (earlier : List Exchange) where
   none_asked (over c ∷ legs) = append-nil (asked_in (all_before legs)) ∙ none_asked legs
   none_asked (unmet ask ∷ legs) = none_asked legs
 
-  each_before : (legs : List Leg) → AllByRecursion (IsLegTo host earlier earlier) legs → AllByRecursion (IsLegTo host earlier []) (all_before legs)
+  each_before : (legs : List Leg) → AllByRecursion (IsLegTo host earlier earlier) legs
+      → AllByRecursion (IsLegTo host earlier []) (all_before legs)
   each_before [] each = tt
   each_before (over c ∷ legs) each = (
     record {
@@ -184,7 +206,12 @@ module _ (host : List ℕ) (earlier : List Exchange) where
   push_begins kept leads =
       let none : Connected [] None = record { legs = []; all = refl; each = tt; newest = tt } in
       let at : Connected earlier kept = connected None kept earlier none leads in
-      record { legs = all_before at.legs; all = none_asked at.legs; each = each_before at.legs at.each; newest = still_kept kept at.legs at.newest }
+      record {
+        legs = all_before at.legs;
+        all = none_asked at.legs;
+        each = each_before at.legs at.each;
+        newest = still_kept kept at.legs at.newest;
+      }
 
 pub have_connections : DialedPushesHaveConnections
 have_connections host earlier log kept last first leads =
@@ -193,16 +220,19 @@ have_connections host earlier log kept last first leads =
 
 -- ---- connections that a network carried
 
-no_get_at : (later : List Exchange) (e : Exchange) (earlier : List Exchange) → AllByRecursion (λ (d : Exchange). IsNoGet d.ask) (later ++ e ∷ earlier) → IsNoGet e.ask
+no_get_at : (later : List Exchange) (e : Exchange) (earlier : List Exchange)
+    → AllByRecursion (λ (d : Exchange). IsNoGet d.ask) (later ++ e ∷ earlier) → IsNoGet e.ask
 no_get_at [] e earlier all = all.0
 no_get_at (d ∷ later) e earlier all = no_get_at later e earlier all.1
 
-no_get_of : (log : List Exchange) (ask : Ask) → AllByRecursion (λ (e : Exchange). IsNoGet e.ask) log → IsAskOf log ask → IsNoGet ask
+no_get_of : (log : List Exchange) (ask : Ask) → AllByRecursion (λ (e : Exchange). IsNoGet e.ask) log
+    → IsAskOf log ask → IsNoGet ask
 no_get_of log ask all is =
-    subst IsNoGet is.same (no_get_at is.later is.at is.earlier (subst (AllByRecursion (λ (e : Exchange). IsNoGet e.ask)) is.split all))
+    subst IsNoGet is.same
+    (no_get_at is.later is.at is.earlier (subst (AllByRecursion (λ (e : Exchange). IsNoGet e.ask)) is.split all))
 
-no_gets_of : (log : List Exchange) (xs : List Asked) → AllByRecursion (λ (e : Exchange). IsNoGet e.ask) log → AllByRecursion (λ x. IsAskOf log x.ask) xs
-    → AllByRecursion (λ x. IsNoGet x.ask) xs
+no_gets_of : (log : List Exchange) (xs : List Asked) → AllByRecursion (λ (e : Exchange). IsNoGet e.ask) log
+    → AllByRecursion (λ x. IsAskOf log x.ask) xs → AllByRecursion (λ x. IsNoGet x.ask) xs
 no_gets_of log [] all are = tt
 no_gets_of log (x ∷ xs) all are = (no_get_of log x.ask all are.0, no_gets_of log xs all are.1)
 

@@ -1,5 +1,6 @@
 -- What the marks of a seat say of its steps.
-use Rattle.std.proofs.Common.{◌≡◌, ℕ, ◌<◌, ◌⊎◌, Bool, true, false, List, [], ◌∷◌, ◌++◌, length, map, filter, refl, sym, ap, subst, ◌∙◌, append-nil, append_assoc, inl, inr, Option, Some, None, cond}
+use Rattle.std.proofs.Common.{◌≡◌, ℕ, ◌<◌, ◌⊎◌, Bool, true, false, List, [], ◌∷◌, ◌++◌, length, map, filter, refl, sym}
+use Rattle.std.proofs.Common.{ap, subst, ◌∙◌, append-nil, append_assoc, inl, inr, Option, Some, None, cond}
 use Rattle.std.specs.Prelude.{⊤, ◌==◌}
 use Rattle.std.specs.List.{AllByRecursion, flat_map}
 use Rattle.std.proofs.Common.{⊎_elim}
@@ -13,14 +14,16 @@ use Rattle.http_wire.specs.States.{SourceState, SinkState}
 use Rattle.upload_wire.specs.Conversation.{Moves, Exchange, EndsWith, stand}
 use Rattle.upload_wire.specs.ConnectionRuns.{unanswered_last}
 use Rattle.upload_wire.specs.declared.connection.ConnEnd.{ConnEnd}
-use Rattle.upload_wire.specs.declared.connection.ConnEnd.TheVariants.{Clean, AfterClose, AfterBad, TooMany, DeskGone, Fault}
+use Rattle.upload_wire.specs.declared.connection.ConnEnd.TheVariants.{Clean, AfterClose, AfterBad, TooMany, DeskGone}
+use Rattle.upload_wire.specs.declared.connection.ConnEnd.TheVariants.{Fault}
 use Rattle.upload_wire.specs.declared.connection.ConnFault.TheVariants as Conn
 use Rattle.upload_client.specs.declared.heard.Heard.{Heard}
 use Rattle.upload_intake.specs.Log.{Step}
 use Rattle.upload_intake.specs.Seats.{SeatState}
 use Rattle.upload_intake.specs.ServedPool.{of_seat, asked_and_answered, read_and_replied, asks}
 use Rattle.upload_intake.specs.Transcripts.{GivesUnused}
-use Rattle.upload_intake.specs.Working.{Means, Talk, Serves, steps, answered_on, unanswered_on, all_answered, all_unanswered}
+use Rattle.upload_intake.specs.Working.{Means, Talk, Serves, steps, answered_on, unanswered_on, all_answered}
+use Rattle.upload_intake.specs.Working.{all_unanswered}
 use Rattle.upload_intake.proofs.Working.{behind}
 use Rattle.upload_push.specs.Runs.{IsHeardOf}
 use Rattle.upload_push.specs.Slices.{Push, IsSound, IsSoundAsk}
@@ -33,7 +36,8 @@ use Rattle.wire_laws.proofs.ShortAnswers.{short_answers}
 use Rattle.wire_laws.proofs.WrittenExchanges.{answers_heard}
 use Rattle.wire_laws.proofs.JoinedEnds.{connections_joined}
 use Rattle.end_to_end.specs.Marks.{Mark, other, heard, unheard, mark_of, Marked, steps_in, Agrees, IsOwn}
-use Rattle.end_to_end.specs.Network.{marks_asked, unanswered_marks, marks_on, IsAskOf, at_seat, Whose, IsWhose, marks_of}
+use Rattle.end_to_end.specs.Network.{marks_asked, unanswered_marks, marks_on, IsAskOf, at_seat, Whose, IsWhose}
+use Rattle.end_to_end.specs.Network.{marks_of}
 
 -- ---- requests and marks, place by place
 
@@ -69,11 +73,13 @@ both_fit [] js (k ∷ ks) ls a b = absurd a
 both_fit (i ∷ is) js [] ls a b = absurd a
 both_fit (i ∷ is) js (k ∷ ks) ls a b = (a.0, both_fit is js ks ls a.1 b)
 
-unanswered_fits : (u ask : Ask) (told : Option Heard) → u ≡ ask → told ≡ None → Fits (unanswered_item u) (mark_of ask told)
+unanswered_fits : (u ask : Ask) (told : Option Heard) → u ≡ ask → told ≡ None
+    → Fits (unanswered_item u) (mark_of ask told)
 unanswered_fits u ask None is none = is
 unanswered_fits u ask (Some what) is none = absurd (cc none)
 
-answered_fits : (ask : Ask) (answer : Answer) (asked : Ask) (told : Option Heard) → ask ≡ asked → Says answer told → Fits (ask, Some answer) (mark_of asked told)
+answered_fits : (ask : Ask) (answer : Answer) (asked : Ask) (told : Option Heard) → ask ≡ asked → Says answer told
+    → Fits (ask, Some answer) (mark_of asked told)
 answered_fits ask answer asked None is says = is
 answered_fits ask answer asked (Some what) is says = (is, says)
 
@@ -91,7 +97,8 @@ own_marked : (asks : List Asked) → MarksAll asks (map (λ (x : Asked). mark_of
 own_marked [] = tt
 own_marked (x ∷ asks) = (inr refl, own_marked asks)
 
-all_marked : (before asks : List Asked) → MarksAll (before ++ asks) (map (λ (x : Asked). other) before ++ map (λ (x : Asked). mark_of x.ask x.heard) asks)
+all_marked : (before asks : List Asked)
+    → MarksAll (before ++ asks) (map (λ (x : Asked). other) before ++ map (λ (x : Asked). mark_of x.ask x.heard) asks)
 all_marked [] asks = own_marked asks
 all_marked (x ∷ before) asks = (inl refl, all_marked before asks)
 
@@ -99,19 +106,25 @@ marked_fits : (i : Item) (x : Asked) (k : Mark) → MarksOne x k → Fits i (mar
 marked_fits i x k (inl is) fits = subst (Fits i) (sym is) tt
 marked_fits i x k (inr is) fits = subst (Fits i) (sym is) fits
 
-unanswered_fit : (xs : List Asked) (ks : List Mark) (us : List Ask) → MarksAll xs ks → AreUnanswered xs us → AllFit (map unanswered_item us) (unanswered_marks ks us)
+unanswered_fit : (xs : List Asked) (ks : List Mark) (us : List Ask) → MarksAll xs ks → AreUnanswered xs us
+    → AllFit (map unanswered_item us) (unanswered_marks ks us)
 unanswered_fit xs ks [] marked joined = tt
 unanswered_fit [] ks (u ∷ us) marked joined = absurd joined
 unanswered_fit (x ∷ xs) [] (u ∷ us) marked joined = absurd marked
-unanswered_fit (x ∷ xs) (k ∷ ks) (u ∷ us) marked joined =
-    (marked_fits (unanswered_item u) x k marked.0 (unanswered_fits u x.ask x.heard joined.0 joined.1), unanswered_fit xs ks us marked.1 joined.2)
+unanswered_fit (x ∷ xs) (k ∷ ks) (u ∷ us) marked joined = (
+  marked_fits (unanswered_item u) x k marked.0 (unanswered_fits u x.ask x.heard joined.0 joined.1),
+  unanswered_fit xs ks us marked.1 joined.2,
+)
 
-joined_fit : (xs : List Asked) (ks : List Mark) (ys : List Exchange) (us : List Ask) → MarksAll xs ks → AreJoined xs ys us → AllFit (items ys us) (marks_on ks ys us)
+joined_fit : (xs : List Asked) (ks : List Mark) (ys : List Exchange) (us : List Ask) → MarksAll xs ks
+    → AreJoined xs ys us → AllFit (items ys us) (marks_on ks ys us)
 joined_fit xs ks [] us marked joined = unanswered_fit xs ks us marked joined
 joined_fit [] ks (y ∷ ys) us marked joined = absurd joined
 joined_fit (x ∷ xs) [] (y ∷ ys) us marked joined = absurd marked
-joined_fit (x ∷ xs) (k ∷ ks) (y ∷ ys) us marked joined =
-    (marked_fits (answered_item y) x k marked.0 (answered_fits y.ask y.answer x.ask x.heard joined.0 joined.1), joined_fit xs ks ys us marked.1 joined.2)
+joined_fit (x ∷ xs) (k ∷ ks) (y ∷ ys) us marked joined = (
+  marked_fits (answered_item y) x k marked.0 (answered_fits y.ask y.answer x.ask x.heard joined.0 joined.1),
+  joined_fit xs ks ys us marked.1 joined.2,
+)
 
 others_unanswered_fit : (us : List Ask) → AllFit (map unanswered_item us) (unanswered_marks [] us)
 others_unanswered_fit [] = tt
@@ -133,17 +146,20 @@ own_mark p ask None own = own
 own_mark p ask (Some what) own = own
 
 own_asked : (p : Push) (before asks : List Asked) → AllByRecursion (λ x. IsOwn p x.ask) asks
-    → AllByRecursion (IsOwnMark p) (map (λ (x : Asked). other) before ++ map (λ (x : Asked). mark_of x.ask x.heard) asks)
+    → AllByRecursion (IsOwnMark p)
+    (map (λ (x : Asked). other) before ++ map (λ (x : Asked). mark_of x.ask x.heard) asks)
 own_asked p [] [] own = tt
 own_asked p [] (x ∷ asks) own = (own_mark p x.ask x.heard own.0, own_asked p [] asks own.1)
 own_asked p (x ∷ before) asks own = (tt, own_asked p before asks own)
 
-own_unanswered : (p : Push) (ks : List Mark) (us : List Ask) → AllByRecursion (IsOwnMark p) ks → AllByRecursion (IsOwnMark p) (unanswered_marks ks us)
+own_unanswered : (p : Push) (ks : List Mark) (us : List Ask) → AllByRecursion (IsOwnMark p) ks
+    → AllByRecursion (IsOwnMark p) (unanswered_marks ks us)
 own_unanswered p ks [] own = tt
 own_unanswered p [] (u ∷ us) own = (tt, own_unanswered p [] us tt)
 own_unanswered p (k ∷ ks) (u ∷ us) own = (own.0, own_unanswered p ks us own.1)
 
-own_marks : (p : Push) (ks : List Mark) (ys : List Exchange) (us : List Ask) → AllByRecursion (IsOwnMark p) ks → AllByRecursion (IsOwnMark p) (marks_on ks ys us)
+own_marks : (p : Push) (ks : List Mark) (ys : List Exchange) (us : List Ask) → AllByRecursion (IsOwnMark p) ks
+    → AllByRecursion (IsOwnMark p) (marks_on ks ys us)
 own_marks p ks [] us own = own_unanswered p ks us own
 own_marks p [] (y ∷ ys) us own = (tt, own_marks p [] ys us tt)
 own_marks p (k ∷ ks) (y ∷ ys) us own = (own.0, own_marks p ks ys us own.1)
@@ -162,14 +178,19 @@ sound_no_get p log (asked.Mount name digest source) sound = tt
 sound_no_get p log (asked.Refused refusal) sound = tt
 
 -- a request of a push is sound behind those before it
-sound_behind : (p : Push) (later earlier : List push.Exchange) (e : push.Exchange) → IsSound p (later ++ e ∷ earlier) → IsSoundAsk p earlier e.ask
+sound_behind : (p : Push) (later earlier : List push.Exchange) (e : push.Exchange) → IsSound p (later ++ e ∷ earlier)
+    → IsSoundAsk p earlier e.ask
 sound_behind p [] earlier e sound = sound.0
 sound_behind p (x ∷ later) earlier e sound = sound_behind p later earlier e sound.1
 
 own_ask : (p : Push) (log : List push.Exchange) (ask : Ask) → IsSound p log → IsAskOf log ask → IsOwn p ask
-own_ask p log ask sound is = (is.earlier, subst (IsSoundAsk p is.earlier) is.same (sound_behind p is.later is.earlier is.at (subst (IsSound p) is.split sound)))
+own_ask p log ask sound is = (
+  is.earlier,
+  subst (IsSoundAsk p is.earlier) is.same (sound_behind p is.later is.earlier is.at (subst (IsSound p) is.split sound)),
+)
 
-own_asks : (p : Push) (log : List push.Exchange) (xs : List Asked) → IsSound p log → AllByRecursion (λ x. IsAskOf log x.ask) xs → AllByRecursion (λ x. IsOwn p x.ask) xs
+own_asks : (p : Push) (log : List push.Exchange) (xs : List Asked) → IsSound p log
+    → AllByRecursion (λ x. IsAskOf log x.ask) xs → AllByRecursion (λ x. IsOwn p x.ask) xs
 own_asks p log [] sound all = tt
 own_asks p log (x ∷ xs) sound all = (own_ask p log x.ask sound all.0, own_asks p log xs sound all.1)
 
@@ -177,7 +198,8 @@ no_gets : (p : Push) (xs : List Asked) → AllByRecursion (λ x. IsOwn p x.ask) 
 no_gets p [] own = tt
 no_gets p (x ∷ xs) own = (sound_no_get p own.0.0 x.ask own.0.1, no_gets p xs own.1)
 
-pub all_both : {A : Type 0} (P : A → Type 0) (xs ys : List A) → AllByRecursion P xs → AllByRecursion P ys → AllByRecursion P (xs ++ ys)
+pub all_both : {A : Type 0} (P : A → Type 0) (xs ys : List A) → AllByRecursion P xs → AllByRecursion P ys
+    → AllByRecursion P (xs ++ ys)
 all_both P [] ys a b = b
 all_both P (x ∷ xs) ys a b = (a.0, all_both P xs ys a.1 b)
 
@@ -207,33 +229,42 @@ record IsKnown (ask : Ask) : Type 0 where
   parts : HasLawfulParts ask
   no_get : IsNoGet ask
 
-answer_audible : (y : Exchange) → IsAnswered y.ask y.answer → IsKnown y.ask → y.style ≡ written_style y.ask → IsAudible y
+answer_audible : (y : Exchange) → IsAnswered y.ask y.answer → IsKnown y.ask
+    → y.style ≡ written_style y.ask → IsAudible y
 answer_audible y is known style_is =
-    let fits = answers_heard is.state is.lawful is.limits is.secret is.now y.ask y.answer is.after known.parts is.turn is.sized in
+    let fits =
+    answers_heard is.state is.lawful is.limits is.secret is.now y.ask y.answer is.after known.parts is.turn is.sized in
     record {
       values = fits.0;
       fits = subst (λ s. FitsMethod y.answer s.head) (sym style_is) fits.1;
       short = short_answers is.state is.secret is.now y.ask y.answer is.after known.no_get is.turn;
     }
 
-known_of : (max : ℕ) (host : List ℕ) (xs : List Asked) (ask : Ask) → AllByRecursion (λ x. MayBeAsked max x.ask host) xs → AllByRecursion (λ x. IsNoGet x.ask) xs → IsOneOf xs ask → IsKnown ask
+known_of : (max : ℕ) (host : List ℕ) (xs : List Asked) (ask : Ask) → AllByRecursion (λ x. MayBeAsked max x.ask host) xs
+    → AllByRecursion (λ x. IsNoGet x.ask) xs → IsOneOf xs ask → IsKnown ask
 known_of max host [] ask may none one = absurd one
-known_of max host (x ∷ xs) ask may none (inl is) = subst IsKnown (sym is) (record { parts = may.0.parts; no_get = none.0 })
+known_of max host (x ∷ xs) ask may none (inl is) =
+    subst IsKnown (sym is) (record { parts = may.0.parts; no_get = none.0 })
 known_of max host (x ∷ xs) ask may none (inr one) = known_of max host xs ask may.1 none.1 one
 
 abbrev pub AreAnswered : List Exchange → Type 0
 AreAnswered ys = AllByRecursion (λ (y : Exchange). IsAnswered y.ask y.answer) ys
 
-all_audible : (max : ℕ) (host : List ℕ) (xs : List Asked) (ys : List Exchange) → AllByRecursion (λ x. MayBeAsked max x.ask host) xs → AllByRecursion (λ x. IsNoGet x.ask) xs
-    → AreAnswered ys → AllByRecursion (λ y. IsOneOf xs y.ask → y.style ≡ written_style y.ask → IsAudible y) ys
+all_audible : (max : ℕ) (host : List ℕ) (xs : List Asked) (ys : List Exchange)
+    → AllByRecursion (λ x. MayBeAsked max x.ask host) xs → AllByRecursion (λ x. IsNoGet x.ask) xs → AreAnswered ys
+    → AllByRecursion (λ y. IsOneOf xs y.ask → y.style ≡ written_style y.ask → IsAudible y) ys
 all_audible max host xs [] may none is = tt
-all_audible max host xs (y ∷ ys) may none is =
-    (λ one style_is. answer_audible y is.0 (known_of max host xs y.ask may none one) style_is, all_audible max host xs ys may none is.1)
+all_audible max host xs (y ∷ ys) may none is = (
+  λ one style_is. answer_audible y is.0 (known_of max host xs y.ask may none one) style_is,
+  all_audible max host xs ys may none is.1,
+)
 
 -- ---- a worker's conversations
 
-module _ {D : Type 0} (step : Moves D) (max count : ℕ) (at new : D) (rest : List ℕ) (left : SourceState) (mid after : SinkState) where
-  all_heard : (end : ConnEnd) (e : EndsWith step max (stand count rest left at mid) new after end) → (end ≡ DeskGone → ⊥) → unanswered_last step max (stand count rest left at mid) new after end e ≡ []
+module _ {D : Type 0} (step : Moves D) (max count : ℕ) (at new : D) (rest : List ℕ) (left : SourceState)
+    (mid after : SinkState) where
+  all_heard : (end : ConnEnd) (e : EndsWith step max (stand count rest left at mid) new after end)
+      → (end ≡ DeskGone → ⊥) → unanswered_last step max (stand count rest left at mid) new after end e ≡ []
   all_heard Clean e there = refl
   all_heard AfterClose e there = refl
   all_heard AfterBad e there = refl
@@ -255,15 +286,21 @@ module _ {C In Out S G O : Type 0} (m : Means C In Out S G O) (max : ℕ) where
       let una : List Ask = unanswered_on m max t in
       ⊎_elim
       (λ (x : (t.end ≡ DeskGone) × ((ts ≡ []) × (new ≡ t.new))).
-      subst (λ (us : List (Talk m max)). flat_map items_on (t ∷ us) ≡ items (all_answered m max (t ∷ us)) (all_unanswered m max (t ∷ us))) (sym x.1.0)
-      (append-nil (items ans una) ∙ ap (λ l. items l una) (sym (append-nil ans)) ∙ ap (λ l. items (ans ++ []) l) (sym (append-nil una))))
+      subst (λ (us : List (Talk m max)). flat_map items_on (t ∷ us)
+      ≡ items (all_answered m max (t ∷ us)) (all_unanswered m max (t ∷ us))) (sym x.1.0)
+      (append-nil (items ans una) ∙ ap (λ l. items l una) (sym (append-nil ans))
+      ∙ ap (λ l. items (ans ++ []) l) (sym (append-nil una))))
       (λ (x : (t.end ≡ DeskGone → ⊥) × Serves m max s.0 t.new ts new).
-      let none : una ≡ [] = all_heard (steps m max) max (length t.conversation.exchanges) t.conversation.at t.new t.conversation.rest (m.reads t.reader_left) t.conversation.mid (m.writes t.writer_left) t.end t.conversation.ended x.0 in
+      let none : una ≡ [] =
+      all_heard (steps m max) max (length t.conversation.exchanges) t.conversation.at t.new t.conversation.rest
+      (m.reads t.reader_left) t.conversation.mid (m.writes t.writer_left) t.end t.conversation.ended x.0 in
       ap (λ l. items ans l ++ flat_map items_on ts) none
       ∙ ap (λ l. l ++ flat_map items_on ts) (append-nil (map answered_item ans))
       ∙ ap (λ l. map answered_item ans ++ l) (items_are s.0 t.new new ts x.1)
-      ∙ sym (append_assoc (map answered_item ans) (map answered_item (all_answered m max ts)) (map unanswered_item (all_unanswered m max ts)))
-      ∙ ap (λ l. l ++ map unanswered_item (all_unanswered m max ts)) (sym (map-append answered_item ans (all_answered m max ts)))
+      ∙ sym (append_assoc (map answered_item ans) (map answered_item (all_answered m max ts))
+      (map unanswered_item (all_unanswered m max ts)))
+      ∙ ap (λ l. l ++ map unanswered_item (all_unanswered m max ts))
+      (sym (map-append answered_item ans (all_answered m max ts)))
       ∙ ap (λ l. items (ans ++ all_answered m max ts) (l ++ all_unanswered m max ts)) (sym none))
       (behind t.end ((ts ≡ []) × (new ≡ t.new)) (Serves m max s.0 t.new ts new) s.3)
 
@@ -271,7 +308,8 @@ module _ {C In Out S G O : Type 0} (m : Means C In Out S G O) (max : ℕ) where
   abbrev pub IsUnused : Talk m max → Type 0
   IsUnused t = ((m.reads t.reader).given ≡ []) × ((m.writes t.writer).taken ≡ [])
 
-  pub all_unused : GivesUnused m → (conns : C) (desk new : SeatState × S) (ts : List (Talk m max)) → Serves m max conns desk ts new → AllByRecursion IsUnused ts
+  pub all_unused : GivesUnused m → (conns : C) (desk new : SeatState × S) (ts : List (Talk m max))
+      → Serves m max conns desk ts new → AllByRecursion IsUnused ts
   all_unused unused conns desk new [] s = tt
   all_unused unused conns desk new (t ∷ ts) s = (
     unused conns s.0 t.reader t.writer s.1,
@@ -282,42 +320,64 @@ module _ {C In Out S G O : Type 0} (m : Means C In Out S G O) (max : ℕ) where
   )
 
   module _ (p : Push) (log : List push.Exchange) (sound : IsSound p log) where
-    one_fits : (w : Whose m max log) → IsWhose m max log w → IsUnused w.0 → AreAnswered (answered_on m max w.0) → AllFit (items_on w.0) (marks_of m max log w)
+    one_fits : (w : Whose m max log) → IsWhose m max log w → IsUnused w.0 → AreAnswered (answered_on m max w.0)
+        → AllFit (items_on w.0) (marks_of m max log w)
     one_fits (t, None) is new answered = others_fit (answered_on m max t) (unanswered_on m max t)
     one_fits (t, Some c) is new answered =
         let all : List Asked = c.before ++ c.asks in
         let none : AllByRecursion (λ x. IsNoGet x.ask) all =
-        all_both (λ x. IsNoGet x.ask) c.before c.asks is.no_gets (no_gets p c.asks (own_asks p log c.asks sound is.own)) in
+        all_both (λ x. IsNoGet x.ask) c.before c.asks is.no_gets
+        (no_gets p c.asks (own_asks p log c.asks sound is.own)) in
         joined_fit all (marks_asked c) (answered_on m max t) (unanswered_on m max t) (all_marked c.before c.asks)
-        (connections_joined (steps m max) max (m.reads t.reader) (m.reads t.reader_left) t.old t.new (m.writes t.writer) (m.writes t.writer_left) t.end t.conversation all
-        (record { given = new.0; taken = new.1; audible = all_audible max c.made.host all (answered_on m max t) is.may none answered })
+        (connections_joined (steps m max) max (m.reads t.reader) (m.reads t.reader_left) t.old t.new (m.writes t.writer)
+        (m.writes t.writer_left) t.end t.conversation all
+        (record {
+          given = new.0;
+          taken = new.1;
+          audible = all_audible max c.made.host all (answered_on m max t) is.may none answered;
+        })
         c.made c.left c.is_new c.turn is.may is.carries)
 
     one_owns : (w : Whose m max log) → IsWhose m max log w → AllByRecursion (IsOwnMark p) (marks_of m max log w)
     one_owns (t, None) is = own_marks p [] (answered_on m max t) (unanswered_on m max t) tt
     one_owns (t, Some c) is =
-        own_marks p (marks_asked c) (answered_on m max t) (unanswered_on m max t) (own_asked p c.before c.asks (own_asks p log c.asks sound is.own))
+        own_marks p (marks_asked c) (answered_on m max t) (unanswered_on m max t)
+        (own_asked p c.before c.asks (own_asks p log c.asks sound is.own))
 
-    pub all_fit : (ws : List (Whose m max log)) → AllByRecursion (IsWhose m max log) ws → AllByRecursion IsUnused (map (λ (w : Whose m max log). w.0) ws) → AreAnswered (all_answered m max (map (λ (w : Whose m max log). w.0) ws)) → AllFit (flat_map items_on (map (λ (w : Whose m max log). w.0) ws)) (flat_map (marks_of m max log) ws)
+    pub all_fit : (ws : List (Whose m max log)) → AllByRecursion (IsWhose m max log) ws
+        → AllByRecursion IsUnused (map (λ (w : Whose m max log). w.0) ws)
+        → AreAnswered (all_answered m max (map (λ (w : Whose m max log). w.0) ws))
+        → AllFit (flat_map items_on (map (λ (w : Whose m max log). w.0) ws)) (flat_map (marks_of m max log) ws)
     all_fit [] each new answered = tt
-    all_fit (w ∷ ws) each new answered = both_fit (items_on w.0) (flat_map items_on (map (λ (v : Whose m max log). v.0) ws)) (marks_of m max log w) (flat_map (marks_of m max log) ws)
-        (one_fits w each.0 new.0 (all_first (λ (y : Exchange). IsAnswered y.ask y.answer) (answered_on m max w.0) (all_answered m max (map (λ (v : Whose m max log). v.0) ws)) answered))
-        (all_fit ws each.1 new.1 (all_second (λ (y : Exchange). IsAnswered y.ask y.answer) (answered_on m max w.0) (all_answered m max (map (λ (v : Whose m max log). v.0) ws)) answered))
+    all_fit (w ∷ ws) each new answered =
+        both_fit (items_on w.0) (flat_map items_on (map (λ (v : Whose m max log). v.0) ws)) (marks_of m max log w)
+        (flat_map (marks_of m max log) ws)
+        (one_fits w each.0 new.0 (all_first (λ (y : Exchange). IsAnswered y.ask y.answer) (answered_on m max w.0)
+        (all_answered m max (map (λ (v : Whose m max log). v.0) ws)) answered))
+        (all_fit ws each.1 new.1 (all_second (λ (y : Exchange). IsAnswered y.ask y.answer) (answered_on m max w.0)
+        (all_answered m max (map (λ (v : Whose m max log). v.0) ws)) answered))
 
-    pub all_own : (ws : List (Whose m max log)) → AllByRecursion (IsWhose m max log) ws → AllByRecursion (IsOwnMark p) (flat_map (marks_of m max log) ws)
+    pub all_own : (ws : List (Whose m max log)) → AllByRecursion (IsWhose m max log) ws
+        → AllByRecursion (IsOwnMark p) (flat_map (marks_of m max log) ws)
     all_own [] each = tt
-    all_own (w ∷ ws) each = all_both (IsOwnMark p) (marks_of m max log w) (flat_map (marks_of m max log) ws) (one_owns w each.0) (all_own ws each.1)
+    all_own (w ∷ ws) each =
+        all_both (IsOwnMark p) (marks_of m max log w) (flat_map (marks_of m max log) ws) (one_owns w each.0)
+        (all_own ws each.1)
 
 -- ---- a seat's steps
 
 -- the mark of a step that has this request and this answer
-agrees_answered : (step : Step) (ask : Ask) (answer : Answer) (k : Mark) → asked_and_answered step ≡ (ask, answer) → Fits (ask, Some answer) k → Agrees (step, k)
+agrees_answered : (step : Step) (ask : Ask) (answer : Answer) (k : Mark) → asked_and_answered step ≡ (ask, answer)
+    → Fits (ask, Some answer) k → Agrees (step, k)
 agrees_answered step ask answer other is fits = tt
-agrees_answered step ask answer (heard a what) is fits =
-    (ap (λ (x : Ask × Answer). x.0) is ∙ fits.0, subst (λ r. IsHeardOf r (Some what)) (sym (ap (λ (x : Ask × Answer). x.1) is)) fits.1)
+agrees_answered step ask answer (heard a what) is fits = (
+  ap (λ (x : Ask × Answer). x.0) is ∙ fits.0,
+  subst (λ r. IsHeardOf r (Some what)) (sym (ap (λ (x : Ask × Answer). x.1) is)) fits.1,
+)
 agrees_answered step ask answer (unheard a) is fits = ap (λ (x : Ask × Answer). x.0) is ∙ fits
 
-agrees_unanswered : (step : Step) (ask : Ask) (k : Mark) → step.exchange.ask ≡ ask → Fits (ask, None) k → Agrees (step, k)
+agrees_unanswered : (step : Step) (ask : Ask) (k : Mark) → step.exchange.ask ≡ ask → Fits (ask, None) k
+    → Agrees (step, k)
 agrees_unanswered step ask other is fits = tt
 agrees_unanswered step ask (heard a what) is fits = absurd fits
 agrees_unanswered step ask (unheard a) is fits = is ∙ fits
@@ -326,7 +386,8 @@ abbrev pub marks_in : List Marked → List Mark
 marks_in ms = map (λ (n : Marked). n.1) ms
 
 -- steps that nobody answered on a connection
-lost_agree : (ms : List Marked) (us : List Ask) (more : List Mark) → asks (steps_in ms) ≡ us → AllFit (map unanswered_item us) (marks_in ms ++ more) → AllByRecursion Agrees ms
+lost_agree : (ms : List Marked) (us : List Ask) (more : List Mark) → asks (steps_in ms) ≡ us
+    → AllFit (map unanswered_item us) (marks_in ms ++ more) → AllByRecursion Agrees ms
 lost_agree [] us more is fit = tt
 lost_agree (n ∷ ms) [] more is fit = absurd (cc is)
 lost_agree (n ∷ ms) (u ∷ us) more is fit =
@@ -338,7 +399,8 @@ no_steps : (ms : List Marked) → asks (steps_in ms) ≡ [] → AllByRecursion A
 no_steps [] is = tt
 no_steps (n ∷ ms) is = absurd (cc is)
 
-lost_asks : (ms : List Marked) (unheard : List Step) → map asked_and_answered (steps_in ms) ≡ map asked_and_answered unheard → asks (steps_in ms) ≡ asks unheard
+lost_asks : (ms : List Marked) (unheard : List Step)
+    → map asked_and_answered (steps_in ms) ≡ map asked_and_answered unheard → asks (steps_in ms) ≡ asks unheard
 lost_asks [] [] is = refl
 lost_asks [] (s ∷ ss) is = absurd (cc is)
 lost_asks (n ∷ ms) [] is = absurd (cc is)
@@ -348,8 +410,8 @@ lost_asks (n ∷ ms) (s ∷ ss) is =
     λ i. (ap (λ (x : Ask × Answer). x.0) pairs) i ∷ (lost_asks ms ss rest) i
 
 pub seat_agrees : (ms : List Marked) (ys : List Exchange) (us : List Ask) (lost : List Step) (more : List Mark)
-    → map asked_and_answered (steps_in ms) ≡ map read_and_replied ys ++ map asked_and_answered lost → (asks lost ≡ []) ⊎ (asks lost ≡ us)
-    → AllFit (items ys us) (marks_in ms ++ more) → AllByRecursion Agrees ms
+    → map asked_and_answered (steps_in ms) ≡ map read_and_replied ys ++ map asked_and_answered lost
+    → (asks lost ≡ []) ⊎ (asks lost ≡ us) → AllFit (items ys us) (marks_in ms ++ more) → AllByRecursion Agrees ms
 seat_agrees ms [] us lost more is sent fit =
     let same = lost_asks ms lost is in
     elim sent [
@@ -362,12 +424,14 @@ seat_agrees (n ∷ ms) (y ∷ ys) us lost more is sent fit =
     let rest : map asked_and_answered (steps_in ms) ≡ map read_and_replied ys ++ map asked_and_answered lost = cc in
     (agrees_answered n.0 y.ask y.answer n.1 first fit.0, seat_agrees ms ys us lost more rest sent fit.1)
 
-pub seat_owns : (p : Push) (ms : List Marked) → AllByRecursion (IsOwnMark p) (marks_in ms) → AllByRecursion (λ (n : Marked). IsOwnMark p n.1) ms
+pub seat_owns : (p : Push) (ms : List Marked) → AllByRecursion (IsOwnMark p) (marks_in ms)
+    → AllByRecursion (λ (n : Marked). IsOwnMark p n.1) ms
 seat_owns p [] own = tt
 seat_owns p (n ∷ ms) own = (own.0, seat_owns p ms own.1)
 
 -- the answered requests of a seat are steps of it
-pub steps_answered : (ss : List Step) (ys : List Exchange) (lost : List Step) → map asked_and_answered ss ≡ map read_and_replied ys ++ map asked_and_answered lost
+pub steps_answered : (ss : List Step) (ys : List Exchange) (lost : List Step)
+    → map asked_and_answered ss ≡ map read_and_replied ys ++ map asked_and_answered lost
     → AllByRecursion (λ (s : Step). IsAnswered s.exchange.ask s.exchange.answer) ss → AreAnswered ys
 steps_answered ss [] lost is all = tt
 steps_answered [] (y ∷ ys) lost is all = absurd (cc is)
@@ -376,30 +440,36 @@ steps_answered (s ∷ ss) (y ∷ ys) lost is all =
     let rest : map asked_and_answered ss ≡ map read_and_replied ys ++ map asked_and_answered lost = cc in
     (subst (λ (x : Ask × Answer). IsAnswered x.0 x.1) first all.0, steps_answered ss ys lost rest all.1)
 
-pub all_kept : {A : Type 0} (P : A → Type 0) (test : A → Bool) (xs : List A) → AllByRecursion P xs → AllByRecursion P (filter test xs)
+pub all_kept : {A : Type 0} (P : A → Type 0) (test : A → Bool) (xs : List A) → AllByRecursion P xs
+    → AllByRecursion P (filter test xs)
 all_kept P test [] all = tt
 all_kept P test (x ∷ xs) all =
     let more : AllByRecursion P (filter test xs) = all_kept P test xs all.1 in
-    elim (test x) as (λ b. AllByRecursion P (cond b (x ∷ filter test xs) (filter test xs))) [ true ↦ (all.0, more) | false ↦ more ]
+    elim (test x) as (λ b. AllByRecursion P (cond b (x ∷ filter test xs) (filter test xs)))
+    [ true ↦ (all.0, more) | false ↦ more ]
 
 -- the steps of one seat
 pub steps_at : (seat : ℕ) (ms : List Marked) → steps_in (at_seat seat ms) ≡ of_seat seat (steps_in ms)
 steps_at seat [] = refl
 steps_at seat (n ∷ ms) =
-    elim (seat == n.0.seat) as (λ b. steps_in (cond b (n ∷ at_seat seat ms) (at_seat seat ms)) ≡ cond b (n.0 ∷ of_seat seat (steps_in ms)) (of_seat seat (steps_in ms))) [
+    elim (seat == n.0.seat) as (λ b. steps_in (cond b (n ∷ at_seat seat ms) (at_seat seat ms))
+    ≡ cond b (n.0 ∷ of_seat seat (steps_in ms)) (of_seat seat (steps_in ms))) [
       | true ↦ ap (λ l. n.0 ∷ l) (steps_at seat ms)
       | false ↦ steps_at seat ms
     ]
 
 -- what holds of the steps of each seat holds of all
-pub by_seats : (P : Marked → Type 0) (number : ℕ) (ms : List Marked) → AllByRecursion (λ (n : Marked). n.0.seat < number) ms
+pub by_seats : (P : Marked → Type 0) (number : ℕ) (ms : List Marked)
+    → AllByRecursion (λ (n : Marked). n.0.seat < number) ms
     → ((seat : ℕ) → seat < number → AllByRecursion P (at_seat seat ms)) → AllByRecursion P ms
 by_seats P number [] seated each = tt
 by_seats P number (n ∷ ms) seated each = (
-  (subst (λ b. AllByRecursion P (cond b (n ∷ at_seat n.0.seat ms) (at_seat n.0.seat ms))) ((eq-eqb n.0.seat n.0.seat refl)) (each n.0.seat seated.0)).0,
+  (subst (λ b. AllByRecursion P (cond b (n ∷ at_seat n.0.seat ms) (at_seat n.0.seat ms)))
+      ((eq-eqb n.0.seat n.0.seat refl)) (each n.0.seat seated.0)).0,
   by_seats P number ms seated.1 (λ seat within. without (seat == n.0.seat) seat (each seat within)),
 )
   where
-    without : (b : Bool) (seat : ℕ) → AllByRecursion P (cond b (n ∷ at_seat seat ms) (at_seat seat ms)) → AllByRecursion P (at_seat seat ms)
+    without : (b : Bool) (seat : ℕ) → AllByRecursion P (cond b (n ∷ at_seat seat ms) (at_seat seat ms))
+        → AllByRecursion P (at_seat seat ms)
     without true seat all = all.1
     without false seat all = all

@@ -1,10 +1,12 @@
 -- A push whose steps are marked in the run of a pool left its file there.
-use Rattle.std.proofs.Common.{◌≡◌, ℕ, ◌<◌, Bool, true, false, List, [], ◌∷◌, ◌++◌, length, map, refl, sym, ap, subst, ◌∙◌, append_assoc, arith, inl, inr, Option}
+use Rattle.std.proofs.Common.{◌≡◌, ℕ, ◌<◌, Bool, true, false, List, [], ◌∷◌, ◌++◌, length, map, refl, sym, ap, subst}
+use Rattle.std.proofs.Common.{◌∙◌, append_assoc, arith, inl, inr, Option}
 use Rattle.std.specs.Prelude.{◌==◌, IsTrue, get_or, ◌||◌, Ok}
 use Rattle.std.specs.List.{AllByRecursion, flat_map}
 use Rattle.std.proofs.lemmas.List.{map-append}
 use Rattle.upload_names.specs.Digest.{Digest}
-use Rattle.upload_service.specs.Machine.{State, Outcome, Replies, Begins, Takes, Commits, Stores, Mounts, state_after, outcome, holds, Turn, AreLawful, IsLawful}
+use Rattle.upload_service.specs.Machine.{State, Outcome, Replies, Begins, Takes, Commits, Stores, Mounts, state_after}
+use Rattle.upload_service.specs.Machine.{outcome, holds, Turn, AreLawful, IsLawful}
 use Rattle.upload_service.specs.Run as served
 use Rattle.upload_service.specs.Run.{NeverFall, Run}
 use Rattle.upload_service.specs.Headline.{Headline}
@@ -31,7 +33,9 @@ use Rattle.end_to_end.specs.Marks.{other, heard, unheard, Marked, steps_in, exch
 use Rattle.end_to_end.specs.Network.{marks_of, IsAccount, IsFoundThere, IsLeftThere, PushesAreServed, at_seat}
 use Rattle.end_to_end.proofs.Placing.{Placed, placed, all_front, all_back}
 use Rattle.end_to_end.proofs.Closing.{IsClosedBy, closed_by, never_fall_front, whole_upload}
-use Rattle.end_to_end.proofs.Seating.{IsUnused, all_unused, IsAnswered, AreAnswered, IsOwnMark, all_kept, steps_answered, items_on, items_are, all_fit, all_own, all_first, seat_agrees, seat_owns, steps_at, by_seats, marks_in, items, AllFit}
+use Rattle.end_to_end.proofs.Seating.{IsUnused, all_unused, IsAnswered, AreAnswered, IsOwnMark, all_kept}
+use Rattle.end_to_end.proofs.Seating.{steps_answered, items_on, items_are, all_fit, all_own, all_first, seat_agrees}
+use Rattle.end_to_end.proofs.Seating.{seat_owns, steps_at, by_seats, marks_in, items, AllFit}
 
 -- ---- what is stored stays
 
@@ -39,25 +43,33 @@ or_right : (a b : Bool) → IsTrue b → IsTrue (a || b)
 or_right true b is = refl
 or_right false b is = is
 
-held_after : (s : State) (now : ℕ) (o : Outcome) (name : List ℕ) (digest : Digest) → IsTrue (holds s name digest) → IsTrue (holds (state_after s now o) name digest)
+held_after : (s : State) (now : ℕ) (o : Outcome) (name : List ℕ) (digest : Digest) → IsTrue (holds s name digest)
+    → IsTrue (holds (state_after s now o) name digest)
 held_after s now (Replies answer) name digest held = held
 held_after s now (Begins n at) name digest held = held
 held_after s now (Takes n at got) name digest held = held
-held_after s now (Commits n at d blob) name digest held = subst IsTrue (sym (contains-insert s.pairs (n, d) (name, digest))) (or_right _ (holds s name digest) held)
-held_after s now (Stores n d blob) name digest held = subst IsTrue (sym (contains-insert s.pairs (n, d) (name, digest))) (or_right _ (holds s name digest) held)
-held_after s now (Mounts n d) name digest held = subst IsTrue (sym (contains-insert s.pairs (n, d) (name, digest))) (or_right _ (holds s name digest) held)
+held_after s now (Commits n at d blob) name digest held =
+    subst IsTrue (sym (contains-insert s.pairs (n, d) (name, digest))) (or_right _ (holds s name digest) held)
+held_after s now (Stores n d blob) name digest held =
+    subst IsTrue (sym (contains-insert s.pairs (n, d) (name, digest))) (or_right _ (holds s name digest) held)
+held_after s now (Mounts n d) name digest held =
+    subst IsTrue (sym (contains-insert s.pairs (n, d) (name, digest))) (or_right _ (holds s name digest) held)
 
-held_by_turn : (s : State) (x : served.Exchange) (t : State) (name : List ℕ) (digest : Digest) → Turn s x.ask x.secret x.now x.answer t → IsTrue (holds s name digest) → IsTrue (holds t name digest)
+held_by_turn : (s : State) (x : served.Exchange) (t : State) (name : List ℕ) (digest : Digest)
+    → Turn s x.ask x.secret x.now x.answer t → IsTrue (holds s name digest) → IsTrue (holds t name digest)
 held_by_turn s x t name digest turn held =
     turn_case (λ a u. IsTrue (holds u name digest)) s x.ask x.secret x.now x.answer t
     (λ a u comes. elim comes [
-      | inl c ↦ subst (λ (v : State). IsTrue (holds v name digest)) (sym c.1) (held_after s x.now (outcome s x.ask x.secret x.now) name digest held)
+      | inl c ↦ subst (λ (v : State). IsTrue (holds v name digest)) (sym c.1)
+          (held_after s x.now (outcome s x.ask x.secret x.now) name digest held)
       | inr c ↦ subst (λ (v : State). IsTrue (holds v name digest)) (sym c.2) held
     ]) turn
 
-held_by_run : (s : State) (xs : List served.Exchange) (t : State) (name : List ℕ) (digest : Digest) → Run s xs t → IsTrue (holds s name digest) → IsTrue (holds t name digest)
+held_by_run : (s : State) (xs : List served.Exchange) (t : State) (name : List ℕ) (digest : Digest) → Run s xs t
+    → IsTrue (holds s name digest) → IsTrue (holds t name digest)
 held_by_run s [] t name digest run held = subst (λ (v : State). IsTrue (holds v name digest)) (sym run) held
-held_by_run s (x ∷ xs) t name digest run held = held_by_run run.0 xs t name digest run.2 (held_by_turn s x run.0 name digest run.1 held)
+held_by_run s (x ∷ xs) t name digest run held =
+    held_by_run run.0 xs t name digest run.2 (held_by_turn s x run.0 name digest run.1 held)
 
 limits_after : (s : State) (now : ℕ) (o : Outcome) → (state_after s now o).limits ≡ s.limits
 limits_after s now (Replies answer) = refl
@@ -67,7 +79,8 @@ limits_after s now (Commits n at d blob) = refl
 limits_after s now (Stores n d blob) = refl
 limits_after s now (Mounts n d) = refl
 
-limits_by_turn : (s : State) (x : served.Exchange) (t : State) → Turn s x.ask x.secret x.now x.answer t → t.limits ≡ s.limits
+limits_by_turn : (s : State) (x : served.Exchange) (t : State) → Turn s x.ask x.secret x.now x.answer t
+    → t.limits ≡ s.limits
 limits_by_turn s x t turn =
     turn_case (λ a u. u.limits ≡ s.limits) s x.ask x.secret x.now x.answer t
     (λ a u comes. elim comes [
@@ -77,28 +90,42 @@ limits_by_turn s x t turn =
 
 lawful_by_run : Laws → (s : State) (xs : List served.Exchange) (t : State) → IsLawful s → Run s xs t → IsLawful t
 lawful_by_run laws s [] t lawful run = subst IsLawful (sym run) lawful
-lawful_by_run laws s (x ∷ xs) t lawful run = lawful_by_run laws run.0 xs t (lawful_turn laws.headline s x.ask x.secret x.now x.answer run.0 lawful run.1) run.2
+lawful_by_run laws s (x ∷ xs) t lawful run =
+    lawful_by_run laws run.0 xs t (lawful_turn laws.headline s x.ask x.secret x.now x.answer run.0 lawful run.1) run.2
 
 -- ---- each step answered in a lawful state
 
-steps_lawful : Laws → (s : State) (ms : List Marked) (t : State) → IsLawful s → AreLawful s.limits → Run s (exchanges_in ms) t → AllByRecursion (λ (n : Marked). HasSize n.0.exchange.answer) ms
+steps_lawful : Laws → (s : State) (ms : List Marked) (t : State) → IsLawful s → AreLawful s.limits
+    → Run s (exchanges_in ms) t → AllByRecursion (λ (n : Marked). HasSize n.0.exchange.answer) ms
     → AllByRecursion (λ (x : Step). IsAnswered x.exchange.ask x.exchange.answer) (steps_in ms)
 steps_lawful laws s [] t lawful limits run sizes = tt
 steps_lawful laws s (m ∷ ms) t lawful limits run sizes =
     let x = m.0.exchange in (
-      record { state = s; secret = x.secret; now = x.now; after = run.0; lawful = lawful; limits = limits; turn = run.1; sized = sizes.0 },
-      steps_lawful laws run.0 ms t (lawful_turn laws.headline s x.ask x.secret x.now x.answer run.0 lawful run.1) (subst AreLawful (sym (limits_by_turn s x run.0 run.1)) limits) run.2 sizes.1,
+      record {
+        state = s;
+        secret = x.secret;
+        now = x.now;
+        after = run.0;
+        lawful = lawful;
+        limits = limits;
+        turn = run.1;
+        sized = sizes.0;
+      },
+      steps_lawful laws run.0 ms t (lawful_turn laws.headline s x.ask x.secret x.now x.answer run.0 lawful run.1)
+          (subst AreLawful (sym (limits_by_turn s x run.0 run.1)) limits) run.2 sizes.1,
     )
 
 -- ---- marks of the push's own requests are fair
 
-all_fair : (p : Push) (ms : List Marked) → AllByRecursion (λ (n : Marked). IsOwnMark p n.1) ms → AllByRecursion (IsFair p) ms
+all_fair : (p : Push) (ms : List Marked) → AllByRecursion (λ (n : Marked). IsOwnMark p n.1) ms
+    → AllByRecursion (IsFair p) ms
 all_fair p [] own = tt
 all_fair p ((step, other) ∷ ms) own = (tt, all_fair p ms own.1)
 all_fair p ((step, heard ask what) ∷ ms) own = (own.0, all_fair p ms own.1)
 all_fair p ((step, unheard ask) ∷ ms) own = (own.0, all_fair p ms own.1)
 
-seated_in : (number : ℕ) (ms : List Marked) → AllByRecursion (λ (s : Step). s.seat < number) (steps_in ms) → AllByRecursion (λ (n : Marked). n.0.seat < number) ms
+seated_in : (number : ℕ) (ms : List Marked) → AllByRecursion (λ (s : Step). s.seat < number) (steps_in ms)
+    → AllByRecursion (λ (n : Marked). n.0.seat < number) ms
 seated_in number [] all = tt
 seated_in number (m ∷ ms) all = (all.0, seated_in number ms all.1)
 
@@ -115,55 +142,82 @@ some_worker (w ∷ ws) seat within = w
 none_yet : WorkerEnd
 none_yet = record { conns = 0; clean = 0 }
 
-module _ {C In Out S G O M : Type 0} (m : Means C In Out S G O) (tells : M → ℕ → M → Type 0) (given : Given M C S G O) (left : Left M) (pool : IsServedPool m tells given left)
-    (p : Push) (log : List push.Exchange) (sound : IsSound p log) (account : IsAccount m tells given left pool p log) (laws : Laws) (lawful : IsLawful given.service)
+module _ {C In Out S G O M : Type 0} (m : Means C In Out S G O) (tells : M → ℕ → M → Type 0) (given : Given M C S G O)
+    (left : Left M) (pool : IsServedPool m tells given left)
+    (p : Push) (log : List push.Exchange) (sound : IsSound p log) (account : IsAccount m tells given left pool p log)
+    (laws : Laws) (lawful : IsLawful given.service)
     (limits : AreLawful given.service.limits) where
   abbrev max : ℕ
   max = given.service.limits.max_body
 
   run : Run given.service (exchanges_in account.marked) left.service
-  run = subst (λ xs. Run given.service xs left.service) (sym (exchanges_are account.marked ∙ ap exchanges_of account.all)) pool.served.run
+  run =
+      subst (λ xs. Run given.service xs left.service)
+      (sym (exchanges_are account.marked ∙ ap exchanges_of account.all)) pool.served.run
 
-  all_answered_steps : AllByRecursion (λ (x : Step). IsAnswered x.exchange.ask x.exchange.answer) (steps_in account.marked)
+  all_answered_steps : AllByRecursion (λ (x : Step). IsAnswered x.exchange.ask x.exchange.answer)
+      (steps_in account.marked)
   all_answered_steps = steps_lawful laws given.service account.marked left.service lawful limits run account.sizes
 
   seat_is : (seat : ℕ) → seat < length given.workers
-      → AllByRecursion Agrees (at_seat seat account.marked) × AllByRecursion (λ (n : Marked). IsOwnMark p n.1) (at_seat seat account.marked)
+      → AllByRecursion Agrees (at_seat seat account.marked)
+      × AllByRecursion (λ (n : Marked). IsOwnMark p n.1) (at_seat seat account.marked)
   seat_is seat within =
       let worker : Worker C S G O = some_worker given.workers seat within in
-      let part : HasPart m max seat pool.steps (get_or given.workers seat worker, get_or left.ends seat none_yet) = pool.parts seat worker none_yet within in
+      let part : HasPart m max seat pool.steps (get_or given.workers seat worker, get_or left.ends seat none_yet) =
+      pool.parts seat worker none_yet within in
       let told = account.seats seat worker none_yet within in
       let ms : List Marked = at_seat seat account.marked in
       let in_order = ap (map asked_and_answered) (ap (of_seat seat) account.all) ∙ part.carried.in_order in
       let answered : AreAnswered (all_answered m max part.worked.talks) =
-      steps_answered (of_seat seat (steps_in account.marked)) (all_answered m max part.worked.talks) part.carried.unheard in_order
-      (all_kept (λ (x : Step). IsAnswered x.exchange.ask x.exchange.answer) (λ (x : Step). seat == x.seat) (steps_in account.marked) all_answered_steps) in
+      steps_answered (of_seat seat (steps_in account.marked)) (all_answered m max part.worked.talks)
+      part.carried.unheard in_order
+      (all_kept (λ (x : Step). IsAnswered x.exchange.ask x.exchange.answer) (λ (x : Step). seat == x.seat)
+      (steps_in account.marked) all_answered_steps) in
       let unused = all_unused m max account.unused _ _ _ part.worked.talks part.worked.served in
-      let fit0 = all_fit m max p log sound told.whose told.each (subst (AllByRecursion (IsUnused m max)) (sym told.talks_are) unused) (subst (λ ts. AreAnswered (all_answered m max ts)) (sym told.talks_are) answered) in
-      let fit1 = subst (λ ts. AllFit (flat_map (items_on m max) ts) (flat_map (marks_of m max log) told.whose)) told.talks_are fit0 in
-      let fit2 = subst (λ is. AllFit is (flat_map (marks_of m max log) told.whose)) (items_are m max _ _ _ part.worked.talks part.worked.served) fit1 in
-      let fit : AllFit (items (all_answered m max part.worked.talks) (all_unanswered m max part.worked.talks)) (marks_in ms ++ told.unserved) =
-      subst (λ ks. AllFit (items (all_answered m max part.worked.talks) (all_unanswered m max part.worked.talks)) ks) told.marks fit2 in
+      let fit0 =
+      all_fit m max p log sound told.whose told.each
+      (subst (AllByRecursion (IsUnused m max)) (sym told.talks_are) unused)
+      (subst (λ ts. AreAnswered (all_answered m max ts)) (sym told.talks_are) answered) in
+      let fit1 =
+      subst (λ ts. AllFit (flat_map (items_on m max) ts) (flat_map (marks_of m max log) told.whose))
+      told.talks_are fit0 in
+      let fit2 =
+      subst (λ is. AllFit is (flat_map (marks_of m max log) told.whose))
+      (items_are m max _ _ _ part.worked.talks part.worked.served) fit1 in
+      let fit : AllFit (items (all_answered m max part.worked.talks) (all_unanswered m max part.worked.talks))
+      (marks_in ms ++ told.unserved) =
+      subst (λ ks. AllFit (items (all_answered m max part.worked.talks) (all_unanswered m max part.worked.talks)) ks)
+      told.marks fit2 in
       let own0 = subst (AllByRecursion (IsOwnMark p)) told.marks (all_own m max p log sound told.whose told.each) in
       let marked_order = ap (map asked_and_answered) (steps_at seat account.marked) ∙ in_order in (
-        seat_agrees ms (all_answered m max part.worked.talks) (all_unanswered m max part.worked.talks) part.carried.unheard told.unserved marked_order part.carried.lost fit,
+        seat_agrees ms (all_answered m max part.worked.talks) (all_unanswered m max part.worked.talks)
+            part.carried.unheard told.unserved marked_order part.carried.lost fit,
         seat_owns p ms (all_first (IsOwnMark p) (marks_in ms) told.unserved own0),
       )
 
   seated : AllByRecursion (λ (n : Marked). n.0.seat < length given.workers) account.marked
-  seated = seated_in (length given.workers) account.marked (subst (AllByRecursion (λ (s : Step). s.seat < length given.workers)) (sym account.all) pool.seated)
+  seated =
+      seated_in (length given.workers) account.marked
+      (subst (AllByRecursion (λ (s : Step). s.seat < length given.workers)) (sym account.all) pool.seated)
 
   pub agree : AllByRecursion Agrees account.marked
   agree = by_seats Agrees (length given.workers) account.marked seated (λ seat within. (seat_is seat within).0)
 
   own : AllByRecursion (λ (n : Marked). IsOwnMark p n.1) account.marked
-  own = by_seats (λ (n : Marked). IsOwnMark p n.1) (length given.workers) account.marked seated (λ seat within. (seat_is seat within).1)
+  own =
+      by_seats (λ (n : Marked). IsOwnMark p n.1) (length given.workers) account.marked seated
+      (λ seat within. (seat_is seat within).1)
 
   pub in_place : Placed p given.service log account.marked left.service
-  in_place = placed p given.service log account.marked left.service run account.order agree (all_fair p account.marked own) account.apart account.secrets
+  in_place =
+      placed p given.service log account.marked left.service run account.order agree (all_fair p account.marked own)
+      account.apart account.secrets
 
-module _ {C In Out S G O M : Type 0} (m : Means C In Out S G O) (tells : M → ℕ → M → Type 0) (laws : Laws) (given : Given M C S G O) (left : Left M) (pool : IsServedPool m tells given left)
-    (p : Push) (told : List (Option Heard)) (lawful : IsLawful given.service) (limits : AreLawful given.service.limits) (lawful_push : IsLawfulPush p)
+module _ {C In Out S G O M : Type 0} (m : Means C In Out S G O) (tells : M → ℕ → M → Type 0) (laws : Laws)
+    (given : Given M C S G O) (left : Left M) (pool : IsServedPool m tells given left)
+    (p : Push) (told : List (Option Heard)) (lawful : IsLawful given.service) (limits : AreLawful given.service.limits)
+    (lawful_push : IsLawfulPush p)
     (account : IsAccount m tells given left pool p (log_of p told)) where
   at : Placed p given.service (log_of p told) account.marked left.service
   at = in_place m tells given left pool p (log_of p told) (all_sound p told lawful_push) account laws lawful limits
@@ -180,28 +234,37 @@ module _ {C In Out S G O M : Type 0} (m : Means C In Out S G O) (tells : M → �
   -- what the repository has at some step it has at the end
   there : IsTrue (holds at.mid p.name p.digest) → IsThere p left.service
   there held =
-      there_by_pair p left.service (lawful_by_run laws given.service (exchanges_of pool.steps) left.service lawful pool.served.run)
+      there_by_pair p left.service
+      (lawful_by_run laws given.service (exchanges_of pool.steps) left.service lawful pool.served.run)
       (held_by_run at.mid (exchanges_of (steps_in at.back)) left.service p.name p.digest second held)
 
   agrees_front : AllByRecursion Agrees at.front
-  agrees_front = all_front Agrees at.front at.back (subst (AllByRecursion Agrees) at.split (agree m tells given left pool p (log_of p told) (all_sound p told lawful_push) account laws lawful limits))
+  agrees_front =
+      all_front Agrees at.front at.back (subst (AllByRecursion Agrees) at.split
+      (agree m tells given left pool p (log_of p told) (all_sound p told lawful_push) account laws lawful limits))
 
   moments_front : NeverFall (exchanges_of (steps_in at.front))
   moments_front =
       never_fall_front (exchanges_of (steps_in at.front)) (exchanges_of (steps_in at.back))
-      (subst NeverFall (ap exchanges_of split ∙ map-append (λ (s : Step). s.exchange) (steps_in at.front) (steps_in at.back)) pool.served.moments)
+      (subst NeverFall (ap exchanges_of split
+      ∙ map-append (λ (s : Step). s.exchange) (steps_in at.front) (steps_in at.back)) pool.served.moments)
 
   -- the steps up to the close are those that the last reply was heard behind
   steps_of_close : (c : IsClosedBy p at.front) → steps_in at.front ≡ steps_in c.earlier ++ c.step ∷ []
-  steps_of_close c = ap steps_in c.split ∙ map-append (λ (n : Marked). n.0) c.earlier ((c.step, heard c.ask c.what) ∷ [])
+  steps_of_close c =
+      ap steps_in c.split ∙ map-append (λ (n : Marked). n.0) c.earlier ((c.step, heard c.ask c.what) ∷ [])
 
-  exchanges_of_close : (c : IsClosedBy p at.front) → exchanges_of (steps_in c.earlier ++ c.step ∷ []) ≡ exchanges_of (steps_in c.earlier) ++ c.step.exchange ∷ []
+  exchanges_of_close : (c : IsClosedBy p at.front)
+      → exchanges_of (steps_in c.earlier ++ c.step ∷ []) ≡ exchanges_of (steps_in c.earlier) ++ c.step.exchange ∷ []
   exchanges_of_close c = map-append (λ (s : Step). s.exchange) (steps_in c.earlier) (c.step ∷ [])
 
   agrees_close : (c : IsClosedBy p at.front) → Agrees (c.step, heard c.ask c.what)
-  agrees_close c = (all_back Agrees c.earlier ((c.step, heard c.ask c.what) ∷ []) (subst (AllByRecursion Agrees) c.split agrees_front)).0
+  agrees_close c =
+      (all_back Agrees c.earlier ((c.step, heard c.ask c.what) ∷ [])
+      (subst (AllByRecursion Agrees) c.split agrees_front)).0
 
-  headline_of_close : (c : IsClosedBy p at.front) → Headline given.service (exchanges_of (steps_in c.earlier) ++ c.step.exchange ∷ []) at.mid
+  headline_of_close : (c : IsClosedBy p at.front)
+      → Headline given.service (exchanges_of (steps_in c.earlier) ++ c.step.exchange ∷ []) at.mid
   headline_of_close c =
       let same = ap exchanges_of (steps_of_close c) ∙ exchanges_of_close c in
       laws.headline given.service (exchanges_of (steps_in c.earlier) ++ c.step.exchange ∷ []) at.mid lawful
@@ -209,17 +272,23 @@ module _ {C In Out S G O M : Type 0} (m : Means C In Out S G O) (tells : M → �
 
   left_there : (after_all p told).phase ≡ Done Pushed → IsLeftThere p given.service pool.steps left.service
   left_there ended =
-      let over : IsPush AskedInRun p given.service at.mid (Ok Pushed) = record { heard = told; leads = at.leads; ends = ended } in
-      let stored = (worth_in_run laws p given.service at.mid (Ok Pushed) lawful_push lawful over).pushed refl at.quiet in
+      let over : IsPush AskedInRun p given.service at.mid (Ok Pushed) =
+      record { heard = told; leads = at.leads; ends = ended } in
+      let stored =
+      (worth_in_run laws p given.service at.mid (Ok Pushed) lawful_push lawful over).pushed refl at.quiet in
       let c = closed_by p (log_of p told) at.front (all_sound p told lawful_push) (pushed_last p told ended) at.last in
       let agrees = agrees_close c in
       let asked = agrees.0 ∙ c.asked in
-      let whole = whole_upload p given.service (exchanges_of (steps_in c.earlier)) c.step.exchange at.mid c.upload c.what (headline_of_close c) asked agrees.1 c.is_created stored in
+      let whole =
+      whole_upload p given.service (exchanges_of (steps_in c.earlier)) c.step.exchange at.mid c.upload c.what
+      (headline_of_close c) asked agrees.1 c.is_created stored in
       record {
         before = steps_in c.earlier;
         close = c.step;
         after = steps_in at.back;
-        split = split ∙ ap (λ ss. ss ++ steps_in at.back) (steps_of_close c) ∙ append_assoc (steps_in c.earlier) (c.step ∷ []) (steps_in at.back);
+        split =
+            split ∙ ap (λ ss. ss ++ steps_in at.back) (steps_of_close c)
+            ∙ append_assoc (steps_in c.earlier) (c.step ∷ []) (steps_in at.back);
         upload = c.upload;
         asked = asked;
         answered = whole.answered;
@@ -233,12 +302,27 @@ module _ {C In Out S G O M : Type 0} (m : Means C In Out S G O) (tells : M → �
 
   found_there : (after_all p told).phase ≡ Done Already → IsFoundThere p given.service pool.steps left.service
   found_there ended =
-      let over : IsPush AskedInRun p given.service at.mid (Ok Already) = record { heard = told; leads = at.leads; ends = ended } in
+      let over : IsPush AskedInRun p given.service at.mid (Ok Already) =
+      record { heard = told; leads = at.leads; ends = ended } in
       let found = (worth_in_run laws p given.service at.mid (Ok Already) lawful_push lawful over).already refl in
-      record { before = steps_in at.front; after = steps_in at.back; split = split; at = at.mid; first = first; found = found; second = second; there = there found.pair }
+      record {
+        before = steps_in at.front;
+        after = steps_in at.back;
+        split = split;
+        at = at.mid;
+        first = first;
+        found = found;
+        second = second;
+        there = there found.pair;
+      }
 
-pub pushes_served : {C In Out S G O M : Type 0} (m : Means C In Out S G O) (tells : M → ℕ → M → Type 0) → Laws → PushesAreServed m tells
+pub pushes_served : {C In Out S G O M : Type 0} (m : Means C In Out S G O) (tells : M → ℕ → M → Type 0) → Laws
+    → PushesAreServed m tells
 pushes_served m tells laws = record {
-  pushed = λ given left pool p told lawful limits lawful_push ended account. left_there m tells laws given left pool p told lawful limits lawful_push account ended;
-  already = λ given left pool p told lawful limits lawful_push ended account. found_there m tells laws given left pool p told lawful limits lawful_push account ended;
+  pushed =
+      λ given left pool p told lawful limits lawful_push ended account.
+      left_there m tells laws given left pool p told lawful limits lawful_push account ended;
+  already =
+      λ given left pool p told lawful limits lawful_push ended account.
+      found_there m tells laws given left pool p told lawful limits lawful_push account ended;
 }

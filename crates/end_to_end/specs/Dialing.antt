@@ -39,21 +39,23 @@ abbrev pub IsLegTo : List ℕ → List Exchange → List Exchange → Leg → Ty
 IsLegTo host earlier log (over c) = IsMadeFor host earlier log c
 IsLegTo host earlier log (unmet ask) = ⊤
 
--- All that a push asked and heard stands on these connections, each ask once, in the order in which it asked. To an ask that met no
--- connection nothing was heard.
+-- All that a push asked and heard stands on these connections, each ask once, in the order in which it asked. To an ask
+-- that met no connection nothing was heard.
 pub record HasConnections (host : List ℕ) (earlier log : List Exchange) : Type 0 where
   pub legs : List Leg
   pub all : asked_in legs ≡ asked_by log
   pub each : AllByRecursion (IsLegTo host earlier log) legs
 
--- Let a client have asked this earlier, from no connection on, and then a push over the connection that it kept: the push has such connections.
+-- Let a client have asked this earlier, from no connection on, and then a push over the connection that it kept: the
+-- push has such connections.
 abbrev pub DialedPushesHaveConnections : Type 0
 DialedPushesHaveConnections =
     (host : List ℕ) (earlier log : List Exchange) (kept last : Option WireState)
-    → Leads (AsksDialed host) None earlier kept → Leads (AsksDialed host) kept log last → HasConnections host earlier log
+    → Leads (AsksDialed host) None earlier kept → Leads (AsksDialed host) kept log last
+    → HasConnections host earlier log
 
--- If the network made such a connection one of a worker's, and each request on it may be asked, it is one of which the law from end to end
--- speaks. What was asked before the push gets no blob's bytes.
+-- If the network made such a connection one of a worker's, and each request on it may be asked, it is one of which the
+-- law from end to end speaks. What was asked before the push gets no blob's bytes.
 abbrev pub DialedConnectionsAreCarried : {C In Out S G O : Type 0} → Means C In Out S G O → Type 0
 DialedConnectionsAreCarried m =
     (max_body : ℕ) (host : List ℕ) (earlier log : List Exchange) (c : Connection) → IsMadeFor host earlier log c

@@ -64,11 +64,12 @@ IsFair p (step, other) = ⊤
 IsFair p (step, heard ask what) = IsOwn p ask
 IsFair p (step, unheard ask) = IsOwn p ask
 
--- The premise on other clients: from the opening on whose reply the push heard, and up to the last reply that it heard, none of their requests
--- carries the reference that the push has heard by then.
+-- The premise on other clients: from the opening on whose reply the push heard, and up to the last reply that it heard,
+-- none of their requests carries the reference that the push has heard by then.
 abbrev pub AreApart : List ℕ → Option (List ℕ) → List Marked → Type 0
 AreApart name place [] = ⊤
-AreApart name place ((step, other) ∷ ms) = (¬ (heard_in ms ≡ []) → Avoids place step.exchange.ask) × AreApart name place ms
+AreApart name place ((step, other) ∷ ms) =
+    (¬ (heard_in ms ≡ []) → Avoids place step.exchange.ask) × AreApart name place ms
 AreApart name place ((step, heard ask what) ∷ ms) = AreApart name (place_after name (Some what) place) ms
 AreApart name place ((step, unheard ask) ∷ ms) = AreApart name place ms
 

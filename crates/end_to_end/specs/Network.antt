@@ -26,8 +26,8 @@ use Rattle.wire_laws.specs.Joined.{Asked, AsksInTurn, IsNew, IsNoGet, Carries}
 use Rattle.wire_laws.specs.WrittenExchanges.{HasSize, MayBeAsked}
 use Rattle.end_to_end.specs.Marks.{Mark, other, mark_of, Marked, steps_in, heard_in, heard_by, AreApart, HasSecret}
 
--- A connection of a push: as it was made, what was asked over it in turn, and as it was left. Before the requests of the push its client may
--- have asked something else over it, as whether the repository has the blob.
+-- A connection of a push: as it was made, what was asked over it in turn, and as it was left. Before the requests of
+-- the push its client may have asked something else over it, as whether the repository has the blob.
 pub record Connection : Type 0 where
   pub made : WireState
   pub before : List Asked
@@ -65,8 +65,8 @@ abbrev pub at_seat : ℕ → List Marked → List Marked
 at_seat seat ms = filter (λ (m : Marked). seat == m.0.seat) ms
 
 module _ {C In Out S G O : Type 0} (m : Means C In Out S G O) (max_body : ℕ) (log : List push.Exchange) where
-  -- The connection of the push is this one of a worker: what either end read is a prefix of what the other wrote. It carried requests of the
-  -- push, and before them some that get no blob's bytes. Each of them may be asked.
+  -- The connection of the push is this one of a worker: what either end read is a prefix of what the other wrote. It
+  -- carried requests of the push, and before them some that get no blob's bytes. Each of them may be asked.
   pub record IsCarried (t : Talk m max_body) (c : Connection) : Type 0 where
     pub carries : Carries c.left (m.reads t.reader_left) (m.writes t.writer_left)
     pub may : AllByRecursion (λ x. MayBeAsked max_body x.ask c.made.host) (c.before ++ c.asks)
@@ -85,7 +85,8 @@ module _ {C In Out S G O : Type 0} (m : Means C In Out S G O) (max_body : ℕ) (
   marks_of (t, None) = marks_on [] (answered_on m max_body t) (unanswered_on m max_body t)
   marks_of (t, Some c) = marks_on (marks_asked c) (answered_on m max_body t) (unanswered_on m max_body t)
 
-  -- The steps of a seat have the marks of its connections, in order. The request that its last one left unanswered may be no step.
+  -- The steps of a seat have the marks of its connections, in order. The request that its last one left unanswered may
+  -- be no step.
   pub record IsMarkedBy (talks : List (Talk m max_body)) (ms : List Marked) : Type 0 where
     pub whose : List Whose
     pub talks_are : map (λ (w : Whose). w.0) whose ≡ talks
@@ -93,7 +94,8 @@ module _ {C In Out S G O : Type 0} (m : Means C In Out S G O) (max_body : ℕ) (
     pub unserved : List Mark
     pub marks : flat_map marks_of whose ≡ map (λ (n : Marked). n.1) ms ++ unserved
 
-module _ {C In Out S G O M : Type 0} (m : Means C In Out S G O) (tells : M → ℕ → M → Type 0) (given : Given M C S G O) (left : Left M) (pool : IsServedPool m tells given left)
+module _ {C In Out S G O M : Type 0} (m : Means C In Out S G O) (tells : M → ℕ → M → Type 0) (given : Given M C S G O)
+    (left : Left M) (pool : IsServedPool m tells given left)
     (p : Push) (log : List push.Exchange) where
   -- An account of the network between a push and a pool: whose request each step served.
   pub record IsAccount : Type 0 where
@@ -105,14 +107,15 @@ module _ {C In Out S G O M : Type 0} (m : Means C In Out S G O) (tells : M → �
     pub secrets : AllByRecursion HasSecret marked
     pub sizes : AllByRecursion (λ (n : Marked). HasSize n.0.exchange.answer) marked
     pub seats : (seat : ℕ) (worker : Worker C S G O) (end : WorkerEnd) (within : seat < length given.workers)
-        → IsMarkedBy m given.service.limits.max_body log (pool.parts seat worker end within).worked.talks (at_seat seat marked)
+        → IsMarkedBy m given.service.limits.max_body log (pool.parts seat worker end within).worked.talks
+        (at_seat seat marked)
     -- what the push heard was served in the order in which it asked
     pub order : heard_in marked ≡ heard_by log
     pub apart : AreApart p.name None marked
 
--- At one step the upload of the push was closed. What it had received by then is exactly the file: what it had at the start, and the chunks that
--- it took, in the order taken, each once. And the file stood under its digest and its name then. At the end the repository has the digest, with
--- bytes that have it.
+-- At one step the upload of the push was closed. What it had received by then is exactly the file: what it had at the
+-- start, and the chunks that it took, in the order taken, each once. And the file stood under its digest and its name
+-- then. At the end the repository has the digest, with bytes that have it.
 pub record IsLeftThere (p : Push) (start : State) (steps : List Step) (end : State) : Type 0 where
   pub before : List Step
   pub close : Step
@@ -139,15 +142,17 @@ pub record IsFoundThere (p : Push) (start : State) (steps : List Step) (end : St
   pub second : Run at (exchanges_of after) end
   pub there : IsThere p end
 
--- FROM END TO END, read aloud: let a pool of workers have served, and let a push have ended whose requests went over connections to them. Then
--- in the one order in which the pool served all requests, if the push ended Pushed, the step of its close committed what its upload had received,
--- which is exactly the file, under its digest and its name; and if it ended Already, the repository had the digest at some step.
-pub record PushesAreServed {C In Out S G O M : Type 0} (m : Means C In Out S G O) (tells : M → ℕ → M → Type 0) : Type 0 where
-  pub pushed : (given : Given M C S G O) (left : Left M) (pool : IsServedPool m tells given left) (p : Push) (told : List (Option Heard))
-      → IsLawful given.service → AreLawful given.service.limits → push.IsLawfulPush p → (push.after_all p told).phase ≡ Done Pushed
-      → IsAccount m tells given left pool p (push.log_of p told)
+-- FROM END TO END, read aloud: let a pool of workers have served, and let a push have ended whose requests went over
+-- connections to them. Then in the one order in which the pool served all requests, if the push ended Pushed, the step
+-- of its close committed what its upload had received, which is exactly the file, under its digest and its name; and if
+-- it ended Already, the repository had the digest at some step.
+pub record PushesAreServed {C In Out S G O M : Type 0} (m : Means C In Out S G O)
+    (tells : M → ℕ → M → Type 0) : Type 0 where
+  pub pushed : (given : Given M C S G O) (left : Left M) (pool : IsServedPool m tells given left) (p : Push)
+      (told : List (Option Heard)) → IsLawful given.service → AreLawful given.service.limits → push.IsLawfulPush p
+      → (push.after_all p told).phase ≡ Done Pushed → IsAccount m tells given left pool p (push.log_of p told)
       → IsLeftThere p given.service pool.steps left.service
-  pub already : (given : Given M C S G O) (left : Left M) (pool : IsServedPool m tells given left) (p : Push) (told : List (Option Heard))
-      → IsLawful given.service → AreLawful given.service.limits → push.IsLawfulPush p → (push.after_all p told).phase ≡ Done Already
-      → IsAccount m tells given left pool p (push.log_of p told)
+  pub already : (given : Given M C S G O) (left : Left M) (pool : IsServedPool m tells given left) (p : Push)
+      (told : List (Option Heard)) → IsLawful given.service → AreLawful given.service.limits → push.IsLawfulPush p
+      → (push.after_all p told).phase ≡ Done Already → IsAccount m tells given left pool p (push.log_of p told)
       → IsFoundThere p given.service pool.steps left.service

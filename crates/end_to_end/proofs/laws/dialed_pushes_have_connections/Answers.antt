@@ -6,4 +6,6 @@ pub returns-clause-connections : goal.returns-clause-connections
 returns-clause-connections g c = have_connections
 
 pub returns-clause-carried : goal.returns-clause-carried
-returns-clause-carried g c = are_carried (means g.C.Conns.gives g.C.In.ByteSource.state g.C.Out.ByteSink.state g.S.Secrets.draws g.G.Gate.watches g.O.Observer.told)
+returns-clause-carried g c =
+    are_carried (means g.C.Conns.gives g.C.In.ByteSource.state g.C.Out.ByteSink.state g.S.Secrets.draws g.G.Gate.watches
+    g.O.Observer.told)
