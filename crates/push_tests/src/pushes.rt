@@ -483,8 +483,8 @@ fn looks_before_pushes(rt: HostRuntime) -> Result<(), Fail> {
 }
 
 /// The digest of `abc`.
-const SHA512: &[u8] =
-    b"sha512:ddaf35a193617abacc417349ae20413112e6fa4e89a97ea20a9eeee64b55d39a2192992a274fc1a836ba3c23a3feebbd454d4423643ce80e2a9ac94fa54ca49f";
+const SHA512: &[u8] = b"sha512:ddaf35a193617abacc417349ae20413112e6fa4e89a97ea20a9eeee64b55d39a\
+    2192992a274fc1a836ba3c23a3feebbd454d4423643ce80e2a9ac94fa54ca49f";
 
 /// How a push of `abc` under its sha512 ends, and whether it is there under its sha512 and under its sha256.
 fn after_push_under_sha512(alloc: Global) -> Result<(End, bool, bool), Fail> {
@@ -643,9 +643,12 @@ fn push_and_know(
 ) -> Result<Outcome, PushFault>
     requires file { length file.now ≤ 100 }
     requires lawful { IsLawfulWorld world.old }
-    ensures alone { result ≡ Ok Outcome.Pushed → AreOwn world.old.events → IsStored (push_of Algorithm.Sha256 name.now file.now 2 5) world.new.service }
-    ensures pushed { result ≡ Ok Outcome.Pushed → IsThere (push_of Algorithm.Sha256 name.now file.now 2 5) world.new.service }
-    ensures already { result ≡ Ok Outcome.Already → IsThere (push_of Algorithm.Sha256 name.now file.now 2 5) world.new.service }
+    ensures alone { result ≡ Ok Outcome.Pushed → AreOwn world.old.events
+        → IsStored (push_of Algorithm.Sha256 name.now file.now 2 5) world.new.service }
+    ensures pushed { result ≡ Ok Outcome.Pushed
+        → IsThere (push_of Algorithm.Sha256 name.now file.now 2 5) world.new.service }
+    ensures already { result ≡ Ok Outcome.Already
+        → IsThere (push_of Algorithm.Sha256 name.now file.now 2 5) world.new.service }
 {
     push_promise();
     push(alloc, world, file, name, 2, 5)

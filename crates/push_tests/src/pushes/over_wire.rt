@@ -13,11 +13,26 @@ use upload_wire::{ConnEnd, ServiceDesk, serve_connection};
 
 /// The replies to an opening, to the chunks `ab` and `c`, and to the close.
 const REPLIES: &str =
-    "HTTP/1.1 202 Accepted\r\nLocation: /v2/lib/a/blobs/uploads/00000001-0000-8000-8000-000000000000\r\nContent-Length: 0\r\n\r\nHTTP/1.1 202 Accepted\r\nLocation: /v2/lib/a/blobs/uploads/00000001-0000-8000-8000-000000000000\r\nRange: 0-1\r\nContent-Length: 0\r\n\r\nHTTP/1.1 202 Accepted\r\nLocation: /v2/lib/a/blobs/uploads/00000001-0000-8000-8000-000000000000\r\nRange: 0-2\r\nContent-Length: 0\r\n\r\nHTTP/1.1 201 Created\r\nLocation: /v2/lib/a/blobs/sha256:ba7816bf8f01cfea414140de5dae2223b00361a396177a9cb410ff61f20015ad\r\nContent-Length: 0\r\n\r\n";
+    "HTTP/1.1 202 Accepted\r\nLocation: /v2/lib/a/blobs/uploads/00000001-0000-8000-8000-000000000000\r\n\
+     Content-Length: 0\r\n\r\n\
+     HTTP/1.1 202 Accepted\r\nLocation: /v2/lib/a/blobs/uploads/00000001-0000-8000-8000-000000000000\r\nRange: 0-1\r\n\
+     Content-Length: 0\r\n\r\n\
+     HTTP/1.1 202 Accepted\r\nLocation: /v2/lib/a/blobs/uploads/00000001-0000-8000-8000-000000000000\r\nRange: 0-2\r\n\
+     Content-Length: 0\r\n\r\n\
+     HTTP/1.1 201 Created\r\n\
+     Location: /v2/lib/a/blobs/sha256:ba7816bf8f01cfea414140de5dae2223b00361a396177a9cb410ff61f20015ad\r\n\
+     Content-Length: 0\r\n\r\n";
 
 /// The requests that get them.
 const REQUESTS: &str =
-    "POST /v2/lib/a/blobs/uploads/ HTTP/1.1\r\nHost: h\r\nContent-Length: 0\r\n\r\nPATCH /v2/lib/a/blobs/uploads/00000001-0000-8000-8000-000000000000 HTTP/1.1\r\nHost: h\r\nContent-Range: 0-1\r\nContent-Type: application/octet-stream\r\nContent-Length: 2\r\n\r\nabPATCH /v2/lib/a/blobs/uploads/00000001-0000-8000-8000-000000000000 HTTP/1.1\r\nHost: h\r\nContent-Range: 2-2\r\nContent-Type: application/octet-stream\r\nContent-Length: 1\r\n\r\ncPUT /v2/lib/a/blobs/uploads/00000001-0000-8000-8000-000000000000?digest=sha256:ba7816bf8f01cfea414140de5dae2223b00361a396177a9cb410ff61f20015ad HTTP/1.1\r\nHost: h\r\nContent-Type: application/octet-stream\r\nContent-Length: 0\r\n\r\n";
+    "POST /v2/lib/a/blobs/uploads/ HTTP/1.1\r\nHost: h\r\nContent-Length: 0\r\n\r\n\
+     PATCH /v2/lib/a/blobs/uploads/00000001-0000-8000-8000-000000000000 HTTP/1.1\r\nHost: h\r\nContent-Range: 0-1\r\n\
+     Content-Type: application/octet-stream\r\nContent-Length: 2\r\n\r\nab\
+     PATCH /v2/lib/a/blobs/uploads/00000001-0000-8000-8000-000000000000 HTTP/1.1\r\nHost: h\r\nContent-Range: 2-2\r\n\
+     Content-Type: application/octet-stream\r\nContent-Length: 1\r\n\r\nc\
+     PUT /v2/lib/a/blobs/uploads/00000001-0000-8000-8000-000000000000\
+     ?digest=sha256:ba7816bf8f01cfea414140de5dae2223b00361a396177a9cb410ff61f20015ad HTTP/1.1\r\nHost: h\r\n\
+     Content-Type: application/octet-stream\r\nContent-Length: 0\r\n\r\n";
 
 /// What a server with a new service replies to these bytes.
 fn replies_to(alloc: Global, requests: &[u8]) -> (Vec<u8>, ConnEnd) {
@@ -131,7 +146,8 @@ fn a_push_over_a_wire_that_breaks_is_given_up(rt: HostRuntime) -> Result<(), Fai
     Ok(())
 }
 
-/// Replies that came before their requests are no replies to them: behind the first nothing more is sent, and nothing is heard.
+/// Replies that came before their requests are no replies to them: behind the first nothing more is sent, and nothing
+/// is heard.
 #[test]
 fn replies_ahead_of_their_requests_are_not_heard(rt: HostRuntime) -> Result<(), Fail> {
     let mut sent = Vec::new(rt.alloc());
@@ -148,7 +164,8 @@ fn replies_ahead_of_their_requests_are_not_heard(rt: HostRuntime) -> Result<(), 
 
 /// The reply to the opening.
 const OPENED: &str =
-    "HTTP/1.1 202 Accepted\r\nLocation: /v2/lib/a/blobs/uploads/00000001-0000-8000-8000-000000000000\r\nContent-Length: 0\r\n\r\n";
+    "HTTP/1.1 202 Accepted\r\nLocation: /v2/lib/a/blobs/uploads/00000001-0000-8000-8000-000000000000\r\n\
+     Content-Length: 0\r\n\r\n";
 
 /// The opening's request.
 const OPENING: &str =
@@ -165,7 +182,8 @@ static REPLIES_TO_A_PART: [(&str, End); 8] = [
         End::Refused(404),
     ),
     (
-        "HTTP/1.1 202 -\r\nLocation: /v2/lib/a/blobs/uploads/00000001-0000-8000-8000-000000000000\r\nRange: 0-1\r\nContent-Length: 0\r\n\r\n",
+        "HTTP/1.1 202 -\r\nLocation: /v2/lib/a/blobs/uploads/00000001-0000-8000-8000-000000000000\r\nRange: 0-1\r\n\
+         Content-Length: 0\r\n\r\n",
         End::OutOfTries,
     ),
     (

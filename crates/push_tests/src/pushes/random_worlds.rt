@@ -69,8 +69,8 @@ fn any_events(alloc: Global, numbers: &mut Numbers) -> Result<Vec<Event>, Fail> 
     Ok(events)
 }
 
-/// Pushes over a list of events. Answers how that ended, and whether what is left is as promised and the requests are no
-/// more than their bound.
+/// Pushes over a list of events. Answers how that ended, and whether what is left is as promised and the requests are
+/// no more than their bound.
 fn push_over_any_events(alloc: Global, numbers: &mut Numbers) -> Result<(End, bool), Fail> {
     let events = any_events(alloc, numbers)?;
     let are_own = !events.iter().any(|event| matches!(event, Event::Other(_)));
