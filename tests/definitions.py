@@ -1,13 +1,16 @@
-"""Reads the definitions and lemmas of the crates' `specs/` and `proofs/`: their names, where they stand, and what they take."""
+"""Reads the definitions and lemmas of the crates' `specs/` and `proofs/`: their names, where they stand, and what they
+take."""
 import dataclasses
 import re
 
-ITEM = re.compile(r"( *)(?:(?:pub|abbrev|unfoldable) )*(?:(record|data) )?([^\s(){}\[\],;:.]+)(?=[\s:])")
+ITEM = re.compile(r"( *)(?:(?:pub|abbrev|unfoldable) )*(?:(record|data) )?([^\s(){}\[\],;:.]+)(?=[\s:]|$)")
 SIGNED = re.compile(r"\s*:(?:\s|$)")
 MODULE = re.compile(r"( *)module _")
 WORDS = re.compile(r"[\s(){}\[\],;.:λ]+")
 # what no item begins with
 KEYWORDS = {"use", "mod", "module", "let", "in", "unfolding", "where", "→", "∙", "|", "λ", "--"}
+# what ends the head of a clause
+CLAUSE_ENDS = re.compile(r" =(?: |$)")
 # an answer to a goal of the prover, or a whole proof in its form: the prover looks for these by their names
 ANSWER = re.compile(r":\s*goal\.|^pub \S+_spec :")
 
@@ -29,15 +32,24 @@ class Definition:
     @property
     def signature(self):
         """The lines up to the first clause, or the fields, as one."""
-        behind = [at for at, line in enumerate(self.lines[1:], 1) if words(line)[:1] == [self.name] or line.endswith(" where")]
-        of_record = self.kind and self.lines[0].endswith(" where")
-        end = 1 if of_record else behind[0] + bool(self.kind) if behind else len(self.lines)
-        return " ".join(line.strip() for line in self.lines[:end])
+        return " ".join(line.strip() for line in self.lines[: self.head_ends])
+
+    @property
+    def head_ends(self):
+        """How many of the lines are the signature's. That of a record or of a type goes up to its `where`."""
+        if self.kind:
+            return next((at for at, line in enumerate(self.lines, 1) if line.endswith("where")), 1)
+        return next(
+            (at for at, line in enumerate(self.lines) if at and words(line)[:1] == [self.name]), len(self.lines)
+        )
 
     @property
     def clauses(self):
-        """The heads of the clauses: what stands in front of their `=`."""
-        return [line.split(" = ")[0] for line in self.lines[1:] if words(line)[:1] == [self.name]]
+        """The heads of the clauses, each as one: what stands in front of their `=`."""
+        begins = [at for at, line in enumerate(self.lines) if at and words(line)[:1] == [self.name]]
+        ends = [*begins[1:], len(self.lines)]
+        whole = [" ".join(map(str.strip, self.lines[begin:end])) for begin, end in zip(begins, ends)]
+        return [CLAUSE_ENDS.split(clause, 1)[0] for clause in whole]
 
 
 def without_comment(line):
@@ -69,7 +81,8 @@ def belongs(line, item, indent):
 
 
 def definitions(path, text):
-    """The definitions of a file, in order. Fields of records, and what a `where` holds, are of the item that they stand in."""
+    """The definitions of a file, in order. Fields of records, and what a `where` holds, are of the item that they stand
+    in."""
     lines = [without_comment(line) for line in text.splitlines()]
     found, at, indent = [], 0, 0
     while at < len(lines):
@@ -112,4 +125,7 @@ def positional(definition):
         return named_parameters(signature.rpartition(" : ")[0])
     behind = signature.partition(" : ")[2].partition(" = ")[0]
     takes = parts(behind)[:-1]
-    return sum(named_parameters(part) if part.strip().startswith("(") and " : " in part else not part.strip().startswith("{") for part in takes)
+    return sum(
+        named_parameters(part) if part.strip().startswith("(") and " : " in part else not part.strip().startswith("{")
+        for part in takes
+    )

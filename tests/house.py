@@ -1,5 +1,6 @@
 #!/usr/bin/env python3
-"""Measures the sources: how much code, contracts, definitions and proofs there are, and where they are long or repeat something.
+"""Measures the sources: how much code, contracts, definitions and proofs there are, and where they are long or repeat
+something.
 
     house.py            prints the figures
     house.py WORD       prints the places behind the figure whose name begins so, such as `asks` or `wide`
@@ -111,7 +112,12 @@ def crowded_functions(all_sources):
 
 
 def all_definitions(all_sources):
-    return [item for source in all_sources if source.path.endswith(".antt") for item in definitions.definitions(source.path, source.text)]
+    return [
+        item
+        for source in all_sources
+        if source.path.endswith(".antt")
+        for item in definitions.definitions(source.path, source.text)
+    ]
 
 
 def crowded_specs(all_sources):
@@ -124,17 +130,22 @@ def crowded_specs(all_sources):
 def case_names(text, module):
     """How this file writes the cases of a type: a pattern for one of them, or None if it takes none."""
     aliased = re.search(rf"specs\.declared\.{module}\.TheVariants as (\w+)", text)
-    taken = re.search(rf"specs\.declared\.{module}\.TheVariants\.\{{(.*)\}}", text)
-    names = [name.split(" as ")[-1] for name in taken.group(1).split(", ")] if taken else []
-    ways = ([rf"{aliased.group(1)}\.(\w+)"] if aliased else []) + ([rf"(?<![\w.])({'|'.join(names)})\b"] if names else [])
+    taken = re.findall(rf"specs\.declared\.{module}\.TheVariants\.\{{([^}}]*)\}}", text)
+    names = [name.split(" as ")[-1] for group in taken for name in re.split(r",\s*", group.strip()) if name]
+    ways = (
+        ([rf"{aliased.group(1)}\.(\w+)"] if aliased else []) + ([rf"(?<![\w.])({'|'.join(names)})\b"] if names else [])
+    )
     return re.compile("|".join(ways)) if ways else None
 
 
 def lists_in_definitions(source, module):
-    """The definitions of a file whose clauses, or whose `elim`, go through cases of a type: two of them, or one and all others."""
+    """The definitions of a file whose clauses, or whose `elim`, go through cases of a type: two of them, or one and all
+    others."""
     cases = case_names(source.text, module)
     for item in definitions.definitions(source.path, source.text) if cases else []:
-        heads = item.clauses + [head for line in item.lines for head in [*LOCAL_CLAUSE.findall(line), *BRANCH.findall(line)]]
+        heads = item.clauses + [
+            head for line in item.lines for head in [*LOCAL_CLAUSE.findall(line), *BRANCH.findall(line)]
+        ]
         found = {match.group() for head in heads for match in cases.finditer(head.removeprefix(item.name))}
         others = any(re.search(r"\bother\b", head) for head in heads)
         if len(found) + others > 1 and found:
@@ -154,7 +165,9 @@ def lists_in_code(source, kind):
 
 def lists_of(all_sources, module, kind):
     for source in all_sources:
-        yield from lists_in_definitions(source, module) if source.path.endswith(".antt") else lists_in_code(source, kind)
+        yield from (
+            lists_in_definitions(source, module) if source.path.endswith(".antt") else lists_in_code(source, kind)
+        )
 
 
 def homonyms(all_sources):
@@ -175,6 +188,18 @@ def wide_lines(all_sources):
                 yield f"{source.path}:{number}: {len(line)} columns"
 
 
+def wide_texts(paths):
+    """The wide lines of scripts, and of pages but for tables and for what is shown as it is."""
+    for path in paths:
+        text = text_of(path) if re.search(r"\.(?:py|lua|md)$", path) else ""
+        shown = False
+        for number, line in enumerate(text.splitlines(), 1):
+            of_page = path.endswith(".md")
+            shown ^= of_page and line.lstrip().startswith("```")
+            if len(line) > WIDEST_LINE and not (of_page and (shown or line.lstrip().startswith("|"))):
+                yield f"{path}:{number}: {len(line)} columns"
+
+
 def wide_clauses(all_sources):
     for source in (source for source in all_sources if source.path.endswith(".rt")):
         lines = source.text.splitlines()
@@ -184,7 +209,9 @@ def wide_clauses(all_sources):
 
 
 def crowded_folders(all_sources):
-    counts = collections.Counter(os.path.dirname(source.path) for source in all_sources if source.path.endswith(".antt"))
+    counts = collections.Counter(
+        os.path.dirname(source.path) for source in all_sources if source.path.endswith(".antt")
+    )
     for folder, count in sorted(counts.items()):
         if count > MOST_FILES:
             yield f"{folder}: {count} files"
@@ -193,13 +220,22 @@ def crowded_folders(all_sources):
 def measures(all_sources):
     """Each figure that is a count of places: its word, what it says, and the places."""
     return {
-        **{word: (f"places that list the cases of `{kind}`", list(lists_of(all_sources, module, kind))) for word, (module, kind) in LISTED.items()},
+        **{
+            word: (f"places that list the cases of `{kind}`", list(lists_of(all_sources, module, kind)))
+            for word, (module, kind) in LISTED.items()
+        },
         "arguments": (f"specs with more than {MOST_ARGUMENTS} positional arguments", list(crowded_specs(all_sources))),
-        "parameters": (f"functions with more than {MOST_PARAMETERS} parameters beside the allocator", list(crowded_functions(all_sources))),
+        "parameters": (
+            f"functions with more than {MOST_PARAMETERS} parameters beside the allocator",
+            list(crowded_functions(all_sources)),
+        ),
         "homonyms": ("names that two modules or more define", list(homonyms(all_sources))),
         "wide": (f"lines over {WIDEST_LINE} columns", list(wide_lines(all_sources))),
+        "texts": (f"lines of scripts and pages over {WIDEST_LINE} columns", list(wide_texts(tracked()))),
         "clauses": (f"lines of contracts over {WIDEST_CLAUSE} columns", list(wide_clauses(all_sources))),
-        "folders": (f"folders of more than {MOST_FILES} files of definitions or proofs", list(crowded_folders(all_sources))),
+        "folders": (
+            f"folders of more than {MOST_FILES} files of definitions or proofs", list(crowded_folders(all_sources))
+        ),
     }
 
 
@@ -213,12 +249,21 @@ def main(words):
     found = measures(all_sources)
     if words:
         chosen = [word for word in found if word.startswith(words[0])]
-        print("\n".join(place for word in chosen for place in found[word][1]) if chosen else f"there is no figure {words[0]}: {', '.join(found)}")
+        print(
+            "\n".join(place for word in chosen for place in found[word][1])
+            if chosen
+            else f"there is no figure {words[0]}: {', '.join(found)}"
+        )
         return 0 if chosen else 2
     counts = lines_of(all_sources)
-    print("lines: " + ", ".join(f"{kind} {counts[kind]:,}" for kind in ("code", "contracts", "specs", "proofs", "tests")))
+    print(
+        "lines: " + ", ".join(f"{kind} {counts[kind]:,}" for kind in ("code", "contracts", "specs", "proofs", "tests"))
+    )
     per_crate = collections.Counter(source.crate for source, *_ in functions(all_sources) if source.kind == "code")
-    print(f"functions: {sum(per_crate.values())}: " + ", ".join(f"{crate} {count}" for crate, count in sorted(per_crate.items())))
+    print(
+        f"functions: {sum(per_crate.values())}: "
+        + ", ".join(f"{crate} {count}" for crate, count in sorted(per_crate.items()))
+    )
     for word, (says, places) in found.items():
         in_files = f" in {files_of(places)} files" if word in LISTED else ""
         print(f"{word}: {len(places)} {says}{in_files}")
