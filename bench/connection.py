@@ -3,7 +3,8 @@
 
     connection.py PROGRAM
 
-Each figure is the best of three. A blob in one PATCH is compared with `sha256sum` on the same bytes. Needs about 2 GiB in the temporary folder.
+Each figure is the best of three. A blob in one PATCH is compared with `sha256sum` on the same bytes. Needs about 2 GiB
+in the temporary folder.
 """
 import hashlib
 import os
@@ -19,7 +20,8 @@ UPLOAD = b"/v2/lib/a/blobs/uploads/00000001-0000-8000-8000-000000000000"
 
 
 def timed(command, path):
-    """The least wall-clock and processor seconds of three runs with the file as standard input, and the most memory in bytes."""
+    """The least wall-clock and processor seconds of three runs with the file as standard input, and the most memory in
+    bytes."""
     wall, processor, memory = [], [], 0
     for _ in range(3):
         with open(path, "rb") as sent:
@@ -61,14 +63,17 @@ def main():
             wall, processor, memory = timed([program, "once"], path)
             plain_wall, plain, _ = timed(["sha256sum"], path + ".blob")
             print(
-                f"1 GiB in {name}: {plain_wall / wall:.2f} of sha256sum's speed by the clock, {plain / processor:.2f} by processor time"
-                f" ({processor:.2f} s, {plain:.2f} s), {memory / GIB:.3f} bytes of memory a byte"
+                f"1 GiB in {name}: {plain_wall / wall:.2f} of sha256sum's speed by the clock, "
+                f"{plain / processor:.2f} by processor time ({processor:.2f} s, {plain:.2f} s), "
+                f"{memory / GIB:.3f} bytes of memory a byte"
             )
         small = {
             "16 KiB of line feeds": b"GET /v2/ HTTP/1.1\r\n" + b"\n" * 16384,
             "nothing": b"",
             "10,000 GET /v2/": b"GET /v2/ HTTP/1.1\r\n\r\n" * 10000,
-            "a body of 2 GiB that stops after 1 MiB": OPENING + b"PATCH %s HTTP/1.1\r\nContent-Length: 2147483648\r\n\r\n" % UPLOAD + b"x" * (1 << 20),
+            "a body of 2 GiB that stops after 1 MiB": (
+                OPENING + b"PATCH %s HTTP/1.1\r\nContent-Length: 2147483648\r\n\r\n" % UPLOAD + b"x" * (1 << 20)
+            ),
         }
         for name, sent in small.items():
             with open(path, "wb") as connection:

@@ -3,8 +3,9 @@
 
     draw.py FILE PICTURE [--before FILE]
 
-Speeds of uploads, pushes and pulls beside `sha256sum` and `docker-registry`, and the longest wait for a small request beside a large body. With --before
-it also draws the waits of an earlier run. Without matplotlib (Debian's `python3-matplotlib`) it draws nothing, says so, and ends with status 0.
+Speeds of uploads, pushes and pulls beside `sha256sum` and `docker-registry`, and the longest wait for a small request
+beside a large body. With --before it also draws the waits of an earlier run. Without matplotlib (Debian's
+`python3-matplotlib`) it draws nothing, says so, and ends with status 0.
 """
 import argparse
 import json
@@ -40,8 +41,19 @@ def grouped(axes, names, series):
     width = 0.8 / len(series)
     for place, (label, values) in enumerate(series.items()):
         there = [(at, values[what]) for at, what in enumerate(names) if what in values]
-        bars = axes.bar([at + (place - (len(series) - 1) / 2) * width for at, _ in there], [value for _, value in there], width, label=label, color=COLOURS[label])
-        axes.bar_label(bars, labels=[f"{value:.0f}" if value >= 10 else f"{value:.1f}" for _, value in there], fontsize=7, padding=1)
+        bars = axes.bar(
+            [at + (place - (len(series) - 1) / 2) * width for at, _ in there],
+            [value for _, value in there],
+            width,
+            label=label,
+            color=COLOURS[label],
+        )
+        axes.bar_label(
+            bars,
+            labels=[f"{value:.0f}" if value >= 10 else f"{value:.1f}" for _, value in there],
+            fontsize=7,
+            padding=1,
+        )
     axes.set_xticks(range(len(names)), names.values(), fontsize=8)
     axes.spines[["top", "right"]].set_visible(False)
     axes.margins(y=0.25)  # room for the legend
@@ -50,7 +62,10 @@ def grouped(axes, names, series):
 
 def speeds(told, names):
     """MiB a second of each server, and of `sha256sum` beside the uploads."""
-    series = {server: {what: row["bytes_a_second"] / MIB for what, row in rows_of(told, server).items() if what in names} for server in ("blobd", "docker-registry")}
+    series = {
+        server: {what: row["bytes_a_second"] / MIB for what, row in rows_of(told, server).items() if what in names}
+        for server in ("blobd", "docker-registry")
+    }
     hashing = [row["bytes_a_second"] / row["of_sha256sum"] / MIB for row in told["rows"] if row["kind"] == "upload"]
     if names is SPEEDS and hashing:
         series["sha256sum"] = {what: max(hashing) for what in list(names)[:4]}
@@ -58,11 +73,17 @@ def speeds(told, names):
 
 
 def waits(told, server):
-    return {row["what"]: row["longest_wait_seconds"] * 1000 for row in told["rows"] if row["kind"] == "waiting" and row["server"] == server}
+    return {
+        row["what"]: row["longest_wait_seconds"] * 1000
+        for row in told["rows"]
+        if row["kind"] == "waiting" and row["server"] == server
+    }
 
 
 def draw(told, before, picture):
-    figure, (uploads, pulls, waiting) = plt.subplots(1, 3, figsize=(13, 4), width_ratios=(6, 2, 3), layout="constrained")
+    figure, (uploads, pulls, waiting) = plt.subplots(
+        1, 3, figsize=(13, 4), width_ratios=(6, 2, 3), layout="constrained"
+    )
     grouped(uploads, SPEEDS, speeds(told, SPEEDS))
     uploads.set_title("uploads, MiB a second", fontsize=10)
     grouped(pulls, PULLS, speeds(told, PULLS))

@@ -3,10 +3,11 @@
 
     front.py PROGRAM [--json FILE] [--shards N ..] [--runs N]
 
-Each figure is that of the best of three runs, in which the servers take turns. Each client keeps its connection, has a repository of its own, and repeats
-a round: it opens an upload, sends a blob in one chunk, closes, asks for it by HEAD, pulls it and compares. HAProxy asks for a login; both speak plain
-HTTP, so that this client's TLS isn't what is measured. `docker-registry` has its files in memory (/dev/shm), no login and no log. The clients are Python,
-in as many processes as there are cores, and share the machine with the servers: read the figures as ratios in one run.
+Each figure is that of the best of three runs, in which the servers take turns. Each client keeps its connection, has a
+repository of its own, and repeats a round: it opens an upload, sends a blob in one chunk, closes, asks for it by HEAD,
+pulls it and compares. HAProxy asks for a login; both speak plain HTTP, so that this client's TLS isn't what is
+measured. `docker-registry` has its files in memory (/dev/shm), no login and no log. The clients are Python, in as many
+processes as there are cores, and share the machine with the servers: read the figures as ratios in one run.
 
 Needs Linux, HAProxy with lua-cjson, and docker-registry for its rows.
 """
@@ -176,18 +177,37 @@ def behind_the_front(program, shards, load):
 
 
 def docker_registry(load):
-    with tempfile.TemporaryDirectory(prefix="blobd-front-", dir="/dev/shm") as folder, servers.DockerRegistry(folder) as registry:
+    with (
+        tempfile.TemporaryDirectory(prefix="blobd-front-", dir="/dev/shm") as folder,
+        servers.DockerRegistry(folder) as registry,
+    ):
         return measured("docker-registry", registry.address, load)
 
 
 def print_table(rows):
     names = list(rows[0])
-    cells = [names] + [[value if isinstance(value, str) else f"{value:.{0 if value >= 100 else 2}f}" for value in row.values()] for row in rows]
+    cells = [names] + [
+        [value if isinstance(value, str) else f"{value:.{0 if value >= 100 else 2}f}" for value in row.values()]
+        for row in rows
+    ]
     widths = [max(len(row[column]) for row in cells) for column in range(len(names))]
     for number, row in enumerate(cells):
-        print("| " + " | ".join(f"{cell:<{width}}" if column < 2 else f"{cell:>{width}}" for column, (cell, width) in enumerate(zip(row, widths))) + " |")
+        print(
+            "| "
+            + " | ".join(
+                f"{cell:<{width}}" if column < 2 else f"{cell:>{width}}"
+                for column, (cell, width) in enumerate(zip(row, widths))
+            )
+            + " |"
+        )
         if number == 0:
-            print("| " + " | ".join("-" * width if column < 2 else "-" * (width - 1) + ":" for column, width in enumerate(widths)) + " |")
+            print(
+                "| "
+                + " | ".join(
+                    "-" * width if column < 2 else "-" * (width - 1) + ":" for column, width in enumerate(widths)
+                )
+                + " |"
+            )
 
 
 def main():

@@ -3,9 +3,10 @@
 
     log.py PROGRAM [--runs N]
 
-Requests are sent one at a time over two connections, one after the other, to a server with the log (to /dev/null) and to one without, in turn. It prints the
-server's processor time for a request, its own and the system's for it: the least of the runs, of which there are fourteen if N isn't given. By the clock a
-line costs less, since the client counts too. Needs Linux.
+Requests are sent one at a time over two connections, one after the other, to a server with the log (to /dev/null) and
+to one without, in turn. It prints the server's processor time for a request, its own and the system's for it: the least
+of the runs, of which there are fourteen if N isn't given. By the clock a line costs less, since the client counts too.
+Needs Linux.
 """
 import argparse
 import os
@@ -25,9 +26,17 @@ KINDS = {
 
 def spent(program, words, status, count, log):
     """The server's processor seconds for one request of each connection's so many."""
-    settings = {name: text for name, text in os.environ.items() if name != "BLOBD_LOG"} | ({"BLOBD_LOG": "1"} if log else {})
+    settings = (
+        {name: text for name, text in os.environ.items() if name != "BLOBD_LOG"} | ({"BLOBD_LOG": "1"} if log else {})
+    )
     before = resource.getrusage(resource.RUSAGE_CHILDREN)
-    with subprocess.Popen([program, "serve", "127.0.0.1:0", "1"], stdout=subprocess.PIPE, stderr=subprocess.DEVNULL, env=settings, text=True) as server:
+    with subprocess.Popen(
+        [program, "serve", "127.0.0.1:0", "1"],
+        stdout=subprocess.PIPE,
+        stderr=subprocess.DEVNULL,
+        env=settings,
+        text=True,
+    ) as server:
         host, port = server.stdout.readline().split()[1].rsplit(":", 1)
         for _ in range(2):
             with raw.Connection((host, int(port))) as connection:

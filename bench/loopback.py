@@ -3,21 +3,25 @@
 
     loopback.py PROGRAM [--json FILE] [--mib SIZE] [--waiting-mib SIZE] [--small-pages] [--only WORD]
 
-Each figure is the best of five. Each upload, and each row of openings, has a server of its own. An upload and a push are compared with `sha256sum` on the
-same bytes, timed before each repetition; a pull with the same bytes over a bare connection, sent in the same way; two at once with one alone. Waiting is
-that of a thousand small requests beside a large body. The server of these rows has two workers.
+Each figure is the best of five. Each upload, and each row of openings, has a server of its own. An upload and a push
+are compared with `sha256sum` on the same bytes, timed before each repetition; a pull with the same bytes over a bare
+connection, sent in the same way; two at once with one alone. Waiting is that of a thousand small requests beside a
+large body. The server of these rows has two workers.
 
-A server with sixteen workers has four uploads at once, and waiting beside clients that send a byte of a head now and then. One with 64 workers has as many
-clients of small requests; compared with the one with two, it shows what memory an idle worker takes.
+A server with sixteen workers has four uploads at once, and waiting beside clients that send a byte of a head now and
+then. One with 64 workers has as many clients of small requests; compared with the one with two, it shows what memory an
+idle worker takes.
 
-If Debian's `docker-registry` is installed, it has the same rows but the last, with its files in memory too. The server runs as `make serve` runs it, with
-the huge pages that the system gives on request; with --small-pages it doesn't ask for them. With --only WORD there are only the rows whose name has WORD.
+If Debian's `docker-registry` is installed, it has the same rows but the last, with its files in memory too. The server
+runs as `make serve` runs it, with the huge pages that the system gives on request; with --small-pages it doesn't ask
+for them. With --only WORD there are only the rows whose name has WORD.
 
-The client writes whole requests from memory to a raw socket, and still takes longer over a small request than the server does. So small requests
-are also counted by the seconds of processor time that the server spent, its own and the system's for it.
+The client writes whole requests from memory to a raw socket, and still takes longer over a small request than the
+server does. So small requests are also counted by the seconds of processor time that the server spent, its own and the
+system's for it.
 
-Needs Linux, and about four times the larger SIZE in MiB of memory, part of it in /dev/shm. If no SIZE is given, it is 256 for the speeds and 1,024 for the
-waiting.
+Needs Linux, and about four times the larger SIZE in MiB of memory, part of it in /dev/shm. If no SIZE is given, it is
+256 for the speeds and 1,024 for the waiting.
 """
 import argparse
 import contextlib
@@ -50,7 +54,8 @@ OPENINGS = 960
 # The small requests beside a large body, or beside clients that drip, whose longest wait is told.
 BESIDE = 1000
 PIPELINED = 16
-# The workers of a server that serves many, and the clients that drip so that two workers are left; the uploads that it takes at once.
+# The workers of a server that serves many, and the clients that drip so that two workers are left; the uploads that it
+# takes at once.
 MANY = 16
 DRIPPING = 14
 UPLOADS = 4
@@ -82,7 +87,8 @@ class Blob:
 
 
 class Measured:
-    """A server in a process of its own, on a free port, for as long as the `with` lasts; the next `with` begins one anew."""
+    """A server in a process of its own, on a free port, for as long as the `with` lasts; the next `with` begins one
+    anew."""
 
     def __enter__(self):
         self.server = self.begun()
@@ -135,7 +141,8 @@ class Blobd(Measured):
         return self.server.place()
 
     def wait_for_workers(self):
-        """Waits until each worker has its thread: the line that it listens comes before. One thread more owns the service."""
+        """Waits until each worker has its thread: the line that it listens comes before. One thread more owns the
+        service."""
         while len(os.listdir(f"/proc/{self.pid}/task")) <= self.workers:
             time.sleep(0.01)
 
@@ -179,7 +186,11 @@ def upload(connection, name, blob, chunk):
     with open(blob.path, "rb") as file:
         for first in range(0, blob.size, chunk):
             length = min(chunk, blob.size - first)
-            fields = {"Content_Type": "application/octet-stream", "Content_Range": f"{first}-{first + length - 1}", "Content_Length": length}
+            fields = {
+                "Content_Type": "application/octet-stream",
+                "Content_Range": f"{first}-{first + length - 1}",
+                "Content_Length": length,
+            }
             connection.send_part(connection.head("PATCH", place, **fields), file, first, length)
             place = raw.target_of(wanted(connection.reply(), 202).fields)
     wanted(connection.ask("PUT", raw.closing_target(place, blob.digest), Content_Length=0), 201)
@@ -209,7 +220,8 @@ def seconds(work):
 class Beside:
     """Work that goes on beside the caller's, from the start of a `with` to its end. What fails in it ends this program.
 
-    It has a process of its own, which waits for the `with`: of two threads of Python the one that takes a body would hold up the other.
+    It has a process of its own, which waits for the `with`: of two threads of Python the one that takes a body would
+    hold up the other.
     """
 
     def __init__(self, work):
@@ -253,9 +265,11 @@ def seconds_of_both(works):
 
 
 def ran(words):
-    """Runs a program: what it printed, the seconds it took, those of the processor, and the most memory it had in bytes.
+    """Runs a program: what it printed, the seconds it took, those of the processor, and the most memory it had in
+    bytes.
 
-    The system counts the memory of the process that started it as its own, so that it is at least Python's, some 20 MiB.
+    The system counts the memory of the process that started it as its own, so that it is at least Python's, some 20
+    MiB.
     """
     start = time.monotonic()
     with subprocess.Popen(words, stdout=subprocess.PIPE, text=True) as program:
@@ -274,7 +288,8 @@ def hashed(blob):
 
 
 def hashed_by_library(blob):
-    """The least processor seconds that Python's library (OpenSSL's code, mostly) takes, which may use instructions that `sha256sum` doesn't."""
+    """The least processor seconds that Python's library (OpenSSL's code, mostly) takes, which may use instructions that
+    `sha256sum` doesn't."""
     with open(blob.path, "rb") as file, mmap.mmap(file.fileno(), 0, prot=mmap.PROT_READ) as content:
         taken = []
         for _ in range(RUNS):
@@ -350,7 +365,8 @@ def pull_row(server, blob):
 
 
 def uploads_at_once_row(server, blob, chunk, count):
-    """Uploads at once, each over a connection of its own, beside one alone: the same work a server, each run with a new one."""
+    """Uploads at once, each over a connection of its own, beside one alone: the same work a server, each run with a new
+    one."""
 
     def work(connection, name):
         return lambda: upload(connection, name, blob, chunk)
@@ -367,7 +383,8 @@ def uploads_at_once_row(server, blob, chunk, count):
 
 
 def of_one_alone(blob, count, alone, at_once, peaks):
-    """What several at once have in common. The same bytes come each time, and a registry keeps them once or several times."""
+    """What several at once have in common. The same bytes come each time, and a registry keeps them once or several
+    times."""
     return {
         "bytes_a_second": count * blob.size / min(at_once),
         "of_one_alone": count * min(alone) / min(at_once),
@@ -392,7 +409,8 @@ def pulls_at_once_row(server, blob, count):
 
 
 def longest_waits(server, work):
-    """Does the work, and asks for `/v2/` all the while over another connection: the longest and the middle wait, in seconds, of the first thousand.
+    """Does the work, and asks for `/v2/` all the while over another connection: the longest and the middle wait, in
+    seconds, of the first thousand.
 
     The requests that the work outlasts are spread over it; what is left of the thousand comes behind it.
     """
@@ -427,15 +445,23 @@ def waiting_row(server, blob, pulled):
         with server, server.connect() as connection:
             if pulled:
                 upload(connection, "lib/a", blob, blob.size)
-            work = (lambda: pull(connection, "lib/a", blob, room)) if pulled else (lambda: upload(connection, "lib/a", blob, blob.size))
+            work = (lambda: pull(connection, "lib/a", blob, room)) if pulled else (
+                lambda: upload(connection, "lib/a", blob, blob.size)
+            )
             runs.append(longest_waits(server, work))
     return of_waits(runs)
 
 
 def of_waits(runs):
-    """What rows of waiting have in common: the longest wait of each run, the middle one, and how many were asked meanwhile."""
+    """What rows of waiting have in common: the longest wait of each run, the middle one, and how many were asked
+    meanwhile."""
     longest, middle, beside = zip(*runs)
-    return {"longest_wait_seconds": min(longest), "worst_wait_seconds": max(longest), "middle_wait_seconds": min(middle), "asked_beside": max(beside)}
+    return {
+        "longest_wait_seconds": min(longest),
+        "worst_wait_seconds": max(longest),
+        "middle_wait_seconds": min(middle),
+        "asked_beside": max(beside),
+    }
 
 
 def drip(connections):
@@ -451,7 +477,8 @@ def drip(connections):
 
 
 def dripping_row(server, count):
-    """The longest wait beside so many clients that drip: the best of the runs, and the worst of them. Each of them is served already."""
+    """The longest wait beside so many clients that drip: the best of the runs, and the worst of them. Each of them is
+    served already."""
     runs = []
     for _ in range(RUNS):
         with server, contextlib.ExitStack() as open_ones:
@@ -464,7 +491,8 @@ def dripping_row(server, count):
 
 
 def idle_row(two, many, are_used):
-    """The memory of a server with many workers and of one with two: before their first connection, or behind one of each worker. The least of the runs."""
+    """The memory of a server with many workers and of one with two: before their first connection, or behind one of
+    each worker. The least of the runs."""
     resident = {two: [], many: []}
     for _ in range(RUNS):
         for server, taken in resident.items():
@@ -531,7 +559,8 @@ def converse(place, request, ending, rounds, together, meeting, told):
 
 
 def run_clients(server, method, target, status, fields, count, at_once, together):
-    """How many requests were answered, in how much time by the clock, and in how much of the server's processor time."""
+    """How many requests were answered, in how much time by the clock, and in how much of the server's processor
+    time."""
     with server.connect() as first:
         request = first.head(method, target, **fields)
         ending = b"\r\n\r\n" + wanted(first.ask(method, target, **fields), status).body
@@ -578,7 +607,9 @@ def server_rows(server, blob, large):
         yield "at once", f"two uploads in {what}", functools.partial(uploads_at_once_row, server, blob, chunk, 2)
     yield "at once", "two pulls", functools.partial(pulls_at_once_row, server, blob, 2)
     for what, pulled in (("an upload in one body", False), ("a pull", True)):
-        yield "waiting", f"beside {what} of {large.size // MIB} MiB", functools.partial(waiting_row, server, large, pulled)
+        yield "waiting", f"beside {what} of {large.size // MIB} MiB", functools.partial(
+            waiting_row, server, large, pulled
+        )
     yield from small_rows(server)
 
 
@@ -589,7 +620,9 @@ SMALL = {
 
 
 def small_rows(server):
-    ways = {"one connection": (1, 1), "two at once": (2, 1), f"one connection, {PIPELINED} written together": (1, PIPELINED)}
+    ways = {
+        "one connection": (1, 1), "two at once": (2, 1), f"one connection, {PIPELINED} written together": (1, PIPELINED)
+    }
     for asked, words in SMALL.items():
         for way, (at_once, together) in ways.items():
             yield "small", f"{asked}, {way}", functools.partial(small_row, server, *words, at_once, together)
@@ -597,7 +630,9 @@ def small_rows(server):
 
 def many_rows(server, blob):
     """Those of a server with sixteen workers."""
-    yield "at once", "four uploads in one body", functools.partial(uploads_at_once_row, server, blob, blob.size, UPLOADS)
+    yield "at once", "four uploads in one body", functools.partial(
+        uploads_at_once_row, server, blob, blob.size, UPLOADS
+    )
     yield "waiting", f"beside {DRIPPING} clients that drip", functools.partial(dripping_row, server, DRIPPING)
 
 
@@ -715,7 +750,10 @@ def print_tables(rows):
             rules = ["-" * width if place < 2 else "-" * (width - 1) + ":" for place, width in enumerate(widths)]
             print()
             for line in (heads, rules, *lines):
-                texts = (text.ljust(width) if place < 2 else text.rjust(width) for place, (text, width) in enumerate(zip(line, widths)))
+                texts = (
+                    text.ljust(width) if place < 2 else text.rjust(width)
+                    for place, (text, width) in enumerate(zip(line, widths))
+                )
                 print(f"| {' | '.join(texts)} |")
 
 
@@ -723,7 +761,12 @@ def machine():
     with open("/proc/cpuinfo", encoding="utf-8") as told:
         models = [line.split(":", 1)[1].strip() for line in told if line.startswith("model name")]
     memory = os.sysconf("SC_PAGE_SIZE") * os.sysconf("SC_PHYS_PAGES")
-    return {"model": models[0] if models else os.uname().machine, "cores": os.cpu_count(), "memory_bytes": memory, "system": os.uname().release}
+    return {
+        "model": models[0] if models else os.uname().machine,
+        "cores": os.cpu_count(),
+        "memory_bytes": memory,
+        "system": os.uname().release,
+    }
 
 
 def read_words():
@@ -731,15 +774,25 @@ def read_words():
     words.add_argument("program", metavar="PROGRAM")
     words.add_argument("--json", metavar="FILE", help="write the figures there too")
     words.add_argument("--mib", metavar="SIZE", type=int, default=256, help="the blob's size in MiB")
-    words.add_argument("--waiting-mib", metavar="SIZE", type=int, default=1024, help="the size in MiB of the blob beside which others wait")
+    words.add_argument(
+        "--waiting-mib",
+        metavar="SIZE",
+        type=int,
+        default=1024,
+        help="the size in MiB of the blob beside which others wait",
+    )
     words.add_argument("--small-pages", action="store_true", help="the server doesn't ask the system for huge pages")
-    words.add_argument("--only", metavar="WORD", default="", help="only the rows whose name has this, as `drip` or `64 at once`")
+    words.add_argument(
+        "--only", metavar="WORD", default="", help="only the rows whose name has this, as `drip` or `64 at once`"
+    )
     return words.parse_args()
 
 
 def planned(settings, blob, large, folder):
     """All rows: the server of each, its kind, its name, and what measures it."""
-    blobd, with_log, many, crowd = Blobd(settings), BlobdWithLog(settings), Blobd(settings, MANY), Blobd(settings, CROWD)
+    blobd, with_log, many, crowd = Blobd(settings), BlobdWithLog(settings), Blobd(settings, MANY), Blobd(
+        settings, CROWD
+    )
     rows = [
         (blobd, server_rows(blobd, blob, large)),
         (with_log, small_rows(with_log)),
@@ -750,7 +803,10 @@ def planned(settings, blob, large, folder):
     ]
     if not servers.missing("docker-registry"):
         registry = DockerRegistry(folder)
-        rows += [(registry, of_it) for of_it in (server_rows(registry, blob, large), many_rows(registry, blob), crowd_rows(registry))]
+        rows += [
+            (registry, of_it)
+            for of_it in (server_rows(registry, blob, large), many_rows(registry, blob), crowd_rows(registry))
+        ]
     else:
         print("skipped: docker-registry, which isn't installed", flush=True)
     return [(server, *row) for server, of_it in rows for row in of_it]
@@ -780,10 +836,24 @@ def main():
         library = hashed_by_library(blob)
         rows = list(measure(rows))
     load.append(os.getloadavg()[0])
-    told = {"machine": machine(), "load": load, "blob_bytes": blob.size, "runs": RUNS, "settings": settings, "hashlib_seconds": library, "rows": rows}
+    told = {
+        "machine": machine(),
+        "load": load,
+        "blob_bytes": blob.size,
+        "runs": RUNS,
+        "settings": settings,
+        "hashlib_seconds": library,
+        "rows": rows,
+    }
     found = told["machine"]
-    print(f"{found['model']}, {found['cores']} cores, {found['memory_bytes'] / (1 << 30):.0f} GiB; Linux {found['system']}")
-    print(f"load {load[0]:.1f} before, {load[1]:.1f} after; a blob of {words.mib} MiB; the best of {RUNS} runs; the server has {settings or 'no settings'}")
+    print(
+        f"{found['model']}, {found['cores']} cores, {found['memory_bytes'] / (1 << 30):.0f} GiB; "
+        f"Linux {found['system']}"
+    )
+    print(
+        f"load {load[0]:.1f} before, {load[1]:.1f} after; a blob of {words.mib} MiB; the best of {RUNS} runs; "
+        f"the server has {settings or 'no settings'}"
+    )
     print(f"SHA-256 of the blob by Python's hashlib: {library:.3f} s of the processor")
     print_tables(rows)
     if words.json:

@@ -1,4 +1,5 @@
-"""The client of the measurements: it writes whole requests from memory to a raw socket, and takes less time for a reply than `http.client` does."""
+"""The client of the measurements: it writes whole requests from memory to a raw socket, and takes less time for a reply
+than `http.client` does."""
 import collections
 import os
 import socket
@@ -9,7 +10,8 @@ Reply = collections.namedtuple("Reply", "status fields body")
 
 
 class Connection:
-    """A kept connection: one request, one reply. The fields of a reply are named in lower case. Where it ends too early, ConnectionError is raised."""
+    """A kept connection: one request, one reply. The fields of a reply are named in lower case. Where it ends too
+    early, ConnectionError is raised."""
 
     def __init__(self, place, **always):
         self.always = {"Host": f"{place[0]}:{place[1]}", **always}
@@ -30,7 +32,10 @@ class Connection:
 
     def head(self, method, target, **fields):
         """A request's head, with the fields of all requests and its own; of their names, each `_` stands for a `-`."""
-        lines = [f"{method} {target} HTTP/1.1", *(f"{name.replace('_', '-')}: {value}" for name, value in (self.always | fields).items())]
+        lines = [
+            f"{method} {target} HTTP/1.1",
+            *(f"{name.replace('_', '-')}: {value}" for name, value in (self.always | fields).items()),
+        ]
         return "".join(line + "\r\n" for line in lines).encode() + b"\r\n"
 
     def ask(self, method, target, **fields):
@@ -77,7 +82,8 @@ class Connection:
                 at += received(self.socket, left[at:length])
 
     def body_over(self, room, length, take=None):
-        """Reads a body of so many bytes into the same buffer again and again, and hands each part on if that is asked for."""
+        """Reads a body of so many bytes into the same buffer again and again, and hands each part on if that is asked
+        for."""
         begun, self.unread = self.unread[:length], self.unread[length:]
         if take:
             take(begun)
@@ -93,7 +99,8 @@ def received(connection, room):
 
 
 def receive(connection, length, room, take=None):
-    """Takes so many bytes of a socket into the same buffer again and again, and hands each part on if that is asked for."""
+    """Takes so many bytes of a socket into the same buffer again and again, and hands each part on if that is asked
+    for."""
     while length:
         count = received(connection, room)
         if take:

@@ -3,8 +3,8 @@
 
     service.py PROGRAM
 
-PROGRAM is the built `bench_service`. Each of its words runs three times. A word measures two times, of which the least of three counts, and memory, of
-which the most counts. Needs about 1.1 GiB of memory.
+PROGRAM is the built `bench_service`. Each of its words runs three times. A word measures two times, of which the least
+of three counts, and memory, of which the most counts. Needs about 1.1 GiB of memory.
 """
 import os
 import re
@@ -26,7 +26,8 @@ def times(text):
 def figure(program, word):
     """The figure of a word, as a line."""
     texts = [
-        subprocess.run([program, word], capture_output=True, text=True, timeout=120, check=True).stdout for _ in range(3)
+        subprocess.run([program, word], capture_output=True, text=True, timeout=120, check=True).stdout
+        for _ in range(3)
     ]
     (beside, _), (measured, _) = times(texts[0])
     least_beside, least_measured = (min(times(text)[place][1] for text in texts) for place in (0, 1))

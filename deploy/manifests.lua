@@ -1,20 +1,26 @@
--- Manifests, tags and the list of repositories, which blobd doesn't take. This is no part of what is proved of blobd: it is tested.
+-- Manifests, tags and the list of repositories, which blobd doesn't take. This is no part of what is proved of blobd:
+-- it is tested.
 --
--- A manifest is taken only if each blob that it names is there, and each manifest that an index names; and it is handed out only as long as they are.
--- Blobs go only with their shard. So each shard gets a blob that nobody else knows, its mark: as long as that is there, all that was found since is there
--- too, and one question for it stands for a question for each blob. If the mark has gone, all that a manifest names is asked for again; if a blob of it has
--- gone, the manifest goes, with its tags and with the indexes that name it.
+-- A manifest is taken only if each blob that it names is there, and each manifest that an index names; and it is handed
+-- out only as long as they are. Blobs go only with their shard. So each shard gets a blob that nobody else knows, its
+-- mark: as long as that is there, all that was found since is there too, and one question for it stands for a question
+-- for each blob. If the mark has gone, all that a manifest names is asked for again; if a blob of it has gone, the
+-- manifest goes, with its tags and with the indexes that name it.
 --
--- Where the manifests are: in Redis if FRONT_REDIS has its address, else in HAProxy's memory. Both are a table of these functions, which yield a 503 by
--- `error` if they can't do their work:
---   find(name, reference, is_digest, with_body): the digest and the record, or nil; without its text, unless that is asked for or at hand
+-- Where the manifests are: in Redis if FRONT_REDIS has its address, else in HAProxy's memory. Both are a table of these
+-- functions, which yield a 503 by `error` if they can't do their work:
+--   find(name, reference, is_digest, with_body): the digest and the record, or nil; without its text, unless that is
+--     asked for or at hand
 --   below(name, digests): the sum of `below` of these manifests, nil if one isn't there
 --   put(name, digest, record, tag): "kept"; "unknown" if a manifest that is named isn't there; "full"
---   drop(name, digest, stamp): drops a manifest, its tags and what names it; with a stamp only if it is of that put. Whether it was there
+--   drop(name, digest, stamp): drops a manifest, its tags and what names it; with a stamp only if it is of that put.
+--     Whether it was there
 --   untag(name, tag): whether it was there
---   tags(name, last, most), repositories(last, most): a list in order, and whether more follow; nil if the repository has no manifest
--- A record has the text (`body`), its `length`, its media type, the digests of the blobs and manifests that it names (if at hand: else its text has
--- them), how much is below it (`below`), the bytes that it takes (`size`), and which put it came with (`stamp`).
+--   tags(name, last, most), repositories(last, most): a list in order, and whether more follow; nil if the repository
+--     has no manifest
+-- A record has the text (`body`), its `length`, its media type, the digests of the blobs and manifests that it names
+-- (if at hand: else its text has them), how much is below it (`below`), the bytes that it takes (`size`), and which put
+-- it came with (`stamp`).
 
 local json = require("cjson.safe")
 
@@ -32,7 +38,8 @@ local LARGEST, LONGEST_TYPE = 4 * MIB, 255
 local MOST_NAMED, MOST_BELOW = 1000, 10000
 -- opening brackets and commas in a manifest: about as many values are made of it
 local MOST_MARKS = 50000
--- Bytes of manifests that are being received, of all clients. Beyond that only those that have no more than so many go on.
+-- Bytes of manifests that are being received, of all clients. Beyond that only those that have no more than so many go
+-- on.
 local MOST_RECEIVED, ALWAYS_RECEIVED = 32 * MIB, 16384
 -- bytes that a manifest takes beside its text, and a digest in a list, about
 local OVERHEAD, DIGEST_SIZE = 512, 128
@@ -101,11 +108,14 @@ local function unreadable(message)
   refuse(400, "MANIFEST_INVALID", message)
 end
 
--- A member of a JSON object; one that is null is absent. Clients that read names without regard to case would take another one for it.
+-- A member of a JSON object; one that is null is absent. Clients that read names without regard to case would take
+-- another one for it.
 local function member(object, name)
   local value = object[name]
   for key in pairs(object) do
-    if type(key) == "string" and key ~= name and key:lower() == name then unreadable("the member " .. key .. " is to be " .. name) end
+    if type(key) == "string" and key ~= name and key:lower() == name then
+      unreadable("the member " .. key .. " is to be " .. name)
+    end
   end
   if value ~= json.null then return value end
 end
@@ -136,18 +146,28 @@ end
 
 -- The blobs and the manifests that the text of a manifest names: all of them, whichever kind of manifest it is.
 local function named_in(body)
-  if marks_in(body, "[{,", MOST_MARKS) > MOST_MARKS then refuse(413, "SIZE_INVALID", "the manifest has too many values") end
+  if marks_in(body, "[{,", MOST_MARKS) > MOST_MARKS then
+    refuse(413, "SIZE_INVALID", "the manifest has too many values")
+  end
   -- an object without a member is read as an empty list
-  if body:find('"layers"%s*:%s*{') or body:find('"manifests"%s*:%s*{') then unreadable("what is to be a list of descriptors is an object") end
+  if body:find('"layers"%s*:%s*{') or body:find('"manifests"%s*:%s*{') then
+    unreadable("what is to be a list of descriptors is an object")
+  end
   local manifest = json.decode(body)
-  if type(manifest) ~= "table" or member(manifest, "schemaVersion") ~= 2 then unreadable("not a manifest of schema version 2") end
+  if type(manifest) ~= "table" or member(manifest, "schemaVersion") ~= 2 then
+    unreadable("not a manifest of schema version 2")
+  end
   local blobs, manifests = {}, {}
   local config, layers, named = member(manifest, "config"), member(manifest, "layers"), member(manifest, "manifests")
-  if not named and not (config and layers) then unreadable("a manifest has a config and layers, an index has manifests") end
+  if not named and not (config and layers) then
+    unreadable("a manifest has a config and layers, an index has manifests")
+  end
   if config then add_digest(blobs, config) end
   if layers then add_digests(blobs, layers) end
   if named then add_digests(manifests, named) end
-  if #blobs + #manifests > MOST_NAMED then unreadable("the manifest names more than " .. MOST_NAMED .. " blobs and manifests") end
+  if #blobs + #manifests > MOST_NAMED then
+    unreadable("the manifest names more than " .. MOST_NAMED .. " blobs and manifests")
+  end
   return listed(blobs), listed(manifests)
 end
 
@@ -166,9 +186,14 @@ local function remember(what, value)
   remembered[what] = value
 end
 
--- Whether a blob is there, 200 or 404, else 503; and the shard that says so. `shard` has a number if it is to be asked of that one, else 0.
+-- Whether a blob is there, 200 or 404, else 503; and the shard that says so. `shard` has a number if it is to be asked
+-- of that one, else 0.
 local function ask_for_blob(name, digest, shard)
-  local request = {url = BLOBS .. "/v2/" .. name .. "/blobs/" .. digest, timeout = PATIENCE, headers = {["X-Shard"] = {tostring(shard)}}}
+  local request = {
+    url = BLOBS .. "/v2/" .. name .. "/blobs/" .. digest,
+    timeout = PATIENCE,
+    headers = {["X-Shard"] = {tostring(shard)}},
+  }
   local heard = core.httpclient():head(request)
   local by = heard.headers and heard.headers["x-shard"]
   return (heard.status == 200 or heard.status == 404) and heard.status or 503, by and tonumber(by[0] or by[1])
@@ -248,7 +273,8 @@ end
 
 --- Requests
 
--- Bodies that are being received, by their lists of parts. A client that goes away takes its list with it, once it is collected.
+-- Bodies that are being received, by their lists of parts. A client that goes away takes its list with it, once it is
+-- collected.
 local receiving = setmetatable({}, {__mode = "k"})
 local collected = 0
 
@@ -300,7 +326,9 @@ local function put(applet, name, reference, algorithm)
   if algorithm and reference ~= digest then refuse(400, "DIGEST_INVALID", "the manifest has another digest") end
   local blobs, manifests = named_in(body)
   local below = store.below(name, manifests)
-  if not below then refuse(404, "MANIFEST_BLOB_UNKNOWN", "the repository doesn't have all manifests that the index names") end
+  if not below then
+    refuse(404, "MANIFEST_BLOB_UNKNOWN", "the repository doesn't have all manifests that the index names")
+  end
   below = below + #blobs + #manifests
   if below > MOST_BELOW then unreadable("the index has more than " .. MOST_BELOW .. " blobs and manifests below it") end
   local record = {
@@ -309,10 +337,14 @@ local function put(applet, name, reference, algorithm)
   }
   local mark = mark_of(applet, name)
   local status = status_of_named(name, blobs, manifests, mark)
-  if status == 404 then refuse(404, "MANIFEST_BLOB_UNKNOWN", "the repository doesn't have all that the manifest names") end
+  if status == 404 then
+    refuse(404, "MANIFEST_BLOB_UNKNOWN", "the repository doesn't have all that the manifest names")
+  end
   if status ~= 200 then refuse(503, "UNAVAILABLE", "the shard of this repository does not answer") end
   local done = store.put(name, digest, record, not algorithm and reference or nil)
-  if done == "unknown" then refuse(404, "MANIFEST_BLOB_UNKNOWN", "the repository doesn't have all that the manifest names") end
+  if done == "unknown" then
+    refuse(404, "MANIFEST_BLOB_UNKNOWN", "the repository doesn't have all that the manifest names")
+  end
   if done == "full" then refuse(503, "UNAVAILABLE", "there is no room for more manifests (FRONT_HELD)") end
   if mark then remember("manifest " .. name .. "@" .. digest, mark) end
   answer(applet, 201, {Location = "/v2/" .. name .. "/manifests/" .. digest, ["Docker-Content-Digest"] = digest}, "")
@@ -349,7 +381,9 @@ end
 -- A list, with a link to the rest.
 local function answer_list(applet, list, more, most, form)
   local fields = {["Content-Type"] = "application/json"}
-  if more and #list > 0 then fields["Link"] = "<" .. applet.path .. "?n=" .. most .. "&last=" .. list[#list] .. '>; rel="next"' end
+  if more and #list > 0 then
+    fields["Link"] = "<" .. applet.path .. "?n=" .. most .. "&last=" .. list[#list] .. '>; rel="next"'
+  end
   local texts = {}
   -- no name and no tag has a character that JSON escapes
   for at, text in ipairs(list) do texts[at] = '"' .. text .. '"' end
@@ -377,12 +411,16 @@ local function serve(applet)
   if not name then name, reference = applet.path:match("^/v2/(.+)/manifests/([^/]+)$") end
   if name and #name > LONGEST_NAME then refuse(404, "NAME_INVALID", "the name is too long") end
   if not reference then
-    if applet.method ~= "GET" and applet.method ~= "HEAD" then refuse(405, "UNSUPPORTED", "lists are asked for by GET", {Allow = "GET, HEAD"}) end
+    if applet.method ~= "GET" and applet.method ~= "HEAD" then
+      refuse(405, "UNSUPPORTED", "lists are asked for by GET", {Allow = "GET, HEAD"})
+    end
     if name then return list_tags(applet, name) end
     return list_repositories(applet)
   end
   local algorithm = algorithm_of(reference)
-  if not algorithm and (#reference > LONGEST_TAG or reference:find(":", 1, true)) then unreadable("the reference is neither a tag nor a digest") end
+  if not algorithm and (#reference > LONGEST_TAG or reference:find(":", 1, true)) then
+    unreadable("the reference is neither a tag nor a digest")
+  end
   local work = METHODS[applet.method]
   if not work then refuse(405, "UNSUPPORTED", "manifests have other methods", {Allow = "GET, HEAD, PUT, DELETE"}) end
   work(applet, name, reference, algorithm)

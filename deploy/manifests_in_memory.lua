@@ -1,9 +1,11 @@
--- Manifests and tags in HAProxy's memory: a restart or a reload of HAProxy loses them. manifests.lua says what the functions are for.
+-- Manifests and tags in HAProxy's memory: a restart or a reload of HAProxy loses them. manifests.lua says what the
+-- functions are for.
 
 -- bytes that an entry takes beside its text, about
 local OVERHEAD = 512
 
--- Calls a function so that no other request comes between: HAProxy interrupts Lua after so many instructions, but never inside a function of C.
+-- Calls a function so that no other request comes between: HAProxy interrupts Lua after so many instructions, but never
+-- inside a function of C.
 local function at_once(work)
   return function(...)
     local words, results = table.pack(...), nil
@@ -40,7 +42,8 @@ local function page(list, last, most)
 end
 
 return function(most_held)
-  -- of each repository: records[digest], with its tags and the digests of what names it; digests[tag]; its tags in order
+  -- of each repository: records[digest], with its tags and the digests of what names it; digests[tag]; its tags in
+  -- order
   local repositories, names, held = {}, {}, 0
   local store = {}
 

@@ -1,15 +1,18 @@
--- Manifests and tags in Redis, which keeps them on disk (redis.conf). manifests.lua says what the functions are for. What changes something is one
--- script, so Redis does all of it or nothing, and nothing comes between; and Redis answers once it is on disk.
+-- Manifests and tags in Redis, which keeps them on disk (redis.conf). manifests.lua says what the functions are for.
+-- What changes something is one script, so Redis does all of it or nothing, and nothing comes between; and Redis
+-- answers once it is on disk.
 --
--- The keys of a manifest, each with NAME@DIGEST behind it: manifest: (type, stamp, size, below, length), body:, tagged: (its tags), names: and above: (the
--- manifests that it names, and those that name it). Of a repository, with NAME behind it: manifests: (their digests), digest: (by tag), tags: (in order).
--- Of all: repositories (their names in order), and held (the bytes of all).
+-- The keys of a manifest, each with NAME@DIGEST behind it: manifest: (type, stamp, size, below, length), body:, tagged:
+-- (its tags), names: and above: (the manifests that it names, and those that name it). Of a repository, with NAME
+-- behind it: manifests: (their digests), digest: (by tag), tags: (in order). Of all: repositories (their names in
+-- order), and held (the bytes of all).
 
 local HOST, PORT = os.getenv("FRONT_REDIS"):match("^(.*):(%d+)$")
 local PASSWORD = os.getenv("FRONT_REDIS_PASSWORD")
 -- seconds for Redis to answer
 local PATIENCE = 10
--- HAProxy 2.6.12 was seen to wait for ever for the rest of a reply that doesn't fit its buffer of 16 KiB: so no reply is longer than about half of that.
+-- HAProxy 2.6.12 was seen to wait for ever for the rest of a reply that doesn't fit its buffer of 16 KiB: so no reply
+-- is longer than about half of that.
 local PIECE, LISTED = 8192, 25
 local OVERHEAD = 512
 
@@ -75,7 +78,9 @@ while #left > 0 do
       freed = freed + #tag + overhead
     end
     for _, above in ipairs(redis.call("SMEMBERS", "above:" .. at)) do left[#left + 1] = above end
-    for _, named in ipairs(redis.call("SMEMBERS", "names:" .. at)) do redis.call("SREM", "above:" .. name .. "@" .. named, digest) end
+    for _, named in ipairs(redis.call("SMEMBERS", "names:" .. at)) do
+      redis.call("SREM", "above:" .. name .. "@" .. named, digest)
+    end
     redis.call("DEL", "manifest:" .. at, "body:" .. at, "tagged:" .. at, "names:" .. at, "above:" .. at)
     redis.call("SREM", "manifests:" .. name, digest)
     redis.call("DECRBY", "held", freed)
@@ -171,7 +176,8 @@ local function text_at(ask, key, length)
   return table.concat(parts)
 end
 
--- At most `most` of a list that `ask_for` gives in pieces, behind `last`, and whether more follow; nil if there is no list.
+-- At most `most` of a list that `ask_for` gives in pieces, behind `last`, and whether more follow; nil if there is no
+-- list.
 local function page(last, most, ask_for)
   local list = {}
   while #list <= most do
@@ -204,8 +210,8 @@ return function(most_held)
     end,
     put = function(name, digest, record, tag)
       return run(
-        PUT, name, digest, record.type, record.stamp, record.size, record.below, record.body, tag or "", most_held, OVERHEAD,
-        table.unpack(record.manifests)
+        PUT, name, digest, record.type, record.stamp, record.size, record.below, record.body, tag or "", most_held,
+        OVERHEAD, table.unpack(record.manifests)
       )
     end,
     drop = function(name, digest, stamp) return run(DROP, name, digest, stamp or "", OVERHEAD) == 1 end,

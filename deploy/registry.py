@@ -34,7 +34,10 @@ def lacks_packages():
     """Says what is missing, and whether something is."""
     absent = servers.missing(*NEEDED)
     if absent:
-        print("make registry needs Debian's packages: apt-get install --no-install-recommends " + " ".join(absent + servers.missing("skopeo")))
+        print(
+            "make registry needs Debian's packages: apt-get install --no-install-recommends "
+            + " ".join(absent + servers.missing("skopeo"))
+        )
     return bool(absent)
 
 
@@ -57,8 +60,12 @@ def make_image(folder):
     layer = keep(room.getvalue(), LAYER)
     rootfs = {"type": "layers", "diff_ids": [layer["digest"]]}
     config = keep(json.dumps({"architecture": "amd64", "os": "linux", "config": {}, "rootfs": rootfs}).encode(), CONFIG)
-    manifest = keep(json.dumps({"schemaVersion": 2, "mediaType": MANIFEST, "config": config, "layers": [layer]}).encode(), MANIFEST)
-    index = {"schemaVersion": 2, "manifests": [manifest | {"annotations": {"org.opencontainers.image.ref.name": "hello"}}]}
+    manifest = keep(
+        json.dumps({"schemaVersion": 2, "mediaType": MANIFEST, "config": config, "layers": [layer]}).encode(), MANIFEST
+    )
+    index = {
+        "schemaVersion": 2, "manifests": [manifest | {"annotations": {"org.opencontainers.image.ref.name": "hello"}}]
+    }
     for name, content in (("oci-layout", {"imageLayoutVersion": "1.0.0"}), ("index.json", index)):
         with open(os.path.join(folder, name), "w", encoding="ascii") as file:
             json.dump(content, file)
@@ -77,13 +84,15 @@ def greeting(folder, password, local):
         f"  skopeo copy --src-cert-dir {certificates} {there} oci:{back}:hello",
         f"  zcat -f {back}/blobs/sha256/* | grep -a hello",
         "",
-        f"The image is of one file, hello.txt, and lies in {image}. Any other works too: docker://docker.io/library/busybox in place of oci:..",
+        f"The image is of one file, hello.txt, and lies in {image}. "
+        "Any other works too: docker://docker.io/library/busybox in place of oci:..",
         "",
     ]
     if servers.missing("skopeo"):
         lines += ["(skopeo isn't installed: apt-get install skopeo)"]
     lines += [
-        f"Tools of this machine reach it without TLS and without a login at http://{local}, such as: blobd push {local} lib/file FILE",
+        f"Tools of this machine reach it without TLS and without a login at http://{local}, such as: "
+        f"blobd push {local} lib/file FILE",
         f"Docker and Podman push and pull too (docs/OPERATIONS.md). Requests are logged in {folder}/haproxy.log",
     ]
     return "\n".join(lines)

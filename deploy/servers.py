@@ -1,6 +1,7 @@
 """Starts blobd and the servers that stand before it, with the settings of this folder, and ends them.
 
-They listen on the loopback address alone. Each is a `Service`, for as long as its `with` lasts. It also ends if the program that started it is killed.
+They listen on the loopback address alone. Each is a `Service`, for as long as its `with` lasts. It also ends if the
+program that started it is killed.
 """
 import ctypes
 import glob
@@ -129,7 +130,8 @@ def blobd(binary, folder, address, name="blobd", memory=None, workers=2):
 
 
 def certificate(folder):
-    """Makes a certificate that signs itself, for this machine's loopback address: ca/front.crt, front.key, and both in front.pem."""
+    """Makes a certificate that signs itself, for this machine's loopback address: ca/front.crt, front.key, and both in
+    front.pem."""
     os.makedirs(os.path.join(folder, "ca"), exist_ok=True)
     key, crt = os.path.join(folder, "front.key"), os.path.join(folder, "ca", "front.crt")
     words = ["openssl", "req", "-x509", "-newkey", "ec", "-pkeyopt", "ec_paramgen_curve:P-256", "-nodes", "-days", "30"]
@@ -146,12 +148,15 @@ def logins(folder, users):
     """Writes the logins, of these users with their passwords, where nobody else reads them."""
     path = os.path.join(folder, "users.cfg")
     with open(os.open(path, os.O_CREAT | os.O_WRONLY | os.O_TRUNC, 0o600), "w", encoding="ascii") as file:
-        file.write("userlist pushers\n" + "".join(f"    user {user} insecure-password {word}\n" for user, word in users.items()))
+        file.write(
+            "userlist pushers\n"
+            + "".join(f"    user {user} insecure-password {word}\n" for user, word in users.items())
+        )
 
 
 class HAProxy(Service):
-    """HAProxy before these shards, each with so many workers, with the certificate and the logins of the folder, on free addresses but for the one
-    given, with more settings."""
+    """HAProxy before these shards, each with so many workers, with the certificate and the logins of the folder, on
+    free addresses but for the one given, with more settings."""
 
     def __init__(self, folder, shards, tls=None, more=None, workers=2):
         self.tls = tls or free_address()
@@ -192,7 +197,9 @@ class HAProxy(Service):
 
     def judged(self):
         """What `haproxy -c` says of the settings, where it isn't content."""
-        ran = subprocess.run([*self.words, "-c"], cwd=self.folder, env=self.settings, capture_output=True, text=True, check=False)
+        ran = subprocess.run(
+            [*self.words, "-c"], cwd=self.folder, env=self.settings, capture_output=True, text=True, check=False
+        )
         return ran.stdout + ran.stderr if ran.returncode else ""
 
 
@@ -203,7 +210,16 @@ class Redis(Service):
         self.address = free_address()
         home = os.path.join(folder, "redis")
         os.makedirs(home, exist_ok=True)
-        words = [program("redis-server"), os.path.join(HERE, "redis.conf"), "--port", self.address.rsplit(":", 1)[1], "--dir", home, "--requirepass", password]
+        words = [
+            program("redis-server"),
+            os.path.join(HERE, "redis.conf"),
+            "--port",
+            self.address.rsplit(":", 1)[1],
+            "--dir",
+            home,
+            "--requirepass",
+            password,
+        ]
         super().__init__("redis", folder, words, [self.address])
 
 

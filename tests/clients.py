@@ -19,7 +19,8 @@ TRIES = 200
 
 @dataclasses.dataclass
 class Upload:
-    """What a client knows of an upload: where it is, and the bytes that were taken. A chunk or a close whose client went away is perhaps still to come."""
+    """What a client knows of an upload: where it is, and the bytes that were taken. A chunk or a close whose client
+    went away is perhaps still to come."""
 
     name: str
     place: str
@@ -123,15 +124,26 @@ class Client:
         reply = self.ask("POST", f"/v2/{name}/blobs/uploads/")
         if reply:
             place = reply.fields["Location"] or ""
-            demand(reply.status == 202 and place.startswith(f"/v2/{name}/blobs/uploads/"), "an opening is answered", reply)
+            demand(
+                reply.status == 202 and place.startswith(f"/v2/{name}/blobs/uploads/"), "an opening is answered", reply
+            )
             self.uploads.append(Upload(name, place))
 
     def settle_chunk(self, upload):
-        """Sends a chunk again that was perhaps taken, at its place: it is taken now, or was before. So it can't be taken later, either."""
+        """Sends a chunk again that was perhaps taken, at its place: it is taken now, or was before. So it can't be
+        taken later, either."""
         body, before = upload.perhaps, upload.held
         reply = self.ask("PATCH", upload.place, body, placed(upload, body))
         if reply and reply.status == 416:
-            demand(reply.held() == len(before + body), "an upload of", len(before), "bytes, and perhaps", len(body), "more, has", reply.held())
+            demand(
+                reply.held() == len(before + body),
+                "an upload of",
+                len(before),
+                "bytes, and perhaps",
+                len(body),
+                "more, has",
+                reply.held(),
+            )
             upload.held += body
         elif reply:
             self.took(upload, body, reply)
@@ -164,7 +176,13 @@ class Client:
 
     def misplaced_chunk(self, upload):
         """A chunk that overlaps, leaves a gap, or comes again."""
-        first = self.chance.choice([place for place in (0, len(upload.held) - 1, len(upload.held) + 1) if place >= 0 and place != len(upload.held)])
+        first = self.chance.choice(
+            [
+                place
+                for place in (0, len(upload.held) - 1, len(upload.held) + 1)
+                if place >= 0 and place != len(upload.held)
+            ]
+        )
         body = self.some_bytes() + b"x"
         reply = self.ask("PATCH", upload.place, body, [("Content-Range", f"{first}-{first + len(body) - 1}")])
         if reply:
@@ -173,7 +191,13 @@ class Client:
     def status(self, upload):
         reply = self.ask("GET", upload.place)
         if reply:
-            demand((reply.status, reply.held()) == (204, len(upload.held)), "the status of", len(upload.held), "bytes is", reply)
+            demand(
+                (reply.status, reply.held()) == (204, len(upload.held)),
+                "the status of",
+                len(upload.held),
+                "bytes is",
+                reply,
+            )
 
     def closing(self, upload, content):
         return f"{upload.place}?digest={sha256(content)}"
@@ -214,7 +238,11 @@ class Client:
             self.took(upload, body, reply)
         for reply in replies:
             demand(not reply or reply.status in (202, 416), "raced chunks are answered", reply)
-            demand(not reply or reply.status == 202 or (taken and reply.held() == len(upload.held)), "a raced chunk is refused", reply)
+            demand(
+                not reply or reply.status == 202 or (taken and reply.held() == len(upload.held)),
+                "a raced chunk is refused",
+                reply,
+            )
         demand(taken or self.is_refused, "no raced chunk is taken")
 
     def raced_chunk_and_close(self, upload):
@@ -244,7 +272,13 @@ class Client:
     def pull(self, blob):
         name, digest, length = blob
         reply = self.ask_until_heard("GET", f"/v2/{name}/blobs/{digest}")
-        demand(reply.status == 200 and sha256(reply.body) == digest and len(reply.body) == length, "a pull of", digest, "is answered", reply.status)
+        demand(
+            reply.status == 200 and sha256(reply.body) == digest and len(reply.body) == length,
+            "a pull of",
+            digest,
+            "is answered",
+            reply.status,
+        )
         return reply
 
     def pull_again(self, _):
@@ -271,7 +305,9 @@ class Client:
             settle = self.settle_chunk if upload.perhaps else self.settle_close
             settle(upload)
             return
-        steps = [self.chunk] * 10 + [self.misplaced_chunk, self.status, self.close, self.close, self.wrong_close, self.unknown_upload]
+        steps = [self.chunk] * 10 + [
+            self.misplaced_chunk, self.status, self.close, self.close, self.wrong_close, self.unknown_upload
+        ]
         steps += [self.raced_closes, self.raced_chunks, self.raced_chunk_and_close, self.pull_again]
         step = self.chance.choice(steps)
         if step != self.misplaced_chunk or upload.held:

@@ -1,5 +1,6 @@
 #!/usr/bin/env python3
-"""The commands that people type, over the built program: what `make` says without building, requests beside their replies, and what is packed.
+"""The commands that people type, over the built program: what `make` says without building, requests beside their
+replies, and what is packed.
 
     commands.py PROGRAM
 """
@@ -24,7 +25,14 @@ import pack
 
 def make(*words):
     """What `make` prints, on both streams, and its status."""
-    ran = subprocess.run(["make", "--no-print-directory", *words], cwd=TOP, capture_output=True, text=True, timeout=running.PATIENCE, check=False)
+    ran = subprocess.run(
+        ["make", "--no-print-directory", *words],
+        cwd=TOP,
+        capture_output=True,
+        text=True,
+        timeout=running.PATIENCE,
+        check=False,
+    )
     return ran.stdout + ran.stderr, ran.returncode
 
 
@@ -87,12 +95,19 @@ class Builds(unittest.TestCase):
 class Packs(unittest.TestCase):
     def packed(self, what, program):
         """The files of what is packed, by their names, and the sum that stands beside it."""
-        with tempfile.TemporaryDirectory() as folder, mock.patch.object(pack, "DIST", folder), mock.patch.object(pack, "PROGRAM", program):
+        with (
+            tempfile.TemporaryDirectory() as folder,
+            mock.patch.object(pack, "DIST", folder),
+            mock.patch.object(pack, "PROGRAM", program),
+        ):
             with mock.patch("sys.stdout", io.StringIO()):
                 self.assertEqual(0, pack.main([what]))
             name = next(name for name in os.listdir(folder) if not name.endswith(".sha256"))
             data = pack.contents(os.path.join(folder, name))
-            self.assertEqual(f"{hashlib.sha256(data).hexdigest()}  {name}\n".encode(), pack.contents(os.path.join(folder, f"{name}.sha256")))
+            self.assertEqual(
+                f"{hashlib.sha256(data).hexdigest()}  {name}\n".encode(),
+                pack.contents(os.path.join(folder, f"{name}.sha256")),
+            )
             with tarfile.open(fileobj=io.BytesIO(data)) as tar:
                 return {entry.name: tar.extractfile(entry).read() for entry in tar}
 
@@ -115,7 +130,9 @@ class Packs(unittest.TestCase):
         top = f"blobd-{pack.version()}/"
         self.assertEqual((b"every", b"v3"), (files[f"{top}bin/blobd"], files[f"{top}bin/blobd-v3"]))
         sums = dict(reversed(line.split("  ")) for line in files.pop(f"{top}SHA256SUMS").decode().splitlines())
-        self.assertEqual(sums, {name.removeprefix(top): hashlib.sha256(data).hexdigest() for name, data in files.items()})
+        self.assertEqual(
+            sums, {name.removeprefix(top): hashlib.sha256(data).hexdigest() for name, data in files.items()}
+        )
         self.assertTrue({"LICENSE", "README.md", "VERSION"} <= set(sums))
 
 

@@ -3,8 +3,9 @@
 
     connections.py PROGRAM
 
-Each tests/connections/NAME.in is what a client sends over one connection, NAME.out what has to come back, byte for byte, and NAME.status the
-exit status of `blobd once`. It also tries very long connections, and connections that are cut after each byte. Its last line is 'N passed, M failed'.
+Each tests/connections/NAME.in is what a client sends over one connection, NAME.out what has to come back, byte for
+byte, and NAME.status the exit status of `blobd once`. It also tries very long connections, and connections that are cut
+after each byte. Its last line is 'N passed, M failed'.
 """
 import concurrent.futures
 import unittest
@@ -25,7 +26,8 @@ def opening_reply(number):
 
 
 def cut_connections():
-    """A whole upload, cut after each byte: the replies to the whole requests before the cut, and status 3 inside a request."""
+    """A whole upload, cut after each byte: the replies to the whole requests before the cut, and status 3 inside a
+    request."""
     _, sent, replies, _ = next(connection for connection in stored.connections() if connection[0] == "whole-upload")
     turns, _ = model.conversation(sent)
     for cut in range(len(sent) + 1):
@@ -41,7 +43,9 @@ class Connections(unittest.TestCase):
         cases = list(cases)
         self.assertTrue(cases)
         with concurrent.futures.ThreadPoolExecutor() as pool:
-            for (name, _, replies, status), ended in zip(cases, pool.map(running.once, [sent for _, sent, *_ in cases])):
+            for (name, _, replies, status), ended in zip(
+                cases, pool.map(running.once, [sent for _, sent, *_ in cases])
+            ):
                 with self.subTest(name):
                     self.assertEqual((replies, status), ended)
 
@@ -53,15 +57,27 @@ class Connections(unittest.TestCase):
 
     def test_more_openings_than_sessions(self):
         body = b'{"errors":[{"code":"TOOMANYREQUESTS","message":"too many requests"}]}'
-        refused = b"HTTP/1.1 429 Too Many Requests\r\nContent-Type: application/json\r\nContent-Length: %d\r\n\r\n" % len(body) + body
+        refused = (
+            b"HTTP/1.1 429 Too Many Requests\r\nContent-Type: application/json\r\nContent-Length: %d\r\n\r\n" % len(
+                body
+            )
+            + body
+        )
         self.compare([("1025 openings", OPENING * 1025, b"".join(map(opening_reply, range(1, 1025))) + refused, 0)])
 
     def test_more_requests_than_a_connection_takes(self):
         asks_to_close = BASE.replace(b"Host: h", b"Connection: close")
-        self.compare([
-            ("10001 requests", BASE * 10001, BASE_REPLY * 9999 + CLOSING_REPLY, 1),
-            ("10000 requests, the last of which asks to close", BASE * 9999 + asks_to_close, BASE_REPLY * 9999 + CLOSING_REPLY, 0),
-        ])
+        self.compare(
+            [
+                ("10001 requests", BASE * 10001, BASE_REPLY * 9999 + CLOSING_REPLY, 1),
+                (
+                    "10000 requests, the last of which asks to close",
+                    BASE * 9999 + asks_to_close,
+                    BASE_REPLY * 9999 + CLOSING_REPLY,
+                    0,
+                ),
+            ]
+        )
 
 
 if __name__ == "__main__":

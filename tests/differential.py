@@ -1,16 +1,18 @@
 #!/usr/bin/env python3
-"""Compares `blobd once` and `blobd serve` with a model (tests/model.py) over streams that a seeded generator makes: all that is written, and how it ends.
+"""Compares `blobd once` and `blobd serve` with a model (tests/model.py) over streams that a seeded generator makes: all
+that is written, and how it ends.
 
     differential.py PROGRAM [--streams N] [--seed FIRST]
 
 A stream is requests, whole, cut or changed somewhere (tests/streams.py).
 
-- `blobd once`: the bytes and the exit status. If a stream is answered otherwise than by the model, a short part of it is printed that is so too. The
-  streams together have to get each reply that the model knows and each end of a connection, except those that take a thousand requests or more
-  (tests/connections.py has these).
-- `blobd serve` with one worker, two and eight, over sockets: for each of them a sixteenth as many streams, of other seeds, and a new
-  server for each. Every second stream goes over one connection, and the others go in turn over one to each worker, so that the workers have to share what
-  they know. The references that it tells are compared without their secrets.
+- `blobd once`: the bytes and the exit status. If a stream is answered otherwise than by the model, a short part of it
+  is printed that is so too. The streams together have to get each reply that the model knows and each end of a
+  connection, except those that take a thousand requests or more (tests/connections.py has these).
+- `blobd serve` with one worker, two and eight, over sockets: for each of them a sixteenth as many streams, of other
+  seeds, and a new server for each. Every second stream goes over one connection, and the others go in turn over one to
+  each worker, so that the workers have to share what they know. The references that it tells are compared without their
+  secrets.
 
 Closes with 'N passed, M failed'.
 """
@@ -30,7 +32,13 @@ from harness.running import rest_of
 # So many streams bring about all of these.
 ENOUGH = 1_000
 REPLIES = {(200, ""), (201, ""), (202, ""), (204, ""), (400, ""), (411, ""), (413, ""), (431, "")}
-REPLIES |= {(400, "BLOB_UPLOAD_INVALID"), (400, "DIGEST_INVALID"), (400, "SIZE_INVALID"), (405, "UNSUPPORTED"), (416, "BLOB_UPLOAD_INVALID")}
+REPLIES |= {
+    (400, "BLOB_UPLOAD_INVALID"),
+    (400, "DIGEST_INVALID"),
+    (400, "SIZE_INVALID"),
+    (405, "UNSUPPORTED"),
+    (416, "BLOB_UPLOAD_INVALID"),
+}
 REPLIES |= {(404, code) for code in ("BLOB_UNKNOWN", "BLOB_UPLOAD_UNKNOWN", "NAME_INVALID", "UNSUPPORTED")}
 ENDS = set(model.End) - {model.End.TOO_MANY}
 # of the first streams that are answered otherwise, a part is sought in so many tries
@@ -47,7 +55,8 @@ def is_other(sent):
 
 
 def shrunk(sent):
-    """A part of a stream that is answered otherwise too, once no piece can be taken out of it, or after so many tries."""
+    """A part of a stream that is answered otherwise too, once no piece can be taken out of it, or after so many
+    tries."""
     tries, size = MOST_TRIES, len(sent) // 2
     while size and tries:
         at = 0
@@ -67,7 +76,10 @@ def told(sent, ran, should):
     (written, status), (wanted, wanted_status) = ran, should
     same = len(os.path.commonprefix([written, wanted]))
     end = max(0, same - 40)
-    return f"status {status}, wanted {wanted_status}; wrote ..{written[end:][:400]!r}, wanted ..{wanted[end:][:400]!r}; sent {sent[:2000]!r}"
+    came, should_come = written[end:][:400], wanted[end:][:400]
+    return (
+        f"status {status}, wanted {wanted_status}; wrote ..{came!r}, wanted ..{should_come!r}; sent {sent[:2000]!r}"
+    )
 
 
 def compared(seed):
@@ -79,7 +91,8 @@ def compared(seed):
 
 
 def parts(sent):
-    """A stream, cut behind each request that opens a session, with the reference that the last reply to a part tells. What is never answered isn't cut off."""
+    """A stream, cut behind each request that opens a session, with the reference that the last reply to a part tells.
+    What is never answered isn't cut off."""
     turns, _ = model.conversation(sent)
     begin, number = 0, 1
     for place, turn in enumerate(turns, 1):
@@ -97,7 +110,8 @@ def forms(reference):
 
 
 class Secrets:
-    """The secrets of a server's references. The model's are zero: so what is sent gets those that the server told, and they are taken out of what comes."""
+    """The secrets of a server's references. The model's are zero: so what is sent gets those that the server told, and
+    they are taken out of what comes."""
 
     def __init__(self):
         self.references = {}  # the model's, and the server's
@@ -109,7 +123,8 @@ class Secrets:
         return part
 
     def hear(self, connection, plain):
-        """What comes until a head is whole that tells a reference for the first time, or until the end. It has to have this one's number."""
+        """What comes until a head is whole that tells a reference for the first time, or until the end. It has to have
+        this one's number."""
         replies, new = b"", set()
         while not new:
             part = connection.recv(65536)
@@ -129,7 +144,8 @@ class Secrets:
 
 
 def converse(connections, sent):
-    """What comes over connections to which the parts of a stream go in turn, each once those before it are answered. An error stands behind what came."""
+    """What comes over connections to which the parts of a stream go in turn, each once those before it are answered. An
+    error stands behind what came."""
     secrets, replies = Secrets(), b""
     try:
         for (part, plain), connection in zip(parts(sent), itertools.cycle(connections)):
@@ -146,7 +162,8 @@ def converse(connections, sent):
 
 
 def served(workers, seed):
-    """What comes from a new server of so many workers, of which each takes one connection, and how the server ends; and what is wanted."""
+    """What comes from a new server of so many workers, of which each takes one connection, and how the server ends; and
+    what is wanted."""
     sent = streams.stream(seed)
     wanted, _ = model.once(sent)
     with running.Server(1, env=os.environ | {"BLOBD_WORKERS": str(workers)}) as server:

@@ -34,9 +34,9 @@ MISSING = reply(404, body=UNKNOWN)
 
 
 class Scripted:
-    """A server that serves one connection after the other, each by a list of replies. A reply is sent once the request is there
-    whole; one that `hastens` is sent behind the request's head, and then the connection is closed as it is. Where the list ends, the
-    client's close is awaited. `asked` has each connection's methods."""
+    """A server that serves one connection after the other, each by a list of replies. A reply is sent once the request
+    is there whole; one that `hastens` is sent behind the request's head, and then the connection is closed as it is.
+    Where the list ends, the client's close is awaited. `asked` has each connection's methods."""
 
     def __init__(self, *connections):
         self.connections = connections
@@ -115,25 +115,38 @@ TOO_LARGE = reply(413, b"Connection: close", body=b'{"errors":[{"code":"SIZE_INV
 
 class EarlyReplies(unittest.TestCase):
     def goes(self, content, chunk, connections, asked, ended):
-        """Pushes to a scripted server: what it was asked on each connection, and how the push ended. Before all of that it is asked by a HEAD whether it
-        has the file, and says no."""
+        """Pushes to a scripted server: what it was asked on each connection, and how the push ended. Before all of that
+        it is asked by a HEAD whether it has the file, and says no."""
         server = Scripted(at_once(reply(404)) + connections[0], *connections[1:])
         self.assertEqual(ended, push(server.addr, content, chunk))
         self.assertEqual([["HEAD", *asked[0]], *asked[1:]], server.end())
 
     def test_created_behind_the_reply_to_the_last_chunk(self):
         """It isn't heard as the reply to the close: the client connects again, and closes there."""
-        self.goes(b"abc", 3, [at_once(OPENED, taken(2) + CREATED), at_once(MISSING)], [["POST", "PATCH"], ["PUT"]], REFUSED_404)
+        self.goes(
+            b"abc",
+            3,
+            [at_once(OPENED, taken(2) + CREATED), at_once(MISSING)],
+            [["POST", "PATCH"], ["PUT"]],
+            REFUSED_404,
+        )
 
     def test_a_reply_behind_the_reply_to_a_chunk(self):
         self.goes(b"abcd", 2, [at_once(OPENED, taken(1) + reply(200)), at_once(taken(3), CREATED)],
                   [["POST", "PATCH"], ["PATCH", "PUT"]], pushed(b"abcd"))
 
     def test_a_byte_behind_the_reply_to_the_opening(self):
-        self.goes(b"abc", 3, [at_once(OPENED + b"x"), at_once(taken(2), CREATED)], [["POST"], ["PATCH", "PUT"]], pushed(b"abc"))
+        self.goes(
+            b"abc",
+            3,
+            [at_once(OPENED + b"x"), at_once(taken(2), CREATED)],
+            [["POST"], ["PATCH", "PUT"]],
+            pushed(b"abc"),
+        )
 
     def test_refusals_of_a_part_of_a_chunk(self):
-        """The server answers behind a chunk's head and closes, so that the client's write fails; the system still has the reply."""
+        """The server answers behind a chunk's head and closes, so that the client's write fails; the system still has
+        the reply."""
         for text, line in [(TOO_LARGE, "refused: 413 SIZE_INVALID\n"), (MISSING, REFUSED_404[0])]:
             with self.subTest(line):
                 self.goes(LARGE, len(LARGE), [[(OPENED, False), (text, True)]], [["POST", "PATCH"]], (line, 1))

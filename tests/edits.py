@@ -1,5 +1,6 @@
 #!/usr/bin/env python3
-"""Tries must-fail edits in a copy of the repository: the further ones, under `crates/*/further-edits/`, or those that are named.
+"""Tries must-fail edits in a copy of the repository: the further ones, under `crates/*/further-edits/`, or those that
+are named.
 
     edits.py                 every further edit
     edits.py CRATE..         the further edits of these crates
@@ -22,7 +23,8 @@ def is_edit(path):
 
 
 def copied(folder, edits):
-    """Copies what git tracks, with these edits as those that the toolchain tries, and the libraries that are proved already."""
+    """Copies what git tracks, with these edits as those that the toolchain tries, and the libraries that are proved
+    already."""
     for path in {*tracked(), *edits}:
         if is_edit(path) and path not in edits:
             continue

@@ -1,5 +1,6 @@
 #!/usr/bin/env python3
-"""Runs the reverse proxy and the other servers of deploy/ before `blobd`, with their settings, on free ports of the loopback address.
+"""Runs the reverse proxy and the other servers of deploy/ before `blobd`, with their settings, on free ports of the
+loopback address.
 
     front.py PROGRAM
 
@@ -16,7 +17,8 @@ It tries
 - `blobd push` through the adapter to `docker-registry`;
 - `make registry`, and the lines of docs/OPERATIONS.md that set up a registry.
 
-Prints a line for each check that fails, one for each part whose packages aren't installed, and 'N passed, M failed' as the last.
+Prints a line for each check that fails, one for each part whose packages aren't installed, and 'N passed, M failed' as
+the last.
 """
 import base64
 import collections
@@ -180,7 +182,8 @@ class Client:
 
 
 class Site:
-    """So many shards behind HAProxy, each with so many workers, and nginx before it if it is asked for, in a folder of their own."""
+    """So many shards behind HAProxy, each with so many workers, and nginx before it if it is asked for, in a folder of
+    their own."""
 
     def __init__(self, shards=1, nginx=False, memory=None, more=None, users=None, workers=2):
         self.users = dict([LOGIN]) | (users or {})
@@ -196,10 +199,14 @@ class Site:
             servers.logins(self.folder, self.users)
             self.certificates = os.path.join(self.folder, "ca", "front.crt")
             self.shards = [
-                stack.enter_context(servers.blobd(running.PROGRAM, self.folder, address, f"blobd{number}", self.memory, self.workers))
+                stack.enter_context(
+                    servers.blobd(running.PROGRAM, self.folder, address, f"blobd{number}", self.memory, self.workers)
+                )
                 for number, address in enumerate(self.addresses, 1)
             ]
-            self.haproxy = stack.enter_context(servers.HAProxy(self.folder, self.addresses, more=self.more, workers=self.workers))
+            self.haproxy = stack.enter_context(
+                servers.HAProxy(self.folder, self.addresses, more=self.more, workers=self.workers)
+            )
             self.nginx = stack.enter_context(servers.Nginx(self.folder, self.haproxy)) if self.with_nginx else None
             self.stack = stack.pop_all()
         return self
@@ -223,7 +230,10 @@ class Site:
         """The number of the shard that a repository is on, found by a blob that is pushed to it."""
         pushed = self.local().push(name, name.encode())
         digest = sha256(name.encode())
-        asked = [Client(address).ask("HEAD", f"/v2/{name}/blobs/{digest}", Connection="close")[0] for address in self.addresses]
+        asked = [
+            Client(address).ask("HEAD", f"/v2/{name}/blobs/{digest}", Connection="close")[0]
+            for address in self.addresses
+        ]
         found = [at for at, status in enumerate(asked) if status == 200]
         check(f"{name} is on one shard", pushed == UPLOADED and len(found) == 1, (pushed, found))
         return found[0] if found else None
@@ -261,11 +271,18 @@ def make_image(folder):
 
     tars = [layer(number, size) for number, size in enumerate([0, 1, 5000, 70 * KIB, MIB, 8 * MIB])]
     layers = [keep(gzip.compress(tar, 1, mtime=0), "application/vnd.oci.image.layer.v1.tar+gzip") for tar in tars]
-    config = {"architecture": "amd64", "os": "linux", "config": {}, "rootfs": {"type": "layers", "diff_ids": [sha256(tar) for tar in tars]}}
+    config = {
+        "architecture": "amd64",
+        "os": "linux",
+        "config": {},
+        "rootfs": {"type": "layers", "diff_ids": [sha256(tar) for tar in tars]},
+    }
     named = {"config": keep(json.dumps(config).encode(), "application/vnd.oci.image.config.v1+json"), "layers": layers}
     manifest = keep(json.dumps({"schemaVersion": 2, "mediaType": IMAGE_TYPE, **named}).encode(), IMAGE_TYPE)
     manifest["annotations"] = {"org.opencontainers.image.ref.name": "one"}
-    for name, content in (("oci-layout", {"imageLayoutVersion": "1.0.0"}), ("index.json", {"schemaVersion": 2, "manifests": [manifest]})):
+    for name, content in (
+        ("oci-layout", {"imageLayoutVersion": "1.0.0"}), ("index.json", {"schemaVersion": 2, "manifests": [manifest]})
+    ):
         with open(os.path.join(folder, name), "w", encoding="ascii") as file:
             json.dump(content, file)
 
@@ -286,8 +303,17 @@ def settings_are_valid():
         servers.certificate(folder)
         servers.logins(folder, dict([LOGIN]))
         bare = {name: text for name, text in os.environ.items() if not name.startswith(("FRONT_", "BLOBD_"))}
-        alone = [servers.program("haproxy"), "-c", "-f", os.path.join(servers.HERE, "haproxy.cfg"), "-f", os.path.join(folder, "users.cfg")]
-        settings = {"FRONT_CERT": os.path.join(folder, "front.pem"), "FRONT_LUA": os.path.join(servers.HERE, "manifests.lua")}
+        alone = [
+            servers.program("haproxy"),
+            "-c",
+            "-f",
+            os.path.join(servers.HERE, "haproxy.cfg"),
+            "-f",
+            os.path.join(folder, "users.cfg"),
+        ]
+        settings = {
+            "FRONT_CERT": os.path.join(folder, "front.pem"), "FRONT_LUA": os.path.join(servers.HERE, "manifests.lua")
+        }
         ran = told_by(alone, env=bare | settings)
         check("haproxy -c, nothing else told", ran[0] == 0, ran)
         for shards in (1, 4):
@@ -307,7 +333,9 @@ def unit_is_valid():
         path = os.path.join(folder, "blobd@.service")
         with open(path, "w", encoding="utf-8") as file:
             file.write(unit)
-        ran = subprocess.run(["systemd-analyze", "verify", "--man=no", path], capture_output=True, text=True, check=False)
+        ran = subprocess.run(
+            ["systemd-analyze", "verify", "--man=no", path], capture_output=True, text=True, check=False
+        )
         check("systemd-analyze verify", ran.returncode == 0 and not ran.stderr, ran.stderr)
 
 
@@ -316,9 +344,15 @@ def logins_are_asked_for(site):
         for way, client in (("TLS", site.client(who)), ("plain", Client(site.haproxy.plain, who))):
             heard, fields, _ = client.ask("GET", "/v2/")
             check(f"a login over {way} as {who}", heard == status, heard)
-            check(f"a challenge over {way} to {who}", status == 200 or fields["WWW-Authenticate"].startswith("Basic "), fields.as_string())
+            check(
+                f"a challenge over {way} to {who}",
+                status == 200 or fields["WWW-Authenticate"].startswith("Basic "),
+                fields.as_string(),
+            )
     check("this machine needs no login", site.local().ask("GET", "/v2/")[0] == 200)
-    is_refused("a wrong login is told", site.client(("alice", "wrong")).ask("GET", "/v2/"), 401, "UNAUTHORIZED", "log in")
+    is_refused(
+        "a wrong login is told", site.client(("alice", "wrong")).ask("GET", "/v2/"), 401, "UNAUTHORIZED", "log in"
+    )
     old = ssl.create_default_context(cafile=site.certificates)
     old.set_ciphers("ALL:@SECLEVEL=0")
     with warnings.catch_warnings():
@@ -332,7 +366,8 @@ def logins_are_asked_for(site):
 
 
 def expecting(site, who, status):
-    """What a client is told that may wait for the word to send a body, and the seconds until then. Its body goes behind a 100."""
+    """What a client is told that may wait for the word to send a body, and the seconds until then. Its body goes behind
+    a 100."""
     place = site.local().ask("POST", "/v2/lib/continued/blobs/uploads/")[1]["Location"]
     client = Client(site.haproxy.plain, who)
     begun = time.monotonic()
@@ -394,12 +429,20 @@ def uploads_are_cancelled(site):
     check("a chunk", client.ask("PATCH", place, b"chunk")[0] == 202)
     check("an upload that has bytes is cancelled", client.ask("DELETE", place)[0] == 204)
     for method in ("DELETE", "GET", "PATCH"):
-        is_refused(f"{method} of a cancelled upload that had bytes", client.ask(method, place), 404, "BLOB_UPLOAD_UNKNOWN", "cancelled")
+        is_refused(
+            f"{method} of a cancelled upload that had bytes",
+            client.ask(method, place),
+            404,
+            "BLOB_UPLOAD_UNKNOWN",
+            "cancelled",
+        )
     check("its bytes stay in the shard", Client(site.addresses[0]).ask("GET", place, Connection="close")[0] == 204)
     place = client.ask("POST", opened)[1]["Location"]
     check("one of another repository isn't", client.ask("DELETE", place.replace("cancelled", "other"))[0] == 404)
     check("and goes on", client.ask("PATCH", place, b"chunk")[0] == 202)
-    check("the shard itself has no DELETE", Client(site.addresses[0]).ask("DELETE", place, Connection="close")[0] == 405)
+    check(
+        "the shard itself has no DELETE", Client(site.addresses[0]).ask("DELETE", place, Connection="close")[0] == 405
+    )
 
 
 def ranges_are_no_part_of_it(site):
@@ -424,7 +467,14 @@ def an_image_on_both_shards(site, names):
     make_image(os.path.join(site.folder, "image"))
     folder, (user, word) = os.path.dirname(site.certificates), LOGIN
     for name in (names[0][0], names[1][0]):
-        to = ["--dest-cert-dir", folder, "--dest-creds", f"{user}:{word}", "oci:image:one", f"docker://{site.haproxy.tls}/{name}:one"]
+        to = [
+            "--dest-cert-dir",
+            folder,
+            "--dest-creds",
+            f"{user}:{word}",
+            "oci:image:one",
+            f"docker://{site.haproxy.tls}/{name}:one",
+        ]
         ran = skopeo(site, "copy", *to)
         check(f"skopeo pushes to {name}", ran[0] == 0, ran)
     told = [line for line in open_text(site.haproxy.log).splitlines() if f'"DELETE /v2/{names[1][0]}/' in line]
@@ -478,16 +528,26 @@ def manifests_are_kept(site):
     manifest, other = manifest_of(config, first, second), manifest_of(config, first)
     digest = sha256(manifest)
     kept.push(config, first)
-    check("a manifest before its last blob", kept.put("one", manifest) == (404, "MANIFEST_BLOB_UNKNOWN"), kept.put("one", manifest))
+    check(
+        "a manifest before its last blob",
+        kept.put("one", manifest) == (404, "MANIFEST_BLOB_UNKNOWN"),
+        kept.put("one", manifest),
+    )
     check("it isn't there", kept.get("one") == 404)
     kept.push(second)
     check("a manifest by a tag", kept.put("one", manifest) == (201, digest), kept.put("one", manifest))
     for reference in ("one", digest):
         status, fields, body = kept.client.ask("GET", f"{kept.home}/manifests/{reference}")
         told = fields["Content-Type"], fields["Docker-Content-Digest"]
-        check(f"a manifest by {reference}", (status, body, told) == (200, manifest, (IMAGE_TYPE, digest)), (status, body))
+        check(
+            f"a manifest by {reference}", (status, body, told) == (200, manifest, (IMAGE_TYPE, digest)), (status, body)
+        )
         status, fields, body = kept.client.ask("HEAD", f"{kept.home}/manifests/{reference}")
-        check(f"its length by {reference}", (status, fields["Content-Length"], body) == (200, str(len(manifest)), b""), status)
+        check(
+            f"its length by {reference}",
+            (status, fields["Content-Length"], body) == (200, str(len(manifest)), b""),
+            status,
+        )
     check("another repository has it not", Repository(site, "lib/others").get(digest) == 404)
     check("by sha512", kept.put(sha512(manifest), manifest) == (201, sha512(manifest)))
     check("and read so", kept.get(sha512(manifest)) == manifest)
@@ -503,13 +563,35 @@ def only_manifests_are_taken(site):
     kept = Repository(site, "lib/odd")
     kept.push(b"{}", b"layer")
     manifest = manifest_of(b"{}", b"layer")
-    odd = [b"", b"[]", b"null", b"no JSON", b'{"schemaVersion":1}', b'{"schemaVersion":2}', b'{"schemaVersion":2,"config":7,"layers":[]}']
-    odd += [b'{"schemaVersion":2,"config":{"digest":"sha256:12"},"layers":[]}', b'{"schemaVersion":2,"manifests":[{"digest":7}]}']
-    odd += [manifest.replace(b'"layers"', b'"laiers"'), json.dumps({"schemaVersion": 2, "manifests": [descriptor(b"%d" % n) for n in range(1001)]}).encode()]
+    odd = [
+        b"",
+        b"[]",
+        b"null",
+        b"no JSON",
+        b'{"schemaVersion":1}',
+        b'{"schemaVersion":2}',
+        b'{"schemaVersion":2,"config":7,"layers":[]}',
+    ]
+    odd += [
+        b'{"schemaVersion":2,"config":{"digest":"sha256:12"},"layers":[]}',
+        b'{"schemaVersion":2,"manifests":[{"digest":7}]}',
+    ]
+    odd += [
+        manifest.replace(b'"layers"', b'"laiers"'),
+        json.dumps({"schemaVersion": 2, "manifests": [descriptor(b"%d" % n) for n in range(1001)]}).encode(),
+    ]
     for body in odd:
-        check(f"what is no manifest: {body[:60]}", kept.put("odd", body) == (400, "MANIFEST_INVALID"), kept.put("odd", body))
+        check(
+            f"what is no manifest: {body[:60]}",
+            kept.put("odd", body) == (400, "MANIFEST_INVALID"),
+            kept.put("odd", body),
+        )
     hidden = manifest_of(b"{}", b"nowhere").replace(b'"digest"', b'"\\u0064igest"')
-    check("a blob that is named with an escape", kept.put("odd", hidden) == (404, "MANIFEST_BLOB_UNKNOWN"), kept.put("odd", hidden))
+    check(
+        "a blob that is named with an escape",
+        kept.put("odd", hidden) == (404, "MANIFEST_BLOB_UNKNOWN"),
+        kept.put("odd", hidden),
+    )
     foreign = json.loads(manifest)
     foreign["layers"].append(descriptor(b"elsewhere") | {"urls": ["https://example.org/layer"]})
     check("a layer that is elsewhere", kept.put("foreign", json.dumps(foreign).encode())[0] == 201)
@@ -527,19 +609,27 @@ def tags_and_indexes_are_kept(site):
     check("no tags yet", kept.tags()[0] == 404, kept.tags())
     kept.push(b"{}", b"first", b"second")
     check("two manifests", [kept.put(tag, manifest)[0] for tag in ("one", "three")] == [201, 201])
-    index = json.dumps({"schemaVersion": 2, "mediaType": INDEX_TYPE, "manifests": [descriptor(manifest), descriptor(other)]}).encode()
+    index = json.dumps(
+        {"schemaVersion": 2, "mediaType": INDEX_TYPE, "manifests": [descriptor(manifest), descriptor(other)]}
+    ).encode()
     check("an index before its manifests", kept.put("all", index, INDEX_TYPE) == (404, "MANIFEST_BLOB_UNKNOWN"))
     check("the other manifest", kept.put("two.0_-", other) == (201, sha256(other)))
     check("an index", kept.put("all", index, INDEX_TYPE) == (201, sha256(index)) and kept.get("all") == index)
     check("tags in order", kept.tags() == (["all", "one", "three", "two.0_-"], ""), kept.tags())
-    check("two tags", kept.tags("?n=2") == (["all", "one"], f'<{kept.home}/tags/list?n=2&last=one>; rel="next"'), kept.tags("?n=2"))
+    check(
+        "two tags",
+        kept.tags("?n=2") == (["all", "one"], f'<{kept.home}/tags/list?n=2&last=one>; rel="next"'),
+        kept.tags("?n=2"),
+    )
     check("the rest", kept.tags("?n=2&last=one") == (["three", "two.0_-"], ""), kept.tags("?n=2&last=one"))
     check("no tags asked for", kept.tags("?n=0")[0] == [], kept.tags("?n=0"))
     check("a tag is moved", kept.put("one", other) == (201, sha256(other)) and kept.get("one") == other)
     check("a tag is taken away", [kept.delete("one") for _ in range(2)] == [202, 404])
     check("its manifest stays", kept.get(sha256(other)) == other)
     check("a manifest is taken away", [kept.delete(sha256(other)) for _ in range(2)] == [202, 404])
-    check("its tag goes with it, and what names it", kept.tags()[0] == ["three"] and kept.get("all") == 404, kept.tags())
+    check(
+        "its tag goes with it, and what names it", kept.tags()[0] == ["three"] and kept.get("all") == 404, kept.tags()
+    )
     check("what names others stays", kept.get("three") == manifest)
     check("the last manifest is taken away", kept.delete(sha256(manifest)) == 202)
     check("and the repository is as before its first", kept.tags()[0] == 404, kept.tags())
@@ -553,7 +643,10 @@ def lists_have_pages(site):
     tags = [f"t{number:03}" for number in range(60)]
     check("tags", {kept.put(tag, manifest_of(b"{}"))[0] for tag in tags} == {201})
     check("all of them", kept.tags()[0] == tags, kept.tags())
-    check("a page of them", kept.tags("?n=30&last=t005") == (tags[6:36], f'<{kept.home}/tags/list?n=30&last=t035>; rel="next"'))
+    check(
+        "a page of them",
+        kept.tags("?n=30&last=t005") == (tags[6:36], f'<{kept.home}/tags/list?n=30&last=t035>; rel="next"'),
+    )
     check("the last page", kept.tags("?n=30&last=t029") == (tags[30:], ""), kept.tags("?n=30&last=t029"))
 
     def listed(query=""):
@@ -581,7 +674,13 @@ def manifests_have_bounds(site):
     """What manifests cost HAProxy is bounded: parts of them, their values, what they name."""
     kept = Repository(site, "lib/bounds")
     layers = [b"layer %d" % number for number in range(200)]
-    check("blobs", {kept.client.ask("POST", f"{kept.home}/blobs/uploads/?digest={sha256(one)}", one)[0] for one in [b"{}", *layers]} == {201})
+    check(
+        "blobs",
+        {
+            kept.client.ask("POST", f"{kept.home}/blobs/uploads/?digest={sha256(one)}", one)[0]
+            for one in [b"{}", *layers]
+        } == {201},
+    )
     manifest = manifest_of(b"{}", *layers)
     check("a manifest of many blobs", kept.put("many", manifest)[0] == 201)
     asked = questions(site)
@@ -592,10 +691,26 @@ def manifests_have_bounds(site):
     named = json.dumps(descriptor(b"nowhere")).encode()
     for what, odd, told in (
         ("layers that are an object", b'{"schemaVersion":2,"config":%s,"layers":{}}', (400, "MANIFEST_INVALID")),
-        ("layers that are an object with members", b'{"schemaVersion":2,"config":%s,"layers":{"1":2}}', (400, "MANIFEST_INVALID")),
-        ("layers in two spellings", b'{"schemaVersion":2,"config":%s,"layers":[],"Layers":[]}', (400, "MANIFEST_INVALID")),
-        ("a config beside manifests", b'{"schemaVersion":2,"manifests":[],"config":%s,"layers":[]}', (404, "MANIFEST_BLOB_UNKNOWN")),
-        ("layers beside manifests", b'{"schemaVersion":2,"manifests":[],"layers":[%s]}', (404, "MANIFEST_BLOB_UNKNOWN")),
+        (
+            "layers that are an object with members",
+            b'{"schemaVersion":2,"config":%s,"layers":{"1":2}}',
+            (400, "MANIFEST_INVALID"),
+        ),
+        (
+            "layers in two spellings",
+            b'{"schemaVersion":2,"config":%s,"layers":[],"Layers":[]}',
+            (400, "MANIFEST_INVALID"),
+        ),
+        (
+            "a config beside manifests",
+            b'{"schemaVersion":2,"manifests":[],"config":%s,"layers":[]}',
+            (404, "MANIFEST_BLOB_UNKNOWN"),
+        ),
+        (
+            "layers beside manifests",
+            b'{"schemaVersion":2,"manifests":[],"layers":[%s]}',
+            (404, "MANIFEST_BLOB_UNKNOWN"),
+        ),
     ):
         check(what, kept.put("odd", odd % named) == told, kept.put("odd", odd % named))
     below = manifest
@@ -609,7 +724,9 @@ def manifests_have_bounds(site):
         indexes.append(json.dumps({"schemaVersion": 2, "number": number, "manifests": [descriptor(manifest)]}).encode())
         kept.put(sha256(indexes[-1]), indexes[-1])
     wide = json.dumps({"schemaVersion": 2, "manifests": [descriptor(one) for one in indexes]}).encode()
-    check("an index with too much below it", kept.put("wide", wide) == (400, "MANIFEST_INVALID"), kept.put("wide", wide))
+    check(
+        "an index with too much below it", kept.put("wide", wide) == (400, "MANIFEST_INVALID"), kept.put("wide", wide)
+    )
 
 
 def questions(site):
@@ -626,8 +743,14 @@ def parts_of_manifests_have_bounds():
         before = site.haproxy.memory()
         with concurrent.futures.ThreadPoolExecutor(60) as pool:
             clients = list(pool.map(lambda _: put_of_a_part(site, "lib/parts", 4 * MIB - 10), range(60)))
-        refused = [refusal_of(client.heard("PUT")) for client in clients if select.select([client.socket], [], [], 1)[0]]
-        check("most of them are refused", len(refused) > 40 and {told[:2] for told in refused} == {(429, "TOOMANYREQUESTS")}, refused[:3])
+        refused = [
+            refusal_of(client.heard("PUT")) for client in clients if select.select([client.socket], [], [], 1)[0]
+        ]
+        check(
+            "most of them are refused",
+            len(refused) > 40 and {told[:2] for told in refused} == {(429, "TOOMANYREQUESTS")},
+            refused[:3],
+        )
         grown = site.haproxy.memory() - before
         check("they take no more than a bound", grown < 160 * MIB, grown)
         check("a small manifest is taken meanwhile", kept.put("small", manifest_of(b"{}"))[0] == 201)
@@ -670,12 +793,19 @@ def logins_have_rights():
             check("who may push there", push_image(alice, "team-a/app") == ([UPLOADED] * 2, 201))
             check("who may push anywhere", push_image(root, "team-b/app") == ([UPLOADED] * 2, 201))
             for name in ("team-b/app", "team-a-b/app", "team", "b/team-a"):
-                is_refused(f"alice opens in {name}", alice.ask("POST", f"/v2/{name}/blobs/uploads/"), 403, "DENIED", "may not")
+                is_refused(
+                    f"alice opens in {name}", alice.ask("POST", f"/v2/{name}/blobs/uploads/"), 403, "DENIED", "may not"
+                )
             for who, client in (("alice", alice), ("carol", carol)):
-                is_refused(f"{who} deletes", client.ask("DELETE", "/v2/team-b/app/manifests/one"), 403, "DENIED", "may not")
+                is_refused(
+                    f"{who} deletes", client.ask("DELETE", "/v2/team-b/app/manifests/one"), 403, "DENIED", "may not"
+                )
                 check(f"{who} pulls", client.ask("GET", "/v2/team-b/app/manifests/one")[0] == 200)
             place = root.ask("POST", "/v2/team-b/app/blobs/uploads/")[1]["Location"]
-            check("nobody else goes on with an upload", [carol.ask(method, place)[0] for method in ("PATCH", "PUT", "DELETE")] == [403] * 3)
+            check(
+                "nobody else goes on with an upload",
+                [carol.ask(method, place)[0] for method in ("PATCH", "PUT", "DELETE")] == [403] * 3,
+            )
             check("tools of this machine may", site.local().ask("DELETE", place)[0] == 204)
 
 
@@ -731,7 +861,9 @@ class Pushes:
             body = manifest_of(b"{}", b"layer")[:-1] + b',"annotations":{"n":"%d.%d"}}' % (number, turn)
             client = self.site.local()
             with contextlib.suppress(OSError, http.client.HTTPException):
-                if client.ask("PUT", f"/v2/lib/durable/manifests/t{number}.{turn}", body, Content_Type=IMAGE_TYPE)[0] == 201:
+                if client.ask("PUT", f"/v2/lib/durable/manifests/t{number}.{turn}", body, Content_Type=IMAGE_TYPE)[
+                    0
+                ] == 201:
                     self.kept.append((f"t{number}.{turn}", body))
             client.close()
             self.ending.wait(0.01)
@@ -751,7 +883,8 @@ class Pushes:
 
 @needs(*FRONT, "redis-server")
 def manifests_outlive_haproxy():
-    """With Redis: reloads, restarts and kills of HAProxy and of Redis in the middle of pushes lose nothing that was answered 201."""
+    """With Redis: reloads, restarts and kills of HAProxy and of Redis in the middle of pushes lose nothing that was
+    answered 201."""
     with tempfile.TemporaryDirectory(prefix="blobd-front-") as folder, servers.Redis(folder, "secret") as redis:
         with Site(more={"FRONT_REDIS": redis.address, "FRONT_REDIS_PASSWORD": "secret"}) as site:
             manifests_are_kept(site)
@@ -762,8 +895,12 @@ def manifests_outlive_haproxy():
             Repository(site, "lib/durable").push(b"{}", b"layer")
             pushes = Pushes(site, 4)
             for change in (
-                site.haproxy.reload, site.haproxy.reload, lambda: restart(site.haproxy, signal.SIGTERM), lambda: restart(site.haproxy, signal.SIGKILL),
-                lambda: restart(redis, signal.SIGKILL), lambda: restart(redis, signal.SIGTERM),
+                site.haproxy.reload,
+                site.haproxy.reload,
+                lambda: restart(site.haproxy, signal.SIGTERM),
+                lambda: restart(site.haproxy, signal.SIGKILL),
+                lambda: restart(redis, signal.SIGKILL),
+                lambda: restart(redis, signal.SIGTERM),
             ):
                 pushes.go_on()
                 change()
@@ -776,7 +913,9 @@ def manifests_outlive_haproxy():
             check("nor its tag", {tag for tag, _ in kept} <= all_tags(durable))
             check("nor the repository", b'"lib/durable"' in durable.client.ask("GET", "/v2/_catalog")[2])
             redis.end()
-            is_refused("without Redis", durable.client.ask("GET", f"{durable.home}/tags/list"), 503, "UNAVAILABLE", "manifests")
+            is_refused(
+                "without Redis", durable.client.ask("GET", f"{durable.home}/tags/list"), 503, "UNAVAILABLE", "manifests"
+            )
             redis.start()
             restart(site.shards[0], signal.SIGKILL)
             wait_for_redis(durable)
@@ -820,7 +959,11 @@ def room_for_manifests_ends():
 
 def skopeo(site, *words):
     """The exit status of `skopeo`, whose logins are kept in the site's folder, and the end of what it says."""
-    return told_by([servers.program("skopeo"), *words], cwd=site.folder, env=os.environ | {"REGISTRY_AUTH_FILE": f"{site.folder}/auth.json"})
+    return told_by(
+        [servers.program("skopeo"), *words],
+        cwd=site.folder,
+        env=os.environ | {"REGISTRY_AUTH_FILE": f"{site.folder}/auth.json"},
+    )
 
 
 def told_by(words, **options):
@@ -843,7 +986,10 @@ def an_image_by_skopeo(site, address):
     ):
         ran = skopeo(site, *words)
         check(f"skopeo {what}", ran[0] == 0, ran)
-    check("skopeo pulls what it pushed", os.path.isdir(back) and blobs_in(back) == blobs_in(image) and len(blobs_in(back)) == 8)
+    check(
+        "skopeo pulls what it pushed",
+        os.path.isdir(back) and blobs_in(back) == blobs_in(image) and len(blobs_in(back)) == 8,
+    )
 
 
 def an_image_by_docker(site):
@@ -859,7 +1005,8 @@ def an_image_by_docker(site):
 
 
 def many_clients_keep_connections(site):
-    """64 clients that keep their connections, each with requests enough. A request that HAProxy forgot in a queue would be answered 503 in the end."""
+    """64 clients that keep their connections, each with requests enough. A request that HAProxy forgot in a queue would
+    be answered 503 in the end."""
     clients, rounds = 64, 10
     meeting = threading.Barrier(clients)
 
@@ -878,7 +1025,8 @@ def many_clients_keep_connections(site):
 
 
 def connections_of(site):
-    """How many requests wait for the first shard, how many connections it has, and how many it may have, as HAProxy counts."""
+    """How many requests wait for the first shard, how many connections it has, and how many it may have, as HAProxy
+    counts."""
     told = next(line for line in site.haproxy.command("show stat").splitlines() if line.startswith("shards,shard1,"))
     waiting, _, connections, _, most = told.split(",")[2:7]
     return int(waiting), int(connections), int(most)
@@ -886,7 +1034,8 @@ def connections_of(site):
 
 @needs(*FRONT)
 def each_worker_has_a_connection():
-    """A shard with sixteen workers is given sixteen connections at a time. One request more waits in HAProxy until one of them ends."""
+    """A shard with sixteen workers is given sixteen connections at a time. One request more waits in HAProxy until one
+    of them ends."""
     workers = 16
     with Site(workers=workers) as site:
         places = [site.local().ask("POST", "/v2/lib/slow/blobs/uploads/")[1]["Location"] for _ in range(workers)]
@@ -894,10 +1043,18 @@ def each_worker_has_a_connection():
         for writer, place in zip(writers, places):
             writer.write("PATCH", place, KIB, {})
             writer.socket.sendall(b"drip")
-        check("a connection for each worker", becomes((0, workers, workers), lambda: connections_of(site)), connections_of(site))
+        check(
+            "a connection for each worker",
+            becomes((0, workers, workers), lambda: connections_of(site)),
+            connections_of(site),
+        )
         asker = site.local()
         asker.write("GET", "/v2/", None, {})
-        check("one more waits in HAProxy", becomes((1, workers, workers), lambda: connections_of(site)), connections_of(site))
+        check(
+            "one more waits in HAProxy",
+            becomes((1, workers, workers), lambda: connections_of(site)),
+            connections_of(site),
+        )
         check("it isn't answered", not select.select([asker.socket], [], [], 0.3)[0])
         for writer in writers:
             writer.socket.sendall(bytes(KIB - 4))
@@ -957,7 +1114,11 @@ def nginx_asks_for_logins(site):
         check(f"a login through nginx as {who}", heard == status, heard)
         if status == 401:
             is_refused(f"through nginx to {who}", (heard, fields, body), 401, "UNAUTHORIZED", "log in")
-        check(f"a challenge through nginx to {who}", status == 200 or "Basic" in (fields["WWW-Authenticate"] or ""), fields.as_string())
+        check(
+            f"a challenge through nginx to {who}",
+            status == 200 or "Basic" in (fields["WWW-Authenticate"] or ""),
+            fields.as_string(),
+        )
     client = site.slow_client(("alice", "wrong"))
     client.write("PUT", "/v2/lib/slow/manifests/one", MIB, {})
     check("a wrong login is told before the body", client.heard("PUT")[0] == 401)
@@ -971,7 +1132,11 @@ def nginx_asks_for_logins(site):
 def health_and_metrics_are_told(site):
     client = Client(site.haproxy.status)
     status, _, body = client.ask("GET", "/metrics")
-    check("metrics", status == 200 and b'haproxy_server_status{proxy="watch",server="shard1",state="UP"} 1' in body, status)
+    check(
+        "metrics",
+        status == 200 and b'haproxy_server_status{proxy="watch",server="shard1",state="UP"} 1' in body,
+        status,
+    )
     check("health", client.ask("GET", "/health")[0] == 200)
 
 
@@ -1024,7 +1189,9 @@ def push_image(client, name):
     """A small image, and its manifest's status."""
     config, content = b"{}", name.encode() * 1000
     pushed = [client.push(name, part) for part in (config, content)]
-    return pushed, client.ask("PUT", f"/v2/{name}/manifests/one", manifest_of(config, content), Content_Type=IMAGE_TYPE)[0]
+    return pushed, client.ask(
+        "PUT", f"/v2/{name}/manifests/one", manifest_of(config, content), Content_Type=IMAGE_TYPE
+    )[0]
 
 
 def a_shard_is_lost(site):
@@ -1042,18 +1209,33 @@ def a_shard_is_lost(site):
     check("uploads go well", becomes(True, lambda: all(uploads.told[name] for name in staying + lost)), uploads.told)
     site.shards[1].end(signal.SIGKILL)
     check("uploads fail", becomes(True, lambda: all(uploads.failed(name) for name in lost)), uploads.told)
-    is_refused("a manifest whose shard is away", client.ask("GET", f"/v2/{lost[0]}/manifests/one"), 503, "UNAVAILABLE", "shard")
-    is_refused("a blob whose shard is away", client.ask("GET", f"/v2/{lost[0]}/blobs/{EMPTY_BLOB}"), 503, "UNAVAILABLE", "does not answer")
+    is_refused(
+        "a manifest whose shard is away", client.ask("GET", f"/v2/{lost[0]}/manifests/one"), 503, "UNAVAILABLE", "shard"
+    )
+    is_refused(
+        "a blob whose shard is away",
+        client.ask("GET", f"/v2/{lost[0]}/blobs/{EMPTY_BLOB}"),
+        503,
+        "UNAVAILABLE",
+        "does not answer",
+    )
     site.shards[1].start()
-    check("uploads go well again", becomes(True, lambda: all(uploads.told[name][-1] == UPLOADED for name in lost)), uploads.told)
+    check(
+        "uploads go well again",
+        becomes(True, lambda: all(uploads.told[name][-1] == UPLOADED for name in lost)),
+        uploads.told,
+    )
     told = uploads.end()
     for name in staying:
         check(f"uploads to {name} went on", told[name] and not uploads.failed(name), told[name])
     failed = {name: uploads.failed(name) for name in lost}
     for name in lost:
-        # HAProxy ends a connection whose request was under way without a reply, nearly always a kept one; such a client asks again.
+        # HAProxy ends a connection whose request was under way without a reply, nearly always a kept one; such a client
+        # asks again.
         others = set(failed[name]) - {404, 503, "cut"}
-        check(f"those to {name} with 404 or 503 and nothing else", not others and failed[name].count("cut") <= 1, failed)
+        check(
+            f"those to {name} with 404 or 503 and nothing else", not others and failed[name].count("cut") <= 1, failed
+        )
     check("an upload is gone with its shard", client.ask("PATCH", open_place, b"more")[0] == 404)
     # A part of what a manifest names is pushed again: it still names what has gone.
     check("a blob is pushed again", client.push(lost[1], b"{}") == UPLOADED)
@@ -1069,7 +1251,11 @@ def a_shard_is_lost(site):
 def health_tells_of_a_lost_shard(site):
     client = Client(site.haproxy.status)
     site.shards[1].end(signal.SIGKILL)
-    check("a lost shard isn't healthy", becomes(503, lambda: client.ask("GET", "/health")[0]), client.ask("GET", "/health"))
+    check(
+        "a lost shard isn't healthy",
+        becomes(503, lambda: client.ask("GET", "/health")[0]),
+        client.ask("GET", "/health"),
+    )
 
 
 def shards_of_all(names, shards):
@@ -1106,16 +1292,23 @@ def a_push_through_the_adapter():
         with servers.DockerRegistry(folder) as registry, servers.Adapter(folder, registry.address) as adapter:
             for name, chunk in (("lib/adapted", MIB), ("lib/whole", 8 * MIB)):
                 ran = told_by([running.PROGRAM, "push", adapter.address, name, path, str(chunk)])
-                check(f"blobd push through the adapter in chunks of {chunk}", ran == (0, f"pushed {sha256(content)}\n"), ran)
+                check(
+                    f"blobd push through the adapter in chunks of {chunk}",
+                    ran == (0, f"pushed {sha256(content)}\n"),
+                    ran,
+                )
             ran = told_by([running.PROGRAM, "push", adapter.address, name, path, str(chunk)])
             check("blobd push of what is there, through the adapter", ran == (0, f"already {sha256(content)}\n"), ran)
-            status, _, back = Client(registry.address).ask("GET", f"/v2/lib/adapted/blobs/{sha256(content)}", Connection="close")
+            status, _, back = Client(registry.address).ask(
+                "GET", f"/v2/lib/adapted/blobs/{sha256(content)}", Connection="close"
+            )
             check("docker-registry has what was pushed", status == 200 and back == content, status)
 
 
 @needs(*FRONT)
 def the_newcomers_registry():
-    """`make registry` as a newcomer meets it: the lines that it prints push an image and pull it, as they stand, and it ends without a rest."""
+    """`make registry` as a newcomer meets it: the lines that it prints push an image and pull it, as they stand, and it
+    ends without a rest."""
     tls, store = servers.free_address(), servers.free_address()
     words = [sys.executable, os.path.join(TOP, "deploy", "registry.py"), running.PROGRAM]
     settings = os.environ | {"FRONT_TLS": tls, "BLOBD_1": store}
@@ -1126,14 +1319,22 @@ def the_newcomers_registry():
             if line.startswith("Docker"):
                 break
         told = [line for line in lines if line.startswith(("skopeo ", "zcat "))]
-        check("four lines are told", [line.split()[1] for line in told[:3]] == ["login", "copy", "copy"] and len(told) == 4, lines)
+        check(
+            "four lines are told",
+            [line.split()[1] for line in told[:3]] == ["login", "copy", "copy"] and len(told) == 4,
+            lines,
+        )
         login = told[0].split() if told else ["skopeo", "login", "--cert-dir", "", "-u", "", "-p", ""]
         folder, user, word = login[3], login[5], login[7]
         client = Client(tls, (user, word), os.path.join(folder, "front.crt"))
         check("the registry answers", client.ask("GET", "/v2/")[0] == 200)
         check("and takes an image", push_image(client, "lib/new") == ([UPLOADED] * 2, 201))
         local = [line.split("http://")[1].split(",")[0] for line in lines if "without a login" in line]
-        check("its local address asks for no login", [Client(address).ask("GET", "/v2/")[0] for address in local] == [200], lines)
+        check(
+            "its local address asks for no login",
+            [Client(address).ask("GET", "/v2/")[0] for address in local] == [200],
+            lines,
+        )
         if wanted("the registry's lines", "skopeo"):
             environment = os.environ | {"REGISTRY_AUTH_FILE": os.path.join(folder, "auth.json")}
             for line in told:
@@ -1151,8 +1352,8 @@ def the_newcomers_registry():
 
 # Before the lines that set all up in docs/OPERATIONS.md.
 SET_UP = "<!-- tests/front.py runs these lines -->\n```sh\n"
-# A root of its own, which goes with the process: what is written goes to a file system in memory. ROOT, TOP, WORK: its place, the repository, what the
-# lines begin with.
+# A root of its own, which goes with the process: what is written goes to a file system in memory. ROOT, TOP, WORK: its
+# place, the repository, what the lines begin with.
 OWN_ROOT = """
 mount -t tmpfs tmpfs "$ROOT"
 mkdir "$ROOT/upper" "$ROOT/work" "$ROOT/root"
@@ -1192,7 +1393,8 @@ command = shlex.split(re.sub(r"[$]([A-Z]+)", lambda found: environment.get(found
 for folder in settings(unit, "RuntimeDirectory"):
     os.makedirs("/run/" + folder.replace("%i", instance), exist_ok=True)
 log = open(f"/set-up/{name}.log", "wb")
-subprocess.Popen(command, env=environment, user=user, group=user, stdin=subprocess.DEVNULL, stdout=log, stderr=log, start_new_session=True)
+streams = {"stdin": subprocess.DEVNULL, "stdout": log, "stderr": log}
+subprocess.Popen(command, env=environment, user=user, group=user, start_new_session=True, **streams)
 '''
 APT_GET = """
 for word in "$@"; do
@@ -1206,19 +1408,26 @@ import front
 client = front.Client("127.0.0.1:5443", ("alice", "SECRET"), "/set-up/ca/front.crt")
 for address in ("127.0.0.1:5001", "127.0.0.1:6380", "127.0.0.1:5443"):
     front.servers.wait_for(address)
-print(front.push_image(client, "lib/set-up"), client.ask("GET", "/v2/lib/set-up/manifests/one")[0], client.ask("GET", "/v2/_catalog")[2])
+pushed = front.push_image(client, "lib/set-up")
+print(pushed, client.ask("GET", "/v2/lib/set-up/manifests/one")[0], client.ask("GET", "/v2/_catalog")[2])
 """
 
 
 def can_have_a_root():
-    tried = 'mount -t tmpfs tmpfs /mnt && mkdir /mnt/a /mnt/b /mnt/c && mount -t overlay overlay -o lowerdir=/,upperdir=/mnt/a,workdir=/mnt/b /mnt/c'
+    tried = (
+        "mount -t tmpfs tmpfs /mnt && mkdir /mnt/a /mnt/b /mnt/c"
+        " && mount -t overlay overlay -o lowerdir=/,upperdir=/mnt/a,workdir=/mnt/b /mnt/c"
+    )
     words = ["unshare", "--mount", "--net", "--pid", "--fork", "sh", "-c", tried]
-    return os.geteuid() == 0 and shutil.which("unshare") and subprocess.run(words, capture_output=True, check=False).returncode == 0
+    return os.geteuid() == 0 and shutil.which("unshare") and subprocess.run(
+        words, capture_output=True, check=False
+    ).returncode == 0
 
 
 @needs(*FRONT, "redis-server")
 def the_set_up_works():
-    """The lines of docs/OPERATIONS.md, as they stand, in a root and a network of their own, with stand-ins for systemd and apt-get."""
+    """The lines of docs/OPERATIONS.md, as they stand, in a root and a network of their own, with stand-ins for systemd
+    and apt-get."""
     if not can_have_a_root():
         raise unittest.SkipTest("the_set_up_works: no root of its own can be had here (root, unshare, overlay)")
     lines = open_text(os.path.join(TOP, "docs", "OPERATIONS.md")).split(SET_UP)[1].split("```")[0]
@@ -1230,16 +1439,26 @@ def the_set_up_works():
         shutil.copy(running.PROGRAM, os.path.join(work, "crates", "blobd", "out", "blobd"))
         os.symlink(os.path.join(TOP, "deploy"), os.path.join(work, "deploy"))
         for name, top, text in (("systemctl", sys.executable, SYSTEMCTL), ("apt-get", "/bin/sh", APT_GET)):
-            with open(os.open(os.path.join(work, "bin", name), os.O_CREAT | os.O_WRONLY, 0o755), "w", encoding="utf-8") as file:
+            with open(
+                os.open(os.path.join(work, "bin", name), os.O_CREAT | os.O_WRONLY, 0o755), "w", encoding="utf-8"
+            ) as file:
                 file.write(f"#!{top}\n{text}")
         for name, text in (("lines.sh", lines), ("tried.py", TRIED)):
             with open(os.path.join(work, name), "w", encoding="utf-8") as file:
                 file.write(text)
-        up = "import fcntl, socket, struct; fcntl.ioctl(socket.socket(), 0x8914, struct.pack('16sh14x', b'lo', 0x1 | 0x40))"
-        inside = 'cd /set-up && PATH="/set-up/bin:$PATH:/usr/sbin" sh -eu lines.sh && "$PYTHON" tried.py "$TOP" || { cat /set-up/*.log; exit 1; }'
+        up = (
+            "import fcntl, socket, struct; "
+            "fcntl.ioctl(socket.socket(), 0x8914, struct.pack('16sh14x', b'lo', 0x1 | 0x40))"
+        )
+        inside = (
+            'cd /set-up && PATH="/set-up/bin:$PATH:/usr/sbin" sh -eu lines.sh'
+            ' && "$PYTHON" tried.py "$TOP" || { cat /set-up/*.log; exit 1; }'
+        )
         script = f"set -eu\n{OWN_ROOT}\n\"$PYTHON\" -c \"$UP\"\nexec chroot . sh -c '{inside}'"
         settings = os.environ | {"ROOT": root, "TOP": TOP, "WORK": work, "PYTHON": sys.executable, "UP": up}
-        ran = told_by(["unshare", "--mount", "--net", "--pid", "--fork", "--kill-child", "sh", "-c", script], env=settings)
+        ran = told_by(
+            ["unshare", "--mount", "--net", "--pid", "--fork", "--kill-child", "sh", "-c", script], env=settings
+        )
         expected = f"{([UPLOADED] * 2, 201)} 200 " + "b'{\"repositories\":[\"lib/set-up\"]}'"
         check("the lines of docs/OPERATIONS.md make a registry", ran[0] == 0 and ran[1].strip().endswith(expected), ran)
 
@@ -1261,12 +1480,17 @@ def memory_ends():
         check("some of it is stored, some isn't", len(stored) >= 2 and len(refused) >= 2, (stored, refused))
         check("what has no room is answered 503", set(refused) == {503}, refused)
         heard = [site.client().ask("GET", f"/v2/lib/much/blobs/{digest}") for digest in stored]
-        check("what is stored stays", all(status == 200 and sha256(body) == digest for (status, _, body), digest in zip(heard, stored)))
+        check(
+            "what is stored stays",
+            all(status == 200 and sha256(body) == digest for (status, _, body), digest in zip(heard, stored)),
+        )
         check("and small blobs are taken", site.client().push("lib/much", b"small") == UPLOADED)
 
 
 def docker_runs():
-    return shutil.which("docker") and subprocess.run(["docker", "info"], stdout=subprocess.DEVNULL, stderr=subprocess.DEVNULL, check=False).returncode == 0
+    return shutil.which("docker") and subprocess.run(
+        ["docker", "info"], stdout=subprocess.DEVNULL, stderr=subprocess.DEVNULL, check=False
+    ).returncode == 0
 
 
 @needs(*FRONT)

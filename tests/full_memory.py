@@ -3,9 +3,10 @@
 
     full_memory.py PROGRAM
 
-A server gets a limit on its address space a few MiB above what it has, and blobs and open uploads of one size or of mixed sizes until it refuses several
-in a row. Then each of its workers is asked for what is stored, for the status of each kind of upload, and for what is refused. Each request has to get its
-usual reply: with huge pages and without, if all threads share one heap, and from a worker that had served nobody before memory was full.
+A server gets a limit on its address space a few MiB above what it has, and blobs and open uploads of one size or of
+mixed sizes until it refuses several in a row. Then each of its workers is asked for what is stored, for the status of
+each kind of upload, and for what is refused. Each request has to get its usual reply: with huge pages and without, if
+all threads share one heap, and from a worker that had served nobody before memory was full.
 
 Its last line is 'N passed, M failed'.
 """
@@ -91,7 +92,8 @@ class Filling:
         return False
 
     def fill(self):
-        """Goes on until nothing was taken so often in a row. Of ten blobs one is the chunk of an upload, as long as there is a place for it."""
+        """Goes on until nothing was taken so often in a row. Of ten blobs one is the chunk of an upload, as long as
+        there is a place for it."""
         vain = 0
         while vain < REFUSED:
             begins = len(self.begun) < 900 and self.chance.random() < 0.1
@@ -117,7 +119,9 @@ def replies(filling):
         yield "GET", "/v2/lib/a/blobs/sha256:12", b"", (400, None)
         yield "GET", "/v2/LIB/blobs/" + sha256(b""), b"", (404, None)
         yield "DELETE", missing, b"", (405, None)
-        yield "PUT", "/v2/lib/a/blobs/uploads/ffffffff-0000-8000-8000-000000000000?digest=" + sha256(b""), b"", (404, None)
+        yield "PUT", "/v2/lib/a/blobs/uploads/ffffffff-0000-8000-8000-000000000000?digest=" + sha256(b""), b"", (
+            404, None
+        )
 
 
 def told(reply, wanted):

@@ -1,16 +1,18 @@
 #!/usr/bin/env python3
-"""Refuses each growth of memory in turn: in the tests that are written for it, and in the built program over whole connections.
+"""Refuses each growth of memory in turn: in the tests that are written for it, and in the built program over whole
+connections.
 
     growths.py PROGRAM
 
 A small library, loaded before the C library, refuses the Nth allocation of a process, N from 1 until a run meets none.
 
-- The tests are those of the crates whose name has `refused_growth`, in the test programs that `rt ci` and `rt test` leave in out/. Each of them
-  passes whichever growth is refused.
-- The program serves each connection of tests/connections/ (`blobd once`), and each with every request sent twice. If the service was refused
-  memory, the request is answered 503 without a body, and the others as over a connection without that request. If the reader was, the connection
-  ends with status 3 after the replies to the requests before. The expected replies are those of undisturbed runs. If there is no memory for the words
-  of its command line, the program says so: `fault: memory`, status 3.
+- The tests are those of the crates whose name has `refused_growth`, in the test programs that `rt ci` and `rt test`
+  leave in out/. Each of them passes whichever growth is refused.
+- The program serves each connection of tests/connections/ (`blobd once`), and each with every request sent twice. If
+  the service was refused memory, the request is answered 503 without a body, and the others as over a connection
+  without that request. If the reader was, the connection ends with status 3 after the replies to the requests before.
+  The expected replies are those of undisturbed runs. If there is no memory for the words of its command line, the
+  program says so: `fault: memory`, status 3.
 
 Prints how many growths there were, and 'N passed, M failed' as the last. Without a C compiler nothing is run.
 """
@@ -42,7 +44,8 @@ BEGUN = connections.opening_reply(1)
 
 
 def run_refused(library, command, sent, number):
-    """Runs a command whose growth of this number is refused. Gives what it wrote, its status (None: it didn't end) and whether it met that growth."""
+    """Runs a command whose growth of this number is refused. Gives what it wrote, its status (None: it didn't end) and
+    whether it met that growth."""
     told, teller = os.pipe()
     env = shims.environment(library, REFUSED_GROWTH=number, GROWTHS_TELLER=teller)
     # a file, of which each run reads the same at a time
@@ -50,7 +53,15 @@ def run_refused(library, command, sent, number):
         given.write(sent)
         given.seek(0)
         try:
-            ran = subprocess.run(command, stdin=given, capture_output=True, env=env, pass_fds=[teller], timeout=running.PATIENCE, check=False)
+            ran = subprocess.run(
+                command,
+                stdin=given,
+                capture_output=True,
+                env=env,
+                pass_fds=[teller],
+                timeout=running.PATIENCE,
+                check=False,
+            )
             written, status = ran.stdout, ran.returncode
         except subprocess.TimeoutExpired:
             written, status = b"", None
@@ -79,7 +90,8 @@ def has_growth_tests(crate):
 
 
 def growth_tests(crate):
-    """The growth tests of a crate, each with its command. A crate that has such tests and no test program is an error."""
+    """The growth tests of a crate, each with its command. A crate that has such tests and no test program is an
+    error."""
     name = os.path.basename(crate.rstrip("/"))
     program = f"{crate}out/{name}_tests"
     if not os.path.exists(program):
@@ -102,13 +114,15 @@ def requests_of(sent):
 def patch(first, body):
     """A PATCH of the first upload, and its reply."""
     last = first + len(body) - 1
-    request = b"PATCH %s HTTP/1.1\r\nHost: h\r\nContent-Range: %d-%d\r\nContent-Length: %d\r\n\r\n%s" % (UPLOAD, first, last, len(body), body)
+    request = b"PATCH %s HTTP/1.1\r\nHost: h\r\nContent-Range: %d-%d\r\nContent-Length: %d\r\n\r\n%s" % (
+        UPLOAD, first, last, len(body), body
+    )
     return request, BEGUN.replace(b"Content-Length", b"Range: 0-%d\r\nContent-Length" % last)
 
 
 def right_ends(requests):
-    """What the program may write over these requests, each with the status that goes with it, whichever growth is refused; and the method of the
-    request that is then answered 503, if one is."""
+    """What the program may write over these requests, each with the status that goes with it, whichever growth is
+    refused; and the method of the request that is then answered 503, if one is."""
     # no memory for the words of the command line, and none for the reader's buffer
     ends = {running.once(b"".join(requests)): None, (b"fault: memory\n", 3): None, (b"", 3): None}
     for place, request in enumerate(requests):
@@ -128,7 +142,9 @@ def conversations():
     small, small_taken = patch(0, b"a")
     more, more_taken = patch(1, b"bcdefghi")
     large, large_taken = patch(0, b"x" * 70_000)
-    yield "a PATCH, and the next one twice", [connections.OPENING, small, more, more], (BEGUN + small_taken + NO_MEMORY + more_taken, 0)
+    yield "a PATCH, and the next one twice", [connections.OPENING, small, more, more], (
+        BEGUN + small_taken + NO_MEMORY + more_taken, 0
+    )
     yield "a large PATCH twice", [connections.OPENING, large, large], (BEGUN + NO_MEMORY + large_taken, 0)
     for stem, sent, _, _ in stored.connections():
         requests = requests_of(sent)
@@ -137,7 +153,8 @@ def conversations():
 
 
 def serve(library, requests, wanted):
-    """Serves a connection, each growth refused in turn. Gives how many there were, a line for each run that isn't right, and the methods answered 503."""
+    """Serves a connection, each growth refused in turn. Gives how many there were, a line for each run that isn't
+    right, and the methods answered 503."""
     ends, met = right_ends(requests), []
 
     def is_right(*end):
@@ -159,7 +176,8 @@ class Growths(unittest.TestCase):
         cls.library = shims.compiled(folder.name)
 
     def over(self, cases, run):
-        """Runs each case at once with others, and gives what each gave. A case whose growths were not all met well has failed."""
+        """Runs each case at once with others, and gives what each gave. A case whose growths were not all met well has
+        failed."""
         cases, results = list(cases), []
         self.assertTrue(cases)
         with concurrent.futures.ThreadPoolExecutor(os.cpu_count()) as pool:
@@ -172,14 +190,19 @@ class Growths(unittest.TestCase):
     def test_tests(self):
         crates = [crate for crate in sorted(glob.glob(f"{TOP}/crates/*/")) if has_growth_tests(crate)]
         tests = [test for crate in crates for test in growth_tests(crate)]
-        for name, growths, _ in self.over(tests, lambda command: over_all_growths(self.library, command, b"", ends_well)):
+        for name, growths, _ in self.over(
+            tests, lambda command: over_all_growths(self.library, command, b"", ends_well)
+        ):
             print(f"{growths} growths: {name}")
 
     def test_program(self):
         results = self.over(conversations(), functools.partial(serve, self.library))
         refused = sum((methods for *_, methods in results), collections.Counter())
         counts = ", ".join(f"{count} {method}" for method, count in sorted(refused.items()))
-        print(f"{sum(growths for _, growths, *_ in results)} growths: the program over {len(results)} connections; answered 503: {counts}")
+        print(
+            f"{sum(growths for _, growths, *_ in results)} growths: the program over {len(results)} connections; "
+            f"answered 503: {counts}"
+        )
         with self.subTest("what is answered 503"):
             self.assertEqual({"GET", "PATCH", "POST", "PUT"}, set(refused))
 

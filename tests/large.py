@@ -3,8 +3,8 @@
 
     large.py PROGRAM
 
-A body of a known length, a chunked one, and a push of a file in one chunk. The contents are made and compared as they pass, so that this script
-holds none; the server holds each. Its last line is 'N passed, M failed'.
+A body of a known length, a chunked one, and a push of a file in one chunk. The contents are made and compared as they
+pass, so that this script holds none; the server holds each. Its last line is 'N passed, M failed'.
 """
 import hashlib
 import random
@@ -43,7 +43,9 @@ class Large(unittest.TestCase):
         client = self.server.client()
         self.addCleanup(client.close)
         headers = {name.replace("_", "-"): value for name, value in fields.items()}
-        client.request(method, target, body, {"Connection": "close", **headers}, encode_chunked="Transfer-Encoding" in headers)
+        client.request(
+            method, target, body, {"Connection": "close", **headers}, encode_chunked="Transfer-Encoding" in headers
+        )
         reply = client.getresponse()
         reply.read()
         return reply.status, reply.headers
@@ -79,7 +81,9 @@ class Large(unittest.TestCase):
 
     def test_chunked_body(self):
         digest = digest_of(pieces(2))
-        status, fields = self.ask("POST", f"/v2/lib/a/blobs/uploads/?digest={digest}", pieces(2), Transfer_Encoding="chunked")
+        status, fields = self.ask(
+            "POST", f"/v2/lib/a/blobs/uploads/?digest={digest}", pieces(2), Transfer_Encoding="chunked"
+        )
         self.assertEqual((201, f"/v2/lib/a/blobs/{digest}"), (status, fields["Location"]))
         self.comes_back(digest)
 

@@ -3,8 +3,8 @@
 
     long_runs.py PROGRAM [--requests N] [--blobs N]
 
-- Requests of each kind that leave the service as it is, as many over each connection as it may take. Each reply is compared with the model's, and the
-  server's memory must not grow.
+- Requests of each kind that leave the service as it is, as many over each connection as it may take. Each reply is
+  compared with the model's, and the server's memory must not grow.
 - Small blobs. It prints how much memory each takes, and pulls some.
 
 Its last line is 'N passed, M failed'.
@@ -22,7 +22,8 @@ ZERO_REFERENCE = model.reference_of(1)
 PLACE = f"/v2/a/blobs/uploads/{ZERO_REFERENCE}"
 BLOB = b"0123456789" * 30
 STORES = request_text("POST", f"/v2/a/blobs/uploads/?digest={sha256(BLOB)}", BLOB)
-# An upload with three bytes in it, and a blob; and requests that leave these as they are, each answer of the service among them.
+# An upload with three bytes in it, and a blob; and requests that leave these as they are, each answer of the service
+# among them.
 FIRST = [request_text("POST", "/v2/a/blobs/uploads/"), request_text("PATCH", PLACE, b"abc"), STORES]
 ROUND = [
     request_text("GET", "/v2/"),
@@ -81,8 +82,15 @@ def small_blobs(place, numbers):
             for begin in range(first, last, 100):
                 bodies = [b"%d" % number for number in range(begin, min(begin + 100, last))]
                 digests = [sha256(body) for body in bodies]
-                sent = b"".join(request_text("POST", f"/v2/a/blobs/uploads/?digest={digest}", body) for digest, body in zip(digests, bodies))
-                if not exchanged(connection, sent, b"".join(model.Service.stored("a", digest).text(False, False) for digest in digests)):
+                sent = b"".join(
+                    request_text("POST", f"/v2/a/blobs/uploads/?digest={digest}", body)
+                    for digest, body in zip(digests, bodies)
+                )
+                if not exchanged(
+                    connection,
+                    sent,
+                    b"".join(model.Service.stored("a", digest).text(False, False) for digest in digests),
+                ):
                     return False
     return True
 
@@ -104,14 +112,20 @@ class LongRuns(unittest.TestCase):
                 ends = [pool.submit(rounds, self.server.place(), reference, part) for _ in range(2)]
                 self.assertEqual([True, True], [end.result() for end in ends])
                 memory.append(self.server.memory())
-        print(f"{count * 2 * len(ROUND)} requests in {time.monotonic() - begun:.0f} s: {memory[0] >> 10} KiB after a tenth of them, {memory[1] >> 10} KiB at the end")
+        print(
+            f"{count * 2 * len(ROUND)} requests in {time.monotonic() - begun:.0f} s: "
+            f"{memory[0] >> 10} KiB after a tenth of them, {memory[1] >> 10} KiB at the end"
+        )
         self.assertLess(memory[1], memory[0] + LEVEL)
 
     def test_small_blobs(self):
         count = suite.OPTIONS.blobs
         before, begun = self.server.memory(), time.monotonic()
         with running.processes(2) as pool:
-            ends = [pool.submit(small_blobs, self.server.place(), numbers) for numbers in (range(count // 2), range(count // 2, count))]
+            ends = [
+                pool.submit(small_blobs, self.server.place(), numbers)
+                for numbers in (range(count // 2), range(count // 2, count))
+            ]
             self.assertEqual([True, True], [end.result() for end in ends])
         each = (self.server.memory() - before) // count
         print(f"{count} small blobs in {time.monotonic() - begun:.0f} s: {each} bytes of memory each")

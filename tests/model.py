@@ -1,7 +1,8 @@
 """A plain model of `blobd once`: what comes back over one connection, byte for byte, and how the connection ends.
 
-It is written from docs/PROTOCOL.md, and shares no code with the program: `conversation` gives each request's reply, and where each request ends
-in what was sent, which is what the tests of whole connections compare with. The service is in its first state, the secret is zero, and no time passes.
+It is written from docs/PROTOCOL.md, and shares no code with the program: `conversation` gives each request's reply, and
+where each request ends in what was sent, which is what the tests of whole connections compare with. The service is in
+its first state, the secret is zero, and no time passes.
 """
 import dataclasses
 import enum
@@ -89,7 +90,9 @@ class Head:
         return [value for field, value in self.fields if field == name]
 
     def keeps_the_connection(self):
-        elements = [element.strip(b" \t").lower() for value in self.values(b"connection") for element in value.split(b",")]
+        elements = [
+            element.strip(b" \t").lower() for value in self.values(b"connection") for element in value.split(b",")
+        ]
         return self.minor == 1 and b"close" not in elements
 
 
@@ -210,7 +213,9 @@ AUTHORITY_BYTES = re.compile(r"[!$-.0-;=@-\[\]_a-z~]+")
 
 def is_authority(text):
     """Whether it is userinfo, a host and a port, as `http_uri` reads them."""
-    if not AUTHORITY_BYTES.fullmatch(text) or text.endswith("@") or text.count("[") != text.count("]") or text.count("[") > 1:
+    if not AUTHORITY_BYTES.fullmatch(text) or text.endswith("@") or text.count("[") != text.count("]") or text.count(
+        "["
+    ) > 1:
         return False
     piece = ""
     for byte in text:
@@ -289,7 +294,12 @@ class Reply:
             ("Content-Length", "" if self.status == 204 else str(len(self.body))),
             ("Connection", "close" if closes else ""),
         ]
-        lines = [f"HTTP/1.1 {self.status} {REASONS[self.status]}", *(f"{name}: {value}" for name, value in fields if value), "", ""]
+        lines = [
+            f"HTTP/1.1 {self.status} {REASONS[self.status]}",
+            *(f"{name}: {value}" for name, value in fields if value),
+            "",
+            "",
+        ]
         return "\r\n".join(lines).encode() + (b"" if is_head else self.body)
 
 
@@ -346,7 +356,9 @@ class Service:
         if body:
             return refused(400, "SIZE_INVALID")
         source = parameter(query, "from")
-        if mount is not None and source is not None and is_name(source) and DIGEST.fullmatch(mount) and (source, mount) in self.holds:
+        if mount is not None and source is not None and is_name(source) and DIGEST.fullmatch(mount) and (
+            source, mount
+        ) in self.holds:
             self.holds.add((name, mount))
             return self.stored(name, mount)
         return self.begin(name)
@@ -424,7 +436,8 @@ class Turn:
 
 
 def conversation(sent):
-    """The turns of a connection over a new service, and how it ends. A request that can't be read ends where that is known."""
+    """The turns of a connection over a new service, and how it ends. A request that can't be read ends where that is
+    known."""
     service, turns, at = Service(), [], 0
     while len(turns) < MAX_REQUESTS:
         if at == len(sent):

@@ -3,9 +3,9 @@
 
     program.py PROGRAM
 
-It tries the command line; an address and descriptors that can't be had; references and their secrets; each status; connections that are kept, cut
-or silent, and peers that stay; how much is moved at once, and which thread hashes; several uploads at once, also beside clients that go away; and uploads by
-`curl`, `skopeo`, `podman` and `buildah`.
+It tries the command line; an address and descriptors that can't be had; references and their secrets; each status;
+connections that are kept, cut or silent, and peers that stay; how much is moved at once, and which thread hashes;
+several uploads at once, also beside clients that go away; and uploads by `curl`, `skopeo`, `podman` and `buildah`.
 
 Prints a line for each check that fails, one for each client that isn't installed, and 'N passed, M failed' as the last.
 """
@@ -75,7 +75,9 @@ def two_uploads_at_once():
     pieces = [64 * MIB, MIB]
     meeting = threading.Barrier(2)
     with Server(8) as server, concurrent.futures.ThreadPoolExecutor(2) as pool:
-        uploads = [pool.submit(upload, server, f"lib/{which}", contents[which], pieces[which], meeting) for which in (0, 1)]
+        uploads = [
+            pool.submit(upload, server, f"lib/{which}", contents[which], pieces[which], meeting) for which in (0, 1)
+        ]
         for which, done in enumerate(uploads):
             wanted = [202] + [202] * (64 * MIB // pieces[which]) + [201]
             check(f"upload {which} of two at once", done.result() == wanted, done.result())
@@ -139,7 +141,9 @@ def refused_heads():
     cases = {
         "a head that isn't one": (b"GET /v2/ HTTP/9.9\r\n", b"400 Bad Request"),
         "a head that is too long": (b"GET /v2/ HTTP/1.1\r\nX: " + b"a" * 16384, b"431 Request Header Fields Too Large"),
-        "a body that is too large": (b"POST /v2/ HTTP/1.1\r\nContent-Length: 2147483649\r\n\r\n", b"413 Content Too Large"),
+        "a body that is too large": (
+            b"POST /v2/ HTTP/1.1\r\nContent-Length: 2147483649\r\n\r\n", b"413 Content Too Large"
+        ),
         "a coding that isn't read": (b"POST /v2/ HTTP/1.1\r\nTransfer-Encoding: gzip\r\n\r\n", b"411 Length Required"),
     }
     with Server(8) as server:
@@ -184,7 +188,8 @@ def peers_that_stay_hold_no_worker():
 
 
 def ended_connections(server):
-    """Connections that end in each way: by a request that asks to close, by the client, by a refused head, inside a body, and by a reset."""
+    """Connections that end in each way: by a request that asks to close, by the client, by a refused head, inside a
+    body, and by a reset."""
     ask_alone(server, "GET", "/v2/")
     with contextlib.closing(server.client()) as client:
         ask(client, "GET", "/v2/")
@@ -205,7 +210,8 @@ def sends_on(peer, until):
 
 
 def sockets_are_closed():
-    """A server keeps no descriptor of a connection that has ended, also if its peer stays and is silent, or sends on for ever."""
+    """A server keeps no descriptor of a connection that has ended, also if its peer stays and is silent, or sends on
+    for ever."""
     with Server() as server, contextlib.ExitStack() as staying:
         begun, over = server.descriptors(), threading.Event()
         peers = [staying.enter_context(server.connect()) for _ in range(4)]
@@ -217,7 +223,11 @@ def sockets_are_closed():
             thread.start()
         for _ in range(20):
             ended_connections(server)
-        check("the descriptors once each connection has ended", becomes(begun, server.descriptors), (begun, server.descriptors()))
+        check(
+            "the descriptors once each connection has ended",
+            becomes(begun, server.descriptors),
+            (begun, server.descriptors()),
+        )
         over.set()
         for thread in endless:
             thread.join()
@@ -301,14 +311,17 @@ class Dripping:
 
 
 def idle_connections_hold_nobody():
-    """Of sixteen workers one serves on while the others have connections that are idle, or send a byte now and then. None of these is cut."""
+    """Of sixteen workers one serves on while the others have connections that are idle, or send a byte now and then.
+    None of these is cut."""
     content = random.Random(16).randbytes(20 * 10_000)
     with Server(env=with_workers("16")) as server, contextlib.ExitStack() as open_ones:
         idle = [open_ones.enter_context(contextlib.closing(server.client())) for _ in range(5)]
         begun = [ask(client, "GET", "/v2/")[0] for client in idle]
         places = [ask(idle[0], "POST", "/v2/lib/slow/blobs/uploads/")[1]["Location"] for _ in range(5)]
         # five inside a head, and five inside a body
-        dripping = [Dripping(server, "GET", "/v2/") for _ in range(5)] + [Dripping(server, "PATCH", place, bytes(100)) for place in places]
+        dripping = [Dripping(server, "GET", "/v2/") for _ in range(5)] + [
+            Dripping(server, "PATCH", place, bytes(100)) for place in places
+        ]
         begun += [client.first and client.first.status for client in dripping]
         check("fifteen connections that have workers", begun == [200] * 15, begun)
         with contextlib.closing(server.client()) as quick:
@@ -322,7 +335,11 @@ def idle_connections_hold_nobody():
             pulled = ask(quick, "GET", f"/v2/lib/quick/blobs/{sha256(content)}")[2]
             check("a pull beside them", pulled == content, len(pulled))
         ends = [client.end() for client in dripping]
-        check("what dripped is answered", [end and end.status for end in ends] == [200] * 5 + [202] * 5, list(map(str, ends)))
+        check(
+            "what dripped is answered",
+            [end and end.status for end in ends] == [200] * 5 + [202] * 5,
+            list(map(str, ends)),
+        )
         check("what was idle goes on", [ask(client, "GET", "/v2/")[0] for client in idle] == [200] * 5)
 
 
@@ -338,7 +355,11 @@ def refuses_other_numbers_of_workers():
 def serves_until_it_is_ended():
     """Without a count it serves all that come, at the address that it was given and at no other."""
     with Server() as server:
-        check("the first line", re.fullmatch(r"listening 127\.0\.0\.1:[1-9][0-9]*\n", server.first_line), server.first_line)
+        check(
+            "the first line",
+            re.fullmatch(r"listening 127\.0\.0\.1:[1-9][0-9]*\n", server.first_line),
+            server.first_line,
+        )
         try:
             socket.create_connection(("127.0.0.2", server.place()[1]), timeout=5).close()
             check("no connection at another address", False, "it was taken")
@@ -360,7 +381,11 @@ def serves_another_version():
         print("skipped: the system has no IPv6")
         return
     with Server(1, host="[::1]") as server:
-        check("the first line at an IPv6 address", re.fullmatch(r"listening \[::1\]:[1-9][0-9]*\n", server.first_line), server.first_line)
+        check(
+            "the first line at an IPv6 address",
+            re.fullmatch(r"listening \[::1\]:[1-9][0-9]*\n", server.first_line),
+            server.first_line,
+        )
         check("a reply at an IPv6 address", ask_alone(server, "GET", "/v2/")[0] == 200)
         check("the last line at an IPv6 address", server.end() == ("served\n", 0))
 
@@ -378,8 +403,8 @@ def tells_a_terminal_how_to_stop():
     os.close(terminal)
 
 
-# Methods and targets with bytes that a terminal would take for orders, and what a log shows of them: U+009B, U+0085, U+2028, U+202E, a backslash and a
-# quote, and a character across the last byte that is shown.
+# Methods and targets with bytes that a terminal would take for orders, and what a log shows of them: U+009B, U+0085,
+# U+2028, U+202E, a backslash and a quote, and a character across the last byte that is shown.
 STRANGE = [
     ((b"GET", "/\u009b31m".encode()), r"GET /\xc2\x9b31m"),
     ((b"GET", "/\u0085/\u2028/\u202e".encode()), r"GET /\xc2\x85/\xe2\x80\xa8/\xe2\x80\xae"),
@@ -390,10 +415,13 @@ STRANGE = [
 
 
 def logs_requests():
-    """A line for each request on standard error, as it came, where the environment asks for it, and none where it doesn't."""
+    """A line for each request on standard error, as it came, where the environment asks for it, and none where it
+    doesn't."""
     missing, long = sha256(b"nothing"), "/" + "a" * 5_000
     for value in (None, "", "0", "1"):
-        env = {name: word for name, word in os.environ.items() if name != "BLOBD_LOG"} | ({} if value is None else {"BLOBD_LOG": value})
+        env = {name: word for name, word in os.environ.items() if name != "BLOBD_LOG"} | (
+            {} if value is None else {"BLOBD_LOG": value}
+        )
         with Server(20, env=env, stderr=subprocess.PIPE) as server:
             place = opened(server, "lib/a")
             ask_alone(server, "PATCH", place, b"abc")
@@ -406,7 +434,12 @@ def logs_requests():
             ask_alone(server, "HEAD", f"/v2/lib/a/blobs/{missing}")
             refused = [
                 ask_alone(server, method, target)[2]
-                for method, target in (("GET", "/v2/lib/a/tags/list"), ("DELETE", place), ("GET", "/v2/Lib/blobs/uploads/?a=%20b"), ("GET", long))
+                for method, target in (
+                    ("GET", "/v2/lib/a/tags/list"),
+                    ("DELETE", place),
+                    ("GET", "/v2/Lib/blobs/uploads/?a=%20b"),
+                    ("GET", long),
+                )
             ]
             # two that go inside a body, and get no reply, and so no line
             with server.connect() as one, server.connect() as other:
@@ -416,7 +449,14 @@ def logs_requests():
             strange = [b"%b %b HTTP/1.1\r\nConnection: close\r\n\r\n" % words for words, _ in STRANGE]
             too_large = b"PUT /v2/ HTTP/1.1\r\nContent-Length: 2147483649\r\n\r\n"
             too_long = b"GET /v2/ HTTP/1.1\r\nX: ".ljust(16384, b"a")
-            for text in (b"PATCH %b HTTP/1.1\r\nTransfer-Encoding: gzip\r\n\r\n" % place.encode(), too_large, too_long, unreadable, unreadable, *strange):
+            for text in (
+                b"PATCH %b HTTP/1.1\r\nTransfer-Encoding: gzip\r\n\r\n" % place.encode(),
+                too_large,
+                too_long,
+                unreadable,
+                unreadable,
+                *strange,
+            ):
                 with server.connect() as connection:
                     connection.sendall(text)
                     rest_of(connection)
@@ -484,8 +524,13 @@ def replies_to(client, count):
 
 
 def unread_log():
-    """A log that nobody reads holds up no request. Once it is read again, each line came, or is among those that it says were lost."""
-    with logging_server() as (server, pipe), contextlib.closing(server.client()) as client, contextlib.closing(server.client()) as other:
+    """A log that nobody reads holds up no request. Once it is read again, each line came, or is among those that it
+    says were lost."""
+    with (
+        logging_server() as (server, pipe),
+        contextlib.closing(server.client()) as client,
+        contextlib.closing(server.client()) as other,
+    ):
         replies = replies_to(client, 2_000) + replies_to(other, 2_000)
         check("replies though nobody reads the log", replies == [200] * 4_000, collections.Counter(replies))
         text, until, asked = b"", time.monotonic() + running.PATIENCE, len(replies)
@@ -504,7 +549,11 @@ def unread_log_at_the_end():
     with logging_server() as (server, _):
         with contextlib.closing(server.client()) as client:
             replies = replies_to(client, 2_000)
-            check("replies before the end though nobody reads the log", replies == [200] * 2_000, collections.Counter(replies))
+            check(
+                "replies before the end though nobody reads the log",
+                replies == [200] * 2_000,
+                collections.Counter(replies),
+            )
         begun = time.monotonic()
         ended = server.end()
         check("the end though nobody reads the log", ended == ("served\n", 0), ended)
@@ -512,7 +561,8 @@ def unread_log_at_the_end():
 
 
 def log_read_late():
-    """The lines that wait when a server ends are still written. So many fill the pipe, and less than a log holds wait."""
+    """The lines that wait when a server ends are still written. So many fill the pipe, and less than a log holds
+    wait."""
     with logging_server() as (server, pipe):
         with contextlib.closing(server.client()) as client:
             replies = replies_to(client, 600)
@@ -528,7 +578,8 @@ def log_read_late():
 
 
 def first_references():
-    """Two servers draw secrets of their own: the references of their first sessions differ. Each has one worker, so that the same one answers."""
+    """Two servers draw secrets of their own: the references of their first sessions differ. Each has one worker, so
+    that the same one answers."""
     places = []
     for _ in range(2):
         with Server(1, env=with_workers("1")) as server:
@@ -542,15 +593,32 @@ def secrets_are_drawn():
         places = [opened(server, "lib/a").removeprefix("/v2/lib/a/blobs/uploads/") for _ in range(4)]
         numbers = [place[:8] for place in places]
         check("the numbers of references", numbers == [f"{number:08x}" for number in range(1, 5)], places)
-        check("the layout of references", all(len(p) == 36 and p[14] == "8" and p[19] in "89ab" for p in places), places)
+        check(
+            "the layout of references", all(len(p) == 36 and p[14] == "8" and p[19] in "89ab" for p in places), places
+        )
         check("the secrets of references", len({place[9:] for place in places}) == 4, places)
 
 
 def words():
     addr = "127.0.0.1:0"
-    for refused in ([], ["twice"], ["serve"], ["serve", addr, ""], ["serve", addr, "0"], ["serve", addr, "1000001"], ["serve", addr, "+1"]):
+    for refused in (
+        [],
+        ["twice"],
+        ["serve"],
+        ["serve", addr, ""],
+        ["serve", addr, "0"],
+        ["serve", addr, "1000001"],
+        ["serve", addr, "+1"],
+    ):
         check(f"the words {refused}", run(*refused) == ("", 2, USAGE + "\n"), run(*refused))
-    for refused in (["serve", "localhost:0"], ["serve", addr, "1", "1"], ["serve", "localhost:0", "1"], ["serve", "127.0.0.1", "1"], ["push", addr, "a", "f", "0"], ["once", "once"]):
+    for refused in (
+        ["serve", "localhost:0"],
+        ["serve", addr, "1", "1"],
+        ["serve", "localhost:0", "1"],
+        ["serve", "127.0.0.1", "1"],
+        ["push", addr, "a", "f", "0"],
+        ["once", "once"],
+    ):
         check(f"the words {refused}", run(*refused) == ("", 2, USAGE + "\n"), run(*refused))
 
 
@@ -561,7 +629,14 @@ def help_and_version():
     check("the version", run("--version") == (f"blobd {version}\n", 0, ""), run("--version"))
     told, status, more = run("--help")
     check("help is no error", (status, more) == (0, ""), (status, more))
-    for command in ("blobd serve ADDR [COUNT]", "blobd push ADDR NAME FILE [CHUNK]", "blobd once", "blobd --help", "blobd --version", "BLOBD_LOG=1"):
+    for command in (
+        "blobd serve ADDR [COUNT]",
+        "blobd push ADDR NAME FILE [CHUNK]",
+        "blobd once",
+        "blobd --help",
+        "blobd --version",
+        "BLOBD_LOG=1",
+    ):
         check(f"help tells of {command}", command in told, told)
     check("help fits a terminal", max(map(len, told.splitlines())) <= 100, told)
     for refused in (["--help", "push"], ["--version", "1"], ["-h"], ["help"]):
@@ -569,7 +644,8 @@ def help_and_version():
 
 
 def switches():
-    """A variable of the environment that says neither yes nor no is told, before an address is taken; another command doesn't read it."""
+    """A variable of the environment that says neither yes nor no is told, before an address is taken; another command
+    doesn't read it."""
     told = "blobd: BLOBD_LOG is 1 to log requests, or 0, or not set\n"
     with socket.socket() as taken:
         taken.bind(("127.0.0.1", 0))
@@ -578,7 +654,10 @@ def switches():
         for value in ("yes", "2", "on", "01", " 1", "\udcff"):
             ran = run("serve", addr, "1", env={**os.environ, "BLOBD_LOG": value})
             check(f"BLOBD_LOG={value!r}", ran == ("", 2, told), ran)
-    check("other words go before the environment", run("serve", env={**os.environ, "BLOBD_LOG": "yes"}) == ("", 2, USAGE + "\n"))
+    check(
+        "other words go before the environment",
+        run("serve", env={**os.environ, "BLOBD_LOG": "yes"}) == ("", 2, USAGE + "\n"),
+    )
     ran = run("once", stdin=subprocess.DEVNULL, env={**os.environ, "BLOBD_LOG": "yes"})
     check("a command that logs nothing", ran == ("", 0, ""), ran)
 
@@ -625,7 +704,8 @@ TOO_MANY_FILES = WAITS.format("Too many open files (os error 24)")
 
 
 def no_descriptors(hasty):
-    """Workers that find no descriptor for a connection, or for its halves, say so once and go on trying for as long as it takes."""
+    """Workers that find no descriptor for a connection, or for its halves, say so once and go on trying for as long as
+    it takes."""
     for lacking, most in (("a connection", 4), ("its halves", 6)):
         with Server(1, limits=[f"-S -n {most}"], env=hasty, stderr=subprocess.PIPE) as server:
             clients = [server.connect(), server.connect()]
@@ -639,7 +719,11 @@ def no_descriptors(hasty):
                 with client:
                     client.sendall(b"GET /v2/ HTTP/1.1\r\nConnection: close\r\n\r\n")
                     reply = rest_of(client)
-                    check(f"a reply once there are descriptors for {lacking}", reply.startswith(b"HTTP/1.1 200 OK\r\n"), reply)
+                    check(
+                        f"a reply once there are descriptors for {lacking}",
+                        reply.startswith(b"HTTP/1.1 200 OK\r\n"),
+                        reply,
+                    )
             ended = *server.ended(), server.process.stderr.read()
             check(f"the end after no descriptors for {lacking}", ended == ("served\n", 0, ""), ended)
 
@@ -663,11 +747,25 @@ def descriptors_come_again():
 
 
 # What accept(2) says of a connection that waits, and of signals.
-PASSED_OVER = ("EPERM", "EINTR", "ENONET", "EPROTO", "ENOPROTOOPT", "EOPNOTSUPP", "ENETDOWN", "ENETUNREACH", "ECONNABORTED", "ECONNRESET", "EHOSTDOWN", "EHOSTUNREACH")
+PASSED_OVER = (
+    "EPERM",
+    "EINTR",
+    "ENONET",
+    "EPROTO",
+    "ENOPROTOOPT",
+    "EOPNOTSUPP",
+    "ENETDOWN",
+    "ENETUNREACH",
+    "ECONNABORTED",
+    "ECONNRESET",
+    "EHOSTDOWN",
+    "EHOSTUNREACH",
+)
 
 
 def failing_accepts(folder):
-    """An error of a connection is passed over, and each other one waited out, but those of a listener that is none: they stop a worker, and it alone."""
+    """An error of a connection is passed over, and each other one waited out, but those of a listener that is none:
+    they stop a worker, and it alone."""
     library = shims.compiled(folder, "accepts")
     passed = [(name, 1_000, "") for name in PASSED_OVER]
     waited = [(name, 10, name) for name in ("EAGAIN", "ENOMEM", "ENFILE", "EMFILE", "ENOBUFS", "EIO")]
@@ -678,19 +776,37 @@ def failing_accepts(folder):
             replies = [ask_alone(server, "GET", "/v2/")[0] for _ in range(2)]
             *ended, lines = *server.ended(), set(server.process.stderr.readlines())
             wanted = {WAITS.format(f"{os.strerror(error)} (os error {error})")} if told else set()
-            check(f"{failures} accepts that fail: {name}", (replies, ended, lines) == ([200, 200], ["served\n", 0], wanted), (replies, ended, lines))
+            check(
+                f"{failures} accepts that fail: {name}",
+                (replies, ended, lines) == ([200, 200], ["served\n", 0], wanted),
+                (replies, ended, lines),
+            )
     for name in ("EBADF", "EFAULT", "EINVAL", "ENOTSOCK"):
         error = getattr(errno, name)
         env = shims.environment(library, ACCEPT_ERROR=error, ACCEPT_FAILURES=1)
         with Server(2, env=env, stderr=subprocess.PIPE) as server:
             told = server.told(60)
-            check(f"a worker that stops says so at once: {name}", told == STOPPED.format(f"{os.strerror(error)} (os error {error})"), told)
+            check(
+                f"a worker that stops says so at once: {name}",
+                told == STOPPED.format(f"{os.strerror(error)} (os error {error})"),
+                told,
+            )
             replies = [ask_alone(server, "GET", "/v2/")[0] for _ in range(2)]
             ended = *server.ended(), server.process.stderr.read()
-            check(f"the other takes all of its own: {name}", (replies, ended) == ([200, 200], ("fault: accept\n", 3, "")), (replies, ended))
+            check(
+                f"the other takes all of its own: {name}",
+                (replies, ended) == ([200, 200], ("fault: accept\n", 3, "")),
+                (replies, ended),
+            )
 
 
-CLOSED = {"standard input": "<&-", "standard error": "2>&-", "both": "<&- 2>&-", "standard output": ">&-", "all three": "<&- >&- 2>&-"}
+CLOSED = {
+    "standard input": "<&-",
+    "standard error": "2>&-",
+    "both": "<&- 2>&-",
+    "standard output": ">&-",
+    "all three": "<&- >&- 2>&-",
+}
 
 
 def closed_streams():
@@ -704,19 +820,29 @@ def closed_streams():
                 with server.connect() as client:
                     client.sendall(b"GET /v2/ HTTP/1.1\r\nConnection: close\r\n\r\n")
                     reply = rest_of(client)
-                    check(f"a reply without {name}", reply == b"HTTP/1.1 200 OK\r\nContent-Length: 0\r\nConnection: close\r\n\r\n", reply)
+                    check(
+                        f"a reply without {name}",
+                        reply == b"HTTP/1.1 200 OK\r\nContent-Length: 0\r\nConnection: close\r\n\r\n",
+                        reply,
+                    )
             ended = server.end()
             check(f"the end without {name}", ended == ("served\n", 0), ended)
     # what can't be printed is a fault, as ever, and what can't be read too
     for name in ("standard output", "all three"):
         for words in (["serve", "127.0.0.1:0", "1"], ["once"]):
-            ended = subprocess.run(["sh", "-c", f'exec "$@" {CLOSED[name]}', "sh", running.PROGRAM, *words], stdin=subprocess.DEVNULL, timeout=running.PATIENCE, check=False)
+            ended = subprocess.run(
+                ["sh", "-c", f'exec "$@" {CLOSED[name]}', "sh", running.PROGRAM, *words],
+                stdin=subprocess.DEVNULL,
+                timeout=running.PATIENCE,
+                check=False,
+            )
             wanted = 3 if words[0] == "serve" or name == "all three" else 0
             check(f"{words[0]} without {name}", ended.returncode == wanted, ended.returncode)
 
 
 def signals():
-    """A program that is stopped for a while and goes on cuts no connection: not within a body, nor within a reply, nor an idle one."""
+    """A program that is stopped for a while and goes on cuts no connection: not within a body, nor within a reply, nor
+    an idle one."""
     content = random.Random(8).randbytes(32 * MIB)
     digest = sha256(content)
     with Server() as server:
@@ -748,7 +874,8 @@ def stop_for_a_while(server):
 
 
 def workers_have_small_stacks():
-    """All the workers that there may be have their stacks in an address space that 64 of the system's own size would fill."""
+    """All the workers that there may be have their stacks in an address space that 64 of the system's own size would
+    fill."""
     with Server(1, limits=[f"-v {512 << 10}"], env=with_workers("256") | {"MALLOC_ARENA_MAX": "1"}) as server:
         check("256 workers in 512 MiB", server.end() == ("served\n", 0))
 
@@ -757,7 +884,9 @@ def faults():
     taken_address()
     workers_have_small_stacks()
     with open("/dev/full", "w", encoding="utf-8") as full:
-        ended = subprocess.run([running.PROGRAM, "serve", "127.0.0.1:0", "1"], stdout=full, timeout=running.PATIENCE, check=False)
+        ended = subprocess.run(
+            [running.PROGRAM, "serve", "127.0.0.1:0", "1"], stdout=full, timeout=running.PATIENCE, check=False
+        )
         check("a line that can't be printed", ended.returncode == 3, ended.returncode)
 
 
@@ -769,8 +898,12 @@ class Curl:
 
     def __call__(self, *more, **options):
         shown = "%{http_code} %header{location}"
-        words = ["curl", "-sS", "-m", str(running.PATIENCE), "-H", "Connection: close", "-o", "/dev/null", "-w", shown, *more]
-        status, _, place = subprocess.run(words, stdout=subprocess.PIPE, text=True, check=False, **options).stdout.partition(" ")
+        words = [
+            "curl", "-sS", "-m", str(running.PATIENCE), "-H", "Connection: close", "-o", "/dev/null", "-w", shown, *more
+        ]
+        status, _, place = subprocess.run(
+            words, stdout=subprocess.PIPE, text=True, check=False, **options
+        ).stdout.partition(" ")
         return status, self.base + place
 
     def opens(self, name):
@@ -845,7 +978,9 @@ def image_layout(layout, *layers):
     media = "application/vnd.oci.image."
     os.makedirs(os.path.join(layout, "blobs", "sha256"))
     rootfs = {"type": "layers", "diff_ids": [sha256(layer) for layer in layers]}
-    config = put_blob(layout, json.dumps({"architecture": "amd64", "os": "linux", "config": {}, "rootfs": rootfs}).encode())
+    config = put_blob(
+        layout, json.dumps({"architecture": "amd64", "os": "linux", "config": {}, "rootfs": rootfs}).encode()
+    )
     stored = [put_blob(layout, layer) for layer in layers]
     manifest = {
         "schemaVersion": 2,
@@ -854,7 +989,9 @@ def image_layout(layout, *layers):
         "layers": [{"mediaType": media + "layer.v1.tar", **layer} for layer in stored],
     }
     entry = {"mediaType": manifest["mediaType"], **put_blob(layout, json.dumps(manifest).encode())}
-    for name, content in (("oci-layout", {"imageLayoutVersion": "1.0.0"}), ("index.json", {"schemaVersion": 2, "manifests": [entry]})):
+    for name, content in (
+        ("oci-layout", {"imageLayoutVersion": "1.0.0"}), ("index.json", {"schemaVersion": 2, "manifests": [entry]})
+    ):
         with open(os.path.join(layout, name), "w", encoding="utf-8") as file:
             json.dump(content, file)
     return [blob["digest"] for blob in (config, *stored)]
@@ -862,19 +999,33 @@ def image_layout(layout, *layers):
 
 def output_of(words, folder):
     """A program's exit status, and what it printed, on standard error too. It runs in this folder."""
-    ran = subprocess.run(words, cwd=folder, stdout=subprocess.PIPE, stderr=subprocess.STDOUT, text=True, timeout=running.PATIENCE, check=False)
+    ran = subprocess.run(
+        words,
+        cwd=folder,
+        stdout=subprocess.PIPE,
+        stderr=subprocess.STDOUT,
+        text=True,
+        timeout=running.PATIENCE,
+        check=False,
+    )
     return ran.returncode, ran.stdout
 
 
 def by_skopeo(folder, there):
-    return output_of(["skopeo", "--insecure-policy", "copy", "--dest-tls-verify=false", "--dest-no-creds", "oci:layout", there], folder)
+    return output_of(
+        ["skopeo", "--insecure-policy", "copy", "--dest-tls-verify=false", "--dest-no-creds", "oci:layout", there],
+        folder,
+    )
 
 
 def by_a_store_of(name):
-    """podman and buildah keep the image first, in a store of their own, under the name of its path: so that is a short one."""
+    """podman and buildah keep the image first, in a store of their own, under the name of its path: so that is a short
+    one."""
 
     def push(folder, there):
-        words = [name, "--root", f"{folder}/{name}/root", "--runroot", f"{folder}/{name}/run", "--storage-driver", "vfs"]
+        words = [
+            name, "--root", f"{folder}/{name}/root", "--runroot", f"{folder}/{name}/run", "--storage-driver", "vfs"
+        ]
         status, printed = output_of([*words, "pull", "oci:layout"], folder)
         if status:
             raise unittest.SkipTest(f"{name} keeps no image here: {printed}")
@@ -889,7 +1040,8 @@ IMAGE_CLIENTS = {"skopeo": by_skopeo, "podman": by_a_store_of("podman"), "builda
 
 
 def stored_blobs(log, name, count):
-    """The digests of the blobs that a server's log says were stored in a repository, once there are so many: a line comes behind its reply."""
+    """The digests of the blobs that a server's log says were stored in a repository, once there are so many: a line
+    comes behind its reply."""
     wanted = re.compile(rf"^PUT /v2/{name}/blobs/uploads/\S+[?&]digest=(\S+) 201 ", re.MULTILINE)
     end = time.monotonic() + running.PATIENCE
     while True:
@@ -901,26 +1053,45 @@ def stored_blobs(log, name, count):
 
 
 def an_image_by(name, digests, folder):
-    """A client pushes an image to sixteen workers, with nothing before them, while another connection is idle. All of its blobs arrive, layers that it
-    compresses too. It stops at the manifest, which this registry doesn't have."""
+    """A client pushes an image to sixteen workers, with nothing before them, while another connection is idle. All of
+    its blobs arrive, layers that it compresses too. It stops at the manifest, which this registry doesn't have."""
     log, repository = os.path.join(folder, f"{name}.log"), f"lib/{name}"
-    with open(log, "wb") as stderr, Server(env=with_workers("16") | {"BLOBD_LOG": "1"}, stderr=stderr) as server, contextlib.closing(server.client()) as idle:
+    with (
+        open(log, "wb") as stderr,
+        Server(env=with_workers("16") | {"BLOBD_LOG": "1"}, stderr=stderr) as server,
+        contextlib.closing(server.client()) as idle,
+    ):
         check(f"a connection before {name}", ask(idle, "GET", "/v2/")[0] == 200)
         begun = time.monotonic()
         status, printed = IMAGE_CLIENTS[name](folder, f"docker://{server.addr}/{repository}:one")
         # a connection is ended behind a minute of silence
-        check(f"{name} waits for no other connection", time.monotonic() - begun > 55 or ask(idle, "GET", "/v2/")[0] == 200, printed)
+        check(
+            f"{name} waits for no other connection",
+            time.monotonic() - begun > 55 or ask(idle, "GET", "/v2/")[0] == 200,
+            printed,
+        )
         check(f"{name} stops at the manifest", status != 0 and "manifest" in printed, (status, printed))
         stored = stored_blobs(log, repository, len(digests))
         blobs = {digest: pull(server, repository, digest) for digest in stored}
-        check(f"what {name} stored comes back", all(isinstance(blob, bytes) and sha256(blob) == digest for digest, blob in blobs.items()), (stored, printed))
-        plain = {sha256(gzip.decompress(blob) if blob.startswith(b"\x1f\x8b") else blob) for blob in blobs.values() if isinstance(blob, bytes)}
+        check(
+            f"what {name} stored comes back",
+            all(isinstance(blob, bytes) and sha256(blob) == digest for digest, blob in blobs.items()),
+            (stored, printed),
+        )
+        plain = {
+            sha256(gzip.decompress(blob) if blob.startswith(b"\x1f\x8b") else blob)
+            for blob in blobs.values()
+            if isinstance(blob, bytes)
+        }
         check(f"{name} stored every blob of the image", plain == set(digests), (plain, digests, printed))
 
 
 def images(folder):
     """Those of the clients that are installed push the same image."""
-    digests = image_layout(os.path.join(folder, "layout"), *[layer_of(number, size) for number, size in enumerate((0, 5_000, 70_000, 2 * MIB))])
+    digests = image_layout(
+        os.path.join(folder, "layout"),
+        *[layer_of(number, size) for number, size in enumerate((0, 5_000, 70_000, 2 * MIB))],
+    )
     for name in IMAGE_CLIENTS:
         if not shutil.which(name):
             print(f"skipped: {name} isn't installed")
@@ -1003,13 +1174,16 @@ def statuses():
             check(f"the statuses that worker {which} tells", got == wanted, got)
         opened_all = [ask(clients[0], "POST", "/v2/lib/many/blobs/uploads/")[0] for _ in range(1030)]
         # two sessions of answered() are still open
-        check("as many sessions as there may be, and no more", opened_all == [202] * 1022 + [429] * 8, opened_all[1015:])
+        check(
+            "as many sessions as there may be, and no more", opened_all == [202] * 1022 + [429] * 8, opened_all[1015:]
+        )
         for client in clients:
             client.close()
 
 
 def many_uploads():
-    """More uploads one behind the other than may be open at once, and more blobs: each is stored, and each comes back."""
+    """More uploads one behind the other than may be open at once, and more blobs: each is stored, and each comes
+    back."""
     contents = [b"%d" % number for number in range(1_500)]
     with Server() as server, contextlib.closing(server.client()) as client:
         statuses = collections.Counter()
@@ -1022,7 +1196,8 @@ def many_uploads():
 
 
 def silent_clients(hasty):
-    """A client that stops inside a head and one that reads nothing of its reply are ended after a minute, or two, which take seconds here."""
+    """A client that stops inside a head and one that reads nothing of its reply are ended after a minute, or two, which
+    take seconds here."""
     content = random.Random(7).randbytes(64 * MIB)
     digest = sha256(content)
     with Server(env=hasty) as server:
@@ -1045,7 +1220,8 @@ def silent_clients(hasty):
 
 
 def dripped(server, parts, pause):
-    """The reply to these parts of a request, sent with a pause of so many seconds behind each, and how long that took. `None`: the connection was cut."""
+    """The reply to these parts of a request, sent with a pause of so many seconds behind each, and how long that took.
+    `None`: the connection was cut."""
     begun = time.monotonic()
     with server.connect() as connection:
         try:
@@ -1062,9 +1238,11 @@ def dripped(server, parts, pause):
 
 
 def slow_clients(hasty):
-    """A client that drips a head or a body is cut once its minute is over, which takes two seconds here, and one that is as fast as is asked isn't."""
+    """A client that drips a head or a body is cut once its minute is over, which takes two seconds here, and one that
+    is as fast as is asked isn't."""
     with Server(env=hasty) as server:
-        head = f"PATCH {opened(server, 'lib/a')} HTTP/1.1\r\nContent-Length: 400000\r\nConnection: close\r\n\r\n".encode()
+        fields = "Content-Length: 400000\r\nConnection: close\r\n"
+        head = f"PATCH {opened(server, 'lib/a')} HTTP/1.1\r\n{fields}\r\n".encode()
         bytes_of_head = [bytes([byte]) for byte in b"GET /v2/ HTTP/1.1\r\nX: " + b"a" * 400]
         # all of it would take twenty seconds
         reply, took = dripped(server, bytes_of_head, 0.05)
@@ -1106,7 +1284,11 @@ def sends_at_once(folder):
     with open(told, encoding="ascii") as file:
         options = [tuple(map(int, line.split())) for line in file]
     sent_at_once = options.count((socket.IPPROTO_TCP, socket.TCP_NODELAY, 1))
-    check("connections that send at once", (replies, ended, sent_at_once) == ([200, 200], ("served\n", 0), 2), (replies, ended, options))
+    check(
+        "connections that send at once",
+        (replies, ended, sent_at_once) == ([200, 200], ("served\n", 0), 2),
+        (replies, ended, options),
+    )
 
 
 def arrive(connection):
@@ -1139,7 +1321,11 @@ def moves_much_at_once(folder):
                 replies.append(rest_of(other))
         ended = server.ended()
     head, _, body = replies[2].partition(b"\r\n\r\n")
-    check("replies before their moves are counted", (body, ended) == (content, ("served\n", 0)), (replies[:2], head, ended))
+    check(
+        "replies before their moves are counted",
+        (body, ended) == (content, ("served\n", 0)),
+        (replies[:2], head, ended),
+    )
     wanted = [("recv", len(first)), ("send", len(replies[0])), ("recv", len(store)), ("send", len(replies[1]))]
     wanted += [("recv", len(pull_it)), ("send", len(head) + 4), ("send", len(content))]
     with open(told, encoding="ascii") as file:
@@ -1148,12 +1334,14 @@ def moves_much_at_once(folder):
 
 
 def idle_upload(folder):
-    """An upload that pauses is there for an hour behind its last chunk, by the program's own clock, and not for longer."""
+    """An upload that pauses is there for an hour behind its last chunk, by the program's own clock, and not for
+    longer."""
     ahead = os.path.join(folder, "ahead")
     env = shims.environment(shims.compiled(folder, "ahead"), CLOCK_AHEAD=ahead)
     with Server(env=env) as server:
         place, statuses = opened(server, "lib/a"), []
-        # seconds since the server began, and some more of the test's own: the last pause is longer than an hour, the others aren't
+        # seconds since the server began, and some more of the test's own: the last pause is longer than an hour, the
+        # others aren't
         for seconds in (0, 3_500, 7_000, 10_602):
             with open(ahead, "w", encoding="ascii") as file:
                 file.write(str(seconds))
@@ -1162,7 +1350,8 @@ def idle_upload(folder):
 
 
 def within_seconds():
-    """What a library brings about: accepts that fail, threads that are refused, and minutes and hours that pass in seconds."""
+    """What a library brings about: accepts that fail, threads that are refused, and minutes and hours that pass in
+    seconds."""
     if not shims.has_compiler():
         print(f"skipped: {shims.NO_COMPILER}: failed accepts, refused threads, and what takes a minute or an hour")
         return
@@ -1186,11 +1375,14 @@ def paused_upload():
         time.sleep(4)
         second = ask_alone(server, "PATCH", place, b"def")[0]
         third = ask_alone(server, "PUT", f"{place}?digest={sha256(b'abcdef')}")[0]
-        check("an upload that pauses for four seconds", (first, second, third) == (202, 202, 201), (first, second, third))
+        check(
+            "an upload that pauses for four seconds", (first, second, third) == (202, 202, 201), (first, second, third)
+        )
 
 
 def processor_times(server):
-    """The seconds that the thread which owns the service has had a processor, and those of all other threads, also of those that have ended."""
+    """The seconds that the thread which owns the service has had a processor, and those of all other threads, also of
+    those that have ended."""
     pid = server.process.pid
     with open(f"/proc/{pid}/task/{pid}/schedstat", encoding="ascii") as file:
         keeper = int(file.read().split()[0]) / 1e9
@@ -1200,7 +1392,8 @@ def processor_times(server):
 
 
 class Hashing:
-    """A client of a server with one worker, which looks whether its uploads are hashed by the thread that owns the service, or by others."""
+    """A client of a server with one worker, which looks whether its uploads are hashed by the thread that owns the
+    service, or by others."""
 
     def __init__(self, server):
         self.server, self.client = server, server.client()
@@ -1219,13 +1412,15 @@ class Hashing:
         return self.chance.randbytes(32 * MIB)
 
     def spent(self):
-        """The processor times since it was last asked. Once this request is answered, the thread that owns the service has done all that it had begun."""
+        """The processor times since it was last asked. Once this request is answered, the thread that owns the service
+        has done all that it had begun."""
         self.ask("GET", "/v2/")
         before, self.before = self.before, processor_times(self.server)
         return tuple(now - then for now, then in zip(self.before, before))
 
     def hashed_by_others(self, algorithm, *uploading):
-        """Whether the thread that owns the service has little to do for an upload that is sent so, and other threads have much."""
+        """Whether the thread that owns the service has little to do for an upload that is sent so, and other threads
+        have much."""
         content = self.content()
         digest = f"{algorithm}:{hashlib.new(algorithm, content).hexdigest()}"
         place = self.opens()
@@ -1241,13 +1436,15 @@ ALL, NOTHING = slice(None), slice(0)
 SINGLE = [("POST", "/v2/lib/a/blobs/uploads/?digest={digest}", ALL)]
 WITH_THE_CLOSE = [("PUT", "{place}?digest={digest}", ALL)]
 IN_ONE_CHUNK = [("PATCH", "{place}", ALL), ("PUT", "{place}?digest={digest}", NOTHING)]
-IN_TWO_CHUNKS = [("PATCH", "{place}", slice(1)), ("PATCH", "{place}", slice(1, None)), ("PUT", "{place}?digest={digest}", NOTHING)]
+IN_TWO_CHUNKS = [
+    ("PATCH", "{place}", slice(1)), ("PATCH", "{place}", slice(1, None)), ("PUT", "{place}?digest={digest}", NOTHING)
+]
 
 
 def each_byte_is_hashed_once():
-    """A large body that is the first of its upload is hashed by its worker as it comes, and not again. A later one is hashed in a thread of its own. What a
-    thread does is told from the time that it has a processor, compared with that of others. A machine that is stopped while one of them runs may disturb one
-    try, and not each of three."""
+    """A large body that is the first of its upload is hashed by its worker as it comes, and not again. A later one is
+    hashed in a thread of its own. What a thread does is told from the time that it has a processor, compared with that
+    of others. A machine that is stopped while one of them runs may disturb one try, and not each of three."""
     if not os.path.exists("/proc/self/schedstat"):
         print("skipped: the system doesn't tell the processor time of threads")
         return
@@ -1267,7 +1464,11 @@ def each_byte_is_hashed_once():
                 if is_once:
                     break
             check(f"who hashes {name}", is_once, told)
-        check("the replies to what is hashed", set(hashing.replies) == {200, 201, 202}, collections.Counter(hashing.replies))
+        check(
+            "the replies to what is hashed",
+            set(hashing.replies) == {200, 201, 202},
+            collections.Counter(hashing.replies),
+        )
         hashing.client.close()
 
 

@@ -3,9 +3,10 @@
 
     pushes.py PROGRAM
 
-It tries what a push prints, on a terminal too, and what it leaves in the server; files that are there already; sizes of chunks, and how much is moved at
-once; an IPv6 address; servers that start again, that can't serve, that are silent, or whose replies are strange; signals; a close whose reply is lost; more
-chunks than one connection takes; several pushes at once.
+It tries what a push prints, on a terminal too, and what it leaves in the server; files that are there already; sizes of
+chunks, and how much is moved at once; an IPv6 address; servers that start again, that can't serve, that are silent, or
+whose replies are strange; signals; a close whose reply is lost; more chunks than one connection takes; several pushes
+at once.
 
 Prints a line for each check that fails, and 'N passed, M failed' as the last.
 """
@@ -84,7 +85,9 @@ def pushes_and_their_lines(folder):
         nothing = written(folder, b"")
         check("an empty file", push(server.addr, "lib/a", nothing, 2) == pushed(b""))
         for name in ("A", "", "a" * 256):
-            check(f"a name that isn't one: {name}", push(server.addr, name, abc, 2) == ("refused: name\n", 1, NAME_RULE))
+            check(
+                f"a name that isn't one: {name}", push(server.addr, name, abc, 2) == ("refused: name\n", 1, NAME_RULE)
+            )
         missing = abc + "-that-is-not-there"
         no_file = ("fault: file\n", 3, f"blobd: can't push {missing}: No such file or directory (os error 2)\n")
         check("a missing file", push(server.addr, "lib/a", missing, 2) == no_file)
@@ -121,14 +124,19 @@ def on_a_terminal(*words):
 
 
 def a_bar_on_a_terminal(folder):
-    """Standard error that is a terminal gets a bar, which is gone at the end; standard output is what it is without one."""
+    """Standard error that is a terminal gets a bar, which is gone at the end; standard output is what it is without
+    one."""
     content = random.Random(11).randbytes(64 * MIB)
     path = written(folder, content)
     with Server(100) as server:
         told, drawn = on_a_terminal("push", server.addr, "lib/a", path, str(MIB))
         check("what a push prints beside its bar", told == pushed(content)[:2], told)
         begun, *lines = drawn.split("\r")
-        check("each line is drawn from its start, and clears what is behind it", not begun and all(l.endswith("\x1b[K") for l in lines), drawn)
+        check(
+            "each line is drawn from its start, and clears what is behind it",
+            not begun and all(l.endswith("\x1b[K") for l in lines),
+            drawn,
+        )
         lines = [line.removesuffix("\x1b[K") for line in lines]
         check("the last line is cleared", lines[-1] == "", lines)
         count = r"[0-9]+(\.[0-9] [KMG]i| )B"
@@ -138,7 +146,11 @@ def a_bar_on_a_terminal(folder):
         check("it hashes and then sends", "hashing" in words and "sending" in words and words == sorted(words), words)
         check("each line has room", max(map(len, lines)) < 80, lines)
         told, drawn = on_a_terminal("push", server.addr, "A", path, str(MIB))
-        check("a name that isn't one has no bar", (told, drawn) == (("refused: name\n", 1), NAME_RULE.replace("\n", "\r\n")), (told, drawn))
+        check(
+            "a name that isn't one has no bar",
+            (told, drawn) == (("refused: name\n", 1), NAME_RULE.replace("\n", "\r\n")),
+            (told, drawn),
+        )
 
 
 def servers_that_come_again(folder):
@@ -170,8 +182,8 @@ def servers_that_come_again(folder):
 
 
 class Answering:
-    """A server of one connection after the other that answers the first request of each with the same bytes, or with those of its method, after
-    some seconds. It keeps the requests' first lines."""
+    """A server of one connection after the other that answers the first request of each with the same bytes, or with
+    those of its method, after some seconds. It keeps the requests' first lines."""
 
     def __init__(self, reply, delay=0):
         self.listener = socket.create_server(("127.0.0.1", 0))
@@ -204,7 +216,10 @@ def strange_servers(folder):
     lines = b'{"errors":[{"code":"A\\nB"}]}'
     empty = b'{"errors":[{"code":""}]}'
     https = "is this https? A push speaks plain HTTP"
-    login = "it wants a login, and a push has none: push to the reverse proxy's local address, or through deploy/adapter.cfg"
+    login = (
+        "it wants a login, and a push has none: "
+        "push to the reverse proxy's local address, or through deploy/adapter.cfg"
+    )
     other = "it is another kind of server, as by the form of its Location: push through deploy/adapter.cfg"
     unknown = "it takes no uploads into this repository: is it a registry?"
     lost = "it lost the upload, as a server does that is started again: push again"
@@ -221,7 +236,11 @@ def strange_servers(folder):
         ("a server that is no registry", reply_of("404 Not Found"), "404 -", unknown),
         (
             "a server that loses the upload",
-            {"HEAD": reply_of("404 Not Found"), "POST": reply_of("202 Accepted", fields=place), "PATCH": reply_of("404 Not Found", missing)},
+            {
+                "HEAD": reply_of("404 Not Found"),
+                "POST": reply_of("202 Accepted", fields=place),
+                "PATCH": reply_of("404 Not Found", missing),
+            },
             "404 BLOB_UPLOAD_UNKNOWN",
             lost,
         ),
@@ -233,9 +252,19 @@ def strange_servers(folder):
             other,
         ),
         ("no HTTP", b"SSH-2.0-none\r\n", "out of tries", "the reply isn't HTTP: is this https? (tried 7 times)"),
-        ("an alert of TLS", bytes([21, 3, 1, 0, 2, 2, 70]), "out of tries", f"the reply is TLS: {https} (tried 7 times)"),
+        (
+            "an alert of TLS",
+            bytes([21, 3, 1, 0, 2, 2, 70]),
+            "out of tries",
+            f"the reply is TLS: {https} (tried 7 times)",
+        ),
         ("no reply", b"", "out of tries", "the server closed the connection before it had replied (tried 7 times)"),
-        ("half a reply", b"HTTP/1.1 20", "out of tries", "the server closed the connection before it had replied (tried 7 times)"),
+        (
+            "half a reply",
+            b"HTTP/1.1 20",
+            "out of tries",
+            "the server closed the connection before it had replied (tried 7 times)",
+        ),
         ("an odd reply", b"HTTP/1.1 2xx\r\n\r\n", "out of tries", "no reply of a form that is read (tried 7 times)"),
     ]
     with concurrent.futures.ThreadPoolExecutor(len(table)) as pool:
@@ -250,7 +279,9 @@ def strange_servers(folder):
 
 def reply_of(status, body=b"", fields=b""):
     """A whole reply, behind which its server closes."""
-    return b"HTTP/1.1 %b\r\n%bContent-Length: %d\r\nConnection: close\r\n\r\n" % (status.encode(), fields, len(body)) + body
+    return b"HTTP/1.1 %b\r\n%bContent-Length: %d\r\nConnection: close\r\n\r\n" % (
+        status.encode(), fields, len(body)
+    ) + body
 
 
 def logged(server):
@@ -272,7 +303,8 @@ def another_version(folder):
 
 
 def moves_much_at_once(folder):
-    """A push writes each request at once, a chunk's bytes behind its head, without delay; and it reads each reply at once."""
+    """A push writes each request at once, a chunk's bytes behind its head, without delay; and it reads each reply at
+    once."""
     if not shims.has_compiler():
         print(f"skipped: {shims.NO_COMPILER}: how much a push moves at once")
         return
@@ -313,7 +345,11 @@ def what_is_there(folder):
     there.close()
     unsure = Answering({"HEAD": reply_of("500 Internal Server Error"), "POST": reply_of("403 Forbidden")})
     check("a HEAD that is refused", push(unsure.addr, "lib/a", abc, 2) == ("refused: 403 -\n", 1, ""))
-    check("a push behind a HEAD that is refused", [line.split(" ")[0] for line in unsure.asked] == ["HEAD", "POST"], unsure.asked)
+    check(
+        "a push behind a HEAD that is refused",
+        [line.split(" ")[0] for line in unsure.asked] == ["HEAD", "POST"],
+        unsure.asked,
+    )
     unsure.close()
 
 
@@ -365,21 +401,30 @@ def signals_between(folder):
     """A signal that comes while a push waits for a reply costs no try: it is one request, over one connection."""
     abc = written(folder, b"abc")
     server = Answering(reply_of("200 OK"), delay=2)
-    with subprocess.Popen([running.PROGRAM, "push", server.addr, "lib/a", abc, "2"], stdout=subprocess.PIPE, stderr=subprocess.PIPE, text=True) as ran:
+    with subprocess.Popen(
+        [running.PROGRAM, "push", server.addr, "lib/a", abc, "2"],
+        stdout=subprocess.PIPE,
+        stderr=subprocess.PIPE,
+        text=True,
+    ) as ran:
         for _ in range(3):
             time.sleep(0.3)
             ran.send_signal(signal.SIGSTOP)
             time.sleep(0.1)
             ran.send_signal(signal.SIGCONT)
         told = ran.communicate(timeout=running.PATIENCE)
-        check("a push that is stopped and goes on", (told, ran.returncode) == ((already(b"abc")[0], ""), 0), (told, ran.returncode))
+        check(
+            "a push that is stopped and goes on",
+            (told, ran.returncode) == ((already(b"abc")[0], ""), 0),
+            (told, ran.returncode),
+        )
     check("one request of it", len(server.asked) == 1, server.asked)
     server.close()
 
 
 class Proxy:
-    """Forwards connections to a server and cuts each where `judge`, of its number, says: after so many bytes from the client, or
-    from the server, or before the first reply that has a text."""
+    """Forwards connections to a server and cuts each where `judge`, of its number, says: after so many bytes from the
+    client, or from the server, or before the first reply that has a text."""
 
     def __init__(self, addr, judge):
         self.server, self.judge = addr, judge
@@ -442,7 +487,8 @@ def more_chunks_than_six_connections_take(folder):
 
 
 def cut_push(server, folder, seed):
-    """A push through a proxy that cuts connections by chance: what it printed, its status and what the server has of its content."""
+    """A push through a proxy that cuts connections by chance: what it printed, its status and what the server has of
+    its content."""
     chance = random.Random(seed)
     content = chance.randbytes(20_000 + seed)
     often = 0.6 if seed % 2 else 1.0
@@ -471,9 +517,15 @@ def pushes_over_cut_connections(folder):
                 check(f"what cut push {seed} left", got == content, "other bytes")
             else:
                 check(f"what cut push {seed} says", (line, status) == ("refused: out of tries\n", 1), (line, status))
-                check(f"why cut push {seed} was given up", why.startswith("blobd: can't push to ") and why.endswith(" times)\n"), why)
+                check(
+                    f"why cut push {seed} was given up",
+                    why.startswith("blobd: can't push to ") and why.endswith(" times)\n"),
+                    why,
+                )
                 check(f"what cut push {seed} left", got in (404, content), "other bytes")
-    check("pushes got through the proxy, and some were given up", counts["pushed"] > 5 and counts["refused"] > 0, counts)
+    check(
+        "pushes got through the proxy, and some were given up", counts["pushed"] > 5 and counts["refused"] > 0, counts
+    )
 
 
 def load_tests(*_):

@@ -26,7 +26,9 @@ TEST_MODULE = re.compile(r"#\[cfg\(test\)\]\s*mod \w+ \{")
 LAW = re.compile(r"^\s*pub fn \w+(?:<.*?>)?\(\)\s*(\{\s*\})?$")
 EDITS = re.compile(r"/(?:must-fail|further-edits)/")
 # an impl of a trait, with its body
-TRAIT_IMPL = re.compile(r"^impl(?:<.*?>)? (?:\w+::)*(\w+)(?:<[^{]*?>)? for (\w+)[^{]*\{(.*?)^\}", re.MULTILINE | re.DOTALL)
+TRAIT_IMPL = re.compile(
+    r"^impl(?:<.*?>)? (?:\w+::)*(\w+)(?:<[^{]*?>)? for (\w+)[^{]*\{(.*?)^\}", re.MULTILINE | re.DOTALL
+)
 
 # A link of a page, and a heading that one may lead to.
 LINK = re.compile(r"\]\(([^)\s]+)\)")
@@ -36,7 +38,8 @@ FENCED = re.compile(r"^```.*?^```", re.MULTILINE | re.DOTALL)
 # A row of README that says how many lines a definition's file has.
 COUNTED = re.compile(r"^\|.*\]\((crates/\S+\.antt)\).*\| (\d+) \|$", re.MULTILINE)
 
-# The page of promises, and what the cells name that say where a promise stands: a function and clauses of it, or a file.
+# The page of promises, and what the cells name that say where a promise stands: a function and clauses of it, or a
+# file.
 PROMISES = "docs/PROMISES.md"
 NAMED = re.compile(r"`([^`]+)`")
 FUNCTION = re.compile(r"(?:[\w]+::)*(\w+)(?:: ([\w, ]+))?")
@@ -81,7 +84,9 @@ def holes(paths):
 def words_of(path):
     """How often each word stands in a source, comments of definitions left out."""
     lines = text_of(path).splitlines()
-    return collections.Counter(definitions.words(" ".join(map(definitions.without_comment, lines) if path.endswith(".antt") else lines)))
+    return collections.Counter(
+        definitions.words(" ".join(map(definitions.without_comment, lines) if path.endswith(".antt") else lines))
+    )
 
 
 def module_of(path):
@@ -90,7 +95,8 @@ def module_of(path):
 
 
 def names_taken(sources):
-    """The names that other files take from each module of definitions; from one that is taken whole, each word of the file."""
+    """The names that other files take from each module of definitions; from one that is taken whole, each word of the
+    file."""
     taken = collections.defaultdict(set)
     for path in sources:
         words = words_of(path)
@@ -100,7 +106,8 @@ def names_taken(sources):
 
 
 def unnamed(paths):
-    """Definitions and lemmas that nothing names beside themselves. The code names lemmas by their paths, in attributes."""
+    """Definitions and lemmas that nothing names beside themselves. The code names lemmas by their paths, in
+    attributes."""
     sources = [path for path in paths if path.startswith("crates/") and path.endswith((".antt", ".rt"))]
     taken = names_taken(sources)
     in_code = sum((words_of(path) for path in sources if path.endswith(".rt")), collections.Counter())
@@ -158,7 +165,8 @@ def public_functions(crate, laws=False):
 
 
 def other_functions(crate):
-    """The functions that an edit may say it breaks beside those handed out: `<Type as Trait>::name`, and what a program has inside."""
+    """The functions that an edit may say it breaks beside those handed out: `<Type as Trait>::name`, and what a program
+    has inside."""
     for path in sources(crate):
         with open(path, encoding="utf-8") as file:
             text = TEST_MODULE.split(file.read())[0]
@@ -178,7 +186,12 @@ def unbroken(_):
         functions = [name for name in public_functions(crate) if name not in NO_OTHER_BODY.get(crate, ())]
         found += [f"{crate}: no must-fail edit breaks {name}" for name in functions if name not in broken]
         known = {*functions, *public_functions(crate, laws=True), *other_functions(crate)}
-        found += [f"{edit.path} breaks {name}, which isn't there" for edit in of_crate for name in edit.breaks if name not in known]
+        found += [
+            f"{edit.path} breaks {name}, which isn't there"
+            for edit in of_crate
+            for name in edit.breaks
+            if name not in known
+        ]
     return found
 
 
@@ -192,7 +205,9 @@ def headless(_):
 def unmade(_):
     """Tables of the page of wrong bodies that aren't what the edits say."""
     page = wrong_bodies.read_page()
-    return [] if wrong_bodies.made(page) == page else ["docs/WRONG-BODIES.md isn't what `make wrong-bodies` writes: run it"]
+    return [] if wrong_bodies.made(page) == page else [
+        "docs/WRONG-BODIES.md isn't what `make wrong-bodies` writes: run it"
+    ]
 
 
 def edited_once(path):
@@ -219,7 +234,9 @@ def unapplied(paths):
 
 def anchors(text):
     """The anchors of a page's headings, as GitHub makes them."""
-    return {re.sub(r"[^\w -]", "", heading.lower()).replace(" ", "-") for heading in HEADING.findall(FENCED.sub("", text))}
+    return {
+        re.sub(r"[^\w -]", "", heading.lower()).replace(" ", "-") for heading in HEADING.findall(FENCED.sub("", text))
+    }
 
 
 def unlinked(paths):
@@ -260,7 +277,11 @@ def cells_under(page, *headings):
 def unpromised(paths):
     """Names in the table of promises of functions, clauses, definitions or files that aren't there."""
     clauses = clauses_by_function(paths)
-    words = set(WORD.findall(" ".join(text_of(path) for path in paths if path.startswith("crates/") and path.endswith((".rt", ".antt")))))
+    words = set(
+        WORD.findall(
+            " ".join(text_of(path) for path in paths if path.startswith("crates/") and path.endswith((".rt", ".antt")))
+        )
+    )
     found = []
     for number, cell in cells_under(text_of(PROMISES), "Contract", "Law"):
         for name in NAMED.findall(cell):
@@ -273,7 +294,9 @@ def unpromised(paths):
                 there = set(WORD.findall(name)) <= words
             if not there:
                 found.append(f"{PROMISES}:{number}: there is no {name}")
-        if not any(WORD.findall(name)[-1] in clauses or ":" in name for name in NAMED.findall(cell)) and not cell.startswith(("the ", "each ")):
+        if not any(
+            WORD.findall(name)[-1] in clauses or ":" in name for name in NAMED.findall(cell)
+        ) and not cell.startswith(("the ", "each ")):
             found.append(f"{PROMISES}:{number}: names no function")
     return found
 
@@ -292,7 +315,9 @@ def untested(paths):
                 elif begins != name:
                     there = any(word.startswith(begins) for word in words)
                 else:
-                    there = " " in name or set(WORD.findall(name)) <= words | set(os.listdir(os.path.join(TOP, "crates")))
+                    there = (
+                        " " in name or set(WORD.findall(name)) <= words | set(os.listdir(os.path.join(TOP, "crates")))
+                    )
                 if not there:
                     found.append(f"{page}:{number}: there is no {name}")
     return found
@@ -302,9 +327,15 @@ def miscounted(_):
     """Definitions of the headline whose lines README counts otherwise, or their sum."""
     readme = text_of("README.md")
     rows = [(path, int(count)) for path, count in COUNTED.findall(readme)]
-    found = [f"README.md: {path} has {count} lines" for path, told in rows if (count := len(text_of(path).splitlines())) != told]
+    found = [
+        f"README.md: {path} has {count} lines"
+        for path, told in rows
+        if (count := len(text_of(path).splitlines())) != told
+    ]
     total = sum(count for _, count in rows)
-    return found if f"{total} lines in all" in readme else [*found, f"README.md: the definitions have {total} lines in all"]
+    return found if f"{total} lines in all" in readme else [
+        *found, f"README.md: the definitions have {total} lines in all"
+    ]
 
 
 def stands_on(crate):
@@ -323,7 +354,10 @@ def stands_on(crate):
 def unwatched(_):
     """Crates of the program whose changes `make` doesn't see, and names there of crates that aren't the program's."""
     watched = re.search(r"^CRATES = (.*)$", text_of("Makefile"), re.MULTILINE)
-    return [f"Makefile's CRATES: {name}" for name in sorted(stands_on("blobd") ^ set(watched.group(1).split() if watched else []))]
+    return [
+        f"Makefile's CRATES: {name}"
+        for name in sorted(stands_on("blobd") ^ set(watched.group(1).split() if watched else []))
+    ]
 
 
 def unversioned(paths):
@@ -338,7 +372,11 @@ def unversioned(paths):
 def unshown(paths):
     """Files of the programs that use the crates which the page on that doesn't show word for word."""
     page = text_of(USING)
-    return [f"{USING} doesn't show {path} as it is" for path in paths if SHOWN.fullmatch(path) and f"\n{text_of(path)}```\n" not in page]
+    return [
+        f"{USING} doesn't show {path} as it is"
+        for path in paths
+        if SHOWN.fullmatch(path) and f"\n{text_of(path)}```\n" not in page
+    ]
 
 
 def disturbed(_):

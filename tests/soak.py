@@ -1,15 +1,18 @@
 #!/usr/bin/env python3
-"""Runs clients against `blobd serve` for a while. They cut connections, race one another, are refused memory, and check what they are told.
+"""Runs clients against `blobd serve` for a while. They cut connections, race one another, are refused memory, and check
+what they are told.
 
     soak.py PROGRAM [--seconds N] [--clients N] [--seed FIRST]
 
-- The server has one worker, two, or eight. There are more clients than workers, by one to three if --clients doesn't say how many. So some wait for others.
-- Clients (tests/clients.py) upload in chunks over connections of a few requests each. They send chunks that don't fit, close with digests that aren't the
-  content's, go away inside a request or before its reply, and ask twice at once: two closes, two chunks at one place, a chunk and a close. If they hear no
-  reply, they ask again to find out what the request did. Each blob that was committed is pulled at once, and all again at the end. It has to be the
-  chunks that were taken, joined.
-- The same is done while some allocations of the server are refused at random (tests/shims/growths.c; skipped without a C compiler). Then a request may
-  be answered 503, or its connection may end, and nothing else.
+- The server has one worker, two, or eight. There are more clients than workers, by one to three if --clients doesn't
+  say how many. So some wait for others.
+- Clients (tests/clients.py) upload in chunks over connections of a few requests each. They send chunks that don't fit,
+  close with digests that aren't the content's, go away inside a request or before its reply, and ask twice at once: two
+  closes, two chunks at one place, a chunk and a close. If they hear no reply, they ask again to find out what the
+  request did. Each blob that was committed is pulled at once, and all again at the end. It has to be the chunks that
+  were taken, joined.
+- The same is done while some allocations of the server are refused at random (tests/shims/growths.c; skipped without a
+  C compiler). Then a request may be answered 503, or its connection may end, and nothing else.
 - At the end all workers have to serve at once, and the server may have printed nothing but its first line.
 
 It ends by itself. Its last line is 'N passed, M failed'.
@@ -42,7 +45,8 @@ def soaked(place, is_refused, until, seed):
 
 
 def all_serve(server, workers, is_refused):
-    """Whether so many connections are served at once: each twice, so that none was ended for another. Where memory is refused, some are asked for in vain."""
+    """Whether so many connections are served at once: each twice, so that none was ended for another. Where memory is
+    refused, some are asked for in vain."""
     for _ in range(TRIES if is_refused else 1):
         connections = [Connection(server.place()) for _ in range(workers)]
         replies = []
@@ -68,7 +72,9 @@ class Soak:
         seen = collections.Counter()
         with running.Server(1_000_000, stderr=subprocess.STDOUT, env=env) as server, running.processes(count) as pool:
             clients = [1_000 * seed + which for which in range(count)]
-            for which, (wrong, counts) in zip(clients, pool.map(functools.partial(soaked, server.place(), is_refused, until), clients)):
+            for which, (wrong, counts) in zip(
+                clients, pool.map(functools.partial(soaked, server.place(), is_refused, until), clients)
+            ):
                 seen += counts
                 with self.subTest("a client", seed=which):
                     if wrong:
@@ -78,7 +84,11 @@ class Soak:
             with self.subTest("the server goes on, and says nothing"):
                 self.assertIsNone(server.process.poll())
                 self.assertEqual("", server.stop())
-        print(f"workers {self.workers}, clients {count}: " + ", ".join(f"{name} {number}" for name, number in sorted(seen.items())), flush=True)
+        print(
+            f"workers {self.workers}, clients {count}: "
+            + ", ".join(f"{name} {number}" for name, number in sorted(seen.items())),
+            flush=True,
+        )
         with self.subTest("what the clients met"):
             self.assertEqual(set(), MET - set(seen))
             self.assertTrue(not is_refused or REFUSED & set(seen))
@@ -90,7 +100,9 @@ class Soak:
     def test_clients_with_growths_refused(self):
         with tempfile.TemporaryDirectory(prefix="soak-") as folder:
             library = shims.compiled(folder)
-            self.soak(True, **shims.environment(library, REFUSED_GROWTHS=REFUSED_GROWTHS, GROWTHS_BEFORE=GROWTHS_BEFORE))
+            self.soak(
+                True, **shims.environment(library, REFUSED_GROWTHS=REFUSED_GROWTHS, GROWTHS_BEFORE=GROWTHS_BEFORE)
+            )
 
 
 class OneWorker(Soak, unittest.TestCase):

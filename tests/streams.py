@@ -1,36 +1,171 @@
 """Streams of requests for one connection, made from a seed.
 
-A maker keeps a model of the service beside what it makes, so that most requests fit: chunks at the right offset, digests of what is
-there. Now and then it makes each request that PROTOCOL.md refuses, and writes a request in each way that is allowed. Then a stream may be cut or changed.
+A maker keeps a model of the service beside what it makes, so that most requests fit: chunks at the right offset,
+digests of what is there. Now and then it makes each request that PROTOCOL.md refuses, and writes a request in each way
+that is allowed. Then a stream may be cut or changed.
 """
 import random
 
 import model
 
 NAMES = ["a", "lib/a", "lib/blobs/uploads", "b-c/d.e__f", "a/blobs/a", "0" * model.MAX_NAME]
-ODD_NAMES = ["A", "a..b", "a___b", "a---b", "-a", "a-", "a//b", "", "a%2Fb", "é", "0" * 256, "a/" * 127 + "b", "blobs", "a/uploads", "blobs/uploads"]
-ODD_TARGETS = ["/", "*", "/v2", "/v2//", "/v2/?x", "/v2/a", "/v3/", "//v2/", "h:80", "/v2/a/manifests/latest", "/v2/a/blobs", "/v2/a/blobs/", "/v2/<a>", "/v2/é/"]
-ODD_TARGETS += ["/v2/blobs/uploads/", "/v2/a/blobs/uploads", "/v2/%61/blobs/uploads/", "http://h", "http://h?x=/v2/", "http://h#/v2/", "/v2/#", "/v2/?a#b"]
-ODD_TARGETS += ["/v2/\"", "/v2/?\"", "/v2/?`", "/v2/`", "http:/v2/", "http:///v2/", "/v2/a/blobs/uploads/?digest=\"", "/v2/a/blobs/uploads/?mount=a<b"]
-HOSTS = ["http://h", "HTTP://h:80", "s+3.~-://u:p@h:1", "://h", "http://[::1]:2", "http://[::1", "http://h:1:2", "http://@", "http://a%41", "http://%41@h", "x y://h", "http://%[::1]", "http://a:::::::::@h"]
-HOSTS += ["http://h`", "http://u@", "http://[::1]]", "http://[a][b]", "http://]h[", "http://[::1]h:1", "http://%@h", "http://a::::::::@h"]
+ODD_NAMES = [
+    "A",
+    "a..b",
+    "a___b",
+    "a---b",
+    "-a",
+    "a-",
+    "a//b",
+    "",
+    "a%2Fb",
+    "é",
+    "0" * 256,
+    "a/" * 127 + "b",
+    "blobs",
+    "a/uploads",
+    "blobs/uploads",
+]
+ODD_TARGETS = [
+    "/",
+    "*",
+    "/v2",
+    "/v2//",
+    "/v2/?x",
+    "/v2/a",
+    "/v3/",
+    "//v2/",
+    "h:80",
+    "/v2/a/manifests/latest",
+    "/v2/a/blobs",
+    "/v2/a/blobs/",
+    "/v2/<a>",
+    "/v2/é/",
+]
+ODD_TARGETS += [
+    "/v2/blobs/uploads/",
+    "/v2/a/blobs/uploads",
+    "/v2/%61/blobs/uploads/",
+    "http://h",
+    "http://h?x=/v2/",
+    "http://h#/v2/",
+    "/v2/#",
+    "/v2/?a#b",
+]
+ODD_TARGETS += [
+    "/v2/\"",
+    "/v2/?\"",
+    "/v2/?`",
+    "/v2/`",
+    "http:/v2/",
+    "http:///v2/",
+    "/v2/a/blobs/uploads/?digest=\"",
+    "/v2/a/blobs/uploads/?mount=a<b",
+]
+HOSTS = [
+    "http://h",
+    "HTTP://h:80",
+    "s+3.~-://u:p@h:1",
+    "://h",
+    "http://[::1]:2",
+    "http://[::1",
+    "http://h:1:2",
+    "http://@",
+    "http://a%41",
+    "http://%41@h",
+    "x y://h",
+    "http://%[::1]",
+    "http://a:::::::::@h",
+]
+HOSTS += [
+    "http://h`",
+    "http://u@",
+    "http://[::1]]",
+    "http://[a][b]",
+    "http://]h[",
+    "http://[::1]h:1",
+    "http://%@h",
+    "http://a::::::::@h",
+]
 ODD_RANGES = ["x-1", "1-", "-1", "", "0-1-2", "bytes 0-1/3", "0 - 1", "+0-1", "0x0-1", "0–1"]
 METHODS = ["GET", "HEAD", "POST", "PATCH", "PUT", "DELETE", "OPTIONS", "get", "M-SEARCH", "PU"]
-SOME_FIELDS = ["X:", "x: \x80\xff", "Accept: */*", "Expect: 100-continue", "Content-Type: application/octet-stream", "Host: other", "!#$%&'*+-.^_`|~: \t,", "User-Agent:a\tb "]
-KEEPS = ["Connection: keep-alive", "Connection:", "connection: closed, ,x", "Proxy-Connection: close", "Connection: \"close\""]
+SOME_FIELDS = [
+    "X:",
+    "x: \x80\xff",
+    "Accept: */*",
+    "Expect: 100-continue",
+    "Content-Type: application/octet-stream",
+    "Host: other",
+    "!#$%&'*+-.^_`|~: \t,",
+    "User-Agent:a\tb ",
+]
+KEEPS = [
+    "Connection: keep-alive",
+    "Connection:",
+    "connection: closed, ,x",
+    "Proxy-Connection: close",
+    "Connection: \"close\"",
+]
 CLOSES = ["Connection: close", "CONNECTION:\t Keep-Alive ,\tCLOSE ", "connection: close,", "Connection: ,close"]
 
-BAD_LINES = [b"GET /v2/ HTTP/9.9", b"GET /v2/ HTTP/1.2", b"GET /v2/", b"GET  /v2/ HTTP/1.1", b"GET /v2/ HTTP/1.1 ", b" GET /v2/ HTTP/1.1", b"G(T /v2/ HTTP/1.1", b"GET /v2/\x7f HTTP/1.1"]
+BAD_LINES = [
+    b"GET /v2/ HTTP/9.9",
+    b"GET /v2/ HTTP/1.2",
+    b"GET /v2/",
+    b"GET  /v2/ HTTP/1.1",
+    b"GET /v2/ HTTP/1.1 ",
+    b" GET /v2/ HTTP/1.1",
+    b"G(T /v2/ HTTP/1.1",
+    b"GET /v2/\x7f HTTP/1.1",
+]
 BAD_LINES += [b"GET /\xff HTTP/1.1", b"GET /v2/ http/1.1", b"\r", b"\x16\x03\x01", b"GET /v2/ HTTP/1.1\r\r"]
 BAD_FIELDS = [b"Host : h", b" folded", b": x", b"X", b"X: a\x00b", b"X: a\rb", b"X\xff: a", b"X: \x7f", b"X: a\r\r"]
-BAD_LENGTHS = [b"Content-Length:", b"Content-Length: -1", b"Content-Length: +1", b"Content-Length: 1 1", b"Content-Length: 0x1", b"Content-Length: 1,1"]
-BAD_LENGTHS += [b"Content-Length: 1\r\ncontent-length: 1", b"Content-Length: 0\r\nTransfer-Encoding: chunked", b"Transfer-Encoding: gzip\r\nContent-Length: 3", b"Content-Length: x\r\nContent-Length: 1"]
+BAD_LENGTHS = [
+    b"Content-Length:",
+    b"Content-Length: -1",
+    b"Content-Length: +1",
+    b"Content-Length: 1 1",
+    b"Content-Length: 0x1",
+    b"Content-Length: 1,1",
+]
+BAD_LENGTHS += [
+    b"Content-Length: 1\r\ncontent-length: 1",
+    b"Content-Length: 0\r\nTransfer-Encoding: chunked",
+    b"Transfer-Encoding: gzip\r\nContent-Length: 3",
+    b"Content-Length: x\r\nContent-Length: 1",
+]
 # the first of each is just within the limit, so that its body is waited for
-LARGE_LENGTHS = [b"2147483648", b"2147483649", b"00002147483649", b"9" * 19, b"9" * 30, b"18446744073709551617", b"9" * 5000]
-BAD_CODINGS = [b"chunked\r\ntransfer-encoding: chunked", b"gzip", b"", b"chunked, chunked", b"gzip, chunked", b"\"chunked\"", b"chunked;q=1", b"chunked\r\nTransfer-Encoding: chunked", b"identity"]
-BAD_CHUNKS = [b"000000003\r\nabc\r\n0\r\n\r\n", b"3;x=1\r\nabc\r\n0\r\n\r\n", b"3\r\nabc\r\n0\r\nX: y\r\n\r\n", b"3\nabc\n0\n\n", b"\r\n", b"3 \r\nabc", b"3\r\nabcd", b"g", b"0x3\r\nabc"]
-BAD_CHUNKS += [b"3\r\nabc0\r\n\r\n", b"3\r\nabc\r0", b"0\r\n\n", b"000000000\r\n\r\n", b"-1\r\n", b"1\r\na\r\n\r\n", b"1\rx"]
-LARGE_CHUNKS = [b"80000000\r\n", b"80000001\r\n", b"FFFFFFFF\r\n", b"1\r\na\r\n80000000\r\n", b"3\r\nabc\r\n7ffffffe\r\n"]
+LARGE_LENGTHS = [
+    b"2147483648", b"2147483649", b"00002147483649", b"9" * 19, b"9" * 30, b"18446744073709551617", b"9" * 5000
+]
+BAD_CODINGS = [
+    b"chunked\r\ntransfer-encoding: chunked",
+    b"gzip",
+    b"",
+    b"chunked, chunked",
+    b"gzip, chunked",
+    b"\"chunked\"",
+    b"chunked;q=1",
+    b"chunked\r\nTransfer-Encoding: chunked",
+    b"identity",
+]
+BAD_CHUNKS = [
+    b"000000003\r\nabc\r\n0\r\n\r\n",
+    b"3;x=1\r\nabc\r\n0\r\n\r\n",
+    b"3\r\nabc\r\n0\r\nX: y\r\n\r\n",
+    b"3\nabc\n0\n\n",
+    b"\r\n",
+    b"3 \r\nabc",
+    b"3\r\nabcd",
+    b"g",
+    b"0x3\r\nabc",
+]
+BAD_CHUNKS += [
+    b"3\r\nabc0\r\n\r\n", b"3\r\nabc\r0", b"0\r\n\n", b"000000000\r\n\r\n", b"-1\r\n", b"1\r\na\r\n\r\n", b"1\rx"
+]
+LARGE_CHUNKS = [
+    b"80000000\r\n", b"80000001\r\n", b"FFFFFFFF\r\n", b"1\r\na\r\n80000000\r\n", b"3\r\nabc\r\n7ffffffe\r\n"
+]
 
 
 class Maker:
@@ -97,8 +232,25 @@ class Maker:
         if self.often(0.8):
             return reference
         if self.often(0.3):
-            wrong = [reference[:-1], reference + "0", reference.replace("-", "", 1), "x" + reference[1:], f"{{{reference}", f"urn:uuid:{{{reference}}}", "urn:uuid:", "1"]
-            return self.pick([*wrong, reference[:-1] + "1", f"{{{reference.replace('-', '')}}}", reference.replace("8", "9", 1), reference.replace("-", "%2D")])
+            wrong = [
+                reference[:-1],
+                reference + "0",
+                reference.replace("-", "", 1),
+                "x" + reference[1:],
+                f"{{{reference}",
+                f"urn:uuid:{{{reference}}}",
+                "urn:uuid:",
+                "1",
+            ]
+            return self.pick(
+                [
+                    *wrong,
+                    reference[:-1] + "1",
+                    f"{{{reference.replace('-', '')}}}",
+                    reference.replace("8", "9", 1),
+                    reference.replace("-", "%2D"),
+                ]
+            )
         form = self.pick([reference, reference.replace("-", ""), f"urn:uuid:{reference}", f"{{{reference}}}"])
         return form if self.often(0.5) else form.upper()
 
@@ -108,18 +260,45 @@ class Maker:
         if self.often(0.75):
             return right
         other = model.digest_of(content + b"x", "sha256")
-        wrong = ["", "sha256:ab", "md5:" + "0" * 32, "sha256:" + right[7:].upper(), right + "0", "sha512:" + other[7:], right.replace(":", "-"), right.replace("a", "A"), right[1:]]
+        wrong = [
+            "",
+            "sha256:ab",
+            "md5:" + "0" * 32,
+            "sha256:" + right[7:].upper(),
+            right + "0",
+            "sha512:" + other[7:],
+            right.replace(":", "-"),
+            right.replace("a", "A"),
+            right[1:],
+        ]
         return self.pick([other, *wrong])
 
     def query(self, **parameters):
         """The parameters as a form, in some of the ways in which one is written."""
-        pairs = [(name, value.replace(":", "%3A") if self.often(0.1) else value) for name, value in parameters.items() if value is not None]
+        pairs = [
+            (name, value.replace(":", "%3A") if self.often(0.1) else value)
+            for name, value in parameters.items()
+            if value is not None
+        ]
         if self.often(0.05):
             self.chance.shuffle(pairs)
         if pairs and self.often(0.03):
             pairs.insert(self.chance.randint(0, 1), (pairs[0][0], self.pick(["", "x", model.digest_of(b"", "sha256")])))
         if self.often(0.05):
-            pairs.insert(self.chance.randint(0, len(pairs)), self.pick([("", ""), ("x", "1"), ("Digest", "x"), ("", "=&&"), ("%64igest", "x+y"), ("%zz", "%"), ("\u00e9", "%ff")]))
+            pairs.insert(
+                self.chance.randint(0, len(pairs)),
+                self.pick(
+                    [
+                        ("", ""),
+                        ("x", "1"),
+                        ("Digest", "x"),
+                        ("", "=&&"),
+                        ("%64igest", "x+y"),
+                        ("%zz", "%"),
+                        ("\u00e9", "%ff"),
+                    ]
+                ),
+            )
         text = "&".join(f"{name}={value}" for name, value in pairs)
         return f"?{text}" if text or self.often(0.02) else ""
 
@@ -136,11 +315,15 @@ class Maker:
         if choice < 0.83:
             return [f"Content-Range: {first}-{last}"] * 2
         low = max(0, first + self.chance.randint(-2, 2))
-        high = self.pick([low + len(body) - 1, low + self.chance.randint(0, 9), max(0, first - 1), 10**18, 10**19, 10**30])
+        high = self.pick(
+            [low + len(body) - 1, low + self.chance.randint(0, 9), max(0, first - 1), 10**18, 10**19, 10**30]
+        )
         return [f"Content-Range: {self.pick([low, low, low, first, 10**18, 10**40])}-{max(0, high)}"]
 
     def opening(self):
-        return self.request("POST", f"/v2/{self.name()}/blobs/uploads/{self.query()}", body=b"x" if self.often(0.03) else b"")
+        return self.request(
+            "POST", f"/v2/{self.name()}/blobs/uploads/{self.query()}", body=b"x" if self.often(0.03) else b""
+        )
 
     def chunk(self):
         name, at, held = self.session()
@@ -155,11 +338,15 @@ class Maker:
 
     def status(self):
         name, at, _ = self.session()
-        return self.request(self.pick(["GET", "HEAD"]), f"/v2/{name}/blobs/uploads/{at}", body=b"xy" if self.often(0.05) else b"")
+        return self.request(
+            self.pick(["GET", "HEAD"]), f"/v2/{name}/blobs/uploads/{at}", body=b"xy" if self.often(0.05) else b""
+        )
 
     def single(self):
         body = self.some_bytes()
-        return self.request("POST", f"/v2/{self.name()}/blobs/uploads/{self.query(digest=self.digest(body))}", body=body)
+        return self.request(
+            "POST", f"/v2/{self.name()}/blobs/uploads/{self.query(digest=self.digest(body))}", body=body
+        )
 
     def some_blob(self):
         """A name and a digest that it most often has."""
@@ -171,12 +358,16 @@ class Maker:
 
     def look(self):
         name, digest = self.some_blob()
-        return self.request(self.pick(["GET", "GET", "HEAD"]), f"/v2/{name}/blobs/{digest}", body=b"xy" if self.often(0.05) else b"")
+        return self.request(
+            self.pick(["GET", "GET", "HEAD"]), f"/v2/{name}/blobs/{digest}", body=b"xy" if self.often(0.05) else b""
+        )
 
     def mount(self):
         source, digest = self.some_blob()
         other = self.digest(b"") if self.often(0.1) else None
-        query = self.query(**{"mount": digest, "from": source if self.often(0.9) else self.pick([None, "", "A"]), "digest": other})
+        query = self.query(
+            **{"mount": digest, "from": source if self.often(0.9) else self.pick([None, "", "A"]), "digest": other}
+        )
         return self.request("POST", f"/v2/{self.name()}/blobs/uploads/{query}", body=b"x" if self.often(0.05) else b"")
 
     def base(self):
@@ -187,7 +378,14 @@ class Maker:
 
     def odd_method(self):
         name, at, _ = self.session()
-        target = self.pick(["/v2/", f"/v2/{name}/blobs/uploads/", f"/v2/{name}/blobs/uploads/{at}", f"/v2/{name}/blobs/{model.digest_of(b'', 'sha256')}"])
+        target = self.pick(
+            [
+                "/v2/",
+                f"/v2/{name}/blobs/uploads/",
+                f"/v2/{name}/blobs/uploads/{at}",
+                f"/v2/{name}/blobs/{model.digest_of(b'', 'sha256')}",
+            ]
+        )
         return self.request(self.pick(METHODS), target, body=self.some_bytes())
 
     # --- how it is written ---
@@ -199,18 +397,25 @@ class Maker:
         if self.often(0.02):
             target += "#" + self.pick(["", "fragment", "<>?"])
         version = "HTTP/1.0" if self.often(0.01) else "HTTP/1.1"
-        lines = ["Host: h"] * (not self.often(0.1)) + list(fields) + self.chance.choices(SOME_FIELDS, k=self.pick([0, 0, 0, 1, 3]))
+        lines = ["Host: h"] * (not self.often(0.1)) + list(fields) + self.chance.choices(
+            SOME_FIELDS, k=self.pick([0, 0, 0, 1, 3])
+        )
         lines += [self.pick(KEEPS)] * self.often(0.05) + [self.pick(CLOSES)] * self.often(0.01)
         if version == "HTTP/1.1" and self.often(0.25):
-            lines.append(self.pick(["Transfer-Encoding: chunked", "transfer-encoding:CHUNKED", "Transfer-Encoding: \tChunked\t"]))
+            lines.append(
+                self.pick(["Transfer-Encoding: chunked", "transfer-encoding:CHUNKED", "Transfer-Encoding: \tChunked\t"])
+            )
             body = self.chunked(body)
         elif body or self.often(0.7):
-            lines.append(f"{self.pick(['Content-Length', 'content-length'])}:{self.pick([' ', '', '  '])}{self.pick(['', '', '', '000'])}{len(body)}")
+            name, space = self.pick(["Content-Length", "content-length"]), self.pick([" ", "", "  "])
+            lines.append(f"{name}:{space}{self.pick(['', '', '', '000'])}{len(body)}")
         if self.often(0.1):
             self.chance.shuffle(lines)
         blank = self.pick([[""], ["", ""]]) if self.often(0.03) else []
         line_end = "\n" if self.often(0.03) else "\r\n"
-        return line_end.join([*blank, f"{method} {target} {version}", *(line.strip("\r\n") for line in lines), "", ""]).encode("utf-8") + body
+        return line_end.join(
+            [*blank, f"{method} {target} {version}", *(line.strip("\r\n") for line in lines), "", ""]
+        ).encode("utf-8") + body
 
     def chunked(self, body):
         text, at = b"", 0
@@ -259,13 +464,21 @@ class Maker:
         text = bytearray(sent)
         for _ in range(self.chance.randint(1, 4)):
             at, end = self.chance.randrange(len(text) + 1), self.chance.randint(1, 20)
-            text[at : at + self.pick([0, 0, 1, 1, end])] = self.pick([
-                b"",
-                bytes([self.pick([0, 9, 10, 13, 32, 34, 35, 44, 45, 47, 58, 63, 0x7F, 0xFF, self.chance.randrange(256)])]),
-                self.chance.randbytes(self.chance.randint(1, 5)),
-                bytes(text[at : at + end]) * 2,
-                self.pick([b"\r\n", b"\r\n\r\n", b"0", b"close", b"HTTP/1.0", b"HEAD"]),
-            ])
+            text[at : at + self.pick([0, 0, 1, 1, end])] = self.pick(
+                [
+                    b"",
+                    bytes(
+                        [
+                            self.pick(
+                                [0, 9, 10, 13, 32, 34, 35, 44, 45, 47, 58, 63, 0x7F, 0xFF, self.chance.randrange(256)]
+                            )
+                        ]
+                    ),
+                    self.chance.randbytes(self.chance.randint(1, 5)),
+                    bytes(text[at : at + end]) * 2,
+                    self.pick([b"\r\n", b"\r\n\r\n", b"0", b"close", b"HTTP/1.0", b"HEAD"]),
+                ]
+            )
         return bytes(text)
 
 

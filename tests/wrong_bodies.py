@@ -3,7 +3,8 @@
 
     wrong_bodies.py
 
-An edit is a file `crates/CRATE/must-fail/NAME.edit`, or one under `further-edits/`. Its head is made of lines that the prover skips:
+An edit is a file `crates/CRATE/must-fail/NAME.edit`, or one under `further-edits/`. Its head is made of lines that the
+prover skips:
 
     wrong: what the edited function does wrong
     breaks: RepoName::read, <RepoName as Ord>::cmp     the functions whose contracts refuse it
@@ -20,7 +21,9 @@ import sys
 TOP = os.path.dirname(os.path.dirname(os.path.abspath(__file__)))
 PAGE = os.path.join(TOP, "docs", "WRONG-BODIES.md")
 FOLDERS = ("must-fail", "further-edits")
-KNOWN = ("<!-- tests/wrong_bodies.py writes the known mistakes from here on -->", "<!-- the known mistakes end here -->")
+KNOWN = (
+    "<!-- tests/wrong_bodies.py writes the known mistakes from here on -->", "<!-- the known mistakes end here -->"
+)
 OTHERS = ("<!-- tests/wrong_bodies.py writes the other edits from here on -->", "<!-- the other edits end here -->")
 HEAD = re.compile(r"(wrong|breaks|ruled out by): *(.*)")
 
@@ -78,7 +81,9 @@ def table_of_known(all_edits):
 def tables_of_others(all_edits):
     """The other edits, in a table for each crate."""
     parts = []
-    for crate, of_crate in itertools.groupby((edit for edit in all_edits if not edit.ruled_out_by), lambda edit: edit.crate):
+    for crate, of_crate in itertools.groupby(
+        (edit for edit in all_edits if not edit.ruled_out_by), lambda edit: edit.crate
+    ):
         lines = [f"## Other edits of `{crate}`\n", row("Edit", "What it does wrong", "Breaks"), "|---|---|---|"]
         lines += [row(f"`{edit.name}`", edit.wrong, quoted(edit.breaks)) for edit in of_crate]
         parts.append("\n".join(lines))

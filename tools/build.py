@@ -48,7 +48,8 @@ def prove_and_link(flags):
 
 @contextlib.contextmanager
 def set_aside():
-    """Keeps the program for every processor, and the toolchain's note of it, as they are: it writes each form to the same place."""
+    """Keeps the program for every processor, and the toolchain's note of it, as they are: it writes each form to the
+    same place."""
     files = [path for path in (PROGRAM, f"{PROGRAM}.stamp") if os.path.exists(path)]
     for path in files:
         os.replace(path, f"{path}.aside")
@@ -80,11 +81,19 @@ def main(flags):
         return 2
     os.makedirs(OUT, exist_ok=True)
     log = os.path.relpath(LOG, TOP)
-    print(f"Proving and building: 10 to 25 minutes from nothing on four cores, a minute or two after a change. The log is {log}.", file=sys.stderr)
+    print(
+        "Proving and building: 10 to 25 minutes from nothing on four cores, a minute or two after a change. "
+        f"The log is {log}.",
+        file=sys.stderr,
+    )
     try:
         well = build(flags, levels[0] if levels else "")
     except FileNotFoundError as fault:
-        print(f"{fault.filename} isn't found. The toolchain's command rt has to be on the path (README.md, 'The program').", file=sys.stderr)
+        print(
+            f"{fault.filename} isn't found. "
+            "The toolchain's command rt has to be on the path (README.md, 'The program').",
+            file=sys.stderr,
+        )
         return 1
     if not well:
         with open(LOG, encoding="utf-8") as file:

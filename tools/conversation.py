@@ -3,7 +3,8 @@
 
     conversation.py COMMAND..       for example crates/blobd/out/blobd once
 
-The command is given the requests of crates/blobd/stdin as its standard input. Exit status 1 if it doesn't answer each of them.
+The command is given the requests of crates/blobd/stdin as its standard input. Exit status 1 if it doesn't answer each
+of them.
 """
 import os
 import re

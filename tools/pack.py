@@ -1,8 +1,10 @@
 #!/usr/bin/env python3
 """Packs the built program, under dist/.
 
-    pack.py release     blobd-VERSION-x86_64.tar.gz: the program for every processor and for x86-64-v3, deploy/, the pages, the license and the sums
-    pack.py image       blobd-VERSION-image.tar: a container image of the program and the C library, which docker and podman load
+    pack.py release     blobd-VERSION-x86_64.tar.gz: the program for every processor and for x86-64-v3, deploy/, the
+                        pages, the license and the sums
+    pack.py image       blobd-VERSION-image.tar: a container image of the program and the C library, which docker and
+                        podman load
 
 Both are the same bytes for the same files. Exit status 1 if the program isn't built.
 """
@@ -92,12 +94,15 @@ def image():
     layers = {"type": "layers", "diff_ids": [f"sha256:{hashlib.sha256(layer).hexdigest()}"]}
     config = json.dumps({"architecture": "amd64", "os": "linux", "config": settings, "rootfs": layers}).encode()
     named = f"{hashlib.sha256(config).hexdigest()}.json"
-    manifest = json.dumps([{"Config": named, "RepoTags": [f"localhost/blobd:{version()}"], "Layers": ["layer.tar"]}]).encode()
+    manifest = json.dumps(
+        [{"Config": named, "RepoTags": [f"localhost/blobd:{version()}"], "Layers": ["layer.tar"]}]
+    ).encode()
     name = f"blobd-{version()}-image.tar"
     written(name, tar_of({"manifest.json": (manifest, 0o644), named: (config, 0o644), "layer.tar": (layer, 0o644)}))
     print("Load it and run it (docker takes the same words):")
     print(f"  podman load -i dist/{name}")
-    print(f"  podman run --rm --init --memory 8500m --ulimit data=8589934592 -p 127.0.0.1:5001:5001 localhost/blobd:{version()}")
+    limits = "--memory 8500m --ulimit data=8589934592"
+    print(f"  podman run --rm --init {limits} -p 127.0.0.1:5001:5001 localhost/blobd:{version()}")
 
 
 def main(words):

@@ -18,7 +18,8 @@ PROGRAM = ""
 # What it prints to standard error, in a line, for words that are no command.
 USAGE = "usage: blobd once | serve ADDR COUNT | push ADDR NAME FILE CHUNK"
 
-# Seconds after which what is waited for is taken to hang. No test tells speed by it: a machine that is slow for a while passes.
+# Seconds after which what is waited for is taken to hang. No test tells speed by it: a machine that is slow for a while
+# passes.
 PATIENCE = 300
 
 
@@ -52,13 +53,16 @@ def processes(count=None):
 
 
 class Server:
-    """`blobd serve`, each worker for so many connections, or for all that come; on a port that the system picks, unless one is given, under
-    limits of the system, as ["-n 4"] for four descriptors, and with what the shell does to its streams, as "2>&-"."""
+    """`blobd serve`, each worker for so many connections, or for all that come; on a port that the system picks, unless
+    one is given, under limits of the system, as ["-n 4"] for four descriptors, and with what the shell does to its
+    streams, as "2>&-"."""
 
     def __init__(self, count=None, port=0, limits=(), shell="", host="127.0.0.1", **options):
         words = [PROGRAM, "serve", f"{host}:{port}"] + ([] if count is None else [str(count)])
         if limits or shell:
-            words = ["sh", "-c", "".join(f"ulimit {limit} && " for limit in limits) + f'exec "$@" {shell}', "sh", *words]
+            words = [
+                "sh", "-c", "".join(f"ulimit {limit} && " for limit in limits) + f'exec "$@" {shell}', "sh", *words
+            ]
         self.process = subprocess.Popen(words, stdout=subprocess.PIPE, text=True, **options)
         # it prints this line once it listens
         self.first_line = self.process.stdout.readline()

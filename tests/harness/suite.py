@@ -1,7 +1,8 @@
 """Counts what passed and failed, and prints 'N passed, M failed' as the last line.
 
-Scripts are `unittest` cases: their words are the built program, their own options, and then what `unittest` takes, such as `-k NAME` for some of the cases.
-Of a case that has subtests these are counted. A case whose steps depend on one another makes checks, and goes on if one fails; these are counted too.
+Scripts are `unittest` cases: their words are the built program, their own options, and then what `unittest` takes, such
+as `-k NAME` for some of the cases. Of a case that has subtests these are counted. A case whose steps depend on one
+another makes checks, and goes on if one fails; these are counted too.
 """
 import argparse
 import fnmatch
@@ -101,7 +102,8 @@ class Runner:
 
 
 def main(description, **options):
-    """Runs the calling script's cases, and ends it: with status 1 where one failed. Its options have a default and a meaning each, and are in `OPTIONS`."""
+    """Runs the calling script's cases, and ends it: with status 1 where one failed. Its options have a default and a
+    meaning each, and are in `OPTIONS`."""
     parser = argparse.ArgumentParser(description=description, formatter_class=argparse.RawDescriptionHelpFormatter)
     parser.add_argument("program", help="the built program, crates/blobd/out/blobd")
     for name, (default, told) in options.items():
@@ -127,7 +129,11 @@ def in_a_folder(function):
 def cases(*functions):
     """Functions as cases, those that `-k` chooses: what a script's `load_tests` gives."""
     patterns = unittest.defaultTestLoader.testNamePatterns
-    chosen = [function for function in functions if not patterns or any(fnmatch.fnmatchcase(function.__name__, pattern) for pattern in patterns)]
+    chosen = [
+        function
+        for function in functions
+        if not patterns or any(fnmatch.fnmatchcase(function.__name__, pattern) for pattern in patterns)
+    ]
     return unittest.TestSuite(unittest.FunctionTestCase(in_a_folder(function)) for function in chosen)
 
 
