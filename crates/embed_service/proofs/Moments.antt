@@ -13,10 +13,12 @@ at_once-never_fall (ask ∷ asks) [] = tt
 at_once-never_fall (ask ∷ asks) (answer ∷ answers) = (omega arith, at_once-never_fall asks answers)
 
 -- so the headline holds of them and their answers
-pub served : {E : Type 0} (result : Result (Vec Answer Global) E) (old new : State) (asks : List Ask) (jobs : List (Ask × List ℕ × ℕ)) → jobs ≡ at_once asks
-    → IfOk result (λ answers. NeverFall (exchanges jobs answers.items) → Headline old (exchanges jobs answers.items) new)
+pub served : {E : Type 0} (result : Result (Vec Answer Global) E) (old new : State) (asks : List Ask)
+    (jobs : List (Ask × List ℕ × ℕ)) → jobs ≡ at_once asks → IfOk result (λ answers.
+    NeverFall (exchanges jobs answers.items) → Headline old (exchanges jobs answers.items) new)
     → IfOk result (λ answers. Headline old (exchanges (at_once asks) answers.items) new)
 served (Ok answers) old new asks jobs e holds =
     subst (λ listed. Headline old (exchanges listed answers.items) new) e
-    (holds (subst (λ listed. NeverFall (exchanges listed answers.items)) (sym e) (at_once-never_fall asks answers.items)))
+    (holds
+    (subst (λ listed. NeverFall (exchanges listed answers.items)) (sym e) (at_once-never_fall asks answers.items)))
 served (Err fault) old new asks jobs e holds = tt

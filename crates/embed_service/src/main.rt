@@ -19,10 +19,12 @@ const LIMITS: Limits = Limits {
     max_idle: 3_600,
 };
 
-/// Serves requests in order, all at the moment 0: the headline holds of them and their answers. An `Err` changes nothing.
+/// Serves requests in order, all at the moment 0: the headline holds of them and their answers. An `Err` changes
+/// nothing.
 fn serve(service: &mut Service, alloc: Global, asks: Vec<Ask>) -> Result<Vec<Answer>, AllocError>
     ensures count { IfOk result (λ answers. length answers.items ≡ length asks.items) }
-    ensures headline { IfOk result (λ answers. Headline service.old (exchanges (at_once asks.items) answers.items) service.new) }
+    ensures headline { IfOk result (λ answers.
+        Headline service.old (exchanges (at_once asks.items) answers.items) service.new) }
     ensures err { OnErr result (service.new ≡ service.old) }
 {
     // The secret goes into the references of sessions. A server draws it at random.

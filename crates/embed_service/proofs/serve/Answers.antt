@@ -6,4 +6,5 @@ use Rattle.embed_service.proofs.serve.Goals as goal
 pub returns-clause-headline : goal.returns-clause-headline
 returns-clause-headline c =
     let jobs : c.in_ok-collect.field-0.items ≡ at_once c.args.asks.items = search rules in
-    served c.run_all.result c.args.service.now c.run_all.new.self c.args.asks.items c.in_ok-collect.field-0.items jobs c.run_all.ensures.headline
+    served c.run_all.result c.args.service.now c.run_all.new.self c.args.asks.items c.in_ok-collect.field-0.items jobs
+    c.run_all.ensures.headline
