@@ -3,10 +3,12 @@
 
     stored.py
 
-tests/connections has the connections: what is sent, what comes back and the exit status. The model (tests/model.py) says where each request and its
-reply end, and how the connection ends; it has to answer as the files say. The rows are laid out as `rt fmt` does.
+tests/connections has the connections: what is sent, what comes back and the exit status. The model (tests/model.py)
+says where each request and its reply end, and how the connection ends; it has to answer as the files say. The rows are
+laid out as `rt fmt` does.
 """
 import os
+import re
 import sys
 
 import model
@@ -27,6 +29,15 @@ ENDS = {
     model.End.TRUNCATED: "ConnEnd::Fault(ConnFault::Wire(WireFault::Truncated))",
 }
 
+WIDEST_LINE = 120
+# Where an escaped text may go on in another line of a literal, which drops the spaces that it begins with: behind its
+# own line ends,
+LINES = re.compile(r"(?<=\\r\\n)(?![\\ ])")
+# and, in a line that is too wide, at these places
+PIECES = re.compile(
+    r"(?=\?(?:digest|mount)=)|(?<= )(?=HTTP/1)|(?<=,)(?=\\\"message)|(?=sha512:)|(?<=sha512:[0-9a-f]{64})"
+)
+
 # What comes before this in the file is written by hand.
 BEGIN = "/// How many connections there are.\n"
 
@@ -44,10 +55,26 @@ def connections():
             yield stem, content(name), content(stem + ".out"), int(content(stem + ".status"))
 
 
-def literal(text):
-    """A text as a literal of the sources."""
+def parts(escaped, room):
+    """The parts of an escaped text that may stand on lines of their own."""
+    for line in LINES.split(escaped):
+        pieces = PIECES.split(line) if len(line) > room else [line]
+        for piece in pieces:
+            yield from (piece[begin : begin + room] for begin in range(0, len(piece), room))
+
+
+def literal(text, column):
+    """A text as a literal of the sources that begins at this column, on several lines if it is too wide for one."""
     escapes = {"\r": "\\r", "\n": "\\n", '"': '\\"', "\\": "\\\\"}
-    return '"' + "".join(escapes.get(byte, byte) for byte in text.decode("ascii")) + '"'
+    escaped = "".join(escapes.get(byte, byte) for byte in text.decode("ascii"))
+    # with the quotes, and the comma behind them
+    room = WIDEST_LINE - column - 3
+    lines = [""]
+    for part in parts(escaped, room):
+        if len(lines[-1]) + len(part) > room:
+            lines.append("")
+        lines[-1] += part
+    return '"' + f"\\\n{' ' * (column + 1)}".join(lines) + '"'
 
 
 def function_name(stem):
@@ -58,18 +85,21 @@ def row(stem, sent):
     """A connection as a function that gives it."""
     turns, end = model.conversation(sent)
     begins = [0, *(turn.end for turn in turns)]
-    pairs = [(literal(sent[begin : turn.end]), literal(turn.text)) for begin, turn in zip(begins, turns)]
+    deep = 12 if len(turns) == 1 else 16
+    pairs = [
+        (literal(sent[begin : turn.end], deep), literal(turn.text, deep)) for begin, turn in zip(begins, turns)
+    ]
     if len(pairs) == 1:
         shown = "(\n            {},\n            {},\n        )".format(*pairs[0])
     else:
-        shown = "".join("\n            (\n                {},\n                {},\n            ),".format(*pair) for pair in pairs)
-        shown += "\n        " if pairs else ""
+        lines = "\n            (\n                {},\n                {},\n            ),"
+        shown = "".join(lines.format(*pair) for pair in pairs) + ("\n        " if pairs else "")
     return f"""
 {"pub(super) " if stem in NAMED else ""}fn {function_name(stem)}() -> Stored<'static> {{
     Stored {{
         name: "{stem}",
         turns: &[{shown}],
-        rest: {literal(sent[begins[-1] :])},
+        rest: {literal(sent[begins[-1] :], 14)},
         end: {ENDS[end]},
     }}
 }}

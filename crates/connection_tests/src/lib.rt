@@ -1,5 +1,5 @@
-//! Tests of the connections that `upload_wire` serves, in a crate of their own beside `wire_tests`: the two are proved at the
-//! same time.
+//! Tests of the connections that `upload_wire` serves, in a crate of their own beside `wire_tests`: the two are proved
+//! at the same time.
 #![tactic(auto)]
 
 #[cfg(test)]

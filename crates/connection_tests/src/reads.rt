@@ -28,14 +28,15 @@ fn reads_of(rt: &impl Abort, alloc: Global, text: &[u8], step: usize) -> (u64, C
     (reader.reads, end)
 }
 
-/// How long the body of one request is, and the reads that it takes where all of it has come: a read gives at most 65,536
-/// bytes.
+/// How long the body of one request is, and the reads that it takes where all of it has come: a read gives at most
+/// 65,536 bytes.
 static BODIES: [(usize, u64); 5] = [(0, 1), (3, 1), (65_000, 1), (65_536, 2), (200_000, 4)];
 
 /// A chunk of so many bytes, behind which the connection closes.
 fn chunk_of(alloc: Global, length: usize) -> Result<Vec<u8>, Fail> {
     let head = format!(in alloc;
-        "PATCH /v2/lib/a/blobs/uploads/00000001-0000-8000-8000-000000000000 HTTP/1.1\r\nConnection: close\r\nContent-Length: {length}\r\n\r\n"
+        "PATCH /v2/lib/a/blobs/uploads/00000001-0000-8000-8000-000000000000 HTTP/1.1\r\nConnection: close\r\n\
+         Content-Length: {length}\r\n\r\n"
     )?;
     let mut text = head.as_bytes().to_vec(alloc)?;
     text.resize(text.len().saturating_add(length), b'a')?;

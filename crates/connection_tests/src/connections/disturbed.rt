@@ -31,7 +31,8 @@ const TOO_LONG: &str =
 
 /// The reply to an opening.
 const OPENED: &str =
-    "HTTP/1.1 202 Accepted\r\nLocation: /v2/lib/a/blobs/uploads/00000001-0000-8000-8000-000000000000\r\nContent-Length: 0\r\n\r\n";
+    "HTTP/1.1 202 Accepted\r\nLocation: /v2/lib/a/blobs/uploads/00000001-0000-8000-8000-000000000000\r\n\
+     Content-Length: 0\r\n\r\n";
 
 /// Serves a connection over a new service with the zero secret and at moment 0.
 fn serve<S: ByteSource, W: ByteSink>(

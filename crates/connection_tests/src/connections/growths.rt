@@ -12,31 +12,46 @@ use upload_names::UploadRef;
 use upload_service::Service;
 use upload_wire::{ConnEnd, ConnFault, ServiceDesk, serve_connection};
 
-/// An opening, a PATCH, and the next one twice. What the first PATCH brings is moved in; only the next one takes memory.
+/// An opening, a PATCH, and the next one twice. What the first PATCH brings is moved in; only the next one takes
+/// memory.
 const REQUESTS: &[u8] = b"POST /v2/lib/a/blobs/uploads/ HTTP/1.1\r\n\r\n\
-PATCH /v2/lib/a/blobs/uploads/00000001-0000-8000-8000-000000000000 HTTP/1.1\r\nContent-Range: 0-0\r\nContent-Length: 1\r\n\r\na\
-PATCH /v2/lib/a/blobs/uploads/00000001-0000-8000-8000-000000000000 HTTP/1.1\r\nContent-Range: 1-8\r\nContent-Length: 8\r\n\r\nbcdefghi\
-PATCH /v2/lib/a/blobs/uploads/00000001-0000-8000-8000-000000000000 HTTP/1.1\r\nContent-Range: 1-8\r\nContent-Length: 8\r\n\r\nbcdefghi";
+    PATCH /v2/lib/a/blobs/uploads/00000001-0000-8000-8000-000000000000 HTTP/1.1\r\nContent-Range: 0-0\r\n\
+    Content-Length: 1\r\n\r\na\
+    PATCH /v2/lib/a/blobs/uploads/00000001-0000-8000-8000-000000000000 HTTP/1.1\r\nContent-Range: 1-8\r\n\
+    Content-Length: 8\r\n\r\nbcdefghi\
+    PATCH /v2/lib/a/blobs/uploads/00000001-0000-8000-8000-000000000000 HTTP/1.1\r\nContent-Range: 1-8\r\n\
+    Content-Length: 8\r\n\r\nbcdefghi";
 
 /// What they are answered where no growth is refused: the last PATCH comes too late.
 const REPLIES: &[u8] =
-    b"HTTP/1.1 202 Accepted\r\nLocation: /v2/lib/a/blobs/uploads/00000001-0000-8000-8000-000000000000\r\nContent-Length: 0\r\n\r\n\
-HTTP/1.1 202 Accepted\r\nLocation: /v2/lib/a/blobs/uploads/00000001-0000-8000-8000-000000000000\r\nRange: 0-0\r\nContent-Length: 0\r\n\r\n\
-HTTP/1.1 202 Accepted\r\nLocation: /v2/lib/a/blobs/uploads/00000001-0000-8000-8000-000000000000\r\nRange: 0-8\r\nContent-Length: 0\r\n\r\n\
-HTTP/1.1 416 Range Not Satisfiable\r\nLocation: /v2/lib/a/blobs/uploads/00000001-0000-8000-8000-000000000000\r\nRange: 0-8\r\nContent-Type: application/json\r\nContent-Length: 75\r\n\r\n{\"errors\":[{\"code\":\"BLOB_UPLOAD_INVALID\",\"message\":\"blob upload invalid\"}]}";
+    b"HTTP/1.1 202 Accepted\r\nLocation: /v2/lib/a/blobs/uploads/00000001-0000-8000-8000-000000000000\r\n\
+      Content-Length: 0\r\n\r\n\
+      HTTP/1.1 202 Accepted\r\nLocation: /v2/lib/a/blobs/uploads/00000001-0000-8000-8000-000000000000\r\nRange: 0-0\r\n\
+      Content-Length: 0\r\n\r\n\
+      HTTP/1.1 202 Accepted\r\nLocation: /v2/lib/a/blobs/uploads/00000001-0000-8000-8000-000000000000\r\nRange: 0-8\r\n\
+      Content-Length: 0\r\n\r\n\
+      HTTP/1.1 416 Range Not Satisfiable\r\nLocation: /v2/lib/a/blobs/uploads/00000001-0000-8000-8000-000000000000\r\n\
+      Range: 0-8\r\nContent-Type: application/json\r\nContent-Length: 75\r\n\r\n\
+      {\"errors\":[{\"code\":\"BLOB_UPLOAD_INVALID\",\"message\":\"blob upload invalid\"}]}";
 
 /// The service had no memory for the second PATCH, and took the same one again.
 const PATCH_REFUSED: &[u8] =
-    b"HTTP/1.1 202 Accepted\r\nLocation: /v2/lib/a/blobs/uploads/00000001-0000-8000-8000-000000000000\r\nContent-Length: 0\r\n\r\n\
-HTTP/1.1 202 Accepted\r\nLocation: /v2/lib/a/blobs/uploads/00000001-0000-8000-8000-000000000000\r\nRange: 0-0\r\nContent-Length: 0\r\n\r\n\
-HTTP/1.1 503 Service Unavailable\r\nContent-Length: 0\r\n\r\n\
-HTTP/1.1 202 Accepted\r\nLocation: /v2/lib/a/blobs/uploads/00000001-0000-8000-8000-000000000000\r\nRange: 0-8\r\nContent-Length: 0\r\n\r\n";
+    b"HTTP/1.1 202 Accepted\r\nLocation: /v2/lib/a/blobs/uploads/00000001-0000-8000-8000-000000000000\r\n\
+      Content-Length: 0\r\n\r\n\
+      HTTP/1.1 202 Accepted\r\nLocation: /v2/lib/a/blobs/uploads/00000001-0000-8000-8000-000000000000\r\nRange: 0-0\r\n\
+      Content-Length: 0\r\n\r\n\
+      HTTP/1.1 503 Service Unavailable\r\nContent-Length: 0\r\n\r\n\
+      HTTP/1.1 202 Accepted\r\nLocation: /v2/lib/a/blobs/uploads/00000001-0000-8000-8000-000000000000\r\nRange: 0-8\r\n\
+      Content-Length: 0\r\n\r\n";
 
 /// The service had no memory for the opening.
 const OPENING_REFUSED: &[u8] = b"HTTP/1.1 503 Service Unavailable\r\nContent-Length: 0\r\n\r\n\
-HTTP/1.1 404 Not Found\r\nContent-Type: application/json\r\nContent-Length: 87\r\n\r\n{\"errors\":[{\"code\":\"BLOB_UPLOAD_UNKNOWN\",\"message\":\"blob upload unknown to registry\"}]}\
-HTTP/1.1 404 Not Found\r\nContent-Type: application/json\r\nContent-Length: 87\r\n\r\n{\"errors\":[{\"code\":\"BLOB_UPLOAD_UNKNOWN\",\"message\":\"blob upload unknown to registry\"}]}\
-HTTP/1.1 404 Not Found\r\nContent-Type: application/json\r\nContent-Length: 87\r\n\r\n{\"errors\":[{\"code\":\"BLOB_UPLOAD_UNKNOWN\",\"message\":\"blob upload unknown to registry\"}]}";
+    HTTP/1.1 404 Not Found\r\nContent-Type: application/json\r\nContent-Length: 87\r\n\r\n\
+    {\"errors\":[{\"code\":\"BLOB_UPLOAD_UNKNOWN\",\"message\":\"blob upload unknown to registry\"}]}\
+    HTTP/1.1 404 Not Found\r\nContent-Type: application/json\r\nContent-Length: 87\r\n\r\n\
+    {\"errors\":[{\"code\":\"BLOB_UPLOAD_UNKNOWN\",\"message\":\"blob upload unknown to registry\"}]}\
+    HTTP/1.1 404 Not Found\r\nContent-Type: application/json\r\nContent-Length: 87\r\n\r\n\
+    {\"errors\":[{\"code\":\"BLOB_UPLOAD_UNKNOWN\",\"message\":\"blob upload unknown to registry\"}]}";
 
 /// Room for what a connection writes. One growth may be refused.
 fn room(alloc: Global) -> Result<Vec<u8>, AllocError> {

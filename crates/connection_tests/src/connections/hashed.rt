@@ -51,25 +51,29 @@ impl Content {
 const OF_3: Content = Content {
     size: 3,
     sha256: "sha256:ae4b3280e56e2faf83f414a6e3dabe9d5fbe18976544c05fed121accb85b53fc",
-    sha512: "sha512:8081da5f9c1e3d0e1aa16f604d5e5064543cff5d7bace2bb312252461e151b3fe0f034ea8dc1dacff3361a892d625fbe1b614cda265f87a473c24b0fa1d91dfd",
+    sha512: "sha512:8081da5f9c1e3d0e1aa16f604d5e5064543cff5d7bace2bb312252461e151b3f\
+        e0f034ea8dc1dacff3361a892d625fbe1b614cda265f87a473c24b0fa1d91dfd",
 };
 
 const OF_65_536: Content = Content {
     size: 65_536,
     sha256: "sha256:4b640d85ab3ba30fd02c9fc9db4a8928f416322ad27022ea58a65aaee68a4df2",
-    sha512: "sha512:ca073ef2daf10b6e3b761d5db007b8f609c7de85419ed2319fdfd35cc4c4e1f7feb61e5618d9d574552b7e2788d674d7144ea2062b1500173528afb3352e55a4",
+    sha512: "sha512:ca073ef2daf10b6e3b761d5db007b8f609c7de85419ed2319fdfd35cc4c4e1f7\
+        feb61e5618d9d574552b7e2788d674d7144ea2062b1500173528afb3352e55a4",
 };
 
 const OF_65_537: Content = Content {
     size: 65_537,
     sha256: "sha256:237356e18b503616912abb8ffaed3a72591e397d4ac294c4637917d48a3f529d",
-    sha512: "sha512:40224346b91b835ee1ed51d2c849bc6701ea8d969c8038bea206d19118ef30ec5a37d52330d38ef3c8938fc86319dc9869fc65935223753c54535abc8980bac3",
+    sha512: "sha512:40224346b91b835ee1ed51d2c849bc6701ea8d969c8038bea206d19118ef30ec\
+        5a37d52330d38ef3c8938fc86319dc9869fc65935223753c54535abc8980bac3",
 };
 
 const OF_70_003: Content = Content {
     size: 70_003,
     sha256: "sha256:b969d34d6896602ca4df79088620c2820c13e825b4cb300934e028bf39bc71d6",
-    sha512: "sha512:e12e563e79759c0aa6798f1fb673a2b15b9078d8567bbfe06654906de86bb2783d47744d242fe21acf7055fb0761059241976b7f151ae36b0b800099a22eb67d",
+    sha512: "sha512:e12e563e79759c0aa6798f1fb673a2b15b9078d8567bbfe06654906de86bb278\
+        3d47744d242fe21acf7055fb0761059241976b7f151ae36b0b800099a22eb67d",
 };
 
 static UPLOADS: [Upload; 12] = [
@@ -153,7 +157,8 @@ const ACCEPTED: &str =
     "HTTP/1.1 202 Accepted\r\nLocation: /v2/lib/a/blobs/uploads/00000001-0000-8000-8000-000000000000\r\n";
 
 const MISMATCH: &str =
-    "HTTP/1.1 400 Bad Request\r\nContent-Type: application/json\r\nContent-Length: 97\r\n\r\n{\"errors\":[{\"code\":\"DIGEST_INVALID\",\"message\":\"provided digest did not match uploaded content\"}]}";
+    "HTTP/1.1 400 Bad Request\r\nContent-Type: application/json\r\nContent-Length: 97\r\n\r\n\
+     {\"errors\":[{\"code\":\"DIGEST_INVALID\",\"message\":\"provided digest did not match uploaded content\"}]}";
 
 /// The last request of an upload.
 #[derive(Clone, Copy)]
@@ -251,7 +256,8 @@ impl Talk {
         self.send(GET, digest.as_bytes())?;
         self.sent.extend_from_slice(b"\r\n")?;
         let text = format!(in self.alloc;
-            "HTTP/1.1 200 OK\r\nDocker-Content-Digest: {digest}\r\nContent-Type: application/octet-stream\r\nContent-Length: {}\r\n\r\n",
+            "HTTP/1.1 200 OK\r\nDocker-Content-Digest: {digest}\r\nContent-Type: application/octet-stream\r\n\
+             Content-Length: {}\r\n\r\n",
             all.len()
         )?;
         self.want(text.as_str())?;

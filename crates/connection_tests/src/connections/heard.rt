@@ -56,16 +56,18 @@ impl Observer for Notes {
     }
 }
 
-/// What is sent over connections that are served one behind the other, and how each ends. The second ends inside a body.
+/// What is sent over connections that are served one behind the other, and how each ends. The second ends inside a
+/// body.
 static SENT: [(&str, ConnEnd); 3] = [
     (
         "GET /v2/ HTTP/1.1\r\n\r\n\
-POST /v2/lib/a/blobs/uploads/?digest=sha256:ba7816bf8f01cfea414140de5dae2223b00361a396177a9cb410ff61f20015ad HTTP/1.1\r\n\
-Content-Length: 3\r\n\r\nabc\
-GET /v2/lib/a/blobs/sha256:ba7816bf8f01cfea414140de5dae2223b00361a396177a9cb410ff61f20015ad HTTP/1.1\r\n\r\n\
-HEAD /v2/lib/a/blobs/sha256:ba7816bf8f01cfea414140de5dae2223b00361a396177a9cb410ff61f20015ad HTTP/1.1\r\n\r\n\
-DELETE /v2/lib/a/blobs/uploads/?a=%20b HTTP/1.1\r\n\r\n\
-PATCH /v2/lib/a/blobs/uploads/ HTTP/1.1\r\nTransfer-Encoding: gzip\r\n\r\n",
+         POST /v2/lib/a/blobs/uploads/\
+         ?digest=sha256:ba7816bf8f01cfea414140de5dae2223b00361a396177a9cb410ff61f20015ad HTTP/1.1\r\n\
+         Content-Length: 3\r\n\r\nabc\
+         GET /v2/lib/a/blobs/sha256:ba7816bf8f01cfea414140de5dae2223b00361a396177a9cb410ff61f20015ad HTTP/1.1\r\n\r\n\
+         HEAD /v2/lib/a/blobs/sha256:ba7816bf8f01cfea414140de5dae2223b00361a396177a9cb410ff61f20015ad HTTP/1.1\r\n\r\n\
+         DELETE /v2/lib/a/blobs/uploads/?a=%20b HTTP/1.1\r\n\r\n\
+         PATCH /v2/lib/a/blobs/uploads/ HTTP/1.1\r\nTransfer-Encoding: gzip\r\n\r\n",
         ConnEnd::AfterBad,
     ),
     (

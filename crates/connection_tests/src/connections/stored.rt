@@ -1,5 +1,5 @@
-//! The connections of `tests/connections`, all but the two whose heads have 16 KiB, request by request. Each stands in a
-//! function of its own, since the prover writes out the constants that a body names.
+//! The connections of `tests/connections`, all but the two whose heads have 16 KiB, request by request. Each stands in
+//! a function of its own, since the prover writes out the constants that a body names.
 
 use http_wire::WireFault;
 use std::alloc::{AllocError, Global};
@@ -110,55 +110,84 @@ fn blobs() -> Stored<'static> {
         turns: &[
             (
                 "POST /v2/lib/a/blobs/uploads/ HTTP/1.1\r\nHost: h\r\nContent-Length: 0\r\n\r\n",
-                "HTTP/1.1 202 Accepted\r\nLocation: /v2/lib/a/blobs/uploads/00000001-0000-8000-8000-000000000000\r\nContent-Length: 0\r\n\r\n",
+                "HTTP/1.1 202 Accepted\r\nLocation: /v2/lib/a/blobs/uploads/00000001-0000-8000-8000-000000000000\r\n\
+                 Content-Length: 0\r\n\r\n",
             ),
             (
                 "GET /v2/lib/a/blobs/uploads/00000001-0000-8000-8000-000000000000 HTTP/1.1\r\nHost: h\r\n\r\n",
-                "HTTP/1.1 204 No Content\r\nLocation: /v2/lib/a/blobs/uploads/00000001-0000-8000-8000-000000000000\r\n\r\n",
+                "HTTP/1.1 204 No Content\r\n\
+                 Location: /v2/lib/a/blobs/uploads/00000001-0000-8000-8000-000000000000\r\n\r\n",
             ),
             (
-                "PATCH /v2/lib/a/blobs/uploads/00000001-0000-8000-8000-000000000000 HTTP/1.1\r\nHost: h\r\nContent-Range: 0-0\r\nContent-Length: 1\r\n\r\na",
-                "HTTP/1.1 202 Accepted\r\nLocation: /v2/lib/a/blobs/uploads/00000001-0000-8000-8000-000000000000\r\nRange: 0-0\r\nContent-Length: 0\r\n\r\n",
+                "PATCH /v2/lib/a/blobs/uploads/00000001-0000-8000-8000-000000000000 HTTP/1.1\r\nHost: h\r\n\
+                 Content-Range: 0-0\r\nContent-Length: 1\r\n\r\na",
+                "HTTP/1.1 202 Accepted\r\nLocation: /v2/lib/a/blobs/uploads/00000001-0000-8000-8000-000000000000\r\n\
+                 Range: 0-0\r\nContent-Length: 0\r\n\r\n",
             ),
             (
-                "PATCH /v2/lib/a/blobs/uploads/00000001-0000-8000-8000-000000000000 HTTP/1.1\r\nHost: h\r\nContent-Range: 1-2\r\nContent-Length: 2\r\n\r\nbc",
-                "HTTP/1.1 202 Accepted\r\nLocation: /v2/lib/a/blobs/uploads/00000001-0000-8000-8000-000000000000\r\nRange: 0-2\r\nContent-Length: 0\r\n\r\n",
+                "PATCH /v2/lib/a/blobs/uploads/00000001-0000-8000-8000-000000000000 HTTP/1.1\r\nHost: h\r\n\
+                 Content-Range: 1-2\r\nContent-Length: 2\r\n\r\nbc",
+                "HTTP/1.1 202 Accepted\r\nLocation: /v2/lib/a/blobs/uploads/00000001-0000-8000-8000-000000000000\r\n\
+                 Range: 0-2\r\nContent-Length: 0\r\n\r\n",
             ),
             (
-                "PATCH /v2/lib/a/blobs/uploads/00000001-0000-8000-8000-000000000000 HTTP/1.1\r\nHost: h\r\nContent-Range: 1-2\r\nContent-Length: 2\r\n\r\nbc",
-                "HTTP/1.1 416 Range Not Satisfiable\r\nLocation: /v2/lib/a/blobs/uploads/00000001-0000-8000-8000-000000000000\r\nRange: 0-2\r\nContent-Type: application/json\r\nContent-Length: 75\r\n\r\n{\"errors\":[{\"code\":\"BLOB_UPLOAD_INVALID\",\"message\":\"blob upload invalid\"}]}",
+                "PATCH /v2/lib/a/blobs/uploads/00000001-0000-8000-8000-000000000000 HTTP/1.1\r\nHost: h\r\n\
+                 Content-Range: 1-2\r\nContent-Length: 2\r\n\r\nbc",
+                "HTTP/1.1 416 Range Not Satisfiable\r\n\
+                 Location: /v2/lib/a/blobs/uploads/00000001-0000-8000-8000-000000000000\r\nRange: 0-2\r\n\
+                 Content-Type: application/json\r\nContent-Length: 75\r\n\r\n\
+                 {\"errors\":[{\"code\":\"BLOB_UPLOAD_INVALID\",\"message\":\"blob upload invalid\"}]}",
             ),
             (
-                "PUT /v2/lib/a/blobs/uploads/00000001-0000-8000-8000-000000000000?digest=sha256:ba7816bf8f01cfea414140de5dae2223b00361a396177a9cb410ff61f20015ad HTTP/1.1\r\nHost: h\r\n\r\n",
-                "HTTP/1.1 201 Created\r\nLocation: /v2/lib/a/blobs/sha256:ba7816bf8f01cfea414140de5dae2223b00361a396177a9cb410ff61f20015ad\r\nContent-Length: 0\r\n\r\n",
+                "PUT /v2/lib/a/blobs/uploads/00000001-0000-8000-8000-000000000000\
+                 ?digest=sha256:ba7816bf8f01cfea414140de5dae2223b00361a396177a9cb410ff61f20015ad HTTP/1.1\r\n\
+                 Host: h\r\n\r\n",
+                "HTTP/1.1 201 Created\r\n\
+                 Location: /v2/lib/a/blobs/sha256:ba7816bf8f01cfea414140de5dae2223b00361a396177a9cb410ff61f20015ad\r\n\
+                 Content-Length: 0\r\n\r\n",
             ),
             (
-                "PATCH /v2/lib/a/blobs/uploads/00000001-0000-8000-8000-000000000000 HTTP/1.1\r\nHost: h\r\nContent-Range: 3-3\r\nContent-Length: 1\r\n\r\nx",
-                "HTTP/1.1 404 Not Found\r\nContent-Type: application/json\r\nContent-Length: 87\r\n\r\n{\"errors\":[{\"code\":\"BLOB_UPLOAD_UNKNOWN\",\"message\":\"blob upload unknown to registry\"}]}",
+                "PATCH /v2/lib/a/blobs/uploads/00000001-0000-8000-8000-000000000000 HTTP/1.1\r\nHost: h\r\n\
+                 Content-Range: 3-3\r\nContent-Length: 1\r\n\r\nx",
+                "HTTP/1.1 404 Not Found\r\nContent-Type: application/json\r\nContent-Length: 87\r\n\r\n\
+                 {\"errors\":[{\"code\":\"BLOB_UPLOAD_UNKNOWN\",\"message\":\"blob upload unknown to registry\"}]}",
             ),
             (
                 "GET /v2/lib/a/blobs/uploads/00000001-0000-8000-8000-000000000000 HTTP/1.1\r\nHost: h\r\n\r\n",
-                "HTTP/1.1 404 Not Found\r\nContent-Type: application/json\r\nContent-Length: 87\r\n\r\n{\"errors\":[{\"code\":\"BLOB_UPLOAD_UNKNOWN\",\"message\":\"blob upload unknown to registry\"}]}",
+                "HTTP/1.1 404 Not Found\r\nContent-Type: application/json\r\nContent-Length: 87\r\n\r\n\
+                 {\"errors\":[{\"code\":\"BLOB_UPLOAD_UNKNOWN\",\"message\":\"blob upload unknown to registry\"}]}",
             ),
             (
-                "PUT /v2/lib/a/blobs/uploads/00000001-0000-8000-8000-000000000000?digest=sha256:ba7816bf8f01cfea414140de5dae2223b00361a396177a9cb410ff61f20015ad HTTP/1.1\r\nHost: h\r\n\r\n",
-                "HTTP/1.1 404 Not Found\r\nContent-Type: application/json\r\nContent-Length: 87\r\n\r\n{\"errors\":[{\"code\":\"BLOB_UPLOAD_UNKNOWN\",\"message\":\"blob upload unknown to registry\"}]}",
+                "PUT /v2/lib/a/blobs/uploads/00000001-0000-8000-8000-000000000000\
+                 ?digest=sha256:ba7816bf8f01cfea414140de5dae2223b00361a396177a9cb410ff61f20015ad HTTP/1.1\r\n\
+                 Host: h\r\n\r\n",
+                "HTTP/1.1 404 Not Found\r\nContent-Type: application/json\r\nContent-Length: 87\r\n\r\n\
+                 {\"errors\":[{\"code\":\"BLOB_UPLOAD_UNKNOWN\",\"message\":\"blob upload unknown to registry\"}]}",
             ),
             (
-                "HEAD /v2/lib/a/blobs/sha256:ba7816bf8f01cfea414140de5dae2223b00361a396177a9cb410ff61f20015ad HTTP/1.1\r\nHost: h\r\n\r\n",
-                "HTTP/1.1 200 OK\r\nDocker-Content-Digest: sha256:ba7816bf8f01cfea414140de5dae2223b00361a396177a9cb410ff61f20015ad\r\nContent-Type: application/octet-stream\r\nContent-Length: 3\r\n\r\n",
+                "HEAD /v2/lib/a/blobs/sha256:ba7816bf8f01cfea414140de5dae2223b00361a396177a9cb410ff61f20015ad \
+                 HTTP/1.1\r\nHost: h\r\n\r\n",
+                "HTTP/1.1 200 OK\r\n\
+                 Docker-Content-Digest: sha256:ba7816bf8f01cfea414140de5dae2223b00361a396177a9cb410ff61f20015ad\r\n\
+                 Content-Type: application/octet-stream\r\nContent-Length: 3\r\n\r\n",
             ),
             (
-                "HEAD /v2/lib/z/blobs/sha256:ba7816bf8f01cfea414140de5dae2223b00361a396177a9cb410ff61f20015ad HTTP/1.1\r\nHost: h\r\n\r\n",
+                "HEAD /v2/lib/z/blobs/sha256:ba7816bf8f01cfea414140de5dae2223b00361a396177a9cb410ff61f20015ad \
+                 HTTP/1.1\r\nHost: h\r\n\r\n",
                 "HTTP/1.1 404 Not Found\r\nContent-Type: application/json\r\nContent-Length: 73\r\n\r\n",
             ),
             (
-                "GET /v2/lib/a/blobs/sha256:BA7816BF8F01CFEA414140DE5DAE2223B00361A396177A9CB410FF61F20015AD HTTP/1.1\r\nHost: h\r\n\r\n",
-                "HTTP/1.1 400 Bad Request\r\nContent-Type: application/json\r\nContent-Length: 97\r\n\r\n{\"errors\":[{\"code\":\"DIGEST_INVALID\",\"message\":\"provided digest did not match uploaded content\"}]}",
+                "GET /v2/lib/a/blobs/sha256:BA7816BF8F01CFEA414140DE5DAE2223B00361A396177A9CB410FF61F20015AD \
+                 HTTP/1.1\r\nHost: h\r\n\r\n",
+                "HTTP/1.1 400 Bad Request\r\nContent-Type: application/json\r\nContent-Length: 97\r\n\r\n\
+                 {\"errors\":[{\"code\":\"DIGEST_INVALID\",\
+                 \"message\":\"provided digest did not match uploaded content\"}]}",
             ),
             (
                 "DELETE /v2/lib/a/blobs/uploads/00000001-0000-8000-8000-000000000000 HTTP/1.1\r\nHost: h\r\n\r\n",
-                "HTTP/1.1 405 Method Not Allowed\r\nAllow: GET, HEAD, PATCH, PUT\r\nContent-Type: application/json\r\nContent-Length: 76\r\n\r\n{\"errors\":[{\"code\":\"UNSUPPORTED\",\"message\":\"the operation is unsupported\"}]}",
+                "HTTP/1.1 405 Method Not Allowed\r\nAllow: GET, HEAD, PATCH, PUT\r\nContent-Type: application/json\r\n\
+                 Content-Length: 76\r\n\r\n\
+                 {\"errors\":[{\"code\":\"UNSUPPORTED\",\"message\":\"the operation is unsupported\"}]}",
             ),
             (
                 "GET /v2/ HTTP/1.1\r\nHost: h\r\n\r\n",
@@ -176,15 +205,22 @@ fn chunk_ahead_of_the_offset() -> Stored<'static> {
         turns: &[
             (
                 "POST /v2/lib/a/blobs/uploads/ HTTP/1.1\r\nHost: h\r\nContent-Length: 0\r\n\r\n",
-                "HTTP/1.1 202 Accepted\r\nLocation: /v2/lib/a/blobs/uploads/00000001-0000-8000-8000-000000000000\r\nContent-Length: 0\r\n\r\n",
+                "HTTP/1.1 202 Accepted\r\nLocation: /v2/lib/a/blobs/uploads/00000001-0000-8000-8000-000000000000\r\n\
+                 Content-Length: 0\r\n\r\n",
             ),
             (
-                "PATCH /v2/lib/a/blobs/uploads/00000001-0000-8000-8000-000000000000 HTTP/1.1\r\nHost: h\r\nContent-Range: 1-2\r\nContent-Length: 2\r\n\r\nbc",
-                "HTTP/1.1 416 Range Not Satisfiable\r\nLocation: /v2/lib/a/blobs/uploads/00000001-0000-8000-8000-000000000000\r\nContent-Type: application/json\r\nContent-Length: 75\r\n\r\n{\"errors\":[{\"code\":\"BLOB_UPLOAD_INVALID\",\"message\":\"blob upload invalid\"}]}",
+                "PATCH /v2/lib/a/blobs/uploads/00000001-0000-8000-8000-000000000000 HTTP/1.1\r\nHost: h\r\n\
+                 Content-Range: 1-2\r\nContent-Length: 2\r\n\r\nbc",
+                "HTTP/1.1 416 Range Not Satisfiable\r\n\
+                 Location: /v2/lib/a/blobs/uploads/00000001-0000-8000-8000-000000000000\r\n\
+                 Content-Type: application/json\r\nContent-Length: 75\r\n\r\n\
+                 {\"errors\":[{\"code\":\"BLOB_UPLOAD_INVALID\",\"message\":\"blob upload invalid\"}]}",
             ),
             (
-                "PATCH /v2/lib/a/blobs/uploads/00000001-0000-8000-8000-000000000000 HTTP/1.1\r\nHost: h\r\nContent-Range: 0-0\r\nContent-Length: 1\r\n\r\na",
-                "HTTP/1.1 202 Accepted\r\nLocation: /v2/lib/a/blobs/uploads/00000001-0000-8000-8000-000000000000\r\nRange: 0-0\r\nContent-Length: 0\r\n\r\n",
+                "PATCH /v2/lib/a/blobs/uploads/00000001-0000-8000-8000-000000000000 HTTP/1.1\r\nHost: h\r\n\
+                 Content-Range: 0-0\r\nContent-Length: 1\r\n\r\na",
+                "HTTP/1.1 202 Accepted\r\nLocation: /v2/lib/a/blobs/uploads/00000001-0000-8000-8000-000000000000\r\n\
+                 Range: 0-0\r\nContent-Length: 0\r\n\r\n",
             ),
         ],
         rest: "",
@@ -198,15 +234,22 @@ fn chunked_body() -> Stored<'static> {
         turns: &[
             (
                 "POST /v2/lib/a/blobs/uploads/ HTTP/1.1\r\nHost: h\r\nContent-Length: 0\r\n\r\n",
-                "HTTP/1.1 202 Accepted\r\nLocation: /v2/lib/a/blobs/uploads/00000001-0000-8000-8000-000000000000\r\nContent-Length: 0\r\n\r\n",
+                "HTTP/1.1 202 Accepted\r\nLocation: /v2/lib/a/blobs/uploads/00000001-0000-8000-8000-000000000000\r\n\
+                 Content-Length: 0\r\n\r\n",
             ),
             (
-                "PATCH /v2/lib/a/blobs/uploads/00000001-0000-8000-8000-000000000000 HTTP/1.1\r\nHost: h\r\nTransfer-Encoding: chunked\r\n\r\n1\r\na\r\n2\r\nbc\r\n0\r\n\r\n",
-                "HTTP/1.1 202 Accepted\r\nLocation: /v2/lib/a/blobs/uploads/00000001-0000-8000-8000-000000000000\r\nRange: 0-2\r\nContent-Length: 0\r\n\r\n",
+                "PATCH /v2/lib/a/blobs/uploads/00000001-0000-8000-8000-000000000000 HTTP/1.1\r\nHost: h\r\n\
+                 Transfer-Encoding: chunked\r\n\r\n1\r\na\r\n2\r\nbc\r\n0\r\n\r\n",
+                "HTTP/1.1 202 Accepted\r\nLocation: /v2/lib/a/blobs/uploads/00000001-0000-8000-8000-000000000000\r\n\
+                 Range: 0-2\r\nContent-Length: 0\r\n\r\n",
             ),
             (
-                "PUT /v2/lib/a/blobs/uploads/00000001-0000-8000-8000-000000000000?digest=sha256:ba7816bf8f01cfea414140de5dae2223b00361a396177a9cb410ff61f20015ad HTTP/1.1\r\nHost: h\r\nTransfer-Encoding: chunked\r\n\r\n0\r\n\r\n",
-                "HTTP/1.1 201 Created\r\nLocation: /v2/lib/a/blobs/sha256:ba7816bf8f01cfea414140de5dae2223b00361a396177a9cb410ff61f20015ad\r\nContent-Length: 0\r\n\r\n",
+                "PUT /v2/lib/a/blobs/uploads/00000001-0000-8000-8000-000000000000\
+                 ?digest=sha256:ba7816bf8f01cfea414140de5dae2223b00361a396177a9cb410ff61f20015ad HTTP/1.1\r\n\
+                 Host: h\r\nTransfer-Encoding: chunked\r\n\r\n0\r\n\r\n",
+                "HTTP/1.1 201 Created\r\n\
+                 Location: /v2/lib/a/blobs/sha256:ba7816bf8f01cfea414140de5dae2223b00361a396177a9cb410ff61f20015ad\r\n\
+                 Content-Length: 0\r\n\r\n",
             ),
         ],
         rest: "",
@@ -220,10 +263,12 @@ fn chunked_extension() -> Stored<'static> {
         turns: &[
             (
                 "POST /v2/lib/a/blobs/uploads/ HTTP/1.1\r\nHost: h\r\nContent-Length: 0\r\n\r\n",
-                "HTTP/1.1 202 Accepted\r\nLocation: /v2/lib/a/blobs/uploads/00000001-0000-8000-8000-000000000000\r\nContent-Length: 0\r\n\r\n",
+                "HTTP/1.1 202 Accepted\r\nLocation: /v2/lib/a/blobs/uploads/00000001-0000-8000-8000-000000000000\r\n\
+                 Content-Length: 0\r\n\r\n",
             ),
             (
-                "PATCH /v2/lib/a/blobs/uploads/00000001-0000-8000-8000-000000000000 HTTP/1.1\r\nHost: h\r\nTransfer-Encoding: chunked\r\n\r\n3;",
+                "PATCH /v2/lib/a/blobs/uploads/00000001-0000-8000-8000-000000000000 HTTP/1.1\r\nHost: h\r\n\
+                 Transfer-Encoding: chunked\r\n\r\n3;",
                 "HTTP/1.1 400 Bad Request\r\nContent-Length: 0\r\nConnection: close\r\n\r\n",
             ),
         ],
@@ -238,11 +283,14 @@ fn chunked_leading_zeros() -> Stored<'static> {
         turns: &[
             (
                 "POST /v2/lib/a/blobs/uploads/ HTTP/1.1\r\nHost: h\r\nContent-Length: 0\r\n\r\n",
-                "HTTP/1.1 202 Accepted\r\nLocation: /v2/lib/a/blobs/uploads/00000001-0000-8000-8000-000000000000\r\nContent-Length: 0\r\n\r\n",
+                "HTTP/1.1 202 Accepted\r\nLocation: /v2/lib/a/blobs/uploads/00000001-0000-8000-8000-000000000000\r\n\
+                 Content-Length: 0\r\n\r\n",
             ),
             (
-                "PATCH /v2/lib/a/blobs/uploads/00000001-0000-8000-8000-000000000000 HTTP/1.1\r\nHost: h\r\nTransfer-Encoding: chunked\r\n\r\n00000003\r\nabc\r\n0\r\n\r\n",
-                "HTTP/1.1 202 Accepted\r\nLocation: /v2/lib/a/blobs/uploads/00000001-0000-8000-8000-000000000000\r\nRange: 0-2\r\nContent-Length: 0\r\n\r\n",
+                "PATCH /v2/lib/a/blobs/uploads/00000001-0000-8000-8000-000000000000 HTTP/1.1\r\nHost: h\r\n\
+                 Transfer-Encoding: chunked\r\n\r\n00000003\r\nabc\r\n0\r\n\r\n",
+                "HTTP/1.1 202 Accepted\r\nLocation: /v2/lib/a/blobs/uploads/00000001-0000-8000-8000-000000000000\r\n\
+                 Range: 0-2\r\nContent-Length: 0\r\n\r\n",
             ),
         ],
         rest: "",
@@ -256,10 +304,12 @@ fn chunked_nine_digits() -> Stored<'static> {
         turns: &[
             (
                 "POST /v2/lib/a/blobs/uploads/ HTTP/1.1\r\nHost: h\r\nContent-Length: 0\r\n\r\n",
-                "HTTP/1.1 202 Accepted\r\nLocation: /v2/lib/a/blobs/uploads/00000001-0000-8000-8000-000000000000\r\nContent-Length: 0\r\n\r\n",
+                "HTTP/1.1 202 Accepted\r\nLocation: /v2/lib/a/blobs/uploads/00000001-0000-8000-8000-000000000000\r\n\
+                 Content-Length: 0\r\n\r\n",
             ),
             (
-                "PATCH /v2/lib/a/blobs/uploads/00000001-0000-8000-8000-000000000000 HTTP/1.1\r\nHost: h\r\nTransfer-Encoding: chunked\r\n\r\n000000003",
+                "PATCH /v2/lib/a/blobs/uploads/00000001-0000-8000-8000-000000000000 HTTP/1.1\r\nHost: h\r\n\
+                 Transfer-Encoding: chunked\r\n\r\n000000003",
                 "HTTP/1.1 400 Bad Request\r\nContent-Length: 0\r\nConnection: close\r\n\r\n",
             ),
         ],
@@ -274,10 +324,12 @@ fn chunked_trailer() -> Stored<'static> {
         turns: &[
             (
                 "POST /v2/lib/a/blobs/uploads/ HTTP/1.1\r\nHost: h\r\nContent-Length: 0\r\n\r\n",
-                "HTTP/1.1 202 Accepted\r\nLocation: /v2/lib/a/blobs/uploads/00000001-0000-8000-8000-000000000000\r\nContent-Length: 0\r\n\r\n",
+                "HTTP/1.1 202 Accepted\r\nLocation: /v2/lib/a/blobs/uploads/00000001-0000-8000-8000-000000000000\r\n\
+                 Content-Length: 0\r\n\r\n",
             ),
             (
-                "PATCH /v2/lib/a/blobs/uploads/00000001-0000-8000-8000-000000000000 HTTP/1.1\r\nHost: h\r\nTransfer-Encoding: chunked\r\n\r\n3\r\nabc\r\n0\r\nX",
+                "PATCH /v2/lib/a/blobs/uploads/00000001-0000-8000-8000-000000000000 HTTP/1.1\r\nHost: h\r\n\
+                 Transfer-Encoding: chunked\r\n\r\n3\r\nabc\r\n0\r\nX",
                 "HTTP/1.1 400 Bad Request\r\nContent-Length: 0\r\nConnection: close\r\n\r\n",
             ),
         ],
@@ -291,9 +343,11 @@ fn chunked_truncated() -> Stored<'static> {
         name: "chunked-truncated",
         turns: &[(
             "POST /v2/lib/a/blobs/uploads/ HTTP/1.1\r\nHost: h\r\nContent-Length: 0\r\n\r\n",
-            "HTTP/1.1 202 Accepted\r\nLocation: /v2/lib/a/blobs/uploads/00000001-0000-8000-8000-000000000000\r\nContent-Length: 0\r\n\r\n",
+            "HTTP/1.1 202 Accepted\r\nLocation: /v2/lib/a/blobs/uploads/00000001-0000-8000-8000-000000000000\r\n\
+             Content-Length: 0\r\n\r\n",
         )],
-        rest: "PATCH /v2/lib/a/blobs/uploads/00000001-0000-8000-8000-000000000000 HTTP/1.1\r\nHost: h\r\nTransfer-Encoding: chunked\r\n\r\n2\r\nb",
+        rest: "PATCH /v2/lib/a/blobs/uploads/00000001-0000-8000-8000-000000000000 HTTP/1.1\r\nHost: h\r\n\
+               Transfer-Encoding: chunked\r\n\r\n2\r\nb",
         end: ConnEnd::Fault(ConnFault::Wire(WireFault::Truncated)),
     }
 }
@@ -304,10 +358,12 @@ fn chunked_with_length() -> Stored<'static> {
         turns: &[
             (
                 "POST /v2/lib/a/blobs/uploads/ HTTP/1.1\r\nHost: h\r\nContent-Length: 0\r\n\r\n",
-                "HTTP/1.1 202 Accepted\r\nLocation: /v2/lib/a/blobs/uploads/00000001-0000-8000-8000-000000000000\r\nContent-Length: 0\r\n\r\n",
+                "HTTP/1.1 202 Accepted\r\nLocation: /v2/lib/a/blobs/uploads/00000001-0000-8000-8000-000000000000\r\n\
+                 Content-Length: 0\r\n\r\n",
             ),
             (
-                "PATCH /v2/lib/a/blobs/uploads/00000001-0000-8000-8000-000000000000 HTTP/1.1\r\nHost: h\r\nContent-Length: 3\r\nTransfer-Encoding: chunked\r\n\r\n",
+                "PATCH /v2/lib/a/blobs/uploads/00000001-0000-8000-8000-000000000000 HTTP/1.1\r\nHost: h\r\n\
+                 Content-Length: 3\r\nTransfer-Encoding: chunked\r\n\r\n",
                 "HTTP/1.1 400 Bad Request\r\nContent-Length: 0\r\nConnection: close\r\n\r\n",
             ),
         ],
@@ -321,7 +377,8 @@ fn connection_close() -> Stored<'static> {
         name: "connection-close",
         turns: &[(
             "POST /v2/lib/a/blobs/uploads/ HTTP/1.1\r\nHost: h\r\nConnection: close\r\nContent-Length: 0\r\n\r\n",
-            "HTTP/1.1 202 Accepted\r\nLocation: /v2/lib/a/blobs/uploads/00000001-0000-8000-8000-000000000000\r\nContent-Length: 0\r\nConnection: close\r\n\r\n",
+            "HTTP/1.1 202 Accepted\r\nLocation: /v2/lib/a/blobs/uploads/00000001-0000-8000-8000-000000000000\r\n\
+             Content-Length: 0\r\nConnection: close\r\n\r\n",
         )],
         rest: "POST /v2/lib/a/blobs/uploads/ HTTP/1.1\r\nHost: h\r\nContent-Length: 0\r\n\r\n",
         end: ConnEnd::AfterClose,
@@ -333,9 +390,11 @@ fn cut_in_a_body() -> Stored<'static> {
         name: "cut-in-a-body",
         turns: &[(
             "POST /v2/lib/a/blobs/uploads/ HTTP/1.1\r\nHost: h\r\nContent-Length: 0\r\n\r\n",
-            "HTTP/1.1 202 Accepted\r\nLocation: /v2/lib/a/blobs/uploads/00000001-0000-8000-8000-000000000000\r\nContent-Length: 0\r\n\r\n",
+            "HTTP/1.1 202 Accepted\r\nLocation: /v2/lib/a/blobs/uploads/00000001-0000-8000-8000-000000000000\r\n\
+             Content-Length: 0\r\n\r\n",
         )],
-        rest: "PATCH /v2/lib/a/blobs/uploads/00000001-0000-8000-8000-000000000000 HTTP/1.1\r\nHost: h\r\nContent-Length: 3\r\n\r\nab",
+        rest: "PATCH /v2/lib/a/blobs/uploads/00000001-0000-8000-8000-000000000000 HTTP/1.1\r\nHost: h\r\n\
+               Content-Length: 3\r\n\r\nab",
         end: ConnEnd::Fault(ConnFault::Wire(WireFault::Truncated)),
     }
 }
@@ -355,15 +414,19 @@ fn first_chunk() -> Stored<'static> {
         turns: &[
             (
                 "POST /v2/lib/a/blobs/uploads/ HTTP/1.1\r\nHost: h\r\nContent-Length: 0\r\n\r\n",
-                "HTTP/1.1 202 Accepted\r\nLocation: /v2/lib/a/blobs/uploads/00000001-0000-8000-8000-000000000000\r\nContent-Length: 0\r\n\r\n",
+                "HTTP/1.1 202 Accepted\r\nLocation: /v2/lib/a/blobs/uploads/00000001-0000-8000-8000-000000000000\r\n\
+                 Content-Length: 0\r\n\r\n",
             ),
             (
                 "GET /v2/lib/a/blobs/uploads/00000001-0000-8000-8000-000000000000 HTTP/1.1\r\nHost: h\r\n\r\n",
-                "HTTP/1.1 204 No Content\r\nLocation: /v2/lib/a/blobs/uploads/00000001-0000-8000-8000-000000000000\r\n\r\n",
+                "HTTP/1.1 204 No Content\r\n\
+                 Location: /v2/lib/a/blobs/uploads/00000001-0000-8000-8000-000000000000\r\n\r\n",
             ),
             (
-                "PATCH /v2/lib/a/blobs/uploads/00000001-0000-8000-8000-000000000000 HTTP/1.1\r\nHost: h\r\nContent-Range: 0-0\r\nContent-Length: 1\r\n\r\na",
-                "HTTP/1.1 202 Accepted\r\nLocation: /v2/lib/a/blobs/uploads/00000001-0000-8000-8000-000000000000\r\nRange: 0-0\r\nContent-Length: 0\r\n\r\n",
+                "PATCH /v2/lib/a/blobs/uploads/00000001-0000-8000-8000-000000000000 HTTP/1.1\r\nHost: h\r\n\
+                 Content-Range: 0-0\r\nContent-Length: 1\r\n\r\na",
+                "HTTP/1.1 202 Accepted\r\nLocation: /v2/lib/a/blobs/uploads/00000001-0000-8000-8000-000000000000\r\n\
+                 Range: 0-0\r\nContent-Length: 0\r\n\r\n",
             ),
         ],
         rest: "",
@@ -377,10 +440,12 @@ fn gzip_chunked() -> Stored<'static> {
         turns: &[
             (
                 "POST /v2/lib/a/blobs/uploads/ HTTP/1.1\r\nHost: h\r\nContent-Length: 0\r\n\r\n",
-                "HTTP/1.1 202 Accepted\r\nLocation: /v2/lib/a/blobs/uploads/00000001-0000-8000-8000-000000000000\r\nContent-Length: 0\r\n\r\n",
+                "HTTP/1.1 202 Accepted\r\nLocation: /v2/lib/a/blobs/uploads/00000001-0000-8000-8000-000000000000\r\n\
+                 Content-Length: 0\r\n\r\n",
             ),
             (
-                "PATCH /v2/lib/a/blobs/uploads/00000001-0000-8000-8000-000000000000 HTTP/1.1\r\nHost: h\r\nTransfer-Encoding: gzip, chunked\r\n\r\n",
+                "PATCH /v2/lib/a/blobs/uploads/00000001-0000-8000-8000-000000000000 HTTP/1.1\r\nHost: h\r\n\
+                 Transfer-Encoding: gzip, chunked\r\n\r\n",
                 "HTTP/1.1 411 Length Required\r\nContent-Length: 0\r\nConnection: close\r\n\r\n",
             ),
         ],
@@ -395,23 +460,37 @@ fn hash_after_a_refused_close() -> Stored<'static> {
         turns: &[
             (
                 "POST /v2/lib/a/blobs/uploads/ HTTP/1.1\r\nHost: h\r\nContent-Length: 0\r\n\r\n",
-                "HTTP/1.1 202 Accepted\r\nLocation: /v2/lib/a/blobs/uploads/00000001-0000-8000-8000-000000000000\r\nContent-Length: 0\r\n\r\n",
+                "HTTP/1.1 202 Accepted\r\nLocation: /v2/lib/a/blobs/uploads/00000001-0000-8000-8000-000000000000\r\n\
+                 Content-Length: 0\r\n\r\n",
             ),
             (
-                "PATCH /v2/lib/a/blobs/uploads/00000001-0000-8000-8000-000000000000 HTTP/1.1\r\nHost: h\r\nContent-Range: 0-0\r\nContent-Length: 1\r\n\r\na",
-                "HTTP/1.1 202 Accepted\r\nLocation: /v2/lib/a/blobs/uploads/00000001-0000-8000-8000-000000000000\r\nRange: 0-0\r\nContent-Length: 0\r\n\r\n",
+                "PATCH /v2/lib/a/blobs/uploads/00000001-0000-8000-8000-000000000000 HTTP/1.1\r\nHost: h\r\n\
+                 Content-Range: 0-0\r\nContent-Length: 1\r\n\r\na",
+                "HTTP/1.1 202 Accepted\r\nLocation: /v2/lib/a/blobs/uploads/00000001-0000-8000-8000-000000000000\r\n\
+                 Range: 0-0\r\nContent-Length: 0\r\n\r\n",
             ),
             (
-                "PUT /v2/lib/a/blobs/uploads/00000001-0000-8000-8000-000000000000?digest=sha256:e3b0c44298fc1c149afbf4c8996fb92427ae41e4649b934ca495991b7852b855 HTTP/1.1\r\nHost: h\r\nContent-Range: 1-1\r\nContent-Length: 1\r\n\r\nb",
-                "HTTP/1.1 400 Bad Request\r\nContent-Type: application/json\r\nContent-Length: 97\r\n\r\n{\"errors\":[{\"code\":\"DIGEST_INVALID\",\"message\":\"provided digest did not match uploaded content\"}]}",
+                "PUT /v2/lib/a/blobs/uploads/00000001-0000-8000-8000-000000000000\
+                 ?digest=sha256:e3b0c44298fc1c149afbf4c8996fb92427ae41e4649b934ca495991b7852b855 HTTP/1.1\r\n\
+                 Host: h\r\nContent-Range: 1-1\r\nContent-Length: 1\r\n\r\nb",
+                "HTTP/1.1 400 Bad Request\r\nContent-Type: application/json\r\nContent-Length: 97\r\n\r\n\
+                 {\"errors\":[{\"code\":\"DIGEST_INVALID\",\
+                 \"message\":\"provided digest did not match uploaded content\"}]}",
             ),
             (
-                "PUT /v2/lib/a/blobs/uploads/00000001-0000-8000-8000-000000000000?digest=sha256:ba7816bf8f01cfea414140de5dae2223b00361a396177a9cb410ff61f20015ad HTTP/1.1\r\nHost: h\r\nContent-Range: 1-2\r\nContent-Length: 2\r\n\r\nbc",
-                "HTTP/1.1 201 Created\r\nLocation: /v2/lib/a/blobs/sha256:ba7816bf8f01cfea414140de5dae2223b00361a396177a9cb410ff61f20015ad\r\nContent-Length: 0\r\n\r\n",
+                "PUT /v2/lib/a/blobs/uploads/00000001-0000-8000-8000-000000000000\
+                 ?digest=sha256:ba7816bf8f01cfea414140de5dae2223b00361a396177a9cb410ff61f20015ad HTTP/1.1\r\n\
+                 Host: h\r\nContent-Range: 1-2\r\nContent-Length: 2\r\n\r\nbc",
+                "HTTP/1.1 201 Created\r\n\
+                 Location: /v2/lib/a/blobs/sha256:ba7816bf8f01cfea414140de5dae2223b00361a396177a9cb410ff61f20015ad\r\n\
+                 Content-Length: 0\r\n\r\n",
             ),
             (
-                "GET /v2/lib/a/blobs/sha256:ba7816bf8f01cfea414140de5dae2223b00361a396177a9cb410ff61f20015ad HTTP/1.1\r\nHost: h\r\n\r\n",
-                "HTTP/1.1 200 OK\r\nDocker-Content-Digest: sha256:ba7816bf8f01cfea414140de5dae2223b00361a396177a9cb410ff61f20015ad\r\nContent-Type: application/octet-stream\r\nContent-Length: 3\r\n\r\nabc",
+                "GET /v2/lib/a/blobs/sha256:ba7816bf8f01cfea414140de5dae2223b00361a396177a9cb410ff61f20015ad \
+                 HTTP/1.1\r\nHost: h\r\n\r\n",
+                "HTTP/1.1 200 OK\r\n\
+                 Docker-Content-Digest: sha256:ba7816bf8f01cfea414140de5dae2223b00361a396177a9cb410ff61f20015ad\r\n\
+                 Content-Type: application/octet-stream\r\nContent-Length: 3\r\n\r\nabc",
             ),
         ],
         rest: "",
@@ -423,8 +502,14 @@ fn head_of_64_fields() -> Stored<'static> {
     Stored {
         name: "head-of-64-fields",
         turns: &[(
-            "POST /v2/lib/a/blobs/uploads/ HTTP/1.1\r\nA: b\r\nA: b\r\nA: b\r\nA: b\r\nA: b\r\nA: b\r\nA: b\r\nA: b\r\nA: b\r\nA: b\r\nA: b\r\nA: b\r\nA: b\r\nA: b\r\nA: b\r\nA: b\r\nA: b\r\nA: b\r\nA: b\r\nA: b\r\nA: b\r\nA: b\r\nA: b\r\nA: b\r\nA: b\r\nA: b\r\nA: b\r\nA: b\r\nA: b\r\nA: b\r\nA: b\r\nA: b\r\nA: b\r\nA: b\r\nA: b\r\nA: b\r\nA: b\r\nA: b\r\nA: b\r\nA: b\r\nA: b\r\nA: b\r\nA: b\r\nA: b\r\nA: b\r\nA: b\r\nA: b\r\nA: b\r\nA: b\r\nA: b\r\nA: b\r\nA: b\r\nA: b\r\nA: b\r\nA: b\r\nA: b\r\nA: b\r\nA: b\r\nA: b\r\nA: b\r\nA: b\r\nA: b\r\nA: b\r\nA: b\r\n\r\n",
-            "HTTP/1.1 202 Accepted\r\nLocation: /v2/lib/a/blobs/uploads/00000001-0000-8000-8000-000000000000\r\nContent-Length: 0\r\n\r\n",
+            "POST /v2/lib/a/blobs/uploads/ HTTP/1.1\r\nA: b\r\nA: b\r\nA: b\r\nA: b\r\nA: b\r\nA: b\r\nA: b\r\n\
+             A: b\r\nA: b\r\nA: b\r\nA: b\r\nA: b\r\nA: b\r\nA: b\r\nA: b\r\nA: b\r\nA: b\r\nA: b\r\nA: b\r\nA: b\r\n\
+             A: b\r\nA: b\r\nA: b\r\nA: b\r\nA: b\r\nA: b\r\nA: b\r\nA: b\r\nA: b\r\nA: b\r\nA: b\r\nA: b\r\nA: b\r\n\
+             A: b\r\nA: b\r\nA: b\r\nA: b\r\nA: b\r\nA: b\r\nA: b\r\nA: b\r\nA: b\r\nA: b\r\nA: b\r\nA: b\r\nA: b\r\n\
+             A: b\r\nA: b\r\nA: b\r\nA: b\r\nA: b\r\nA: b\r\nA: b\r\nA: b\r\nA: b\r\nA: b\r\nA: b\r\nA: b\r\nA: b\r\n\
+             A: b\r\nA: b\r\nA: b\r\nA: b\r\nA: b\r\n\r\n",
+            "HTTP/1.1 202 Accepted\r\nLocation: /v2/lib/a/blobs/uploads/00000001-0000-8000-8000-000000000000\r\n\
+             Content-Length: 0\r\n\r\n",
         )],
         rest: "",
         end: ConnEnd::Clean,
@@ -435,7 +520,12 @@ fn head_of_65_fields() -> Stored<'static> {
     Stored {
         name: "head-of-65-fields",
         turns: &[(
-            "POST /v2/lib/a/blobs/uploads/ HTTP/1.1\r\nA: b\r\nA: b\r\nA: b\r\nA: b\r\nA: b\r\nA: b\r\nA: b\r\nA: b\r\nA: b\r\nA: b\r\nA: b\r\nA: b\r\nA: b\r\nA: b\r\nA: b\r\nA: b\r\nA: b\r\nA: b\r\nA: b\r\nA: b\r\nA: b\r\nA: b\r\nA: b\r\nA: b\r\nA: b\r\nA: b\r\nA: b\r\nA: b\r\nA: b\r\nA: b\r\nA: b\r\nA: b\r\nA: b\r\nA: b\r\nA: b\r\nA: b\r\nA: b\r\nA: b\r\nA: b\r\nA: b\r\nA: b\r\nA: b\r\nA: b\r\nA: b\r\nA: b\r\nA: b\r\nA: b\r\nA: b\r\nA: b\r\nA: b\r\nA: b\r\nA: b\r\nA: b\r\nA: b\r\nA: b\r\nA: b\r\nA: b\r\nA: b\r\nA: b\r\nA: b\r\nA: b\r\nA: b\r\nA: b\r\nA: b\r\nA: b\r\n",
+            "POST /v2/lib/a/blobs/uploads/ HTTP/1.1\r\nA: b\r\nA: b\r\nA: b\r\nA: b\r\nA: b\r\nA: b\r\nA: b\r\n\
+             A: b\r\nA: b\r\nA: b\r\nA: b\r\nA: b\r\nA: b\r\nA: b\r\nA: b\r\nA: b\r\nA: b\r\nA: b\r\nA: b\r\nA: b\r\n\
+             A: b\r\nA: b\r\nA: b\r\nA: b\r\nA: b\r\nA: b\r\nA: b\r\nA: b\r\nA: b\r\nA: b\r\nA: b\r\nA: b\r\nA: b\r\n\
+             A: b\r\nA: b\r\nA: b\r\nA: b\r\nA: b\r\nA: b\r\nA: b\r\nA: b\r\nA: b\r\nA: b\r\nA: b\r\nA: b\r\nA: b\r\n\
+             A: b\r\nA: b\r\nA: b\r\nA: b\r\nA: b\r\nA: b\r\nA: b\r\nA: b\r\nA: b\r\nA: b\r\nA: b\r\nA: b\r\nA: b\r\n\
+             A: b\r\nA: b\r\nA: b\r\nA: b\r\nA: b\r\nA: b\r\n",
             "HTTP/1.1 400 Bad Request\r\nContent-Length: 0\r\nConnection: close\r\n\r\n",
         )],
         rest: "\r\n",
@@ -461,15 +551,23 @@ fn huge_and_zero_padded_ranges() -> Stored<'static> {
         turns: &[
             (
                 "POST /v2/lib/a/blobs/uploads/ HTTP/1.1\r\nHost: h\r\nContent-Length: 0\r\n\r\n",
-                "HTTP/1.1 202 Accepted\r\nLocation: /v2/lib/a/blobs/uploads/00000001-0000-8000-8000-000000000000\r\nContent-Length: 0\r\n\r\n",
+                "HTTP/1.1 202 Accepted\r\nLocation: /v2/lib/a/blobs/uploads/00000001-0000-8000-8000-000000000000\r\n\
+                 Content-Length: 0\r\n\r\n",
             ),
             (
-                "PATCH /v2/lib/a/blobs/uploads/00000001-0000-8000-8000-000000000000 HTTP/1.1\r\nHost: h\r\nContent-Range: 1111111111111111111111111111111111111111-1111111111111111111111111111111111111111\r\nContent-Length: 1\r\n\r\nx",
-                "HTTP/1.1 416 Range Not Satisfiable\r\nLocation: /v2/lib/a/blobs/uploads/00000001-0000-8000-8000-000000000000\r\nContent-Type: application/json\r\nContent-Length: 75\r\n\r\n{\"errors\":[{\"code\":\"BLOB_UPLOAD_INVALID\",\"message\":\"blob upload invalid\"}]}",
+                "PATCH /v2/lib/a/blobs/uploads/00000001-0000-8000-8000-000000000000 HTTP/1.1\r\nHost: h\r\n\
+                 Content-Range: 1111111111111111111111111111111111111111-1111111111111111111111111111111111111111\r\n\
+                 Content-Length: 1\r\n\r\nx",
+                "HTTP/1.1 416 Range Not Satisfiable\r\n\
+                 Location: /v2/lib/a/blobs/uploads/00000001-0000-8000-8000-000000000000\r\n\
+                 Content-Type: application/json\r\nContent-Length: 75\r\n\r\n\
+                 {\"errors\":[{\"code\":\"BLOB_UPLOAD_INVALID\",\"message\":\"blob upload invalid\"}]}",
             ),
             (
-                "PATCH /v2/lib/a/blobs/uploads/00000001-0000-8000-8000-000000000000 HTTP/1.1\r\nHost: h\r\nContent-Range: 000-002\r\nContent-Length: 3\r\n\r\nabc",
-                "HTTP/1.1 202 Accepted\r\nLocation: /v2/lib/a/blobs/uploads/00000001-0000-8000-8000-000000000000\r\nRange: 0-2\r\nContent-Length: 0\r\n\r\n",
+                "PATCH /v2/lib/a/blobs/uploads/00000001-0000-8000-8000-000000000000 HTTP/1.1\r\nHost: h\r\n\
+                 Content-Range: 000-002\r\nContent-Length: 3\r\n\r\nabc",
+                "HTTP/1.1 202 Accepted\r\nLocation: /v2/lib/a/blobs/uploads/00000001-0000-8000-8000-000000000000\r\n\
+                 Range: 0-2\r\nContent-Length: 0\r\n\r\n",
             ),
         ],
         rest: "",
@@ -483,7 +581,8 @@ fn length_that_is_no_number() -> Stored<'static> {
         turns: &[
             (
                 "POST /v2/lib/a/blobs/uploads/ HTTP/1.1\r\nHost: h\r\nContent-Length: 0\r\n\r\n",
-                "HTTP/1.1 202 Accepted\r\nLocation: /v2/lib/a/blobs/uploads/00000001-0000-8000-8000-000000000000\r\nContent-Length: 0\r\n\r\n",
+                "HTTP/1.1 202 Accepted\r\nLocation: /v2/lib/a/blobs/uploads/00000001-0000-8000-8000-000000000000\r\n\
+                 Content-Length: 0\r\n\r\n",
             ),
             (
                 "POST /v2/lib/a/blobs/uploads/ HTTP/1.1\r\nHost: h\r\nContent-Length: 3x\r\n\r\n",
@@ -501,7 +600,8 @@ fn length_twice() -> Stored<'static> {
         turns: &[
             (
                 "POST /v2/lib/a/blobs/uploads/ HTTP/1.1\r\nHost: h\r\nContent-Length: 0\r\n\r\n",
-                "HTTP/1.1 202 Accepted\r\nLocation: /v2/lib/a/blobs/uploads/00000001-0000-8000-8000-000000000000\r\nContent-Length: 0\r\n\r\n",
+                "HTTP/1.1 202 Accepted\r\nLocation: /v2/lib/a/blobs/uploads/00000001-0000-8000-8000-000000000000\r\n\
+                 Content-Length: 0\r\n\r\n",
             ),
             (
                 "POST /v2/lib/a/blobs/uploads/ HTTP/1.1\r\nHost: h\r\nContent-Length: 3\r\nContent-Length: 3\r\n\r\n",
@@ -519,59 +619,94 @@ fn mount() -> Stored<'static> {
         turns: &[
             (
                 "POST /v2/lib/a/blobs/uploads/ HTTP/1.1\r\nHost: h\r\nContent-Length: 0\r\n\r\n",
-                "HTTP/1.1 202 Accepted\r\nLocation: /v2/lib/a/blobs/uploads/00000001-0000-8000-8000-000000000000\r\nContent-Length: 0\r\n\r\n",
+                "HTTP/1.1 202 Accepted\r\nLocation: /v2/lib/a/blobs/uploads/00000001-0000-8000-8000-000000000000\r\n\
+                 Content-Length: 0\r\n\r\n",
             ),
             (
                 "GET /v2/lib/a/blobs/uploads/00000001-0000-8000-8000-000000000000 HTTP/1.1\r\nHost: h\r\n\r\n",
-                "HTTP/1.1 204 No Content\r\nLocation: /v2/lib/a/blobs/uploads/00000001-0000-8000-8000-000000000000\r\n\r\n",
+                "HTTP/1.1 204 No Content\r\n\
+                 Location: /v2/lib/a/blobs/uploads/00000001-0000-8000-8000-000000000000\r\n\r\n",
             ),
             (
-                "PATCH /v2/lib/a/blobs/uploads/00000001-0000-8000-8000-000000000000 HTTP/1.1\r\nHost: h\r\nContent-Range: 0-0\r\nContent-Length: 1\r\n\r\na",
-                "HTTP/1.1 202 Accepted\r\nLocation: /v2/lib/a/blobs/uploads/00000001-0000-8000-8000-000000000000\r\nRange: 0-0\r\nContent-Length: 0\r\n\r\n",
+                "PATCH /v2/lib/a/blobs/uploads/00000001-0000-8000-8000-000000000000 HTTP/1.1\r\nHost: h\r\n\
+                 Content-Range: 0-0\r\nContent-Length: 1\r\n\r\na",
+                "HTTP/1.1 202 Accepted\r\nLocation: /v2/lib/a/blobs/uploads/00000001-0000-8000-8000-000000000000\r\n\
+                 Range: 0-0\r\nContent-Length: 0\r\n\r\n",
             ),
             (
-                "PATCH /v2/lib/a/blobs/uploads/00000001-0000-8000-8000-000000000000 HTTP/1.1\r\nHost: h\r\nContent-Range: 1-2\r\nContent-Length: 2\r\n\r\nbc",
-                "HTTP/1.1 202 Accepted\r\nLocation: /v2/lib/a/blobs/uploads/00000001-0000-8000-8000-000000000000\r\nRange: 0-2\r\nContent-Length: 0\r\n\r\n",
+                "PATCH /v2/lib/a/blobs/uploads/00000001-0000-8000-8000-000000000000 HTTP/1.1\r\nHost: h\r\n\
+                 Content-Range: 1-2\r\nContent-Length: 2\r\n\r\nbc",
+                "HTTP/1.1 202 Accepted\r\nLocation: /v2/lib/a/blobs/uploads/00000001-0000-8000-8000-000000000000\r\n\
+                 Range: 0-2\r\nContent-Length: 0\r\n\r\n",
             ),
             (
-                "PATCH /v2/lib/a/blobs/uploads/00000001-0000-8000-8000-000000000000 HTTP/1.1\r\nHost: h\r\nContent-Range: 1-2\r\nContent-Length: 2\r\n\r\nbc",
-                "HTTP/1.1 416 Range Not Satisfiable\r\nLocation: /v2/lib/a/blobs/uploads/00000001-0000-8000-8000-000000000000\r\nRange: 0-2\r\nContent-Type: application/json\r\nContent-Length: 75\r\n\r\n{\"errors\":[{\"code\":\"BLOB_UPLOAD_INVALID\",\"message\":\"blob upload invalid\"}]}",
+                "PATCH /v2/lib/a/blobs/uploads/00000001-0000-8000-8000-000000000000 HTTP/1.1\r\nHost: h\r\n\
+                 Content-Range: 1-2\r\nContent-Length: 2\r\n\r\nbc",
+                "HTTP/1.1 416 Range Not Satisfiable\r\n\
+                 Location: /v2/lib/a/blobs/uploads/00000001-0000-8000-8000-000000000000\r\nRange: 0-2\r\n\
+                 Content-Type: application/json\r\nContent-Length: 75\r\n\r\n\
+                 {\"errors\":[{\"code\":\"BLOB_UPLOAD_INVALID\",\"message\":\"blob upload invalid\"}]}",
             ),
             (
-                "PUT /v2/lib/a/blobs/uploads/00000001-0000-8000-8000-000000000000?digest=sha256:ba7816bf8f01cfea414140de5dae2223b00361a396177a9cb410ff61f20015ad HTTP/1.1\r\nHost: h\r\n\r\n",
-                "HTTP/1.1 201 Created\r\nLocation: /v2/lib/a/blobs/sha256:ba7816bf8f01cfea414140de5dae2223b00361a396177a9cb410ff61f20015ad\r\nContent-Length: 0\r\n\r\n",
+                "PUT /v2/lib/a/blobs/uploads/00000001-0000-8000-8000-000000000000\
+                 ?digest=sha256:ba7816bf8f01cfea414140de5dae2223b00361a396177a9cb410ff61f20015ad HTTP/1.1\r\n\
+                 Host: h\r\n\r\n",
+                "HTTP/1.1 201 Created\r\n\
+                 Location: /v2/lib/a/blobs/sha256:ba7816bf8f01cfea414140de5dae2223b00361a396177a9cb410ff61f20015ad\r\n\
+                 Content-Length: 0\r\n\r\n",
             ),
             (
-                "PATCH /v2/lib/a/blobs/uploads/00000001-0000-8000-8000-000000000000 HTTP/1.1\r\nHost: h\r\nContent-Range: 3-3\r\nContent-Length: 1\r\n\r\nx",
-                "HTTP/1.1 404 Not Found\r\nContent-Type: application/json\r\nContent-Length: 87\r\n\r\n{\"errors\":[{\"code\":\"BLOB_UPLOAD_UNKNOWN\",\"message\":\"blob upload unknown to registry\"}]}",
+                "PATCH /v2/lib/a/blobs/uploads/00000001-0000-8000-8000-000000000000 HTTP/1.1\r\nHost: h\r\n\
+                 Content-Range: 3-3\r\nContent-Length: 1\r\n\r\nx",
+                "HTTP/1.1 404 Not Found\r\nContent-Type: application/json\r\nContent-Length: 87\r\n\r\n\
+                 {\"errors\":[{\"code\":\"BLOB_UPLOAD_UNKNOWN\",\"message\":\"blob upload unknown to registry\"}]}",
             ),
             (
                 "GET /v2/lib/a/blobs/uploads/00000001-0000-8000-8000-000000000000 HTTP/1.1\r\nHost: h\r\n\r\n",
-                "HTTP/1.1 404 Not Found\r\nContent-Type: application/json\r\nContent-Length: 87\r\n\r\n{\"errors\":[{\"code\":\"BLOB_UPLOAD_UNKNOWN\",\"message\":\"blob upload unknown to registry\"}]}",
+                "HTTP/1.1 404 Not Found\r\nContent-Type: application/json\r\nContent-Length: 87\r\n\r\n\
+                 {\"errors\":[{\"code\":\"BLOB_UPLOAD_UNKNOWN\",\"message\":\"blob upload unknown to registry\"}]}",
             ),
             (
-                "PUT /v2/lib/a/blobs/uploads/00000001-0000-8000-8000-000000000000?digest=sha256:ba7816bf8f01cfea414140de5dae2223b00361a396177a9cb410ff61f20015ad HTTP/1.1\r\nHost: h\r\n\r\n",
-                "HTTP/1.1 404 Not Found\r\nContent-Type: application/json\r\nContent-Length: 87\r\n\r\n{\"errors\":[{\"code\":\"BLOB_UPLOAD_UNKNOWN\",\"message\":\"blob upload unknown to registry\"}]}",
+                "PUT /v2/lib/a/blobs/uploads/00000001-0000-8000-8000-000000000000\
+                 ?digest=sha256:ba7816bf8f01cfea414140de5dae2223b00361a396177a9cb410ff61f20015ad HTTP/1.1\r\n\
+                 Host: h\r\n\r\n",
+                "HTTP/1.1 404 Not Found\r\nContent-Type: application/json\r\nContent-Length: 87\r\n\r\n\
+                 {\"errors\":[{\"code\":\"BLOB_UPLOAD_UNKNOWN\",\"message\":\"blob upload unknown to registry\"}]}",
             ),
             (
-                "POST /v2/lib/b/blobs/uploads/?mount=sha256:ba7816bf8f01cfea414140de5dae2223b00361a396177a9cb410ff61f20015ad&from=lib/a HTTP/1.1\r\nHost: h\r\nContent-Length: 0\r\n\r\n",
-                "HTTP/1.1 201 Created\r\nLocation: /v2/lib/b/blobs/sha256:ba7816bf8f01cfea414140de5dae2223b00361a396177a9cb410ff61f20015ad\r\nContent-Length: 0\r\n\r\n",
+                "POST /v2/lib/b/blobs/uploads/\
+                 ?mount=sha256:ba7816bf8f01cfea414140de5dae2223b00361a396177a9cb410ff61f20015ad&from=lib/a \
+                 HTTP/1.1\r\nHost: h\r\nContent-Length: 0\r\n\r\n",
+                "HTTP/1.1 201 Created\r\n\
+                 Location: /v2/lib/b/blobs/sha256:ba7816bf8f01cfea414140de5dae2223b00361a396177a9cb410ff61f20015ad\r\n\
+                 Content-Length: 0\r\n\r\n",
             ),
             (
-                "POST /v2/lib/b/blobs/uploads/?mount=sha256:ba7816bf8f01cfea414140de5dae2223b00361a396177a9cb410ff61f20015ad&from=lib/c HTTP/1.1\r\nHost: h\r\nContent-Length: 0\r\n\r\n",
-                "HTTP/1.1 202 Accepted\r\nLocation: /v2/lib/b/blobs/uploads/00000002-0000-8000-8000-000000000000\r\nContent-Length: 0\r\n\r\n",
+                "POST /v2/lib/b/blobs/uploads/\
+                 ?mount=sha256:ba7816bf8f01cfea414140de5dae2223b00361a396177a9cb410ff61f20015ad&from=lib/c \
+                 HTTP/1.1\r\nHost: h\r\nContent-Length: 0\r\n\r\n",
+                "HTTP/1.1 202 Accepted\r\nLocation: /v2/lib/b/blobs/uploads/00000002-0000-8000-8000-000000000000\r\n\
+                 Content-Length: 0\r\n\r\n",
             ),
             (
-                "POST /v2/lib/b/blobs/uploads/?mount=sha256:ba7816bf8f01cfea414140de5dae2223b00361a396177a9cb410ff61f20015ad HTTP/1.1\r\nHost: h\r\nContent-Length: 0\r\n\r\n",
-                "HTTP/1.1 202 Accepted\r\nLocation: /v2/lib/b/blobs/uploads/00000003-0000-8000-8000-000000000000\r\nContent-Length: 0\r\n\r\n",
+                "POST /v2/lib/b/blobs/uploads/\
+                 ?mount=sha256:ba7816bf8f01cfea414140de5dae2223b00361a396177a9cb410ff61f20015ad HTTP/1.1\r\n\
+                 Host: h\r\nContent-Length: 0\r\n\r\n",
+                "HTTP/1.1 202 Accepted\r\nLocation: /v2/lib/b/blobs/uploads/00000003-0000-8000-8000-000000000000\r\n\
+                 Content-Length: 0\r\n\r\n",
             ),
             (
                 "POST /v2/lib/b/blobs/uploads/?mount=x&from=lib/a HTTP/1.1\r\nHost: h\r\nContent-Length: 0\r\n\r\n",
-                "HTTP/1.1 202 Accepted\r\nLocation: /v2/lib/b/blobs/uploads/00000004-0000-8000-8000-000000000000\r\nContent-Length: 0\r\n\r\n",
+                "HTTP/1.1 202 Accepted\r\nLocation: /v2/lib/b/blobs/uploads/00000004-0000-8000-8000-000000000000\r\n\
+                 Content-Length: 0\r\n\r\n",
             ),
             (
-                "POST /v2/lib/b/blobs/uploads/?mount=sha256:ba7816bf8f01cfea414140de5dae2223b00361a396177a9cb410ff61f20015ad&from=lib/a HTTP/1.1\r\nHost: h\r\nContent-Length: 1\r\n\r\nx",
-                "HTTP/1.1 400 Bad Request\r\nContent-Type: application/json\r\nContent-Length: 93\r\n\r\n{\"errors\":[{\"code\":\"SIZE_INVALID\",\"message\":\"provided length did not match content length\"}]}",
+                "POST /v2/lib/b/blobs/uploads/\
+                 ?mount=sha256:ba7816bf8f01cfea414140de5dae2223b00361a396177a9cb410ff61f20015ad&from=lib/a \
+                 HTTP/1.1\r\nHost: h\r\nContent-Length: 1\r\n\r\nx",
+                "HTTP/1.1 400 Bad Request\r\nContent-Type: application/json\r\nContent-Length: 93\r\n\r\n\
+                 {\"errors\":[{\"code\":\"SIZE_INVALID\",\
+                 \"message\":\"provided length did not match content length\"}]}",
             ),
         ],
         rest: "",
@@ -584,7 +719,9 @@ fn name_with_the_suffix_of_a_path() -> Stored<'static> {
         name: "name-with-the-suffix-of-a-path",
         turns: &[(
             "POST /v2/a/blobs/uploads/blobs/uploads/ HTTP/1.1\r\nHost: h\r\nContent-Length: 0\r\n\r\n",
-            "HTTP/1.1 202 Accepted\r\nLocation: /v2/a/blobs/uploads/blobs/uploads/00000001-0000-8000-8000-000000000000\r\nContent-Length: 0\r\n\r\n",
+            "HTTP/1.1 202 Accepted\r\n\
+             Location: /v2/a/blobs/uploads/blobs/uploads/00000001-0000-8000-8000-000000000000\r\n\
+             Content-Length: 0\r\n\r\n",
         )],
         rest: "",
         end: ConnEnd::Clean,
@@ -597,27 +734,42 @@ fn names_in_paths() -> Stored<'static> {
         turns: &[
             (
                 "POST /v2/A/blobs/uploads/ HTTP/1.1\r\nHost: h\r\nContent-Length: 0\r\n\r\n",
-                "HTTP/1.1 404 Not Found\r\nContent-Type: application/json\r\nContent-Length: 72\r\n\r\n{\"errors\":[{\"code\":\"NAME_INVALID\",\"message\":\"invalid repository name\"}]}",
+                "HTTP/1.1 404 Not Found\r\nContent-Type: application/json\r\nContent-Length: 72\r\n\r\n\
+                 {\"errors\":[{\"code\":\"NAME_INVALID\",\"message\":\"invalid repository name\"}]}",
             ),
             (
-                "POST /v2/aaaaaaaaaaaaaaaaaaaaaaaaaaaaaaaaaaaaaaaaaaaaaaaaaaaaaaaaaaaaaaaaaaaaaaaaaaaaaaaaaaaaaaaaaaaaaaaaaaaaaaaaaaaaaaaaaaaaaaaaaaaaaaaaaaaaaaaaaaaaaaaaaaaaaaaaaaaaaaaaaaaaaaaaaaaaaaaaaaaaaaaaaaaaaaaaaaaaaaaaaaaaaaaaaaaaaaaaaaaaaaaaaaaaaaaaaaaaaaaaaaaaaaaaaaaaaaaa/blobs/uploads/ HTTP/1.1\r\nHost: h\r\nContent-Length: 0\r\n\r\n",
-                "HTTP/1.1 404 Not Found\r\nContent-Type: application/json\r\nContent-Length: 72\r\n\r\n{\"errors\":[{\"code\":\"NAME_INVALID\",\"message\":\"invalid repository name\"}]}",
+                "POST /v2/aaaaaaaaaaaaaaaaaaaaaaaaaaaaaaaaaaaaaaaaaaaaaaaaaaaaaaaaaaaaaaaaaaaaaaaaaaaaaaaaaaaaaaaaaaaa\
+                 aaaaaaaaaaaaaaaaaaaaaaaaaaaaaaaaaaaaaaaaaaaaaaaaaaaaaaaaaaaaaaaaaaaaaaaaaaaaaaaaaaaaaaaaaaaaaaaaaaaaa\
+                 aaaaaaaaaaaaaaaaaaaaaaaaaaaaaaaaaaaaaaaaaaaaaaaaaaaaaaaaaaaaaaa/blobs/uploads/ HTTP/1.1\r\n\
+                 Host: h\r\nContent-Length: 0\r\n\r\n",
+                "HTTP/1.1 404 Not Found\r\nContent-Type: application/json\r\nContent-Length: 72\r\n\r\n\
+                 {\"errors\":[{\"code\":\"NAME_INVALID\",\"message\":\"invalid repository name\"}]}",
             ),
             (
-                "POST /v2/aaaaaaaaaaaaaaaaaaaaaaaaaaaaaaaaaaaaaaaaaaaaaaaaaaaaaaaaaaaaaaaaaaaaaaaaaaaaaaaaaaaaaaaaaaaaaaaaaaaaaaaaaaaaaaaaaaaaaaaaaaaaaaaaaaaaaaaaaaaaaaaaaaaaaaaaaaaaaaaaaaaaaaaaaaaaaaaaaaaaaaaaaaaaaaaaaaaaaaaaaaaaaaaaaaaaaaaaaaaaaaaaaaaaaaaaaaaaaaaaaaaaaaaaaaaaaaa/blobs/uploads/ HTTP/1.1\r\nHost: h\r\nContent-Length: 0\r\n\r\n",
-                "HTTP/1.1 202 Accepted\r\nLocation: /v2/aaaaaaaaaaaaaaaaaaaaaaaaaaaaaaaaaaaaaaaaaaaaaaaaaaaaaaaaaaaaaaaaaaaaaaaaaaaaaaaaaaaaaaaaaaaaaaaaaaaaaaaaaaaaaaaaaaaaaaaaaaaaaaaaaaaaaaaaaaaaaaaaaaaaaaaaaaaaaaaaaaaaaaaaaaaaaaaaaaaaaaaaaaaaaaaaaaaaaaaaaaaaaaaaaaaaaaaaaaaaaaaaaaaaaaaaaaaaaaaaaaaaaaaaaaaaaaa/blobs/uploads/00000001-0000-8000-8000-000000000000\r\nContent-Length: 0\r\n\r\n",
+                "POST /v2/aaaaaaaaaaaaaaaaaaaaaaaaaaaaaaaaaaaaaaaaaaaaaaaaaaaaaaaaaaaaaaaaaaaaaaaaaaaaaaaaaaaaaaaaaaaa\
+                 aaaaaaaaaaaaaaaaaaaaaaaaaaaaaaaaaaaaaaaaaaaaaaaaaaaaaaaaaaaaaaaaaaaaaaaaaaaaaaaaaaaaaaaaaaaaaaaaaaaaa\
+                 aaaaaaaaaaaaaaaaaaaaaaaaaaaaaaaaaaaaaaaaaaaaaaaaaaaaaaaaaaaaaa/blobs/uploads/ HTTP/1.1\r\nHost: h\r\n\
+                 Content-Length: 0\r\n\r\n",
+                "HTTP/1.1 202 Accepted\r\n\
+                 Location: /v2/aaaaaaaaaaaaaaaaaaaaaaaaaaaaaaaaaaaaaaaaaaaaaaaaaaaaaaaaaaaaaaaaaaaaaaaaaaaaaaaaaaaaaaa\
+                 aaaaaaaaaaaaaaaaaaaaaaaaaaaaaaaaaaaaaaaaaaaaaaaaaaaaaaaaaaaaaaaaaaaaaaaaaaaaaaaaaaaaaaaaaaaaaaaaaaaaa\
+                 aaaaaaaaaaaaaaaaaaaaaaaaaaaaaaaaaaaaaaaaaaaaaaaaaaaaaaaaaaaaaaaaaaa/blobs/uploads/00000001-0000-8000-\
+                 8000-000000000000\r\nContent-Length: 0\r\n\r\n",
             ),
             (
                 "POST /v2//blobs/uploads/ HTTP/1.1\r\nHost: h\r\nContent-Length: 0\r\n\r\n",
-                "HTTP/1.1 404 Not Found\r\nContent-Type: application/json\r\nContent-Length: 72\r\n\r\n{\"errors\":[{\"code\":\"NAME_INVALID\",\"message\":\"invalid repository name\"}]}",
+                "HTTP/1.1 404 Not Found\r\nContent-Type: application/json\r\nContent-Length: 72\r\n\r\n\
+                 {\"errors\":[{\"code\":\"NAME_INVALID\",\"message\":\"invalid repository name\"}]}",
             ),
             (
                 "GET /v2/blobs/uploads/ HTTP/1.1\r\nHost: h\r\n\r\n",
-                "HTTP/1.1 404 Not Found\r\nContent-Type: application/json\r\nContent-Length: 76\r\n\r\n{\"errors\":[{\"code\":\"UNSUPPORTED\",\"message\":\"the operation is unsupported\"}]}",
+                "HTTP/1.1 404 Not Found\r\nContent-Type: application/json\r\nContent-Length: 76\r\n\r\n\
+                 {\"errors\":[{\"code\":\"UNSUPPORTED\",\"message\":\"the operation is unsupported\"}]}",
             ),
             (
                 "GET /v2/a/manifests/x HTTP/1.1\r\nHost: h\r\n\r\n",
-                "HTTP/1.1 404 Not Found\r\nContent-Type: application/json\r\nContent-Length: 76\r\n\r\n{\"errors\":[{\"code\":\"UNSUPPORTED\",\"message\":\"the operation is unsupported\"}]}",
+                "HTTP/1.1 404 Not Found\r\nContent-Type: application/json\r\nContent-Length: 76\r\n\r\n\
+                 {\"errors\":[{\"code\":\"UNSUPPORTED\",\"message\":\"the operation is unsupported\"}]}",
             ),
         ],
         rest: "",
@@ -631,23 +783,33 @@ fn next_chunk_and_the_same_again() -> Stored<'static> {
         turns: &[
             (
                 "POST /v2/lib/a/blobs/uploads/ HTTP/1.1\r\nHost: h\r\nContent-Length: 0\r\n\r\n",
-                "HTTP/1.1 202 Accepted\r\nLocation: /v2/lib/a/blobs/uploads/00000001-0000-8000-8000-000000000000\r\nContent-Length: 0\r\n\r\n",
+                "HTTP/1.1 202 Accepted\r\nLocation: /v2/lib/a/blobs/uploads/00000001-0000-8000-8000-000000000000\r\n\
+                 Content-Length: 0\r\n\r\n",
             ),
             (
                 "GET /v2/lib/a/blobs/uploads/00000001-0000-8000-8000-000000000000 HTTP/1.1\r\nHost: h\r\n\r\n",
-                "HTTP/1.1 204 No Content\r\nLocation: /v2/lib/a/blobs/uploads/00000001-0000-8000-8000-000000000000\r\n\r\n",
+                "HTTP/1.1 204 No Content\r\n\
+                 Location: /v2/lib/a/blobs/uploads/00000001-0000-8000-8000-000000000000\r\n\r\n",
             ),
             (
-                "PATCH /v2/lib/a/blobs/uploads/00000001-0000-8000-8000-000000000000 HTTP/1.1\r\nHost: h\r\nContent-Range: 0-0\r\nContent-Length: 1\r\n\r\na",
-                "HTTP/1.1 202 Accepted\r\nLocation: /v2/lib/a/blobs/uploads/00000001-0000-8000-8000-000000000000\r\nRange: 0-0\r\nContent-Length: 0\r\n\r\n",
+                "PATCH /v2/lib/a/blobs/uploads/00000001-0000-8000-8000-000000000000 HTTP/1.1\r\nHost: h\r\n\
+                 Content-Range: 0-0\r\nContent-Length: 1\r\n\r\na",
+                "HTTP/1.1 202 Accepted\r\nLocation: /v2/lib/a/blobs/uploads/00000001-0000-8000-8000-000000000000\r\n\
+                 Range: 0-0\r\nContent-Length: 0\r\n\r\n",
             ),
             (
-                "PATCH /v2/lib/a/blobs/uploads/00000001-0000-8000-8000-000000000000 HTTP/1.1\r\nHost: h\r\nContent-Range: 1-2\r\nContent-Length: 2\r\n\r\nbc",
-                "HTTP/1.1 202 Accepted\r\nLocation: /v2/lib/a/blobs/uploads/00000001-0000-8000-8000-000000000000\r\nRange: 0-2\r\nContent-Length: 0\r\n\r\n",
+                "PATCH /v2/lib/a/blobs/uploads/00000001-0000-8000-8000-000000000000 HTTP/1.1\r\nHost: h\r\n\
+                 Content-Range: 1-2\r\nContent-Length: 2\r\n\r\nbc",
+                "HTTP/1.1 202 Accepted\r\nLocation: /v2/lib/a/blobs/uploads/00000001-0000-8000-8000-000000000000\r\n\
+                 Range: 0-2\r\nContent-Length: 0\r\n\r\n",
             ),
             (
-                "PATCH /v2/lib/a/blobs/uploads/00000001-0000-8000-8000-000000000000 HTTP/1.1\r\nHost: h\r\nContent-Range: 1-2\r\nContent-Length: 2\r\n\r\nbc",
-                "HTTP/1.1 416 Range Not Satisfiable\r\nLocation: /v2/lib/a/blobs/uploads/00000001-0000-8000-8000-000000000000\r\nRange: 0-2\r\nContent-Type: application/json\r\nContent-Length: 75\r\n\r\n{\"errors\":[{\"code\":\"BLOB_UPLOAD_INVALID\",\"message\":\"blob upload invalid\"}]}",
+                "PATCH /v2/lib/a/blobs/uploads/00000001-0000-8000-8000-000000000000 HTTP/1.1\r\nHost: h\r\n\
+                 Content-Range: 1-2\r\nContent-Length: 2\r\n\r\nbc",
+                "HTTP/1.1 416 Range Not Satisfiable\r\n\
+                 Location: /v2/lib/a/blobs/uploads/00000001-0000-8000-8000-000000000000\r\nRange: 0-2\r\n\
+                 Content-Type: application/json\r\nContent-Length: 75\r\n\r\n\
+                 {\"errors\":[{\"code\":\"BLOB_UPLOAD_INVALID\",\"message\":\"blob upload invalid\"}]}",
             ),
         ],
         rest: "",
@@ -661,15 +823,19 @@ fn no_content_length() -> Stored<'static> {
         turns: &[
             (
                 "POST /v2/lib/a/blobs/uploads/ HTTP/1.1\r\nHost: h\r\nContent-Length: 0\r\n\r\n",
-                "HTTP/1.1 202 Accepted\r\nLocation: /v2/lib/a/blobs/uploads/00000001-0000-8000-8000-000000000000\r\nContent-Length: 0\r\n\r\n",
+                "HTTP/1.1 202 Accepted\r\nLocation: /v2/lib/a/blobs/uploads/00000001-0000-8000-8000-000000000000\r\n\
+                 Content-Length: 0\r\n\r\n",
             ),
             (
-                "PATCH /v2/lib/a/blobs/uploads/00000001-0000-8000-8000-000000000000 HTTP/1.1\r\nHost: h\r\nContent-Length: 5\r\n\r\nabcde",
-                "HTTP/1.1 202 Accepted\r\nLocation: /v2/lib/a/blobs/uploads/00000001-0000-8000-8000-000000000000\r\nRange: 0-4\r\nContent-Length: 0\r\n\r\n",
+                "PATCH /v2/lib/a/blobs/uploads/00000001-0000-8000-8000-000000000000 HTTP/1.1\r\nHost: h\r\n\
+                 Content-Length: 5\r\n\r\nabcde",
+                "HTTP/1.1 202 Accepted\r\nLocation: /v2/lib/a/blobs/uploads/00000001-0000-8000-8000-000000000000\r\n\
+                 Range: 0-4\r\nContent-Length: 0\r\n\r\n",
             ),
             (
                 "PATCH /v2/lib/a/blobs/uploads/00000001-0000-8000-8000-000000000000 HTTP/1.1\r\nHost: h\r\n\r\n",
-                "HTTP/1.1 202 Accepted\r\nLocation: /v2/lib/a/blobs/uploads/00000001-0000-8000-8000-000000000000\r\nRange: 0-4\r\nContent-Length: 0\r\n\r\n",
+                "HTTP/1.1 202 Accepted\r\nLocation: /v2/lib/a/blobs/uploads/00000001-0000-8000-8000-000000000000\r\n\
+                 Range: 0-4\r\nContent-Length: 0\r\n\r\n",
             ),
         ],
         rest: "",
@@ -683,19 +849,31 @@ fn offset_goes_before_digest() -> Stored<'static> {
         turns: &[
             (
                 "POST /v2/lib/a/blobs/uploads/ HTTP/1.1\r\nHost: h\r\nContent-Length: 0\r\n\r\n",
-                "HTTP/1.1 202 Accepted\r\nLocation: /v2/lib/a/blobs/uploads/00000001-0000-8000-8000-000000000000\r\nContent-Length: 0\r\n\r\n",
+                "HTTP/1.1 202 Accepted\r\nLocation: /v2/lib/a/blobs/uploads/00000001-0000-8000-8000-000000000000\r\n\
+                 Content-Length: 0\r\n\r\n",
             ),
             (
-                "PUT /v2/lib/a/blobs/uploads/00000001-0000-8000-8000-000000000000 HTTP/1.1\r\nHost: h\r\nContent-Range: 7-7\r\nContent-Length: 1\r\n\r\nx",
-                "HTTP/1.1 416 Range Not Satisfiable\r\nLocation: /v2/lib/a/blobs/uploads/00000001-0000-8000-8000-000000000000\r\nContent-Type: application/json\r\nContent-Length: 75\r\n\r\n{\"errors\":[{\"code\":\"BLOB_UPLOAD_INVALID\",\"message\":\"blob upload invalid\"}]}",
+                "PUT /v2/lib/a/blobs/uploads/00000001-0000-8000-8000-000000000000 HTTP/1.1\r\nHost: h\r\n\
+                 Content-Range: 7-7\r\nContent-Length: 1\r\n\r\nx",
+                "HTTP/1.1 416 Range Not Satisfiable\r\n\
+                 Location: /v2/lib/a/blobs/uploads/00000001-0000-8000-8000-000000000000\r\n\
+                 Content-Type: application/json\r\nContent-Length: 75\r\n\r\n\
+                 {\"errors\":[{\"code\":\"BLOB_UPLOAD_INVALID\",\"message\":\"blob upload invalid\"}]}",
             ),
             (
-                "PUT /v2/lib/a/blobs/uploads/00000001-0000-8000-8000-000000000000 HTTP/1.1\r\nHost: h\r\nContent-Length: 1\r\n\r\nx",
-                "HTTP/1.1 400 Bad Request\r\nContent-Type: application/json\r\nContent-Length: 97\r\n\r\n{\"errors\":[{\"code\":\"DIGEST_INVALID\",\"message\":\"provided digest did not match uploaded content\"}]}",
+                "PUT /v2/lib/a/blobs/uploads/00000001-0000-8000-8000-000000000000 HTTP/1.1\r\nHost: h\r\n\
+                 Content-Length: 1\r\n\r\nx",
+                "HTTP/1.1 400 Bad Request\r\nContent-Type: application/json\r\nContent-Length: 97\r\n\r\n\
+                 {\"errors\":[{\"code\":\"DIGEST_INVALID\",\
+                 \"message\":\"provided digest did not match uploaded content\"}]}",
             ),
             (
-                "PUT /v2/lib/a/blobs/uploads/00000001-0000-8000-8000-000000000000?digest=sha256%3Aba7816bf8f01cfea414140de5dae2223b00361a396177a9cb410ff61f20015ad HTTP/1.1\r\nHost: h\r\nContent-Length: 3\r\n\r\nabc",
-                "HTTP/1.1 201 Created\r\nLocation: /v2/lib/a/blobs/sha256:ba7816bf8f01cfea414140de5dae2223b00361a396177a9cb410ff61f20015ad\r\nContent-Length: 0\r\n\r\n",
+                "PUT /v2/lib/a/blobs/uploads/00000001-0000-8000-8000-000000000000\
+                 ?digest=sha256%3Aba7816bf8f01cfea414140de5dae2223b00361a396177a9cb410ff61f20015ad HTTP/1.1\r\n\
+                 Host: h\r\nContent-Length: 3\r\n\r\nabc",
+                "HTTP/1.1 201 Created\r\n\
+                 Location: /v2/lib/a/blobs/sha256:ba7816bf8f01cfea414140de5dae2223b00361a396177a9cb410ff61f20015ad\r\n\
+                 Content-Length: 0\r\n\r\n",
             ),
         ],
         rest: "",
@@ -708,7 +886,8 @@ fn opening() -> Stored<'static> {
         name: "opening",
         turns: &[(
             "POST /v2/lib/a/blobs/uploads/ HTTP/1.1\r\nHost: h\r\nContent-Length: 0\r\n\r\n",
-            "HTTP/1.1 202 Accepted\r\nLocation: /v2/lib/a/blobs/uploads/00000001-0000-8000-8000-000000000000\r\nContent-Length: 0\r\n\r\n",
+            "HTTP/1.1 202 Accepted\r\nLocation: /v2/lib/a/blobs/uploads/00000001-0000-8000-8000-000000000000\r\n\
+             Content-Length: 0\r\n\r\n",
         )],
         rest: "",
         end: ConnEnd::Clean,
@@ -721,31 +900,48 @@ fn ranges_that_lie() -> Stored<'static> {
         turns: &[
             (
                 "POST /v2/lib/a/blobs/uploads/ HTTP/1.1\r\nHost: h\r\nContent-Length: 0\r\n\r\n",
-                "HTTP/1.1 202 Accepted\r\nLocation: /v2/lib/a/blobs/uploads/00000001-0000-8000-8000-000000000000\r\nContent-Length: 0\r\n\r\n",
+                "HTTP/1.1 202 Accepted\r\nLocation: /v2/lib/a/blobs/uploads/00000001-0000-8000-8000-000000000000\r\n\
+                 Content-Length: 0\r\n\r\n",
             ),
             (
-                "PATCH /v2/lib/a/blobs/uploads/00000001-0000-8000-8000-000000000000 HTTP/1.1\r\nHost: h\r\nContent-Range: 0-5\r\nContent-Length: 3\r\n\r\nabc",
-                "HTTP/1.1 400 Bad Request\r\nContent-Type: application/json\r\nContent-Length: 93\r\n\r\n{\"errors\":[{\"code\":\"SIZE_INVALID\",\"message\":\"provided length did not match content length\"}]}",
+                "PATCH /v2/lib/a/blobs/uploads/00000001-0000-8000-8000-000000000000 HTTP/1.1\r\nHost: h\r\n\
+                 Content-Range: 0-5\r\nContent-Length: 3\r\n\r\nabc",
+                "HTTP/1.1 400 Bad Request\r\nContent-Type: application/json\r\nContent-Length: 93\r\n\r\n\
+                 {\"errors\":[{\"code\":\"SIZE_INVALID\",\
+                 \"message\":\"provided length did not match content length\"}]}",
             ),
             (
-                "PATCH /v2/lib/a/blobs/uploads/00000001-0000-8000-8000-000000000000 HTTP/1.1\r\nHost: h\r\nContent-Range: bytes 0-2/3\r\nContent-Length: 3\r\n\r\nabc",
-                "HTTP/1.1 400 Bad Request\r\nContent-Type: application/json\r\nContent-Length: 75\r\n\r\n{\"errors\":[{\"code\":\"BLOB_UPLOAD_INVALID\",\"message\":\"blob upload invalid\"}]}",
+                "PATCH /v2/lib/a/blobs/uploads/00000001-0000-8000-8000-000000000000 HTTP/1.1\r\nHost: h\r\n\
+                 Content-Range: bytes 0-2/3\r\nContent-Length: 3\r\n\r\nabc",
+                "HTTP/1.1 400 Bad Request\r\nContent-Type: application/json\r\nContent-Length: 75\r\n\r\n\
+                 {\"errors\":[{\"code\":\"BLOB_UPLOAD_INVALID\",\"message\":\"blob upload invalid\"}]}",
             ),
             (
-                "PATCH /v2/lib/a/blobs/uploads/00000001-0000-8000-8000-000000000000 HTTP/1.1\r\nHost: h\r\nContent-Length: 5\r\n\r\nabcde",
-                "HTTP/1.1 202 Accepted\r\nLocation: /v2/lib/a/blobs/uploads/00000001-0000-8000-8000-000000000000\r\nRange: 0-4\r\nContent-Length: 0\r\n\r\n",
+                "PATCH /v2/lib/a/blobs/uploads/00000001-0000-8000-8000-000000000000 HTTP/1.1\r\nHost: h\r\n\
+                 Content-Length: 5\r\n\r\nabcde",
+                "HTTP/1.1 202 Accepted\r\nLocation: /v2/lib/a/blobs/uploads/00000001-0000-8000-8000-000000000000\r\n\
+                 Range: 0-4\r\nContent-Length: 0\r\n\r\n",
             ),
             (
-                "PATCH /v2/lib/a/blobs/uploads/00000001-0000-8000-8000-000000000000 HTTP/1.1\r\nHost: h\r\nContent-Range: 5-3\r\nContent-Length: 1\r\n\r\nx",
-                "HTTP/1.1 400 Bad Request\r\nContent-Type: application/json\r\nContent-Length: 93\r\n\r\n{\"errors\":[{\"code\":\"SIZE_INVALID\",\"message\":\"provided length did not match content length\"}]}",
+                "PATCH /v2/lib/a/blobs/uploads/00000001-0000-8000-8000-000000000000 HTTP/1.1\r\nHost: h\r\n\
+                 Content-Range: 5-3\r\nContent-Length: 1\r\n\r\nx",
+                "HTTP/1.1 400 Bad Request\r\nContent-Type: application/json\r\nContent-Length: 93\r\n\r\n\
+                 {\"errors\":[{\"code\":\"SIZE_INVALID\",\
+                 \"message\":\"provided length did not match content length\"}]}",
             ),
             (
-                "PATCH /v2/lib/a/blobs/uploads/00000001-0000-8000-8000-000000000000 HTTP/1.1\r\nHost: h\r\nContent-Range: 4-5\r\nContent-Length: 2\r\n\r\nxy",
-                "HTTP/1.1 416 Range Not Satisfiable\r\nLocation: /v2/lib/a/blobs/uploads/00000001-0000-8000-8000-000000000000\r\nRange: 0-4\r\nContent-Type: application/json\r\nContent-Length: 75\r\n\r\n{\"errors\":[{\"code\":\"BLOB_UPLOAD_INVALID\",\"message\":\"blob upload invalid\"}]}",
+                "PATCH /v2/lib/a/blobs/uploads/00000001-0000-8000-8000-000000000000 HTTP/1.1\r\nHost: h\r\n\
+                 Content-Range: 4-5\r\nContent-Length: 2\r\n\r\nxy",
+                "HTTP/1.1 416 Range Not Satisfiable\r\n\
+                 Location: /v2/lib/a/blobs/uploads/00000001-0000-8000-8000-000000000000\r\nRange: 0-4\r\n\
+                 Content-Type: application/json\r\nContent-Length: 75\r\n\r\n\
+                 {\"errors\":[{\"code\":\"BLOB_UPLOAD_INVALID\",\"message\":\"blob upload invalid\"}]}",
             ),
             (
-                "PATCH /v2/lib/a/blobs/uploads/00000001-0000-8000-8000-000000000000 HTTP/1.1\r\nHost: h\r\nContent-Length: 0\r\n\r\n",
-                "HTTP/1.1 202 Accepted\r\nLocation: /v2/lib/a/blobs/uploads/00000001-0000-8000-8000-000000000000\r\nRange: 0-4\r\nContent-Length: 0\r\n\r\n",
+                "PATCH /v2/lib/a/blobs/uploads/00000001-0000-8000-8000-000000000000 HTTP/1.1\r\nHost: h\r\n\
+                 Content-Length: 0\r\n\r\n",
+                "HTTP/1.1 202 Accepted\r\nLocation: /v2/lib/a/blobs/uploads/00000001-0000-8000-8000-000000000000\r\n\
+                 Range: 0-4\r\nContent-Length: 0\r\n\r\n",
             ),
         ],
         rest: "",
@@ -759,19 +955,24 @@ fn references_by_value() -> Stored<'static> {
         turns: &[
             (
                 "POST /v2/lib/a/blobs/uploads/ HTTP/1.1\r\nHost: h\r\nContent-Length: 0\r\n\r\n",
-                "HTTP/1.1 202 Accepted\r\nLocation: /v2/lib/a/blobs/uploads/00000001-0000-8000-8000-000000000000\r\nContent-Length: 0\r\n\r\n",
+                "HTTP/1.1 202 Accepted\r\nLocation: /v2/lib/a/blobs/uploads/00000001-0000-8000-8000-000000000000\r\n\
+                 Content-Length: 0\r\n\r\n",
             ),
             (
-                "PATCH /v2/lib/a/blobs/uploads/00000001-0000-8000-8000-000000000001 HTTP/1.1\r\nHost: h\r\nContent-Length: 1\r\n\r\na",
-                "HTTP/1.1 404 Not Found\r\nContent-Type: application/json\r\nContent-Length: 87\r\n\r\n{\"errors\":[{\"code\":\"BLOB_UPLOAD_UNKNOWN\",\"message\":\"blob upload unknown to registry\"}]}",
+                "PATCH /v2/lib/a/blobs/uploads/00000001-0000-8000-8000-000000000001 HTTP/1.1\r\nHost: h\r\n\
+                 Content-Length: 1\r\n\r\na",
+                "HTTP/1.1 404 Not Found\r\nContent-Type: application/json\r\nContent-Length: 87\r\n\r\n\
+                 {\"errors\":[{\"code\":\"BLOB_UPLOAD_UNKNOWN\",\"message\":\"blob upload unknown to registry\"}]}",
             ),
             (
                 "GET /v2/lib/b/blobs/uploads/00000001-0000-8000-8000-000000000000 HTTP/1.1\r\nHost: h\r\n\r\n",
-                "HTTP/1.1 404 Not Found\r\nContent-Type: application/json\r\nContent-Length: 87\r\n\r\n{\"errors\":[{\"code\":\"BLOB_UPLOAD_UNKNOWN\",\"message\":\"blob upload unknown to registry\"}]}",
+                "HTTP/1.1 404 Not Found\r\nContent-Type: application/json\r\nContent-Length: 87\r\n\r\n\
+                 {\"errors\":[{\"code\":\"BLOB_UPLOAD_UNKNOWN\",\"message\":\"blob upload unknown to registry\"}]}",
             ),
             (
                 "GET /v2/lib/a/blobs/uploads/00000001000080008000000000000000 HTTP/1.1\r\nHost: h\r\n\r\n",
-                "HTTP/1.1 204 No Content\r\nLocation: /v2/lib/a/blobs/uploads/00000001-0000-8000-8000-000000000000\r\n\r\n",
+                "HTTP/1.1 204 No Content\r\n\
+                 Location: /v2/lib/a/blobs/uploads/00000001-0000-8000-8000-000000000000\r\n\r\n",
             ),
         ],
         rest: "",
@@ -785,23 +986,35 @@ fn refused_close_changes_nothing() -> Stored<'static> {
         turns: &[
             (
                 "POST /v2/lib/a/blobs/uploads/ HTTP/1.1\r\nHost: h\r\nContent-Length: 0\r\n\r\n",
-                "HTTP/1.1 202 Accepted\r\nLocation: /v2/lib/a/blobs/uploads/00000001-0000-8000-8000-000000000000\r\nContent-Length: 0\r\n\r\n",
+                "HTTP/1.1 202 Accepted\r\nLocation: /v2/lib/a/blobs/uploads/00000001-0000-8000-8000-000000000000\r\n\
+                 Content-Length: 0\r\n\r\n",
             ),
             (
-                "PATCH /v2/lib/a/blobs/uploads/00000001-0000-8000-8000-000000000000 HTTP/1.1\r\nHost: h\r\nContent-Range: 0-1\r\nContent-Length: 2\r\n\r\nab",
-                "HTTP/1.1 202 Accepted\r\nLocation: /v2/lib/a/blobs/uploads/00000001-0000-8000-8000-000000000000\r\nRange: 0-1\r\nContent-Length: 0\r\n\r\n",
+                "PATCH /v2/lib/a/blobs/uploads/00000001-0000-8000-8000-000000000000 HTTP/1.1\r\nHost: h\r\n\
+                 Content-Range: 0-1\r\nContent-Length: 2\r\n\r\nab",
+                "HTTP/1.1 202 Accepted\r\nLocation: /v2/lib/a/blobs/uploads/00000001-0000-8000-8000-000000000000\r\n\
+                 Range: 0-1\r\nContent-Length: 0\r\n\r\n",
             ),
             (
-                "PUT /v2/lib/a/blobs/uploads/00000001-0000-8000-8000-000000000000?digest=sha256:e3b0c44298fc1c149afbf4c8996fb92427ae41e4649b934ca495991b7852b855 HTTP/1.1\r\nHost: h\r\nContent-Range: 2-2\r\nContent-Length: 1\r\n\r\nc",
-                "HTTP/1.1 400 Bad Request\r\nContent-Type: application/json\r\nContent-Length: 97\r\n\r\n{\"errors\":[{\"code\":\"DIGEST_INVALID\",\"message\":\"provided digest did not match uploaded content\"}]}",
+                "PUT /v2/lib/a/blobs/uploads/00000001-0000-8000-8000-000000000000\
+                 ?digest=sha256:e3b0c44298fc1c149afbf4c8996fb92427ae41e4649b934ca495991b7852b855 HTTP/1.1\r\n\
+                 Host: h\r\nContent-Range: 2-2\r\nContent-Length: 1\r\n\r\nc",
+                "HTTP/1.1 400 Bad Request\r\nContent-Type: application/json\r\nContent-Length: 97\r\n\r\n\
+                 {\"errors\":[{\"code\":\"DIGEST_INVALID\",\
+                 \"message\":\"provided digest did not match uploaded content\"}]}",
             ),
             (
                 "GET /v2/lib/a/blobs/uploads/00000001-0000-8000-8000-000000000000 HTTP/1.1\r\nHost: h\r\n\r\n",
-                "HTTP/1.1 204 No Content\r\nLocation: /v2/lib/a/blobs/uploads/00000001-0000-8000-8000-000000000000\r\nRange: 0-1\r\n\r\n",
+                "HTTP/1.1 204 No Content\r\nLocation: /v2/lib/a/blobs/uploads/00000001-0000-8000-8000-000000000000\r\n\
+                 Range: 0-1\r\n\r\n",
             ),
             (
-                "PUT /v2/lib/a/blobs/uploads/00000001-0000-8000-8000-000000000000?digest=sha256:ba7816bf8f01cfea414140de5dae2223b00361a396177a9cb410ff61f20015ad HTTP/1.1\r\nHost: h\r\nContent-Range: 2-2\r\nContent-Length: 1\r\n\r\nc",
-                "HTTP/1.1 201 Created\r\nLocation: /v2/lib/a/blobs/sha256:ba7816bf8f01cfea414140de5dae2223b00361a396177a9cb410ff61f20015ad\r\nContent-Length: 0\r\n\r\n",
+                "PUT /v2/lib/a/blobs/uploads/00000001-0000-8000-8000-000000000000\
+                 ?digest=sha256:ba7816bf8f01cfea414140de5dae2223b00361a396177a9cb410ff61f20015ad HTTP/1.1\r\n\
+                 Host: h\r\nContent-Range: 2-2\r\nContent-Length: 1\r\n\r\nc",
+                "HTTP/1.1 201 Created\r\n\
+                 Location: /v2/lib/a/blobs/sha256:ba7816bf8f01cfea414140de5dae2223b00361a396177a9cb410ff61f20015ad\r\n\
+                 Content-Length: 0\r\n\r\n",
             ),
         ],
         rest: "",
@@ -815,27 +1028,43 @@ fn sha512() -> Stored<'static> {
         turns: &[
             (
                 "POST /v2/lib/a/blobs/uploads/ HTTP/1.1\r\nHost: h\r\nContent-Length: 0\r\n\r\n",
-                "HTTP/1.1 202 Accepted\r\nLocation: /v2/lib/a/blobs/uploads/00000001-0000-8000-8000-000000000000\r\nContent-Length: 0\r\n\r\n",
+                "HTTP/1.1 202 Accepted\r\nLocation: /v2/lib/a/blobs/uploads/00000001-0000-8000-8000-000000000000\r\n\
+                 Content-Length: 0\r\n\r\n",
             ),
             (
-                "PATCH /v2/lib/a/blobs/uploads/00000001-0000-8000-8000-000000000000 HTTP/1.1\r\nHost: h\r\nContent-Range: 0-2\r\nContent-Length: 3\r\n\r\nabc",
-                "HTTP/1.1 202 Accepted\r\nLocation: /v2/lib/a/blobs/uploads/00000001-0000-8000-8000-000000000000\r\nRange: 0-2\r\nContent-Length: 0\r\n\r\n",
+                "PATCH /v2/lib/a/blobs/uploads/00000001-0000-8000-8000-000000000000 HTTP/1.1\r\nHost: h\r\n\
+                 Content-Range: 0-2\r\nContent-Length: 3\r\n\r\nabc",
+                "HTTP/1.1 202 Accepted\r\nLocation: /v2/lib/a/blobs/uploads/00000001-0000-8000-8000-000000000000\r\n\
+                 Range: 0-2\r\nContent-Length: 0\r\n\r\n",
             ),
             (
-                "PUT /v2/lib/a/blobs/uploads/00000001-0000-8000-8000-000000000000?digest=sha512:ba7816bf8f01cfea414140de5dae2223b00361a396177a9cb410ff61f20015ad HTTP/1.1\r\nHost: h\r\n\r\n",
-                "HTTP/1.1 400 Bad Request\r\nContent-Type: application/json\r\nContent-Length: 97\r\n\r\n{\"errors\":[{\"code\":\"DIGEST_INVALID\",\"message\":\"provided digest did not match uploaded content\"}]}",
+                "PUT /v2/lib/a/blobs/uploads/00000001-0000-8000-8000-000000000000?digest=\
+                 sha512:ba7816bf8f01cfea414140de5dae2223b00361a396177a9cb410ff61f20015ad HTTP/1.1\r\nHost: h\r\n\r\n",
+                "HTTP/1.1 400 Bad Request\r\nContent-Type: application/json\r\nContent-Length: 97\r\n\r\n\
+                 {\"errors\":[{\"code\":\"DIGEST_INVALID\",\
+                 \"message\":\"provided digest did not match uploaded content\"}]}",
             ),
             (
-                "PUT /v2/lib/a/blobs/uploads/00000001-0000-8000-8000-000000000000?digest=sha512:ddaf35a193617abacc417349ae20413112e6fa4e89a97ea20a9eeee64b55d39a2192992a274fc1a836ba3c23a3feebbd454d4423643ce80e2a9ac94fa54ca49f HTTP/1.1\r\nHost: h\r\n\r\n",
-                "HTTP/1.1 201 Created\r\nLocation: /v2/lib/a/blobs/sha512:ddaf35a193617abacc417349ae20413112e6fa4e89a97ea20a9eeee64b55d39a2192992a274fc1a836ba3c23a3feebbd454d4423643ce80e2a9ac94fa54ca49f\r\nContent-Length: 0\r\n\r\n",
+                "PUT /v2/lib/a/blobs/uploads/00000001-0000-8000-8000-000000000000?digest=\
+                 sha512:ddaf35a193617abacc417349ae20413112e6fa4e89a97ea20a9eeee64b55d39a\
+                 2192992a274fc1a836ba3c23a3feebbd454d4423643ce80e2a9ac94fa54ca49f HTTP/1.1\r\nHost: h\r\n\r\n",
+                "HTTP/1.1 201 Created\r\nLocation: /v2/lib/a/blobs/\
+                 sha512:ddaf35a193617abacc417349ae20413112e6fa4e89a97ea20a9eeee64b55d39a\
+                 2192992a274fc1a836ba3c23a3feebbd454d4423643ce80e2a9ac94fa54ca49f\r\nContent-Length: 0\r\n\r\n",
             ),
             (
-                "GET /v2/lib/a/blobs/sha512:ddaf35a193617abacc417349ae20413112e6fa4e89a97ea20a9eeee64b55d39a2192992a274fc1a836ba3c23a3feebbd454d4423643ce80e2a9ac94fa54ca49f HTTP/1.1\r\nHost: h\r\n\r\n",
-                "HTTP/1.1 200 OK\r\nDocker-Content-Digest: sha512:ddaf35a193617abacc417349ae20413112e6fa4e89a97ea20a9eeee64b55d39a2192992a274fc1a836ba3c23a3feebbd454d4423643ce80e2a9ac94fa54ca49f\r\nContent-Type: application/octet-stream\r\nContent-Length: 3\r\n\r\nabc",
+                "GET /v2/lib/a/blobs/sha512:ddaf35a193617abacc417349ae20413112e6fa4e89a97ea20a9eeee64b55d39a\
+                 2192992a274fc1a836ba3c23a3feebbd454d4423643ce80e2a9ac94fa54ca49f HTTP/1.1\r\nHost: h\r\n\r\n",
+                "HTTP/1.1 200 OK\r\nDocker-Content-Digest: \
+                 sha512:ddaf35a193617abacc417349ae20413112e6fa4e89a97ea20a9eeee64b55d39a\
+                 2192992a274fc1a836ba3c23a3feebbd454d4423643ce80e2a9ac94fa54ca49f\r\n\
+                 Content-Type: application/octet-stream\r\nContent-Length: 3\r\n\r\nabc",
             ),
             (
-                "GET /v2/lib/a/blobs/sha256:ba7816bf8f01cfea414140de5dae2223b00361a396177a9cb410ff61f20015ad HTTP/1.1\r\nHost: h\r\n\r\n",
-                "HTTP/1.1 404 Not Found\r\nContent-Type: application/json\r\nContent-Length: 73\r\n\r\n{\"errors\":[{\"code\":\"BLOB_UNKNOWN\",\"message\":\"blob unknown to registry\"}]}",
+                "GET /v2/lib/a/blobs/sha256:ba7816bf8f01cfea414140de5dae2223b00361a396177a9cb410ff61f20015ad \
+                 HTTP/1.1\r\nHost: h\r\n\r\n",
+                "HTTP/1.1 404 Not Found\r\nContent-Type: application/json\r\nContent-Length: 73\r\n\r\n\
+                 {\"errors\":[{\"code\":\"BLOB_UNKNOWN\",\"message\":\"blob unknown to registry\"}]}",
             ),
         ],
         rest: "",
@@ -848,20 +1077,31 @@ fn single_post() -> Stored<'static> {
         name: "single-post",
         turns: &[
             (
-                "POST /v2/lib/a/blobs/uploads/?digest=sha256:e3b0c44298fc1c149afbf4c8996fb92427ae41e4649b934ca495991b7852b855 HTTP/1.1\r\nHost: h\r\nContent-Length: 0\r\n\r\n",
-                "HTTP/1.1 201 Created\r\nLocation: /v2/lib/a/blobs/sha256:e3b0c44298fc1c149afbf4c8996fb92427ae41e4649b934ca495991b7852b855\r\nContent-Length: 0\r\n\r\n",
+                "POST /v2/lib/a/blobs/uploads/\
+                 ?digest=sha256:e3b0c44298fc1c149afbf4c8996fb92427ae41e4649b934ca495991b7852b855 HTTP/1.1\r\n\
+                 Host: h\r\nContent-Length: 0\r\n\r\n",
+                "HTTP/1.1 201 Created\r\n\
+                 Location: /v2/lib/a/blobs/sha256:e3b0c44298fc1c149afbf4c8996fb92427ae41e4649b934ca495991b7852b855\r\n\
+                 Content-Length: 0\r\n\r\n",
             ),
             (
-                "POST /v2/lib/a/blobs/uploads/?digest=sha256:ba7816bf8f01cfea414140de5dae2223b00361a396177a9cb410ff61f20015ad HTTP/1.1\r\nHost: h\r\nContent-Length: 3\r\n\r\nabd",
-                "HTTP/1.1 400 Bad Request\r\nContent-Type: application/json\r\nContent-Length: 97\r\n\r\n{\"errors\":[{\"code\":\"DIGEST_INVALID\",\"message\":\"provided digest did not match uploaded content\"}]}",
+                "POST /v2/lib/a/blobs/uploads/\
+                 ?digest=sha256:ba7816bf8f01cfea414140de5dae2223b00361a396177a9cb410ff61f20015ad HTTP/1.1\r\n\
+                 Host: h\r\nContent-Length: 3\r\n\r\nabd",
+                "HTTP/1.1 400 Bad Request\r\nContent-Type: application/json\r\nContent-Length: 97\r\n\r\n\
+                 {\"errors\":[{\"code\":\"DIGEST_INVALID\",\
+                 \"message\":\"provided digest did not match uploaded content\"}]}",
             ),
             (
                 "POST /v2/lib/a/blobs/uploads/?digest=x HTTP/1.1\r\nHost: h\r\nContent-Length: 3\r\n\r\nabc",
-                "HTTP/1.1 400 Bad Request\r\nContent-Type: application/json\r\nContent-Length: 97\r\n\r\n{\"errors\":[{\"code\":\"DIGEST_INVALID\",\"message\":\"provided digest did not match uploaded content\"}]}",
+                "HTTP/1.1 400 Bad Request\r\nContent-Type: application/json\r\nContent-Length: 97\r\n\r\n\
+                 {\"errors\":[{\"code\":\"DIGEST_INVALID\",\
+                 \"message\":\"provided digest did not match uploaded content\"}]}",
             ),
             (
                 "POST /v2/lib/a/blobs/uploads/ HTTP/1.1\r\nHost: h\r\nContent-Length: 0\r\n\r\n",
-                "HTTP/1.1 202 Accepted\r\nLocation: /v2/lib/a/blobs/uploads/00000001-0000-8000-8000-000000000000\r\nContent-Length: 0\r\n\r\n",
+                "HTTP/1.1 202 Accepted\r\nLocation: /v2/lib/a/blobs/uploads/00000001-0000-8000-8000-000000000000\r\n\
+                 Content-Length: 0\r\n\r\n",
             ),
         ],
         rest: "",
@@ -875,11 +1115,13 @@ fn status_of_an_empty_upload() -> Stored<'static> {
         turns: &[
             (
                 "POST /v2/lib/a/blobs/uploads/ HTTP/1.1\r\nHost: h\r\nContent-Length: 0\r\n\r\n",
-                "HTTP/1.1 202 Accepted\r\nLocation: /v2/lib/a/blobs/uploads/00000001-0000-8000-8000-000000000000\r\nContent-Length: 0\r\n\r\n",
+                "HTTP/1.1 202 Accepted\r\nLocation: /v2/lib/a/blobs/uploads/00000001-0000-8000-8000-000000000000\r\n\
+                 Content-Length: 0\r\n\r\n",
             ),
             (
                 "GET /v2/lib/a/blobs/uploads/00000001-0000-8000-8000-000000000000 HTTP/1.1\r\nHost: h\r\n\r\n",
-                "HTTP/1.1 204 No Content\r\nLocation: /v2/lib/a/blobs/uploads/00000001-0000-8000-8000-000000000000\r\n\r\n",
+                "HTTP/1.1 204 No Content\r\n\
+                 Location: /v2/lib/a/blobs/uploads/00000001-0000-8000-8000-000000000000\r\n\r\n",
             ),
         ],
         rest: "",
@@ -892,7 +1134,8 @@ fn target_in_absolute_form() -> Stored<'static> {
         name: "target-in-absolute-form",
         turns: &[(
             "POST http://h/v2/lib/a/blobs/uploads/ HTTP/1.1\r\nHost: h\r\nContent-Length: 0\r\n\r\n",
-            "HTTP/1.1 202 Accepted\r\nLocation: /v2/lib/a/blobs/uploads/00000001-0000-8000-8000-000000000000\r\nContent-Length: 0\r\n\r\n",
+            "HTTP/1.1 202 Accepted\r\nLocation: /v2/lib/a/blobs/uploads/00000001-0000-8000-8000-000000000000\r\n\
+             Content-Length: 0\r\n\r\n",
         )],
         rest: "",
         end: ConnEnd::Clean,
@@ -905,43 +1148,67 @@ fn two_sessions_interleaved() -> Stored<'static> {
         turns: &[
             (
                 "POST /v2/lib/a/blobs/uploads/ HTTP/1.1\r\nHost: h\r\nContent-Length: 0\r\n\r\n",
-                "HTTP/1.1 202 Accepted\r\nLocation: /v2/lib/a/blobs/uploads/00000001-0000-8000-8000-000000000000\r\nContent-Length: 0\r\n\r\n",
+                "HTTP/1.1 202 Accepted\r\nLocation: /v2/lib/a/blobs/uploads/00000001-0000-8000-8000-000000000000\r\n\
+                 Content-Length: 0\r\n\r\n",
             ),
             (
                 "POST /v2/lib/b/blobs/uploads/ HTTP/1.1\r\nHost: h\r\nContent-Length: 0\r\n\r\n",
-                "HTTP/1.1 202 Accepted\r\nLocation: /v2/lib/b/blobs/uploads/00000002-0000-8000-8000-000000000000\r\nContent-Length: 0\r\n\r\n",
+                "HTTP/1.1 202 Accepted\r\nLocation: /v2/lib/b/blobs/uploads/00000002-0000-8000-8000-000000000000\r\n\
+                 Content-Length: 0\r\n\r\n",
             ),
             (
-                "PATCH /v2/lib/a/blobs/uploads/00000001-0000-8000-8000-000000000000 HTTP/1.1\r\nHost: h\r\nContent-Range: 0-0\r\nContent-Length: 1\r\n\r\na",
-                "HTTP/1.1 202 Accepted\r\nLocation: /v2/lib/a/blobs/uploads/00000001-0000-8000-8000-000000000000\r\nRange: 0-0\r\nContent-Length: 0\r\n\r\n",
+                "PATCH /v2/lib/a/blobs/uploads/00000001-0000-8000-8000-000000000000 HTTP/1.1\r\nHost: h\r\n\
+                 Content-Range: 0-0\r\nContent-Length: 1\r\n\r\na",
+                "HTTP/1.1 202 Accepted\r\nLocation: /v2/lib/a/blobs/uploads/00000001-0000-8000-8000-000000000000\r\n\
+                 Range: 0-0\r\nContent-Length: 0\r\n\r\n",
             ),
             (
-                "PATCH /v2/lib/b/blobs/uploads/00000002-0000-8000-8000-000000000000 HTTP/1.1\r\nHost: h\r\nContent-Range: 0-1\r\nContent-Length: 2\r\n\r\nab",
-                "HTTP/1.1 202 Accepted\r\nLocation: /v2/lib/b/blobs/uploads/00000002-0000-8000-8000-000000000000\r\nRange: 0-1\r\nContent-Length: 0\r\n\r\n",
+                "PATCH /v2/lib/b/blobs/uploads/00000002-0000-8000-8000-000000000000 HTTP/1.1\r\nHost: h\r\n\
+                 Content-Range: 0-1\r\nContent-Length: 2\r\n\r\nab",
+                "HTTP/1.1 202 Accepted\r\nLocation: /v2/lib/b/blobs/uploads/00000002-0000-8000-8000-000000000000\r\n\
+                 Range: 0-1\r\nContent-Length: 0\r\n\r\n",
             ),
             (
-                "PATCH /v2/lib/a/blobs/uploads/00000001-0000-8000-8000-000000000000 HTTP/1.1\r\nHost: h\r\nContent-Range: 1-2\r\nContent-Length: 2\r\n\r\nbc",
-                "HTTP/1.1 202 Accepted\r\nLocation: /v2/lib/a/blobs/uploads/00000001-0000-8000-8000-000000000000\r\nRange: 0-2\r\nContent-Length: 0\r\n\r\n",
+                "PATCH /v2/lib/a/blobs/uploads/00000001-0000-8000-8000-000000000000 HTTP/1.1\r\nHost: h\r\n\
+                 Content-Range: 1-2\r\nContent-Length: 2\r\n\r\nbc",
+                "HTTP/1.1 202 Accepted\r\nLocation: /v2/lib/a/blobs/uploads/00000001-0000-8000-8000-000000000000\r\n\
+                 Range: 0-2\r\nContent-Length: 0\r\n\r\n",
             ),
             (
-                "PATCH /v2/lib/b/blobs/uploads/00000002-0000-8000-8000-000000000000 HTTP/1.1\r\nHost: h\r\nContent-Range: 2-2\r\nContent-Length: 1\r\n\r\nc",
-                "HTTP/1.1 202 Accepted\r\nLocation: /v2/lib/b/blobs/uploads/00000002-0000-8000-8000-000000000000\r\nRange: 0-2\r\nContent-Length: 0\r\n\r\n",
+                "PATCH /v2/lib/b/blobs/uploads/00000002-0000-8000-8000-000000000000 HTTP/1.1\r\nHost: h\r\n\
+                 Content-Range: 2-2\r\nContent-Length: 1\r\n\r\nc",
+                "HTTP/1.1 202 Accepted\r\nLocation: /v2/lib/b/blobs/uploads/00000002-0000-8000-8000-000000000000\r\n\
+                 Range: 0-2\r\nContent-Length: 0\r\n\r\n",
             ),
             (
-                "PUT /v2/lib/b/blobs/uploads/00000002-0000-8000-8000-000000000000?digest=sha256:ba7816bf8f01cfea414140de5dae2223b00361a396177a9cb410ff61f20015ad HTTP/1.1\r\nHost: h\r\n\r\n",
-                "HTTP/1.1 201 Created\r\nLocation: /v2/lib/b/blobs/sha256:ba7816bf8f01cfea414140de5dae2223b00361a396177a9cb410ff61f20015ad\r\nContent-Length: 0\r\n\r\n",
+                "PUT /v2/lib/b/blobs/uploads/00000002-0000-8000-8000-000000000000\
+                 ?digest=sha256:ba7816bf8f01cfea414140de5dae2223b00361a396177a9cb410ff61f20015ad HTTP/1.1\r\n\
+                 Host: h\r\n\r\n",
+                "HTTP/1.1 201 Created\r\n\
+                 Location: /v2/lib/b/blobs/sha256:ba7816bf8f01cfea414140de5dae2223b00361a396177a9cb410ff61f20015ad\r\n\
+                 Content-Length: 0\r\n\r\n",
             ),
             (
-                "PUT /v2/lib/a/blobs/uploads/00000001-0000-8000-8000-000000000000?digest=sha256:ba7816bf8f01cfea414140de5dae2223b00361a396177a9cb410ff61f20015ad HTTP/1.1\r\nHost: h\r\n\r\n",
-                "HTTP/1.1 201 Created\r\nLocation: /v2/lib/a/blobs/sha256:ba7816bf8f01cfea414140de5dae2223b00361a396177a9cb410ff61f20015ad\r\nContent-Length: 0\r\n\r\n",
+                "PUT /v2/lib/a/blobs/uploads/00000001-0000-8000-8000-000000000000\
+                 ?digest=sha256:ba7816bf8f01cfea414140de5dae2223b00361a396177a9cb410ff61f20015ad HTTP/1.1\r\n\
+                 Host: h\r\n\r\n",
+                "HTTP/1.1 201 Created\r\n\
+                 Location: /v2/lib/a/blobs/sha256:ba7816bf8f01cfea414140de5dae2223b00361a396177a9cb410ff61f20015ad\r\n\
+                 Content-Length: 0\r\n\r\n",
             ),
             (
-                "GET /v2/lib/a/blobs/sha256:ba7816bf8f01cfea414140de5dae2223b00361a396177a9cb410ff61f20015ad HTTP/1.1\r\nHost: h\r\n\r\n",
-                "HTTP/1.1 200 OK\r\nDocker-Content-Digest: sha256:ba7816bf8f01cfea414140de5dae2223b00361a396177a9cb410ff61f20015ad\r\nContent-Type: application/octet-stream\r\nContent-Length: 3\r\n\r\nabc",
+                "GET /v2/lib/a/blobs/sha256:ba7816bf8f01cfea414140de5dae2223b00361a396177a9cb410ff61f20015ad \
+                 HTTP/1.1\r\nHost: h\r\n\r\n",
+                "HTTP/1.1 200 OK\r\n\
+                 Docker-Content-Digest: sha256:ba7816bf8f01cfea414140de5dae2223b00361a396177a9cb410ff61f20015ad\r\n\
+                 Content-Type: application/octet-stream\r\nContent-Length: 3\r\n\r\nabc",
             ),
             (
-                "GET /v2/lib/b/blobs/sha256:ba7816bf8f01cfea414140de5dae2223b00361a396177a9cb410ff61f20015ad HTTP/1.1\r\nHost: h\r\n\r\n",
-                "HTTP/1.1 200 OK\r\nDocker-Content-Digest: sha256:ba7816bf8f01cfea414140de5dae2223b00361a396177a9cb410ff61f20015ad\r\nContent-Type: application/octet-stream\r\nContent-Length: 3\r\n\r\nabc",
+                "GET /v2/lib/b/blobs/sha256:ba7816bf8f01cfea414140de5dae2223b00361a396177a9cb410ff61f20015ad \
+                 HTTP/1.1\r\nHost: h\r\n\r\n",
+                "HTTP/1.1 200 OK\r\n\
+                 Docker-Content-Digest: sha256:ba7816bf8f01cfea414140de5dae2223b00361a396177a9cb410ff61f20015ad\r\n\
+                 Content-Type: application/octet-stream\r\nContent-Length: 3\r\n\r\nabc",
             ),
         ],
         rest: "",
@@ -955,35 +1222,53 @@ fn two_sessions() -> Stored<'static> {
         turns: &[
             (
                 "POST /v2/lib/a/blobs/uploads/ HTTP/1.1\r\nHost: h\r\nContent-Length: 0\r\n\r\n",
-                "HTTP/1.1 202 Accepted\r\nLocation: /v2/lib/a/blobs/uploads/00000001-0000-8000-8000-000000000000\r\nContent-Length: 0\r\n\r\n",
+                "HTTP/1.1 202 Accepted\r\nLocation: /v2/lib/a/blobs/uploads/00000001-0000-8000-8000-000000000000\r\n\
+                 Content-Length: 0\r\n\r\n",
             ),
             (
                 "POST /v2/lib/b/blobs/uploads/ HTTP/1.1\r\nHost: h\r\nContent-Length: 0\r\n\r\n",
-                "HTTP/1.1 202 Accepted\r\nLocation: /v2/lib/b/blobs/uploads/00000002-0000-8000-8000-000000000000\r\nContent-Length: 0\r\n\r\n",
+                "HTTP/1.1 202 Accepted\r\nLocation: /v2/lib/b/blobs/uploads/00000002-0000-8000-8000-000000000000\r\n\
+                 Content-Length: 0\r\n\r\n",
             ),
             (
-                "PATCH /v2/lib/a/blobs/uploads/00000001-0000-8000-8000-000000000000 HTTP/1.1\r\nHost: h\r\nContent-Range: 0-0\r\nContent-Length: 1\r\n\r\na",
-                "HTTP/1.1 202 Accepted\r\nLocation: /v2/lib/a/blobs/uploads/00000001-0000-8000-8000-000000000000\r\nRange: 0-0\r\nContent-Length: 0\r\n\r\n",
+                "PATCH /v2/lib/a/blobs/uploads/00000001-0000-8000-8000-000000000000 HTTP/1.1\r\nHost: h\r\n\
+                 Content-Range: 0-0\r\nContent-Length: 1\r\n\r\na",
+                "HTTP/1.1 202 Accepted\r\nLocation: /v2/lib/a/blobs/uploads/00000001-0000-8000-8000-000000000000\r\n\
+                 Range: 0-0\r\nContent-Length: 0\r\n\r\n",
             ),
             (
-                "PATCH /v2/lib/b/blobs/uploads/00000002-0000-8000-8000-000000000000 HTTP/1.1\r\nHost: h\r\nContent-Range: 0-1\r\nContent-Length: 2\r\n\r\nab",
-                "HTTP/1.1 202 Accepted\r\nLocation: /v2/lib/b/blobs/uploads/00000002-0000-8000-8000-000000000000\r\nRange: 0-1\r\nContent-Length: 0\r\n\r\n",
+                "PATCH /v2/lib/b/blobs/uploads/00000002-0000-8000-8000-000000000000 HTTP/1.1\r\nHost: h\r\n\
+                 Content-Range: 0-1\r\nContent-Length: 2\r\n\r\nab",
+                "HTTP/1.1 202 Accepted\r\nLocation: /v2/lib/b/blobs/uploads/00000002-0000-8000-8000-000000000000\r\n\
+                 Range: 0-1\r\nContent-Length: 0\r\n\r\n",
             ),
             (
-                "PATCH /v2/lib/a/blobs/uploads/00000001-0000-8000-8000-000000000000 HTTP/1.1\r\nHost: h\r\nContent-Range: 1-2\r\nContent-Length: 2\r\n\r\nbc",
-                "HTTP/1.1 202 Accepted\r\nLocation: /v2/lib/a/blobs/uploads/00000001-0000-8000-8000-000000000000\r\nRange: 0-2\r\nContent-Length: 0\r\n\r\n",
+                "PATCH /v2/lib/a/blobs/uploads/00000001-0000-8000-8000-000000000000 HTTP/1.1\r\nHost: h\r\n\
+                 Content-Range: 1-2\r\nContent-Length: 2\r\n\r\nbc",
+                "HTTP/1.1 202 Accepted\r\nLocation: /v2/lib/a/blobs/uploads/00000001-0000-8000-8000-000000000000\r\n\
+                 Range: 0-2\r\nContent-Length: 0\r\n\r\n",
             ),
             (
-                "PATCH /v2/lib/b/blobs/uploads/00000002-0000-8000-8000-000000000000 HTTP/1.1\r\nHost: h\r\nContent-Range: 2-2\r\nContent-Length: 1\r\n\r\nc",
-                "HTTP/1.1 202 Accepted\r\nLocation: /v2/lib/b/blobs/uploads/00000002-0000-8000-8000-000000000000\r\nRange: 0-2\r\nContent-Length: 0\r\n\r\n",
+                "PATCH /v2/lib/b/blobs/uploads/00000002-0000-8000-8000-000000000000 HTTP/1.1\r\nHost: h\r\n\
+                 Content-Range: 2-2\r\nContent-Length: 1\r\n\r\nc",
+                "HTTP/1.1 202 Accepted\r\nLocation: /v2/lib/b/blobs/uploads/00000002-0000-8000-8000-000000000000\r\n\
+                 Range: 0-2\r\nContent-Length: 0\r\n\r\n",
             ),
             (
-                "PUT /v2/lib/b/blobs/uploads/00000002-0000-8000-8000-000000000000?digest=sha256:ba7816bf8f01cfea414140de5dae2223b00361a396177a9cb410ff61f20015ad HTTP/1.1\r\nHost: h\r\n\r\n",
-                "HTTP/1.1 201 Created\r\nLocation: /v2/lib/b/blobs/sha256:ba7816bf8f01cfea414140de5dae2223b00361a396177a9cb410ff61f20015ad\r\nContent-Length: 0\r\n\r\n",
+                "PUT /v2/lib/b/blobs/uploads/00000002-0000-8000-8000-000000000000\
+                 ?digest=sha256:ba7816bf8f01cfea414140de5dae2223b00361a396177a9cb410ff61f20015ad HTTP/1.1\r\n\
+                 Host: h\r\n\r\n",
+                "HTTP/1.1 201 Created\r\n\
+                 Location: /v2/lib/b/blobs/sha256:ba7816bf8f01cfea414140de5dae2223b00361a396177a9cb410ff61f20015ad\r\n\
+                 Content-Length: 0\r\n\r\n",
             ),
             (
-                "PUT /v2/lib/a/blobs/uploads/00000001-0000-8000-8000-000000000000?digest=sha256:ba7816bf8f01cfea414140de5dae2223b00361a396177a9cb410ff61f20015ad HTTP/1.1\r\nHost: h\r\n\r\n",
-                "HTTP/1.1 201 Created\r\nLocation: /v2/lib/a/blobs/sha256:ba7816bf8f01cfea414140de5dae2223b00361a396177a9cb410ff61f20015ad\r\nContent-Length: 0\r\n\r\n",
+                "PUT /v2/lib/a/blobs/uploads/00000001-0000-8000-8000-000000000000\
+                 ?digest=sha256:ba7816bf8f01cfea414140de5dae2223b00361a396177a9cb410ff61f20015ad HTTP/1.1\r\n\
+                 Host: h\r\n\r\n",
+                "HTTP/1.1 201 Created\r\n\
+                 Location: /v2/lib/a/blobs/sha256:ba7816bf8f01cfea414140de5dae2223b00361a396177a9cb410ff61f20015ad\r\n\
+                 Content-Length: 0\r\n\r\n",
             ),
         ],
         rest: "",
@@ -997,39 +1282,59 @@ pub(super) fn whole_upload() -> Stored<'static> {
         turns: &[
             (
                 "POST /v2/lib/a/blobs/uploads/ HTTP/1.1\r\nHost: h\r\nContent-Length: 0\r\n\r\n",
-                "HTTP/1.1 202 Accepted\r\nLocation: /v2/lib/a/blobs/uploads/00000001-0000-8000-8000-000000000000\r\nContent-Length: 0\r\n\r\n",
+                "HTTP/1.1 202 Accepted\r\nLocation: /v2/lib/a/blobs/uploads/00000001-0000-8000-8000-000000000000\r\n\
+                 Content-Length: 0\r\n\r\n",
             ),
             (
                 "GET /v2/lib/a/blobs/uploads/00000001-0000-8000-8000-000000000000 HTTP/1.1\r\nHost: h\r\n\r\n",
-                "HTTP/1.1 204 No Content\r\nLocation: /v2/lib/a/blobs/uploads/00000001-0000-8000-8000-000000000000\r\n\r\n",
+                "HTTP/1.1 204 No Content\r\n\
+                 Location: /v2/lib/a/blobs/uploads/00000001-0000-8000-8000-000000000000\r\n\r\n",
             ),
             (
-                "PATCH /v2/lib/a/blobs/uploads/00000001-0000-8000-8000-000000000000 HTTP/1.1\r\nHost: h\r\nContent-Range: 0-0\r\nContent-Length: 1\r\n\r\na",
-                "HTTP/1.1 202 Accepted\r\nLocation: /v2/lib/a/blobs/uploads/00000001-0000-8000-8000-000000000000\r\nRange: 0-0\r\nContent-Length: 0\r\n\r\n",
+                "PATCH /v2/lib/a/blobs/uploads/00000001-0000-8000-8000-000000000000 HTTP/1.1\r\nHost: h\r\n\
+                 Content-Range: 0-0\r\nContent-Length: 1\r\n\r\na",
+                "HTTP/1.1 202 Accepted\r\nLocation: /v2/lib/a/blobs/uploads/00000001-0000-8000-8000-000000000000\r\n\
+                 Range: 0-0\r\nContent-Length: 0\r\n\r\n",
             ),
             (
-                "PATCH /v2/lib/a/blobs/uploads/00000001-0000-8000-8000-000000000000 HTTP/1.1\r\nHost: h\r\nContent-Range: 1-2\r\nContent-Length: 2\r\n\r\nbc",
-                "HTTP/1.1 202 Accepted\r\nLocation: /v2/lib/a/blobs/uploads/00000001-0000-8000-8000-000000000000\r\nRange: 0-2\r\nContent-Length: 0\r\n\r\n",
+                "PATCH /v2/lib/a/blobs/uploads/00000001-0000-8000-8000-000000000000 HTTP/1.1\r\nHost: h\r\n\
+                 Content-Range: 1-2\r\nContent-Length: 2\r\n\r\nbc",
+                "HTTP/1.1 202 Accepted\r\nLocation: /v2/lib/a/blobs/uploads/00000001-0000-8000-8000-000000000000\r\n\
+                 Range: 0-2\r\nContent-Length: 0\r\n\r\n",
             ),
             (
-                "PATCH /v2/lib/a/blobs/uploads/00000001-0000-8000-8000-000000000000 HTTP/1.1\r\nHost: h\r\nContent-Range: 1-2\r\nContent-Length: 2\r\n\r\nbc",
-                "HTTP/1.1 416 Range Not Satisfiable\r\nLocation: /v2/lib/a/blobs/uploads/00000001-0000-8000-8000-000000000000\r\nRange: 0-2\r\nContent-Type: application/json\r\nContent-Length: 75\r\n\r\n{\"errors\":[{\"code\":\"BLOB_UPLOAD_INVALID\",\"message\":\"blob upload invalid\"}]}",
+                "PATCH /v2/lib/a/blobs/uploads/00000001-0000-8000-8000-000000000000 HTTP/1.1\r\nHost: h\r\n\
+                 Content-Range: 1-2\r\nContent-Length: 2\r\n\r\nbc",
+                "HTTP/1.1 416 Range Not Satisfiable\r\n\
+                 Location: /v2/lib/a/blobs/uploads/00000001-0000-8000-8000-000000000000\r\nRange: 0-2\r\n\
+                 Content-Type: application/json\r\nContent-Length: 75\r\n\r\n\
+                 {\"errors\":[{\"code\":\"BLOB_UPLOAD_INVALID\",\"message\":\"blob upload invalid\"}]}",
             ),
             (
-                "PUT /v2/lib/a/blobs/uploads/00000001-0000-8000-8000-000000000000?digest=sha256:ba7816bf8f01cfea414140de5dae2223b00361a396177a9cb410ff61f20015ad HTTP/1.1\r\nHost: h\r\n\r\n",
-                "HTTP/1.1 201 Created\r\nLocation: /v2/lib/a/blobs/sha256:ba7816bf8f01cfea414140de5dae2223b00361a396177a9cb410ff61f20015ad\r\nContent-Length: 0\r\n\r\n",
+                "PUT /v2/lib/a/blobs/uploads/00000001-0000-8000-8000-000000000000\
+                 ?digest=sha256:ba7816bf8f01cfea414140de5dae2223b00361a396177a9cb410ff61f20015ad HTTP/1.1\r\n\
+                 Host: h\r\n\r\n",
+                "HTTP/1.1 201 Created\r\n\
+                 Location: /v2/lib/a/blobs/sha256:ba7816bf8f01cfea414140de5dae2223b00361a396177a9cb410ff61f20015ad\r\n\
+                 Content-Length: 0\r\n\r\n",
             ),
             (
-                "PATCH /v2/lib/a/blobs/uploads/00000001-0000-8000-8000-000000000000 HTTP/1.1\r\nHost: h\r\nContent-Range: 3-3\r\nContent-Length: 1\r\n\r\nx",
-                "HTTP/1.1 404 Not Found\r\nContent-Type: application/json\r\nContent-Length: 87\r\n\r\n{\"errors\":[{\"code\":\"BLOB_UPLOAD_UNKNOWN\",\"message\":\"blob upload unknown to registry\"}]}",
+                "PATCH /v2/lib/a/blobs/uploads/00000001-0000-8000-8000-000000000000 HTTP/1.1\r\nHost: h\r\n\
+                 Content-Range: 3-3\r\nContent-Length: 1\r\n\r\nx",
+                "HTTP/1.1 404 Not Found\r\nContent-Type: application/json\r\nContent-Length: 87\r\n\r\n\
+                 {\"errors\":[{\"code\":\"BLOB_UPLOAD_UNKNOWN\",\"message\":\"blob upload unknown to registry\"}]}",
             ),
             (
                 "GET /v2/lib/a/blobs/uploads/00000001-0000-8000-8000-000000000000 HTTP/1.1\r\nHost: h\r\n\r\n",
-                "HTTP/1.1 404 Not Found\r\nContent-Type: application/json\r\nContent-Length: 87\r\n\r\n{\"errors\":[{\"code\":\"BLOB_UPLOAD_UNKNOWN\",\"message\":\"blob upload unknown to registry\"}]}",
+                "HTTP/1.1 404 Not Found\r\nContent-Type: application/json\r\nContent-Length: 87\r\n\r\n\
+                 {\"errors\":[{\"code\":\"BLOB_UPLOAD_UNKNOWN\",\"message\":\"blob upload unknown to registry\"}]}",
             ),
             (
-                "PUT /v2/lib/a/blobs/uploads/00000001-0000-8000-8000-000000000000?digest=sha256:ba7816bf8f01cfea414140de5dae2223b00361a396177a9cb410ff61f20015ad HTTP/1.1\r\nHost: h\r\n\r\n",
-                "HTTP/1.1 404 Not Found\r\nContent-Type: application/json\r\nContent-Length: 87\r\n\r\n{\"errors\":[{\"code\":\"BLOB_UPLOAD_UNKNOWN\",\"message\":\"blob upload unknown to registry\"}]}",
+                "PUT /v2/lib/a/blobs/uploads/00000001-0000-8000-8000-000000000000\
+                 ?digest=sha256:ba7816bf8f01cfea414140de5dae2223b00361a396177a9cb410ff61f20015ad HTTP/1.1\r\n\
+                 Host: h\r\n\r\n",
+                "HTTP/1.1 404 Not Found\r\nContent-Type: application/json\r\nContent-Length: 87\r\n\r\n\
+                 {\"errors\":[{\"code\":\"BLOB_UPLOAD_UNKNOWN\",\"message\":\"blob upload unknown to registry\"}]}",
             ),
         ],
         rest: "",
