@@ -17,8 +17,8 @@ pub(crate) struct Account<'r> {
     pub(crate) asked: &'r [Asked],
 }
 
-/// Whether what the worker's reads gave is a prefix of what the push's writes took, and what the push's reads gave is a prefix of
-/// what the worker's writes took.
+/// Whether what the worker's reads gave is a prefix of what the push's writes took, and what the push's reads gave is a
+/// prefix of what the worker's writes took.
 fn is_carried(record: &Record) -> bool {
     record.client.written.starts_with(&record.worker.read)
         && record.worker.written.starts_with(&record.client.read)
@@ -108,7 +108,8 @@ impl<'r> Account<'r> {
         }
     }
 
-    /// What the push heard was served in the order in which it asked: each such request was answered before the next was asked.
+    /// What the push heard was served in the order in which it asked: each such request was answered before the next
+    /// was asked.
     pub(crate) fn is_in_order(&self) -> bool {
         let mut before = 0;
         for (number, asked) in self.asked.iter().enumerate() {

@@ -1,5 +1,5 @@
-//! Tests of what `pushes_are_served` of `end_to_end` speaks of: pushes to a pool of workers, over a network in memory that cuts
-//! connections and holds bytes back.
+//! Tests of what `pushes_are_served` of `end_to_end` speaks of: pushes to a pool of workers, over a network in memory
+//! that cuts connections and holds bytes back.
 #![tactic(auto)]
 
 #[cfg(test)]

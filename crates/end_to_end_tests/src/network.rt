@@ -1,5 +1,5 @@
-//! A network in memory. It cuts a connection at any byte, in each direction, and holds bytes back. Each end of a connection
-//! records what it read and what it wrote.
+//! A network in memory. It cuts a connection at any byte, in each direction, and holds bytes back. Each end of a
+//! connection records what it read and what it wrote.
 ghost use Rattle.std.specs.Prelude.{◌≡◌, [], true, None};
 
 use crossbeam_channel::{Receiver, Sender, unbounded};
@@ -163,7 +163,8 @@ impl Network {
         }
     }
 
-    /// What is held back of this push's connections and comes behind so many replies; of those that wait longer one is counted.
+    /// What is held back of this push's connections and comes behind so many replies; of those that wait longer one is
+    /// counted.
     fn due(&self, rt: &impl Wait, push: usize, is_over: bool) -> Vec<Held> {
         let mut due = Vec::new(self.alloc);
         let mut records = self.records.lock(rt);

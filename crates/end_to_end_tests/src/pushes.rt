@@ -1,5 +1,5 @@
-//! A pool and two pushes to it over a network in memory. What the ends of the connections recorded meets the premises of
-//! `pushes_are_served`, and the file is there.
+//! A pool and two pushes to it over a network in memory. What the ends of the connections recorded meets the premises
+//! of `pushes_are_served`, and the file is there.
 ghost use Rattle.std.specs.Prelude.{◌<◌, IfOk, vec_len};
 ghost use Rattle.std.specs.Thread.{IsSync};
 

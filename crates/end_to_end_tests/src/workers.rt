@@ -86,7 +86,8 @@ impl<'n, R: Wait + Sync> Conns for Incoming<'n, R> {
 
     // One that nobody has read or written yet.
     ghost gives = { λ old given new. IfSome given (λ conn.
-        (conn.0.given.bytes ≡ []) × (conn.0.reads ≡ 0) × (conn.1.taken.bytes ≡ []) × (conn.1.writes ≡ 0)) };
+        (conn.0.given.bytes ≡ []) × (conn.0.reads ≡ 0) × (conn.1.taken.bytes ≡ [])
+        × (conn.1.writes ≡ 0)) };
 
     fn next_conn(&mut self) -> Option<(Source<'n, R>, Sink<'n, R>)> {
         let arrival = self.arrivals.recv(self.rt).ok()?;

@@ -64,7 +64,10 @@ const WITH_A_PLACE: Told<'_> = Told {
 static REPLIES: [(bool, &str, Told<'_>); 8] = [
     (
         false,
-        "HTTP/1.1 416 Range Not Satisfiable\r\nLocation: /v2/lib/a/blobs/uploads/00000001-0000-8000-8000-000000000000\r\nRange: 0-2\r\nContent-Type: application/json\r\nContent-Length: 75\r\n\r\n{\"errors\":[{\"code\":\"BLOB_UPLOAD_INVALID\",\"message\":\"blob upload invalid\"}]}",
+        "HTTP/1.1 416 Range Not Satisfiable\r\n\
+         Location: /v2/lib/a/blobs/uploads/00000001-0000-8000-8000-000000000000\r\nRange: 0-2\r\n\
+         Content-Type: application/json\r\nContent-Length: 75\r\n\r\n\
+         {\"errors\":[{\"code\":\"BLOB_UPLOAD_INVALID\",\"message\":\"blob upload invalid\"}]}",
         Told {
             status: 416,
             upto: Some(2),
@@ -74,7 +77,8 @@ static REPLIES: [(bool, &str, Told<'_>); 8] = [
     ),
     (
         false,
-        "HTTP/1.1 202 Accepted\r\nLocation: http://h/v2/lib/a/blobs/uploads/00000001-0000-8000-8000-000000000000\r\nContent-Length: 0\r\n\r\n",
+        "HTTP/1.1 202 Accepted\r\nLocation: http://h/v2/lib/a/blobs/uploads/00000001-0000-8000-8000-000000000000\r\n\
+         Content-Length: 0\r\n\r\n",
         WITH_A_PLACE,
     ),
     (
@@ -87,7 +91,8 @@ static REPLIES: [(bool, &str, Told<'_>); 8] = [
     ),
     (
         false,
-        "HTTP/1.1 202 Accepted\r\nlocation: /a?b#c\r\nLocation: /d\r\nrange: 0-18446744073709551615\r\n\r\n{\"errors\":[{\"message\":\"m\"},{\"code\":\"c\"}]}",
+        "HTTP/1.1 202 Accepted\r\nlocation: /a?b#c\r\nLocation: /d\r\nrange: 0-18446744073709551615\r\n\r\n\
+         {\"errors\":[{\"message\":\"m\"},{\"code\":\"c\"}]}",
         Told {
             place: Some(b"/a"),
             upto: Some(1_000_000_000_000_000_000),
@@ -305,8 +310,9 @@ fn hopeless_reply_is_judged(rt: HostRuntime) -> Result<(), Fail> {
 
 #[test]
 fn replies_come_one_after_another(rt: HostRuntime) -> Result<(), Fail> {
-    let text =
-        b"HTTP/1.1 202 Accepted\r\nContent-Length: 3\r\n\r\nabcHTTP/1.1 204 No Content\r\n\r\nHTTP/1.1 200 OK\r\n\r\nrest";
+    let text = b"HTTP/1.1 202 Accepted\r\nContent-Length: 3\r\n\r\nabc\
+        HTTP/1.1 204 No Content\r\n\r\n\
+        HTTP/1.1 200 OK\r\n\r\nrest";
     for step in [1, 5, 65_536] {
         let mut reader = AnswerReader::new(rt.alloc(), MemorySource::new(text, step, false))?;
         for status in [202, 204, 200] {
@@ -542,7 +548,8 @@ static REQUESTS: [(Word, &str); 8] = [
     (Word::Base, "GET /v2/ HTTP/1.1\r\nHost: h\r\n\r\n"),
     (
         Word::Has,
-        "HEAD /v2/lib/a/blobs/sha256:ba7816bf8f01cfea414140de5dae2223b00361a396177a9cb410ff61f20015ad HTTP/1.1\r\nHost: h\r\n\r\n",
+        "HEAD /v2/lib/a/blobs/sha256:ba7816bf8f01cfea414140de5dae2223b00361a396177a9cb410ff61f20015ad HTTP/1.1\r\n\
+         Host: h\r\n\r\n",
     ),
     (
         Word::Opening,
@@ -550,15 +557,20 @@ static REQUESTS: [(Word, &str); 8] = [
     ),
     (
         Word::Single,
-        "POST /v2/lib/a/blobs/uploads/?digest=sha256:ba7816bf8f01cfea414140de5dae2223b00361a396177a9cb410ff61f20015ad HTTP/1.1\r\nHost: h\r\nContent-Type: application/octet-stream\r\nContent-Length: 3\r\n\r\nabc",
+        "POST /v2/lib/a/blobs/uploads/\
+         ?digest=sha256:ba7816bf8f01cfea414140de5dae2223b00361a396177a9cb410ff61f20015ad HTTP/1.1\r\nHost: h\r\n\
+         Content-Type: application/octet-stream\r\nContent-Length: 3\r\n\r\nabc",
     ),
     (
         Word::Mount,
-        "POST /v2/lib/a/blobs/uploads/?mount=sha256:ba7816bf8f01cfea414140de5dae2223b00361a396177a9cb410ff61f20015ad&from=lib/b HTTP/1.1\r\nHost: h\r\nContent-Length: 0\r\n\r\n",
+        "POST /v2/lib/a/blobs/uploads/\
+         ?mount=sha256:ba7816bf8f01cfea414140de5dae2223b00361a396177a9cb410ff61f20015ad&from=lib/b HTTP/1.1\r\n\
+         Host: h\r\nContent-Length: 0\r\n\r\n",
     ),
     (
         Word::Chunk,
-        "PATCH /v2/lib/a/blobs/uploads/00000001-0000-8000-8000-000000000000 HTTP/1.1\r\nHost: h\r\nContent-Range: 0-1\r\nContent-Type: application/octet-stream\r\nContent-Length: 2\r\n\r\nab",
+        "PATCH /v2/lib/a/blobs/uploads/00000001-0000-8000-8000-000000000000 HTTP/1.1\r\nHost: h\r\n\
+         Content-Range: 0-1\r\nContent-Type: application/octet-stream\r\nContent-Length: 2\r\n\r\nab",
     ),
     (
         Word::Status,
@@ -566,7 +578,9 @@ static REQUESTS: [(Word, &str); 8] = [
     ),
     (
         Word::Close,
-        "PUT /v2/lib/a/blobs/uploads/00000001-0000-8000-8000-000000000000?digest=sha256:ba7816bf8f01cfea414140de5dae2223b00361a396177a9cb410ff61f20015ad HTTP/1.1\r\nHost: h\r\nContent-Type: application/octet-stream\r\nContent-Length: 0\r\n\r\n",
+        "PUT /v2/lib/a/blobs/uploads/00000001-0000-8000-8000-000000000000\
+         ?digest=sha256:ba7816bf8f01cfea414140de5dae2223b00361a396177a9cb410ff61f20015ad HTTP/1.1\r\nHost: h\r\n\
+         Content-Type: application/octet-stream\r\nContent-Length: 0\r\n\r\n",
     ),
 ];
 
@@ -676,8 +690,9 @@ fn a_transport_is_silent_after_a_fault(rt: HostRuntime) -> Result<(), Fail> {
 }
 
 /// A HEAD's reply has no body, and the last one's is all up to the end.
-const HEARD: &[u8] =
-    b"HTTP/1.1 200 OK\r\nContent-Length: 0\r\n\r\nHTTP/1.1 404 Not Found\r\nContent-Length: 9\r\n\r\nHTTP/1.1 200 OK\r\n\r\n";
+const HEARD: &[u8] = b"HTTP/1.1 200 OK\r\nContent-Length: 0\r\n\r\n\
+    HTTP/1.1 404 Not Found\r\nContent-Length: 9\r\n\r\n\
+    HTTP/1.1 200 OK\r\n\r\n";
 
 static STATUSES: [(Word, Option<u16>); 4] = [
     (Word::Base, Some(200)),

@@ -1,5 +1,5 @@
-//! A content that tests send, store and fetch: it repeats after 251 bytes, so that bytes which are lost, doubled or moved
-//! show.
+//! A content that tests send, store and fetch: it repeats after 251 bytes, so that bytes which are lost, doubled or
+//! moved show.
 
 use std::alloc::{AllocError, Global};
 

@@ -1,4 +1,5 @@
-//! Assertions, each in a function of its own: the prover goes through all that an assertion's macro becomes, wherever it stands.
+//! Assertions, each in a function of its own: the prover goes through all that an assertion's macro becomes, wherever
+//! it stands.
 
 use std::fmt::{Debug, Display};
 use std::process::Abort;

@@ -479,7 +479,8 @@ fn read_on(
 }
 
 const TWO: &str =
-    "PATCH /v2/a/blobs/uploads/00000001-0000-8000-8000-000000000000 HTTP/1.1\r\nContent-Length: 2\r\n\r\nabGET /v2/ HTTP/1.0\r\n\r\n";
+    "PATCH /v2/a/blobs/uploads/00000001-0000-8000-8000-000000000000 HTTP/1.1\r\nContent-Length: 2\r\n\r\nab\
+     GET /v2/ HTTP/1.0\r\n\r\n";
 
 static TWO_KINDS: [Kind; 4] = [Kind::Chunk(2), Kind::Base, Kind::Over, Kind::Over];
 

@@ -43,42 +43,57 @@ static REPLIES: [(Said, Style, &str); 10] = [
     (
         Said::Blob(Algorithm::Sha256),
         KEPT,
-        "HTTP/1.1 200 OK\r\nDocker-Content-Digest: sha256:ba7816bf8f01cfea414140de5dae2223b00361a396177a9cb410ff61f20015ad\r\nContent-Type: application/octet-stream\r\nContent-Length: 3\r\n\r\nabc",
+        "HTTP/1.1 200 OK\r\n\
+         Docker-Content-Digest: sha256:ba7816bf8f01cfea414140de5dae2223b00361a396177a9cb410ff61f20015ad\r\n\
+         Content-Type: application/octet-stream\r\nContent-Length: 3\r\n\r\nabc",
     ),
     (
         Said::Seen(Algorithm::Sha512),
         HEAD,
-        "HTTP/1.1 200 OK\r\nDocker-Content-Digest: sha512:ddaf35a193617abacc417349ae20413112e6fa4e89a97ea20a9eeee64b55d39a2192992a274fc1a836ba3c23a3feebbd454d4423643ce80e2a9ac94fa54ca49f\r\nContent-Type: application/octet-stream\r\nContent-Length: 3\r\n\r\n",
+        "HTTP/1.1 200 OK\r\n\
+         Docker-Content-Digest: \
+         sha512:ddaf35a193617abacc417349ae20413112e6fa4e89a97ea20a9eeee64b55d39a\
+         2192992a274fc1a836ba3c23a3feebbd454d4423643ce80e2a9ac94fa54ca49f\r\nContent-Type: application/octet-stream\r\n\
+         Content-Length: 3\r\n\r\n",
     ),
     (
         Said::Begun,
         CLOSED,
-        "HTTP/1.1 202 Accepted\r\nLocation: /v2/lib/a/blobs/uploads/00000001-0000-8000-8000-000000000000\r\nContent-Length: 0\r\nConnection: close\r\n\r\n",
+        "HTTP/1.1 202 Accepted\r\nLocation: /v2/lib/a/blobs/uploads/00000001-0000-8000-8000-000000000000\r\n\
+         Content-Length: 0\r\nConnection: close\r\n\r\n",
     ),
     (
         Said::Stored(Algorithm::Sha256),
         KEPT,
-        "HTTP/1.1 201 Created\r\nLocation: /v2/lib/a/blobs/sha256:ba7816bf8f01cfea414140de5dae2223b00361a396177a9cb410ff61f20015ad\r\nContent-Length: 0\r\n\r\n",
+        "HTTP/1.1 201 Created\r\n\
+         Location: /v2/lib/a/blobs/sha256:ba7816bf8f01cfea414140de5dae2223b00361a396177a9cb410ff61f20015ad\r\n\
+         Content-Length: 0\r\n\r\n",
     ),
     (
         Said::Taken(0),
         KEPT,
-        "HTTP/1.1 202 Accepted\r\nLocation: /v2/lib/a/blobs/uploads/00000001-0000-8000-8000-000000000000\r\nContent-Length: 0\r\n\r\n",
+        "HTTP/1.1 202 Accepted\r\nLocation: /v2/lib/a/blobs/uploads/00000001-0000-8000-8000-000000000000\r\n\
+         Content-Length: 0\r\n\r\n",
     ),
     (
         Said::Taken(3),
         KEPT,
-        "HTTP/1.1 202 Accepted\r\nLocation: /v2/lib/a/blobs/uploads/00000001-0000-8000-8000-000000000000\r\nRange: 0-2\r\nContent-Length: 0\r\n\r\n",
+        "HTTP/1.1 202 Accepted\r\nLocation: /v2/lib/a/blobs/uploads/00000001-0000-8000-8000-000000000000\r\n\
+         Range: 0-2\r\nContent-Length: 0\r\n\r\n",
     ),
     (
         Said::Standing(1),
         HEAD,
-        "HTTP/1.1 204 No Content\r\nLocation: /v2/lib/a/blobs/uploads/00000001-0000-8000-8000-000000000000\r\nRange: 0-0\r\n\r\n",
+        "HTTP/1.1 204 No Content\r\nLocation: /v2/lib/a/blobs/uploads/00000001-0000-8000-8000-000000000000\r\n\
+         Range: 0-0\r\n\r\n",
     ),
     (
         Said::Misplaced(3),
         KEPT,
-        "HTTP/1.1 416 Range Not Satisfiable\r\nLocation: /v2/lib/a/blobs/uploads/00000001-0000-8000-8000-000000000000\r\nRange: 0-2\r\nContent-Type: application/json\r\nContent-Length: 75\r\n\r\n{\"errors\":[{\"code\":\"BLOB_UPLOAD_INVALID\",\"message\":\"blob upload invalid\"}]}",
+        "HTTP/1.1 416 Range Not Satisfiable\r\n\
+         Location: /v2/lib/a/blobs/uploads/00000001-0000-8000-8000-000000000000\r\nRange: 0-2\r\n\
+         Content-Type: application/json\r\nContent-Length: 75\r\n\r\n\
+         {\"errors\":[{\"code\":\"BLOB_UPLOAD_INVALID\",\"message\":\"blob upload invalid\"}]}",
     ),
     (
         Said::NoMemory,
@@ -99,67 +114,86 @@ fn replies_have_their_fields_in_order(rt: HostRuntime) -> Result<(), Fail> {
 static REFUSALS: [(Refusal, &str); 16] = [
     (
         Refusal::NoForm,
-        "HTTP/1.1 404 Not Found\r\nContent-Type: application/json\r\nContent-Length: 76\r\n\r\n{\"errors\":[{\"code\":\"UNSUPPORTED\",\"message\":\"the operation is unsupported\"}]}",
+        "HTTP/1.1 404 Not Found\r\nContent-Type: application/json\r\nContent-Length: 76\r\n\r\n\
+         {\"errors\":[{\"code\":\"UNSUPPORTED\",\"message\":\"the operation is unsupported\"}]}",
     ),
     (
         Refusal::BadName,
-        "HTTP/1.1 404 Not Found\r\nContent-Type: application/json\r\nContent-Length: 72\r\n\r\n{\"errors\":[{\"code\":\"NAME_INVALID\",\"message\":\"invalid repository name\"}]}",
+        "HTTP/1.1 404 Not Found\r\nContent-Type: application/json\r\nContent-Length: 72\r\n\r\n\
+         {\"errors\":[{\"code\":\"NAME_INVALID\",\"message\":\"invalid repository name\"}]}",
     ),
     (
         Refusal::Method(Form::Base),
-        "HTTP/1.1 405 Method Not Allowed\r\nAllow: GET, HEAD\r\nContent-Type: application/json\r\nContent-Length: 76\r\n\r\n{\"errors\":[{\"code\":\"UNSUPPORTED\",\"message\":\"the operation is unsupported\"}]}",
+        "HTTP/1.1 405 Method Not Allowed\r\nAllow: GET, HEAD\r\nContent-Type: application/json\r\n\
+         Content-Length: 76\r\n\r\n\
+         {\"errors\":[{\"code\":\"UNSUPPORTED\",\"message\":\"the operation is unsupported\"}]}",
     ),
     (
         Refusal::Method(Form::Blob),
-        "HTTP/1.1 405 Method Not Allowed\r\nAllow: GET, HEAD\r\nContent-Type: application/json\r\nContent-Length: 76\r\n\r\n{\"errors\":[{\"code\":\"UNSUPPORTED\",\"message\":\"the operation is unsupported\"}]}",
+        "HTTP/1.1 405 Method Not Allowed\r\nAllow: GET, HEAD\r\nContent-Type: application/json\r\n\
+         Content-Length: 76\r\n\r\n\
+         {\"errors\":[{\"code\":\"UNSUPPORTED\",\"message\":\"the operation is unsupported\"}]}",
     ),
     (
         Refusal::Method(Form::Uploads),
-        "HTTP/1.1 405 Method Not Allowed\r\nAllow: POST\r\nContent-Type: application/json\r\nContent-Length: 76\r\n\r\n{\"errors\":[{\"code\":\"UNSUPPORTED\",\"message\":\"the operation is unsupported\"}]}",
+        "HTTP/1.1 405 Method Not Allowed\r\nAllow: POST\r\nContent-Type: application/json\r\nContent-Length: 76\r\n\r\n\
+         {\"errors\":[{\"code\":\"UNSUPPORTED\",\"message\":\"the operation is unsupported\"}]}",
     ),
     (
         Refusal::Method(Form::Upload),
-        "HTTP/1.1 405 Method Not Allowed\r\nAllow: GET, HEAD, PATCH, PUT\r\nContent-Type: application/json\r\nContent-Length: 76\r\n\r\n{\"errors\":[{\"code\":\"UNSUPPORTED\",\"message\":\"the operation is unsupported\"}]}",
+        "HTTP/1.1 405 Method Not Allowed\r\nAllow: GET, HEAD, PATCH, PUT\r\nContent-Type: application/json\r\n\
+         Content-Length: 76\r\n\r\n\
+         {\"errors\":[{\"code\":\"UNSUPPORTED\",\"message\":\"the operation is unsupported\"}]}",
     ),
     (
         Refusal::NoUpload,
-        "HTTP/1.1 404 Not Found\r\nContent-Type: application/json\r\nContent-Length: 87\r\n\r\n{\"errors\":[{\"code\":\"BLOB_UPLOAD_UNKNOWN\",\"message\":\"blob upload unknown to registry\"}]}",
+        "HTTP/1.1 404 Not Found\r\nContent-Type: application/json\r\nContent-Length: 87\r\n\r\n\
+         {\"errors\":[{\"code\":\"BLOB_UPLOAD_UNKNOWN\",\"message\":\"blob upload unknown to registry\"}]}",
     ),
     (
         Refusal::BadRange,
-        "HTTP/1.1 400 Bad Request\r\nContent-Type: application/json\r\nContent-Length: 75\r\n\r\n{\"errors\":[{\"code\":\"BLOB_UPLOAD_INVALID\",\"message\":\"blob upload invalid\"}]}",
+        "HTTP/1.1 400 Bad Request\r\nContent-Type: application/json\r\nContent-Length: 75\r\n\r\n\
+         {\"errors\":[{\"code\":\"BLOB_UPLOAD_INVALID\",\"message\":\"blob upload invalid\"}]}",
     ),
     (
         Refusal::WrongLength,
-        "HTTP/1.1 400 Bad Request\r\nContent-Type: application/json\r\nContent-Length: 93\r\n\r\n{\"errors\":[{\"code\":\"SIZE_INVALID\",\"message\":\"provided length did not match content length\"}]}",
+        "HTTP/1.1 400 Bad Request\r\nContent-Type: application/json\r\nContent-Length: 93\r\n\r\n\
+         {\"errors\":[{\"code\":\"SIZE_INVALID\",\"message\":\"provided length did not match content length\"}]}",
     ),
     (
         Refusal::TooLarge,
-        "HTTP/1.1 413 Content Too Large\r\nContent-Type: application/json\r\nContent-Length: 93\r\n\r\n{\"errors\":[{\"code\":\"SIZE_INVALID\",\"message\":\"provided length did not match content length\"}]}",
+        "HTTP/1.1 413 Content Too Large\r\nContent-Type: application/json\r\nContent-Length: 93\r\n\r\n\
+         {\"errors\":[{\"code\":\"SIZE_INVALID\",\"message\":\"provided length did not match content length\"}]}",
     ),
     (
         Refusal::NoDigest,
-        "HTTP/1.1 400 Bad Request\r\nContent-Type: application/json\r\nContent-Length: 97\r\n\r\n{\"errors\":[{\"code\":\"DIGEST_INVALID\",\"message\":\"provided digest did not match uploaded content\"}]}",
+        "HTTP/1.1 400 Bad Request\r\nContent-Type: application/json\r\nContent-Length: 97\r\n\r\n\
+         {\"errors\":[{\"code\":\"DIGEST_INVALID\",\"message\":\"provided digest did not match uploaded content\"}]}",
     ),
     (
         Refusal::Mismatch,
-        "HTTP/1.1 400 Bad Request\r\nContent-Type: application/json\r\nContent-Length: 97\r\n\r\n{\"errors\":[{\"code\":\"DIGEST_INVALID\",\"message\":\"provided digest did not match uploaded content\"}]}",
+        "HTTP/1.1 400 Bad Request\r\nContent-Type: application/json\r\nContent-Length: 97\r\n\r\n\
+         {\"errors\":[{\"code\":\"DIGEST_INVALID\",\"message\":\"provided digest did not match uploaded content\"}]}",
     ),
     (
         Refusal::HasBody,
-        "HTTP/1.1 400 Bad Request\r\nContent-Type: application/json\r\nContent-Length: 93\r\n\r\n{\"errors\":[{\"code\":\"SIZE_INVALID\",\"message\":\"provided length did not match content length\"}]}",
+        "HTTP/1.1 400 Bad Request\r\nContent-Type: application/json\r\nContent-Length: 93\r\n\r\n\
+         {\"errors\":[{\"code\":\"SIZE_INVALID\",\"message\":\"provided length did not match content length\"}]}",
     ),
     (
         Refusal::TooMany,
-        "HTTP/1.1 429 Too Many Requests\r\nContent-Type: application/json\r\nContent-Length: 69\r\n\r\n{\"errors\":[{\"code\":\"TOOMANYREQUESTS\",\"message\":\"too many requests\"}]}",
+        "HTTP/1.1 429 Too Many Requests\r\nContent-Type: application/json\r\nContent-Length: 69\r\n\r\n\
+         {\"errors\":[{\"code\":\"TOOMANYREQUESTS\",\"message\":\"too many requests\"}]}",
     ),
     (
         Refusal::NoBlob,
-        "HTTP/1.1 404 Not Found\r\nContent-Type: application/json\r\nContent-Length: 73\r\n\r\n{\"errors\":[{\"code\":\"BLOB_UNKNOWN\",\"message\":\"blob unknown to registry\"}]}",
+        "HTTP/1.1 404 Not Found\r\nContent-Type: application/json\r\nContent-Length: 73\r\n\r\n\
+         {\"errors\":[{\"code\":\"BLOB_UNKNOWN\",\"message\":\"blob unknown to registry\"}]}",
     ),
     (
         Refusal::BadDigest,
-        "HTTP/1.1 400 Bad Request\r\nContent-Type: application/json\r\nContent-Length: 97\r\n\r\n{\"errors\":[{\"code\":\"DIGEST_INVALID\",\"message\":\"provided digest did not match uploaded content\"}]}",
+        "HTTP/1.1 400 Bad Request\r\nContent-Type: application/json\r\nContent-Length: 97\r\n\r\n\
+         {\"errors\":[{\"code\":\"DIGEST_INVALID\",\"message\":\"provided digest did not match uploaded content\"}]}",
     ),
 ];
 

@@ -15,11 +15,12 @@ const BEFORE_CLOSE: usize = 576;
 
 const REPLIES: usize = 642;
 
-/// How many bytes lie between two cuts that are tried. It has no divisor in common with the length of a request or a reply.
+/// How many bytes lie between two cuts that are tried. It has no divisor in common with the length of a request or a
+/// reply.
 const STRIDE: usize = 17;
 
-/// Whether a push whose first connection is cut so may end so. If its close comes late, that may be served first: the close that
-/// it asks again finds no upload then.
+/// Whether a push whose first connection is cut so may end so. If its close comes late, that may be served first: the
+/// close that it asks again finds no upload then.
 fn may_end(course: Course, end: End) -> bool {
     match end {
         End::Pushed | End::Already => true,
@@ -102,8 +103,8 @@ fn mistaken(run: &Recorded) -> Account<'_> {
     account
 }
 
-/// If the requests of a push were those of the other's connections, others would carry its reference, and what was served wouldn't
-/// be what it asked.
+/// If the requests of a push were those of the other's connections, others would carry its reference, and what was
+/// served wouldn't be what it asked.
 #[test]
 fn accounts_that_mistake_a_push_for_another_are_none(rt: HostRuntime) -> Result<(), Fail> {
     let run = run(&rt, &[WHOLE])?;
@@ -113,7 +114,8 @@ fn accounts_that_mistake_a_push_for_another_are_none(rt: HostRuntime) -> Result<
     Ok(())
 }
 
-/// What a push read and no worker wrote wasn't carried, and a connection that two workers were given is no worker's own.
+/// What a push read and no worker wrote wasn't carried, and a connection that two workers were given is no worker's
+/// own.
 #[test]
 fn records_of_another_network_are_no_account(rt: HostRuntime) -> Result<(), Fail> {
     let mut run = run(&rt, &[WHOLE])?;
@@ -132,7 +134,8 @@ fn records_of_another_network_are_no_account(rt: HostRuntime) -> Result<(), Fail
     Ok(())
 }
 
-/// What was heard over the second connection is put before what was heard over the first: it wasn't served in that order.
+/// What was heard over the second connection is put before what was heard over the first: it wasn't served in that
+/// order.
 #[test]
 fn requests_in_another_order_are_no_account(rt: HostRuntime) -> Result<(), Fail> {
     let course = Course {

@@ -59,10 +59,13 @@ fn heard_for(alloc: Global, answer: &Answer) -> Result<Heard, AllocError> {
 }
 
 const TAKEN: &[u8] =
-    b"HTTP/1.1 202 Accepted\r\nLocation: /v2/lib/a/blobs/uploads/00000001-0000-8000-8000-000000000000\r\nRange: 0-0\r\nContent-Length: 0\r\n\r\n";
+    b"HTTP/1.1 202 Accepted\r\nLocation: /v2/lib/a/blobs/uploads/00000001-0000-8000-8000-000000000000\r\nRange: 0-0\r\n\
+      Content-Length: 0\r\n\r\n";
 
 const MISPLACED: &[u8] =
-    b"HTTP/1.1 416 Range Not Satisfiable\r\nLocation: /v2/lib/a/blobs/uploads/00000001-0000-8000-8000-000000000000\r\nRange: 0-0\r\nContent-Type: application/json\r\nContent-Length: 75\r\n\r\n{\"errors\":[{\"code\":\"BLOB_UPLOAD_INVALID\",\"message\":\"blob upload invalid\"}]}";
+    b"HTTP/1.1 416 Range Not Satisfiable\r\nLocation: /v2/lib/a/blobs/uploads/00000001-0000-8000-8000-000000000000\r\n\
+      Range: 0-0\r\nContent-Type: application/json\r\nContent-Length: 75\r\n\r\n\
+      {\"errors\":[{\"code\":\"BLOB_UPLOAD_INVALID\",\"message\":\"blob upload invalid\"}]}";
 
 const UPLOAD: &[u8] = b"/v2/lib/a/blobs/uploads/00000001-0000-8000-8000-000000000000";
 
@@ -130,14 +133,17 @@ fn a_refused_growth_leaves_the_answer_to_be_heard_of(rt: HostRuntime) -> Result<
 
 /// The same reply three times.
 const REPLIES: &[u8] =
-    b"HTTP/1.1 202 Accepted\r\nLocation: /v2/lib/a/blobs/uploads/00000001-0000-8000-8000-000000000000\r\nRange: 0-0\r\nContent-Length: 0\r\n\r\n\
-HTTP/1.1 202 Accepted\r\nLocation: /v2/lib/a/blobs/uploads/00000001-0000-8000-8000-000000000000\r\nRange: 0-0\r\nContent-Length: 0\r\n\r\n\
-HTTP/1.1 202 Accepted\r\nLocation: /v2/lib/a/blobs/uploads/00000001-0000-8000-8000-000000000000\r\nRange: 0-0\r\nContent-Length: 0\r\n\r\n";
+    b"HTTP/1.1 202 Accepted\r\nLocation: /v2/lib/a/blobs/uploads/00000001-0000-8000-8000-000000000000\r\nRange: 0-0\r\n\
+      Content-Length: 0\r\n\r\n\
+      HTTP/1.1 202 Accepted\r\nLocation: /v2/lib/a/blobs/uploads/00000001-0000-8000-8000-000000000000\r\nRange: 0-0\r\n\
+      Content-Length: 0\r\n\r\n\
+      HTTP/1.1 202 Accepted\r\nLocation: /v2/lib/a/blobs/uploads/00000001-0000-8000-8000-000000000000\r\nRange: 0-0\r\n\
+      Content-Length: 0\r\n\r\n";
 
 /// The same request three times.
 const REQUESTS: &[u8] = b"GET /v2/ HTTP/1.1\r\nHost: h\r\n\r\n\
-GET /v2/ HTTP/1.1\r\nHost: h\r\n\r\n\
-GET /v2/ HTTP/1.1\r\nHost: h\r\n\r\n";
+    GET /v2/ HTTP/1.1\r\nHost: h\r\n\r\n\
+    GET /v2/ HTTP/1.1\r\nHost: h\r\n\r\n";
 
 /// Room for what a transport writes. One growth may be refused.
 fn room(alloc: Global) -> Result<Vec<u8>, AllocError> {

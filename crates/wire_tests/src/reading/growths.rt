@@ -64,19 +64,25 @@ static REQUESTS: [(&str, Kind); 10] = [
         Kind::Opening,
     ),
     (
-        "POST /v2/lib/a/blobs/uploads/?digest=sha256:ba7816bf8f01cfea414140de5dae2223b00361a396177a9cb410ff61f20015ad HTTP/1.1\r\nContent-Length: 3\r\n\r\nabc",
+        "POST /v2/lib/a/blobs/uploads/\
+         ?digest=sha256:ba7816bf8f01cfea414140de5dae2223b00361a396177a9cb410ff61f20015ad HTTP/1.1\r\n\
+         Content-Length: 3\r\n\r\nabc",
         Kind::Single(3),
     ),
     (
-        "POST /v2/lib/b/blobs/uploads/?mount=sha256%3Aba7816bf8f01cfea414140de5dae2223b00361a396177a9cb410ff61f20015ad&from=lib%2Fa HTTP/1.1\r\n\r\n",
+        "POST /v2/lib/b/blobs/uploads/\
+         ?mount=sha256%3Aba7816bf8f01cfea414140de5dae2223b00361a396177a9cb410ff61f20015ad\
+         &from=lib%2Fa HTTP/1.1\r\n\r\n",
         Kind::Mount,
     ),
     (
-        "PATCH /v2/lib/a/blobs/uploads/00000001-0000-8000-8000-000000000000 HTTP/1.1\r\nContent-Range: 0-1\r\nContent-Length: 2\r\n\r\nab",
+        "PATCH /v2/lib/a/blobs/uploads/00000001-0000-8000-8000-000000000000 HTTP/1.1\r\nContent-Range: 0-1\r\n\
+         Content-Length: 2\r\n\r\nab",
         Kind::Chunk(2),
     ),
     (
-        "PATCH /v2/lib/a/blobs/uploads/00000001-0000-8000-8000-000000000000 HTTP/1.1\r\nTransfer-Encoding: chunked\r\n\r\n1\r\na\r\n2\r\nbc\r\n0\r\n\r\n",
+        "PATCH /v2/lib/a/blobs/uploads/00000001-0000-8000-8000-000000000000 HTTP/1.1\r\n\
+         Transfer-Encoding: chunked\r\n\r\n1\r\na\r\n2\r\nbc\r\n0\r\n\r\n",
         Kind::Chunk(3),
     ),
     (
@@ -84,7 +90,9 @@ static REQUESTS: [(&str, Kind); 10] = [
         Kind::Status,
     ),
     (
-        "PUT /v2/lib/a/blobs/uploads/00000001-0000-8000-8000-000000000000?digest=sha256:ba7816bf8f01cfea414140de5dae2223b00361a396177a9cb410ff61f20015ad HTTP/1.1\r\nContent-Length: 1\r\n\r\nc",
+        "PUT /v2/lib/a/blobs/uploads/00000001-0000-8000-8000-000000000000\
+         ?digest=sha256:ba7816bf8f01cfea414140de5dae2223b00361a396177a9cb410ff61f20015ad HTTP/1.1\r\n\
+         Content-Length: 1\r\n\r\nc",
         Kind::Close(1),
     ),
     ("GET /v2/ HTTP/1.1\r\n\r\n", Kind::Base),

@@ -20,8 +20,8 @@ const LIMITS: Limits = Limits {
     max_idle: 1,
 };
 
-const DIGEST_512: &str =
-    "sha512:ddaf35a193617abacc417349ae20413112e6fa4e89a97ea20a9eeee64b55d39a2192992a274fc1a836ba3c23a3feebbd454d4423643ce80e2a9ac94fa54ca49f";
+const DIGEST_512: &str = "sha512:ddaf35a193617abacc417349ae20413112e6fa4e89a97ea20a9eeee64b55d39a\
+    2192992a274fc1a836ba3c23a3feebbd454d4423643ce80e2a9ac94fa54ca49f";
 
 const SINGLE: &str = "/v2/lib/a/blobs/uploads/";
 
@@ -177,7 +177,8 @@ const OTHER_UPLOAD: &str = "/v2/lib/a/blobs/uploads/00000002-0000-8000-8000-0000
 
 const FROM_0: &str = "Content-Range: 0-65536\r\n";
 
-/// The requests of one connection, behind two openings. A body for an upload that was answered to have bytes isn't hashed as it comes.
+/// The requests of one connection, behind two openings. A body for an upload that was answered to have bytes isn't
+/// hashed as it comes.
 static CONNECTION: [Row; 12] = [
     ("PATCH", UPLOAD, "", "", Framed::Sized(65_537), SHA256),
     ("PATCH", UPLOAD, "", "", Framed::Sized(65_537), None),
