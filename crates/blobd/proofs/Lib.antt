@@ -1,3 +1,4 @@
+pub mod LoggedLines
 pub mod OnceFacts
 pub mod PrintedTexts
 pub mod PushedLines

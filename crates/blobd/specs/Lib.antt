@@ -1,5 +1,6 @@
 pub mod Halves
 pub mod LogLine
+pub mod LogTold
 pub mod Once
 pub mod Pace
 pub mod Pushed

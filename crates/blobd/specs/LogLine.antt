@@ -1,5 +1,5 @@
 -- The text of a line of the log of requests, and what becomes of it.
-use Rattle.std.specs.Prelude.{◌≡◌, ℕ, ◌+◌, ◌⊎◌, min, List, ◌++◌, codes, decimal}
+use Rattle.std.specs.Prelude.{◌≡◌, ℕ, ◌+◌, min, List, [], ◌∷◌, ◌++◌, codes, decimal}
 use Rattle.upload_intake.specs.Settled.{count_limit}
 use Rattle.blobd.specs.declared.log_lines.LogLines.{LogLines}
 
@@ -8,9 +8,9 @@ abbrev pub line_text : List ℕ → ℕ → ℕ → ℕ → List ℕ
 line_text head status size millis =
     head ++ (codes " " ++ (decimal status ++ (codes " " ++ (decimal size ++ (codes " " ++ (decimal millis ++ codes "ms"))))))
 
--- this line was handed on, and nothing else; none is lost since
+-- this line was handed on, and nothing else, with how many were lost before it; none is lost since
 abbrev pub HandsOn : LogLines → List ℕ → LogLines → Type 0
-HandsOn old text new = (new.lost ≡ 0) × (new.handed.bytes ≡ old.handed.bytes ++ text)
+HandsOn old text new = (new.lost ≡ 0) × (new.handed.lines ≡ old.handed.lines ++ (old.lost, text) ∷ [])
 
 -- nothing was handed on, and one more line is lost
 abbrev pub Loses : LogLines → LogLines → Type 0

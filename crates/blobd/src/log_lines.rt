@@ -2,8 +2,8 @@
 ghost use Rattle.std.specs.Prelude.{◌≡◌, ◌⊎◌, [], IfOk, string_bytes};
 ghost use Rattle.blobd.specs.LogLine.{HandsOn, Loses};
 
+use crate::handed::{Handed, Line};
 use crossbeam_channel::{Receiver, Sender, bounded};
-use http_wire::Transcript;
 use std::alloc::{AllocError, Global};
 use std::io::Eprint;
 use std::rt::Clock;
@@ -18,19 +18,12 @@ const MOST_WAITING: usize = 1_024;
 /// How long the end of a log waits for its last lines to be written, in seconds.
 const PATIENCE_SECONDS: u64 = 2;
 
-/// A line, and how many were lost right before it.
-#[derive(Drop)]
-struct Line {
-    lost: u64,
-    text: String,
-}
-
 /// Where the lines of one worker go.
 #[derive(Drop)]
 pub struct LogLines {
     lines: Sender<Line>,
-    /// The bytes of those that were handed on, one behind the other.
-    handed: Transcript,
+    /// Those that were handed on.
+    handed: Handed,
     /// How many were lost since the last one that wasn't.
     lost: u64,
 }
@@ -40,11 +33,11 @@ impl LogLines {
     pub fn send<R: Wait>(&mut self, rt: &R, text: String)
         ensures { HandsOn self.old (string_bytes text) self.new ⊎ Loses self.old self.new }
     {
-        let handed = self.handed.and(text.as_bytes());
         let line = Line {
             lost: self.lost,
             text,
         };
+        let handed = self.handed.and(&line);
         match self.lines.try_send(rt, line) {
             Ok(()) => {
                 self.handed = handed;
@@ -90,11 +83,11 @@ impl Log {
 
     /// A place for the lines of a worker, of which none is lost yet. An error is out of memory.
     pub fn lines(&self) -> Result<LogLines, AllocError>
-        ensures { IfOk result (λ lines. (lines.lost ≡ 0) × (lines.handed.bytes ≡ [])) }
+        ensures { IfOk result (λ lines. (lines.lost ≡ 0) × (lines.handed.lines ≡ [])) }
     {
         Ok(LogLines {
             lines: self.lines.clone()?,
-            handed: Transcript::none(),
+            handed: Handed::none(),
             lost: 0,
         })
     }

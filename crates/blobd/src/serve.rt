@@ -1,6 +1,7 @@
 //! `blobd serve`: a listener, and the workers that take connections from it.
 ghost use Rattle.std.specs.Prelude.{◌≡◌, ◌<◌, ◌≤◌, true, [], All, None, IfOk, OnOk, is_some, vec_len, vec_capacity};
 ghost use Rattle.upload_intake.specs.Working.{means};
+ghost use Rattle.blobd.specs.LogTold.{log_state, new_log, no_head};
 ghost use Rattle.blobd.specs.Serving.{HasServed};
 ghost use Rattle.blobd.specs.Status.{IsServed};
 
@@ -104,7 +105,7 @@ where
 
 /// A place for the lines of a worker, if there is a log.
 fn lines_of(log: &Option<Log>) -> Result<Option<LogLines>, Lack>
-    ensures { IfOk result (λ lines. is_some lines ≡ is_some log.now) }
+    ensures { IfOk result (λ lines. log_state no_head lines ≡ new_log (is_some log.now)) }
 {
     match log {
         Some(log) => match log.lines() {
@@ -153,7 +154,7 @@ fn make_worker<'a, R>(
 ) -> Result<ListenerWorker<'a, R>, Lack>
 where
     R: AllocGlobal + Clock + RandomSource + Eprint + Wait,
-    ensures { IfOk result (λ worker. worker.observer ≡ is_some log.now) }
+    ensures { IfOk result (λ worker. worker.observer ≡ new_log (is_some log.now)) }
 {
     let Ok(secrets) = system_secrets(rt) else {
         return Err(Lack::Secrets);
@@ -181,7 +182,8 @@ where
     R: AllocGlobal + Clock + RandomSource + Eprint + Wait,
     requires none { vec_len workers.old ≡ 0 }
     requires room { terms.workers ≤ vec_capacity workers.old }
-    ensures { OnOk result (vec_len workers.new ≡ terms.workers) }
+    ensures number { OnOk result (vec_len workers.new ≡ terms.workers) }
+    ensures logs { OnOk result (All (λ worker. worker.observer ≡ new_log (is_some log.now)) workers.new.items) }
 {
     for number in 0..terms.workers {
         let worker = make_worker(rt, listener, terms, log, closer)?;
@@ -213,10 +215,11 @@ where
     R: Threads + Wait + Sync + Clock + Eprint,
     requires some { 0 < vec_len workers }
     requires number { vec_len workers ≡ terms.workers }
+    requires logs { All (λ worker. worker.observer ≡ new_log terms.logged) workers.items }
     ensures { IfOk result (λ done. done ≡ true → HasServed
         (means ⟦<Accepted<'a, R> as Conns>⟧.gives ⟦<Reader<'a, R> as ByteSource>⟧.state ⟦<Writer<'a, R> as ByteSink>⟧.state
         ⟦<SystemSecrets as Secrets>⟧.draws ⟦<NoGate as Gate>⟧.watches ⟦<RequestLog<'a, R> as Observer>⟧.told)
-        ⟦<SinceStart<'a, R> as Moments>⟧.tells terms.workers terms.count) }
+        ⟦<SinceStart<'a, R> as Moments>⟧.tells terms.workers terms.count terms.logged) }
 {
     let moments = SinceStart {
         rt,
@@ -248,7 +251,7 @@ where
     ensures { IsServed (HasServed
         (means ⟦<Accepted<'a, R> as Conns>⟧.gives ⟦<Reader<'a, R> as ByteSource>⟧.state ⟦<Writer<'a, R> as ByteSink>⟧.state
         ⟦<SystemSecrets as Secrets>⟧.draws ⟦<NoGate as Gate>⟧.watches ⟦<RequestLog<'a, R> as Observer>⟧.told)
-        ⟦<SinceStart<'a, R> as Moments>⟧.tells terms.workers terms.count)
+        ⟦<SinceStart<'a, R> as Moments>⟧.tells terms.workers terms.count terms.logged)
         (W.contents out.old) (W.contents out.new) result }
 {
     let Ok(addr) = listener.local_addr() else {
