@@ -1443,8 +1443,9 @@ IN_TWO_CHUNKS = [
 
 def each_byte_is_hashed_once():
     """A large body that is the first of its upload is hashed by its worker as it comes, and not again. A later one is
-    hashed in a thread of its own. What a thread does is told from the time that it has a processor, compared with that
-    of others. A machine that is stopped while one of them runs may disturb one try, and not each of three."""
+    hashed in a thread of its own, and so are all chunks of an upload that is closed by a SHA-512. What a thread does is
+    told from the time that it has a processor, compared with that of others. A machine that is stopped while one of
+    them runs may disturb one try, and not each of three."""
     if not os.path.exists("/proc/self/schedstat"):
         print("skipped: the system doesn't tell the processor time of threads")
         return
@@ -1457,6 +1458,7 @@ def each_byte_is_hashed_once():
             "a body of a close by its sha512": ("sha512", *WITH_THE_CLOSE),
             "a first chunk": ("sha256", *IN_ONE_CHUNK),
             "a second chunk": ("sha256", *IN_TWO_CHUNKS),
+            "chunks by their sha512": ("sha512", *IN_TWO_CHUNKS),
         }
         for name, look in looks.items():
             for _ in range(3):
@@ -1470,6 +1472,50 @@ def each_byte_is_hashed_once():
             collections.Counter(hashing.replies),
         )
         hashing.client.close()
+
+
+def timed_close(client, place, digest):
+    """The status of a close without a body, and how long it took."""
+    begun = time.monotonic()
+    status, _, _ = ask(client, "PUT", f"{place}?digest={digest}")
+    return status, time.monotonic() - begun
+
+
+def longest_wait(client, other):
+    """The longest time that a request took, of requests one after another until the other is done."""
+    longest = 0
+    while not other.done():
+        begun = time.monotonic()
+        ask(client, "GET", "/v2/")
+        longest = max(longest, time.monotonic() - begun)
+    return longest
+
+
+def in_chunks(client, content):
+    """Where an upload is that has all of a content, and the statuses of its chunks."""
+    place = ask(client, "POST", "/v2/lib/a/blobs/uploads/")[1]["Location"]
+    pieces = [content[first : first + 32 * MIB] for first in range(0, len(content), 32 * MIB)]
+    return place, [ask(client, "PATCH", place, piece)[0] for piece in pieces]
+
+
+def closes_hold_nobody():
+    """While all of a large upload is hashed for its close, others are answered. A machine that is stopped meanwhile may
+    disturb one try, and not each of three."""
+    chance, told = random.Random(13), []
+    with Server(env=with_workers("2")) as server, concurrent.futures.ThreadPoolExecutor(1) as pool:
+        with contextlib.closing(server.client()) as closer, contextlib.closing(server.client()) as other:
+            for _ in range(3):
+                content = chance.randbytes(128 * MIB)
+                digest = f"sha512:{hashlib.sha512(content).hexdigest()}"
+                place, statuses = in_chunks(closer, content)
+                close = pool.submit(timed_close, closer, place, digest)
+                longest = longest_wait(other, close)
+                status, took = close.result()
+                told.append(([*statuses, status], longest, took))
+                if longest * 4 < took:
+                    break
+    check("the replies to large uploads", all(statuses == [202] * 4 + [201] for statuses, _, _ in told), told)
+    check("a close that is waited for by nobody else", longest * 4 < took, told)
 
 
 def load_tests(*_):
@@ -1503,6 +1549,7 @@ def load_tests(*_):
         peers_that_stay_hold_no_worker,
         sockets_are_closed,
         each_byte_is_hashed_once,
+        closes_hold_nobody,
         two_uploads_at_once,
         clients_that_vanish,
         curl_uploads,

@@ -57,6 +57,11 @@ NO_OTHER_BODY = {
     "upload_wire": {"ServiceDesk::into_service"},
 }
 
+# Functions of which no clause says anything, since none can speak of another thread. Tests stand for them.
+NO_CLAUSE = {
+    "upload_service": {"HashEnd::wait"},
+}
+
 
 def tracked():
     listed = subprocess.run(["git", "ls-files", "-z"], cwd=TOP, capture_output=True, check=True)
@@ -184,7 +189,8 @@ def unbroken(_):
         of_crate = [edit for edit in edits if edit.crate == crate]
         # The program's functions are no other crate's: a further edit will do for them.
         broken = {name for edit in of_crate if "/must-fail/" in edit.path or crate == "blobd" for name in edit.breaks}
-        functions = [name for name in public_functions(crate) if name not in NO_OTHER_BODY.get(crate, ())]
+        without = NO_OTHER_BODY.get(crate, set()) | NO_CLAUSE.get(crate, set())
+        functions = [name for name in public_functions(crate) if name not in without]
         found += [f"{crate}: no must-fail edit breaks {name}" for name in functions if name not in broken]
         known = {*functions, *public_functions(crate, laws=True), *other_functions(crate)}
         found += [

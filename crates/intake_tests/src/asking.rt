@@ -14,7 +14,7 @@ use std::test::*;
 use std::thread::{Promise, Threads};
 use std::{thread, vec};
 use upload_intake::{Gone, Keeper, Moments, Seat, SeatEnd, Settled, lines, settle};
-use upload_names::{BlobDigest, ByteRange, Bytes, RepoName, UploadRef};
+use upload_names::{Algorithm, BlobDigest, ByteRange, Bytes, RepoName, UploadRef};
 use upload_service::{Answer, Ask, BlobBytes, Extent, Limits, Refusal, Service};
 
 /// What a thread asks from its seat, and what it does with the answers.
@@ -189,6 +189,8 @@ struct Session {
     alloc: Global,
     name: RepoName,
     content: Vec<u8>,
+    /// By what the digest is with which it closes.
+    algorithm: Algorithm,
     /// How many bytes the first chunk has, and each after it.
     first: usize,
     chunk: usize,
@@ -211,6 +213,7 @@ impl Session {
             alloc,
             name: RepoName::read(alloc, name)?,
             content: content.to_vec(alloc)?,
+            algorithm: Algorithm::Sha256,
             first,
             chunk,
             at: None,
@@ -258,7 +261,7 @@ impl Script for Session {
             name,
             at,
             range: Extent::Absent,
-            digest: Some(BlobDigest::of_sha256(&self.content)),
+            digest: Some(BlobDigest::of(self.algorithm, &self.content)),
             body: Bytes::of(Vec::new(self.alloc)),
         })
     }
@@ -397,6 +400,39 @@ fn two_sessions_from_two_seats(rt: HostRuntime) -> Result<(), Fail> {
     check_held(&rt, &end.service, b"abc")
 }
 
+/// Whether each name has the content, under its digest by that algorithm.
+fn check_held_by<R>(
+    rt: &R,
+    service: &Service,
+    content: &[u8],
+    algorithms: [Algorithm; 2],
+) -> Result<(), Fail>
+where
+    R: Abort + AllocGlobal,
+{
+    for (name, algorithm) in NAMES.iter().zip(algorithms) {
+        let repository = RepoName::read(rt.alloc(), name.as_bytes())?;
+        let digest = BlobDigest::of(algorithm, content);
+        check(rt, service.holds(&repository, &digest), name);
+    }
+    Ok(())
+}
+
+#[test]
+fn closes_behind_large_chunks(rt: HostRuntime) -> Result<(), Fail> {
+    let content = content_of(rt.alloc(), 1_000_000)?;
+    let sizes = (300_000, 300_000);
+    let (left, mut right) = sessions(rt.alloc(), &content, sizes, sizes)?;
+    right.algorithm = Algorithm::Sha512;
+    let (left, right, end) = ran(&rt, (left, right))?;
+    check(&rt, left == (4, true), "left");
+    check(&rt, right == (4, true), "right");
+    // what a seat wishes before a close isn't counted
+    check(&rt, end.log_length == 12, "taken");
+    let algorithms = [Algorithm::Sha256, Algorithm::Sha512];
+    check_held_by(&rt, &end.service, &content, algorithms)
+}
+
 /// Two seats whose keeper never runs, over lines on which so many jobs may wait.
 fn seats_without_keeper(alloc: Global, capacity: usize) -> Result<(Seat, Seat), AllocError>
     requires { 0 < capacity }
@@ -434,6 +470,33 @@ fn a_keeper_that_never_runs(rt: HostRuntime) -> Result<(), Fail> {
     let second = fate_of_base(&rt, &mut seat);
     check(&rt, first != Fate::Answered, "the first ask");
     check(&rt, second == Fate::GivenBack, "the second ask");
+    Ok(())
+}
+
+fn a_close(alloc: Global) -> Result<Ask, Fail> {
+    Ok(Ask::Close {
+        name: RepoName::read(alloc, NAMES[0].as_bytes())?,
+        at: UploadRef::make(1, [0; 12]),
+        range: Extent::Absent,
+        digest: Some(BlobDigest::of_sha256(b"")),
+        body: Bytes::of(Vec::new(alloc)),
+    })
+}
+
+/// The keeper goes before the seat wishes, or once its wish is sent, or once it asked: the seat waits for nothing more.
+#[test]
+fn a_close_whose_keeper_goes(rt: HostRuntime) -> Result<(), Fail> {
+    let alloc = rt.alloc();
+    for _ in 0..20u64 {
+        let (keeper, mut seat, _other) = lines(alloc, service(alloc), 1)?;
+        let close = a_close(alloc)?;
+        let asking = thread::spawn(&rt, move || {
+            let answer = seat.ask(&rt, close, [0; 12]);
+            answer.is_ok()
+        })?;
+        drop(keeper);
+        check(&rt, !asking.join(&rt), "no answer");
+    }
     Ok(())
 }
 

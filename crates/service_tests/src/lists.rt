@@ -11,6 +11,7 @@ use crate::serving::{ABC, ABC_512, Job, NOTHING, answers_to, check, limits};
 use std::alloc::{AllocError, Global};
 use std::process::Abort;
 use std::slice::Iter;
+use std::sync::Wait;
 use std::test::Fail;
 use std::thread::Threads;
 use upload_names::{Algorithm, BlobDigest};
@@ -326,9 +327,9 @@ impl Upload {
     }
 
     /// Has the hash of the session catch up, and that of one which isn't there.
-    fn catch_up(&mut self, rt: &impl Threads) {
+    fn catch_up(&mut self, rt: &(impl Threads + Wait)) {
         match self.way.hashing {
-            Hashing::AtTheCloses => {}
+            Hashing::AtTheCloses | Hashing::BeforeTheCloses => {}
             Hashing::InTurn => {
                 self.service.catch_up(&reference(ONE));
                 self.service.catch_up(&reference(TWO));
@@ -340,19 +341,29 @@ impl Upload {
         }
     }
 
-    fn step(&mut self, rt: &impl Threads, ask: Ask) -> Answer {
+    fn step(&mut self, rt: &(impl Threads + Wait), ask: Ask) -> Answer {
         match self.way.hashing {
-            Hashing::BesideAndJoined => self.service.step_joining(rt, ask, [0; 12], 0),
+            Hashing::BesideAndJoined | Hashing::BeforeTheCloses => {
+                self.service.step_joining(rt, ask, [0; 12], 0)
+            }
             _ => self.service.step(ask, [0; 12], 0),
+        }
+    }
+
+    /// Waits for what the hash of the session has left to take in.
+    fn prepare_close(&mut self, rt: &(impl Threads + Wait)) {
+        if let Hashing::BeforeTheCloses = self.way.hashing {
+            wait_for_hash(rt, &mut self.service, ONE, self.way.algorithm);
         }
     }
 
     fn close(
         &mut self,
-        rt: &impl Threads,
+        rt: &(impl Threads + Wait),
         digest: BlobDigest,
         body: &[u8],
     ) -> Result<Answer, Unmade> {
+        self.prepare_close(rt);
         let close = Ask::Close {
             name: name(self.alloc, b"lib/a")?,
             at: reference(ONE),
@@ -363,7 +374,11 @@ impl Upload {
         Ok(self.step(rt, close))
     }
 
-    fn refuses_another_content(&mut self, rt: &impl Threads, body: &[u8]) -> Result<bool, Unmade> {
+    fn refuses_another_content(
+        &mut self,
+        rt: &(impl Threads + Wait),
+        body: &[u8],
+    ) -> Result<bool, Unmade> {
         let wrong = BlobDigest::of(self.way.algorithm, b"another content");
         let answer = self.close(rt, wrong, body)?;
         Ok(matches!(&answer, Answer::Refused(Refusal::Mismatch)))
@@ -371,7 +386,7 @@ impl Upload {
 
     fn stores(
         &mut self,
-        rt: &impl Threads,
+        rt: &(impl Threads + Wait),
         digest: BlobDigest,
         body: &[u8],
     ) -> Result<bool, Unmade> {
@@ -396,10 +411,11 @@ impl Upload {
 }
 
 impl Upload {
-    /// Sends a content in chunks of those sizes, with a refused close of the same bytes before each. Gives what is left.
+    /// Sends a content in chunks of those sizes, with a refused close of the same bytes before each. Gives what is
+    /// left.
     fn send<'c>(
         &mut self,
-        rt: &(impl Abort + Threads),
+        rt: &(impl Abort + Threads + Wait),
         content: &'c [u8],
         sizes: &[usize],
     ) -> Result<&'c [u8], Unmade> {
@@ -420,7 +436,7 @@ impl Upload {
     /// Closes the upload of a content with what is left of it, behind a close that is refused, and pulls it back.
     fn close_and_pull(
         &mut self,
-        rt: &(impl Abort + Threads),
+        rt: &(impl Abort + Threads + Wait),
         content: &[u8],
         left: &[u8],
     ) -> Result<(), Unmade> {
@@ -458,6 +474,8 @@ enum Hashing {
     Beside,
     /// So, and a close waits for it.
     BesideAndJoined,
+    /// In a thread before each close, which comes once the thread has ended.
+    BeforeTheCloses,
 }
 
 /// How an upload is made.
@@ -481,7 +499,7 @@ macro_rules! way {
     };
 }
 
-static WAYS: [Way; 8] = [
+static WAYS: [Way; 11] = [
     way!(Sha256, None, InTurn),
     way!(Sha256, None, AtTheCloses),
     way!(Sha256, None, Beside),
@@ -490,11 +508,29 @@ static WAYS: [Way; 8] = [
     way!(Sha256, Some(Algorithm::Sha256), BesideAndJoined),
     way!(Sha512, Some(Algorithm::Sha256), AtTheCloses),
     way!(Sha512, Some(Algorithm::Sha512), InTurn),
+    way!(Sha256, None, BeforeTheCloses),
+    way!(Sha512, None, BeforeTheCloses),
+    way!(Sha512, Some(Algorithm::Sha512), BeforeTheCloses),
 ];
+
+/// Prepares a close of a session of which nothing else comes: at most once there is something to wait for. Says whether
+/// that is so.
+fn wait_for_hash(
+    rt: &(impl Threads + Wait),
+    service: &mut Service,
+    at: At,
+    algorithm: Algorithm,
+) -> bool {
+    let at = reference(at);
+    if let Some(end) = service.hash_for_close(rt, &at, algorithm) {
+        end.wait(rt);
+    }
+    service.hash_for_close(rt, &at, algorithm).is_none()
+}
 
 /// Uploads a content in pieces of many sizes, and pulls it back.
 fn upload_in_many_sizes(
-    rt: &(impl Abort + Threads),
+    rt: &(impl Abort + Threads + Wait),
     alloc: Global,
     content: &[u8],
     way: Way,
@@ -513,6 +549,27 @@ fn pieces_of_many_sizes_are_one_blob(rt: HostRuntime) -> Result<(), Fail> {
     let content = pattern(alloc, 900_000)?;
     for way in WAYS.iter() {
         upload_in_many_sizes(&rt, alloc, content.as_slice(), *way)?;
+    }
+    Ok(())
+}
+
+#[test]
+fn a_hash_that_is_waited_for_is_done(rt: HostRuntime) -> Result<(), Fail> {
+    let alloc = rt.alloc();
+    let content = pattern(alloc, 300_000)?;
+    for algorithm in [Algorithm::Sha256, Algorithm::Sha512] {
+        let mut upload = Upload::begin(alloc, WAYS[0])?;
+        // no bytes, and no such upload
+        for at in [ONE, TWO] {
+            let end = upload
+                .service
+                .hash_for_close(&rt, &reference(at), algorithm);
+            assert!(rt; end.is_none());
+        }
+        assert!(rt; upload.takes(content.as_slice())?);
+        assert!(rt; wait_for_hash(&rt, &mut upload.service, ONE, algorithm));
+        assert!(rt; upload.takes(content.as_slice())?);
+        assert!(rt; wait_for_hash(&rt, &mut upload.service, ONE, algorithm));
     }
     Ok(())
 }

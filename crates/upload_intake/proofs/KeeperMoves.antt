@@ -1,24 +1,22 @@
 -- What a keeper keeps, from one message to the next.
-use Rattle.std.proofs.Common.{◌≡◌, ◌≢◌, ℕ, ◌+◌, ◌<◌, ◌≤◌, ◌==◌, min, max, Bool, true, false, true≢false, cond, List, [], ◌∷◌, ◌++◌, map, filter, length-append, sym, refl, ap, ◌∙◌, subst, arith, append-nil, append_assoc, Result, Ok, Err, MatchResult, get_or, set, leb, length, ◌⊎◌, ⊎_elim}
-use Rattle.std.specs.Prelude.{All}
+use Rattle.std.proofs.Common.{◌≡◌, ℕ, ◌+◌, ◌<◌, ◌≤◌, ◌==◌, min, max, Bool, true, false, true≢false, cond, List, [], ◌∷◌, ◌++◌, map, filter, length-append, sym, refl, ap, ◌∙◌, subst, arith, append-nil, append_assoc, Result, Ok, Err, MatchResult, get_or, set, leb, length, ⊎_elim}
 use Rattle.std.specs.List.{AllByRecursion}
 use Rattle.std.proofs.lemmas.List.{length-set, get_or-set_same, get_or-set_other}
 use Rattle.std.proofs.lemmas.Bool.{eqb-true, eqb-false, leb-true, leb-false}
 use Rattle.std.proofs.lemmas.List.{map-append}
 use Rattle.std.proofs.lemmas.List.Elements.{filter-append}
+use Rattle.upload_names.specs.declared.digest.Algorithm.{Algorithm}
 use Rattle.upload_service.specs.declared.ask.Ask.{Ask}
 use Rattle.upload_service.specs.declared.answer.Answer.{Answer}
-use Rattle.upload_service.specs.Machine.{State, Turn, IsLawful}
+use Rattle.upload_service.specs.Machine.{State, Turn}
 use Rattle.upload_service.specs.Run.{Exchange, Run, NeverBefore}
 use Rattle.upload_service.specs.Headline.{HeadlineHolds}
 use Rattle.upload_intake.specs.declared.line.Item.{Item}
 use Rattle.upload_intake.specs.declared.line.LineView.{LineView}
 use Rattle.upload_intake.specs.declared.message.Message.{Message}
 use Rattle.upload_intake.specs.declared.message.Message.TheVariants as message
-use Rattle.upload_intake.specs.Line.{items_of, is_sender, with_sent, with_taken, IsOfAnother}
+use Rattle.upload_intake.specs.Line.{items_of, with_sent, with_taken, IsOfAnother}
 use Rattle.upload_intake.specs.Log.{TakenJob, Step, step_of, steps_of, exchanges_of, job_of, taken_by, answers_to, last_moment}
-use Rattle.upload_intake.specs.Passes.{sender_view, taker_view}
-use Rattle.upload_intake.specs.Replies.{BeginsReplies}
 use Rattle.upload_intake.specs.declared.reply.ReplyLine.{ReplyLine}
 use Rattle.upload_intake.specs.Served.{KeeperState, IsSameKeeper, IsServed}
 use Rattle.upload_intake.specs.Told.{Told, Grows}
@@ -26,7 +24,7 @@ use Rattle.upload_intake.specs.declared.log.Entry.{Entry}
 use Rattle.upload_intake.specs.Settled.{count_limit}
 use Rattle.upload_intake.specs.Kept.{taken_in, add_job, has_finish, Outlet, outlet_of, Replied, Replies, Keeps, KeepsSeat, Receives, TookFinish, AreOfSeats, IsKeeping}
 use Rattle.upload_intake.specs.Kept.Replies.{Sent, Closed}
-use Rattle.upload_intake.proofs.LineMoves.{same, is_either, differ, items_of-append, of_own, seat_below}
+use Rattle.upload_intake.proofs.LineMoves.{same, is_either, items_of-append, of_own, seat_below}
 
 run_more : (xs : List Exchange) (x : Exchange) (start before after : State) → Run start xs before → Turn before x.ask x.secret x.now x.answer after → Run start (xs ++ x ∷ []) after
 run_more [] x start before after r t = (after, subst (λ s. Turn s x.ask x.secret x.now x.answer after) r t, refl)
@@ -42,6 +40,7 @@ last_moment-more moment (y ∷ ys) x = last_moment-more y.now ys x
 
 add_job-append : (seat : ℕ) (m : Message) (xs ys : List TakenJob) → add_job seat m (xs ++ ys) ≡ add_job seat m xs ++ ys
 add_job-append seat (message.Job ask secret) xs ys = refl
+add_job-append seat (message.Hash at algorithm) xs ys = refl
 add_job-append seat message.Finish xs ys = refl
 
 pub taken_in-append : (xs ys : List (Item Message)) → taken_in (xs ++ ys) ≡ taken_in xs ++ taken_in ys
@@ -111,11 +110,13 @@ was_closed answer is_open view closed = Closed closed refl
 has_finish-append : (xs ys : List Message) → has_finish xs ≡ true → has_finish (xs ++ ys) ≡ true
 has_finish-append [] ys e = absurd (true≢false (sym e))
 has_finish-append (message.Job a s ∷ xs) ys e = has_finish-append xs ys e
+has_finish-append (message.Hash a b ∷ xs) ys e = has_finish-append xs ys e
 has_finish-append (message.Finish ∷ xs) ys e = refl
 
 has_finish-last : (xs : List Message) → has_finish (xs ++ message.Finish ∷ []) ≡ true
 has_finish-last [] = refl
 has_finish-last (message.Job a s ∷ xs) = has_finish-last xs
+has_finish-last (message.Hash a b ∷ xs) = has_finish-last xs
 has_finish-last (message.Finish ∷ xs) = refl
 
 all_more : {A : Type 0} (P : A → Type 0) (xs : List A) (x : A) → AllByRecursion P xs → P x → AllByRecursion P (xs ++ x ∷ [])
@@ -201,11 +202,11 @@ module _ (start service : State) (now count : ℕ) (j j' : LineView Message) (li
         let kept' = k.each seat d below in
         record { replied = replied_other seat old step apart (outlet_of (get_or lines seat d)) kept'.replied; finish = λ p. finish_stays seat (kept'.finish p) })
 
-  -- a finish was taken
-  module _ (finish : x.what ≡ message.Finish) where
+  -- an item was taken that is no job
+  module _ (no_job : add_job x.seat x.what [] ≡ []) where
     none_taken : taken_by old ≡ taken_in j'.taken
     none_taken =
-        k.keeps.is_taken ∙ sym (append-nil (taken_in j.taken)) ∙ (λ i. taken_in j.taken ++ add_job x.seat (sym finish i) [])
+        k.keeps.is_taken ∙ sym (append-nil (taken_in j.taken)) ∙ ap (λ l. taken_in j.taken ++ l) (sym no_job)
         ∙ sym (taken_in-append j.taken (x ∷ [])) ∙ ap (λ v. taken_in v.taken) (sym took.0)
 
     still : Keeps start service now count old j'.taken
@@ -218,6 +219,22 @@ module _ (start service : State) (now count : ℕ) (j j' : LineView Message) (li
       counted = k.keeps.counted;
     }
 
+    keeps_seat_still : (seat : ℕ) (line : ReplyLine) → KeepsSeat seat old j line → KeepsSeat seat old j' line
+    keeps_seat_still seat line kept = record { replied = kept.replied; finish = λ p. finish_stays seat (kept.finish p) }
+
+  -- a wish was taken, which the service seems not to have heard
+  pub wish_taken : (at : List ℕ) (by : Algorithm) → x.what ≡ message.Hash at by → (service' : State) → service' ≡ service → IsKeeping start service' now count old j' lines
+  wish_taken at by wish service' same =
+      let no_job : add_job x.seat x.what [] ≡ [] = ap (λ m. add_job x.seat m []) wish in
+      subst (λ s. IsKeeping start s now count old j' lines) (sym same) record {
+        keeps = still no_job;
+        receives = taken_more;
+        seated = k.seated;
+        each = λ seat d below. keeps_seat_still no_job seat (get_or lines seat d) (k.each seat d below);
+      }
+
+  -- a finish was taken
+  module _ (finish : x.what ≡ message.Finish) where
     took_finish : TookFinish x.seat j'
     took_finish = ap (λ v. has_finish (items_of x.seat v.taken)) took.0 ∙ ap has_finish (items_of-append x.seat j.taken (x ∷ []))
         ∙ ap (λ l. has_finish (items_of x.seat j.taken ++ l)) (of_own x.seat x (same x.seat) ∙ ap (λ m. m ∷ []) finish) ∙ has_finish-last (items_of x.seat j.taken)
@@ -226,9 +243,10 @@ module _ (start service : State) (now count : ℕ) (j j' : LineView Message) (li
         → (lines' : List ReplyLine) → lines' ≡ set lines x.seat line → IsKeeping start service now count old j' lines'
     finished_seat was line was_is same_outlet lines' put =
         let kept = subst (λ y. KeepsSeat x.seat old j y) (sym was_is) (k.each x.seat was inside) in
-        after service now count old line old lines' put refl still k.seated
+        let no_job : add_job x.seat x.what [] ≡ [] = ap (λ m. add_job x.seat m []) finish in
+        after service now count old line old lines' put refl (still no_job) k.seated
         (record { replied = subst (λ o. Replied x.seat old o) (sym same_outlet) kept.replied; finish = λ p. took_finish })
-        (λ seat d below apart. let kept' = k.each seat d below in record { replied = kept'.replied; finish = λ p. finish_stays seat (kept'.finish p) })
+        (λ seat d below apart. keeps_seat_still no_job seat (get_or lines seat d) (k.each seat d below))
 
 -- what a keeper kept is a run of which the headline holds
 pub served : HeadlineHolds → (start service : State) (now count : ℕ) (steps : List Step) (taken : List (Item Message)) (k : Keeps start service now count steps taken) → IsServed start (exchanges_of steps) service

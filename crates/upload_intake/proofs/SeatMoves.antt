@@ -1,18 +1,19 @@
 -- What a seat's passes know after a request, an answer, and the end.
 use Rattle.std.proofs.Common.{◌≡◌, ◌≤◌, ◌==◌, ℕ, zero, suc, Bool, true, false, true≢false, List, [], ◌∷◌, ◌++◌, length, length-append, sym, refl, ap, ◌∙◌, arith, append-nil, Result, Ok, Err, MatchResult}
 use Rattle.std.proofs.lemmas.List.{map-append}
+use Rattle.upload_names.specs.declared.digest.Algorithm.{Algorithm}
 use Rattle.upload_service.specs.declared.ask.Ask.{Ask}
 use Rattle.upload_service.specs.declared.answer.Answer.{Answer}
 use Rattle.upload_intake.specs.declared.line.Item.{Item}
 use Rattle.upload_intake.specs.declared.line.LineView.{LineView}
 use Rattle.upload_intake.specs.declared.message.Message.{Message}
 use Rattle.upload_intake.specs.declared.message.Message.TheVariants as message
-use Rattle.upload_intake.specs.Line.{items_of, sent, is_sender, with_sent, with_taken, IsOfAnother}
+use Rattle.upload_intake.specs.Line.{sent, with_sent, with_taken, IsOfAnother}
 use Rattle.upload_intake.specs.Log.{Job}
-use Rattle.upload_intake.specs.Passes.{LineId, sender_view, taker_view, whats}
+use Rattle.upload_intake.specs.Passes.{LineId, sender_view, whats}
 use Rattle.upload_intake.specs.Seats.{SeatState}
 use Rattle.upload_intake.specs.Kept.{jobs_in, has_finish, is_closed, Sits, SatToTheEnd}
-use Rattle.upload_intake.proofs.LineMoves.{same, items_of-append, of_own, seat_below}
+use Rattle.upload_intake.proofs.LineMoves.{items_of-append, of_own, seat_below}
 
 module _ {T : Type 0} where
   pub whats_more : (xs : List (Item T)) (x : Item T) → whats (xs ++ x ∷ []) ≡ whats xs ++ x.what ∷ []
@@ -21,21 +22,25 @@ module _ {T : Type 0} where
 pub jobs_in-append : (xs ys : List Message) → jobs_in (xs ++ ys) ≡ jobs_in xs ++ jobs_in ys
 jobs_in-append [] ys = refl
 jobs_in-append (message.Job ask secret ∷ xs) ys = ap (λ l. (ask, secret) ∷ l) (jobs_in-append xs ys)
+jobs_in-append (message.Hash at by ∷ xs) ys = jobs_in-append xs ys
 jobs_in-append (message.Finish ∷ xs) ys = jobs_in-append xs ys
 
-still_unfinished : (xs : List Message) (ask : Ask) (secret : List ℕ) → has_finish xs ≡ false → has_finish (xs ++ message.Job ask secret ∷ []) ≡ false
-still_unfinished [] ask secret e = refl
-still_unfinished (message.Job a s ∷ xs) ask secret e = still_unfinished xs ask secret e
-still_unfinished (message.Finish ∷ xs) ask secret e = e
+still_unfinished : (xs : List Message) (m : Message) → has_finish (m ∷ []) ≡ false → has_finish xs ≡ false → has_finish (xs ++ m ∷ []) ≡ false
+still_unfinished [] m last e = last
+still_unfinished (message.Job a s ∷ xs) m last e = still_unfinished xs m last e
+still_unfinished (message.Hash a b ∷ xs) m last e = still_unfinished xs m last e
+still_unfinished (message.Finish ∷ xs) m last e = e
 
 closed_by_finish : (xs : List Message) → has_finish xs ≡ false → is_closed (xs ++ message.Finish ∷ []) ≡ true
 closed_by_finish [] e = refl
 closed_by_finish (message.Job a s ∷ xs) e = closed_by_finish xs e
+closed_by_finish (message.Hash a b ∷ xs) e = closed_by_finish xs e
 closed_by_finish (message.Finish ∷ xs) e = absurd (true≢false e)
 
 closed_without : (xs : List Message) → has_finish xs ≡ false → is_closed xs ≡ true
 closed_without [] e = refl
 closed_without (message.Job a s ∷ xs) e = closed_without xs e
+closed_without (message.Hash a b ∷ xs) e = closed_without xs e
 closed_without (message.Finish ∷ xs) e = absurd (true≢false e)
 
 zero_unless : (n : ℕ) → (1 ≤ n → ⊥) → (0 == n) ≡ true
@@ -60,6 +65,25 @@ module _ (seat : ℕ) (gone : Bool) (j : LineView Message) (r : LineView Answer)
   no_more_sent : (j' : LineView Message) → j' ≡ with_sent (record { seat = seat; what = message.Finish }) j → jobs_in (sent j'.sending) ≡ jobs_in (sent j.sending)
   no_more_sent j' e = jobs_after message.Finish j' e ∙ append-nil (jobs_in s.sent) ∙ sym jobs_before
 
+  -- a wish was sent, which is no job
+  pub wish_sent : (at : List ℕ) (by : Algorithm) (j' : LineView Message) → j' ≡ with_sent (record { seat = seat; what = message.Hash at by }) j → Sits seat gone j' r
+  wish_sent at by j' e =
+      let same : jobs_in (s.sent ++ message.Hash at by ∷ []) ≡ jobs_in s.sent = jobs_in-append s.sent (message.Hash at by ∷ []) ∙ append-nil (jobs_in s.sent) in
+      record {
+        sent = s.sent ++ message.Hash at by ∷ [];
+        knows = record {
+          got = s.knows.got;
+          jobs_view = more (message.Hash at by) j' e;
+          replies_view = s.knows.replies_view;
+          of_one = s.knows.of_one;
+          each_answered = λ p. s.knows.each_answered p ∙ ap length (sym same);
+        };
+        unfinished = still_unfinished s.sent (message.Hash at by) refl s.unfinished;
+      }
+
+  pub no_job_sent : (at : List ℕ) (by : Algorithm) (j' : LineView Message) → j' ≡ with_sent (record { seat = seat; what = message.Hash at by }) j → jobs_in (sent j'.sending) ≡ jobs_in (sent j.sending)
+  no_job_sent at by j' e = jobs_after (message.Hash at by) j' e ∙ append-nil (jobs_in s.sent) ∙ sym jobs_before
+
   pub answered : gone ≡ false → (ask : Ask) (secret : List ℕ) (x : Item Answer) (j' : LineView Message) (r' : LineView Answer)
       → j' ≡ with_sent (record { seat = seat; what = message.Job ask secret }) j → (r' ≡ with_taken x r) × IsOfAnother r x → Sits seat gone j' r'
   answered here ask secret x j' r' e f =
@@ -73,7 +97,7 @@ module _ (seat : ℕ) (gone : Bool) (j : LineView Message) (r : LineView Answer)
           of_one = items_of-append 0 s.knows.got (x ∷ []) ∙ (λ i. s.knows.of_one i ++ of_own 0 x (zero_unless x.seat (seat_below 1 s.knows.got r x s.knows.replies_view f.1)) i) ∙ sym (whats_more s.knows.got x);
           each_answered = λ _. omega (arith, length-append s.knows.got (x ∷ []), ap length (jobs_in-append s.sent (message.Job ask secret ∷ [])), length-append (jobs_in s.sent) ((ask, secret) ∷ []), n);
         };
-        unfinished = still_unfinished s.sent ask secret s.unfinished;
+        unfinished = still_unfinished s.sent (message.Job ask secret) refl s.unfinished;
       }
 
   pub unanswered : (ask : Ask) (secret : List ℕ) (j' : LineView Message) (r' : LineView Answer)
@@ -87,7 +111,7 @@ module _ (seat : ℕ) (gone : Bool) (j : LineView Message) (r : LineView Answer)
       of_one = s.knows.of_one;
       each_answered = λ p. absurd (true≢false p);
     };
-    unfinished = still_unfinished s.sent ask secret s.unfinished;
+    unfinished = still_unfinished s.sent (message.Job ask secret) refl s.unfinished;
   }
 
   ended : (j' : LineView Message) → j' ≡ with_sent (record { seat = seat; what = message.Finish }) j → SatToTheEnd seat gone j' r

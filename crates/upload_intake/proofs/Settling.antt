@@ -1,6 +1,6 @@
 -- What the ends of a settlement say together.
 use Rattle.std.proofs.Common.{◌≡◌, ℕ, ◌<◌, ◌==◌, suc, Bool, true, false, true≢false, cond, List, [], ◌∷◌, ◌++◌, length, map, filter, length-append, sym, refl, ap, ◌∙◌, subst, arith, append-nil, append_assoc, get_or, min}
-use Rattle.std.proofs.lemmas.List.{map-append, length-map}
+use Rattle.std.proofs.lemmas.List.{length-map}
 use Rattle.std.specs.List.{AllByRecursion}
 use Rattle.upload_service.specs.Headline.{HeadlineHolds}
 use Rattle.upload_service.specs.declared.answer.Answer.{Answer}
@@ -9,10 +9,10 @@ use Rattle.upload_intake.specs.declared.line.Item.{Item}
 use Rattle.upload_intake.specs.declared.line.LineView.{LineView}
 use Rattle.upload_intake.specs.declared.message.Message.{Message}
 use Rattle.upload_intake.specs.declared.message.Message.TheVariants as message
-use Rattle.upload_intake.specs.Line.{items_of, sends, sent, joined, Waits}
+use Rattle.upload_intake.specs.Line.{items_of, sent, joined, Waits}
 use Rattle.upload_intake.specs.declared.reply.ReplyLine.{ReplyLine}
 use Rattle.upload_intake.specs.Seats.{SeatState}
-use Rattle.upload_intake.specs.Settled.{Heard, IsSettled, IsSettledSeat, count_limit}
+use Rattle.upload_intake.specs.Settled.{IsSettled, IsSettledSeat, count_limit}
 use Rattle.upload_intake.specs.Settles.{Settles}
 use Rattle.upload_intake.specs.Replies.{replies_on}
 use Rattle.upload_intake.specs.Served.{KeeperState, IsServed, IsSeatOf, AreOfOneCall}
@@ -33,6 +33,7 @@ empty (x ∷ xs) ys e = absurd (true≢false (sym e))
 nothing_after : (xs ys : List Message) → has_finish xs ≡ true → is_closed (xs ++ ys) ≡ true → ys ≡ []
 nothing_after [] ys f c = absurd (true≢false (sym f))
 nothing_after (message.Job a s ∷ xs) ys f c = nothing_after xs ys f c
+nothing_after (message.Hash a b ∷ xs) ys f c = nothing_after xs ys f c
 nothing_after (message.Finish ∷ xs) ys f c = empty xs ys c
 
 -- where the finish was taken, everything was
@@ -47,13 +48,14 @@ jobs_of-add_job : (seat : ℕ) (x : Item Message) (jobs : List TakenJob) → job
 jobs_of-add_job seat x jobs =
     elim x.what as (λ m. jobs_of seat (add_job x.seat m jobs) ≡ jobs_in (cond (seat == x.seat) (m ∷ []) []) ++ jobs_of seat jobs) [
       | message.Job ask secret ↦ elim (seat == x.seat) as (λ b. map (λ (j : TakenJob). j.job) (cond b (record { seat = x.seat; job = (ask, secret) } ∷ filter (λ (j : TakenJob). seat == j.seat) jobs) (filter (λ (j : TakenJob). seat == j.seat) jobs)) ≡ jobs_in (cond b (message.Job ask secret ∷ []) []) ++ jobs_of seat jobs) [ true ↦ refl | false ↦ refl ]
+      | message.Hash at by ↦ elim (seat == x.seat) as (λ b. jobs_of seat jobs ≡ jobs_in (cond b (message.Hash at by ∷ []) []) ++ jobs_of seat jobs) [ true ↦ refl | false ↦ refl ]
       | message.Finish ↦ elim (seat == x.seat) as (λ b. jobs_of seat jobs ≡ jobs_in (cond b (message.Finish ∷ []) []) ++ jobs_of seat jobs) [ true ↦ refl | false ↦ refl ]
     ]
 
 jobs_in-items_of : (seat : ℕ) (x : Item Message) (xs : List (Item Message)) → jobs_in (items_of seat (x ∷ xs)) ≡ jobs_in (cond (seat == x.seat) (x.what ∷ []) []) ++ jobs_in (items_of seat xs)
 jobs_in-items_of seat x xs =
     elim (seat == x.seat) as (λ b. jobs_in (map (λ (y : Item Message). y.what) (cond b (x ∷ filter (λ (y : Item Message). seat == y.seat) xs) (filter (λ (y : Item Message). seat == y.seat) xs))) ≡ jobs_in (cond b (x.what ∷ []) []) ++ jobs_in (items_of seat xs)) [
-      | true ↦ elim x.what as (λ m. jobs_in (m ∷ items_of seat xs) ≡ jobs_in (m ∷ []) ++ jobs_in (items_of seat xs)) [ message.Job ask secret ↦ refl | message.Finish ↦ refl ]
+      | true ↦ elim x.what as (λ m. jobs_in (m ∷ items_of seat xs) ≡ jobs_in (m ∷ []) ++ jobs_in (items_of seat xs)) [ message.Job ask secret ↦ refl | message.Hash at by ↦ refl | message.Finish ↦ refl ]
       | false ↦ refl
     ]
 

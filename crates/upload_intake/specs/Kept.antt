@@ -19,10 +19,12 @@ use Rattle.upload_intake.specs.Settled.{count_limit}
 abbrev pub jobs_in : List Message → List Job
 jobs_in [] = []
 jobs_in (message.Job ask secret ∷ ms) = (ask, secret) ∷ jobs_in ms
+jobs_in (message.Hash at algorithm ∷ ms) = jobs_in ms
 jobs_in (message.Finish ∷ ms) = jobs_in ms
 
 abbrev pub add_job : ℕ → Message → List TakenJob → List TakenJob
 add_job seat (message.Job ask secret) taken = record { seat = seat; job = (ask, secret) } ∷ taken
+add_job seat (message.Hash at algorithm) taken = taken
 add_job seat message.Finish taken = taken
 
 abbrev pub taken_in : List (Item Message) → List TakenJob
@@ -33,6 +35,7 @@ abbrev pub has_finish : List Message → Bool
 has_finish [] = false
 has_finish (message.Finish ∷ ms) = true
 has_finish (message.Job ask secret ∷ ms) = has_finish ms
+has_finish (message.Hash at algorithm ∷ ms) = has_finish ms
 
 abbrev pub is_empty : List Message → Bool
 is_empty [] = true
@@ -43,6 +46,7 @@ abbrev pub is_closed : List Message → Bool
 is_closed [] = true
 is_closed (message.Finish ∷ ms) = is_empty ms
 is_closed (message.Job ask secret ∷ ms) = is_closed ms
+is_closed (message.Hash at algorithm ∷ ms) = is_closed ms
 
 -- What a seat's passes know: what it sent, what it got, and that a seat which isn't gone got a reply to each job.
 pub record Knows (seat : ℕ) (gone : Bool) (jobs : LineView Message) (replies : LineView Answer) (sent : List Message) : Type 0 where
@@ -125,4 +129,5 @@ pub data Replies (answer : Answer) (old new : Outlet) : Type 0 where
 
 abbrev pub IsJob : Message → Type 0
 IsJob (message.Job ask secret) = Unit {0}
+IsJob (message.Hash at algorithm) = ⊥
 IsJob message.Finish = ⊥

@@ -184,6 +184,12 @@ impl Keeper {
                 self.lines[seat].reply(rt, answer);
                 taken
             }
+            Message::Hash(at, algorithm) => {
+                let end = self.service.hash_for_close(rt, &at, algorithm);
+                // A seat that doesn't hear it is gone.
+                let _ = self.lines[seat].ends.send(rt, end);
+                None
+            }
             Message::Finish => {
                 self.lines[seat].is_done = true;
                 None

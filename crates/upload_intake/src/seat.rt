@@ -7,9 +7,15 @@ use crate::ends::{SendEnd, TakeEnd};
 use crate::gone::Gone;
 use crate::line::Item;
 use crate::message::Message;
+use crossbeam_channel::Receiver;
 use std::marker::Model;
 use std::sync::Wait;
-use upload_service::{Answer, Ask};
+use upload_names::{Algorithm, UploadRef};
+use upload_service::{Answer, Ask, HashEnd};
+
+/// How often a seat waits at most for the hash of an upload before it asks for the close. Twice are enough if nothing
+/// comes meanwhile: for the thread that was at work, and for the one that takes the rest in.
+const MOST_WAITS: u32 = 4;
 
 /// One of the places from which the keeper is asked. Contracts see what it sent and heard.
 #[derive(Drop)]
@@ -17,6 +23,7 @@ pub struct Seat {
     seat: usize,
     jobs: SendEnd<Message>,
     replies: TakeEnd<Answer>,
+    ends: Receiver<Option<HashEnd>>,
     gone: bool,
 }
 
@@ -80,7 +87,12 @@ impl Seat {
     ghost use Rattle.upload_intake.specs.Passes.{line_of, sender_view, taker_view};
     ghost use Rattle.upload_intake.specs.Seats.{Asks};
 
-    pub(crate) fn new(seat: usize, jobs: SendEnd<Message>, replies: TakeEnd<Answer>) -> Seat
+    pub(crate) fn new(
+        seat: usize,
+        jobs: SendEnd<Message>,
+        replies: TakeEnd<Answer>,
+        ends: Receiver<Option<HashEnd>>,
+    ) -> Seat
         requires jobs { known jobs.pass ≡ sender_view seat [] }
         requires replies { known replies.pass ≡ taker_view 1 [] }
         ensures { result ≡ record {
@@ -96,15 +108,71 @@ impl Seat {
             seat,
             jobs,
             replies,
+            ends,
             gone: false,
         }
     }
 
-    /// Sends a request to the keeper, and waits for the answer.
+    /// Sends a request to the keeper, and waits for the answer. Before a close with a digest it waits for the hash of
+    /// what the upload received, while the keeper serves others.
     ///
-    /// `NotSent` comes only where the line handed the request back or an earlier call ended `Gone`. `NoAnswer` comes only
-    /// where no answer came after the request was sent.
+    /// `NotSent` comes only where the line handed the request back or an earlier call ended `Gone`. `NoAnswer` comes
+    /// only where no answer came after the request was sent.
     pub fn ask<R: Wait>(&mut self, rt: &R, ask: Ask, secret: [u8; 12]) -> Result<Answer, Gone>
+        ensures { Asks self.old ask secret result self.new }
+    {
+        if let Some((at, algorithm)) = self.hash_needed(&ask) {
+            self.wait_for_hash(rt, at, algorithm);
+        }
+        self.ask_at_once(rt, ask, secret)
+    }
+
+    // The session that a request closes, and by which algorithm its bytes are hashed; none if the keeper is gone.
+    fn hash_needed(&self, ask: &Ask) -> Option<(UploadRef, Algorithm)> {
+        match ask {
+            Ask::Close {
+                at,
+                digest: Some(digest),
+                ..
+            } if !self.gone => Some((*at, digest.algorithm())),
+            _ => None,
+        }
+    }
+
+    // Waits until a session's hash by this algorithm holds all that the session received but for little, or chunks went
+    // on coming. Nothing that is seen changes.
+    fn wait_for_hash<R: Wait>(&mut self, rt: &R, at: UploadRef, algorithm: Algorithm)
+        ensures { self.new ≡ self.old }
+    {
+        'waits: for _ in 0..MOST_WAITS {
+            let Some(end) = self.wish(rt, at, algorithm) else {
+                break;
+            };
+            end.wait(rt);
+        }
+    }
+
+    // Wishes that a session's hash goes on, and hears which thread's end to wait for, if there is one. If the keeper
+    // goes meanwhile, there is none. Nothing that is seen changes.
+    fn wish<R: Wait>(&mut self, rt: &R, at: UploadRef, algorithm: Algorithm) -> Option<HashEnd>
+        ensures { self.new ≡ self.old }
+    {
+        let seat = self.seat;
+        let wish = Item {
+            seat,
+            what: Message::Hash(at, algorithm),
+        };
+        let Ok(()) = self.jobs.send(rt, wish) else {
+            return None;
+        };
+        match self.ends.recv(rt) {
+            Ok(end) => end,
+            Err(_) => None,
+        }
+    }
+
+    // Sends a request to the keeper, and waits for the answer.
+    fn ask_at_once<R: Wait>(&mut self, rt: &R, ask: Ask, secret: [u8; 12]) -> Result<Answer, Gone>
         ensures { Asks self.old ask secret result self.new }
     {
         if self.gone {
@@ -135,6 +203,7 @@ impl Seat {
             seat,
             mut jobs,
             replies,
+            ends: _,
             gone,
         } = self;
         let finish = Item {
@@ -158,6 +227,6 @@ fn ask_of(item: Item<Message>) -> Ask
 {
     match item.what {
         Message::Job(ask, _) => ask,
-        Message::Finish => unreachable!(),
+        Message::Hash(..) | Message::Finish => unreachable!(),
     }
 }

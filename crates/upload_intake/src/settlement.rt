@@ -15,6 +15,7 @@ use crate::keeper::{Keeper, Served};
 use crate::message::Message;
 use crate::reply::ReplyLine;
 use crate::seat::{Seat, SeatEnd};
+use crossbeam_channel::bounded;
 use std::alloc::{AllocError, Global};
 use upload_service::{Service, headline_holds};
 
@@ -48,9 +49,11 @@ pub(crate) fn lines_of(
     for seat in 0..count {
         let own = next_sender(&sender, &mut jobs, seat)?;
         let (replies, heard) = reply_line(alloc)?;
-        seats.push(Seat::new(seat, own, heard))?;
+        let (ends, ended) = bounded(alloc, 1)?;
+        seats.push(Seat::new(seat, own, heard, ended))?;
         lines.push(ReplyLine {
             replies,
+            ends,
             is_done: false,
         })?;
     }

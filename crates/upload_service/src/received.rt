@@ -1,36 +1,28 @@
 //! What a session received, with its running hashes.
-ghost use Rattle.std.specs.Prelude.{◌≡◌, ◌↔◌, ◌+◌, ◌<◌, ◌≤◌, ◌^◌, ◌++◌, [], ℕ, List, length, take, IsTrue, OnOk, OnErr};
+ghost use Rattle.std.specs.Prelude.{◌≡◌, ◌↔◌, ◌+◌, ◌<◌, ◌^◌, ◌++◌, [], length, IsTrue, OnOk, OnErr};
 ghost use Rattle.sha2.specs.Sha256.{sha256};
 ghost use Rattle.sha2.specs.Sha512.{sha512};
-ghost use Rattle.sha2.specs.Hashers.{Holds256};
 ghost use Rattle.upload_names.specs.Digest.{HasDigest};
 ghost use Rattle.upload_service.specs.Kept.Parts.{joined, whole};
-ghost use Rattle.upload_service.specs.Kept.Running.{Holds};
 
-use crate::running::{Running, size_of, take_in};
+use crate::either_hash::EitherHash;
+use crate::hash_end::HashEnd;
+use crate::prefix_hash::PrefixHash;
 use crate::segments::Segments;
-use sha2::{Digest, Sha256, Sha512};
+use sha2::Digest;
 use std::alloc::{AllocError, Global};
 use std::marker::Model;
-use std::mem;
 use std::thread::Threads;
 use upload_names::{Algorithm, BlobDigest, Bytes};
 
-/// The most bytes that a hash in a thread may be behind what was received.
-const MOST_BEHIND: usize = 16_777_216;
-
-/// The bytes that a session received, and two hashes that each stand for a front of them. `catch_up` and
-/// `catch_up_beside` have the SHA-256 take in what came since, so that a close has little left to hash. The SHA-512
-/// catches up when a close asks for it: both at once would cost each chunk twice.
+/// The bytes that a session received, and two hashes that each hold a prefix of them. `catch_up` and `catch_up_beside`
+/// have the SHA-256 take in what came since, so that a close has little left to hash. The SHA-512 catches up only when
+/// a close by it is to come: both at once would cost each chunk twice.
 #[derive(Drop)]
 pub struct Received {
     segments: Segments,
-    sha256: Running,
-    /// How many of the segments that stay as they are the SHA-256 holds.
-    in_sha256: usize,
-    sha512: Sha512,
-    /// How many of them the SHA-512 holds.
-    in_sha512: usize,
+    sha256: PrefixHash,
+    sha512: PrefixHash,
 }
 
 impl Model for Received {
@@ -42,11 +34,11 @@ impl Model for Received {
     ghost coded = { coded_list coded_ℕ };
 
     ghost use Rattle.upload_service.specs.Kept.Parts.{whole};
-    ghost use Rattle.upload_service.specs.Kept.Running.{IsRunning};
+    ghost use Rattle.upload_service.specs.Kept.Running.{AreRunning};
 
     ghost view = { λ a. whole a.segments };
 
-    ghost invariant = { λ a. IsRunning a.segments a.sha256 a.in_sha256 a.sha512 a.in_sha512 };
+    ghost invariant = { λ a. AreRunning a.segments a.sha256 a.sha512 };
 }
 
 impl Received {
@@ -56,10 +48,8 @@ impl Received {
     {
         Received {
             segments: Segments::new(alloc),
-            sha256: Running::new(),
-            in_sha256: 0,
-            sha512: Sha512::new(),
-            in_sha512: 0,
+            sha256: PrefixHash::new(Algorithm::Sha256),
+            sha512: PrefixHash::new(Algorithm::Sha512),
         }
     }
 
@@ -82,8 +72,8 @@ impl Received {
         self.segments.append(body)?;
         if let Some(hash) = carried {
             if first && self.segments.tail().is_empty() {
-                self.sha256 = Running::Here(hash);
-                self.in_sha256 = self.segments.settled().len();
+                let hash = EitherHash::Sha256(hash);
+                self.sha256 = PrefixHash::of_all(hash, self.segments.settled());
             }
         }
         Ok(())
@@ -94,34 +84,49 @@ impl Received {
     pub fn catch_up(&mut self)
         ensures { self.new ≡ self.old }
     {
-        if let Running::Here(hash) = &mut self.sha256 {
-            catch_up(&self.segments, hash, &mut self.in_sha256);
-        }
+        self.sha256.catch_up(self.segments.settled());
     }
 
-    /// Has the SHA-256 take in the segments that stay as they are, in a thread if that is worth it. If a thread is at
-    /// that already, this waits for it only if more than `MOST_BEHIND` bytes are behind what the thread will hold.
-    /// Nothing that is seen changes.
+    /// Has the SHA-256 take in the segments that stay as they are, in a thread if that is worth it. While a thread is
+    /// at that already this does nothing: what is behind is for the next thread. Nothing that is seen changes.
     pub fn catch_up_beside<R: Threads>(&mut self, rt: &R, alloc: Global)
         ensures { self.new ≡ self.old }
     {
-        let parts = self.segments.settled();
-        let count = parts.len();
-        let late = &parts[self.in_sha256..];
-        if self.sha256.is_at_work() && size_of(late) <= MOST_BEHIND {
-            return;
-        }
-        let running = mem::replace(&mut self.sha256, Running::new());
-        self.sha256 = running.go_on(rt, alloc, late);
-        self.in_sha256 = count;
+        self.sha256
+            .catch_up_beside(rt, alloc, self.segments.settled());
     }
 
-    /// Waits for the thread that has the SHA-256, if one has it. Nothing that is seen changes.
-    pub fn bring_home<R: Threads>(&mut self, rt: &R)
+    /// Has the hash by an algorithm take in the segments that stay as they are, as `catch_up_beside` does. Gives the
+    /// end of the thread that is at that, if there is one. Nothing that is seen changes.
+    pub fn hash_for_close<R: Threads>(
+        &mut self,
+        rt: &R,
+        alloc: Global,
+        algorithm: Algorithm,
+    ) -> Option<HashEnd>
         ensures { self.new ≡ self.old }
     {
-        let running = mem::replace(&mut self.sha256, Running::new());
-        self.sha256 = Running::Here(running.come_home(rt));
+        let settled = self.segments.settled();
+        match algorithm {
+            Algorithm::Sha256 => {
+                self.sha256.catch_up_beside(rt, alloc, settled);
+                self.sha256.end()
+            }
+            Algorithm::Sha512 => {
+                self.sha512.catch_up_beside(rt, alloc, settled);
+                self.sha512.end()
+            }
+        }
+    }
+
+    /// Waits for the thread that has the hash by an algorithm, if one has it. Nothing that is seen changes.
+    pub fn bring_home<R: Threads>(&mut self, rt: &R, algorithm: Algorithm)
+        ensures { self.new ≡ self.old }
+    {
+        match algorithm {
+            Algorithm::Sha256 => self.sha256.bring_home(rt),
+            Algorithm::Sha512 => self.sha512.bring_home(rt),
+        }
     }
 
     /// Whether what was received and a last body have a digest, by the algorithm of that digest. The body is
@@ -154,8 +159,11 @@ impl Received {
                 return hash.finalize();
             }
         }
-        let hash = caught_up(&self.segments, &mut self.sha256, &mut self.in_sha256);
-        finish(hash, &self.segments, body.as_slice())
+        let settled = self.segments.settled();
+        match self.sha256.of_settled(Algorithm::Sha256, settled) {
+            EitherHash::Sha256(hash) => finish(hash, &self.segments, body.as_slice()),
+            EitherHash::Sha512(_) => unreachable!(),
+        }
     }
 
     /// The SHA-512 of the same, in the same way.
@@ -168,11 +176,11 @@ impl Received {
                 return hash.finalize();
             }
         }
-        catch_up(&self.segments, &mut self.sha512, &mut self.in_sha512);
-        let Ok(hash) = self.sha512.clone() else {
-            unreachable!();
-        };
-        finish(hash, &self.segments, body.as_slice())
+        let settled = self.segments.settled();
+        match self.sha512.of_settled(Algorithm::Sha512, settled) {
+            EitherHash::Sha512(hash) => finish(hash, &self.segments, body.as_slice()),
+            EitherHash::Sha256(_) => unreachable!(),
+        }
     }
 
     /// The segments alone.
@@ -181,39 +189,6 @@ impl Received {
     {
         self.segments
     }
-}
-
-/// Has a hash take in the segments from `held` on.
-fn catch_up<H: Digest>(segments: &Segments, hash: &mut H, held: &mut usize)
-    requires front { H.holds hash.old (joined (take held.old segments.now.settled)) }
-    requires within { held.old ≤ length segments.now.settled }
-    ensures all { H.holds hash.new (joined segments.now.settled) }
-    ensures held { held.new ≡ length segments.now.settled }
-{
-    let parts = segments.settled();
-    take_in(hash, &parts[*held..]);
-    *held = parts.len();
-}
-
-/// A hash of the segments that stay as they are: a copy of the running one once that has caught up. If that is away in a
-/// thread, it is a new one.
-fn caught_up(segments: &Segments, running: &mut Running, held: &mut usize) -> Sha256
-    requires front { Holds running.old (joined (take held.old segments.now.settled)) }
-    requires within { held.old ≤ length segments.now.settled }
-    ensures hash { Holds256 result (joined segments.now.settled) }
-    ensures front { Holds running.new (joined (take held.new segments.now.settled)) }
-    ensures within { held.new ≤ length segments.now.settled }
-{
-    if let Running::Here(hash) = running {
-        catch_up(segments, hash, held);
-        let Ok(copy) = hash.clone() else {
-            unreachable!();
-        };
-        return copy;
-    }
-    let mut hash = Sha256::new();
-    take_in(&mut hash, segments.settled());
-    hash
 }
 
 /// The digest of the segments and a last body, by a hash that holds the segments that stay as they are.

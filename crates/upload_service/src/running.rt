@@ -1,17 +1,18 @@
-//! A SHA-256 that takes parts in here, or in a thread of its own.
+//! A running hash that takes parts in here, or in a thread of its own.
 ghost use Rattle.std.specs.Prelude.{◌≡◌, ◌++◌, [], ℕ, List, IfOk};
-ghost use Rattle.sha2.specs.Hashers.{Holds256};
+ghost use Rattle.upload_names.specs.declared.digest.Algorithm.{Algorithm as By};
 ghost use Rattle.upload_service.specs.Kept.Parts.{joined};
+ghost use Rattle.upload_service.specs.Kept.Hashes.{HoldsBy};
 ghost use Rattle.upload_service.specs.Kept.Running.{Holds};
 
+use crate::either_hash::EitherHash;
+use crate::hash_end::HashEnd;
 use crate::shared::Part;
-use sha2::{Digest, Sha256};
 use std::alloc::{AllocError, Global};
 use std::snapshot::Snapshot;
-use std::sync::Arc;
-use std::sync::atomic::{AtomicBool, Ordering};
 use std::thread;
 use std::thread::{Promise, PromisedHandle, Threads};
+use upload_names::Algorithm;
 
 /// The stack of a thread that hashes, in bytes.
 const STACK: usize = 131_072;
@@ -22,52 +23,61 @@ const WORTH_A_THREAD: usize = 262_144;
 /// What a thread promises: its hash holds these parts behind what the hash held that it was given.
 #[derive(Drop)]
 pub struct Behind {
-    pub before: Snapshot<Sha256>,
+    pub before: Snapshot<EitherHash>,
     pub parts: Snapshot<Vec<Part>>,
 }
 
-impl Promise<Sha256> for Behind {
+impl Promise<EitherHash> for Behind {
     ghost use Rattle.std.specs.Prelude.{List, ℕ, ◌++◌};
-    ghost use Rattle.sha2.specs.Hashers.{Holds256};
+    ghost use Rattle.upload_names.specs.declared.digest.Algorithm.{Algorithm as By};
     ghost use Rattle.upload_service.specs.Kept.Parts.{joined};
+    ghost use Rattle.upload_service.specs.Kept.Hashes.{HoldsBy};
 
-    ghost kept_by = { λ p hash. (before : List ℕ) → Holds256 p.before.value before → Holds256 hash (before ++ joined p.parts.value.items) };
+    ghost kept_by = { λ p hash. (by : By) (before : List ℕ) → HoldsBy by p.before.value before
+        → HoldsBy by hash (before ++ joined p.parts.value.items) };
 }
 
 /// A thread that hashes. One that nobody joins runs to its end, and lets go of its parts there.
 #[derive(Drop)]
 pub struct Hashing {
-    pub thread: PromisedHandle<Sha256, Behind>,
-    /// Whether the thread has nothing left to do. The thread says so last.
-    over: Arc<AtomicBool, Global>,
+    pub thread: PromisedHandle<EitherHash, Behind>,
+    end: HashEnd,
 }
 
 /// A hash that takes parts in, here or in a thread of its own.
 #[derive(Drop)]
 pub enum Running {
-    Here(Sha256),
+    Here(EitherHash),
     Away(Hashing),
 }
 
 impl Running {
-    /// A hash of nothing.
-    pub fn new() -> Running
-        ensures { Holds result [] }
+    /// A hash of nothing by this algorithm.
+    pub fn new(algorithm: Algorithm) -> Running
+        ensures { Holds algorithm result [] }
     {
-        Running::Here(Sha256::new())
+        Running::Here(EitherHash::new(algorithm))
     }
 
     /// Whether a thread is still hashing: who joined it would wait.
     pub fn is_at_work(&self) -> bool {
         match self {
             Running::Here(_) => false,
-            Running::Away(hashing) => !hashing.over.load(Ordering::SeqCst),
+            Running::Away(hashing) => !hashing.end.is_over(),
+        }
+    }
+
+    /// The end of the thread that is still hashing, if one is.
+    pub fn end(&self) -> Option<HashEnd> {
+        match self {
+            Running::Away(hashing) if !hashing.end.is_over() => hashing.end.share().ok(),
+            _ => None,
         }
     }
 
     /// The hash, once its thread has ended.
-    pub fn come_home<R: Threads>(self, rt: &R) -> Sha256
-        ensures { (bytes : List ℕ) → Holds self bytes → Holds256 result bytes }
+    pub fn come_home<R: Threads>(self, rt: &R) -> EitherHash
+        ensures { (by : By) (bytes : List ℕ) → Holds by self bytes → HoldsBy by result bytes }
     {
         match self {
             Running::Here(hash) => hash,
@@ -78,10 +88,11 @@ impl Running {
         }
     }
 
-    /// Takes parts in, in a thread if that is worth it. What is taken in already is waited for. If there is no memory for
-    /// a thread, or none can be made, the parts are taken in here.
+    /// Takes parts in, in a thread if that is worth it. What is taken in already is waited for. If there is no memory
+    /// for a thread, or none can be made, the parts are taken in here.
     pub fn go_on<R: Threads>(self, rt: &R, alloc: Global, parts: &[Part]) -> Running
-        ensures { (bytes : List ℕ) → Holds self bytes → Holds result (bytes ++ joined parts.now) }
+        ensures { (by : By) (bytes : List ℕ) → Holds by self bytes
+            → Holds by result (bytes ++ joined parts.now) }
     {
         let mut hash = self.come_home(rt);
         if size_of(parts) >= WORTH_A_THREAD {
@@ -89,27 +100,18 @@ impl Running {
                 return hash_beside(rt, alloc, hash, theirs);
             }
         }
-        take_in(&mut hash, parts);
+        hash.take_in(parts);
         Running::Here(hash)
     }
 }
 
 /// How many bytes these parts have.
-pub fn size_of(parts: &[Part]) -> usize {
+fn size_of(parts: &[Part]) -> usize {
     let mut size: usize = 0;
     for part in parts {
         size = size.saturating_add(part.as_slice().len());
     }
     size
-}
-
-/// Has a hash take parts in.
-pub fn take_in<H: Digest>(hash: &mut H, parts: &[Part])
-    ensures { (before : List ℕ) → H.holds hash.old before → H.holds hash.new (before ++ joined parts.now) }
-{
-    for part in parts {
-        hash.update(part.as_slice());
-    }
 }
 
 /// One more owner of each part.
@@ -124,13 +126,11 @@ fn share_all(alloc: Global, parts: &[Part]) -> Result<Vec<Part>, AllocError>
 }
 
 /// Starts a thread that takes parts in.
-fn hash_beside<R: Threads>(rt: &R, alloc: Global, hash: Sha256, parts: Vec<Part>) -> Running
-    ensures { (bytes : List ℕ) → Holds256 hash bytes → Holds result (bytes ++ joined parts.items) }
+fn hash_beside<R: Threads>(rt: &R, alloc: Global, hash: EitherHash, parts: Vec<Part>) -> Running
+    ensures { (by : By) (bytes : List ℕ) → HoldsBy by hash bytes
+        → Holds by result (bytes ++ joined parts.items) }
 {
-    let Ok(over) = Arc::new(alloc, AtomicBool::new(false)) else {
-        return Running::Here(with_parts(hash, parts));
-    };
-    let Ok(theirs) = Arc::try_clone(&over) else {
+    let Ok((end, told)) = ends(alloc) else {
         return Running::Here(with_parts(hash, parts));
     };
     let promise = Behind {
@@ -138,26 +138,35 @@ fn hash_beside<R: Threads>(rt: &R, alloc: Global, hash: Sha256, parts: Vec<Part>
         parts: Snapshot::of(&parts),
     };
     let thread = thread::Builder::new().stack_size(STACK);
-    match thread.spawn_with(rt, promise, move || hash_there(hash, parts, theirs)) {
-        Ok(thread) => Running::Away(Hashing { thread, over }),
+    match thread.spawn_with(rt, promise, move || hash_there(hash, parts, told)) {
+        Ok(thread) => Running::Away(Hashing { thread, end }),
         Err(refused) => Running::Here((refused.value)()),
     }
 }
 
+/// The end of a thread, for who waits for it and for the thread.
+fn ends(alloc: Global) -> Result<(HashEnd, HashEnd), AllocError> {
+    let end = HashEnd::new(alloc)?;
+    let told = end.share()?;
+    Ok((end, told))
+}
+
 /// What the thread does.
-fn hash_there(hash: Sha256, parts: Vec<Part>, over: Arc<AtomicBool, Global>) -> Sha256
-    ensures { (before : List ℕ) → Holds256 hash before → Holds256 result (before ++ joined parts.items) }
+fn hash_there(hash: EitherHash, parts: Vec<Part>, end: HashEnd) -> EitherHash
+    ensures { (by : By) (before : List ℕ) → HoldsBy by hash before
+        → HoldsBy by result (before ++ joined parts.items) }
 {
     let hash = with_parts(hash, parts);
-    over.store(true, Ordering::SeqCst);
+    end.tell();
     hash
 }
 
 /// The hash with these parts taken in. The parts are let go.
-fn with_parts(hash: Sha256, parts: Vec<Part>) -> Sha256
-    ensures { (before : List ℕ) → Holds256 hash before → Holds256 result (before ++ joined parts.items) }
+fn with_parts(hash: EitherHash, parts: Vec<Part>) -> EitherHash
+    ensures { (by : By) (before : List ℕ) → HoldsBy by hash before
+        → HoldsBy by result (before ++ joined parts.items) }
 {
     let mut hash = hash;
-    take_in(&mut hash, parts.as_slice());
+    hash.take_in(parts.as_slice());
     hash
 }

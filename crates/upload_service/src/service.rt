@@ -8,6 +8,7 @@ ghost use Rattle.upload_service.specs.Headline.{Headline};
 
 use crate::answer::Answer;
 use crate::ask::Ask;
+use crate::hash_end::HashEnd;
 use crate::limits::Limits;
 use crate::sessions::Sessions;
 use crate::slack::Slack;
@@ -68,9 +69,9 @@ impl Service {
         }
     }
 
-    /// Keeps so many bytes of memory free: a request that would change something is answered NoMemory if there aren't as
-    /// many beside what it takes, so that what is stored can still be handed out. A new service keeps none free. Nothing
-    /// that is seen changes, and it takes no memory.
+    /// Keeps so many bytes of memory free: a request that would change something is answered NoMemory if there aren't
+    /// as many beside what it takes, so that what is stored can still be handed out. A new service keeps none free.
+    /// Nothing that is seen changes, and it takes no memory.
     pub fn keep_free(&mut self, bytes: usize)
         ensures { self.new ≡ self.old }
     {
@@ -86,9 +87,9 @@ impl Service {
         self.limits
     }
 
-    /// Serves one request, at this moment in seconds: one turn of the machine. The secret is used only where
-    /// the answer is Begun. The answer is NoMemory only if memory was refused, at a change or as the bytes of a blob are
-    /// handed out, and nothing has changed then. A refusal, a status, `/v2/` and a HEAD of a blob are never answered so.
+    /// Serves one request, at this moment in seconds: one turn of the machine. The secret is used only where the answer
+    /// is Begun. The answer is NoMemory only if memory was refused, at a change or as the bytes of a blob are handed
+    /// out, and nothing has changed then. A refusal, a status, `/v2/` and a HEAD of a blob are never answered so.
     pub fn step(&mut self, ask: Ask, secret: [u8; 12], now: u64) -> Answer
         ensures turn { Turn self.old ask secret now result self.new }
         ensures lawful { IsLawful self.new }
@@ -96,8 +97,8 @@ impl Service {
         turn(self.alloc, self.limits, &mut self.tables, ask, secret, now)
     }
 
-    /// Has the SHA-256 of an open session take in what the session received since it last did. A step hashes no chunk, so
-    /// that its answer isn't kept waiting; a close hashes what was left to do. Between two requests this is the time
+    /// Has the SHA-256 of an open session take in what the session received since it last did. A step hashes no chunk,
+    /// so that its answer isn't kept waiting; a close hashes what was left to do. Between two requests this is the time
     /// to do it. Nothing that is seen changes, and it takes no memory. A reference of no open session is no work.
     pub fn catch_up(&mut self, at: &UploadRef)
         ensures { self.new ≡ self.old }
@@ -105,10 +106,10 @@ impl Service {
         self.tables.sessions.catch_up(at);
     }
 
-    /// As `catch_up`, for a caller with threads: if there is enough to hash, a thread of the session's own does it, so that
-    /// the caller serves other requests meanwhile. A session has one such thread at a time. While that is at work nothing
-    /// is done, but if too much is left to do then, this waits for it. The thread is given shares of the session's
-    /// bytes and no copy. If there is no memory for it, or none can be made, all is taken in here. Nothing that is seen
+    /// As `catch_up`, for a caller with threads: if there is enough to hash, a thread of the session's own does it, so
+    /// that the caller serves other requests meanwhile. A session has one such thread at a time. While that is at work
+    /// nothing is done: what is left to do then is for the next one. The thread is given shares of the session's bytes
+    /// and no copy. If there is no memory for it, or none can be made, all is taken in here. Nothing that is seen
     /// changes. From then on the caller calls `step_joining` in place of `step`.
     pub fn catch_up_beside<R: Threads>(&mut self, rt: &R, at: &UploadRef)
         ensures { self.new ≡ self.old }
@@ -116,8 +117,30 @@ impl Service {
         self.tables.sessions.catch_up_beside(rt, self.alloc, at);
     }
 
-    /// As `step`. A close by a SHA-256 waits for the thread that hashes for its session, unless it is refused before
-    /// a hash is looked at. `step` can't wait: it hashes all bytes of such a session again.
+    /// Prepares a close by this algorithm, so that it has little left to hash: the hash of an open session takes in
+    /// what the session received, in a thread as with `catch_up_beside`. Gives the end of the thread that is at that,
+    /// so that the caller can wait for it where nobody else has to. Behind it there may be more to take in, if chunks
+    /// came meanwhile or the thread was at work already, so the caller then asks again. `None` says that there is
+    /// nothing to wait for: all that is worth a thread is taken in, the reference is of no open session, or no thread
+    /// could be made and all was taken in here. Only this and a close have a SHA-512 take in anything. Nothing that is
+    /// seen changes.
+    pub fn hash_for_close<R: Threads>(
+        &mut self,
+        rt: &R,
+        at: &UploadRef,
+        algorithm: Algorithm,
+    ) -> Option<HashEnd>
+        ensures { self.new ≡ self.old }
+    {
+        self.tables
+            .sessions
+            .hash_for_close(rt, self.alloc, at, algorithm)
+    }
+
+    /// As `step`. A close waits for the thread that hashes for its session by the algorithm of its digest, and then
+    /// hashes what is left, unless it is refused before a hash is looked at. Each other caller waits for as long, so
+    /// that one who serves several prepares a close first (`hash_for_close`). `step` can't wait: it hashes all bytes of
+    /// such a session again.
     pub fn step_joining<R: Threads>(
         &mut self,
         rt: &R,
@@ -128,15 +151,15 @@ impl Service {
         ensures turn { Turn self.old ask secret now result self.new }
         ensures lawful { IsLawful self.new }
     {
-        if let Some(at) = self.needs_sha256(&ask, now) {
-            self.bring_home(rt, &at);
+        if let Some((at, algorithm)) = self.needs_hash(&ask, now) {
+            self.bring_home(rt, &at, algorithm);
         }
         self.step(ask, secret, now)
     }
 
-    /// The session whose SHA-256 a request needs: one that it closes by a SHA-256, if that is open under that name and not
-    /// idle, and the body fits. A close that is refused for one of these looks at no hash.
-    fn needs_sha256(&self, ask: &Ask, now: u64) -> Option<UploadRef> {
+    /// The session whose hash a request needs, and by which algorithm: one that it closes, if that is open under that
+    /// name and not idle, and the body fits. A close that is refused for one of these looks at no hash.
+    fn needs_hash(&self, ask: &Ask, now: u64) -> Option<(UploadRef, Algorithm)> {
         let Ask::Close {
             name,
             at,
@@ -147,26 +170,21 @@ impl Service {
         else {
             return None;
         };
-        if let Algorithm::Sha512 = digest.algorithm() {
-            return None;
-        }
         let sessions = &self.tables.sessions;
-        let Some(session) = sessions.find_awake(name, at, self.limits.max_idle, now) else {
-            return None;
-        };
+        let session = sessions.find_awake(name, at, self.limits.max_idle, now)?;
         let size = body.as_slice().len() as u64;
         let verdict = judge(self.limits.max_blob, session.received.len(), *range, size);
         match verdict {
-            Verdict::Fits => Some(*at),
+            Verdict::Fits => Some((*at, digest.algorithm())),
             Verdict::Misplaced | Verdict::Refused(_) => None,
         }
     }
 
-    /// Waits for the thread that hashes for a session, if there is one. Nothing that is seen changes.
-    fn bring_home<R: Threads>(&mut self, rt: &R, at: &UploadRef)
+    /// Waits for the thread that hashes for a session by an algorithm, if there is one. Nothing that is seen changes.
+    fn bring_home<R: Threads>(&mut self, rt: &R, at: &UploadRef, algorithm: Algorithm)
         ensures { self.new ≡ self.old }
     {
-        self.tables.sessions.bring_home(rt, at);
+        self.tables.sessions.bring_home(rt, at, algorithm);
     }
 
     /// How many bytes a session has received, or None where no such session is open. One that is idle counts

@@ -5,13 +5,14 @@ ghost use Rattle.upload_names.specs.Digest.{HasDigest};
 ghost use Rattle.upload_service.specs.Machine.{Session, is_idle, unless_idle, awake_of, swept_of};
 ghost use Rattle.upload_service.specs.Kept.Entries.{session_of, is_kept};
 
+use crate::hash_end::HashEnd;
 use crate::limits::Limits;
 use crate::received::Received;
 use std::alloc::{AllocError, Global};
 use std::collections::BTreeMap;
 use std::marker::Model;
 use std::thread::Threads;
-use upload_names::{BlobDigest, Bytes, RepoName, UploadRef};
+use upload_names::{Algorithm, BlobDigest, Bytes, RepoName, UploadRef};
 
 /// A session that was opened and not yet closed.
 #[derive(Drop)]
@@ -162,8 +163,8 @@ impl Sessions {
         session.received.catch_up();
     }
 
-    /// Has the running hash of an open session catch up beside what goes on, in a thread, where there is such a session.
-    /// Nothing that is seen changes.
+    /// Has the running hash of an open session catch up beside what goes on, in a thread, where there is such a
+    /// session. Nothing that is seen changes.
     pub fn catch_up_beside<R: Threads>(&mut self, rt: &R, alloc: Global, at: &UploadRef)
         ensures { self.new ≡ self.old }
     {
@@ -173,15 +174,32 @@ impl Sessions {
         session.received.catch_up_beside(rt, alloc);
     }
 
-    /// Waits for the thread that has the running hash of an open session, where there is such a session and one has it.
-    /// Nothing that is seen changes.
-    pub fn bring_home<R: Threads>(&mut self, rt: &R, at: &UploadRef)
+    /// Has the hash of an open session by an algorithm catch up so, where there is such a session. Gives the end of the
+    /// thread that is at that, if there is one. Nothing that is seen changes.
+    pub fn hash_for_close<R: Threads>(
+        &mut self,
+        rt: &R,
+        alloc: Global,
+        at: &UploadRef,
+        algorithm: Algorithm,
+    ) -> Option<HashEnd>
+        ensures { self.new ≡ self.old }
+    {
+        let Some(session) = self.open.get_mut(at) else {
+            return None;
+        };
+        session.received.hash_for_close(rt, alloc, algorithm)
+    }
+
+    /// Waits for the thread that has the hash of an open session by an algorithm, where there is such a session and one
+    /// has it. Nothing that is seen changes.
+    pub fn bring_home<R: Threads>(&mut self, rt: &R, at: &UploadRef, algorithm: Algorithm)
         ensures { self.new ≡ self.old }
     {
         let Some(session) = self.open.get_mut(at) else {
             return;
         };
-        session.received.bring_home(rt);
+        session.received.bring_home(rt, algorithm);
     }
 
     /// Whether what an open session received and a last body have a digest, by the algorithm of that digest.

@@ -1,23 +1,29 @@
 -- Which messages the hashes of a session hold.
 use Rattle.std.specs.Prelude.{ℕ, List, ◌≤◌, ◌++◌, length, take}
-use Rattle.sha2.specs.declared.Sha256.{Sha256}
-use Rattle.sha2.specs.declared.Sha512.{Sha512}
-use Rattle.sha2.specs.Hashers.{Holds256, Holds512}
+use Rattle.upload_names.specs.declared.digest.Algorithm.{Algorithm as By}
+use Rattle.upload_names.specs.declared.digest.Algorithm.TheVariants.{Sha256, Sha512}
+use Rattle.upload_service.specs.declared.either_hash.EitherHash.{EitherHash}
+use Rattle.upload_service.specs.declared.prefix_hash.PrefixHash.{PrefixHash}
 use Rattle.upload_service.specs.declared.running.Running.{Running}
 use Rattle.upload_service.specs.declared.running.Running.TheVariants.{Here, Away}
+use Rattle.upload_service.specs.Kept.Hashes.{HoldsBy}
 use Rattle.upload_service.specs.Kept.Parts.{Parts, joined}
 
 -- One that is away holds what its thread's result will hold, whatever that result is.
-abbrev pub Holds : Running → List ℕ → Type 0
-Holds (Here hash) bytes = Holds256 hash bytes
-Holds (Away away) bytes =
-    (hash : Sha256)
-    → ((before : List ℕ) → Holds256 away.thread.promise.before.value before → Holds256 hash (before ++ joined away.thread.promise.parts.value.items))
-    → Holds256 hash bytes
+abbrev pub Holds : By → Running → List ℕ → Type 0
+Holds by (Here hash) bytes = HoldsBy by hash bytes
+Holds by (Away away) bytes =
+    (hash : EitherHash)
+    → ((of : By) (before : List ℕ) → HoldsBy of away.thread.promise.before.value before
+    → HoldsBy of hash (before ++ joined away.thread.promise.parts.value.items))
+    → HoldsBy by hash bytes
 
--- Each hash holds a front of the segments that stay as they are: as many of them as its number says.
-pub record IsRunning (parts : Parts) (running : Running) (in_running : ℕ) (late : Sha512) (in_late : ℕ) : Type 0 where
-  pub sha256 : Holds running (joined (take in_running parts.settled))
-  pub within_sha256 : in_running ≤ length parts.settled
-  pub sha512 : Holds512 late (joined (take in_late parts.settled))
-  pub within_sha512 : in_late ≤ length parts.settled
+-- The hash holds a prefix of the segments that stay as they are: as many of them as it says.
+pub record HoldsPrefix (by : By) (settled : List (List ℕ)) (hash : PrefixHash) : Type 0 where
+  pub holds : Holds by hash.running (joined (take hash.held settled))
+  pub within : hash.held ≤ length settled
+
+-- each hash of a session holds a prefix of its segments
+pub record AreRunning (parts : Parts) (one two : PrefixHash) : Type 0 where
+  pub sha256 : HoldsPrefix Sha256 parts.settled one
+  pub sha512 : HoldsPrefix Sha512 parts.settled two

@@ -1,4 +1,4 @@
-use Rattle.std.proofs.Common.{◌≡◌, ℕ, ◌+◌, ◌<◌, false, get_or, List, refl, sym, ap, ◌∙◌, subst, [], ◌∷◌, ◌++◌, length, length-append, arith, map, rules}
+use Rattle.std.proofs.Common.{◌≡◌, ℕ, ◌+◌, ◌<◌, false, get_or, List, refl, sym, ap, ◌∙◌, subst, [], ◌∷◌, ◌++◌, length, length-append, map}
 use Rattle.std.proofs.lemmas.List.{map-append, length-map}
 use Rattle.crossbeam_channel.specs.Ends.{sends_on, receives_on}
 use Rattle.upload_intake.specs.Passes.{line_of}
@@ -15,7 +15,7 @@ loop-seat-preserved c =
     let seats = c.in_ok-push.ensures.items in
     let lines = c.in_ok-push-2.ensures.items in
     let n = length-append c.loop-seat.seats.items (c.new.result ∷ []) in
-    let m = length-append c.loop-seat.lines.items (record { replies = c.in_ok-replies.replies; is_done = false } ∷ []) in
+    let m = length-append c.loop-seat.lines.items (record { replies = c.in_ok-replies.replies; ends = tt; is_done = false } ∷ []) in
     let here = c.new.ensures in
     record {
       line = ap (λ r. receives_on r) c.in_ok-own.ensures.same_line ∙ was.line;
@@ -26,7 +26,7 @@ loop-seat-preserved c =
       fresh = subst (λ xs. (k : ℕ) (d : SeatState) → k < length xs → IsFresh (get_or xs k d)) (sym seats)
           (each_push (λ _ x. IsFresh x) _ _ was.fresh (record { sent = ap (λ s. s.sent) here; heard = ap (λ s. s.heard) here; gone = ap (λ s. s.gone) here }));
       on = subst (λ (y : List SeatState × List ReplyLine). AreSeatsOn (line_of (sends_on c.in_ok-sender.sender)) (map replies_on y.1) y.0) (λ i. (sym seats i, sym lines i))
-          (subst (λ r. AreSeatsOn (line_of (sends_on c.in_ok-sender.sender)) r (c.loop-seat.seats.items ++ c.new.result ∷ [])) (sym (map-append replies_on c.loop-seat.lines.items (record { replies = c.in_ok-replies.replies; is_done = false } ∷ [])))
+          (subst (λ r. AreSeatsOn (line_of (sends_on c.in_ok-sender.sender)) r (c.loop-seat.seats.items ++ c.new.result ∷ [])) (sym (map-append replies_on c.loop-seat.lines.items (record { replies = c.in_ok-replies.replies; ends = tt; is_done = false } ∷ [])))
           (one_seat_more (line_of (sends_on c.in_ok-sender.sender)) (map replies_on c.loop-seat.lines.items) (line_of (sends_on c.in_ok-replies.replies.sender)) c.loop-seat.seats.items c.new.result
           (was.count ∙ sym was.lines_count ∙ sym (length-map c.loop-seat.lines.items replies_on)) was.on
           (ap (λ s. s.jobs) here ∙ c.in_ok-own.ensures.line) (ap (λ s. s.replies) here ∙ c.in_ok-replies.ensures.line) (ap (λ s. s.seat) here ∙ sym was.count)));

@@ -1,7 +1,7 @@
 use Rattle.std.proofs.Common.{arith, refl, ap, sym, ◌∙◌, [], ◌∷◌, ◌++◌}
 use Rattle.std.proofs.Math.Seq.{map-set_same}
 use Rattle.crossbeam_channel.specs.Ends.{sends_on, receives_on}
-use Rattle.upload_intake.proofs.KeeperMoves.{served_seat, finished_seat, logged, grows_one}
+use Rattle.upload_intake.proofs.KeeperMoves.{served_seat, wish_taken, finished_seat, logged, grows_one}
 use Rattle.upload_intake.specs.Log.{exchanges_of, last_moment}
 use Rattle.upload_intake.specs.Passes.{line_of}
 use Rattle.upload_intake.specs.Replies.{replies_on}
@@ -13,6 +13,9 @@ invariant_of-self-in-Job g c = served_seat _ _ _ _ _ _ _ _ c.self.invariant _ c.
     _ _ c.index_mut.ensures.value c.reply.ensures.sent c.reply.ensures.done _ refl _
     (logged _ _ _ _ c.and-self-inside.ensures
     (λ i. record { seat = c.in-Some.item.seat; exchange = record { ask = c.of-asked.ensures i; secret = c.in-Job.secret; now = c.max-self-inside.result; answer = c.of.ensures i } }))
+
+pub invariant_of-self-in-Hash : goal.invariant_of-self-in-Hash
+invariant_of-self-in-Hash g c = wish_taken _ _ _ _ _ _ _ _ c.self.invariant _ c.in-Some.ensures.taken _ _ c.in-Hash.is _ c.hash_for_close-end.ensures
 
 pub invariant_of-self-in-Finish : goal.invariant_of-self-in-Finish
 invariant_of-self-in-Finish g c = finished_seat _ _ _ _ _ _ _ _ c.self.invariant _ c.in-Some.ensures.taken c.in-Finish.is _ _ c.index_mut-in-Finish.ensures.value refl _ refl

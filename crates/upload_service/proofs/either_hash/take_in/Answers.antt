@@ -3,7 +3,7 @@ use Rattle.std.proofs.lemmas.List.{append-nil, append_assoc}
 use Rattle.std.proofs.Math.Seq.{take-length}
 use Rattle.upload_service.specs.Kept.Parts.{joined}
 use Rattle.upload_service.proofs.Parts.{joined-take_next}
-use Rattle.upload_service.proofs.running.take_in.Goals as goal
+use Rattle.upload_service.proofs.either_hash.take_in.Goals as goal
 
 pub loop-part-init : goal.loop-part-init
 loop-part-init g c = λ before holds. subst (g.H.Digest.holds c.args.hash.now) (sym (append-nil before)) holds

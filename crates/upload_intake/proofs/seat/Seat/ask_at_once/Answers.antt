@@ -2,7 +2,7 @@ use Rattle.std.proofs.Common.{sym, ap, ◌∙◌}
 use Rattle.crossbeam_channel.specs.Ends.{sends_on, receives_on}
 use Rattle.upload_intake.specs.Passes.{line_of, whats}
 use Rattle.upload_intake.proofs.SeatMoves.{answered, unanswered, one_more_sent, whats_more, told, told_none}
-use Rattle.upload_intake.proofs.seat.Seat.ask.Goals as goal
+use Rattle.upload_intake.proofs.seat.Seat.ask_at_once.Goals as goal
 
 pub invariant_of-self-in-Some : goal.invariant_of-self-in-Some
 invariant_of-self-in-Some g c = answered _ _ _ _ c.self.invariant c.if-self.false _ _ _ _ _ c.in_default.ensures.sent c.in-Some.ensures.taken

@@ -1,0 +1,54 @@
+//! The end of a thread that hashes, and who waits for it.
+use std::alloc::{AllocError, Global};
+use std::sync::atomic::{AtomicU64, Ordering};
+use std::sync::{Arc, Wait};
+
+/// The thread has something left to do.
+const AT_WORK: u64 = 0;
+
+/// The thread has nothing left to do.
+const OVER: u64 = 1;
+
+/// The end of a thread that hashes. Any thread may wait for it, and so may several. That the thread ended says nothing
+/// of what it hashed.
+#[derive(Drop)]
+pub struct HashEnd {
+    state: Arc<AtomicU64, Global>,
+}
+
+impl HashEnd {
+    /// The end of a thread that isn't started yet.
+    pub(crate) fn new(alloc: Global) -> Result<HashEnd, AllocError> {
+        let Ok(state) = Arc::new(alloc, AtomicU64::new(AT_WORK)) else {
+            return Err(AllocError);
+        };
+        Ok(HashEnd { state })
+    }
+
+    /// The same end, for one more to wait for or to tell. It takes no memory.
+    pub(crate) fn share(&self) -> Result<HashEnd, AllocError> {
+        let state = Arc::try_clone(&self.state)?;
+        Ok(HashEnd { state })
+    }
+
+    /// Whether the thread has nothing left to do.
+    pub(crate) fn is_over(&self) -> bool {
+        self.state.load(Ordering::SeqCst) == OVER
+    }
+
+    /// Ends each wait for this end. The thread tells it last.
+    pub(crate) fn tell(self) {
+        self.state.store(OVER, Ordering::SeqCst);
+        self.state.wake_all();
+    }
+
+    /// Returns once the thread has ended.
+    pub fn wait<R: Wait>(self, rt: &R) {
+        for _ in rt.forever() {
+            if self.is_over() {
+                return;
+            }
+            self.state.park(rt, AT_WORK as u32);
+        }
+    }
+}

@@ -1,0 +1,114 @@
+//! A running hash that holds a prefix of a session's segments, and catches up with them.
+ghost use Rattle.std.specs.Prelude.{◌≡◌, ◌≤◌, ℕ, List, length};
+ghost use Rattle.upload_names.specs.declared.digest.Algorithm.{Algorithm as By};
+ghost use Rattle.upload_service.specs.declared.either_hash.EitherHash.{EitherHash as HashOf};
+ghost use Rattle.upload_service.specs.declared.running.Running.TheVariants.{Here};
+ghost use Rattle.upload_service.specs.Kept.Hashes.{HoldsBy};
+ghost use Rattle.upload_service.specs.Kept.Parts.{joined};
+ghost use Rattle.upload_service.specs.Kept.Running.{HoldsPrefix};
+
+use crate::either_hash::EitherHash;
+use crate::hash_end::HashEnd;
+use crate::running::Running;
+use crate::shared::Part;
+use std::alloc::Global;
+use std::mem;
+use std::thread::Threads;
+use upload_names::Algorithm;
+
+/// A running hash, and how many of the segments that stay as they are it holds. Each call is given these segments, of
+/// which the hash holds a prefix before the call and after it.
+#[derive(Drop)]
+pub struct PrefixHash {
+    running: Running,
+    held: usize,
+}
+
+impl PrefixHash {
+    /// A hash of no segments by this algorithm.
+    pub fn new(algorithm: Algorithm) -> PrefixHash
+        ensures { (settled : List (List ℕ)) → HoldsPrefix algorithm settled result }
+    {
+        PrefixHash {
+            running: Running::new(algorithm),
+            held: 0,
+        }
+    }
+
+    /// A hash that holds all these segments.
+    pub fn of_all(hash: EitherHash, settled: &[Part]) -> PrefixHash
+        ensures { (by : By) → HoldsBy by hash (joined settled.now)
+            → HoldsPrefix by settled.now result }
+    {
+        PrefixHash {
+            running: Running::Here(hash),
+            held: settled.len(),
+        }
+    }
+
+    /// Takes all segments in, unless the hash is away in a thread.
+    pub fn catch_up(&mut self, settled: &[Part])
+        requires { self.old.held ≤ length settled.now }
+        ensures prefix { (by : By) → HoldsPrefix by settled.now self.old
+            → HoldsPrefix by settled.now self.new }
+        ensures all { (hash : HashOf) → self.new.running ≡ Here hash
+            → self.new.held ≡ length settled.now }
+    {
+        if let Running::Here(hash) = &mut self.running {
+            hash.take_in(&settled[self.held..]);
+            self.held = settled.len();
+        }
+    }
+
+    /// Takes all segments in, in a thread if that is worth it. While a thread is at work this does nothing.
+    pub fn catch_up_beside<R: Threads>(&mut self, rt: &R, alloc: Global, settled: &[Part])
+        requires { self.old.held ≤ length settled.now }
+        ensures { (by : By) → HoldsPrefix by settled.now self.old
+            → HoldsPrefix by settled.now self.new }
+    {
+        if self.running.is_at_work() {
+            return;
+        }
+        let running = self.take_running();
+        self.running = running.go_on(rt, alloc, &settled[self.held..]);
+        self.held = settled.len();
+    }
+
+    /// The end of the thread that is at work, if one is.
+    pub fn end(&self) -> Option<HashEnd> {
+        self.running.end()
+    }
+
+    /// Waits for the thread that has the hash, if one has it.
+    pub fn bring_home<R: Threads>(&mut self, rt: &R)
+        ensures { (by : By) (settled : List (List ℕ)) → HoldsPrefix by settled self.old
+            → HoldsPrefix by settled self.new }
+    {
+        let running = self.take_running();
+        self.running = Running::Here(running.come_home(rt));
+    }
+
+    /// A hash by this algorithm of all segments: a copy of the running one, which catches up before. If that is away in
+    /// a thread, all is hashed anew.
+    pub fn of_settled(&mut self, algorithm: Algorithm, settled: &[Part]) -> EitherHash
+        requires { HoldsPrefix algorithm settled.now self.old }
+        ensures hash { HoldsBy algorithm result (joined settled.now) }
+        ensures prefix { HoldsPrefix algorithm settled.now self.new }
+    {
+        self.catch_up(settled);
+        if let Running::Here(hash) = &self.running {
+            return hash.copy();
+        }
+        let mut hash = EitherHash::new(algorithm);
+        hash.take_in(settled);
+        hash
+    }
+
+    /// The running hash, in whose place one of nothing is left.
+    fn take_running(&mut self) -> Running
+        ensures taken { result ≡ self.old.running }
+        ensures held { self.new.held ≡ self.old.held }
+    {
+        mem::replace(&mut self.running, Running::new(Algorithm::Sha256))
+    }
+}
