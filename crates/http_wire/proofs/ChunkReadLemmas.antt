@@ -10,7 +10,7 @@ use Rattle.http_wire.specs.States.{SourceState}
 use Rattle.http_wire.specs.Reading.{Gave}
 use Rattle.http_wire.specs.Body.{Chunk, print_chunk, IsChunk, chunks_text, chunks_data, NeverChunked, IsBadBody}
 use Rattle.http_wire.specs.Body.{IsCutBody}
-use Rattle.http_wire.specs.Inner.BodyReading.{Moved, ReadsBytes}
+use Rattle.http_wire.specs.Inner.BodyReading.{Moved, ReadsBytes, body_state}
 use Rattle.http_wire.specs.Inner.ChunkReading.{TakesLine, BreaksLine, CutsLine, FindsLine, BreaksEnd, CutsEnd, FindsEnd}
 use Rattle.http_wire.specs.Inner.ChunkReading.{TakesChunk, TakesLast, RefusesChunk, CutsChunk, FindsChunk}
 use Rattle.http_wire.specs.Inner.ChunksRead.{AreTaken}
@@ -58,7 +58,8 @@ chunk_line_cut room a b held h = record {
 }
 
 pub chunk_line_fault : (room : ℕ) (a b : SourceState) (held rest x y : List ℕ) (e : InputFault)
-    → FindsLine a held b rest (Err e) → FindsChunk room a held x b rest y (Err (body_of_input e))
+    → FindsLine a held b rest (Err e)
+    → FindsChunk room (body_state a held x) (body_state b rest y) (Err (body_of_input e))
 chunk_line_fault room a b held rest x y Input.Truncated h = (chunk_line_cut room a b held h.0, h.1)
 chunk_line_fault room a b held rest x y Input.Read h = chunk_line_cut room a b held h
 
@@ -104,8 +105,8 @@ chunk_data_cut room a b c held mid value h fits end =
     }
 
 pub chunk_data_fault : (room : ℕ) (a b c : SourceState) (held mid rest x y : List ℕ) (value : ℕ) (e : BodyFault)
-    → TakesLine a held b mid value → value ≤ room → ReadsBytes b mid x c rest y value (Err e)
-    → FindsChunk room a held x c rest y (Err e)
+    → TakesLine a held b mid value → value ≤ room → ReadsBytes (body_state b mid x) (body_state c rest y) value (Err e)
+    → FindsChunk room (body_state a held x) (body_state c rest y) (Err e)
 chunk_data_fault room a b c held mid rest x y value Fault.Truncated h fits end =
     (chunk_data_cut room a b c held mid value h fits (stops b c mid x rest y value end.0), end.1)
 chunk_data_fault room a b c held mid rest x y value Fault.Read h fits end =
@@ -115,13 +116,14 @@ chunk_data_fault room a b c held mid rest x y value Fault.NoMemory h fits none =
 
 -- a line and its data were taken, and then some text was seen
 gave_chunk : (a b c d : SourceState) (held mid rest more x y : List ℕ) (value : ℕ) (h : TakesLine a held b mid value)
-    (m : Moved b mid x c rest y value) → Gave c d rest more → Gave a d held (h.line ++ (m.bytes ++ more))
+    (m : Moved (body_state b mid x) (body_state c rest y) value) → Gave c d rest more
+    → Gave a d held (h.line ++ (m.bytes ++ more))
 gave_chunk a b c d held mid rest more x y value h m g =
     gave_after a b d held h.line mid (m.bytes ++ more) h.gave (gave_after b c d mid m.bytes rest more m.gave g)
 
 pub chunk_end_broken : (room : ℕ) (a b c d : SourceState) (held mid rest x y : List ℕ) (value : ℕ)
-    → TakesLine a held b mid value → value ≤ room → Moved b mid x c rest y value → BreaksEnd c rest d
-    → RefusesChunk room a held d bads.Chunks
+    → TakesLine a held b mid value → value ≤ room → Moved (body_state b mid x) (body_state c rest y) value
+    → BreaksEnd c rest d → RefusesChunk room a held d bads.Chunks
 chunk_end_broken room a b c d held mid rest x y value h fits m e =
     let l = h.is_line in
     let valued = l.value_is in
@@ -157,8 +159,8 @@ chunk_end_broken room a b c d held mid rest x y value h fits m e =
     front_of x (inr e) = (0, 10 ∷ [], ap (λ t. t ++ (10 ∷ [])) e, omega arith)
 
 pub chunk_end_cut : (room : ℕ) (a b c d : SourceState) (held mid rest x y : List ℕ) (value : ℕ)
-    → TakesLine a held b mid value → value ≤ room → Moved b mid x c rest y value → CutsEnd c rest d
-    → CutsChunk room a held d
+    → TakesLine a held b mid value → value ≤ room → Moved (body_state b mid x) (body_state c rest y) value
+    → CutsEnd c rest d → CutsChunk room a held d
 chunk_end_cut room a b c d held mid rest x y value h fits m e =
     let l = h.is_line in
     let valued = l.value_is in
@@ -183,16 +185,17 @@ chunk_end_cut room a b c d held mid rest x y value h fits m e =
     front_of x (inr e) = (0, 10 ∷ [], ap (λ t. t ++ (10 ∷ [])) e, omega arith)
 
 pub chunk_end_fault : (room : ℕ) (a b c d : SourceState) (held mid rest last x y : List ℕ) (value : ℕ) (e : InputFault)
-    → TakesLine a held b mid value → value ≤ room → Moved b mid x c rest y value → FindsEnd c rest d last (Err e)
-    → FindsChunk room a held x d last y (Err (body_of_input e))
+    → TakesLine a held b mid value → value ≤ room → Moved (body_state b mid x) (body_state c rest y) value
+    → FindsEnd c rest d last (Err e)
+    → FindsChunk room (body_state a held x) (body_state d last y) (Err (body_of_input e))
 chunk_end_fault room a b c d held mid rest last x y value Input.Truncated h fits m f =
     (chunk_end_cut room a b c d held mid rest x y value h fits m f.0, f.1)
 chunk_end_fault room a b c d held mid rest last x y value Input.Read h fits m f =
     chunk_end_cut room a b c d held mid rest x y value h fits m f
 
 pub chunk_taken : (room : ℕ) (a b c d : SourceState) (held mid rest last x y : List ℕ) (value : ℕ)
-    → TakesLine a held b mid value → value ≤ room → 0 < value → Moved b mid x c rest y value
-    → Gave c d rest (13 ∷ 10 ∷ last) → TakesChunk room a held x d last y
+    → TakesLine a held b mid value → value ≤ room → 0 < value → Moved (body_state b mid x) (body_state c rest y) value
+    → Gave c d rest (13 ∷ 10 ∷ last) → TakesChunk room (body_state a held x) (body_state d last y)
 chunk_taken room a b c d held mid rest last x y value h fits some m end =
     let l = h.is_line in
     let valued = l.value_is in
@@ -211,8 +214,8 @@ chunk_taken room a b c d held mid rest last x y value h fits some m end =
     flat ds d = simp append_assoc
 
 pub chunk_last : (a b c d : SourceState) (held mid rest last x y : List ℕ) (value : ℕ)
-    → TakesLine a held b mid value → value ≡ 0 → Moved b mid x c rest y value → Gave c d rest (13 ∷ 10 ∷ last)
-    → TakesLast a held x d last y
+    → TakesLine a held b mid value → value ≡ 0 → Moved (body_state b mid x) (body_state c rest y) value
+    → Gave c d rest (13 ∷ 10 ∷ last) → TakesLast (body_state a held x) (body_state d last y)
 chunk_last a b c d held mid rest last x y value h zero m end =
     let l = h.is_line in
     let valued = l.value_is in
@@ -237,7 +240,8 @@ taken_nothing max known held =
     record { chunks = []; each = All-nil IsChunk; gave = gave_none known held; joined = refl; fits = omega arith }
 
 pub taken_more : (max room : ℕ) (a b c : SourceState) (held mid rest x y : List ℕ) → room ≡ max - length x
-    → AreTaken max a held b mid x → TakesChunk room b mid x c rest y → AreTaken max a held c rest y
+    → AreTaken max a held b mid x → TakesChunk room (body_state b mid x) (body_state c rest y)
+    → AreTaken max a held c rest y
 taken_more max room a b c held mid rest x y left t h =
     let fits = t.fits in
     let more = h.fits in
@@ -258,7 +262,7 @@ taken_more max room a b c held mid rest x y left t h =
     }
 
 pub body_whole : (max : ℕ) (a b c : SourceState) (held mid rest x y : List ℕ) → AreTaken max a held b mid x
-    → TakesLast b mid x c rest y → TakesBody (Chunked max) a held c rest y
+    → TakesLast (body_state b mid x) (body_state c rest y) → TakesBody (Chunked max) a held c rest y
 body_whole max a b c held mid rest x y t h =
     let fits = t.fits in
     let same = ap length h.joined in
@@ -337,7 +341,8 @@ body_cut max room a b c held mid x left t h =
     }
 
 pub body_fault : (max room : ℕ) (a b c : SourceState) (held mid rest x y : List ℕ) (e : BodyFault)
-    → room ≡ max - length x → AreTaken max a held b mid x → FindsChunk room b mid x c rest y (Err e)
+    → room ≡ max - length x → AreTaken max a held b mid x
+    → FindsChunk room (body_state b mid x) (body_state c rest y) (Err e)
     → FindsBody (Chunked max) a held c rest y (Err e)
 body_fault max room a b c held mid rest x y Fault.Truncated left t h =
     (body_cut max room a b c held mid x left t h.0, h.1)
@@ -350,13 +355,13 @@ body_fault max room a b c held mid rest x y Fault.NoMemory left t h =
 
 -- ---- a body of a length
 
-pub length_whole : (n : ℕ) (a b : SourceState) (held rest y : List ℕ) → Moved a held [] b rest y n
-    → TakesBody (Length n) a held b rest y
+pub length_whole : (n : ℕ) (a b : SourceState) (held rest y : List ℕ)
+    → Moved (body_state a held []) (body_state b rest y) n → TakesBody (Length n) a held b rest y
 length_whole n a b held rest y m =
     record { text = m.bytes; gave = m.gave; written = (sym m.joined, ap length m.joined ∙ m.counted) }
 
 pub length_fault : (n : ℕ) (a b : SourceState) (held rest y : List ℕ) (e : BodyFault)
-    → ReadsBytes a held [] b rest y n (Err e) → FindsBody (Length n) a held b rest y (Err e)
+    → ReadsBytes (body_state a held []) (body_state b rest y) n (Err e) → FindsBody (Length n) a held b rest y (Err e)
 length_fault n a b held rest y Fault.Truncated h =
     let end = stops a b held [] rest y n h.0 in (record { text = end.text; gave = end.gave; cut = end.short }, h.1)
 length_fault n a b held rest y Fault.Read h =

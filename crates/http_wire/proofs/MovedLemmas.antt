@@ -8,10 +8,17 @@ use Rattle.http_wire.specs.Reading.{Gave}
 use Rattle.http_wire.specs.declared.fault.BodyFault.{BodyFault}
 use Rattle.http_wire.specs.declared.fault.BodyFault.TheVariants as Fault
 use Rattle.http_wire.specs.Inner.BodyReading.{Moved, MovedNone, MovedNothing, MovedAll, ReadsPart, ReadsBytes}
-use Rattle.http_wire.proofs.GaveLemmas.{gave_as, gave_after}
+use Rattle.http_wire.specs.Inner.BodyReading.{BodyState, body_state}
+use Rattle.http_wire.proofs.GaveLemmas.{gave_none, gave_as, gave_after}
+
+-- nothing was moved yet
+pub moved_no_more : (a : BodyState) (n : ℕ) → n ≡ 0 → Moved a a n
+moved_no_more a n none =
+    record { bytes = []; gave = gave_none a.source a.held; joined = sym (append-nil a.body); counted = sym none }
 
 pub moved_both : (a b c : SourceState) (held mid rest x y z : List ℕ) (n m : ℕ)
-    → Moved a held x b mid y n → Moved b mid y c rest z m → Moved a held x c rest z (n + m)
+    → Moved (body_state a held x) (body_state b mid y) n → Moved (body_state b mid y) (body_state c rest z) m
+    → Moved (body_state a held x) (body_state c rest z) (n + m)
 moved_both a b c held mid rest x y z n m first then =
     let counted = first.counted in
     let more = then.counted in
@@ -24,7 +31,7 @@ moved_both a b c held mid rest x y z n m first then =
     }
 
 pub none_after : (a b c : SourceState) (held mid x y : List ℕ) (n : ℕ)
-    → Moved a held x b mid y n → MovedNone b mid c → MovedNone a held c
+    → Moved (body_state a held x) (body_state b mid y) n → MovedNone b mid c → MovedNone a held c
 none_after a b c held mid x y n first none = record {
   text = first.bytes ++ none.text;
   gave = gave_after a b c held first.bytes mid none.text first.gave none.gave;
@@ -36,13 +43,14 @@ empty_of (x ∷ xs) none = absurd (omega arith)
 
 -- nothing came before a part
 pub nothing_came : (a b : SourceState) (held rest body : List ℕ) → Gave a b held rest → length rest ≡ 0
-    → MovedNothing a held body b rest body
+    → MovedNothing (body_state a held body) (body_state b rest body)
 nothing_came a b held rest body gave none =
     (record { bytes = []; gave = gave; joined = sym (append-nil body); counted = refl }, empty_of rest none)
 
 -- nothing more came behind the parts
-all_moved : (a b c : SourceState) (held mid rest x y z : List ℕ) (n count : ℕ) → Moved a held x b mid y n
-    → MovedNothing b mid y c rest z → n < count → MovedAll a held x c rest z count
+all_moved : (a b c : SourceState) (held mid rest x y z : List ℕ) (n count : ℕ)
+    → Moved (body_state a held x) (body_state b mid y) n → MovedNothing (body_state b mid y) (body_state c rest z)
+    → n < count → MovedAll (body_state a held x) (body_state c rest z) count
 all_moved a b c held mid rest x y z n count first end few = record {
   moved = n + 0;
   bytes = moved_both a b c held mid rest x y z n 0 first end.0;
@@ -52,8 +60,9 @@ all_moved a b c held mid rest x y z n count first end few = record {
 
 -- a fault of a part, behind the parts before it
 pub bytes_fault : (a b c : SourceState) (held mid rest x y z : List ℕ) (n left count : ℕ) (e : BodyFault)
-    → Moved a held x b mid y n → n < count → ReadsPart b mid y c rest z left (Err e)
-    → ReadsBytes a held x c rest z count (Err e)
+    → Moved (body_state a held x) (body_state b mid y) n → n < count
+    → ReadsPart (body_state b mid y) (body_state c rest z) left (Err e)
+    → ReadsBytes (body_state a held x) (body_state c rest z) count (Err e)
 bytes_fault a b c held mid rest x y z n left count Fault.Truncated first few end =
     (all_moved a b c held mid rest x y z n count first end.0 few, end.1)
 bytes_fault a b c held mid rest x y z n left count Fault.Read first few end =
@@ -68,7 +77,7 @@ pub record StopsBefore (old : SourceState) (held : List ℕ) (new : SourceState)
   pub short : length text < count
 
 pub stops : (old new : SourceState) (held before rest after : List ℕ) (n : ℕ)
-    → MovedAll old held before new rest after n → StopsBefore old held new n
+    → MovedAll (body_state old held before) (body_state new rest after) n → StopsBefore old held new n
 stops old new held before rest after n m =
     let none = ap length m.none_left in
     let few = m.few in

@@ -3,7 +3,7 @@ use Rattle.std.proofs.Common.{◌≡◌, ℕ, ◌+◌, List, [], ◌++◌, lengt
 use Rattle.std.specs.Prelude.{Result, Ok, Err}
 use Rattle.http_wire.specs.States.{SourceState}
 use Rattle.http_wire.specs.Reading.{HasEnded}
-use Rattle.http_wire.specs.Inner.BodyReading.{Moved, MovedNone, MovedAll, ReadsBytes}
+use Rattle.http_wire.specs.Inner.BodyReading.{Moved, MovedNone, MovedAll, ReadsBytes, body_state}
 use Rattle.http_wire.specs.Inner.ResponseBodyFinding.{FindsBody, end_of}
 use Rattle.http_wire.specs.declared.responses.framing.ResponseFraming.{ResponseFraming}
 use Rattle.http_wire.specs.declared.responses.framing.ResponseFraming.TheVariants.{Length, ToEnd}
@@ -19,7 +19,8 @@ body_is : (before bytes after : List ℕ) → before ≡ [] → after ≡ before
 body_is before bytes after none e = e ∙ ap (λ t. t ++ bytes) none
 
 pub body_whole : (old new : SourceState) (held before rest after : List ℕ) (n : ℕ) → before ≡ []
-    → Moved old held before new rest after n → FindsBody (Length n) held old after rest new (Ok Whole)
+    → Moved (body_state old held before) (body_state new rest after) n
+    → FindsBody (Length n) held old after rest new (Ok Whole)
 body_whole old new held before rest after n none m =
     let same = body_is before m.bytes after none m.joined in
     record {
@@ -28,13 +29,15 @@ body_whole old new held before rest after n none m =
       found = (ap (λ t. t ++ rest) (sym same), ap length same ∙ m.counted);
     }
 
-body_cut : (old new : SourceState) (held before rest after : List ℕ) (n : ℕ) → MovedAll old held before new rest after n
-    → HasEnded new → FindsBody (Length n) held old after rest new (Err Fault.Truncated)
+body_cut : (old new : SourceState) (held before rest after : List ℕ) (n : ℕ)
+    → MovedAll (body_state old held before) (body_state new rest after) n → HasEnded new
+    → FindsBody (Length n) held old after rest new (Err Fault.Truncated)
 body_cut old new held before rest after n m end =
     let s = stops old new held before rest after n m in record { text = s.text; gave = s.gave; found = (s.short, end) }
 
 body_unread : (old new : SourceState) (held before rest after : List ℕ) (n : ℕ)
-    → MovedAll old held before new rest after n → FindsBody (Length n) held old after rest new (Err Fault.Read)
+    → MovedAll (body_state old held before) (body_state new rest after) n
+    → FindsBody (Length n) held old after rest new (Err Fault.Read)
 body_unread old new held before rest after n m =
     let s = stops old new held before rest after n m in record { text = s.text; gave = s.gave; found = s.short }
 
@@ -44,20 +47,22 @@ body_unmoved framing old new held rest after m = record { text = m.text; gave = 
 
 -- a body of a said length that didn't come whole
 pub length_fault : (old new : SourceState) (held before rest after : List ℕ) (n : ℕ) (e : BodyFault)
-    → ReadsBytes old held before new rest after n (Err e) → FindsBody (Length n) held old after rest new (Err e)
+    → ReadsBytes (body_state old held before) (body_state new rest after) n (Err e)
+    → FindsBody (Length n) held old after rest new (Err e)
 length_fault old new held before rest after n Fault.Truncated m = body_cut old new held before rest after n m.0 m.1
 length_fault old new held before rest after n Fault.Read m = body_unread old new held before rest after n m
 length_fault old new held before rest after n Fault.NoMemory m = body_unmoved (Length n) old new held rest after m
 
 -- a body up to the end
 pub long_body : (old new : SourceState) (held before rest after : List ℕ) (most : ℕ)
-    → Moved old held before new rest after (most + 1) → FindsBody (ToEnd most) held old after rest new (Ok TooLarge)
+    → Moved (body_state old held before) (body_state new rest after) (most + 1)
+    → FindsBody (ToEnd most) held old after rest new (Ok TooLarge)
 long_body old new held before rest after most m =
     let counted = m.counted in
     record { text = m.bytes ++ rest; gave = m.gave; found = omega (arith, counted, length-append m.bytes rest) }
 
 ended_body : (old new : SourceState) (held before rest after : List ℕ) (most : ℕ) → before ≡ []
-    → MovedAll old held before new rest after (most + 1) → HasEnded new
+    → MovedAll (body_state old held before) (body_state new rest after) (most + 1) → HasEnded new
     → FindsBody (ToEnd most) held old after rest new (Ok Whole)
 ended_body old new held before rest after most none m end =
     let same = body_is before m.bytes.bytes after none m.bytes.joined in
@@ -71,14 +76,14 @@ ended_body old new held before rest after most none m end =
     }
 
 open_body : (old new : SourceState) (held before rest after : List ℕ) (most : ℕ)
-    → MovedAll old held before new rest after (most + 1)
+    → MovedAll (body_state old held before) (body_state new rest after) (most + 1)
     → FindsBody (ToEnd most) held old after rest new (Err Fault.Read)
 open_body old new held before rest after most m =
     let s = stops old new held before rest after (most + 1) m in
     let short = s.short in record { text = s.text; gave = s.gave; found = omega (arith, short) }
 
 pub end_found : (old new : SourceState) (held before rest after : List ℕ) (most : ℕ) (e : BodyFault) → before ≡ []
-    → ReadsBytes old held before new rest after (most + 1) (Err e)
+    → ReadsBytes (body_state old held before) (body_state new rest after) (most + 1) (Err e)
     → FindsBody (ToEnd most) held old after rest new (end_of e)
 end_found old new held before rest after most Fault.Truncated none m =
     ended_body old new held before rest after most none m.0 m.1

@@ -8,6 +8,7 @@ ghost use Rattle.http_wire.specs.Inputs.{ReadsAtMost};
 ghost use Rattle.http_wire.specs.Inner.SizeLines.{StandsAt, StepSays, IsBounded};
 ghost use Rattle.http_wire.specs.Inner.ChunkReading.{FindsLine, FindsEnd, FindsChunk};
 ghost use Rattle.http_wire.specs.Inner.BodyFinding.{FindsBody};
+ghost use Rattle.http_wire.specs.Inner.BodyReading.{body_state};
 
 use crate::body::{BodyBuffer, BodyEnd, read_bytes};
 use crate::bytes::ByteSource;
@@ -148,9 +149,9 @@ fn read_chunk<S: ByteSource, B: BodyBuffer>(
     room: u64,
 ) -> Result<ChunkRead, BodyFault>
     requires { room ≤ 2 ^ 31 }
-    ensures found { FindsChunk room (S.state input.old.source.now) input.old.buffer.now
-        (B.bytes body.old)
-        (S.state input.new.source.now) input.new.buffer.now (B.bytes body.new) result }
+    ensures found { FindsChunk room (body_state (S.state input.old.source.now) input.old.buffer.now
+        (B.bytes body.old))
+        (body_state (S.state input.new.source.now) input.new.buffer.now (B.bytes body.new)) result }
     ensures costs { ReadsAtMost S.state (12 + room) (result ≡ Err BodyFault.Read)
         input.old input.new }
     ensures few { result ≡ Ok ChunkRead.More

@@ -3,7 +3,7 @@ use Rattle.std.specs.Prelude.{◌≡◌, ◌≢◌, ℕ, ◌≤◌, ◌⊎◌, B
 use Rattle.httparse.specs.Ascii.{crlf_bytes}
 use Rattle.http_wire.specs.States.{SourceState}
 use Rattle.http_wire.specs.Reading.{Gave, HasEnded}
-use Rattle.http_wire.specs.Inner.BodyReading.{MovedNone}
+use Rattle.http_wire.specs.Inner.BodyReading.{BodyState, MovedNone}
 use Rattle.http_wire.specs.Body.{Chunk, IsChunk, print_chunk, IsZero, IsBadBody, IsCutBody}
 use Rattle.http_wire.specs.Inner.SizeLines.{StandsAt, IsLine, NeverLine}
 use Rattle.http_wire.specs.declared.framing.Framing.TheVariants.{Chunked}
@@ -73,20 +73,19 @@ FindsEnd old held new rest (Err Input.Truncated) = CutsEnd old held new × HasEn
 FindsEnd old held new rest (Err Input.Read) = CutsEnd old held new
 
 -- a whole chunk was taken
-pub record TakesChunk (room : ℕ) (old : SourceState) (held before : List ℕ) (new : SourceState)
-    (rest after : List ℕ) : Type 0 where
+pub record TakesChunk (room : ℕ) (old new : BodyState) : Type 0 where
   pub chunk : Chunk
   pub is_chunk : IsChunk chunk
   pub fits : length chunk.data_bytes ≤ room
-  pub gave : Gave old new held (print_chunk chunk ++ rest)
-  pub joined : after ≡ before ++ chunk.data_bytes
+  pub gave : Gave old.source new.source old.held (print_chunk chunk ++ new.held)
+  pub joined : new.body ≡ old.body ++ chunk.data_bytes
 
 -- the end was taken
-pub record TakesLast (old : SourceState) (held before : List ℕ) (new : SourceState) (rest after : List ℕ) : Type 0 where
+pub record TakesLast (old new : BodyState) : Type 0 where
   pub zeros : List ℕ
   pub is_zero : IsZero zeros
-  pub gave : Gave old new held ((zeros ++ (crlf_bytes ++ crlf_bytes)) ++ rest)
-  pub joined : after ≡ before
+  pub gave : Gave old.source new.source old.held ((zeros ++ (crlf_bytes ++ crlf_bytes)) ++ new.held)
+  pub joined : new.body ≡ old.body
 
 -- what came is no chunked text of so many bytes
 pub record RefusesChunk (room : ℕ) (old : SourceState) (held : List ℕ) (new : SourceState) (why : Bad) : Type 0 where
@@ -100,11 +99,10 @@ pub record CutsChunk (room : ℕ) (old : SourceState) (held : List ℕ) (new : S
   pub gave : Gave old new held text
   pub cut : IsCutBody (Chunked room) text
 
-abbrev pub FindsChunk : ℕ → SourceState → List ℕ → List ℕ → SourceState → List ℕ → List ℕ
-    → Result ChunkRead BodyFault → Type 0
-FindsChunk room old held before new rest after (Ok More) = TakesChunk room old held before new rest after
-FindsChunk room old held before new rest after (Ok Last) = TakesLast old held before new rest after
-FindsChunk room old held before new rest after (Ok (Refused why)) = RefusesChunk room old held new why
-FindsChunk room old held before new rest after (Err Fault.Truncated) = CutsChunk room old held new × HasEnded new
-FindsChunk room old held before new rest after (Err Fault.Read) = CutsChunk room old held new
-FindsChunk room old held before new rest after (Err Fault.NoMemory) = MovedNone old held new
+abbrev pub FindsChunk : ℕ → BodyState → BodyState → Result ChunkRead BodyFault → Type 0
+FindsChunk room old new (Ok More) = TakesChunk room old new
+FindsChunk room old new (Ok Last) = TakesLast old new
+FindsChunk room old new (Ok (Refused why)) = RefusesChunk room old.source old.held new.source why
+FindsChunk room old new (Err Fault.Truncated) = CutsChunk room old.source old.held new.source × HasEnded new.source
+FindsChunk room old new (Err Fault.Read) = CutsChunk room old.source old.held new.source
+FindsChunk room old new (Err Fault.NoMemory) = MovedNone old.source old.held new.source

@@ -1,16 +1,18 @@
 use Rattle.std.proofs.Common.{sym, subst}
 use Rattle.std.specs.Prelude.{Err}
 use Rattle.std.proofs.lemmas.Result.{err_from_is_err_and}
-use Rattle.http_wire.specs.Inner.BodyReading.{Moved, ReadsBytes}
+use Rattle.http_wire.specs.Inner.BodyReading.{Moved, ReadsBytes, body_state}
 use Rattle.http_wire.specs.Inner.BodyFinding.{TakesBody, FindsBody}
 use Rattle.http_wire.proofs.ChunkReadLemmas.{length_whole, length_fault}
 use Rattle.http_wire.proofs.body.read_body.Goals as goal
 
 pub returns-in_ok-read_bytes-in-Length-clause-found : goal.returns-in_ok-read_bytes-in-Length-clause-found
 returns-in_ok-read_bytes-in-Length-clause-found g c =
-    let moved = subst (λ body. Moved (g.S.ByteSource.state c.args.input.now.source.now) c.args.input.now.buffer.now body
-    (g.S.ByteSource.state c.read_bytes.new.input.source.now) c.read_bytes.new.input.buffer.now
-    (g.B.BodyBuffer.bytes c.read_bytes.new.body) c.in-Length.length) c.requires.empty
+    let moved =
+    subst
+    (λ body. Moved (body_state (g.S.ByteSource.state c.args.input.now.source.now) c.args.input.now.buffer.now body)
+    (body_state (g.S.ByteSource.state c.read_bytes.new.input.source.now) c.read_bytes.new.input.buffer.now
+    (g.B.BodyBuffer.bytes c.read_bytes.new.body)) c.in-Length.length) c.requires.empty
     c.in_ok-read_bytes-in-Length.ensures.found in
     subst (λ f. TakesBody f (g.S.ByteSource.state c.args.input.now.source.now) c.args.input.now.buffer.now
     (g.S.ByteSource.state c.read_bytes.new.input.source.now) c.read_bytes.new.input.buffer.now
@@ -22,9 +24,10 @@ pub returns-in_err-read_bytes-in-Length-clause-found : goal.returns-in_err-read_
 returns-in_err-read_bytes-in-Length-clause-found g c =
     let p = err_from_is_err_and c.from_residual.result c.from_residual.ensures.1 in
     let found =
-    subst (λ body. ReadsBytes (g.S.ByteSource.state c.args.input.now.source.now) c.args.input.now.buffer.now body
-    (g.S.ByteSource.state c.read_bytes.new.input.source.now) c.read_bytes.new.input.buffer.now
-    (g.B.BodyBuffer.bytes c.read_bytes.new.body) c.in-Length.length (Err c.in_err-read_bytes-in-Length.field-0.0))
+    subst
+    (λ body. ReadsBytes (body_state (g.S.ByteSource.state c.args.input.now.source.now) c.args.input.now.buffer.now body)
+    (body_state (g.S.ByteSource.state c.read_bytes.new.input.source.now) c.read_bytes.new.input.buffer.now
+    (g.B.BodyBuffer.bytes c.read_bytes.new.body)) c.in-Length.length (Err c.in_err-read_bytes-in-Length.field-0.0))
     c.requires.empty c.in_err-read_bytes-in-Length.ensures.found in
     rw (p.1, p.2)
     (subst (λ f. FindsBody f (g.S.ByteSource.state c.args.input.now.source.now) c.args.input.now.buffer.now

@@ -1,8 +1,17 @@
-use Rattle.std.proofs.Common.{◌≡◌, ◌-◌, ◌+◌, arith, subst, ◌∙◌}
+use Rattle.std.proofs.Common.{◌≡◌, ◌-◌, ◌+◌, arith, refl, subst, ◌∙◌}
 use Rattle.std.proofs.lemmas.Result.{err_from_is_err_and}
-use Rattle.http_wire.specs.Inner.BodyReading.{Moved}
-use Rattle.http_wire.proofs.MovedLemmas.{moved_both, bytes_fault}
+use Rattle.http_wire.specs.Inner.BodyReading.{Moved, body_state}
+use Rattle.http_wire.proofs.MovedLemmas.{moved_no_more, moved_both, bytes_fault}
 use Rattle.http_wire.proofs.body.read_bytes.Goals as goal
+
+pub loop-left-init : goal.loop-left-init
+loop-left-init g c = record {
+  within = omega arith;
+  moved = moved_no_more _ (c.args.count - c.args.count) (omega arith);
+  reads = λ low. omega arith;
+  same = record { same_source = refl; same_buffer = refl };
+  unfailed = refl;
+}
 
 pub loop-left-preserved : goal.loop-left-preserved
 loop-left-preserved g c =
@@ -17,10 +26,10 @@ loop-left-preserved g c =
     record {
       within = omega (arith, within);
       moved =
-          subst (λ n. Moved (g.S.ByteSource.state c.args.input.now.source.now) c.args.input.now.buffer.now
-          (g.B.BodyBuffer.bytes c.args.body.now)
-          (g.S.ByteSource.state c.read_part.new.input.source.now) c.read_part.new.input.buffer.now
-          (g.B.BodyBuffer.bytes c.read_part.new.body) n) done
+          subst (λ n. Moved (body_state (g.S.ByteSource.state c.args.input.now.source.now) c.args.input.now.buffer.now
+          (g.B.BodyBuffer.bytes c.args.body.now))
+          (body_state (g.S.ByteSource.state c.read_part.new.input.source.now) c.read_part.new.input.buffer.now
+          (g.B.BodyBuffer.bytes c.read_part.new.body)) n) done
           (moved_both _ _ _ _ _ _ _ _ _ (count - left) part c.loop-left.invariant.moved found.0);
       reads = λ low. let before = c.loop-left.invariant.reads (omega (arith, low, done)) in
           let one = c.read_part.ensures.costs.costs.reads (omega (arith, low, before, done, some)) in

@@ -3,6 +3,7 @@ use Rattle.std.specs.Prelude.{Ok, Err}
 use Rattle.std.proofs.lemmas.Result.{err_from_is_err_and}
 use Rattle.http_wire.specs.Inner.ChunkReading.{FindsChunk, TakesChunk}
 use Rattle.http_wire.specs.Inner.ChunksRead.{AreTaken}
+use Rattle.http_wire.specs.Inner.BodyReading.{body_state}
 use Rattle.http_wire.proofs.ChunkReadLemmas.{taken_nothing, taken_more, body_whole, body_refused, body_fault}
 use Rattle.http_wire.proofs.chunked.read_chunks.Goals as goal
 
@@ -23,14 +24,14 @@ loop-chunk-init g c = record {
 
 pub loop-chunk-preserved : goal.loop-chunk-preserved
 loop-chunk-preserved g c =
-    let h : TakesChunk (c.args.most - c.len.result) (g.S.ByteSource.state c.loop-chunk.input.source.now)
-    c.loop-chunk.input.buffer.now (g.B.BodyBuffer.bytes c.loop-chunk.body)
-    (g.S.ByteSource.state c.read_chunk.new.input.source.now) c.read_chunk.new.input.buffer.now
-    (g.B.BodyBuffer.bytes c.read_chunk.new.body) =
-    subst (λ r. FindsChunk (c.args.most - c.len.result) (g.S.ByteSource.state c.loop-chunk.input.source.now)
-    c.loop-chunk.input.buffer.now (g.B.BodyBuffer.bytes c.loop-chunk.body)
-    (g.S.ByteSource.state c.read_chunk.new.input.source.now) c.read_chunk.new.input.buffer.now
-    (g.B.BodyBuffer.bytes c.read_chunk.new.body) (Ok r))
+    let h : TakesChunk (c.args.most - c.len.result) (body_state (g.S.ByteSource.state c.loop-chunk.input.source.now)
+    c.loop-chunk.input.buffer.now (g.B.BodyBuffer.bytes c.loop-chunk.body))
+    (body_state (g.S.ByteSource.state c.read_chunk.new.input.source.now) c.read_chunk.new.input.buffer.now
+    (g.B.BodyBuffer.bytes c.read_chunk.new.body)) =
+    subst (λ r. FindsChunk (c.args.most - c.len.result) (body_state (g.S.ByteSource.state c.loop-chunk.input.source.now)
+    c.loop-chunk.input.buffer.now (g.B.BodyBuffer.bytes c.loop-chunk.body))
+    (body_state (g.S.ByteSource.state c.read_chunk.new.input.source.now) c.read_chunk.new.input.buffer.now
+    (g.B.BodyBuffer.bytes c.read_chunk.new.body)) (Ok r))
     c.in-More.is c.in_ok-read_chunk.ensures.found in
     let taken = c.loop-chunk.invariant.taken in
     let filled = c.loop-chunk.invariant.filled in
@@ -59,10 +60,10 @@ loop-chunk-preserved g c =
 pub returns-in-Last-clause-found : goal.returns-in-Last-clause-found
 returns-in-Last-clause-found g c =
     let found =
-    subst (λ r. FindsChunk (c.args.most - c.len.result) (g.S.ByteSource.state c.loop-chunk.input.source.now)
-    c.loop-chunk.input.buffer.now (g.B.BodyBuffer.bytes c.loop-chunk.body)
-    (g.S.ByteSource.state c.read_chunk.new.input.source.now) c.read_chunk.new.input.buffer.now
-    (g.B.BodyBuffer.bytes c.read_chunk.new.body) (Ok r))
+    subst (λ r. FindsChunk (c.args.most - c.len.result) (body_state (g.S.ByteSource.state c.loop-chunk.input.source.now)
+    c.loop-chunk.input.buffer.now (g.B.BodyBuffer.bytes c.loop-chunk.body))
+    (body_state (g.S.ByteSource.state c.read_chunk.new.input.source.now) c.read_chunk.new.input.buffer.now
+    (g.B.BodyBuffer.bytes c.read_chunk.new.body)) (Ok r))
     c.in-Last.is c.in_ok-read_chunk.ensures.found in
     body_whole c.args.most _ _ _ c.args.input.now.buffer.now c.loop-chunk.input.buffer.now
     c.read_chunk.new.input.buffer.now (g.B.BodyBuffer.bytes c.loop-chunk.body)
@@ -72,10 +73,10 @@ returns-in-Last-clause-found g c =
 pub returns-in-Refused-clause-found : goal.returns-in-Refused-clause-found
 returns-in-Refused-clause-found g c =
     let found =
-    subst (λ r. FindsChunk (c.args.most - c.len.result) (g.S.ByteSource.state c.loop-chunk.input.source.now)
-    c.loop-chunk.input.buffer.now (g.B.BodyBuffer.bytes c.loop-chunk.body)
-    (g.S.ByteSource.state c.read_chunk.new.input.source.now) c.read_chunk.new.input.buffer.now
-    (g.B.BodyBuffer.bytes c.read_chunk.new.body) (Ok r))
+    subst (λ r. FindsChunk (c.args.most - c.len.result) (body_state (g.S.ByteSource.state c.loop-chunk.input.source.now)
+    c.loop-chunk.input.buffer.now (g.B.BodyBuffer.bytes c.loop-chunk.body))
+    (body_state (g.S.ByteSource.state c.read_chunk.new.input.source.now) c.read_chunk.new.input.buffer.now
+    (g.B.BodyBuffer.bytes c.read_chunk.new.body)) (Ok r))
     c.in-Refused.is c.in_ok-read_chunk.ensures.found in
     body_refused c.args.most _ _ _ _ c.args.input.now.buffer.now c.loop-chunk.input.buffer.now
     (g.B.BodyBuffer.bytes c.loop-chunk.body) c.in-Refused.bad
