@@ -107,10 +107,12 @@ chunk_data_cut room a b c held mid value h fits end =
 pub chunk_data_fault : (room : ℕ) (a b c : SourceState) (held mid rest x y : List ℕ) (value : ℕ) (e : BodyFault)
     → TakesLine a held b mid value → value ≤ room → ReadsBytes (body_state b mid x) (body_state c rest y) value (Err e)
     → FindsChunk room (body_state a held x) (body_state c rest y) (Err e)
-chunk_data_fault room a b c held mid rest x y value Fault.Truncated h fits end =
-    (chunk_data_cut room a b c held mid value h fits (stops b c mid x rest y value end.0), end.1)
+chunk_data_fault room a b c held mid rest x y value Fault.Truncated h fits end = (
+  chunk_data_cut room a b c held mid value h fits (stops (body_state b mid x) (body_state c rest y) value end.0),
+  end.1,
+)
 chunk_data_fault room a b c held mid rest x y value Fault.Read h fits end =
-    chunk_data_cut room a b c held mid value h fits (stops b c mid x rest y value end)
+    chunk_data_cut room a b c held mid value h fits (stops (body_state b mid x) (body_state c rest y) value end)
 chunk_data_fault room a b c held mid rest x y value Fault.NoMemory h fits none =
     record { text = h.line ++ none.text; gave = gave_after a b c held h.line mid none.text h.gave none.gave }
 
@@ -235,13 +237,15 @@ chunk_last a b c d held mid rest last x y value h zero m end =
 
 -- ---- all chunks
 
-pub taken_nothing : (max : ℕ) (known : SourceState) (held : List ℕ) → AreTaken max known held known held []
+pub taken_nothing : (max : ℕ) (known : SourceState) (held : List ℕ)
+    → AreTaken max (body_state known held []) (body_state known held [])
 taken_nothing max known held =
     record { chunks = []; each = All-nil IsChunk; gave = gave_none known held; joined = refl; fits = omega arith }
 
 pub taken_more : (max room : ℕ) (a b c : SourceState) (held mid rest x y : List ℕ) → room ≡ max - length x
-    → AreTaken max a held b mid x → TakesChunk room (body_state b mid x) (body_state c rest y)
-    → AreTaken max a held c rest y
+    → AreTaken max (body_state a held []) (body_state b mid x)
+    → TakesChunk room (body_state b mid x) (body_state c rest y)
+    → AreTaken max (body_state a held []) (body_state c rest y)
 taken_more max room a b c held mid rest x y left t h =
     let fits = t.fits in
     let more = h.fits in
@@ -261,8 +265,9 @@ taken_more max room a b c held mid rest x y left t h =
       fits = omega (arith, fits, more, left, joined, length-append x h.chunk.data_bytes);
     }
 
-pub body_whole : (max : ℕ) (a b c : SourceState) (held mid rest x y : List ℕ) → AreTaken max a held b mid x
-    → TakesLast (body_state b mid x) (body_state c rest y) → TakesBody (Chunked max) a held c rest y
+pub body_whole : (max : ℕ) (a b c : SourceState) (held mid rest x y : List ℕ)
+    → AreTaken max (body_state a held []) (body_state b mid x) → TakesLast (body_state b mid x) (body_state c rest y)
+    → TakesBody (Chunked max) a held c rest y
 body_whole max a b c held mid rest x y t h =
     let fits = t.fits in
     let same = ap length h.joined in
@@ -314,7 +319,8 @@ bad_after max chunks text why each fits bad = elim bad [
 ]
 
 pub body_refused : (max room : ℕ) (a b c : SourceState) (held mid x : List ℕ) (why : Bad) → room ≡ max - length x
-    → AreTaken max a held b mid x → RefusesChunk room b mid c why → RefusesBodyText (Chunked max) a held c why
+    → AreTaken max (body_state a held []) (body_state b mid x) → RefusesChunk room b mid c why
+    → RefusesBodyText (Chunked max) a held c why
 body_refused max room a b c held mid x why left t h =
     let fits = t.fits in
     let same = ap length t.joined in
@@ -326,7 +332,8 @@ body_refused max room a b c held mid x why left t h =
     }
 
 body_cut : (max room : ℕ) (a b c : SourceState) (held mid x : List ℕ) → room ≡ max - length x
-    → AreTaken max a held b mid x → CutsChunk room b mid c → CutsBody (Chunked max) a held c
+    → AreTaken max (body_state a held []) (body_state b mid x) → CutsChunk room b mid c
+    → CutsBody (Chunked max) a held c
 body_cut max room a b c held mid x left t h =
     let fits = t.fits in
     let same = ap length t.joined in
@@ -341,7 +348,7 @@ body_cut max room a b c held mid x left t h =
     }
 
 pub body_fault : (max room : ℕ) (a b c : SourceState) (held mid rest x y : List ℕ) (e : BodyFault)
-    → room ≡ max - length x → AreTaken max a held b mid x
+    → room ≡ max - length x → AreTaken max (body_state a held []) (body_state b mid x)
     → FindsChunk room (body_state b mid x) (body_state c rest y) (Err e)
     → FindsBody (Chunked max) a held c rest y (Err e)
 body_fault max room a b c held mid rest x y Fault.Truncated left t h =
@@ -363,7 +370,9 @@ length_whole n a b held rest y m =
 pub length_fault : (n : ℕ) (a b : SourceState) (held rest y : List ℕ) (e : BodyFault)
     → ReadsBytes (body_state a held []) (body_state b rest y) n (Err e) → FindsBody (Length n) a held b rest y (Err e)
 length_fault n a b held rest y Fault.Truncated h =
-    let end = stops a b held [] rest y n h.0 in (record { text = end.text; gave = end.gave; cut = end.short }, h.1)
+    let end = stops (body_state a held []) (body_state b rest y) n h.0 in
+    (record { text = end.text; gave = end.gave; cut = end.short }, h.1)
 length_fault n a b held rest y Fault.Read h =
-    let end = stops a b held [] rest y n h in record { text = end.text; gave = end.gave; cut = end.short }
+    let end = stops (body_state a held []) (body_state b rest y) n h in
+    record { text = end.text; gave = end.gave; cut = end.short }
 length_fault n a b held rest y Fault.NoMemory h = h

@@ -16,25 +16,24 @@ pub moved_no_more : (a : BodyState) (n : ℕ) → n ≡ 0 → Moved a a n
 moved_no_more a n none =
     record { bytes = []; gave = gave_none a.source a.held; joined = sym (append-nil a.body); counted = sym none }
 
-pub moved_both : (a b c : SourceState) (held mid rest x y z : List ℕ) (n m : ℕ)
-    → Moved (body_state a held x) (body_state b mid y) n → Moved (body_state b mid y) (body_state c rest z) m
-    → Moved (body_state a held x) (body_state c rest z) (n + m)
-moved_both a b c held mid rest x y z n m first then =
+pub moved_both : (a b c : BodyState) (n m : ℕ) → Moved a b n → Moved b c m → Moved a c (n + m)
+moved_both a b c n m first then =
     let counted = first.counted in
     let more = then.counted in
-    let gave = gave_after a b c held first.bytes mid (then.bytes ++ rest) first.gave then.gave in
+    let gave =
+    gave_after a.source b.source c.source a.held first.bytes b.held (then.bytes ++ c.held) first.gave then.gave in
     record {
       bytes = first.bytes ++ then.bytes;
-      gave = gave_as (append_assoc first.bytes then.bytes rest) gave;
-      joined = then.joined ∙ ap (λ t. t ++ then.bytes) first.joined ∙ append_assoc x first.bytes then.bytes;
+      gave = gave_as (append_assoc first.bytes then.bytes c.held) gave;
+      joined = then.joined ∙ ap (λ t. t ++ then.bytes) first.joined ∙ append_assoc a.body first.bytes then.bytes;
       counted = omega (arith, counted, more, length-append first.bytes then.bytes);
     }
 
-pub none_after : (a b c : SourceState) (held mid x y : List ℕ) (n : ℕ)
-    → Moved (body_state a held x) (body_state b mid y) n → MovedNone b mid c → MovedNone a held c
-none_after a b c held mid x y n first none = record {
+pub none_after : (a b : BodyState) (c : SourceState) (n : ℕ) → Moved a b n → MovedNone b.source b.held c
+    → MovedNone a.source a.held c
+none_after a b c n first none = record {
   text = first.bytes ++ none.text;
-  gave = gave_after a b c held first.bytes mid none.text first.gave none.gave;
+  gave = gave_after a.source b.source c a.held first.bytes b.held none.text first.gave none.gave;
 }
 
 empty_of : (xs : List ℕ) → length xs ≡ 0 → xs ≡ []
@@ -48,27 +47,20 @@ nothing_came a b held rest body gave none =
     (record { bytes = []; gave = gave; joined = sym (append-nil body); counted = refl }, empty_of rest none)
 
 -- nothing more came behind the parts
-all_moved : (a b c : SourceState) (held mid rest x y z : List ℕ) (n count : ℕ)
-    → Moved (body_state a held x) (body_state b mid y) n → MovedNothing (body_state b mid y) (body_state c rest z)
-    → n < count → MovedAll (body_state a held x) (body_state c rest z) count
-all_moved a b c held mid rest x y z n count first end few = record {
+all_moved : (a b c : BodyState) (n count : ℕ) → Moved a b n → MovedNothing b c → n < count → MovedAll a c count
+all_moved a b c n count first end few = record {
   moved = n + 0;
-  bytes = moved_both a b c held mid rest x y z n 0 first end.0;
+  bytes = moved_both a b c n 0 first end.0;
   few = omega (arith, few);
   none_left = end.1;
 }
 
 -- a fault of a part, behind the parts before it
-pub bytes_fault : (a b c : SourceState) (held mid rest x y z : List ℕ) (n left count : ℕ) (e : BodyFault)
-    → Moved (body_state a held x) (body_state b mid y) n → n < count
-    → ReadsPart (body_state b mid y) (body_state c rest z) left (Err e)
-    → ReadsBytes (body_state a held x) (body_state c rest z) count (Err e)
-bytes_fault a b c held mid rest x y z n left count Fault.Truncated first few end =
-    (all_moved a b c held mid rest x y z n count first end.0 few, end.1)
-bytes_fault a b c held mid rest x y z n left count Fault.Read first few end =
-    all_moved a b c held mid rest x y z n count first end few
-bytes_fault a b c held mid rest x y z n left count Fault.NoMemory first few none =
-    none_after a b c held mid x y n first none
+pub bytes_fault : (a b c : BodyState) (n left count : ℕ) (e : BodyFault) → Moved a b n → n < count
+    → ReadsPart b c left (Err e) → ReadsBytes a c count (Err e)
+bytes_fault a b c n left count Fault.Truncated first few end = (all_moved a b c n count first end.0 few, end.1)
+bytes_fault a b c n left count Fault.Read first few end = all_moved a b c n count first end few
+bytes_fault a b c n left count Fault.NoMemory first few none = none_after a b c.source n first none
 
 -- fewer than so many bytes came
 pub record StopsBefore (old : SourceState) (held : List ℕ) (new : SourceState) (count : ℕ) : Type 0 where
@@ -76,14 +68,13 @@ pub record StopsBefore (old : SourceState) (held : List ℕ) (new : SourceState)
   pub gave : Gave old new held text
   pub short : length text < count
 
-pub stops : (old new : SourceState) (held before rest after : List ℕ) (n : ℕ)
-    → MovedAll (body_state old held before) (body_state new rest after) n → StopsBefore old held new n
-stops old new held before rest after n m =
+pub stops : (old new : BodyState) (n : ℕ) → MovedAll old new n → StopsBefore old.source old.held new.source n
+stops old new n m =
     let none = ap length m.none_left in
     let few = m.few in
     let counted = m.bytes.counted in
     record {
-      text = m.bytes.bytes ++ rest;
+      text = m.bytes.bytes ++ new.held;
       gave = m.bytes.gave;
-      short = omega (arith, none, few, counted, length-append m.bytes.bytes rest);
+      short = omega (arith, none, few, counted, length-append m.bytes.bytes new.held);
     }

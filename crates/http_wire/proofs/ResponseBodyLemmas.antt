@@ -33,13 +33,15 @@ body_cut : (old new : SourceState) (held before rest after : List ℕ) (n : ℕ)
     → MovedAll (body_state old held before) (body_state new rest after) n → HasEnded new
     → FindsBody (Length n) held old after rest new (Err Fault.Truncated)
 body_cut old new held before rest after n m end =
-    let s = stops old new held before rest after n m in record { text = s.text; gave = s.gave; found = (s.short, end) }
+    let s = stops (body_state old held before) (body_state new rest after) n m in
+    record { text = s.text; gave = s.gave; found = (s.short, end) }
 
 body_unread : (old new : SourceState) (held before rest after : List ℕ) (n : ℕ)
     → MovedAll (body_state old held before) (body_state new rest after) n
     → FindsBody (Length n) held old after rest new (Err Fault.Read)
 body_unread old new held before rest after n m =
-    let s = stops old new held before rest after n m in record { text = s.text; gave = s.gave; found = s.short }
+    let s = stops (body_state old held before) (body_state new rest after) n m in
+    record { text = s.text; gave = s.gave; found = s.short }
 
 body_unmoved : (framing : ResponseFraming) (old new : SourceState) (held rest after : List ℕ) → MovedNone old held new
     → FindsBody framing held old after rest new (Err Fault.NoMemory)
@@ -79,7 +81,7 @@ open_body : (old new : SourceState) (held before rest after : List ℕ) (most : 
     → MovedAll (body_state old held before) (body_state new rest after) (most + 1)
     → FindsBody (ToEnd most) held old after rest new (Err Fault.Read)
 open_body old new held before rest after most m =
-    let s = stops old new held before rest after (most + 1) m in
+    let s = stops (body_state old held before) (body_state new rest after) (most + 1) m in
     let short = s.short in record { text = s.text; gave = s.gave; found = omega (arith, short) }
 
 pub end_found : (old new : SourceState) (held before rest after : List ℕ) (most : ℕ) (e : BodyFault) → before ≡ []

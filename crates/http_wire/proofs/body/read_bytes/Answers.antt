@@ -30,7 +30,7 @@ loop-left-preserved g c =
           (g.B.BodyBuffer.bytes c.args.body.now))
           (body_state (g.S.ByteSource.state c.read_part.new.input.source.now) c.read_part.new.input.buffer.now
           (g.B.BodyBuffer.bytes c.read_part.new.body)) n) done
-          (moved_both _ _ _ _ _ _ _ _ _ (count - left) part c.loop-left.invariant.moved found.0);
+          (moved_both _ _ _ (count - left) part c.loop-left.invariant.moved found.0);
       reads = λ low. let before = c.loop-left.invariant.reads (omega (arith, low, done)) in
           let one = c.read_part.ensures.costs.costs.reads (omega (arith, low, before, done, some)) in
           omega (arith, one, before, done, some);
@@ -47,6 +47,7 @@ returns-in_err-left-clause-found g c =
     let some = c.loop-left-test.true in
     let p = err_from_is_err_and c.from_residual.result c.from_residual.ensures.1 in
     rw (p.1, p.2)
-    (bytes_fault _ _ _ _ _ c.read_part.new.input.buffer.now _ _ (g.B.BodyBuffer.bytes c.read_part.new.body)
+    (bytes_fault _ _ (body_state (g.S.ByteSource.state c.read_part.new.input.source.now)
+    c.read_part.new.input.buffer.now (g.B.BodyBuffer.bytes c.read_part.new.body))
     (c.args.count - c.loop-left.left) c.loop-left.left c.args.count
     c.in_err-left.field-0.0 c.loop-left.invariant.moved (omega (arith, within, some)) c.in_err-left.ensures.found)

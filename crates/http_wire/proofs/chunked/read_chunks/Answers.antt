@@ -1,4 +1,4 @@
-use Rattle.std.proofs.Common.{◌≡◌, ◌∙◌, arith, ◌-◌, ◌+◌, length, ap, sym, subst, refl, length-append}
+use Rattle.std.proofs.Common.{◌≡◌, ◌∙◌, arith, ◌-◌, ◌+◌, length, ap, sym, subst, refl, length-append, []}
 use Rattle.std.specs.Prelude.{Ok, Err}
 use Rattle.std.proofs.lemmas.Result.{err_from_is_err_and}
 use Rattle.http_wire.specs.Inner.ChunkReading.{FindsChunk, TakesChunk}
@@ -13,8 +13,9 @@ ok-not-err a b e = cc
 pub loop-chunk-init : goal.loop-chunk-init
 loop-chunk-init g c = record {
   taken =
-      subst (λ body. AreTaken c.args.most (g.S.ByteSource.state c.args.input.now.source.now) c.args.input.now.buffer.now
-      (g.S.ByteSource.state c.args.input.now.source.now) c.args.input.now.buffer.now body)
+      subst (λ body. AreTaken c.args.most
+      (body_state (g.S.ByteSource.state c.args.input.now.source.now) c.args.input.now.buffer.now [])
+      (body_state (g.S.ByteSource.state c.args.input.now.source.now) c.args.input.now.buffer.now body))
       (sym c.requires.empty) (taken_nothing c.args.most _ c.args.input.now.buffer.now);
   filled = omega arith;
   reads = λ _. omega arith;
