@@ -29,7 +29,9 @@ def reduced(toks, is_antt):
 def uses_of(source):
     found = {}
     for m in re.finditer(r"(?m)^\s*((?:pub )?(?:ghost )?use) ([^\s{;]+?)\.\{([^}]*)\}", source):
-        found.setdefault((m.group(1), m.group(2)), []).extend(n for n in re.split(r",\s*", m.group(3).strip().rstrip(",")) if n)
+        found.setdefault((m.group(1), m.group(2)), []).extend(
+            n for n in re.split(r",\s*", m.group(3).strip().rstrip(",")) if n
+        )
     return found
 
 def body(source):

@@ -9,13 +9,80 @@ LIMIT = 120
 CLAUSE_LIMIT = 100
 INF = 10 ** 9
 
-OPS = {"∙": 2, "×": 2, "⊎": 2, "→": 2, "▸": 3, "++": 4, "≡": 5, "≢": 5, "∷": 6, "+": 8, "-": 8, "*": 8, "/": 8, "%": 8, "^": 9,
-       "<": 7, "≤": 7,
-       "≥": 7, ">": 7, "&&": 4, "||": 4, "==": 7, "∧": 6, "∨": 6, "<=": 7, "$": 6, "⟨": 9, "∘": 8, "≮": 7, "≰": 7}
-RANK = {"→": 0, "×": 1, "⊎": 1, "≡": 2, "≢": 2, "<": 2, "≤": 2, "≥": 2, ">": 2, "∙": 3, "▸": 3, "&&": 3, "||": 3, "++": 4, "∷": 4, "==": 4}
-KEYWORDS = {"let", "λ", "elim", "record", "as", "rw", "rw⁻¹", "module", "pub", "abbrev", "use", "mod", "unfoldable", "data", "∀", "mutual", "subst_",
-            "←",
-            "unfolding", "pattern", "axiom", "simp"}
+OPS = {
+    "∙": 2,
+    "×": 2,
+    "⊎": 2,
+    "→": 2,
+    "▸": 3,
+    "++": 4,
+    "≡": 5,
+    "≢": 5,
+    "∷": 6,
+    "+": 8,
+    "-": 8,
+    "*": 8,
+    "/": 8,
+    "%": 8,
+    "^": 9,
+    "<": 7,
+    "≤": 7,
+    "≥": 7,
+    ">": 7,
+    "&&": 4,
+    "||": 4,
+    "==": 7,
+    "∧": 6,
+    "∨": 6,
+    "<=": 7,
+    "$": 6,
+    "⟨": 9,
+    "∘": 8,
+    "≮": 7,
+    "≰": 7,
+}
+RANK = {
+    "→": 0,
+    "×": 1,
+    "⊎": 1,
+    "≡": 2,
+    "≢": 2,
+    "<": 2,
+    "≤": 2,
+    "≥": 2,
+    ">": 2,
+    "∙": 3,
+    "▸": 3,
+    "&&": 3,
+    "||": 3,
+    "++": 4,
+    "∷": 4,
+    "==": 4,
+}
+KEYWORDS = {
+    "let",
+    "λ",
+    "elim",
+    "record",
+    "as",
+    "rw",
+    "rw⁻¹",
+    "module",
+    "pub",
+    "abbrev",
+    "use",
+    "mod",
+    "unfoldable",
+    "data",
+    "∀",
+    "mutual",
+    "subst_",
+    "←",
+    "unfolding",
+    "pattern",
+    "axiom",
+    "simp",
+}
 
 
 class Tok:
@@ -226,7 +293,9 @@ class Line:
             # the head of an application and its first argument
             if kind < INF and n.text not in OPS and p.text not in ("in", "=", "↦", ";", ":") and not lam[k - 1]:
                 q = toks[k - 2].text if k >= 2 else None
-                if p.text not in (")", "}", "]") and (q is None or q in OPS or q in ("=", "in", "↦", ";", "(", "{", "[", ",") or lam[k - 2]):
+                if p.text not in (")", "}", "]") and (
+                    q is None or q in OPS or q in ("=", "in", "↦", ";", "(", "{", "[", ",") or lam[k - 2]
+                ):
                     kind += 12
             if around[k] in binder_at:
                 kind += 10
@@ -271,7 +340,9 @@ def layout(s, first, cont, limit, clause=False, force_def=True):
         elif t.text == "in" and lets:
             lets -= 1
             if lets == 0 and k + 1 < n and not (k + 2 == n and toks[k + 1].text in OPEN):
-                return layout(s[:t.end], first, cont, limit, clause) + layout(s[toks[k + 1].pos:], cont, cont, limit, clause)
+                return layout(s[:t.end], first, cont, limit, clause) + layout(
+                    s[toks[k + 1].pos:], cont, cont, limit, clause
+                )
     # where a definition's or let's = at depth 0 stands: other breaks cost more unless there is one behind it
     eq = next((k for k in range(n) if toks[k].text == "=" and depth[k] == low), None)
     eq_pos = eq + 1 if eq is not None and eq + 1 < n and cost[eq + 1] < INF else None
@@ -360,7 +431,9 @@ def continuation(line, previous):
     text = line.lstrip()
     if text.startswith("| "):
         return indent + 4
-    if re.match(r"(?:pub )?(?:record|module|data|abbrev|unfoldable|pattern|axiom)\b", text) and not re.match(r"record [({]", text):
+    if re.match(r"(?:pub )?(?:record|module|data|abbrev|unfoldable|pattern|axiom)\b", text) and not re.match(
+        r"record [({]", text
+    ):
         return indent + 4
     if text.startswith(("let ", "→", "∙", "(", "×", "⊎", "elim ", "subst ", "record {", "]", ")", "}", "in ")):
         # in a record's field or a tuple's component it goes on further in
@@ -372,7 +445,9 @@ def continuation(line, previous):
         before = previous.rstrip()
         if not DEFINITION.match(text) :
             return indent
-        if re.search(r"( in|=|→|↦|\.)$", before) and len(previous) - len(previous.lstrip()) in (indent, indent - 4) and " : " not in text.split(" = ")[0]:
+        if re.search(r"( in|=|→|↦|\.)$", before) and len(previous) - len(previous.lstrip()) in (
+            indent, indent - 4
+        ) and " : " not in text.split(" = ")[0]:
             return indent if not re.match(r"\S+( \S+)* = ", text) else indent + 4
     return indent + 4
 
@@ -436,7 +511,9 @@ def wrap_block(block, lead, limit):
             paragraphs.append(("raw", [text]))
         elif fenced or not text.strip() or text.startswith(("----", "|", "#", "    ")):
             paragraphs.append(("raw", [text]))
-        elif re.match(r"\s*(?:[-*]|\d+\.) ", text) or text.startswith("  ") and not (paragraphs and paragraphs[-1][0] == "item"):
+        elif re.match(r"\s*(?:[-*]|\d+\.) ", text) or text.startswith("  ") and not (
+            paragraphs and paragraphs[-1][0] == "item"
+        ):
             paragraphs.append(("item", [text]))
         elif text.startswith("  ") and paragraphs and paragraphs[-1][0] == "item":
             paragraphs[-1][1].append(text)
@@ -499,8 +576,12 @@ def join_arrows(lines):
         line = lines[i]
         i += 1
         text = line.lstrip()
-        is_type = text.startswith("→ ") or re.match(r"^(?:pub |abbrev |unfoldable )*[^\s(){}]+(?: \{[^}]*\})? : ", text) and not text.startswith("let ")
-        if len(line) > LIMIT and is_type and is_closed(text) and not COMMENT.match(line) and " = " not in re.sub(r"\{[^{}]*\}", "", text):
+        is_type = text.startswith("→ ") or re.match(
+            r"^(?:pub |abbrev |unfoldable )*[^\s(){}]+(?: \{[^}]*\})? : ", text
+        ) and not text.startswith("let ")
+        if len(line) > LIMIT and is_type and is_closed(text) and not COMMENT.match(line) and " = " not in re.sub(
+            r"\{[^{}]*\}", "", text
+        ):
             indent = len(line) - len(text)
             while i < len(lines):
                 more = lines[i].lstrip()
@@ -612,7 +693,9 @@ def cut(unit, first, room):
         m = re.search(r"(?<=.)\?(?:digest|mount)=|(?<=.)sha512:|(?<=sha512:.{64})|(?<=,)(?=\\\"message)", unit)
         if m and 0 < m.start() <= at:
             at = m.start()
-        while unit[at - 1] == "\\" or unit[at] in " \t{}" or "{" in unit[at - 12:at] and "}" not in unit[at - 12:at].rpartition("{")[2]:
+        while unit[at - 1] == "\\" or unit[at] in " \t{}" or "{" in unit[at - 12:at] and "}" not in unit[
+            at - 12:at
+        ].rpartition("{")[2]:
             at -= 1
         yield unit[:at]
         unit = unit[at:]
