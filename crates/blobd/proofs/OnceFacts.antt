@@ -12,7 +12,8 @@ use Rattle.upload_wire.specs.declared.connection.ConnEnd.{ConnEnd}
 use Rattle.upload_wire.specs.declared.desk.ServiceDesk.{ServiceDesk}
 use Rattle.blobd.specs.Once.{program_limits, first_desk, status_of, IsOnce}
 
-pub with_first_desk : (first left : SourceState) (before after : SinkState) (end : ConnEnd) (limits : Limits) (desk new : ServiceDesk) → limits ≡ program_limits → desk ≡ first_desk
+pub with_first_desk : (first left : SourceState) (before after : SinkState)
+    (end : ConnEnd) (limits : Limits) (desk new : ServiceDesk) → limits ≡ program_limits → desk ≡ first_desk
     → IsConversation StepsService limits.max_body first left desk new before after end
     → IsConversation StepsService program_limits.max_body first left first_desk new before after end
 with_first_desk first left before after end limits desk new is_limits is_desk talk =
@@ -24,8 +25,10 @@ never_falls : (xs : List Exchange) → NeverBefore 0 (service_exchanges first_de
 never_falls [] = tt
 never_falls (x ∷ xs) = (lit≤ tt, never_falls xs)
 
-pub once : ConversationsRunTheService → HeadlineHolds → (first left : SourceState) (before after : SinkState) (end : ConnEnd) (new : ServiceDesk) (status : ℕ) → IsLawful (empty_state program_limits 0)
-    → IsConversation StepsService program_limits.max_body first left first_desk new before after end → status ≡ status_of end → IsOnce first left before after status
+pub once : ConversationsRunTheService → HeadlineHolds → (first left : SourceState) (before after : SinkState)
+    (end : ConnEnd) (new : ServiceDesk) (status : ℕ) → IsLawful (empty_state program_limits 0)
+    → IsConversation StepsService program_limits.max_body first left first_desk new before after end
+    → status ≡ status_of end → IsOnce first left before after status
 once runs holds first left before after end new status lawful talk is_status =
     let run = (runs program_limits.max_body first left first_desk new before after end talk).run in
     let xs = answered StepsService program_limits.max_body first left first_desk new before after end talk in

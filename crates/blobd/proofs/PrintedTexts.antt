@@ -27,11 +27,13 @@ graphic_ascii b h = grind (arith, nat_tests)
 pub visible_utf8 : (text : List ℕ) → list_all is_ascii_graphic text ≡ true → IsUtf8 text
 visible_utf8 text h =
     IsUtf8-from_ascii text (IsAscii-from_all text
-    (All-weaker (λ b. is_ascii_graphic b ≡ true) (λ b. b < 128) graphic_ascii text (AllPass-from_list_all is_ascii_graphic text h)))
+    (All-weaker (λ b. is_ascii_graphic b ≡ true) (λ b. b < 128) graphic_ascii text
+    (AllPass-from_list_all is_ascii_graphic text h)))
 
 -- bytes that are UTF-8 are read as a text of the same bytes
-pub read_text : {T E : Type 0} (r : Result T E) (now : T → List ℕ) (other : T) (bytes : List ℕ) (P : E → Type 0) → IsUtf8 bytes
-    → MatchResult r (λ s. (now s ≡ bytes) × IsUtf8 bytes) (λ e. ¬ (IsUtf8 bytes) × P e) → now (result_unwrap_or r other) ≡ bytes
+pub read_text : {T E : Type 0} (r : Result T E) (now : T → List ℕ) (other : T) (bytes : List ℕ) (P : E → Type 0)
+    → IsUtf8 bytes → MatchResult r (λ s. (now s ≡ bytes) × IsUtf8 bytes) (λ e. ¬ (IsUtf8 bytes) × P e)
+    → now (result_unwrap_or r other) ≡ bytes
 read_text (Ok s) now other bytes P utf8 h = h.0
 read_text (Err e) now other bytes P utf8 h = absurd (h.0 utf8)
 

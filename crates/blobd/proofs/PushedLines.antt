@@ -1,5 +1,6 @@
 -- The line that a push prints.
-use Rattle.std.proofs.Common.{◌≡◌, ℕ, ◌<◌, List, [], ◌∷◌, length, Option, Some, None, inl, inr, ◌⊎◌, true, false, refl, sym, ap, subst, arith, ◌∙◌}
+use Rattle.std.proofs.Common.{◌≡◌, ℕ, ◌<◌, List, [], ◌∷◌, length, Option, Some, None, inl, inr, ◌⊎◌, true, false, refl}
+use Rattle.std.proofs.Common.{sym, ap, subst, arith, ◌∙◌}
 use Rattle.std.specs.Prelude.{Result, Ok, Err, codes}
 use Rattle.std.specs.Io.KnownBytes.{Appends}
 use Rattle.std.specs.Net.Text.{socket_text}
@@ -26,36 +27,47 @@ use Rattle.blobd.specs.Status.{IsPrinted, line}
 use Rattle.blobd.specs.Pushed.{IsLookedLine, IsPushed, IsSent, IsEndLine, IsTold, Look, why_text}
 
 -- what an ask says of the host and of the connection that is kept
-abbrev pub KeepsDialing : {S : Type 0} → (S → Ask → Option Heard → S → Type 0) → (S → List ℕ) → (S → Option WireState) → Type 0
+abbrev pub KeepsDialing : {S : Type 0} → (S → Ask → Option Heard → S → Type 0) → (S → List ℕ)
+    → (S → Option WireState) → Type 0
 KeepsDialing {S} asked host wire = (s : S) (ask : Ask) (heard : Option Heard) (t : S) → asked s ask heard t
     → AsksDialed (host s) (wire s) ask heard (wire t) × (host t ≡ host s)
 
 -- over a whole push the asks went over its connections
-dialed : {S : Type 0} (asked : S → Ask → Option Heard → S → Type 0) (host : S → List ℕ) (wire : S → Option WireState) → KeepsDialing asked host wire
-    → (at : List ℕ) (old : S) → host old ≡ at → (log : List Exchange) (new : S) → Leads asked old log new
-    → Leads (AsksDialed at) (wire old) log (wire new) × (host new ≡ at)
+dialed : {S : Type 0} (asked : S → Ask → Option Heard → S → Type 0) (host : S → List ℕ) (wire : S → Option WireState)
+    → KeepsDialing asked host wire → (at : List ℕ) (old : S) → host old ≡ at → (log : List Exchange) (new : S)
+    → Leads asked old log new → Leads (AsksDialed at) (wire old) log (wire new) × (host new ≡ at)
 dialed asked host wire keeps at old same [] new leads = (ap wire leads, ap host leads ∙ same)
 dialed asked host wire keeps at old same (e ∷ log) new leads =
     let earlier = dialed asked host wire keeps at old same log leads.0 leads.1 in
-    let step = keeps leads.0 e.ask e.heard new leads.2 in
-    ((wire leads.0, earlier.0, subst (λ h. AsksDialed h (wire leads.0) e.ask e.heard (wire new)) earlier.1 step.0), step.1 ∙ earlier.1)
+    let step = keeps leads.0 e.ask e.heard new leads.2 in (
+      (wire leads.0, earlier.0, subst (λ h. AsksDialed h (wire leads.0) e.ask e.heard (wire new)) earlier.1 step.0),
+      step.1 ∙ earlier.1,
+    )
 
 -- the look, over the connection that was made for it
-abbrev look_by : (at name : List ℕ) (digest : Digest) (before : Option WireState) (first : Option Heard) (kept : Option WireState) → before ≡ None
-    → AsksDialed at before (Has name digest true) first kept → Look at name digest
+abbrev look_by : (at name : List ℕ) (digest : Digest) (before : Option WireState) (first : Option Heard)
+    (kept : Option WireState) → before ≡ None → AsksDialed at before (Has name digest true) first kept
+    → Look at name digest
 look_by at name digest before first kept none asks =
-    record { heard = first; kept = kept; asked = subst (λ w. AsksDialed at w (Has name digest true) first kept) none asks }
+    record {
+      heard = first;
+      kept = kept;
+      asked = subst (λ w. AsksDialed at w (Has name digest true) first kept) none asks;
+    }
 
 -- a look that found the blob
-pub found : (at : List ℕ) (p : Push) (before : Option WireState) (first : Option Heard) (kept : Option WireState) → before ≡ None
-    → AsksDialed at before (Has p.name p.digest true) first kept → true ≡ is_found first → IsSent at p (Ok Already)
-found at p before first kept none asks is = inl (look_by at p.name p.digest before first kept none asks, inl (sym is, refl))
+pub found : (at : List ℕ) (p : Push) (before : Option WireState) (first : Option Heard) (kept : Option WireState)
+    → before ≡ None → AsksDialed at before (Has p.name p.digest true) first kept → true ≡ is_found first
+    → IsSent at p (Ok Already)
+found at p before first kept none asks is =
+    inl (look_by at p.name p.digest before first kept none asks, inl (sym is, refl))
 
 -- a push behind a look that didn't find it
-pub sent : {S : Type 0} {asked : S → Ask → Option Heard → S → Type 0} (host : S → List ℕ) (wire : S → Option WireState) → KeepsDialing asked host wire
-    → {p : Push} {mid new : S} {end : Result Outcome PushFault} (at : List ℕ) (before : Option WireState) (first : Option Heard) → before ≡ None
-    → AsksDialed at before (Has p.name p.digest true) first (wire mid) → host mid ≡ at → false ≡ is_found first → IsPush asked p mid new end
-    → IsSent at p end
+pub sent : {S : Type 0} {asked : S → Ask → Option Heard → S → Type 0} (host : S → List ℕ) (wire : S → Option WireState)
+    → KeepsDialing asked host wire → {p : Push} {mid new : S} {end : Result Outcome PushFault} (at : List ℕ)
+    (before : Option WireState) (first : Option Heard) → before ≡ None
+    → AsksDialed at before (Has p.name p.digest true) first (wire mid) → host mid ≡ at → false ≡ is_found first
+    → IsPush asked p mid new end → IsSent at p end
 sent {asked = asked} host wire keeps {p} {mid} {new} {end} at before first none asks same is push =
     inl (
       look_by at p.name p.digest before first (wire mid) none asks,
@@ -78,11 +90,13 @@ same_push : (at host own name file : List ℕ) (chunk : ℕ) (digest : Digest) (
     → IsSent host (push_of Sha256 name file chunk 5) end
 same_push at host own name file chunk digest end same_host same its_digest h =
     subst (λ t. IsSent t (push_of Sha256 name file chunk 5) end) same_host
-    (subst (λ n. IsSent at (push_of Sha256 n file chunk 5) end) same (subst (λ d. IsSent at (push_under d own file chunk 5) end) its_digest h))
+    (subst (λ n. IsSent at (push_of Sha256 n file chunk 5) end) same
+    (subst (λ d. IsSent at (push_under d own file chunk 5) end) its_digest h))
 
 -- a push to which nothing was said is told as out of tries
-untold : (digest : Digest) (phase : Phase) (status : ℕ) (text : List ℕ) → (phase ≡ Opening) ⊎ (phase ≡ GaveUp OutOfTries)
-    → IsTold digest phase status text → (status ≡ 1) × (text ≡ why_text OutOfTries)
+untold : (digest : Digest) (phase : Phase) (status : ℕ) (text : List ℕ)
+    → (phase ≡ Opening) ⊎ (phase ≡ GaveUp OutOfTries) → IsTold digest phase status text
+    → (status ≡ 1) × (text ≡ why_text OutOfTries)
 untold digest phase status text (inl is) told = absurd (subst (λ (p : Phase). IsTold digest p status text) is told)
 untold digest phase status text (inr is) told = subst (λ (p : Phase). IsTold digest p status text) is told
 
@@ -95,11 +109,10 @@ found_line host p before after result look is (inl (zero, printed)) =
     inl (look, inl (record { found = is; is_status = zero; printed = printed }))
 
 -- the line of the end of a push
-lined : (host : List ℕ) (p : Push) (end : Result Outcome PushFault) (phase : Phase) (text : List ℕ) (before after : Option (List ℕ)) (result : ℕ)
-    → (look : Look host p.name p.digest) → is_found look.heard ≡ false
-    → ((last : Option WireState) × IsPush (AsksDialed host) p look.kept last end)
-    → ((q : Phase) → IsEnd q end → q ≡ phase)
-    → IsTold p.digest phase result text → Appends before after (line text)
+lined : (host : List ℕ) (p : Push) (end : Result Outcome PushFault) (phase : Phase)
+    (text : List ℕ) (before after : Option (List ℕ)) (result : ℕ) → (look : Look host p.name p.digest)
+    → is_found look.heard ≡ false → ((last : Option WireState) × IsPush (AsksDialed host) p look.kept last end)
+    → ((q : Phase) → IsEnd q end → q ≡ phase) → IsTold p.digest phase result text → Appends before after (line text)
     → IsLookedLine host p before after result ⊎ (result ≡ 3)
 lined host p end phase text before after result look missing (last, push) at told printed =
     let at_the_end : IsTold p.digest (after_all p push.heard).phase result text =
@@ -112,7 +125,9 @@ lined host p end phase text before after result look missing (last, push) at tol
         last = last;
         over = push.leads;
         text = text;
-        unheard = λ none. untold p.digest (after_all p push.heard).phase result text (unheard_waits p push.heard none) at_the_end;
+        unheard =
+            λ none.
+            untold p.digest (after_all p push.heard).phase result text (unheard_waits p push.heard none) at_the_end;
         told = at_the_end;
         printed = printed;
       }),
@@ -125,32 +140,39 @@ by_end : (host : List ℕ) (p : Push) (end : Result Outcome PushFault) (before a
     → IsLookedLine host p before after result ⊎ (result ≡ 3)
 by_end host p (Ok outcome) before after result look missing push (inr fault) = inr fault
 by_end host p (Ok outcome) before after result look missing push (inl (zero, printed)) =
-    lined host p (Ok outcome) (Done outcome) _ before after result look missing push (λ q ends. ends) (zero, refl) printed
+    lined host p (Ok outcome) (Done outcome) _ before after result look missing push (λ q ends. ends)
+    (zero, refl) printed
 by_end host p (Err (faults.GaveUp why)) before after result look missing push (inr fault) = inr fault
 by_end host p (Err (faults.GaveUp why)) before after result look missing push (inl (one, printed)) =
-    lined host p (Err (faults.GaveUp why)) (GaveUp why) _ before after result look missing push (λ q ends. ends) (one, refl) printed
+    lined host p (Err (faults.GaveUp why)) (GaveUp why) _ before after result look missing push (λ q ends. ends)
+    (one, refl) printed
 by_end host p (Err faults.NoMemory) before after result look missing push fault = inr fault
 
 -- what was sent behind a look, and the line of its end
 by_sent : (host : List ℕ) (p : Push) (end : Result Outcome PushFault) (before after : Option (List ℕ)) (result : ℕ)
-    → IsSent host p end → IsEndLine p.digest end before after result → IsLookedLine host p before after result ⊎ (result ≡ 3)
+    → IsSent host p end → IsEndLine p.digest end before after result
+    → IsLookedLine host p before after result ⊎ (result ≡ 3)
 by_sent host p end before after result (inl (look, inl (is, already))) told =
     found_line host p before after result look is (subst (λ e. IsEndLine p.digest e before after result) already told)
-by_sent host p end before after result (inl (look, inr (missing, push))) told = by_end host p end before after result look missing push told
-by_sent host p end before after result (inr lacks) told = inr (subst (λ e. IsEndLine p.digest e before after result) lacks told)
+by_sent host p end before after result (inl (look, inr (missing, push))) told =
+    by_end host p end before after result look missing push told
+by_sent host p end before after result (inr lacks) told =
+    inr (subst (λ e. IsEndLine p.digest e before after result) lacks told)
 
 -- the line of a push whose name is one
-under_name : (addr : SocketAddr) (name file : List ℕ) (chunk : ℕ) (before after : Option (List ℕ)) (result : ℕ) → IsName name
-    → IsLookedLine (socket_text addr) (push_of Sha256 name file chunk 5) before after result ⊎ (result ≡ 3)
-    → IsPushed addr name file chunk before after result
+under_name : (addr : SocketAddr) (name file : List ℕ) (chunk : ℕ) (before after : Option (List ℕ)) (result : ℕ)
+    → IsName name → IsLookedLine (socket_text addr) (push_of Sha256 name file chunk 5) before after result
+    ⊎ (result ≡ 3) → IsPushed addr name file chunk before after result
 under_name addr name file chunk before after result named (inl looked) = inl (inr (named, looked))
 under_name addr name file chunk before after result named (inr fault) = inr fault
 
 -- a push that was sent, and the line of its end
-pub pushed : (addr : SocketAddr) {at own name file : List ℕ} {chunk : ℕ} {digest : Digest} {end : Result Outcome PushFault}
-    → IsSent at (push_under digest own file chunk 5) end → at ≡ socket_text addr → own ≡ name → IsName name → digest ≡ content_digest Sha256 file
-    → (before after : Option (List ℕ)) (result : ℕ) → IsEndLine digest end before after result → IsPushed addr name file chunk before after result
-pushed addr {at} {own} {name} {file} {chunk} {digest} {end} push same_host same named its_digest before after result told =
+pub pushed : (addr : SocketAddr) {at own name file : List ℕ} {chunk : ℕ} {digest : Digest}
+    {end : Result Outcome PushFault} → IsSent at (push_under digest own file chunk 5) end → at ≡ socket_text addr
+    → own ≡ name → IsName name → digest ≡ content_digest Sha256 file → (before after : Option (List ℕ)) (result : ℕ)
+    → IsEndLine digest end before after result → IsPushed addr name file chunk before after result
+pushed addr {at} {own} {name} {file} {chunk} {digest} {end} push same_host same named its_digest before
+    after result told =
     under_name addr name file chunk before after result named
     (by_sent (socket_text addr) (push_of Sha256 name file chunk 5) end before after result
     (same_push at (socket_text addr) own name file chunk digest end same_host same its_digest push)

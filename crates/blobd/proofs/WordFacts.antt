@@ -6,11 +6,13 @@ use Rattle.blobd.specs.declared.words.Command.TheVariants.{Once, Serve, Push, He
 use Rattle.blobd.specs.Size.{IsSize}
 use Rattle.blobd.specs.Words.{Makes, word_at}
 
-pub no_size : (words : List (Bor (List ℕ))) → length words ≡ 5 → ((size : ℕ) → ¬ (IsSize (word_at words 4) size)) → (command : Command) → ¬ (Makes words command)
+pub no_size : (words : List (Bor (List ℕ))) → length words ≡ 5 → ((size : ℕ) → ¬ (IsSize (word_at words 4) size))
+    → (command : Command) → ¬ (Makes words command)
 no_size words five none Once h = let one = h.0 in omega (arith, one, five)
 no_size words five none (Serve addr None) h = let two = h.2 in omega (arith, two, five)
 no_size words five none (Serve addr (Some count)) h = let three = h.2.0 in omega (arith, three, five)
-no_size words five none (Push addr name file chunk) (word, addressed, inl few, named, filed) = let four = few.0 in omega (arith, four, five)
+no_size words five none (Push addr name file chunk) (word, addressed, inl few, named, filed) =
+    let four = few.0 in omega (arith, four, five)
 no_size words five none (Push addr name file chunk) (word, addressed, inr sized, named, filed) = none chunk sized.1
 no_size words five none Help h = let one = h.0 in omega (arith, one, five)
 no_size words five none Version h = let one = h.0 in omega (arith, one, five)

@@ -3,10 +3,12 @@ use Rattle.std.specs.Prelude.{◌≡◌, ℕ, ◌+◌, min, List, [], ◌∷◌,
 use Rattle.upload_intake.specs.Settled.{count_limit}
 use Rattle.blobd.specs.declared.log_lines.LogLines.{LogLines}
 
--- what is shown of a head, the status, the bytes of the reply's body, and the milliseconds from the head to the end of the reply
+-- what is shown of a head, the status, the bytes of the reply's body, and the milliseconds from the head to the end of
+-- the reply
 abbrev pub line_text : List ℕ → ℕ → ℕ → ℕ → List ℕ
 line_text head status size millis =
-    head ++ (codes " " ++ (decimal status ++ (codes " " ++ (decimal size ++ (codes " " ++ (decimal millis ++ codes "ms"))))))
+    head
+    ++ (codes " " ++ (decimal status ++ (codes " " ++ (decimal size ++ (codes " " ++ (decimal millis ++ codes "ms"))))))
 
 -- this line was handed on, and nothing else, with how many were lost before it; none is lost since
 abbrev pub HandsOn : LogLines → List ℕ → LogLines → Type 0

@@ -1,5 +1,6 @@
 -- What the log of requests does with what it is told.
-use Rattle.std.specs.Prelude.{◌≡◌, ℕ, ◌+◌, ◌⊎◌, min, Bool, true, false, List, [], ◌∷◌, ◌++◌, codes, Option, Some, None, IsSomeAnd, if◌then◌else◌}
+use Rattle.std.specs.Prelude.{◌≡◌, ℕ, ◌+◌, ◌⊎◌, min, Bool, true, false, List, [], ◌∷◌, ◌++◌, codes, Option, Some, None}
+use Rattle.std.specs.Prelude.{IsSomeAnd, if◌then◌else◌}
 use Rattle.upload_intake.specs.Settled.{count_limit}
 use Rattle.upload_wire.specs.Events.{Event, Head, Unreadable, Replied}
 use Rattle.upload_wire.specs.declared.observer.RequestLine.{RequestLine}
@@ -7,8 +8,8 @@ use Rattle.blobd.specs.LogLine.{line_text}
 use Rattle.blobd.specs.Shown.{shown_request}
 use Rattle.blobd.specs.declared.log_lines.LogLines.{LogLines}
 
--- What the log shows of the head that it was told last; the lines that it handed on, each with how many were lost right before it; and how
--- many are lost since the last of them.
+-- What the log shows of the head that it was told last; the lines that it handed on, each with how many were lost right
+-- before it; and how many are lost since the last of them.
 pub record LogState : Type 0 where
   pub head : List ℕ
   pub handed : List (ℕ × List ℕ)
@@ -29,18 +30,23 @@ abbrev pub ShowsLine : Option RequestLine → List ℕ → Type 0
 ShowsLine None head = head ≡ no_head
 ShowsLine (Some line) head = Shows line.method.now line.target.now head
 
--- the line of the head that was told last and of a reply with this status and this size was handed on, whatever time had passed, and nothing
--- else
+-- the line of the head that was told last and of a reply with this status and this size was handed on, whatever time
+-- had passed, and nothing else
 abbrev pub HasLine : LogState → ℕ → ℕ → LogState → Type 0
 HasLine old status size new =
     (millis : ℕ)
-    × (new ≡ record { head = old.head; handed = old.handed ++ (old.lost, line_text old.head status size millis) ∷ []; lost = 0 })
+    × (new ≡ record {
+      head = old.head;
+      handed = old.handed ++ (old.lost, line_text old.head status size millis) ∷ [];
+      lost = 0;
+    })
 
 -- nothing was handed on, and one more line is lost
 abbrev pub HasLost : LogState → LogState → Type 0
 HasLost old new = new ≡ record { head = old.head; handed = old.handed; lost = min (old.lost + 1) count_limit }
 
--- A head is shown by the lines to come. A reply has one line, of the head before it, or is counted as lost. Nothing else changes.
+-- A head is shown by the lines to come. A reply has one line, of the head before it, or is counted as lost. Nothing
+-- else changes.
 abbrev pub LogTold : LogState → Event → LogState → Type 0
 LogTold old (Head method target) new =
     (head : List ℕ) × Shows method target head × (new ≡ record { head = head; handed = old.handed; lost = old.lost })
@@ -60,8 +66,9 @@ RequestLogTold (Some old) event new = IsSomeAnd new (λ log. LogTold old event l
 
 -- ---- what comes of many events
 
--- What a log hands on that is told these events while it shows this head and so many lines are lost: a line of each reply, with the head that
--- was told last before it, each behind those that are lost right before it; and so many are lost at the end.
+-- What a log hands on that is told these events while it shows this head and so many lines are lost: a line of each
+-- reply, with the head that was told last before it, each behind those that are lost right before it; and so many are
+-- lost at the end.
 abbrev pub LinesOf : List Event → List ℕ → ℕ → List (ℕ × List ℕ) → ℕ → Type 0
 LinesOf [] head lost lines left = (lines ≡ []) × (left ≡ lost)
 LinesOf (Head method target ∷ events) head lost lines left =

@@ -9,7 +9,8 @@ use Rattle.upload_wire.specs.Conversation.{IsConversation}
 use Rattle.upload_wire.specs.ConnectionRuns.{answered, service_exchanges}
 use Rattle.upload_wire.specs.ServiceTurns.{StepsService}
 use Rattle.upload_wire.specs.declared.connection.ConnEnd.{ConnEnd}
-use Rattle.upload_wire.specs.declared.connection.ConnEnd.TheVariants.{Clean, AfterClose, AfterBad, TooMany, DeskGone, Fault}
+use Rattle.upload_wire.specs.declared.connection.ConnEnd.TheVariants.{Clean, AfterClose, AfterBad, TooMany, DeskGone}
+use Rattle.upload_wire.specs.declared.connection.ConnEnd.TheVariants.{Fault}
 use Rattle.upload_wire.specs.declared.desk.ServiceDesk.{ServiceDesk}
 
 -- 16 GiB a blob, 2 GiB a body, 1,024 open sessions, an hour without a chunk
@@ -29,8 +30,8 @@ status_of TooMany = 1
 status_of DeskGone = 3
 status_of (Fault fault) = 3
 
--- What was read and what was written are a conversation with a new service, and the exit status is that of its end. The requests
--- that were answered are a run of the service, and the headline holds of it.
+-- What was read and what was written are a conversation with a new service, and the exit status is that of its end. The
+-- requests that were answered are a run of the service, and the headline holds of it.
 pub record IsOnce (first left : SourceState) (before after : SinkState) (status : ℕ) : Type 0 where
   pub end : ConnEnd
   pub desk : ServiceDesk

@@ -1,5 +1,6 @@
 -- Sizes as they are written on the command line.
-use Rattle.std.specs.Prelude.{◌≡◌, ℕ, ◌*◌, ◌-◌, ◌^◌, ◌<◌, ◌≤◌, ◌==◌, ◌&&◌, nat_lt, Bool, List, length, take, slice_index, if◌then◌else◌}
+use Rattle.std.specs.Prelude.{◌≡◌, ℕ, ◌*◌, ◌-◌, ◌^◌, ◌<◌, ◌≤◌, ◌==◌, ◌&&◌, nat_lt, Bool, List, length, take}
+use Rattle.std.specs.Prelude.{slice_index, if◌then◌else◌}
 use Rattle.std.specs.Str.Parse.{IsNumeral, digits_value}
 
 -- how many bytes the unit of a letter has: K, M, G; what is no letter of a unit counts single bytes
@@ -25,7 +26,8 @@ IsNumber digits number = IsNumeral 10 digits × (digits_value 10 digits ≡ numb
 -- decimal digits and a unit, which write a size from 1 to 2,147,483,648 bytes
 abbrev pub IsSize : List ℕ → ℕ → Type 0
 IsSize word size =
-    IsNumeral 10 (digits_of word) × (digits_value 10 (digits_of word) * unit_of word ≡ size) × (1 ≤ size) × (size ≤ 2147483648)
+    IsNumeral 10 (digits_of word) × (digits_value 10 (digits_of word) * unit_of word ≡ size) × (1 ≤ size)
+    × (size ≤ 2147483648)
 
 -- a file of more than 4 MiB goes up slowly in chunks below 64 KiB
 abbrev pub is_slow : ℕ → ℕ → Bool

@@ -17,7 +17,8 @@ IsPrinted text before after status result =
 abbrev pub served_lines : SocketAddr → List ℕ
 served_lines addr = line (codes "listening " ++ socket_text addr) ++ line (codes "served")
 
--- a server is done, this is what it did, and these two lines were printed and nothing else; or the status is that of a fault
+-- a server is done, this is what it did, and these two lines were printed and nothing else; or the status is that of a
+-- fault
 abbrev pub IsServed : Type 0 → Option (List ℕ) → Option (List ℕ) → ℕ → Type 0
 IsServed did before after status =
     ((status ≡ 0) × did × ((addr : SocketAddr) × Appends before after (served_lines addr))) ⊎ (status ≡ 3)

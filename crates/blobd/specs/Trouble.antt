@@ -1,5 +1,6 @@
 -- What goes wrong with a push, and the words for it.
-use Rattle.std.specs.Prelude.{◌≡◌, ℕ, ◌+◌, ◌-◌, ◌^◌, min, ◌==◌, ◌&&◌, ◌||◌, nat_eq, nat_le, Bool, true, false, List, [], ◌∷◌, codes, Option, Some, None, option_map, is_some, if◌then◌else◌}
+use Rattle.std.specs.Prelude.{◌≡◌, ℕ, ◌+◌, ◌-◌, ◌^◌, min, ◌==◌, ◌&&◌, ◌||◌, nat_eq, nat_le, Bool, true, false, List, []}
+use Rattle.std.specs.Prelude.{◌∷◌, codes, Option, Some, None, option_map, is_some, if◌then◌else◌}
 use Rattle.std.specs.List.{starts_with}
 use Rattle.upload_client.specs.declared.heard.Heard.{Heard}
 use Rattle.upload_push.specs.declared.pusher.Why.{Why}
@@ -10,7 +11,8 @@ use Rattle.blobd.specs.declared.trouble.Course.{Course}
 use Rattle.blobd.specs.declared.trouble.Reason.{Reason}
 use Rattle.blobd.specs.declared.trouble.Reason.TheVariants.{Advised, Lost}
 use Rattle.blobd.specs.declared.trouble.Trouble.{Trouble}
-use Rattle.blobd.specs.declared.trouble.Trouble.TheVariants.{NoReply, NoConnection, System, Silence, Closed, Tls, NotHttp, Unavailable, Misplaced}
+use Rattle.blobd.specs.declared.trouble.Trouble.TheVariants.{NoReply, NoConnection, System, Silence, Closed, Tls}
+use Rattle.blobd.specs.declared.trouble.Trouble.TheVariants.{NotHttp, Unavailable, Misplaced}
 
 -- a record of TLS begins with its kind, 20 to 23, and a version whose first byte is 3 (RFC 8446, section 5.1)
 abbrev pub is_tls : List ℕ → Bool
@@ -37,11 +39,13 @@ new_course = record { losses = 0; opened = false }
 abbrev pub lost : Course → Course
 lost c = record { losses = min (c.losses + 1) (2 ^ 64 - 1); opened = c.opened }
 
--- How the requests of a push went once this was heard to one more: nothing, 503 and 416 take a try, and a 202 opened an upload.
+-- How the requests of a push went once this was heard to one more: nothing, 503 and 416 take a try, and a 202 opened an
+-- upload.
 abbrev pub course_after : Option Heard → Course → Course
 course_after None c = lost c
 course_after (Some h) c =
-    if h.status == 503 || h.status == 416 then lost c else record { losses = c.losses; opened = c.opened || h.status == 202 }
+    if h.status == 503
+    || h.status == 416 then lost c else record { losses = c.losses; opened = c.opened || h.status == 202 }
 
 -- the words for a trouble
 abbrev pub words_of : Trouble → List ℕ
@@ -59,7 +63,8 @@ words_of Misplaced = codes "the server answers 416: does another client write in
 abbrev pub status_trouble : ℕ → Option Trouble
 status_trouble status = if status == 503 then Some Unavailable else if status == 416 then Some Misplaced else None
 
--- What to do about a reply that ended a push: by its status, whether it had an error code, and whether an upload was opened before.
+-- What to do about a reply that ended a push: by its status, whether it had an error code, and whether an upload was
+-- opened before.
 abbrev pub advice_on : ℕ → Bool → Bool → Option Advice
 advice_on status coded opened =
     if status == 400 then (if coded then None else Some IsItHttps)
@@ -70,10 +75,13 @@ advice_on status coded opened =
 -- the words for what to do
 abbrev pub words_of_advice : Advice → List ℕ
 words_of_advice IsItHttps = codes "is this https? A push speaks plain HTTP"
-words_of_advice NoLogin = codes "it wants a login, and a push has none: push to the reverse proxy's local address, or through deploy/adapter.cfg"
+words_of_advice NoLogin =
+    codes
+    "it wants a login, and a push has none: push to the reverse proxy's local address, or through deploy/adapter.cfg"
 words_of_advice PushAgain = codes "it lost the upload, as a server does that is started again: push again"
 words_of_advice IsItARegistry = codes "it takes no uploads into this repository: is it a registry?"
-words_of_advice Adapter = codes "it is another kind of server, as by the form of its Location: push through deploy/adapter.cfg"
+words_of_advice Adapter =
+    codes "it is another kind of server, as by the form of its Location: push through deploy/adapter.cfg"
 
 -- what there is to say of a push that was given up, beside its line
 abbrev pub reason_of : Why → Course → Trouble → Option Reason

@@ -1,5 +1,6 @@
 -- Commands, and the words that make them.
-use Rattle.std.specs.Prelude.{◌≡◌, ℕ, ◌≤◌, ◌⊎◌, Bool, true, false, List, [], length, slice_index_or, codes, Option, Some, None}
+use Rattle.std.specs.Prelude.{◌≡◌, ℕ, ◌≤◌, ◌⊎◌, Bool, true, false, List, [], length, slice_index_or, codes, Option}
+use Rattle.std.specs.Prelude.{Some, None}
 use Rattle.std.specs.Borrow.{Bor}
 use Rattle.std.specs.Str.Parse.{IsNumeral, digits_value}
 use Rattle.std.specs.Net.Grammar.{IsSocketText}
@@ -20,9 +21,11 @@ abbrev pub AreServeWords : List (Bor (List ℕ)) → Option ℕ → Type 0
 AreServeWords words None = length words ≡ 2
 AreServeWords words (Some count) = (length words ≡ 3) × IsCount 1000000 (word_at words 2) count
 
--- Behind `push`, an address, a name and a file no word follows, and the chunk has 16 MiB; or one does, and it writes its size.
+-- Behind `push`, an address, a name and a file no word follows, and the chunk has 16 MiB; or one does, and it writes
+-- its size.
 abbrev pub AreChunkWords : List (Bor (List ℕ)) → ℕ → Type 0
-AreChunkWords words chunk = ((length words ≡ 4) × (chunk ≡ 16777216)) ⊎ ((length words ≡ 5) × IsSize (word_at words 4) chunk)
+AreChunkWords words chunk =
+    ((length words ≡ 4) × (chunk ≡ 16777216)) ⊎ ((length words ≡ 5) × IsSize (word_at words 4) chunk)
 
 -- the words make the command
 abbrev pub Makes : List (Bor (List ℕ)) → Command → Type 0

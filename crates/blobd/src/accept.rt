@@ -69,7 +69,8 @@ impl<'a, R: Clock + Eprint + Wait> Accepted<'a, R> {
         closing: Closing,
         lines: Option<LogLines>,
     ) -> Result<Accepted<'a, R>, AllocError>
-        ensures { IfOk result (λ conns. (conns.left ≡ terms.count) × (conns.demand ≡ terms.demand)) }
+        ensures { IfOk result
+            (λ conns. (conns.left ≡ terms.count) × (conns.demand ≡ terms.demand)) }
     {
         Ok(Accepted {
             rt,
@@ -126,8 +127,8 @@ impl<'a, R: Clock + Eprint + Wait> Accepted<'a, R> {
         Err(io::Error::from(ErrorKind::TimedOut))
     }
 
-    /// The halves of the next connection that can be served, which is kept. One that waits for its halves waits on while the
-    /// system lacks descriptors for them.
+    /// The halves of the next connection that can be served, which is kept. One that waits for its halves waits on
+    /// while the system lacks descriptors for them.
     fn accept(&mut self) -> io::Result<(Reader<'a, R>, Writer<'a, R>)>
         ensures { IfOk result (λ halves. AreUnused halves.0 halves.1) }
     {

@@ -25,8 +25,8 @@ pub struct Closing {
 }
 
 impl Closing {
-    /// Closes a connection that is served, as [`close_politely`] does. Its peer reads the end at once. The rest is left to the
-    /// thread, unless too many wait there, or there is none: then it is done here.
+    /// Closes a connection that is served, as [`close_politely`] does. Its peer reads the end at once. The rest is left
+    /// to the thread, unless too many wait there, or there is none: then it is done here.
     pub fn close<R: Wait + Clock>(&self, rt: &R, stream: TcpStream) {
         let Some(streams) = &self.streams else {
             close_politely(rt, stream);
@@ -57,7 +57,8 @@ struct Line {
 }
 
 impl Closer {
-    /// Starts the thread. If there is no memory for it or it can't be made, the workers close their connections themselves.
+    /// Starts the thread. If there is no memory for it or it can't be made, the workers close their connections
+    /// themselves.
     pub fn start<R>(rt: &R, alloc: Global) -> Closer
     where
         R: Threads + Wait + Clock + Copy + Send + 'static,

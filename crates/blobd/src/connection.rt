@@ -124,7 +124,8 @@ impl<'n> Write for Half<'n> {
     }
 }
 
-/// The two halves of a new connection. An error is the system's, or says that no connection was made in time; it is noted.
+/// The two halves of a new connection. An error is the system's, or says that no connection was made in time; it is
+/// noted.
 pub fn connect<'n, R: Net<Stream = TcpStream>>(
     rt: &R,
     addr: SocketAddr,

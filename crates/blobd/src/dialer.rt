@@ -28,8 +28,8 @@ fn are_visible(text: &[u8]) -> bool
     text.iter().all(u8::is_ascii_graphic)
 }
 
-/// Whether a text is a word: at least one byte, all of them visible ASCII. So it may stand as a Host. The text of an address
-/// is one, which std's contract doesn't say.
+/// Whether a text is a word: at least one byte, all of them visible ASCII. So it may stand as a Host. The text of an
+/// address is one, which std's contract doesn't say.
 pub fn is_word(text: &[u8]) -> bool
     ensures { result ≡ is_word text.now }
 {
@@ -39,8 +39,8 @@ pub fn is_word(text: &[u8]) -> bool
 /// A connection over sockets.
 type Wire<'r> = WireTransport<Reader<'r>, Writer<'r>>;
 
-/// The asks of one push, over a connection to its server. After a fault, and behind a reply that ends it, the connection is
-/// closed, and the next ask makes another.
+/// The asks of one push, over a connection to its server. After a fault, and behind a reply that ends it, the
+/// connection is closed, and the next ask makes another.
 #[derive(Drop)]
 pub struct Dialer<'r, R> {
     rt: &'r R,
@@ -134,7 +134,8 @@ impl<'r, R: Net<Stream = TcpStream>> Dialer<'r, R> {
     /// The reply to a request over the connection, or over a new one where there is none.
     fn exchange(&mut self, ask: Ask) -> Option<Heard>
         requires { CanBeWritten ask }
-        ensures asked { AsksDialed (string_bytes self.old.host) self.old.wire ask result self.new.wire }
+        ensures asked { AsksDialed (string_bytes self.old.host) self.old.wire ask
+            result self.new.wire }
         ensures same { (self.new.host ≡ self.old.host) × (self.new.pause ≡ self.old.pause)
             × (self.new.course ≡ self.old.course) }
     {
@@ -147,7 +148,8 @@ impl<'r, R: Net<Stream = TcpStream>> Dialer<'r, R> {
     /// The same of a chunk, which is written from the bytes that are lent.
     fn exchange_chunk(&mut self, chunk: &LentChunk<'_>) -> Option<Heard>
         requires { CanBeWritten (ask_of_chunk chunk.now) }
-        ensures asked { AsksDialed (string_bytes self.old.host) self.old.wire (ask_of_chunk chunk.now) result self.new.wire }
+        ensures asked { AsksDialed (string_bytes self.old.host) self.old.wire
+            (ask_of_chunk chunk.now) result self.new.wire }
         ensures same { (self.new.host ≡ self.old.host) × (self.new.pause ≡ self.old.pause)
             × (self.new.course ≡ self.old.course) }
     {
@@ -188,9 +190,10 @@ impl<'r, R: Net<Stream = TcpStream> + Clock + Eprint> Dialer<'r, R> {
 }
 
 impl<'r, R: Net<Stream = TcpStream> + Clock + Eprint> Transport for Dialer<'r, R> {
-    // What is heard is what its connections say, and how long it waits before the next ask is kept; nothing is said of what a
-    // network delivers.
-    ghost asked = { λ old ask heard new. AsksDialed (string_bytes old.host) old.wire ask heard new.wire
+    // What is heard is what its connections say, and how long it waits before the next ask is kept; nothing is said of
+    // what a network delivers.
+    ghost asked = { λ old ask heard new.
+        AsksDialed (string_bytes old.host) old.wire ask heard new.wire
         × (new.host ≡ old.host) × (new.pause ≡ pause_after heard old.pause)
         × (new.course ≡ course_after heard old.course) };
 

@@ -1,4 +1,5 @@
-//! Lines of a log, and a history of them that only proofs read: it takes no memory, and its methods do nothing at run time.
+//! Lines of a log, and a history of them that only proofs read: it takes no memory, and its methods do nothing at run
+//! time.
 ghost use Rattle.std.specs.Prelude.{◌≡◌, ℕ, List, [], ◌∷◌, ◌++◌, string_bytes};
 ghost use Rattle.std.specs.Borrow.{ftrue};
 
@@ -35,7 +36,8 @@ impl Handed {
 
     /// One line more.
     pub fn and(&self, line: &Line) -> Handed
-        ensures { result.lines ≡ self.now.lines ++ (line.now.lost, string_bytes line.now.text) ∷ [] }
+        ensures { result.lines
+            ≡ self.now.lines ++ (line.now.lost, string_bytes line.now.text) ∷ [] }
     {
         Handed {}
     }

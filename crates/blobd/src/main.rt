@@ -181,8 +181,8 @@ fn wants_log(rt: &HostRuntime) -> Result<bool, u8> {
     }
 }
 
-/// How many workers a server has, as the environment says. An error is the exit status if it says anything else, or out of
-/// memory.
+/// How many workers a server has, as the environment says. An error is the exit status if it says anything else, or out
+/// of memory.
 fn workers_of(rt: &HostRuntime) -> Result<usize, u8>
     ensures { IfOk result (λ workers. 1 ≤ workers) }
 {
@@ -197,8 +197,8 @@ fn workers_of(rt: &HostRuntime) -> Result<usize, u8>
     }
 }
 
-/// The terms of a server, as its words and the environment say. An error is the exit status if the environment says what
-/// can't be read.
+/// The terms of a server, as its words and the environment say. An error is the exit status if the environment says
+/// what can't be read.
 fn terms_of(rt: &HostRuntime, count: Option<u64>) -> Result<Terms, u8>
     ensures { IfOk result (λ terms. 1 ≤ terms.workers) }
 {

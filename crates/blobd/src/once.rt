@@ -23,7 +23,8 @@ fn status_of(end: ConnEnd) -> u8
 /// Serves one connection over a new service, whose secrets are zero and whose clock stands at 0, and gives the exit
 /// status.
 pub fn run_once<R: ByteSource, W: ByteSink>(alloc: Global, reader: &mut R, writer: &mut W) -> u8
-    ensures { IsOnce (R.state reader.old) (R.state reader.new) (W.state writer.old) (W.state writer.new) result }
+    ensures { IsOnce (R.state reader.old) (R.state reader.new) (W.state writer.old)
+        (W.state writer.new) result }
 {
     // The laws over all conversations and over all runs, of which this will be one. The calls do nothing.
     connections_run_the_service();

@@ -52,8 +52,8 @@ impl Pace {
         demand.window.saturating_sub(self.waited)
     }
 
-    /// The pace behind a read or a write for which the client was waited for so many microseconds, and which moved so many
-    /// bytes. `None`: the client is too slow.
+    /// The pace behind a read or a write for which the client was waited for so many microseconds, and which moved so
+    /// many bytes. `None`: the client is too slow.
     pub fn after(self, demand: Demand, waited: u64, moved: u64) -> Option<Pace>
         ensures { result ≡ pace_after demand self waited moved }
     {

@@ -24,12 +24,12 @@ pub type Writer<'a, R> = ToWrite<PacedWriter<'a, R>>;
 /// How many microseconds a second has.
 const SECOND: u64 = 1_000_000;
 
-/// For how many seconds a call waits at most. Where the system has room for a few more bytes it doesn't end a write that waits
-/// for much room, and the next write takes them.
+/// For how many seconds a call waits at most. Where the system has room for a few more bytes it doesn't end a write
+/// that waits for much room, and the next write takes them.
 const LONGEST_CALL: u64 = 15;
 
-/// Whether a connection was written to since it was read from: what is read next belongs to another request. The halves of
-/// one connection share it.
+/// Whether a connection was written to since it was read from: what is read next belongs to another request. The halves
+/// of one connection share it.
 pub type Turn = Arc<AtomicBool, Global>;
 
 /// How one half of a connection sees its client.
@@ -53,7 +53,8 @@ impl<'a, R: Clock> Watch<'a, R> {
         }
     }
 
-    /// How long the next call may wait, if that isn't what the system was told last: whole seconds, so that it is told rarely.
+    /// How long the next call may wait, if that isn't what the system was told last: whole seconds, so that it is told
+    /// rarely.
     fn limit(&mut self, pace: Pace) -> Option<Duration> {
         let seconds = pace
             .left(self.demand)
@@ -70,9 +71,9 @@ impl<'a, R: Clock> Watch<'a, R> {
         Instant::now(self.rt).ok()
     }
 
-    /// For how many microseconds a call that began then waited for the client; 0 where no time can be told. The system ends
-    /// a call that waits for longer than it may. So one that lasted a second longer didn't wait for the client: the program
-    /// was stopped meanwhile.
+    /// For how many microseconds a call that began then waited for the client; 0 where no time can be told. The system
+    /// ends a call that waits for longer than it may. So one that lasted a second longer didn't wait for the client:
+    /// the program was stopped meanwhile.
     fn waited_since(&self, begun: Option<Instant>) -> u64 {
         let Some(begun) = begun else {
             return 0;
@@ -107,8 +108,8 @@ fn too_slow() -> io::Error
     io::Error::from(ErrorKind::TimedOut)
 }
 
-/// Where requests come from. With the first bytes of a request a window of time begins, and before it there is one to wait for
-/// these.
+/// Where requests come from. With the first bytes of a request a window of time begins, and before it there is one to
+/// wait for these.
 #[derive(Drop)]
 pub struct PacedReader<'a, R> {
     stream: TcpStream,
@@ -180,7 +181,8 @@ impl<'a, R: Clock> PacedWriter<'a, R> {
         }
     }
 
-    /// Writes, and again for as long as the client may take its time. An error: the client is too slow, or the system's.
+    /// Writes, and again for as long as the client may take its time. An error: the client is too slow, or the
+    /// system's.
     fn write_in_time(&mut self, buf: &[u8]) -> io::Result<usize>
         ensures bound { WritesAtMost result buf.now }
         ensures resumed { IfErr result (λ error. error_kind error ≢ ErrorKind.Interrupted) }
@@ -222,9 +224,9 @@ impl<'a, R: Clock> Write for PacedWriter<'a, R> {
     }
 }
 
-/// The two halves of a connection of which nothing was read yet; no other connection uses this turn any more. What is written
-/// leaves as it is written: a head and a small body are one write. An error comes where the system has no further handle for
-/// the stream.
+/// The two halves of a connection of which nothing was read yet; no other connection uses this turn any more. What is
+/// written leaves as it is written: a head and a small body are one write. An error comes where the system has no
+/// further handle for the stream.
 pub fn halves<'a, R: Clock>(
     rt: &'a R,
     stream: &TcpStream,

@@ -25,8 +25,8 @@ const TRIES: u32 = 5;
 /// How many bytes are hashed between two looks at the clock.
 const PIECE: usize = 1_048_576;
 
-/// The code as it is printed: `-` where there is none, where it is empty, or where it isn't visible ASCII, since a server
-/// could else write more lines than one.
+/// The code as it is printed: `-` where there is none, where it is empty, or where it isn't visible ASCII, since a
+/// server could else write more lines than one.
 fn printable(code: &Option<Bytes>) -> &str
     ensures { result.now ≡ shown code.now }
 {
@@ -38,7 +38,8 @@ fn printable(code: &Option<Bytes>) -> &str
 
 /// Prints why a push was given up, and gives the exit status.
 fn print_why<W: Write>(out: &mut W, why: &Why) -> u8
-    ensures { IsPrinted (Some (why_text why.now)) (W.contents out.old) (W.contents out.new) 1 result }
+    ensures { IsPrinted (Some (why_text why.now)) (W.contents out.old)
+        (W.contents out.new) 1 result }
 {
     match why {
         Why::Refused(status, code) => {
@@ -62,7 +63,8 @@ fn outcome_word(outcome: Outcome) -> &'static str
 
 /// Prints a word and a digest, and gives the exit status.
 fn print_digest<W: Write>(out: &mut W, word: &str, digest: BlobDigest) -> u8
-    ensures { IsPrinted (Some (word.now ++ (codes " " ++ digest_text digest))) (W.contents out.old) (W.contents out.new) 0 result }
+    ensures { IsPrinted (Some (word.now ++ (codes " " ++ digest_text digest))) (W.contents out.old)
+        (W.contents out.new) 0 result }
 {
     let text = digest.text();
     let text = str::from_utf8(text.as_bytes()).unwrap_or("-");
@@ -137,11 +139,11 @@ fn tell_why<R: Eprint>(rt: &R, addr: SocketAddr, why: &Why, course: Course, trou
     }
 }
 
-/// Pushes a file's bytes under a repository's name to the server at `addr`, in chunks of at most `chunk` bytes, unless the
-/// repository has the blob already. Prints one line, and gives the exit status:
+/// Pushes a file's bytes under a repository's name to the server at `addr`, in chunks of at most `chunk` bytes, unless
+/// the repository has the blob already. Prints one line, and gives the exit status:
 ///
-/// - `pushed` or `already` and the digest, 0: what each is worth is said at [`push`]. `already` comes too if a HEAD before
-///   the push was answered 200: then nothing is sent;
+/// - `pushed` or `already` and the digest, 0: what each is worth is said at [`push`]. `already` comes too if a HEAD
+///   before the push was answered 200: then nothing is sent;
 /// - `refused: name` where `name` isn't one, and nothing is sent; `refused:` and the status and the error code of the
 ///   reply that ended the push; `refused: bad server` after a reply that no such service gives; `refused: out of
 ///   tries` after too many asks that weren't heard; 1;
@@ -162,7 +164,8 @@ where
     W: Write,
     requires size { length file.now ≤ 2 ^ 40 }
     requires chunk { (1 ≤ chunk) × (chunk ≤ 2 ^ 31) }
-    ensures { IsPushed addr name.now file.now chunk (W.contents out.old) (W.contents out.new) result }
+    ensures { IsPushed addr name.now file.now chunk (W.contents out.old)
+        (W.contents out.new) result }
 {
     let name = match RepoName::read(rt.alloc(), name) {
         Ok(name) => name,

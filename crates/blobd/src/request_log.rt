@@ -16,15 +16,16 @@ use upload_wire::{Observer, RequestLine};
 /// What is shown of a head that can't be read, and of one for which there is no memory.
 const NO_HEAD: &str = "-";
 
-/// The log of one worker. No request waits for its line to be written. Contracts see what its next line shows of the head
-/// that it was told last, and the lines that it handed on; or that none are wanted.
+/// The log of one worker. No request waits for its line to be written. Contracts see what its next line shows of the
+/// head that it was told last, and the lines that it handed on; or that none are wanted.
 #[derive(Drop)]
 pub struct RequestLog<'a, R> {
     rt: &'a R,
     alloc: Global,
     /// Where lines go, where any are wanted.
     lines: Option<LogLines>,
-    /// The method and the target of the head that came last; none where it can't be read, or there was no memory for them.
+    /// The method and the target of the head that came last; none where it can't be read, or there was no memory for
+    /// them.
     head: Option<String>,
     /// Since when; none where the clock couldn't be read.
     heard: Option<Instant>,
@@ -90,7 +91,8 @@ fn millis_since<R: Clock>(rt: &R, start: Option<Instant>) -> u64 {
     }
 }
 
-/// The method and the target of a request, as a log shows them. None: its head can't be read, or there is no memory for them.
+/// The method and the target of a request, as a log shows them. None: its head can't be read, or there is no memory for
+/// them.
 fn head_of(alloc: Global, line: Option<RequestLine<'_>>) -> Option<String>
     ensures { ShowsLine line.entry (option_map_or string_bytes result no_head) }
 {

@@ -183,7 +183,8 @@ where
     requires none { vec_len workers.old ≡ 0 }
     requires room { terms.workers ≤ vec_capacity workers.old }
     ensures number { OnOk result (vec_len workers.new ≡ terms.workers) }
-    ensures logs { OnOk result (All (λ worker. worker.observer ≡ new_log (is_some log.now)) workers.new.items) }
+    ensures logs { OnOk result
+        (All (λ worker. worker.observer ≡ new_log (is_some log.now)) workers.new.items) }
 {
     for number in 0..terms.workers {
         let worker = make_worker(rt, listener, terms, log, closer)?;
@@ -204,7 +205,8 @@ fn took_all(ends: &Vec<WorkerEnd>, count: u64) -> bool
     true
 }
 
-/// How the workers ended: `Ok(true)` where each took all of its connections, and `Ok(false)` where one couldn't be taken.
+/// How the workers ended: `Ok(true)` where each took all of its connections, and `Ok(false)` where one couldn't be
+/// taken.
 fn serve_all<'a, R>(
     rt: &'a R,
     alloc: Global,
@@ -217,8 +219,10 @@ where
     requires number { vec_len workers ≡ terms.workers }
     requires logs { All (λ worker. worker.observer ≡ new_log terms.logged) workers.items }
     ensures { IfOk result (λ done. done ≡ true → HasServed
-        (means ⟦<Accepted<'a, R> as Conns>⟧.gives ⟦<Reader<'a, R> as ByteSource>⟧.state ⟦<Writer<'a, R> as ByteSink>⟧.state
-        ⟦<SystemSecrets as Secrets>⟧.draws ⟦<NoGate as Gate>⟧.watches ⟦<RequestLog<'a, R> as Observer>⟧.told)
+        (means ⟦<Accepted<'a, R> as Conns>⟧.gives ⟦<Reader<'a, R> as ByteSource>⟧.state
+        ⟦<Writer<'a, R> as ByteSink>⟧.state
+        ⟦<SystemSecrets as Secrets>⟧.draws ⟦<NoGate as Gate>⟧.watches
+        ⟦<RequestLog<'a, R> as Observer>⟧.told)
         ⟦<SinceStart<'a, R> as Moments>⟧.tells terms.workers terms.count terms.logged) }
 {
     let moments = SinceStart {
@@ -234,23 +238,25 @@ where
 /// Serves a listener: so many workers take connections on these terms. Prints `listening` and the local address, and
 /// `served` after the last connection; gives the exit status.
 ///
-/// Before it returns, the last connections are closed, for which it waits six seconds at most, and the lines of a log that
-/// still wait are written, for which it waits two.
+/// Before it returns, the last connections are closed, for which it waits six seconds at most, and the lines of a log
+/// that still wait are written, for which it waits two.
 ///
 /// A fault is printed in place of the line that would come next, and has status 3: `fault: listen` where the local
 /// address can't be told, `fault: log` where a log is wanted and its thread can't be made or its lines find no memory,
-/// `fault: random` where a generator of secrets can't be made, `fault: workers` where the workers couldn't be started (once
-/// those that were started have ended, which each does behind the first request that comes to it), and `fault: accept`
-/// where a worker couldn't take a connection, once the others have ended too; that one is told on standard error at once.
-/// A line that can't be printed ends the program with status 3.
+/// `fault: random` where a generator of secrets can't be made, `fault: workers` where the workers couldn't be started
+/// (once those that were started have ended, which each does behind the first request that comes to it), and
+/// `fault: accept` where a worker couldn't take a connection, once the others have ended too; that one is told on
+/// standard error at once. A line that can't be printed ends the program with status 3.
 pub fn run_serve<'a, R, W>(rt: &'a R, listener: &'a TcpListener, terms: Terms, out: &mut W) -> u8
 where
     R: Threads + Wait + Sync + AllocGlobal + Clock + RandomSource + Eprint + Copy + Send + 'static,
     W: Write,
     requires { 0 < terms.workers }
     ensures { IsServed (HasServed
-        (means ⟦<Accepted<'a, R> as Conns>⟧.gives ⟦<Reader<'a, R> as ByteSource>⟧.state ⟦<Writer<'a, R> as ByteSink>⟧.state
-        ⟦<SystemSecrets as Secrets>⟧.draws ⟦<NoGate as Gate>⟧.watches ⟦<RequestLog<'a, R> as Observer>⟧.told)
+        (means ⟦<Accepted<'a, R> as Conns>⟧.gives ⟦<Reader<'a, R> as ByteSource>⟧.state
+        ⟦<Writer<'a, R> as ByteSink>⟧.state
+        ⟦<SystemSecrets as Secrets>⟧.draws ⟦<NoGate as Gate>⟧.watches
+        ⟦<RequestLog<'a, R> as Observer>⟧.told)
         ⟦<SinceStart<'a, R> as Moments>⟧.tells terms.workers terms.count terms.logged)
         (W.contents out.old) (W.contents out.new) result }
 {

@@ -1,4 +1,5 @@
-//! A method and a target as a log shows them: in visible ASCII alone, so that they are nothing to a terminal and end no line.
+//! A method and a target as a log shows them: in visible ASCII alone, so that they are nothing to a terminal and end no
+//! line.
 ghost use Rattle.std.specs.Prelude.{◌≡◌, ◌++◌, ◌<◌, take, OnOk, IfOk};
 ghost use Rattle.std.specs.List.{flat_map};
 ghost use Rattle.blobd.specs.Shown.{digit, escape, is_plain, shown_byte, shown_request};
@@ -62,8 +63,8 @@ fn push_text(line: &mut Vec<u8>, text: &[u8]) -> Result<(), AllocError>
     Ok(())
 }
 
-/// The method and the target of a request as a log shows them: the first 1,000 bytes of each, and `\x` with two digits in
-/// place of each byte that isn't visible ASCII, or is a backslash or a quote. An error is out of memory.
+/// The method and the target of a request as a log shows them: the first 1,000 bytes of each, and `\x` with two digits
+/// in place of each byte that isn't visible ASCII, or is a backslash or a quote. An error is out of memory.
 pub fn shown_request(alloc: Global, method: &[u8], target: &[u8]) -> Result<Vec<u8>, AllocError>
     ensures { IfOk result (λ line. line.items ≡ shown_request method.now target.now) }
 {

@@ -23,7 +23,8 @@ const SMALL_CHUNK: u64 = 65_536;
 /// Up to so many bytes a file goes up at once, whatever its chunks.
 const SMALL_FILE: u64 = 4_194_304;
 
-/// What stands before the unit that a word ends with, and how many bytes the unit has. Without a unit it is the whole word, in bytes.
+/// What stands before the unit that a word ends with, and how many bytes the unit has. Without a unit it is the whole
+/// word, in bytes.
 fn split_unit(word: &[u8]) -> (&[u8], u64)
     ensures { (result.0.now ≡ digits_of word.now) × (result.1 ≡ unit_of word.now) }
 {
@@ -50,8 +51,8 @@ fn read_number(digits: &[u8]) -> Option<u64>
     }
 }
 
-/// The size of a chunk that a word writes: decimal digits, and behind them `K`, `M` or `G` if it isn't in bytes; from 1 to
-/// 2,147,483,648 bytes.
+/// The size of a chunk that a word writes: decimal digits, and behind them `K`, `M` or `G` if it isn't in bytes; from 1
+/// to 2,147,483,648 bytes.
 pub fn read_size(word: &str) -> Option<u64>
     ensures { MatchOption result ((size : ℕ) → ¬ (IsSize word.now size)) (IsSize word.now) }
 {

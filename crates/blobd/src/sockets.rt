@@ -41,7 +41,8 @@ impl Read for Resumed {
     }
 }
 
-/// Ends the reads and writes of a connection that move no byte for as long as `silence`, which is more than zero: they fail.
+/// Ends the reads and writes of a connection that move no byte for as long as `silence`, which is more than zero: they
+/// fail.
 pub fn end_silence(stream: &TcpStream, silence: Duration) -> io::Result<()>
     ensures { as_nanos silence ≡ 0 → IsErr result }
 {
@@ -49,9 +50,10 @@ pub fn end_silence(stream: &TcpStream, silence: Duration) -> io::Result<()>
     stream.set_write_timeout(Some(silence))
 }
 
-/// Closes a connection that is served. Where the peer still sends, as behind a refused head, a close at once would reset
-/// the connection, and the peer's system would drop the reply that it hasn't read. So the writing half is shut first, and
-/// what comes is read and dropped until the peer closes, is silent for half a second, or has sent for five seconds.
+/// Closes a connection that is served. Where the peer still sends, as behind a refused head, a close at once would
+/// reset the connection, and the peer's system would drop the reply that it hasn't read. So the writing half is shut
+/// first, and what comes is read and dropped until the peer closes, is silent for half a second, or has sent for five
+/// seconds.
 pub fn close_politely<R: Clock>(rt: &R, stream: TcpStream) {
     // An error means that the peer has gone, or that no time can be told: there is nothing more to wait for.
     let _ = drain(rt, stream);

@@ -17,13 +17,15 @@ pub const REFUSED: u8 = 1;
 pub const FAULT: u8 = 3;
 
 fn put_line<W: Write, D: Display + Drop>(out: &mut W, text: D) -> io::Result<()>
-    ensures { OnOk result (IfSome (D.output text) (λ bytes. Appends (W.contents out.old) (W.contents out.new) (line bytes))) }
+    ensures { OnOk result (IfSome (D.output text)
+        (λ bytes. Appends (W.contents out.old) (W.contents out.new) (line bytes))) }
 {
     writeln!(out, "{text}")?;
     out.flush()
 }
 
-/// Prints a text as a line, and gives the exit status that goes with it: this one, or [`FAULT`] where the line can't be printed.
+/// Prints a text as a line, and gives the exit status that goes with it: this one, or [`FAULT`] where the line can't be
+/// printed.
 pub fn print_line<W: Write, D: Display + Drop>(out: &mut W, text: D, status: u8) -> u8
     ensures { IsPrinted (D.output text) (W.contents out.old) (W.contents out.new) status result }
 {

@@ -123,7 +123,8 @@ where
     Ok(reply)
 }
 
-/// What a server prints of whose clients so many bytes are asked in each second, and the replies to two that send slowly.
+/// What a server prints of whose clients so many bytes are asked in each second, and the replies to two that send
+/// slowly.
 fn slow_replies<R>(
     rt: &R,
     listener: &TcpListener,

@@ -1,6 +1,7 @@
 //! What goes wrong with a push, and the words for it on standard error.
 ghost use Rattle.std.specs.Prelude.{◌≡◌};
-ghost use Rattle.blobd.specs.Trouble.{advice_on, course_after, error_trouble, is_http, is_tls, reason_of, status_trouble, trouble_in, words_of, words_of_advice};
+ghost use Rattle.blobd.specs.Trouble.{advice_on, course_after, error_trouble, is_http, is_tls, reason_of};
+ghost use Rattle.blobd.specs.Trouble.{status_trouble, trouble_in, words_of, words_of_advice};
 
 use std::{fmt, io};
 use upload_client::Heard;
@@ -145,8 +146,8 @@ pub enum Advice {
     Adapter,
 }
 
-/// What to do about a reply of this status, if anything. It matters whether the reply had an error code, and whether an upload was
-/// opened before.
+/// What to do about a reply of this status, if anything. It matters whether the reply had an error code, and whether an
+/// upload was opened before.
 fn advice_on(status: u16, coded: bool, opened: bool) -> Option<Advice>
     ensures { result ≡ advice_on status coded opened }
 {
@@ -166,7 +167,8 @@ fn words_of_advice(advice: Advice) -> &'static str
     match advice {
         Advice::IsItHttps => "is this https? A push speaks plain HTTP",
         Advice::NoLogin => {
-            "it wants a login, and a push has none: push to the reverse proxy's local address, or through deploy/adapter.cfg"
+            "it wants a login, and a push has none: push to the reverse proxy's local address, or through deploy/adapte\
+             r.cfg"
         }
         Advice::PushAgain =>
             "it lost the upload, as a server does that is started again: push again",
@@ -217,4 +219,4 @@ impl fmt::Display for Reason {
 /// The grammar of names, in words.
 pub const NAME_RULE: &str =
     "a NAME is one or more parts with / between them, as lib/a: a part is of a to z and 0 to 9, \
-    inside also one of . _ __ or hyphens between two of these; 255 bytes at most";
+     inside also one of . _ __ or hyphens between two of these; 255 bytes at most";

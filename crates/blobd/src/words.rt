@@ -40,7 +40,8 @@ pub enum Command<'w> {
 
 /// The number from 1 to `most` that one or more decimal digits write; leading zeros are allowed.
 fn read_count(word: &str, most: u64) -> Option<u64>
-    ensures { MatchOption result ((number : ℕ) → ¬ (IsCount most word.now number)) (IsCount most word.now) }
+    ensures { MatchOption result ((number : ℕ) → ¬ (IsCount most word.now number))
+        (IsCount most word.now) }
 {
     // A sign is no digit, though `parse` takes a leading plus.
     if matches!(word.as_bytes(), [b'+', ..]) {
@@ -54,14 +55,16 @@ fn read_count(word: &str, most: u64) -> Option<u64>
 
 /// How many workers a server has, where the environment says so: from 1 to 256.
 pub fn read_workers(value: &str) -> Option<u64>
-    ensures { MatchOption result ((number : ℕ) → ¬ (IsCount 256 value.now number)) (IsCount 256 value.now) }
+    ensures { MatchOption result ((number : ℕ) → ¬ (IsCount 256 value.now number))
+        (IsCount 256 value.now) }
 {
     read_count(value, MOST_WORKERS)
 }
 
 /// The IP address and port that a word writes.
 fn read_addr(word: &str) -> Option<SocketAddr>
-    ensures { MatchOption result ((addr : SocketAddr) → ¬ (IsSocketText word.now addr)) (IsSocketText word.now) }
+    ensures { MatchOption result ((addr : SocketAddr) → ¬ (IsSocketText word.now addr))
+        (IsSocketText word.now) }
 {
     word.parse().ok()
 }
@@ -69,7 +72,8 @@ fn read_addr(word: &str) -> Option<SocketAddr>
 /// The command that the words behind the program's name make, or `None` where they make none. Nothing is opened.
 #[tactic(auto, using(crate::proofs::WordFacts::no_size))]
 pub fn read_words<'w>(words: &[&'w str]) -> Option<Command<'w>>
-    ensures { MatchOption result ((command : Command) → ¬ (Makes words.now command)) (Makes words.now) }
+    ensures { MatchOption result ((command : Command) → ¬ (Makes words.now command))
+        (Makes words.now) }
 {
     match words {
         ["once"] => Some(Command::Once),
@@ -99,8 +103,8 @@ pub fn read_words<'w>(words: &[&'w str]) -> Option<Command<'w>>
     }
 }
 
-/// What a variable of the environment that is a switch says: on if it is `1`, off if it is `0` or empty. `None`: it says
-/// neither.
+/// What a variable of the environment that is a switch says: on if it is `1`, off if it is `0` or empty. `None`: it
+/// says neither.
 pub fn read_switch(value: &str) -> Option<bool>
     ensures { MatchOption result ((on : Bool) → ¬ (IsSwitch value.now on)) (IsSwitch value.now) }
 {

@@ -116,7 +116,8 @@ impl Conns for Texts {
 
     // One that nobody has read or written yet.
     ghost gives = { λ old given new. IfSome given (λ conn.
-        (conn.0.given.bytes ≡ []) × (conn.0.reads ≡ 0) × (conn.1.taken.bytes ≡ []) × (conn.1.writes ≡ 0)) };
+        (conn.0.given.bytes ≡ []) × (conn.0.reads ≡ 0) × (conn.1.taken.bytes ≡ [])
+        × (conn.1.writes ≡ 0)) };
 
     fn next_conn(&mut self) -> Option<(Text, Nowhere)> {
         let text = self.texts.next()?;
@@ -245,14 +246,20 @@ fn service(alloc: Global) -> Service {
 }
 
 const LEFT: &[u8] = b"POST /v2/lib/a/blobs/uploads/ HTTP/1.1\r\nContent-Length: 0\r\n\r\n\
-PATCH /v2/lib/a/blobs/uploads/00000001-0000-8000-8000-000000000000 HTTP/1.1\r\nContent-Range: 0-0\r\nContent-Length: 1\r\n\r\na\
-PATCH /v2/lib/a/blobs/uploads/00000001-0000-8000-8000-000000000000 HTTP/1.1\r\nContent-Range: 1-2\r\nContent-Length: 2\r\n\r\nbc\
-PUT /v2/lib/a/blobs/uploads/00000001-0000-8000-8000-000000000000?digest=sha256:ba7816bf8f01cfea414140de5dae2223b00361a396177a9cb410ff61f20015ad HTTP/1.1\r\n\r\n";
+    PATCH /v2/lib/a/blobs/uploads/00000001-0000-8000-8000-000000000000 HTTP/1.1\r\nContent-Range: 0-0\r\n\
+    Content-Length: 1\r\n\r\na\
+    PATCH /v2/lib/a/blobs/uploads/00000001-0000-8000-8000-000000000000 HTTP/1.1\r\nContent-Range: 1-2\r\n\
+    Content-Length: 2\r\n\r\nbc\
+    PUT /v2/lib/a/blobs/uploads/00000001-0000-8000-8000-000000000000\
+    ?digest=sha256:ba7816bf8f01cfea414140de5dae2223b00361a396177a9cb410ff61f20015ad HTTP/1.1\r\n\r\n";
 
 const RIGHT: &[u8] = b"POST /v2/lib/b/blobs/uploads/ HTTP/1.1\r\nContent-Length: 0\r\n\r\n\
-PATCH /v2/lib/b/blobs/uploads/00000002-0000-8000-8000-000000000000 HTTP/1.1\r\nContent-Range: 0-1\r\nContent-Length: 2\r\n\r\nab\
-PATCH /v2/lib/b/blobs/uploads/00000002-0000-8000-8000-000000000000 HTTP/1.1\r\nContent-Range: 2-2\r\nContent-Length: 1\r\n\r\nc\
-PUT /v2/lib/b/blobs/uploads/00000002-0000-8000-8000-000000000000?digest=sha256:ba7816bf8f01cfea414140de5dae2223b00361a396177a9cb410ff61f20015ad HTTP/1.1\r\n\r\n";
+    PATCH /v2/lib/b/blobs/uploads/00000002-0000-8000-8000-000000000000 HTTP/1.1\r\nContent-Range: 0-1\r\n\
+    Content-Length: 2\r\n\r\nab\
+    PATCH /v2/lib/b/blobs/uploads/00000002-0000-8000-8000-000000000000 HTTP/1.1\r\nContent-Range: 2-2\r\n\
+    Content-Length: 1\r\n\r\nc\
+    PUT /v2/lib/b/blobs/uploads/00000002-0000-8000-8000-000000000000\
+    ?digest=sha256:ba7816bf8f01cfea414140de5dae2223b00361a396177a9cb410ff61f20015ad HTTP/1.1\r\n\r\n";
 
 /// The connections of the left and of the right worker.
 fn texts_of_both(

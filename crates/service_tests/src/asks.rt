@@ -1,4 +1,5 @@
-//! Requests and answers as lines of a table. Tables are statics: a constant's rows are made anew, and proved, wherever it is used.
+//! Requests and answers as lines of a table. Tables are statics: a constant's rows are made anew, and proved, wherever
+//! it is used.
 
 use std::alloc::{AllocError, Global};
 use upload_names::{Algorithm, BlobDigest, ByteRange, Bytes, NameFault, RepoName, UploadRef};

@@ -1,5 +1,5 @@
-//! Tests of `upload_service`, in a crate of their own: the prover goes through a crate with tests twice, and its must-fail
-//! edits wait for both.
+//! Tests of `upload_service`, in a crate of their own: the prover goes through a crate with tests twice, and its
+//! must-fail edits wait for both.
 #![tactic(auto)]
 
 #[cfg(test)]

@@ -22,7 +22,8 @@ pub const NOTHING: &[u8] =
 
 /// Of `abc` by SHA-512.
 pub const ABC_512: &[u8] =
-    b"sha512:ddaf35a193617abacc417349ae20413112e6fa4e89a97ea20a9eeee64b55d39a2192992a274fc1a836ba3c23a3feebbd454d4423643ce80e2a9ac94fa54ca49f";
+    b"sha512:ddaf35a193617abacc417349ae20413112e6fa4e89a97ea20a9eeee64b55d39a\
+      2192992a274fc1a836ba3c23a3feebbd454d4423643ce80e2a9ac94fa54ca49f";
 
 /// Limits of which one or two are small.
 pub fn limits(max_blob: u64, max_open: u32, max_idle: u64) -> Limits

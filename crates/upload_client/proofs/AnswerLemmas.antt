@@ -1,5 +1,6 @@
 -- From the spans of a reply's head to what is heard.
-use Rattle.std.proofs.Common.{◌≡◌, ℕ, ◌<◌, ◌≤◌, List, [], ◌++◌, length, take, drop, sym, ap, ◌∙◌, refl, subst, arith, append_assoc, length-append, length-take, inl, inr, Bool}
+use Rattle.std.proofs.Common.{◌≡◌, ℕ, ◌<◌, ◌≤◌, List, [], ◌++◌, length, take, drop, sym, ap, ◌∙◌, refl, subst, arith}
+use Rattle.std.proofs.Common.{append_assoc, length-append, length-take, inl, inr, Bool}
 use Rattle.std.specs.Prelude.{◌⊎◌, Result, Ok, Err}
 use Rattle.std.proofs.lemmas.List.{take-append-drop, append-nil, take-append-le, drop-append-le, length-map}
 use Rattle.std.proofs.Math.ListN.{drop_of_length-le}
@@ -16,7 +17,8 @@ use Rattle.http_wire.specs.Fields.{head_fields}
 use Rattle.http_wire.specs.Inner.HeadSpans.{response_spans}
 use Rattle.http_wire.specs.Inner.HeadReading.{FindsHead, IsHeadAtFront, fields_of}
 use Rattle.http_wire.specs.Inner.ResponseBodyFinding.{FindsBody, FindsBodyIn}
-use Rattle.upload_client.specs.Inner.AnswerReading.{FindsReply, Says, heard_of_input, heard_of_body, heard_of_framing, heard_of_said}
+use Rattle.upload_client.specs.Inner.AnswerReading.{FindsReply, Says, heard_of_input, heard_of_body, heard_of_framing}
+use Rattle.upload_client.specs.Inner.AnswerReading.{heard_of_said}
 use Rattle.http_wire.specs.declared.responses.parsed.ParsedResponse.{ParsedResponse}
 use Rattle.http_wire.specs.declared.responses.framing.ResponseFraming.{ResponseFraming}
 use Rattle.http_wire.specs.declared.responses.framing.ResponseFraming.TheVariants.{Length, ToEnd}
@@ -42,14 +44,18 @@ the_head f = f.head.1.0
 drop_all : (n : ℕ) (text : List ℕ) → n ≤ length text → drop n (take n text) ≡ []
 drop_all n text le = drop_of_length-le (take n text) (omega (arith, length-take n text))
 
-front_printed : (text : List ℕ) (p : ParsedResponse) (f : IsHeadAtFront response_spans text p) → take p.spans.len text ≡ print_response (the_head f)
+front_printed : (text : List ℕ) (p : ParsedResponse) (f : IsHeadAtFront response_spans text p)
+    → take p.spans.len text ≡ print_response (the_head f)
 front_printed text p f =
-    f.head.1.1.reads.1 ∙ ap (λ t. print_response (the_head f) ++ t) (drop_all p.spans.len text f.in_range) ∙ append-nil (print_response (the_head f))
+    f.head.1.1.reads.1 ∙ ap (λ t. print_response (the_head f) ++ t) (drop_all p.spans.len text f.in_range)
+    ∙ append-nil (print_response (the_head f))
 
-fields_same : (text : List ℕ) (p : ParsedResponse) (f : IsHeadAtFront response_spans text p) → fields_of response_spans (take p.spans.len text) p ≡ head_fields (the_head f).fields
+fields_same : (text : List ℕ) (p : ParsedResponse) (f : IsHeadAtFront response_spans text p)
+    → fields_of response_spans (take p.spans.len text) p ≡ head_fields (the_head f).fields
 fields_same text p f = f.head.1.1.fields
 
-head_reads : (text : List ℕ) (p : ParsedResponse) (f : IsHeadAtFront response_spans text p) → ReadsHead responses text (the_head f) (drop p.spans.len text)
+head_reads : (text : List ℕ) (p : ParsedResponse) (f : IsHeadAtFront response_spans text p)
+    → ReadsHead responses text (the_head f) (drop p.spans.len text)
 head_reads text p f =
     let printed = front_printed text p f in
     let len = f.head.1.1.len in
@@ -57,7 +63,8 @@ head_reads text p f =
     let lengths = ap length (fields_same text p f) in
     let few = p.count_fits in
     record {
-      reads = (f.head.1.1.reads.0, sym (take-append-drop p.spans.len text) ∙ ap (λ t. t ++ drop p.spans.len text) printed);
+      reads =
+          (f.head.1.1.reads.0, sym (take-append-drop p.spans.len text) ∙ ap (λ t. t ++ drop p.spans.len text) printed);
       short = omega (arith, len, short);
       few = omega (
         arith,
@@ -70,7 +77,8 @@ head_reads text p f =
     }
 
 -- a head at the front is there when more comes
-head_kept : (text more : List ℕ) (p : ParsedResponse) → IsHeadAtFront response_spans text p → IsHeadAtFront response_spans (text ++ more) p
+head_kept : (text more : List ℕ) (p : ParsedResponse) → IsHeadAtFront response_spans text p
+    → IsHeadAtFront response_spans (text ++ more) p
 head_kept text more p f =
     let fits = f.in_range in
     record {
@@ -80,21 +88,34 @@ head_kept text more p f =
     }
 
 -- the framing of the head at the front
-framed : (h : Bool) (text : List ℕ) (p : ParsedResponse) (r : Result ResponseFraming FramingFault) (f : IsHeadAtFront response_spans text p)
-    → framing_of max_answer h p.spans.code (fields_of response_spans (take p.spans.len text) p) ≡ r → ReadsFramed h text r (the_head f) (drop p.spans.len text)
+framed : (h : Bool) (text : List ℕ) (p : ParsedResponse) (r : Result ResponseFraming FramingFault)
+    (f : IsHeadAtFront response_spans text p)
+    → framing_of max_answer h p.spans.code (fields_of response_spans (take p.spans.len text) p) ≡ r
+    → ReadsFramed h text r (the_head f) (drop p.spans.len text)
 framed h text p r f e = record {
   reads = head_reads text p f;
   framed = ap (framing_of max_answer h (status_code (the_head f))) (sym (fields_same text p f))
-      ∙ ap (λ s. framing_of max_answer h s (fields_of response_spans (take p.spans.len text) p)) (sym f.head.1.1.code) ∙ e;
+      ∙ ap (λ s. framing_of max_answer h s (fields_of response_spans (take p.spans.len text) p)) (sym f.head.1.1.code)
+      ∙ e;
 }
 
 -- a refused framing
-unframed : (h : Bool) (text rest : List ℕ) (new : SourceState) (keep : Bool) (p : ParsedResponse) (e : FramingFault) → IsHeadAtFront response_spans text p
-    → framing_of max_answer h p.spans.code (fields_of response_spans (take p.spans.len text) p) ≡ Err e → FindsAnswer h text rest new (Err (heard_of_framing e)) keep
+unframed : (h : Bool) (text rest : List ℕ) (new : SourceState) (keep : Bool) (p : ParsedResponse) (e : FramingFault)
+    → IsHeadAtFront response_spans text p
+    → framing_of max_answer h p.spans.code (fields_of response_spans (take p.spans.len text) p) ≡ Err e
+    → FindsAnswer h text rest new (Err (heard_of_framing e)) keep
 unframed h text rest new keep p Framing.Unreadable f e =
-    inr (inl (record { head = the_head f; rest = drop p.spans.len text; framed = framed h text p (Err Framing.Unreadable) f e }))
+    inr (inl (record {
+      head = the_head f;
+      rest = drop p.spans.len text;
+      framed = framed h text p (Err Framing.Unreadable) f e;
+    }))
 unframed h text rest new keep p Framing.TooLarge f e =
-    inr (inl (record { head = the_head f; rest = drop p.spans.len text; framed = framed h text p (Err Framing.TooLarge) f e }))
+    inr (inl (record {
+      head = the_head f;
+      rest = drop p.spans.len text;
+      framed = framed h text p (Err Framing.TooLarge) f e;
+    }))
 
 -- behind a fault nothing is said of whether the connection stays
 any_keep : (h : Bool) (text rest : List ℕ) (new : SourceState) (e : HeardFault) (keep other : Bool)
@@ -115,8 +136,10 @@ found_at_once h held rest known r keep found = record {
 }
 
 -- what the body is, behind the head
-body_found : (h : Bool) (text after body rest : List ℕ) (new : SourceState) (keep : Bool) (p : ParsedResponse) (framing : ResponseFraming) (e : BodyFault) (f : IsHeadAtFront response_spans text p)
-    → ReadsFramed h text (Ok framing) (the_head f) after → FindsBodyIn framing after body rest new (Err e) → FindsAnswer h text rest new (Err (heard_of_body e)) keep
+body_found : (h : Bool) (text after body rest : List ℕ) (new : SourceState) (keep : Bool) (p : ParsedResponse)
+    (framing : ResponseFraming) (e : BodyFault) (f : IsHeadAtFront response_spans text p)
+    → ReadsFramed h text (Ok framing) (the_head f) after → FindsBodyIn framing after body rest new (Err e)
+    → FindsAnswer h text rest new (Err (heard_of_body e)) keep
 body_found h text after body rest new keep p (Length n) Body.Truncated f r b =
     (b.1, inr (record { head = the_head f; rest = after; size = n; framed = r; cut = b.0 }))
 body_found h text after body rest new keep p (ToEnd most) Body.Truncated f r b = absurd b
@@ -126,8 +149,10 @@ body_found h text after body rest new keep p (ToEnd most) Body.Read f r b =
     inr (inr (record { head = the_head f; rest = after; most = most; framed = r; small = b }))
 body_found h text after body rest new keep p framing Body.NoMemory f r b = tt
 
-long_found : (h : Bool) (text after body rest : List ℕ) (new : SourceState) (keep : Bool) (p : ParsedResponse) (framing : ResponseFraming) (f : IsHeadAtFront response_spans text p)
-    → ReadsFramed h text (Ok framing) (the_head f) after → FindsBodyIn framing after body rest new (Ok TooLarge) → FindsAnswer h text rest new (Err Fault.TooLarge) keep
+long_found : (h : Bool) (text after body rest : List ℕ) (new : SourceState) (keep : Bool) (p : ParsedResponse)
+    (framing : ResponseFraming) (f : IsHeadAtFront response_spans text p)
+    → ReadsFramed h text (Ok framing) (the_head f) after → FindsBodyIn framing after body rest new (Ok TooLarge)
+    → FindsAnswer h text rest new (Err Fault.TooLarge) keep
 long_found h text after body rest new keep p (Length n) f r b = absurd b
 long_found h text after body rest new keep p (ToEnd most) f r b =
     inr (inr (record { head = the_head f; rest = after; most = most; framed = r; long = b }))
@@ -138,15 +163,18 @@ heard_by (Ok heard) = Ok heard
 heard_by (Err fault) = Err (heard_of_said fault)
 
 -- what a whole reply says
-says_found : (h : Bool) (text rest : List ℕ) (new : SourceState) (head : ResponseHead) (body : List ℕ) (r : Result Heard SaidFault) (keep : Bool)
+says_found : (h : Bool) (text rest : List ℕ) (new : SourceState) (head : ResponseHead) (body : List ℕ)
+    (r : Result Heard SaidFault) (keep : Bool)
     (whole : IsWhole h text rest new head body) → Says (status_code head) (head_fields head.fields) body r
     → keep ≡ keeps_on head.minor (head_fields head.fields) whole.framing → FindsAnswer h text rest new (heard_by r) keep
 says_found h text rest new head body (Ok heard) keep whole says keeps =
     record { head = head; body = body; whole = whole; says = says; keeps = keeps }
-says_found h text rest new head body (Err Said.Unreadable) keep whole says keeps = inr (inr (record { head = head; body = body; whole = whole; misplaced = says }))
+says_found h text rest new head body (Err Said.Unreadable) keep whole says keeps =
+    inr (inr (record { head = head; body = body; whole = whole; misplaced = says }))
 says_found h text rest new head body (Err Said.NoMemory) keep whole says keeps = tt
 
-module _ (h : Bool) (held rest body : List ℕ) (old new : SourceState) (keep : Bool) (p : ParsedResponse) (framing : ResponseFraming) (f : IsHeadAtFront response_spans held p)
+module _ (h : Bool) (held rest body : List ℕ) (old new : SourceState) (keep : Bool) (p : ParsedResponse)
+    (framing : ResponseFraming) (f : IsHeadAtFront response_spans held p)
     (is : Ok framing ≡ framing_of max_answer h p.spans.code (fields_of response_spans (take p.spans.len held) p)) where
   same_front : (given : List ℕ) → take p.spans.len (held ++ given) ≡ take p.spans.len held
   same_front given = take-append-le p.spans.len held given f.in_range
@@ -154,36 +182,49 @@ module _ (h : Bool) (held rest body : List ℕ) (old new : SourceState) (keep : 
   framed_on : (given after : List ℕ) → after ≡ drop p.spans.len held ++ given
       → ReadsFramed h (held ++ given) (Ok framing) (the_head (head_kept held given p f)) after
   framed_on given after e =
-      let behind : drop p.spans.len (held ++ given) ≡ after = drop-append-le p.spans.len held given f.in_range ∙ sym e in
-      let at = ap (λ t. framing_of max_answer h p.spans.code (fields_of response_spans t p)) (same_front given) ∙ sym is in
+      let behind : drop p.spans.len (held ++ given) ≡ after =
+      drop-append-le p.spans.len held given f.in_range ∙ sym e in
+      let at =
+      ap (λ t. framing_of max_answer h p.spans.code (fields_of response_spans t p)) (same_front given) ∙ sym is in
       subst (ReadsFramed h (held ++ given) (Ok framing) (the_head (head_kept held given p f))) behind
       (framed h (held ++ given) p (Ok framing) (head_kept held given p f) at)
 
-  pub body_fault_found : (e : BodyFault) → FindsBody framing (drop p.spans.len held) old body rest new (Err e) → ReadsAnswer h held old rest new (Err (heard_of_body e)) keep
+  pub body_fault_found : (e : BodyFault) → FindsBody framing (drop p.spans.len held) old body rest new (Err e)
+      → ReadsAnswer h held old rest new (Err (heard_of_body e)) keep
   body_fault_found e b = record {
     given = b.gave.given;
     gives = b.gave.gives;
-    found = body_found h (held ++ b.gave.given) b.text body rest new keep p framing e (head_kept held b.gave.given p f) (framed_on b.gave.given b.text b.gave.joined) b.found;
+    found =
+        body_found h (held ++ b.gave.given) b.text body rest new keep p framing e (head_kept held b.gave.given p f)
+        (framed_on b.gave.given b.text b.gave.joined) b.found;
   }
 
-  pub long_body_found : FindsBody framing (drop p.spans.len held) old body rest new (Ok TooLarge) → ReadsAnswer h held old rest new (Err Fault.TooLarge) keep
+  pub long_body_found : FindsBody framing (drop p.spans.len held) old body rest new (Ok TooLarge)
+      → ReadsAnswer h held old rest new (Err Fault.TooLarge) keep
   long_body_found b = record {
     given = b.gave.given;
     gives = b.gave.gives;
-    found = long_found h (held ++ b.gave.given) b.text body rest new keep p framing (head_kept held b.gave.given p f) (framed_on b.gave.given b.text b.gave.joined) b.found;
+    found =
+        long_found h (held ++ b.gave.given) b.text body rest new keep p framing (head_kept held b.gave.given p f)
+        (framed_on b.gave.given b.text b.gave.joined) b.found;
   }
 
-  pub reply_found : (r : Result Heard SaidFault) → FindsBody framing (drop p.spans.len held) old body rest new (Ok Whole)
+  pub reply_found : (r : Result Heard SaidFault)
+      → FindsBody framing (drop p.spans.len held) old body rest new (Ok Whole)
       → Says p.spans.code (fields_of response_spans (take p.spans.len held) p) body r
-      → keep ≡ keeps_on p.spans.version (fields_of response_spans (take p.spans.len held) p) framing → ReadsAnswer h held old rest new (heard_by r) keep
+      → keep ≡ keeps_on p.spans.version (fields_of response_spans (take p.spans.len held) p) framing
+      → ReadsAnswer h held old rest new (heard_by r) keep
   reply_found r b says keeps =
       let given = b.gave.given in
       let text = held ++ given in
       let k = head_kept held given p f in
-      let at_code = subst (λ s. Says s (fields_of response_spans (take p.spans.len held) p) body r) k.head.1.1.code says in
-      let fields : fields_of response_spans (take p.spans.len held) p ≡ head_fields (the_head k).fields = ap (λ t. fields_of response_spans t p) (sym (same_front given)) ∙ fields_same text p k in
+      let at_code =
+      subst (λ s. Says s (fields_of response_spans (take p.spans.len held) p) body r) k.head.1.1.code says in
+      let fields : fields_of response_spans (take p.spans.len held) p ≡ head_fields (the_head k).fields =
+      ap (λ t. fields_of response_spans t p) (sym (same_front given)) ∙ fields_same text p k in
       let said = subst (λ t. Says (status_code (the_head k)) t body r) fields at_code in
-      let at_version = keeps ∙ ap (λ v. keeps_on v (fields_of response_spans (take p.spans.len held) p) framing) k.head.1.1.version in
+      let at_version =
+      keeps ∙ ap (λ v. keeps_on v (fields_of response_spans (take p.spans.len held) p) framing) k.head.1.1.version in
       let kept = at_version ∙ ap (λ t. keeps_on (the_head k).minor t framing) fields in
       record {
         given = given;
@@ -191,7 +232,8 @@ module _ (h : Bool) (held rest body : List ℕ) (old new : SourceState) (keep : 
         found = says_found h text rest new (the_head k) body r keep
             (record {
               framing = framing;
-              framed = subst (ReadsFramed h text (Ok framing) (the_head k)) b.found.0 (framed_on given b.text b.gave.joined);
+              framed =
+                  subst (ReadsFramed h text (Ok framing) (the_head k)) b.found.0 (framed_on given b.text b.gave.joined);
               is_body = b.found.1;
             }) said kept;
       }
@@ -199,78 +241,111 @@ module _ (h : Bool) (held rest body : List ℕ) (old new : SourceState) (keep : 
 -- ---- the same, where the head was sliced and then taken out of the buffer
 
 -- where the framing of the sliced head is that of the head at the front
-framing_at : (h : Bool) (held slice : List ℕ) (p : ParsedResponse) (r : Result ResponseFraming FramingFault) → slice ≡ held
-    → r ≡ framing_of max_answer h p.spans.code (fields_of response_spans (take p.spans.len slice) p) → r ≡ framing_of max_answer h p.spans.code (fields_of response_spans (take p.spans.len held) p)
-framing_at h held slice p r slice_is is = subst (λ t. r ≡ framing_of max_answer h p.spans.code (fields_of response_spans (take p.spans.len t) p)) slice_is is
+framing_at : (h : Bool) (held slice : List ℕ) (p : ParsedResponse) (r : Result ResponseFraming FramingFault)
+    → slice ≡ held → r ≡ framing_of max_answer h p.spans.code (fields_of response_spans (take p.spans.len slice) p)
+    → r ≡ framing_of max_answer h p.spans.code (fields_of response_spans (take p.spans.len held) p)
+framing_at h held slice p r slice_is is =
+    subst (λ t. r ≡ framing_of max_answer h p.spans.code (fields_of response_spans (take p.spans.len t) p)) slice_is is
 
 -- a refused framing of the head
-pub framing_refused : (h : Bool) (held slice rest : List ℕ) (known : SourceState) (p : ParsedResponse) (e : FramingFault) → IsHeadAtFront response_spans held p → slice ≡ held
-    → Err e ≡ framing_of max_answer h p.spans.code (fields_of response_spans (take p.spans.len slice) p) → FindsReply h held known rest known (Err (heard_of_framing e))
+pub framing_refused : (h : Bool) (held slice rest : List ℕ)
+    (known : SourceState) (p : ParsedResponse) (e : FramingFault) → IsHeadAtFront response_spans held p → slice ≡ held
+    → Err e ≡ framing_of max_answer h p.spans.code (fields_of response_spans (take p.spans.len slice) p)
+    → FindsReply h held known rest known (Err (heard_of_framing e))
 framing_refused h held slice rest known p e f slice_is is = λ keep.
-    found_at_once h held rest known (Err (heard_of_framing e)) keep (unframed h held rest known keep p e f (sym (framing_at h held slice p (Err e) slice_is is)))
+    found_at_once h held rest known (Err (heard_of_framing e)) keep
+    (unframed h held rest known keep p e f (sym (framing_at h held slice p (Err e) slice_is is)))
 
 -- a fault of the body behind the head
-pub fault_behind : (h : Bool) (held slice front body rest : List ℕ) (old new : SourceState) (p : ParsedResponse) (framing : ResponseFraming) (e : BodyFault)
-    → IsHeadAtFront response_spans held p → slice ≡ held → Ok framing ≡ framing_of max_answer h p.spans.code (fields_of response_spans (take p.spans.len slice) p)
-    → front ≡ drop p.spans.len held → FindsBody framing front old body rest new (Err e) → FindsReply h held old rest new (Err (heard_of_body e))
+pub fault_behind : (h : Bool) (held slice front body rest : List ℕ) (old new : SourceState) (p : ParsedResponse)
+    (framing : ResponseFraming) (e : BodyFault) → IsHeadAtFront response_spans held p → slice ≡ held
+    → Ok framing ≡ framing_of max_answer h p.spans.code (fields_of response_spans (take p.spans.len slice) p)
+    → front ≡ drop p.spans.len held → FindsBody framing front old body rest new (Err e)
+    → FindsReply h held old rest new (Err (heard_of_body e))
 fault_behind h held slice front body rest old new p framing e f slice_is is front_is b = λ keep.
     body_fault_found h held rest body old new keep p framing f (framing_at h held slice p (Ok framing) slice_is is) e
     (subst (λ t. FindsBody framing t old body rest new (Err e)) front_is b)
 
 -- a body that goes on behind the limit
-pub long_behind : (h : Bool) (held slice front body rest : List ℕ) (old new : SourceState) (p : ParsedResponse) (framing : ResponseFraming)
-    → IsHeadAtFront response_spans held p → slice ≡ held → Ok framing ≡ framing_of max_answer h p.spans.code (fields_of response_spans (take p.spans.len slice) p)
-    → front ≡ drop p.spans.len held → FindsBody framing front old body rest new (Ok TooLarge) → FindsReply h held old rest new (Err Fault.TooLarge)
+pub long_behind : (h : Bool) (held slice front body rest : List ℕ) (old new : SourceState) (p : ParsedResponse)
+    (framing : ResponseFraming) → IsHeadAtFront response_spans held p → slice ≡ held
+    → Ok framing ≡ framing_of max_answer h p.spans.code (fields_of response_spans (take p.spans.len slice) p)
+    → front ≡ drop p.spans.len held → FindsBody framing front old body rest new (Ok TooLarge)
+    → FindsReply h held old rest new (Err Fault.TooLarge)
 long_behind h held slice front body rest old new p framing f slice_is is front_is b = λ keep.
     long_body_found h held rest body old new keep p framing f (framing_at h held slice p (Ok framing) slice_is is)
     (subst (λ t. FindsBody framing t old body rest new (Ok TooLarge)) front_is b)
 
 -- a body behind the head
-pub reply_behind : (h : Bool) (held slice front body seen rest : List ℕ) (old new : SourceState) (keep : Bool) (p : ParsedResponse) (framing : ResponseFraming)
+pub reply_behind : (h : Bool) (held slice front body seen rest : List ℕ) (old new : SourceState) (keep : Bool)
+    (p : ParsedResponse) (framing : ResponseFraming)
     (r : Result Heard SaidFault)
-    → IsHeadAtFront response_spans held p → slice ≡ held → Ok framing ≡ framing_of max_answer h p.spans.code (fields_of response_spans (take p.spans.len slice) p)
+    → IsHeadAtFront response_spans held p → slice ≡ held
+    → Ok framing ≡ framing_of max_answer h p.spans.code (fields_of response_spans (take p.spans.len slice) p)
     → front ≡ drop p.spans.len held → FindsBody framing front old body rest new (Ok Whole) → seen ≡ body
     → Says p.spans.code (fields_of response_spans (take p.spans.len slice) p) seen r
-    → keep ≡ keeps_on p.spans.version (fields_of response_spans (take p.spans.len slice) p) framing → ReadsAnswer h held old rest new (heard_by r) keep
+    → keep ≡ keeps_on p.spans.version (fields_of response_spans (take p.spans.len slice) p) framing
+    → ReadsAnswer h held old rest new (heard_by r) keep
 reply_behind h held slice front body seen rest old new keep p framing r f slice_is is front_is b seen_is says keeps =
-    let at_slice = subst (λ t. Says p.spans.code (fields_of response_spans (take p.spans.len t) p) seen r) slice_is says in
+    let at_slice =
+    subst (λ t. Says p.spans.code (fields_of response_spans (take p.spans.len t) p) seen r) slice_is says in
     reply_found h held rest body old new keep p framing f (framing_at h held slice p (Ok framing) slice_is is) r
     (subst (λ t. FindsBody framing t old body rest new (Ok Whole)) front_is b)
     (subst (λ t. Says p.spans.code (fields_of response_spans (take p.spans.len held) p) t r) seen_is at_slice)
-    (subst (λ t. keep ≡ keeps_on p.spans.version (fields_of response_spans (take p.spans.len t) p) framing) slice_is keeps)
+    (subst (λ t. keep ≡ keeps_on p.spans.version (fields_of response_spans (take p.spans.len t) p) framing) slice_is
+    keeps)
 
 -- what a reply says that isn't heard, whether or not the connection stays
-pub unheard_behind : (h : Bool) (held slice front body seen rest : List ℕ) (old new : SourceState) (p : ParsedResponse) (framing : ResponseFraming) (e : SaidFault)
-    → IsHeadAtFront response_spans held p → slice ≡ held → Ok framing ≡ framing_of max_answer h p.spans.code (fields_of response_spans (take p.spans.len slice) p)
+pub unheard_behind : (h : Bool) (held slice front body seen rest : List ℕ) (old new : SourceState) (p : ParsedResponse)
+    (framing : ResponseFraming) (e : SaidFault) → IsHeadAtFront response_spans held p → slice ≡ held
+    → Ok framing ≡ framing_of max_answer h p.spans.code (fields_of response_spans (take p.spans.len slice) p)
     → front ≡ drop p.spans.len held → FindsBody framing front old body rest new (Ok Whole) → seen ≡ body
-    → Says p.spans.code (fields_of response_spans (take p.spans.len slice) p) seen (Err e) → FindsReply h held old rest new (Err (heard_of_said e))
+    → Says p.spans.code (fields_of response_spans (take p.spans.len slice) p) seen (Err e)
+    → FindsReply h held old rest new (Err (heard_of_said e))
 unheard_behind h held slice front body seen rest old new p framing e f slice_is is front_is b seen_is says =
-    let told = reply_behind h held slice front body seen rest old new (keeps_on p.spans.version (fields_of response_spans (take p.spans.len slice) p) framing) p framing (Err e)
+    let told =
+    reply_behind h held slice front body seen rest old new
+    (keeps_on p.spans.version (fields_of response_spans (take p.spans.len slice) p) framing) p framing (Err e)
     f slice_is is front_is b seen_is says refl in
-    λ keep. record { given = told.given; gives = told.gives; found = any_keep h (held ++ told.given) rest new (heard_of_said e) _ keep told.found }
+    λ keep. record {
+      given = told.given;
+      gives = told.gives;
+      found = any_keep h (held ++ told.given) rest new (heard_of_said e) _ keep told.found;
+    }
 
 -- reads before it
-pub reads_after : (h : Bool) (held text rest : List ℕ) (old mid new : SourceState) (r : Result Heard HeardFault) (keep : Bool)
-    → Gave old mid held text → ReadsAnswer h text mid rest new r keep → ReadsAnswer h held old rest new r keep
+pub reads_after : (h : Bool) (held text rest : List ℕ) (old mid new : SourceState) (r : Result Heard HeardFault)
+    (keep : Bool) → Gave old mid held text → ReadsAnswer h text mid rest new r keep
+    → ReadsAnswer h held old rest new r keep
 reads_after h held text rest old mid new r keep gave next = record {
   given = gave.given ++ next.given;
   gives = gives_both old mid new gave.given next.given gave.gives next.gives;
-  found = subst (λ t. FindsAnswer h t rest new r keep) (ap (λ t. t ++ next.given) gave.joined ∙ append_assoc held gave.given next.given) next.found;
+  found =
+      subst (λ t. FindsAnswer h t rest new r keep)
+      (ap (λ t. t ++ next.given) gave.joined ∙ append_assoc held gave.given next.given) next.found;
 }
 
 pub finds_after : (h : Bool) (held text rest : List ℕ) (old mid new : SourceState) (r : Result ReplyRead HeardFault)
     → Gave old mid held text → FindsReply h text mid rest new r → FindsReply h held old rest new r
-finds_after h held text rest old mid new (Ok reply) gave next = reads_after h held text rest old mid new (Ok reply.heard) reply.keep gave next
-finds_after h held text rest old mid new (Err e) gave next = λ keep. reads_after h held text rest old mid new (Err e) keep gave (next keep)
+finds_after h held text rest old mid new (Ok reply) gave next =
+    reads_after h held text rest old mid new (Ok reply.heard) reply.keep gave next
+finds_after h held text rest old mid new (Err e) gave next =
+    λ keep. reads_after h held text rest old mid new (Err e) keep gave (next keep)
 
 -- a fault in what was read
 pub found_after : (h : Bool) (held text rest : List ℕ) (old new : SourceState) (e : HeardFault)
-    → Gave old new held text → ((keep : Bool) → FindsAnswer h text rest new (Err e) keep) → FindsReply h held old rest new (Err e)
+    → Gave old new held text → ((keep : Bool) → FindsAnswer h text rest new (Err e) keep)
+    → FindsReply h held old rest new (Err e)
 found_after h held text rest old new e gave found = λ keep.
-    record { given = gave.given; gives = gave.gives; found = subst (λ t. FindsAnswer h t rest new (Err e) keep) gave.joined (found keep) }
+    record {
+      given = gave.given;
+      gives = gave.gives;
+      found = subst (λ t. FindsAnswer h t rest new (Err e) keep) gave.joined (found keep);
+    }
 
 -- there is no head in no byte
-pub unfinished : (text : List ℕ) → (text ≡ []) ⊎ ((0 < length text) × IsUnfinished responses text) → IsUnfinished responses text
+pub unfinished : (text : List ℕ) → (text ≡ []) ⊎ ((0 < length text) × IsUnfinished responses text)
+    → IsUnfinished responses text
 unfinished text (inl e) = record {
   short = let l = ap length e in omega (arith, l);
   none = subst (HasNone responses) (sym e) (none_at_start responses response_ends);
@@ -282,7 +357,8 @@ pub head_over : (h : Bool) (text rest : List ℕ) (new : SourceState) → (text 
     → (keep : Bool) → FindsAnswer h text rest new (Err Fault.Truncated) keep
 head_over h text rest new b = λ keep. (b.1, inl (unfinished text (inl b.0)))
 
-pub head_fault : (h : Bool) (text rest : List ℕ) (new : SourceState) (fault : InputFault) → FindsHead response_spans text new (Err fault)
-    → (keep : Bool) → FindsAnswer h text rest new (Err (heard_of_input fault)) keep
+pub head_fault : (h : Bool) (text rest : List ℕ) (new : SourceState) (fault : InputFault)
+    → FindsHead response_spans text new (Err fault) → (keep : Bool)
+    → FindsAnswer h text rest new (Err (heard_of_input fault)) keep
 head_fault h text rest new Input.Truncated b = λ keep. (b.1, inl b.0.1)
 head_fault h text rest new Input.Read b = λ keep. inl (unfinished text b)

@@ -10,11 +10,13 @@ use Rattle.upload_service.specs.declared.ask.Ask.{Ask}
 use Rattle.upload_service.specs.declared.ask.Ask.TheVariants.{Single, Mount, Chunk, Status, Close}
 use Rattle.upload_service.specs.declared.ask.Extent.{Extent}
 use Rattle.upload_service.specs.declared.ask.Extent.TheVariants.{Given}
-use Rattle.upload_client.specs.AskText.{message_of, request_line, query_text, digest_or_nothing, digest_query, section_text, range_fields, body_fields, ask_text, host_text}
+use Rattle.upload_client.specs.AskText.{message_of, request_line, query_text, digest_or_nothing, digest_query}
+use Rattle.upload_client.specs.AskText.{section_text, range_fields, body_fields, ask_text, host_text}
 use Rattle.http_wire.specs.HeadText.{print_field}
 
 pub single_line : (name : List ℕ) (digest : Option Digest) (body : List ℕ)
-    → codes "POST" ++ (codes " /v2/" ++ (name ++ (codes "/blobs/uploads/" ++ (codes "?digest=" ++ digest_or_nothing digest))))
+    → codes "POST"
+    ++ (codes " /v2/" ++ (name ++ (codes "/blobs/uploads/" ++ (codes "?digest=" ++ digest_or_nothing digest))))
     ≡ request_line (message_of (Single name digest body))
 single_line name digest body = simp append_assoc
 
@@ -25,15 +27,18 @@ pub mount_put : (before name : List ℕ) (digest : Digest) (source : List ℕ)
 mount_put before name digest source = simp append_assoc
 
 pub chunk_line : (name at : List ℕ) (range : Extent) (body text : List ℕ) → text ≡ reference_text at
-    → codes "PATCH" ++ (codes " /v2/" ++ (name ++ (codes "/blobs/uploads/" ++ text))) ≡ request_line (message_of (Chunk name at range body))
+    → codes "PATCH" ++ (codes " /v2/" ++ (name ++ (codes "/blobs/uploads/" ++ text)))
+    ≡ request_line (message_of (Chunk name at range body))
 chunk_line name at range body text e = rw e (simp (append_assoc, append-nil))
 
 pub status_line : (name at text : List ℕ) → text ≡ reference_text at
-    → codes "GET" ++ (codes " /v2/" ++ (name ++ (codes "/blobs/uploads/" ++ text))) ≡ request_line (message_of (Status name at))
+    → codes "GET" ++ (codes " /v2/" ++ (name ++ (codes "/blobs/uploads/" ++ text)))
+    ≡ request_line (message_of (Status name at))
 status_line name at text e = rw e (simp (append_assoc, append-nil))
 
-pub close_line : (before name at : List ℕ) (range : Extent) (digest : Option Digest) (body text : List ℕ) → text ≡ reference_text at
-    → (before ++ (codes "PUT" ++ (codes " /v2/" ++ (name ++ (codes "/blobs/uploads/" ++ text))))) ++ query_text (digest_query digest)
+pub close_line : (before name at : List ℕ) (range : Extent) (digest : Option Digest) (body text : List ℕ) → text
+    ≡ reference_text at → (before ++ (codes "PUT" ++ (codes " /v2/" ++ (name ++ (codes "/blobs/uploads/" ++ text)))))
+    ++ query_text (digest_query digest)
     ≡ before ++ request_line (message_of (Close name at range digest body))
 close_line before name at range digest body text e = rw e (simp append_assoc)
 
@@ -48,7 +53,8 @@ pub upload_section : (before : List ℕ) (range : Extent) (body : List ℕ)
 upload_section before range body = simp (append_assoc, flat_map-append)
 
 pub whole_text : (ask : Ask) (host body : List ℕ) → body ≡ (message_of ask).body
-    → (([] ++ request_line (message_of ask)) ++ host_text host) ++ section_text (message_of ask).fields ++ body ≡ ask_text ask host
+    → (([] ++ request_line (message_of ask)) ++ host_text host) ++ section_text (message_of ask).fields ++ body
+    ≡ ask_text ask host
 whole_text ask host body e = rw e (simp append_assoc)
 
 pub whole_chunk : (name at : List ℕ) (range : Extent) (body host text : List ℕ) → text ≡ reference_text at
@@ -56,6 +62,7 @@ pub whole_chunk : (name at : List ℕ) (range : Extent) (body host text : List �
     ++ section_text (range_fields range ++ body_fields body) ++ body
     ≡ ask_text (Chunk name at range body) host
 whole_chunk name at range body host text e =
-    ap (λ (line : List ℕ). (([] ++ line) ++ host_text host) ++ section_text (range_fields range ++ body_fields body) ++ body)
+    ap (λ (line : List ℕ). (([] ++ line) ++ host_text host)
+    ++ section_text (range_fields range ++ body_fields body) ++ body)
     (chunk_line name at range body text e)
     ∙ whole_text (Chunk name at range body) host body refl

@@ -1,5 +1,6 @@
 -- What stands behind a front of a text.
-use Rattle.std.proofs.Common.{◌≡◌, ◌≢◌, ℕ, ◌+◌, Bool, true, false, List, ◌++◌, length, drop, refl, sym, ap, ◌∙◌, append_assoc, if◌then◌else◌}
+use Rattle.std.proofs.Common.{◌≡◌, ◌≢◌, ℕ, ◌+◌, Bool, true, false, List, ◌++◌, length, drop, refl, sym, ap, ◌∙◌}
+use Rattle.std.proofs.Common.{append_assoc, if◌then◌else◌}
 use Rattle.std.specs.Prelude.{Option, Some, None, option_and_then, nat_eq}
 use Rattle.std.specs.List.{starts_with}
 use Rattle.std.proofs.lemmas.Bool.{false≢true}
@@ -13,7 +14,8 @@ abbrev pub IsAfter : List ℕ → List ℕ → Option (List ℕ) → Type 0
 IsAfter front text None = (rest : List ℕ) → text ≢ front ++ rest
 IsAfter front text (Some rest) = text ≡ front ++ rest
 
-decided : (front text : List ℕ) (b : Bool) → b ≡ starts_with nat_eq text front → IsAfter front text (if b then Some (drop (length front) text) else None)
+decided : (front text : List ℕ) (b : Bool) → b ≡ starts_with nat_eq text front
+    → IsAfter front text (if b then Some (drop (length front) text) else None)
 decided front text true e = (starts_is Decides-eqb text front true e).0 refl
 decided front text false e = λ rest cut. false≢true ((starts_is Decides-eqb text front false e).1 rest cut)
 
@@ -26,7 +28,8 @@ IsAfter-unique front text None (Some rest) h k = absurd (h rest k)
 IsAfter-unique front text (Some rest) None h k = absurd (k rest h)
 IsAfter-unique front text (Some rest) (Some other) h k = ap Some (append_cancel_left front rest other (sym h ∙ k))
 
-then_after : (a b text : List ℕ) (m : Option (List ℕ)) → IsAfter a text m → IsAfter (a ++ b) text (option_and_then (after_front b) m)
+then_after : (a b text : List ℕ) (m : Option (List ℕ)) → IsAfter a text m
+    → IsAfter (a ++ b) text (option_and_then (after_front b) m)
 then_after a b text None h = λ rest cut. h (b ++ rest) (cut ∙ append_assoc a b rest)
 then_after a b text (Some m) h = go (after_front b m) (after_front_is b m) where
   go : (o : Option (List ℕ)) → IsAfter b m o → IsAfter (a ++ b) text o
@@ -34,9 +37,12 @@ then_after a b text (Some m) h = go (after_front b m) (after_front_is b m) where
   go (Some rest) k = h ∙ ap (λ t. a ++ t) k ∙ sym (append_assoc a b rest)
 
 -- a front of two parts is taken one part after the other
-pub after_front-append : (a b text : List ℕ) → after_front (a ++ b) text ≡ option_and_then (after_front b) (after_front a text)
+pub after_front-append : (a b text : List ℕ)
+    → after_front (a ++ b) text ≡ option_and_then (after_front b) (after_front a text)
 after_front-append a b text =
-    IsAfter-unique (a ++ b) text _ _ (after_front_is (a ++ b) text) (then_after a b text (after_front a text) (after_front_is a text))
+    IsAfter-unique (a ++ b) text _ _ (after_front_is (a ++ b) text)
+    (then_after a b text (after_front a text) (after_front_is a text))
 
 pub after_front-front : (front rest : List ℕ) → after_front front (front ++ rest) ≡ Some rest
-after_front-front front rest = IsAfter-unique front (front ++ rest) _ (Some rest) (after_front_is front (front ++ rest)) refl
+after_front-front front rest =
+    IsAfter-unique front (front ++ rest) _ (Some rest) (after_front_is front (front ++ rest)) refl

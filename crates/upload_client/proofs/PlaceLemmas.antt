@@ -9,15 +9,19 @@ use Rattle.upload_texts.specs.Paths.{upload_path}
 use Rattle.upload_client.proofs.PlaceFronts.{after_front-append, after_front-front}
 
 pub read_steps : (path name : List ℕ) (named kind reference : Option (List ℕ)) → named ≡ after_front (codes "/v2/") path
-    → kind ≡ option_and_then (after_front name) named → reference ≡ option_and_then (after_front (codes "/blobs/uploads/")) kind
+    → kind ≡ option_and_then (after_front name) named
+    → reference ≡ option_and_then (after_front (codes "/blobs/uploads/")) kind
     → option_and_then reference_of reference ≡ place_in path name
 unfolding place_in
 read_steps path name named kind reference e f g =
     let uploads = codes "/blobs/uploads/" in
     let whole : after_front (upload_path name []) path ≡ option_and_then (after_front (name ++ uploads)) named =
     ap (λ t. after_front (codes "/v2/" ++ (name ++ t)) path) (append-nil uploads)
-    ∙ after_front-append (codes "/v2/") (name ++ uploads) path ∙ ap (option_and_then (after_front (name ++ uploads))) (sym e) in
-    let parts : option_and_then (after_front (name ++ uploads)) named ≡ option_and_then (after_front uploads) (option_and_then (after_front name) named) = go named in
+    ∙ after_front-append (codes "/v2/") (name ++ uploads) path
+    ∙ ap (option_and_then (after_front (name ++ uploads))) (sym e) in
+    let parts : option_and_then (after_front (name ++ uploads)) named
+    ≡ option_and_then (after_front uploads) (option_and_then (after_front name) named) =
+    go named in
     sym (ap (option_and_then reference_of) (whole ∙ parts ∙ ap (option_and_then (after_front uploads)) (sym f) ∙ sym g))
   where
     go : (o : Option (List ℕ)) → option_and_then (after_front (name ++ codes "/blobs/uploads/")) o

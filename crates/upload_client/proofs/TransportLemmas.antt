@@ -10,13 +10,15 @@ use Rattle.upload_client.specs.declared.heard.Heard.{Heard}
 use Rattle.http_wire.specs.declared.writing.WriteFault.{WriteFault}
 
 -- a request that was written and what was heard behind it, where the host and the body were sliced
-pub exchanges : (old mid new : WireState) (ask : Ask) (host body : List ℕ) (goes empty head : Bool) (sent : SinkState) (written : Result ⊤ WriteFault)
+pub exchanges : (old mid new : WireState) (ask : Ask) (host body : List ℕ) (goes empty head : Bool) (sent : SinkState)
+    (written : Result ⊤ WriteFault)
     (heard : Option Heard)
     → mid ≡ old → goes ≡ stays_open old → goes ≡ true → host ≡ mid.host → new.host ≡ mid.host
     → Wrote mid.writer sent (ask_text ask host) written → OnOk written (IsTrue sent.flushed) → new.writer ≡ sent
     → empty ≡ (length body == 0) → body ≡ (message_of ask).body → head ≡ wants_head ask
     → HearsBehind written (not empty) head mid.reader heard new.reader new.broken → AsksOverWire old ask heard new
-exchanges old mid new ask host body goes empty head sent written heard old_is goes_is open_now host_is same_host wrote flushed sent_is empty_is body_is head_is hears =
+exchanges old mid new ask host body goes empty head sent written heard old_is goes_is open_now host_is same_host wrote
+    flushed sent_is empty_is body_is head_is hears =
     let text = subst (λ h. Wrote mid.writer sent (ask_text ask h) written) host_is wrote in
     let bodied = ap not (empty_is ∙ ap (λ (b : List ℕ). length b == 0) body_is) in
     let heard_behind = subst (λ h. HearsBehind written (has_body ask) h mid.reader heard new.reader new.broken) head_is
@@ -28,4 +30,5 @@ exchanges old mid new ask host body goes empty head sent written heard old_is go
       hears = heard_behind;
       same_host = same_host;
     } in
-    subst (λ b. AsksWhere b old ask heard new) (sym open_now ∙ goes_is) (subst (λ o. AsksWhere true o ask heard new) old_is asked)
+    subst (λ b. AsksWhere b old ask heard new) (sym open_now ∙ goes_is)
+    (subst (λ o. AsksWhere true o ask heard new) old_is asked)

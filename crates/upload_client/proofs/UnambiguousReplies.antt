@@ -1,5 +1,6 @@
 -- A text begins with at most one reply.
-use Rattle.std.proofs.Common.{◌≡◌, ◌≢◌, ℕ, ◌<◌, ◌≤◌, Bool, List, [], ◌++◌, length, refl, sym, ap, subst, subst₂, ◌∙◌, arith, append-nil, length-append, inl, inr}
+use Rattle.std.proofs.Common.{◌≡◌, ◌≢◌, ℕ, ◌<◌, ◌≤◌, Bool, List, [], ◌++◌, length, refl, sym, ap, subst, subst₂, ◌∙◌}
+use Rattle.std.proofs.Common.{arith, append-nil, length-append, inl, inr}
 use Rattle.std.specs.Prelude.{◌⊎◌, Option, Some, None, Result, Ok, Err}
 use Rattle.httparse.specs.Grammar.{ResponseHead, status_code}
 use Rattle.http_wire.specs.Fronts.{responses}
@@ -9,8 +10,10 @@ use Rattle.http_wire.specs.Unambiguous.{HeadParse, head, long, unfinished, Begin
 use Rattle.http_wire.proofs.ChunkLemmas.{same_front}
 use Rattle.http_wire.proofs.UnambiguousHeads.{responses_unambiguous}
 use Rattle.http_wire.specs.ResponseBody.{IsBody, framing_of, keeps_on}
-use Rattle.upload_client.specs.AnswerText.{max_answer, IsPlaceOf, location, IsHeard, IsMisplaced, IsWhole, HasFramingFault}
-use Rattle.upload_client.specs.UnambiguousReplies.{ReplyParse, heard, refused, unreadable, too_large, cut, ParsesAs, RepliesAreUnambiguous}
+use Rattle.upload_client.specs.AnswerText.{max_answer, IsPlaceOf, location, IsHeard, IsMisplaced, IsWhole}
+use Rattle.upload_client.specs.AnswerText.{HasFramingFault}
+use Rattle.upload_client.specs.UnambiguousReplies.{ReplyParse, heard, refused, unreadable, too_large, cut, ParsesAs}
+use Rattle.upload_client.specs.UnambiguousReplies.{RepliesAreUnambiguous}
 use Rattle.http_wire.specs.declared.responses.framing.ResponseFraming.{ResponseFraming}
 use Rattle.http_wire.specs.declared.responses.framing.ResponseFraming.TheVariants.{Length, ToEnd}
 use Rattle.upload_client.specs.declared.heard.Heard.{Heard}
@@ -29,7 +32,8 @@ place_not_bad : (value a : Option (List ℕ)) → IsPlaceOf value (Ok a) → IsP
 place_not_bad None a x y = absurd (cc)
 place_not_bad (Some value) a x y = y.1 _ _ _ x.1
 
-heard_unique : (status : ℕ) (fields : Fields) (body : List ℕ) (a b : Heard) → IsHeard status fields body a → IsHeard status fields body b → a ≡ b
+heard_unique : (status : ℕ) (fields : Fields) (body : List ℕ) (a b : Heard) → IsHeard status fields body a
+    → IsHeard status fields body b → a ≡ b
 heard_unique status fields body a b x y =
     let statuses : a.status ≡ b.status = x.status_is ∙ sym y.status_is in
     let places : a.place ≡ b.place = place_unique (location fields) a.place b.place x.place_is y.place_is in
@@ -39,22 +43,27 @@ heard_unique status fields body a b x y =
     let codes : a.code ≡ b.code = x.code_is ∙ sym y.code_is in
     λ i. record { status = statuses i; place = places i; upto = uptos i; code = codes i }
 
-heard_not_misplaced : (status : ℕ) (fields : Fields) (body : List ℕ) (a : Heard) → IsHeard status fields body a → IsMisplaced fields → ⊥
+heard_not_misplaced : (status : ℕ) (fields : Fields) (body : List ℕ) (a : Heard) → IsHeard status fields body a
+    → IsMisplaced fields → ⊥
 heard_not_misplaced status fields body a x (inl place) = place_not_bad (location fields) a.place x.place_is place
 heard_not_misplaced status fields body a x (inr upto) = let one = x.upto_is in absurd (cc)
 
 -- what a whole reply with this body, and then rest, makes of the text
 abbrev Says : ResponseHead → ResponseFraming → List ℕ → List ℕ → ReplyParse → Type 0
 Says h framing body rest p =
-    ((a : Heard) × IsHeard (status_code h) (head_fields h.fields) body a × (p ≡ heard a (keeps_on h.minor (head_fields h.fields) framing) rest))
+    ((a : Heard) × IsHeard (status_code h) (head_fields h.fields) body a
+    × (p ≡ heard a (keeps_on h.minor (head_fields h.fields) framing) rest))
     ⊎ (IsMisplaced (head_fields h.fields) × (p ≡ unreadable))
 
-says_one : (h : ResponseHead) (framing : ResponseFraming) (body rest : List ℕ) (p q : ReplyParse) → Says h framing body rest p → Says h framing body rest q → p ≡ q
+says_one : (h : ResponseHead) (framing : ResponseFraming) (body rest : List ℕ) (p q : ReplyParse)
+    → Says h framing body rest p → Says h framing body rest q → p ≡ q
 says_one h framing body rest p q (inl x) (inl y) =
     let same = heard_unique (status_code h) (head_fields h.fields) body x.0 y.0 x.1 y.1 in
     x.2 ∙ ap (λ a. heard a (keeps_on h.minor (head_fields h.fields) framing) rest) same ∙ sym y.2
-says_one h framing body rest p q (inl x) (inr y) = absurd (heard_not_misplaced _ (head_fields h.fields) body x.0 x.1 y.0)
-says_one h framing body rest p q (inr x) (inl y) = absurd (heard_not_misplaced _ (head_fields h.fields) body y.0 y.1 x.0)
+says_one h framing body rest p q (inl x) (inr y) =
+    absurd (heard_not_misplaced _ (head_fields h.fields) body x.0 x.1 y.0)
+says_one h framing body rest p q (inr x) (inl y) =
+    absurd (heard_not_misplaced _ (head_fields h.fields) body y.0 y.1 x.0)
 says_one h framing body rest p q (inr x) (inr y) = x.1 ∙ sym y.1
 
 -- ---- what stands behind a head
@@ -73,14 +82,17 @@ FromEnd most h behind p =
 abbrev FromFraming : ResponseHead → Result ResponseFraming FramingFault → List ℕ → ReplyParse → Type 0
 FromFraming h (Ok (Length n)) behind p = FromSized n h behind p
 FromFraming h (Ok (ToEnd most)) behind p = FromEnd most h behind p
-FromFraming h (Err fault) behind p = ((fault ≡ Fault.Unreadable) × (p ≡ unreadable)) ⊎ ((fault ≡ Fault.TooLarge) × (p ≡ too_large))
+FromFraming h (Err fault) behind p =
+    ((fault ≡ Fault.Unreadable) × (p ≡ unreadable)) ⊎ ((fault ≡ Fault.TooLarge) × (p ≡ too_large))
 
 abbrev FromHead : Bool → HeadParse responses → ReplyParse → Type 0
-FromHead head_only (head h behind) p = FromFraming h (framing_of max_answer head_only (status_code h) (head_fields h.fields)) behind p
+FromHead head_only (head h behind) p =
+    FromFraming h (framing_of max_answer head_only (status_code h) (head_fields h.fields)) behind p
 FromHead head_only long p = p ≡ too_large
 FromHead head_only unfinished p = p ≡ cut
 
-from_sized : (n : ℕ) (h : ResponseHead) (behind : List ℕ) (p q : ReplyParse) → FromSized n h behind p → FromSized n h behind q → p ≡ q
+from_sized : (n : ℕ) (h : ResponseHead) (behind : List ℕ) (p q : ReplyParse) → FromSized n h behind p
+    → FromSized n h behind q → p ≡ q
 from_sized n h behind p q (inl x) (inl y) = x.1 ∙ sym y.1
 from_sized n h behind p q (inl x) (inr y) =
     let short = x.0 in
@@ -96,7 +108,8 @@ from_sized n h behind p q (inr x) (inr y) =
     let same = same_front x.0 y.0 x.1 y.1 (x.3 ∙ sym y.3) (sym x.2 ∙ y.2) in
     says_one h (Length n) y.0 y.1 p q (subst₂ (λ body rest. Says h (Length n) body rest p) same.0 same.1 x.4) y.4
 
-from_end : (most : ℕ) (h : ResponseHead) (behind : List ℕ) (p q : ReplyParse) → FromEnd most h behind p → FromEnd most h behind q → p ≡ q
+from_end : (most : ℕ) (h : ResponseHead) (behind : List ℕ) (p q : ReplyParse) → FromEnd most h behind p
+    → FromEnd most h behind q → p ≡ q
 from_end most h behind p q (inl x) (inl y) = x.1 ∙ sym y.1
 from_end most h behind p q (inl x) (inr y) = let over = x.0 in let under = y.0 in absurd (omega (arith, over, under))
 from_end most h behind p q (inr x) (inl y) = let over = y.0 in let under = x.0 in absurd (omega (arith, over, under))
@@ -116,8 +129,10 @@ from_framing h (Ok (Length n)) behind p q x y = from_sized n h behind p q x y
 from_framing h (Ok (ToEnd most)) behind p q x y = from_end most h behind p q x y
 from_framing h (Err fault) behind p q x y = from_fault fault p q x y
 
-from_head : (head_only : Bool) (front : HeadParse responses) (p q : ReplyParse) → FromHead head_only front p → FromHead head_only front q → p ≡ q
-from_head head_only (head h behind) p q x y = from_framing h (framing_of max_answer head_only (status_code h) (head_fields h.fields)) behind p q x y
+from_head : (head_only : Bool) (front : HeadParse responses) (p q : ReplyParse) → FromHead head_only front p
+    → FromHead head_only front q → p ≡ q
+from_head head_only (head h behind) p q x y =
+    from_framing h (framing_of max_answer head_only (status_code h) (head_fields h.fields)) behind p q x y
 from_head head_only long p q x y = x ∙ sym y
 from_head head_only unfinished p q x y = x ∙ sym y
 
@@ -138,32 +153,40 @@ from_body h (ToEnd most) body rest new p is says =
     let small = is.0 in
     inr (omega (arith, long, small), subst₂ (λ b r. Says h (ToEnd most) b r p) all is.1 says)
 
-parsed_whole : (head_only : Bool) (text rest : List ℕ) (new : SourceState) (h : ResponseHead) (body : List ℕ) (p : ReplyParse)
+parsed_whole : (head_only : Bool) (text rest : List ℕ) (new : SourceState) (h : ResponseHead) (body : List ℕ)
+    (p : ReplyParse)
     (w : IsWhole head_only text rest new h body) → Says h w.framing body rest p → Parsed head_only text p
 parsed_whole head_only text rest new h body p w says = record {
   front = head h (body ++ rest);
   begins = w.framed.reads;
-  from = subst (λ r. FromFraming h r (body ++ rest) p) (sym w.framed.framed) (from_body h w.framing body rest new p w.is_body says);
+  from =
+      subst (λ r. FromFraming h r (body ++ rest) p) (sym w.framed.framed)
+      (from_body h w.framing body rest new p w.is_body says);
 }
 
-parsed_fault : (head_only : Bool) (text : List ℕ) (fault : FramingFault) (p : ReplyParse) → HasFramingFault head_only text fault
-    → ((fault ≡ Fault.Unreadable) × (p ≡ unreadable)) ⊎ ((fault ≡ Fault.TooLarge) × (p ≡ too_large)) → Parsed head_only text p
+parsed_fault : (head_only : Bool) (text : List ℕ) (fault : FramingFault) (p : ReplyParse)
+    → HasFramingFault head_only text fault
+    → ((fault ≡ Fault.Unreadable) × (p ≡ unreadable)) ⊎ ((fault ≡ Fault.TooLarge) × (p ≡ too_large))
+    → Parsed head_only text p
 parsed_fault head_only text fault p x why = record {
   front = head x.head x.rest;
   begins = x.framed.reads;
   from = subst (λ r. FromFraming x.head r x.rest p) (sym x.framed.framed) why;
 }
 
-parsed : (head_only : Bool) (text : List ℕ) (new : SourceState) (p : ReplyParse) → ParsesAs head_only text new p → p ≢ refused → Parsed head_only text p
+parsed : (head_only : Bool) (text : List ℕ) (new : SourceState) (p : ReplyParse) → ParsesAs head_only text new p
+    → p ≢ refused → Parsed head_only text p
 parsed head_only text new (heard what keep rest) x other =
     parsed_whole head_only text rest new x.head x.body (heard what keep rest) x.whole
     (inl (what, x.says, ap (λ k. heard what k rest) x.keeps))
 parsed head_only text new refused x other = absurd (other refl)
-parsed head_only text new unreadable (inl x) other = parsed_fault head_only text Fault.Unreadable unreadable x (inl (refl, refl))
+parsed head_only text new unreadable (inl x) other =
+    parsed_fault head_only text Fault.Unreadable unreadable x (inl (refl, refl))
 parsed head_only text new unreadable (inr x) other =
     parsed_whole head_only text x.0 new x.1.head x.1.body unreadable x.1.whole (inr (x.1.misplaced, refl))
 parsed head_only text new too_large (inl x) other = record { front = long; begins = x; from = refl }
-parsed head_only text new too_large (inr (inl x)) other = parsed_fault head_only text Fault.TooLarge too_large x (inr (refl, refl))
+parsed head_only text new too_large (inr (inl x)) other =
+    parsed_fault head_only text Fault.TooLarge too_large x (inr (refl, refl))
 parsed head_only text new too_large (inr (inr x)) other = record {
   front = head x.head x.rest;
   begins = x.framed.reads;

@@ -1,5 +1,6 @@
 -- A reply as a text: its head, its body, and what a client hears in them.
-use Rattle.std.specs.Prelude.{◌≡◌, ℕ, ◌+◌, ◌<◌, ◌≤◌, ◌⊎◌, Bool, ◌==◌, List, ◌++◌, length, codes, Option, Some, None, option_and_then, if◌then◌else◌, Result, Ok, Err, ⊤}
+use Rattle.std.specs.Prelude.{◌≡◌, ℕ, ◌+◌, ◌<◌, ◌≤◌, ◌⊎◌, Bool, ◌==◌, List, ◌++◌, length, codes, Option, Some, None}
+use Rattle.std.specs.Prelude.{option_and_then, if◌then◌else◌, Result, Ok, Err, ⊤}
 use Rattle.std.specs.Str.{is_utf8}
 use Rattle.httparse.specs.Grammar.{ResponseHead, status_code}
 use Rattle.http_uri.specs.declared.uri.Uri.{Uri}
@@ -47,7 +48,8 @@ upto_of (Some value) = last_from_zero (range_of value)
 
 -- the `code` of the first item of `errors`
 abbrev pub code_in : Data → Option (List ℕ)
-code_in d = option_and_then as_str (option_and_then (get (codes "code")) (option_and_then (at 0) (get (codes "errors") d)))
+code_in d =
+    option_and_then as_str (option_and_then (get (codes "code")) (option_and_then (at 0) (get (codes "errors") d)))
 
 -- the first error code of a body, where it is JSON
 abbrev pub code_of : List ℕ → Option (List ℕ)
@@ -75,19 +77,22 @@ IsMisplaced fields =
 
 -- the text begins with a head whose body goes so far, and then comes rest
 pub record ReadsFramed
-    (head_only : Bool) (text : List ℕ) (framing : Result ResponseFraming FramingFault) (head : ResponseHead) (rest : List ℕ)
+    (head_only : Bool) (text : List ℕ) (framing : Result ResponseFraming FramingFault)
+    (head : ResponseHead) (rest : List ℕ)
     : Type 0 where
   pub reads : ReadsHead responses text head rest
   pub framed : framing_of max_answer head_only (status_code head) (head_fields head.fields) ≡ framing
 
 -- a whole reply and then rest
-pub record IsWhole (head_only : Bool) (text rest : List ℕ) (new : SourceState) (head : ResponseHead) (body : List ℕ) : Type 0 where
+pub record IsWhole (head_only : Bool) (text rest : List ℕ) (new : SourceState) (head : ResponseHead)
+    (body : List ℕ) : Type 0 where
   pub framing : ResponseFraming
   pub framed : ReadsFramed head_only text (Ok framing) head (body ++ rest)
   pub is_body : IsBody framing body rest new
 
 -- a reply of which this is heard, and which keeps the connection or doesn't
-pub record TellsHeard (head_only : Bool) (text rest : List ℕ) (new : SourceState) (heard : Heard) (keep : Bool) : Type 0 where
+pub record TellsHeard (head_only : Bool) (text rest : List ℕ) (new : SourceState) (heard : Heard)
+    (keep : Bool) : Type 0 where
   pub head : ResponseHead
   pub body : List ℕ
   pub whole : IsWhole head_only text rest new head body
@@ -135,29 +140,32 @@ pub record HasOpenBody (head_only : Bool) (text : List ℕ) : Type 0 where
 abbrev pub HoldsNone : Bool → List ℕ → Type 0
 HoldsNone head_only text = IsUnfinished responses text ⊎ (HasCutBody head_only text ⊎ HasOpenBody head_only text)
 
--- What was found in the text, where the reader holds rest and the source is left as new. Behind a fault nothing is said of whether the
--- connection stays.
+-- What was found in the text, where the reader holds rest and the source is left as new. Behind a fault nothing is said
+-- of whether the connection stays.
 abbrev pub FindsAnswer : Bool → List ℕ → List ℕ → SourceState → Result Heard HeardFault → Bool → Type 0
 FindsAnswer head_only text rest new (Ok heard) keep = TellsHeard head_only text rest new heard keep
 FindsAnswer head_only text rest new (Err Fault.Unreadable) keep =
-    IsRefused responses text ⊎ (HasFramingFault head_only text Framing.Unreadable ⊎ TellsMisplaced head_only text rest new)
+    IsRefused responses text
+    ⊎ (HasFramingFault head_only text Framing.Unreadable ⊎ TellsMisplaced head_only text rest new)
 FindsAnswer head_only text rest new (Err Fault.TooLarge) keep =
     IsTooLong responses text ⊎ (HasFramingFault head_only text Framing.TooLarge ⊎ HasLongBody head_only text)
-FindsAnswer head_only text rest new (Err Fault.Truncated) keep = HasEnded new × (IsUnfinished responses text ⊎ HasCutBody head_only text)
+FindsAnswer head_only text rest new (Err Fault.Truncated) keep =
+    HasEnded new × (IsUnfinished responses text ⊎ HasCutBody head_only text)
 FindsAnswer head_only text rest new (Err Fault.Read) keep = HoldsNone head_only text
 FindsAnswer head_only text rest new (Err Fault.NoMemory) keep = ⊤
 FindsAnswer head_only text rest new (Err Fault.Ended) keep = ⊥
 
 -- so many bytes were read, and this was found in what was held and read
 pub record ReadsAnswer
-    (head_only : Bool) (held : List ℕ) (old : SourceState) (rest : List ℕ) (new : SourceState) (r : Result Heard HeardFault) (keep : Bool)
+    (head_only : Bool) (held : List ℕ) (old : SourceState) (rest : List ℕ) (new : SourceState)
+    (r : Result Heard HeardFault) (keep : Bool)
     : Type 0 where
   pub given : List ℕ
   pub gives : Gives old new given
   pub found : FindsAnswer head_only (held ++ given) rest new r keep
 
--- what contracts see of a reader of replies: the bytes that were read and not taken, the source, whether a fault ended the reading,
--- and whether the connection stays behind the reply that was read last
+-- what contracts see of a reader of replies: the bytes that were read and not taken, the source, whether a fault ended
+-- the reading, and whether the connection stays behind the reply that was read last
 pub record AnswerReaderState : Type 0 where
   pub held : List ℕ
   pub source : SourceState

@@ -1,5 +1,6 @@
 -- The requests that a client writes (OCI Distribution Specification 1.1, section "Endpoints"; RFC 9112, section 3).
-use Rattle.std.specs.Prelude.{ℕ, ◌&&◌, nat_lt, Bool, bytes_eq, List, [], ◌∷◌, ◌++◌, length, codes, decimal, flat_map, Option, Some, None, if◌then◌else◌}
+use Rattle.std.specs.Prelude.{ℕ, ◌&&◌, nat_lt, Bool, bytes_eq, List, [], ◌∷◌, ◌++◌, length, codes, decimal, flat_map}
+use Rattle.std.specs.Prelude.{Option, Some, None, if◌then◌else◌}
 use Rattle.std.specs.List.{list_all}
 use Rattle.std.specs.Char.{is_ascii_graphic}
 use Rattle.httparse.specs.Ascii.{crlf_bytes}
@@ -7,7 +8,8 @@ use Rattle.upload_names.specs.Digest.{Digest, digest_text}
 use Rattle.upload_names.specs.ByteRange.{Span}
 use Rattle.upload_names.specs.Reference.{reference_text}
 use Rattle.upload_service.specs.declared.ask.Ask.{Ask}
-use Rattle.upload_service.specs.declared.ask.Ask.TheVariants.{Base, Has, Opening, Single, Mount, Chunk, Status, Close, Refused}
+use Rattle.upload_service.specs.declared.ask.Ask.TheVariants.{Base, Has, Opening, Single, Mount, Chunk, Status, Close}
+use Rattle.upload_service.specs.declared.ask.Ask.TheVariants.{Refused}
 use Rattle.upload_service.specs.declared.ask.Extent.{Extent}
 use Rattle.upload_service.specs.declared.ask.Extent.TheVariants.{Absent, Bad, Given}
 use Rattle.upload_client.specs.declared.transport.LentChunk.{LentChunk}
@@ -101,7 +103,8 @@ message_of (Single name digest body) = record {
   fields = body_fields body;
   body = body;
 }
-message_of (Mount name digest source) = post_message name (Some (codes "mount=" ++ (digest_text digest ++ (codes "&from=" ++ source))))
+message_of (Mount name digest source) =
+    post_message name (Some (codes "mount=" ++ (digest_text digest ++ (codes "&from=" ++ source))))
 message_of (Chunk name at range body) = record {
   method = codes "PATCH";
   path = upload_path name (reference_text at);

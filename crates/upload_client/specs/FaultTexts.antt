@@ -1,7 +1,8 @@
 -- What is told of a reply that can't be read.
 use Rattle.std.specs.Prelude.{List, ℕ, codes}
 use Rattle.upload_client.specs.declared.heard.HeardFault.{HeardFault}
-use Rattle.upload_client.specs.declared.heard.HeardFault.TheVariants.{Truncated, Read, NoMemory, Unreadable, TooLarge, Ended}
+use Rattle.upload_client.specs.declared.heard.HeardFault.TheVariants.{Truncated, Read, NoMemory, Unreadable, TooLarge}
+use Rattle.upload_client.specs.declared.heard.HeardFault.TheVariants.{Ended}
 
 abbrev pub heard_fault_text : HeardFault → List ℕ
 heard_fault_text Truncated = codes "the input ended inside a reply"

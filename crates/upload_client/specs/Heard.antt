@@ -1,12 +1,14 @@
 -- What a client hears in the reply to an answer: its status (RFC 9110, section 15), the path of its Location, the last
 -- position of its Range, and the first code of its body (OCI Distribution Specification 1.1, sections "Push" and
 -- "Error Codes").
-use Rattle.std.specs.Prelude.{◌≡◌, ℕ, ◌-◌, ◌<◌, ◌==◌, List, [], length, drop, nat_eq, All, Option, Some, None, option_and_then, if◌then◌else◌}
+use Rattle.std.specs.Prelude.{◌≡◌, ℕ, ◌-◌, ◌<◌, ◌==◌, List, [], length, drop, nat_eq, All, Option, Some, None}
+use Rattle.std.specs.Prelude.{option_and_then, if◌then◌else◌}
 use Rattle.std.specs.List.{starts_with}
 use Rattle.upload_names.specs.Digest.{digest_text}
 use Rattle.upload_names.specs.Reference.{reference_text, reference_of}
 use Rattle.upload_service.specs.declared.answer.Answer.{Answer}
-use Rattle.upload_service.specs.declared.answer.Answer.TheVariants.{Base, Blob, Begun, Stored, Taken, Standing, Misplaced, Refused, NoMemory}
+use Rattle.upload_service.specs.declared.answer.Answer.TheVariants.{Base, Blob, Begun, Stored, Taken, Standing}
+use Rattle.upload_service.specs.declared.answer.Answer.TheVariants.{Misplaced, Refused, NoMemory}
 use Rattle.upload_service.specs.declared.answer.Refusal.{Refusal}
 use Rattle.http_wire.specs.HeadText.{status_number}
 use Rattle.upload_texts.specs.Paths.{blob_path, upload_path}
@@ -45,7 +47,8 @@ abbrev pub reply_heard : Answer → Heard
 reply_heard Base = bare 200
 reply_heard (Blob digest size bytes) = bare 200
 reply_heard (Begun name at) = of_upload 202 name at 0
-reply_heard (Stored name digest) = record { status = 201; place = Some (blob_path name (digest_text digest)); upto = None; code = None }
+reply_heard (Stored name digest) =
+    record { status = 201; place = Some (blob_path name (digest_text digest)); upto = None; code = None }
 reply_heard (Taken name at next) = of_upload 202 name at next
 reply_heard (Standing name at next) = of_upload 204 name at next
 reply_heard (Misplaced name at next) = record (of_upload 416 name at next) { code = Some (code_text BlobUploadInvalid) }
@@ -64,4 +67,5 @@ place_in path name = option_and_then reference_of (after_front (upload_path name
 -- what is written as the place of an upload is read as its reference
 abbrev pub PlacesAreReadBack : Type 0
 PlacesAreReadBack =
-    (name at : List ℕ) → length at ≡ 16 → All (λ b. b < 256) at → place_in (upload_path name (reference_text at)) name ≡ Some at
+    (name at : List ℕ) → length at ≡ 16 → All (λ b. b < 256) at
+    → place_in (upload_path name (reference_text at)) name ≡ Some at

@@ -1,5 +1,6 @@
 -- One ask over a wire: a request is written, and one reply is heard.
-use Rattle.std.specs.Prelude.{◌≡◌, ℕ, Bool, true, false, not, ◌&&◌, ◌==◌, nat_lt, nat_le, List, length, IsTrue, OnOk, Option, Some, None, Result, Ok, Err, is_err, ⊤, if◌then◌else◌}
+use Rattle.std.specs.Prelude.{◌≡◌, ℕ, Bool, true, false, not, ◌&&◌, ◌==◌, nat_lt, nat_le, List, length, IsTrue, OnOk}
+use Rattle.std.specs.Prelude.{Option, Some, None, Result, Ok, Err, is_err, ⊤, if◌then◌else◌}
 use Rattle.std.specs.Result.{result_ok}
 use Rattle.upload_service.specs.declared.ask.Ask.{Ask}
 use Rattle.http_wire.specs.States.{SinkState}
@@ -12,7 +13,8 @@ use Rattle.upload_client.specs.declared.heard.Heard.{Heard}
 use Rattle.upload_client.specs.declared.heard.HeardFault.{HeardFault}
 use Rattle.upload_client.specs.declared.heard.HeardFault.TheVariants as Fault
 
--- what contracts see of a transport over a wire: its reader, what its writer holds, the host, and whether a fault broke it
+-- what contracts see of a transport over a wire: its reader, what its writer holds, the host, and whether a fault broke
+-- it
 pub record WireState : Type 0 where
   pub reader : AnswerReaderState
   pub writer : SinkState
@@ -24,8 +26,9 @@ abbrev pub GoesOn : Bool → AnswerReaderState → Type 0
 GoesOn true reader = Unit {0}
 GoesOn false reader = reader.ended ≡ false
 
--- Whether more can be asked: no fault broke the transport, the reply that was heard last keeps the connection, and the reader holds
--- no byte behind it. One that it holds came before the next request was written, and is no reply to that (RFC 9112, section 9.2).
+-- Whether more can be asked: no fault broke the transport, the reply that was heard last keeps the connection, and the
+-- reader holds no byte behind it. One that it holds came before the next request was written, and is no reply to that
+-- (RFC 9112, section 9.2).
 abbrev pub stays_open : WireState → Bool
 stays_open wire = not wire.broken && (wire.reader.keep && (length wire.reader.held == 0))
 
@@ -33,8 +36,8 @@ stays_open wire = not wire.broken && (wire.reader.keep && (length wire.reader.he
 abbrev pub has_body : Ask → Bool
 has_body ask = not (length (message_of ask).body == 0)
 
--- A status that refuses a request as it is, whatever the rest of it: 4xx. Not 408, which says that the request came too slowly and may
--- be sent again, and not 416, which leads on.
+-- A status that refuses a request as it is, whatever the rest of it: 4xx. Not 408, which says that the request came too
+-- slowly and may be sent again, and not 416, which leads on.
 abbrev pub is_refusal : ℕ → Bool
 is_refusal status = (nat_le 400 status && nat_lt status 500) && (not (status == 408) && not (status == 416))
 
@@ -44,21 +47,27 @@ refusal_in (Ok heard) = if is_refusal heard.status then Some heard else None
 refusal_in (Err fault) = None
 
 -- one reply was read; a failed read is Read, and nothing else is
-pub record ReadsReply (head_only : Bool) (old : AnswerReaderState) (reply : Result Heard HeardFault) (new : AnswerReaderState) : Type 0 where
+pub record ReadsReply (head_only : Bool) (old : AnswerReaderState) (reply : Result Heard HeardFault)
+    (new : AnswerReaderState) : Type 0 where
   pub read : ReadsAnswer head_only old.held old.source new.held new.source reply new.keep
   pub costs : Costs most_answer_reads (reply ≡ Err Fault.Read) old.source new.source
 
--- What is heard behind a request, by whether it was written whole and whether it has a body. Where it was, one reply is read and heard, and
--- a fault of it breaks the transport. Where a write failed the transport is broken in any case; behind a request with a body one reply
--- is read all the same, which the server may have sent before it closed, and a refusal is heard and nothing else.
-abbrev pub HearsBehind : Result ⊤ WriteFault → Bool → Bool → AnswerReaderState → Option Heard → AnswerReaderState → Bool → Type 0
+-- What is heard behind a request, by whether it was written whole and whether it has a body. Where it was, one reply is
+-- read and heard, and a fault of it breaks the transport. Where a write failed the transport is broken in any case;
+-- behind a request with a body one reply is read all the same, which the server may have sent before it closed, and a
+-- refusal is heard and nothing else.
+abbrev pub HearsBehind : Result ⊤ WriteFault → Bool → Bool → AnswerReaderState → Option Heard
+    → AnswerReaderState → Bool → Type 0
 HearsBehind (Ok u) body head_only old heard new broken =
-    (reply : Result Heard HeardFault) × ReadsReply head_only old reply new × (heard ≡ result_ok reply) × (broken ≡ is_err reply)
+    (reply : Result Heard HeardFault) × ReadsReply head_only old reply new × (heard ≡ result_ok reply)
+    × (broken ≡ is_err reply)
 HearsBehind (Err fault) true head_only old heard new broken =
-    (reply : Result Heard HeardFault) × ReadsReply head_only old reply new × (heard ≡ refusal_in reply) × (broken ≡ true)
+    (reply : Result Heard HeardFault) × ReadsReply head_only old reply new × (heard ≡ refusal_in reply)
+    × (broken ≡ true)
 HearsBehind (Err fault) false head_only old heard new broken = (heard ≡ None) × (new ≡ old) × (broken ≡ true)
 
--- the request was written and handed on, or a front of it was written where a write failed, and this was heard behind it
+-- the request was written and handed on, or a front of it was written where a write failed, and this was heard behind
+-- it
 pub record Exchanges (old : WireState) (ask : Ask) (heard : Option Heard) (new : WireState) : Type 0 where
   pub written : Result ⊤ WriteFault
   pub wrote : Wrote old.writer new.writer (ask_text ask old.host) written

@@ -7,8 +7,8 @@ use Rattle.upload_client.specs.AnswerText.{TellsHeard, TellsMisplaced, HasFramin
 use Rattle.upload_client.specs.declared.heard.Heard.{Heard}
 use Rattle.http_wire.specs.declared.responses.framing.FramingFault.TheVariants as Fault
 
--- what a text holds first: a reply of which this is heard, whether it keeps the connection, and then rest; one that is unreadable, by its
--- head or behind it; one that is too large; or a front of one
+-- what a text holds first: a reply of which this is heard, whether it keeps the connection, and then rest; one that is
+-- unreadable, by its head or behind it; one that is too large; or a front of one
 pub data ReplyParse : Type 0 where
   heard : Heard → Bool → List ℕ → ReplyParse
   refused : ReplyParse
@@ -22,12 +22,15 @@ ParsesAs head_only text new (heard what keep rest) = TellsHeard head_only text r
 ParsesAs head_only text new refused = IsRefused responses text
 ParsesAs head_only text new unreadable =
     HasFramingFault head_only text Fault.Unreadable ⊎ ((rest : List ℕ) × TellsMisplaced head_only text rest new)
-ParsesAs head_only text new too_large = IsTooLong responses text ⊎ (HasFramingFault head_only text Fault.TooLarge ⊎ HasLongBody head_only text)
+ParsesAs head_only text new too_large =
+    IsTooLong responses text ⊎ (HasFramingFault head_only text Fault.TooLarge ⊎ HasLongBody head_only text)
 ParsesAs head_only text new cut = IsUnfinished responses text ⊎ HasCutBody head_only text
 
--- A text is read in one way, but that its head may be refused too; and it is not where it begins with one of at most 66 lines.
+-- A text is read in one way, but that its head may be refused too; and it is not where it begins with one of at most 66
+-- lines.
 pub record RepliesAreUnambiguous : Type 0 where
   pub one : (head_only : Bool) (text : List ℕ) (new : SourceState) (parse other : ReplyParse)
-      → ParsesAs head_only text new parse → ParsesAs head_only text new other → parse ≢ refused → other ≢ refused → parse ≡ other
-  pub refused_head : (text : List ℕ) (head : ResponseHead) (rest : List ℕ) → ReadsHead responses text head rest → IsRefused responses text
-      → max_fields + 2 < line_feeds (print_response head)
+      → ParsesAs head_only text new parse → ParsesAs head_only text new other → parse ≢ refused
+      → other ≢ refused → parse ≡ other
+  pub refused_head : (text : List ℕ) (head : ResponseHead) (rest : List ℕ) → ReadsHead responses text head rest
+      → IsRefused responses text → max_fields + 2 < line_feeds (print_response head)

@@ -111,7 +111,8 @@ fn said_of(alloc: Global, head: &[u8], parsed: &ParsedResponse) -> Result<Heard,
 
 /// What a head said, and the code of the body.
 fn with_code(alloc: Global, said: Result<Heard, SaidFault>, body: &[u8]) -> Result<Heard, SaidFault>
-    ensures { (status : ℕ) (fields : Fields) → SaysBare status fields said → Says status fields body.now result }
+    ensures { (status : ℕ) (fields : Fields) → SaysBare status fields said
+        → Says status fields body.now result }
 {
     let said = said?;
     match code_of(alloc, body) {
@@ -164,7 +165,8 @@ fn read_answer<S: ByteSource>(
 ) -> Result<ReplyRead, HeardFault>
     ensures found { FindsReply head_only input.old.buffer.now (S.state input.old.source.now)
         input.new.buffer.now (S.state input.new.source.now) result }
-    ensures costs { ReadsAtMost S.state most_answer_reads (result ≡ Err HeardFault.Read) input.old input.new }
+    ensures costs { ReadsAtMost S.state most_answer_reads (result ≡ Err HeardFault.Read)
+        input.old input.new }
 {
     match read_head::<Responses, S>(input)? {
         HeadRead::Head(parsed) => read_framed(alloc, input, &parsed, head_only),
@@ -233,11 +235,14 @@ impl<S: ByteSource> AnswerReader<S> {
     /// `Read` comes only where a read failed in this call, before the reply had come whole, and
     /// `NoMemory` where a growth was refused.
     pub fn next_answer(&mut self, head: bool) -> Result<Heard, HeardFault>
-        ensures ended { self.old.ended ≡ true → (result ≡ Err HeardFault.Ended) × (self.new ≡ self.old) }
+        ensures ended { self.old.ended ≡ true
+            → (result ≡ Err HeardFault.Ended) × (self.new ≡ self.old) }
         ensures found { self.old.ended ≡ false
-            → ReadsAnswer head self.old.held self.old.source self.new.held self.new.source result self.new.keep }
+            → ReadsAnswer head self.old.held self.old.source self.new.held self.new.source
+            result self.new.keep }
         ensures ends { self.new.ended ≡ is_err result }
-        ensures costs { Costs most_answer_reads (result ≡ Err HeardFault.Read) self.old.source self.new.source }
+        ensures costs { Costs most_answer_reads (result ≡ Err HeardFault.Read) self.old.source
+            self.new.source }
     {
         if self.ended {
             return Err(HeardFault::Ended);
@@ -250,9 +255,9 @@ impl<S: ByteSource> AnswerReader<S> {
         Ok(reply.heard)
     }
 
-    /// Whether the connection stays behind the reply that was read last: its version is HTTP/1.1, no `Connection` field lists
-    /// `close`, and its body doesn't go to the end of the input (RFC 9112, sections 6.3 and 9.3). `true` before the first
-    /// reply; behind a fault it says nothing.
+    /// Whether the connection stays behind the reply that was read last: its version is HTTP/1.1, no `Connection` field
+    /// lists `close`, and its body doesn't go to the end of the input (RFC 9112, sections 6.3 and 9.3). `true` before
+    /// the first reply; behind a fault it says nothing.
     pub fn keeps_connection(&self) -> bool
         ensures { result ≡ self.now.keep }
     {

@@ -2,7 +2,9 @@
 ghost use Rattle.std.specs.Prelude.{◌≡◌, ◌++◌, List, ℕ, IsTrue, OnOk, Some, codes, flat_map};
 ghost use Rattle.http_wire.specs.Writing.{Wrote};
 ghost use Rattle.http_wire.specs.Inner.Gathering.{Puts};
-ghost use Rattle.upload_client.specs.AskText.{CanBeWritten, IsAbsentOrGiven, ask_of_chunk, ask_text, body_fields, digest_or_nothing, digest_query, host_text, is_host, look_method, message_of, query_text, range_fields, request_line, section_text};
+ghost use Rattle.upload_client.specs.AskText.{CanBeWritten, IsAbsentOrGiven, ask_of_chunk, ask_text, body_fields};
+ghost use Rattle.upload_client.specs.AskText.{digest_or_nothing, digest_query, host_text, is_host, look_method};
+ghost use Rattle.upload_client.specs.AskText.{message_of, query_text, range_fields, request_line, section_text};
 ghost use Rattle.http_wire.specs.HeadText.{print_field};
 
 use crate::transport::LentChunk;
@@ -19,7 +21,8 @@ use upload_service::{Ask, Extent};
 pub fn write_ask<W: ByteSink>(writer: &mut W, ask: &Ask, host: &[u8]) -> Result<(), WriteFault>
     requires writable { CanBeWritten ask.now }
     requires host { IsTrue (is_host host.now) }
-    ensures wrote { Wrote (W.state writer.old) (W.state writer.new) (ask_text ask.now host.now) result }
+    ensures wrote { Wrote (W.state writer.old) (W.state writer.new)
+        (ask_text ask.now host.now) result }
     ensures flushed { OnOk result (IsTrue ((W.state writer.new).flushed)) }
 {
     let mut head = Gather::new();
@@ -77,7 +80,8 @@ struct Target<'a> {
 /// Puts the method and the target.
 fn put_request_line<W: ByteSink>(head: &mut Gather, writer: &mut W, ask: &Ask)
     requires { CanBeWritten ask.now }
-    ensures { Puts (W.state writer.old) head.old (W.state writer.new) head.new (request_line (message_of ask.now)) }
+    ensures { Puts (W.state writer.old) head.old (W.state writer.new) head.new
+        (request_line (message_of ask.now)) }
 {
     match ask {
         Ask::Base => head.put(writer, b"GET /v2/"),
@@ -163,7 +167,8 @@ fn look_method(head: bool) -> &'static [u8]
 /// Puts a method and a target.
 fn put_target<W: ByteSink>(head: &mut Gather, writer: &mut W, method: &[u8], target: Target<'_>)
     ensures { Puts (W.state writer.old) head.old (W.state writer.new) head.new
-        (method.now ++ (codes " /v2/" ++ (target.entry.name.now ++ (target.entry.kind.now ++ target.entry.behind.now)))) }
+        (method.now ++ (codes " /v2/"
+        ++ (target.entry.name.now ++ (target.entry.kind.now ++ target.entry.behind.now)))) }
 {
     head.put(writer, method);
     head.put(writer, b" /v2/");
@@ -181,7 +186,8 @@ fn put_single<W: ByteSink>(
 )
     ensures { Puts (W.state writer.old) head.old
         (W.state writer.new) head.new
-        (codes "POST" ++ (codes " /v2/" ++ (name.now ++ (codes "/blobs/uploads/" ++ (codes "?digest=" ++ digest_or_nothing digest.now))))) }
+        (codes "POST" ++ (codes " /v2/" ++ (name.now
+        ++ (codes "/blobs/uploads/" ++ (codes "?digest=" ++ digest_or_nothing digest.now))))) }
 {
     let uploads = Target {
         name,
@@ -202,7 +208,8 @@ fn put_mounted<W: ByteSink>(
     source: &RepoName,
 )
     ensures { Puts (W.state writer.old) head.old
-        (W.state writer.new) head.new (digest_or_nothing (Some digest.now) ++ (codes "&from=" ++ source.now)) }
+        (W.state writer.new) head.new
+        (digest_or_nothing (Some digest.now) ++ (codes "&from=" ++ source.now)) }
 {
     head.put(writer, digest.text().as_bytes());
     head.put(writer, b"&from=");
@@ -225,7 +232,8 @@ fn put_query<W: ByteSink>(head: &mut Gather, writer: &mut W, digest: &Option<Blo
 
 /// Puts the version and the host.
 fn put_host<W: ByteSink>(head: &mut Gather, writer: &mut W, host: &[u8])
-    ensures { Puts (W.state writer.old) head.old (W.state writer.new) head.new (host_text host.now) }
+    ensures { Puts (W.state writer.old) head.old (W.state writer.new) head.new
+        (host_text host.now) }
 {
     head.put(writer, b" HTTP/1.1\r\nHost: ");
     head.put(writer, host);
@@ -258,7 +266,8 @@ fn put_section<W: ByteSink>(head: &mut Gather, writer: &mut W, ask: &Ask)
 fn put_upload_section<W: ByteSink>(head: &mut Gather, writer: &mut W, range: &Extent, body: &[u8])
     requires { IsAbsentOrGiven range.now }
     ensures { Puts (W.state writer.old) head.old
-        (W.state writer.new) head.new (section_text (range_fields range.now ++ body_fields body.now)) }
+        (W.state writer.new) head.new
+        (section_text (range_fields range.now ++ body_fields body.now)) }
 {
     put_range_field(head, writer, range);
     put_body_fields(head, writer, body)
@@ -285,7 +294,8 @@ fn put_range_field<W: ByteSink>(head: &mut Gather, writer: &mut W, range: &Exten
 
 /// Puts the fields of a body, and the empty line.
 fn put_body_fields<W: ByteSink>(head: &mut Gather, writer: &mut W, body: &[u8])
-    ensures { Puts (W.state writer.old) head.old (W.state writer.new) head.new (section_text (body_fields body.now)) }
+    ensures { Puts (W.state writer.old) head.old (W.state writer.new) head.new
+        (section_text (body_fields body.now)) }
 {
     head.put(
         writer,

@@ -48,9 +48,11 @@ pub trait Transport {
         requires { CanBeWritten ask }
         ensures { asked self.old ask result self.new };
 
-    /// Asks the same of a chunk that is lent. `Err` is out of memory for a copy of it, if one is wanted; nothing was asked then.
+    /// Asks the same of a chunk that is lent. `Err` is out of memory for a copy of it, if one is wanted; nothing was
+    /// asked then.
     fn ask_chunk(&mut self, chunk: &LentChunk<'_>) -> Result<Option<Heard>, AllocError>
         requires { CanBeWritten (ask_of_chunk chunk.now) }
-        ensures asked { IfOk result (λ heard. asked self.old (ask_of_chunk chunk.now) heard self.new) }
+        ensures asked { IfOk result
+            (λ heard. asked self.old (ask_of_chunk chunk.now) heard self.new) }
         ensures unasked { OnErr result (self.new ≡ self.old) };
 }

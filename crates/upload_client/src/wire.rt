@@ -14,8 +14,9 @@ use std::marker::Model;
 use upload_names::Bytes;
 use upload_service::Ask;
 
-/// Asks as requests over a writer, and hears the replies of a reader. After a fault of either, behind a reply that doesn't keep
-/// the connection, and where a byte was read before the next request was written, it writes nothing and hears nothing.
+/// Asks as requests over a writer, and hears the replies of a reader. After a fault of either, behind a reply that
+/// doesn't keep the connection, and where a byte was read before the next request was written, it writes nothing and
+/// hears nothing.
 ///
 /// A server may refuse a request before it was sent whole, and close. So where a write failed of a request with a body,
 /// one reply is read all the same, and heard where it is a refusal: 4xx, but neither 408 nor 416.
@@ -78,9 +79,10 @@ impl<S: ByteSource, W: ByteSink> WireTransport<S, W> {
         })
     }
 
-    /// Whether more can be asked: no fault broke the transport, the reply that was heard last keeps the connection, and no byte was read
-    /// behind it. Behind one that doesn't keep it the server closes it, and a client sends nothing more (RFC 9112, section 9.6); bytes
-    /// that came before the next request are no reply to it, and a client closes the connection (section 9.2).
+    /// Whether more can be asked: no fault broke the transport, the reply that was heard last keeps the connection, and
+    /// no byte was read behind it. Behind one that doesn't keep it the server closes it, and a client sends nothing
+    /// more (RFC 9112, section 9.6); bytes that came before the next request are no reply to it, and a client closes
+    /// the connection (section 9.2).
     pub fn stays_open(&self) -> bool
         ensures { result ≡ stays_open self.now }
     {
@@ -119,7 +121,8 @@ impl<S: ByteSource, W: ByteSink> WireTransport<S, W> {
     /// Hears the reply to a request that was written so far.
     fn hear(&mut self, written: Result<(), WriteFault>, has_body: bool, head: bool) -> Option<Heard>
         requires { self.old.reader.ended ≡ false }
-        ensures hears { HearsBehind written has_body head self.old.reader result self.new.reader self.new.broken }
+        ensures hears { HearsBehind written has_body head self.old.reader result self.new.reader
+            self.new.broken }
         ensures writer { self.new.writer ≡ self.old.writer }
         ensures host { self.new.host ≡ self.old.host }
     {
@@ -153,7 +156,8 @@ impl<S: ByteSource, W: ByteSink> Transport for WireTransport<S, W> {
     /// The same of a chunk, which is written from the bytes that are lent, so no memory is wanted for a copy.
     fn ask_chunk(&mut self, chunk: &LentChunk<'_>) -> Result<Option<Heard>, AllocError>
         requires { CanBeWritten (ask_of_chunk chunk.now) }
-        ensures asked { IfOk result (λ heard. AsksOverWire self.old (ask_of_chunk chunk.now) heard self.new) }
+        ensures asked { IfOk result
+            (λ heard. AsksOverWire self.old (ask_of_chunk chunk.now) heard self.new) }
         ensures unasked { OnErr result (self.new ≡ self.old) }
         ensures answered { IsOk result }
     {

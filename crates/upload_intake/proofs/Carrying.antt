@@ -1,5 +1,6 @@
 -- What one seat's steps are, once all ends are back.
-use Rattle.std.proofs.Common.{◌≡◌, ℕ, ◌==◌, Bool, true, false, List, [], ◌∷◌, ◌++◌, map, filter, cond, sym, refl, ap, ◌∙◌, inl, inr, ⊎_elim, append-nil}
+use Rattle.std.proofs.Common.{◌≡◌, ℕ, ◌==◌, Bool, true, false, List, [], ◌∷◌, ◌++◌, map, filter, cond, sym, refl, ap}
+use Rattle.std.proofs.Common.{◌∙◌, inl, inr, ⊎_elim, append-nil}
 use Rattle.std.proofs.lemmas.List.{append_cancel_right}
 use Rattle.upload_service.specs.declared.ask.Ask.{Ask}
 use Rattle.upload_service.specs.declared.answer.Answer.{Answer}
@@ -11,14 +12,17 @@ use Rattle.upload_intake.specs.ServedPool.{of_seat, asked_and_answered, read_and
 use Rattle.upload_wire.specs.Conversation.{Exchange}
 
 -- the jobs of a seat's steps ask what the steps ask
-by_side : (b : Bool) (s : Step) (jobs : List TakenJob) (steps : List Step) → asks_in (map (λ (j : TakenJob). j.job) jobs) ≡ asks steps
-    → asks_in (map (λ (j : TakenJob). j.job) (cond b (record { seat = s.seat; job = job_of s.exchange } ∷ jobs) jobs)) ≡ asks (cond b (s ∷ steps) steps)
+by_side : (b : Bool) (s : Step) (jobs : List TakenJob) (steps : List Step)
+    → asks_in (map (λ (j : TakenJob). j.job) jobs) ≡ asks steps → asks_in (map (λ (j : TakenJob). j.job)
+    (cond b (record { seat = s.seat; job = job_of s.exchange } ∷ jobs) jobs)) ≡ asks (cond b (s ∷ steps) steps)
 by_side true s jobs steps e = ap (λ l. s.exchange.ask ∷ l) e
 by_side false s jobs steps e = e
 
 asks_of_jobs : (seat : ℕ) (steps : List Step) → asks_in (jobs_of seat (taken_by steps)) ≡ asks (of_seat seat steps)
 asks_of_jobs seat [] = refl
-asks_of_jobs seat (s ∷ ss) = by_side (seat == s.seat) s (filter (λ (j : TakenJob). seat == j.seat) (taken_by ss)) (of_seat seat ss) (asks_of_jobs seat ss)
+asks_of_jobs seat (s ∷ ss) =
+    by_side (seat == s.seat) s (filter (λ (j : TakenJob). seat == j.seat) (taken_by ss)) (of_seat seat ss)
+    (asks_of_jobs seat ss)
 
 -- steps that ask what these exchanges ask, and then more, and are answered as they are, and then more
 record Matches (steps : List Step) (xs : List Exchange) (us : List Ask) : Type 0 where
@@ -35,17 +39,21 @@ heads x y xs ys e = cc
 tails : {A : Type 0} (x y : A) (xs ys : List A) → x ∷ xs ≡ y ∷ ys → xs ≡ ys
 tails x y xs ys e = cc
 
-matched : (steps : List Step) (xs : List Exchange) (us : List Ask) (vs : List Answer) → asks steps ≡ asks_of xs ++ us → map (λ (s : Step). s.exchange.answer) steps ≡ answers_of xs ++ vs → Matches steps xs us
+matched : (steps : List Step) (xs : List Exchange) (us : List Ask) (vs : List Answer) → asks steps ≡ asks_of xs ++ us
+    → map (λ (s : Step). s.exchange.answer) steps ≡ answers_of xs ++ vs → Matches steps xs us
 matched steps [] us vs p q = record { unheard = steps; in_order = refl; lost = p }
 matched [] (x ∷ xs) us vs p q = absurd (never_empty x.ask (asks_of xs ++ us) p)
 matched (s ∷ ss) (x ∷ xs) us vs p q =
     let rest : List Answer = map (λ (s : Step). s.exchange.answer) ss in
     let ask : s.exchange.ask ≡ x.ask = heads s.exchange.ask x.ask (asks ss) (asks_of xs ++ us) p in
     let answer : s.exchange.answer ≡ x.answer = heads s.exchange.answer x.answer rest (answers_of xs ++ vs) q in
-    let more = matched ss xs us vs (tails s.exchange.ask x.ask (asks ss) (asks_of xs ++ us) p) (tails s.exchange.answer x.answer rest (answers_of xs ++ vs) q) in
+    let more =
+    matched ss xs us vs (tails s.exchange.ask x.ask (asks ss) (asks_of xs ++ us) p)
+    (tails s.exchange.answer x.answer rest (answers_of xs ++ vs) q) in
     record { unheard = more.unheard; in_order = λ i. (ask i, answer i) ∷ more.in_order i; lost = more.lost }
 
-pub carries : (seat : ℕ) (steps : List Step) (old new : SeatState) (xs : List Exchange) (us : List Ask) → IsFresh old → Adds old new xs us → jobs_of seat (taken_by steps) ≡ new.sent → Heard seat steps new → Carries seat steps xs us
+pub carries : (seat : ℕ) (steps : List Step) (old new : SeatState) (xs : List Exchange) (us : List Ask) → IsFresh old
+    → Adds old new xs us → jobs_of seat (taken_by steps) ≡ new.sent → Heard seat steps new → Carries seat steps xs us
 carries seat steps old new xs us fresh a sent heard =
     let jobs : new.sent ≡ a.jobs = a.sent ∙ ap (λ l. l ++ a.jobs) fresh.sent in
     let asked : asks (of_seat seat steps) ≡ asks_in a.jobs = sym (asks_of_jobs seat steps) ∙ ap asks_in (sent ∙ jobs) in
@@ -53,11 +61,14 @@ carries seat steps old new xs us fresh a sent heard =
     heard.in_order ∙ ap (λ l. l ++ heard.unheard) (a.heard ∙ ap (λ l. l ++ answers_of xs) fresh.heard) in
     ⊎_elim
     (λ (none : a.unsent ≡ []).
-    let all : asks (of_seat seat steps) ≡ asks_of xs ++ us = asked ∙ sym (append-nil (asks_in a.jobs)) ∙ ap (λ l. asks_in a.jobs ++ l) (sym none) ∙ sym a.asks in
+    let all : asks (of_seat seat steps) ≡ asks_of xs ++ us =
+    asked ∙ sym (append-nil (asks_in a.jobs)) ∙ ap (λ l. asks_in a.jobs ++ l) (sym none) ∙ sym a.asks in
     let m = matched (of_seat seat steps) xs us heard.unheard all replied in
     record { unheard = m.unheard; in_order = m.in_order; lost = inr m.lost })
     (λ (back : a.unsent ≡ us).
-    let front : asks_of xs ≡ asks_in a.jobs = append_cancel_right (asks_of xs) (asks_in a.jobs) us (a.asks ∙ ap (λ l. asks_in a.jobs ++ l) back) in
-    let m = matched (of_seat seat steps) xs [] heard.unheard (asked ∙ sym front ∙ sym (append-nil (asks_of xs))) replied in
+    let front : asks_of xs ≡ asks_in a.jobs =
+    append_cancel_right (asks_of xs) (asks_in a.jobs) us (a.asks ∙ ap (λ l. asks_in a.jobs ++ l) back) in
+    let m =
+    matched (of_seat seat steps) xs [] heard.unheard (asked ∙ sym front ∙ sym (append-nil (asks_of xs))) replied in
     record { unheard = m.unheard; in_order = m.in_order; lost = inl m.lost })
     a.given_back

@@ -1,5 +1,7 @@
 -- What a keeper keeps, from one message to the next.
-use Rattle.std.proofs.Common.{◌≡◌, ℕ, ◌+◌, ◌<◌, ◌≤◌, ◌==◌, min, max, Bool, true, false, true≢false, cond, List, [], ◌∷◌, ◌++◌, map, filter, length-append, sym, refl, ap, ◌∙◌, subst, arith, append-nil, append_assoc, Result, Ok, Err, MatchResult, get_or, set, leb, length, ⊎_elim}
+use Rattle.std.proofs.Common.{◌≡◌, ℕ, ◌+◌, ◌<◌, ◌≤◌, ◌==◌, min, max, Bool, true, false, true≢false, cond, List, [], ◌∷◌}
+use Rattle.std.proofs.Common.{◌++◌, map, filter, length-append, sym, refl, ap, ◌∙◌, subst, arith, append-nil}
+use Rattle.std.proofs.Common.{append_assoc, Result, Ok, Err, MatchResult, get_or, set, leb, length, ⊎_elim}
 use Rattle.std.specs.List.{AllByRecursion}
 use Rattle.std.proofs.lemmas.List.{length-set, get_or-set_same, get_or-set_other}
 use Rattle.std.proofs.lemmas.Bool.{eqb-true, eqb-false, leb-true, leb-false}
@@ -16,21 +18,25 @@ use Rattle.upload_intake.specs.declared.line.LineView.{LineView}
 use Rattle.upload_intake.specs.declared.message.Message.{Message}
 use Rattle.upload_intake.specs.declared.message.Message.TheVariants as message
 use Rattle.upload_intake.specs.Line.{items_of, with_sent, with_taken, IsOfAnother}
-use Rattle.upload_intake.specs.Log.{TakenJob, Step, step_of, steps_of, exchanges_of, job_of, taken_by, answers_to, last_moment}
+use Rattle.upload_intake.specs.Log.{TakenJob, Step, step_of, steps_of, exchanges_of, job_of, taken_by, answers_to}
+use Rattle.upload_intake.specs.Log.{last_moment}
 use Rattle.upload_intake.specs.declared.reply.ReplyLine.{ReplyLine}
 use Rattle.upload_intake.specs.Served.{KeeperState, IsSameKeeper, IsServed}
 use Rattle.upload_intake.specs.Told.{Told, Grows}
 use Rattle.upload_intake.specs.declared.log.Entry.{Entry}
 use Rattle.upload_intake.specs.Settled.{count_limit}
-use Rattle.upload_intake.specs.Kept.{taken_in, add_job, has_finish, Outlet, outlet_of, Replied, Replies, Keeps, KeepsSeat, Receives, TookFinish, AreOfSeats, IsKeeping}
+use Rattle.upload_intake.specs.Kept.{taken_in, add_job, has_finish, Outlet, outlet_of, Replied, Replies, Keeps}
+use Rattle.upload_intake.specs.Kept.{KeepsSeat, Receives, TookFinish, AreOfSeats, IsKeeping}
 use Rattle.upload_intake.specs.Kept.Replies.{Sent, Closed}
 use Rattle.upload_intake.proofs.LineMoves.{same, is_either, items_of-append, of_own, seat_below}
 
-run_more : (xs : List Exchange) (x : Exchange) (start before after : State) → Run start xs before → Turn before x.ask x.secret x.now x.answer after → Run start (xs ++ x ∷ []) after
+run_more : (xs : List Exchange) (x : Exchange) (start before after : State) → Run start xs before
+    → Turn before x.ask x.secret x.now x.answer after → Run start (xs ++ x ∷ []) after
 run_more [] x start before after r t = (after, subst (λ s. Turn s x.ask x.secret x.now x.answer after) r t, refl)
 run_more (y ∷ ys) x start before after r t = (r.0, r.1, run_more ys x r.0 before after r.2 t)
 
-never_before_more : (moment : ℕ) (xs : List Exchange) (x : Exchange) → NeverBefore moment xs → last_moment moment xs ≤ x.now → NeverBefore moment (xs ++ x ∷ [])
+never_before_more : (moment : ℕ) (xs : List Exchange) (x : Exchange) → NeverBefore moment xs
+    → last_moment moment xs ≤ x.now → NeverBefore moment (xs ++ x ∷ [])
 never_before_more moment [] x n later = (later, tt)
 never_before_more moment (y ∷ ys) x n later = (n.0, never_before_more y.now ys x n.1 later)
 
@@ -45,26 +51,33 @@ add_job-append seat message.Finish xs ys = refl
 
 pub taken_in-append : (xs ys : List (Item Message)) → taken_in (xs ++ ys) ≡ taken_in xs ++ taken_in ys
 taken_in-append [] ys = refl
-taken_in-append (x ∷ xs) ys = ap (add_job x.seat x.what) (taken_in-append xs ys) ∙ add_job-append x.seat x.what (taken_in xs) (taken_in ys)
+taken_in-append (x ∷ xs) ys =
+    ap (add_job x.seat x.what) (taken_in-append xs ys) ∙ add_job-append x.seat x.what (taken_in xs) (taken_in ys)
 
-exchanges_of-more : (steps : List Step) (s : Step) → exchanges_of (steps ++ s ∷ []) ≡ exchanges_of steps ++ s.exchange ∷ []
+exchanges_of-more : (steps : List Step) (s : Step)
+    → exchanges_of (steps ++ s ∷ []) ≡ exchanges_of steps ++ s.exchange ∷ []
 exchanges_of-more steps s = map-append (λ (y : Step). y.exchange) steps (s ∷ [])
 
-answers_to-append : (seat : ℕ) (xs ys : List Step) → answers_to seat (xs ++ ys) ≡ answers_to seat xs ++ answers_to seat ys
+answers_to-append : (seat : ℕ) (xs ys : List Step)
+    → answers_to seat (xs ++ ys) ≡ answers_to seat xs ++ answers_to seat ys
 answers_to-append seat xs ys =
     let ours = λ (s : Step). seat == s.seat in
-    ap (λ l. map (λ (s : Step). s.exchange.answer) l) (filter-append ours xs ys) ∙ map-append (λ (s : Step). s.exchange.answer) (filter ours xs) (filter ours ys)
+    ap (λ l. map (λ (s : Step). s.exchange.answer) l) (filter-append ours xs ys)
+    ∙ map-append (λ (s : Step). s.exchange.answer) (filter ours xs) (filter ours ys)
 
-answer_if : (s : Step) (b : Bool) → map (λ (y : Step). y.exchange.answer) (cond b (s ∷ []) []) ≡ cond b (s.exchange.answer ∷ []) []
+answer_if : (s : Step) (b : Bool)
+    → map (λ (y : Step). y.exchange.answer) (cond b (s ∷ []) []) ≡ cond b (s.exchange.answer ∷ []) []
 answer_if s true = refl
 answer_if s false = refl
 
 -- a step of a side, and one of the other, among the answers of a side
-answers_to-one : (seat : ℕ) (s : Step) (b : Bool) → (seat == s.seat) ≡ b → answers_to seat (s ∷ []) ≡ cond b (s.exchange.answer ∷ []) []
+answers_to-one : (seat : ℕ) (s : Step) (b : Bool) → (seat == s.seat) ≡ b
+    → answers_to seat (s ∷ []) ≡ cond b (s.exchange.answer ∷ []) []
 answers_to-one seat s b e = ap (λ c. map (λ (y : Step). y.exchange.answer) (cond c (s ∷ []) [])) e ∙ answer_if s b
 
 module _ (seat : ℕ) (steps : List Step) (s : Step) where
-  replied_more : (seat == s.seat) ≡ true → (old new : Outlet) → Replied seat steps old → Replies s.exchange.answer old new → Replied seat (steps ++ s ∷ []) new
+  replied_more : (seat == s.seat) ≡ true → (old new : Outlet) → Replied seat steps old
+      → Replies s.exchange.answer old new → Replied seat (steps ++ s ∷ []) new
   replied_more ours old new h (Sent was_open is_open sent) =
       let all : answers_to seat (steps ++ s ∷ []) ≡ (h.replies ++ h.unsent) ++ s.exchange.answer ∷ [] =
       answers_to-append seat steps (s ∷ []) ∙ (λ i. h.in_order i ++ answers_to-one seat s true ours i) in
@@ -72,7 +85,10 @@ module _ (seat : ℕ) (steps : List Step) (s : Step) where
         replies = h.replies ++ s.exchange.answer ∷ [];
         unsent = [];
         view = sent h.replies h.view;
-        in_order = all ∙ ap (λ r. (h.replies ++ r) ++ s.exchange.answer ∷ []) (h.all was_open) ∙ ap (λ l. l ++ s.exchange.answer ∷ []) (append-nil h.replies) ∙ sym (append-nil (h.replies ++ s.exchange.answer ∷ []));
+        in_order =
+            all ∙ ap (λ r. (h.replies ++ r) ++ s.exchange.answer ∷ []) (h.all was_open)
+            ∙ ap (λ l. l ++ s.exchange.answer ∷ []) (append-nil h.replies)
+            ∙ sym (append-nil (h.replies ++ s.exchange.answer ∷ []));
         all = λ _. refl;
       }
   replied_more ours old new h (Closed is_closed same) =
@@ -86,25 +102,32 @@ module _ (seat : ℕ) (steps : List Step) (s : Step) where
         all = λ p. absurd (true≢false (sym p ∙ is_closed));
       }
 
-  replied_other : (seat == s.seat) ≡ false → (outlet : Outlet) → Replied seat steps outlet → Replied seat (steps ++ s ∷ []) outlet
+  replied_other : (seat == s.seat) ≡ false → (outlet : Outlet) → Replied seat steps outlet
+      → Replied seat (steps ++ s ∷ []) outlet
   replied_other theirs outlet h = record {
     replies = h.replies;
     unsent = h.unsent;
     view = h.view;
-    in_order = answers_to-append seat steps (s ∷ []) ∙ (λ i. h.in_order i ++ answers_to-one seat s false theirs i) ∙ append-nil (h.replies ++ h.unsent);
+    in_order =
+        answers_to-append seat steps (s ∷ []) ∙ (λ i. h.in_order i ++ answers_to-one seat s false theirs i)
+        ∙ append-nil (h.replies ++ h.unsent);
     all = h.all;
   }
 
 -- what a line that is open comes to by a send
-pub replied_by : (answer : Answer) (was_open is_open : Bool) (old new : LineView Answer) (sent : Result (Unit {0}) (Item Answer)) → was_open ≡ true
-    → MatchResult sent (λ _. new ≡ with_sent (record { seat = 0; what = answer }) old) (λ back. (back ≡ record { seat = 0; what = answer }) × (new ≡ old))
+pub replied_by : (answer : Answer) (was_open is_open : Bool)
+    (old new : LineView Answer) (sent : Result (Unit {0}) (Item Answer)) → was_open ≡ true
+    → MatchResult sent (λ _. new ≡ with_sent (record { seat = 0; what = answer }) old) (λ back.
+    (back ≡ record { seat = 0; what = answer }) × (new ≡ old))
     → MatchResult sent (λ _. is_open ≡ was_open) (λ _. is_open ≡ false)
     → Replies answer (record { is_open = was_open; view = old }) (record { is_open = is_open; view = new })
-replied_by answer was_open is_open old new (Ok x) was m o = Sent was (o ∙ was) (λ replies e. m ∙ ap (with_sent (record { seat = 0; what = answer })) e)
+replied_by answer was_open is_open old new (Ok x) was m o =
+    Sent was (o ∙ was) (λ replies e. m ∙ ap (with_sent (record { seat = 0; what = answer })) e)
 replied_by answer was_open is_open old new (Err back) was m o = Closed o m.1
 
 -- a line that is closed stays as it is
-pub was_closed : (answer : Answer) (is_open : Bool) (view : LineView Answer) → is_open ≡ false → Replies answer (record { is_open = is_open; view = view }) (record { is_open = is_open; view = view })
+pub was_closed : (answer : Answer) (is_open : Bool) (view : LineView Answer) → is_open ≡ false
+    → Replies answer (record { is_open = is_open; view = view }) (record { is_open = is_open; view = view })
 was_closed answer is_open view closed = Closed closed refl
 
 has_finish-append : (xs ys : List Message) → has_finish xs ≡ true → has_finish (xs ++ ys) ≡ true
@@ -119,7 +142,8 @@ has_finish-last (message.Job a s ∷ xs) = has_finish-last xs
 has_finish-last (message.Hash a b ∷ xs) = has_finish-last xs
 has_finish-last (message.Finish ∷ xs) = refl
 
-all_more : {A : Type 0} (P : A → Type 0) (xs : List A) (x : A) → AllByRecursion P xs → P x → AllByRecursion P (xs ++ x ∷ [])
+all_more : {A : Type 0} (P : A → Type 0) (xs : List A) (x : A) → AllByRecursion P xs → P x
+    → AllByRecursion P (xs ++ x ∷ [])
 all_more P [] x h p = (p, tt)
 all_more P (y ∷ ys) x h p = (h.0, all_more P ys x h.1 p)
 
@@ -127,20 +151,26 @@ less_unless : (a b : ℕ) → (b ≤ a → ⊥) → a < b
 less_unless a b never = ⊎_elim (λ t. absurd (never (leb-true b a t))) (λ f. leb-false b a f) (is_either (leb b a))
 
 -- a fact of each place and its line, where one line was set
-each_set : (F : ℕ → ReplyLine → Type 0) (lines : List ReplyLine) (at : ℕ) (line : ReplyLine) → at < length lines → F at line
+each_set : (F : ℕ → ReplyLine → Type 0) (lines : List ReplyLine) (at : ℕ) (line : ReplyLine)
+    → at < length lines → F at line
     → ((seat : ℕ) (d : ReplyLine) → seat < length lines → (seat == at) ≡ false → F seat (get_or lines seat d))
     → (seat : ℕ) (d : ReplyLine) → seat < length (set lines at line) → F seat (get_or (set lines at line) seat d)
 each_set F lines at line inside mine others seat d below =
     ⊎_elim
     (λ (e : (seat == at) ≡ true).
     let here : seat ≡ at = eqb-true seat at e in
-    subst (λ (y : ℕ × ReplyLine). F y.0 y.1) (λ i. (sym here i, (sym (get_or-set_same lines at line d inside) ∙ ap (λ n. get_or (set lines at line) n d) (sym here)) i)) mine)
+    subst (λ (y : ℕ × ReplyLine). F y.0 y.1) (λ i. (
+      sym here i,
+      (sym (get_or-set_same lines at line d inside) ∙ ap (λ n. get_or (set lines at line) n d) (sym here)) i,
+    )) mine)
     (λ (e : (seat == at) ≡ false).
-    subst (F seat) (sym (get_or-set_other lines at seat line d (eqb-false seat at e))) (others seat d (let n = length-set lines at line in omega arith) e))
+    subst (F seat) (sym (get_or-set_other lines at seat line d (eqb-false seat at e)))
+    (others seat d (let n = length-set lines at line in omega arith) e))
     (is_either (seat == at))
 
 module _ (start service : State) (now count : ℕ) (j j' : LineView Message) (lines : List ReplyLine)
-    (old : List Step) (k : IsKeeping start service now count old j lines) (x : Item Message) (took : (j' ≡ with_taken x j) × IsOfAnother j x) where
+    (old : List Step) (k : IsKeeping start service now count old j lines) (x : Item Message)
+    (took : (j' ≡ with_taken x j) × IsOfAnother j x) where
   -- the item is of a seat of the keeper's
   pub inside : x.seat < length lines
   inside = less_unless x.seat (length lines) (seat_below (length lines) k.receives.taken j x k.receives.is_taker took.1)
@@ -149,15 +179,19 @@ module _ (start service : State) (now count : ℕ) (j j' : LineView Message) (li
   taken_more = record { taken = k.receives.taken ++ x ∷ []; is_taker = took.0 ∙ ap (with_taken x) k.receives.is_taker }
 
   finish_stays : (seat : ℕ) → TookFinish seat j → TookFinish seat j'
-  finish_stays seat f = ap (λ v. has_finish (items_of seat v.taken)) took.0 ∙ ap has_finish (items_of-append seat j.taken (x ∷ [])) ∙ has_finish-append (items_of seat j.taken) (items_of seat (x ∷ [])) f
+  finish_stays seat f =
+      ap (λ v. has_finish (items_of seat v.taken)) took.0 ∙ ap has_finish (items_of-append seat j.taken (x ∷ []))
+      ∙ has_finish-append (items_of seat j.taken) (items_of seat (x ∷ [])) f
 
   -- what is kept of the seats, where the line of one was set
-  after : (service' : State) (now' count' : ℕ) (steps : List Step) (line : ReplyLine) (log : List Step) (lines' : List ReplyLine) → lines' ≡ set lines x.seat line → log ≡ steps
-      → Keeps start service' now' count' steps j'.taken → AreOfSeats (length lines) steps → KeepsSeat x.seat steps j' line
-      → ((seat : ℕ) (d : ReplyLine) → seat < length lines → (seat == x.seat) ≡ false → KeepsSeat seat steps j' (get_or lines seat d))
-      → IsKeeping start service' now' count' log j' lines'
+  after : (service' : State) (now' count' : ℕ) (steps : List Step)
+      (line : ReplyLine) (log : List Step) (lines' : List ReplyLine) → lines' ≡ set lines x.seat line → log ≡ steps
+      → Keeps start service' now' count' steps j'.taken → AreOfSeats (length lines) steps
+      → KeepsSeat x.seat steps j' line → ((seat : ℕ) (d : ReplyLine) → seat < length lines → (seat == x.seat) ≡ false
+      → KeepsSeat seat steps j' (get_or lines seat d)) → IsKeeping start service' now' count' log j' lines'
   after service' now' count' steps line log lines' put grown keeps seated mine others =
-      subst (λ (y : List ReplyLine × List Step). IsKeeping start service' now' count' y.1 j' y.0) (λ i. (sym put i, sym grown i)) record {
+      subst (λ (y : List ReplyLine × List Step). IsKeeping start service' now' count' y.1 j' y.0)
+      (λ i. (sym put i, sym grown i)) record {
         keeps = keeps;
         receives = subst (λ n. Receives n j') (sym (length-set lines x.seat line)) taken_more;
         seated = subst (λ n. AreOfSeats n steps) (sym (length-set lines x.seat line)) seated;
@@ -166,7 +200,8 @@ module _ (start service : State) (now count : ℕ) (j j' : LineView Message) (li
 
   -- a job was served
   module _ (ask : Ask) (secret : List ℕ) (a : Answer) (now' : ℕ) (service' : State) (count' : ℕ)
-      (job : x.what ≡ message.Job ask secret) (later : now ≤ now') (turn : Turn service ask secret now' a service') (counted : count' ≡ min (count + 1) count_limit) where
+      (job : x.what ≡ message.Job ask secret) (later : now ≤ now') (turn : Turn service ask secret now' a service')
+      (counted : count' ≡ min (count + 1) count_limit) where
     abbrev pub step : Step
     step = record { seat = x.seat; exchange = record { ask = ask; secret = secret; now = now'; answer = a } }
 
@@ -184,23 +219,35 @@ module _ (start service : State) (now count : ℕ) (j j' : LineView Message) (li
         let e = exchanges_of-more old step in
         record {
           lawful = k.keeps.lawful;
-          run = subst (λ xs. Run start xs service') (sym e) (run_more (exchanges_of old) step.exchange start service service' k.keeps.run turn);
-          moments = subst (λ xs. NeverBefore 0 xs) (sym e) (never_before_more 0 (exchanges_of old) step.exchange k.keeps.moments (rw k.keeps.last later));
+          run =
+              subst (λ xs. Run start xs service') (sym e)
+              (run_more (exchanges_of old) step.exchange start service service' k.keeps.run turn);
+          moments =
+              subst (λ xs. NeverBefore 0 xs) (sym e)
+              (never_before_more 0 (exchanges_of old) step.exchange k.keeps.moments (rw k.keeps.last later));
           last = ap (last_moment 0) e ∙ last_moment-more 0 (exchanges_of old) step.exchange;
           is_taken = is_taken;
           counted = let n = k.keeps.counted in let m = length-append old (step ∷ []) in omega arith;
         }
 
-    pub served_seat : (was line : ReplyLine) → was ≡ get_or lines x.seat was → Replies a (outlet_of was) (outlet_of line) → line.is_done ≡ was.is_done
-        → (lines' : List ReplyLine) → lines' ≡ set lines x.seat line → (log : List Step) → log ≡ steps → IsKeeping start service' now' count' log j' lines'
+    pub served_seat : (was line : ReplyLine)
+        → was ≡ get_or lines x.seat was → Replies a (outlet_of was) (outlet_of line) → line.is_done ≡ was.is_done
+        → (lines' : List ReplyLine) → lines' ≡ set lines x.seat line → (log : List Step) → log ≡ steps
+        → IsKeeping start service' now' count' log j' lines'
     served_seat was line was_is m is_done lines' put log grown =
         let kept = subst (λ y. KeepsSeat x.seat old j y) (sym was_is) (k.each x.seat was inside) in
         after service' now' count' steps line log lines' put grown keeps
         (all_more (λ (s : Step). s.seat < length lines) old step k.seated inside)
-        (record { replied = replied_more x.seat old step (same x.seat) (outlet_of was) (outlet_of line) kept.replied m; finish = λ p. finish_stays x.seat (kept.finish (sym is_done ∙ p)) })
+        (record {
+          replied = replied_more x.seat old step (same x.seat) (outlet_of was) (outlet_of line) kept.replied m;
+          finish = λ p. finish_stays x.seat (kept.finish (sym is_done ∙ p));
+        })
         (λ seat d below apart.
         let kept' = k.each seat d below in
-        record { replied = replied_other seat old step apart (outlet_of (get_or lines seat d)) kept'.replied; finish = λ p. finish_stays seat (kept'.finish p) })
+        record {
+          replied = replied_other seat old step apart (outlet_of (get_or lines seat d)) kept'.replied;
+          finish = λ p. finish_stays seat (kept'.finish p);
+        })
 
   -- an item was taken that is no job
   module _ (no_job : add_job x.seat x.what [] ≡ []) where
@@ -223,7 +270,8 @@ module _ (start service : State) (now count : ℕ) (j j' : LineView Message) (li
     keeps_seat_still seat line kept = record { replied = kept.replied; finish = λ p. finish_stays seat (kept.finish p) }
 
   -- a wish was taken, which the service seems not to have heard
-  pub wish_taken : (at : List ℕ) (by : Algorithm) → x.what ≡ message.Hash at by → (service' : State) → service' ≡ service → IsKeeping start service' now count old j' lines
+  pub wish_taken : (at : List ℕ) (by : Algorithm) → x.what ≡ message.Hash at by → (service' : State)
+      → service' ≡ service → IsKeeping start service' now count old j' lines
   wish_taken at by wish service' same =
       let no_job : add_job x.seat x.what [] ≡ [] = ap (λ m. add_job x.seat m []) wish in
       subst (λ s. IsKeeping start s now count old j' lines) (sym same) record {
@@ -236,8 +284,10 @@ module _ (start service : State) (now count : ℕ) (j j' : LineView Message) (li
   -- a finish was taken
   module _ (finish : x.what ≡ message.Finish) where
     took_finish : TookFinish x.seat j'
-    took_finish = ap (λ v. has_finish (items_of x.seat v.taken)) took.0 ∙ ap has_finish (items_of-append x.seat j.taken (x ∷ []))
-        ∙ ap (λ l. has_finish (items_of x.seat j.taken ++ l)) (of_own x.seat x (same x.seat) ∙ ap (λ m. m ∷ []) finish) ∙ has_finish-last (items_of x.seat j.taken)
+    took_finish =
+        ap (λ v. has_finish (items_of x.seat v.taken)) took.0 ∙ ap has_finish (items_of-append x.seat j.taken (x ∷ []))
+        ∙ ap (λ l. has_finish (items_of x.seat j.taken ++ l)) (of_own x.seat x (same x.seat) ∙ ap (λ m. m ∷ []) finish)
+        ∙ has_finish-last (items_of x.seat j.taken)
 
     pub finished_seat : (was line : ReplyLine) → was ≡ get_or lines x.seat was → outlet_of line ≡ outlet_of was
         → (lines' : List ReplyLine) → lines' ≡ set lines x.seat line → IsKeeping start service now count old j' lines'
@@ -245,43 +295,66 @@ module _ (start service : State) (now count : ℕ) (j j' : LineView Message) (li
         let kept = subst (λ y. KeepsSeat x.seat old j y) (sym was_is) (k.each x.seat was inside) in
         let no_job : add_job x.seat x.what [] ≡ [] = ap (λ m. add_job x.seat m []) finish in
         after service now count old line old lines' put refl (still no_job) k.seated
-        (record { replied = subst (λ o. Replied x.seat old o) (sym same_outlet) kept.replied; finish = λ p. took_finish })
+        (record {
+          replied = subst (λ o. Replied x.seat old o) (sym same_outlet) kept.replied;
+          finish = λ p. took_finish;
+        })
         (λ seat d below apart. keeps_seat_still no_job seat (get_or lines seat d) (k.each seat d below))
 
 -- what a keeper kept is a run of which the headline holds
-pub served : HeadlineHolds → (start service : State) (now count : ℕ) (steps : List Step) (taken : List (Item Message)) (k : Keeps start service now count steps taken) → IsServed start (exchanges_of steps) service
-served law start service now count steps taken k = record { run = k.run; moments = k.moments; headline = law start (exchanges_of steps) service k.lawful k.moments k.run }
+pub served : HeadlineHolds → (start service : State) (now count : ℕ) (steps : List Step) (taken : List (Item Message))
+    (k : Keeps start service now count steps taken) → IsServed start (exchanges_of steps) service
+served law start service now count steps taken k = record {
+  run = k.run;
+  moments = k.moments;
+  headline = law start (exchanges_of steps) service k.lawful k.moments k.run;
+}
 
 -- one entry more is one step more
-pub logged : (items more : List Entry) (e : Entry) (s : Step) → more ≡ items ++ e ∷ [] → step_of e ≡ s → steps_of more ≡ steps_of items ++ s ∷ []
-logged items more e s grown same = ap steps_of grown ∙ map-append step_of items (e ∷ []) ∙ ap (λ y. steps_of items ++ y ∷ []) same
+pub logged : (items more : List Entry) (e : Entry) (s : Step) → more ≡ items ++ e ∷ [] → step_of e ≡ s
+    → steps_of more ≡ steps_of items ++ s ∷ []
+logged items more e s grown same =
+    ap steps_of grown ∙ map-append step_of items (e ∷ []) ∙ ap (λ y. steps_of items ++ y ∷ []) same
 
 module _ {M : Type 0} (tells : M → ℕ → M → Type 0) where
-  told_more : (before : ℕ) (old mid new : M) (xs ys : List Exchange) → Told tells before old xs mid → Told tells (last_moment before xs) mid ys new → Told tells before old (xs ++ ys) new
+  told_more : (before : ℕ) (old mid new : M) (xs ys : List Exchange) → Told tells before old xs mid
+      → Told tells (last_moment before xs) mid ys new → Told tells before old (xs ++ ys) new
   told_more before old mid new [] ys p q = subst (λ m. Told tells before m ys new) p q
   told_more before old mid new (x ∷ xs) ys p q = (p.0, p.1, p.2, p.3, told_more x.now p.1 mid new xs ys p.4 q)
 
-  last_moment-append : (moment : ℕ) (xs ys : List Exchange) → last_moment moment (xs ++ ys) ≡ last_moment (last_moment moment xs) ys
+  last_moment-append : (moment : ℕ) (xs ys : List Exchange)
+      → last_moment moment (xs ++ ys) ≡ last_moment (last_moment moment xs) ys
   last_moment-append moment [] ys = refl
   last_moment-append moment (x ∷ xs) ys = last_moment-append x.now xs ys
 
-  pub grows_none : (keeper new : KeeperState) (before after : M) → new.log ≡ keeper.log → after ≡ before → Grows tells keeper before new after
-  grows_none keeper new before after same still = record { more = []; log = same ∙ sym (append-nil keeper.log); told = still }
+  pub grows_none : (keeper new : KeeperState) (before after : M) → new.log ≡ keeper.log → after ≡ before
+      → Grows tells keeper before new after
+  grows_none keeper new before after same still =
+      record { more = []; log = same ∙ sym (append-nil keeper.log); told = still }
 
-  pub grows_one : (old new : KeeperState) (before after : M) (now told : ℕ) (s : Step) → new.log ≡ old.log ++ s ∷ [] → now ≡ last_moment 0 (exchanges_of old.log) → tells before told after → s.exchange.now ≡ max now told → Grows tells old before new after
-  grows_one old new before after now told s grown last tell greater = record { more = s ∷ []; log = grown; told = (told, after, tell, greater ∙ ap (λ n. max n told) last, refl) }
+  pub grows_one : (old new : KeeperState) (before after : M) (now told : ℕ) (s : Step) → new.log ≡ old.log ++ s ∷ []
+      → now ≡ last_moment 0 (exchanges_of old.log) → tells before told after → s.exchange.now ≡ max now told
+      → Grows tells old before new after
+  grows_one old new before after now told s grown last tell greater =
+      record { more = s ∷ []; log = grown; told = (told, after, tell, greater ∙ ap (λ n. max n told) last, refl) }
 
   pub grows_twice : (a b c : KeeperState) (p q r : M) → Grows tells a p b q → Grows tells b q c r → Grows tells a p c r
   grows_twice a b c p q r f g = record {
     more = f.more ++ g.more;
     log = g.log ∙ ap (λ l. l ++ g.more) f.log ∙ append_assoc a.log f.more g.more;
     told =
-        let all : exchanges_of (f.more ++ g.more) ≡ exchanges_of f.more ++ exchanges_of g.more = map-append (λ (y : Step). y.exchange) f.more g.more in
-        let between : last_moment 0 (exchanges_of b.log) ≡ last_moment (last_moment 0 (exchanges_of a.log)) (exchanges_of f.more) =
-        ap (λ l. last_moment 0 (exchanges_of l)) f.log ∙ ap (last_moment 0) (map-append (λ (y : Step). y.exchange) a.log f.more) ∙ last_moment-append 0 (exchanges_of a.log) (exchanges_of f.more) in
+        let all : exchanges_of (f.more ++ g.more) ≡ exchanges_of f.more ++ exchanges_of g.more =
+        map-append (λ (y : Step). y.exchange) f.more g.more in
+        let between : last_moment 0 (exchanges_of b.log)
+        ≡ last_moment (last_moment 0 (exchanges_of a.log)) (exchanges_of f.more) =
+        ap (λ l. last_moment 0 (exchanges_of l)) f.log
+        ∙ ap (last_moment 0) (map-append (λ (y : Step). y.exchange) a.log f.more)
+        ∙ last_moment-append 0 (exchanges_of a.log) (exchanges_of f.more) in
         subst (λ xs. Told tells (last_moment 0 (exchanges_of a.log)) p xs r) (sym all)
-        (told_more (last_moment 0 (exchanges_of a.log)) p q r (exchanges_of f.more) (exchanges_of g.more) f.told (subst (λ n. Told tells n q (exchanges_of g.more) r) between g.told));
+        (told_more (last_moment 0 (exchanges_of a.log)) p q r (exchanges_of f.more) (exchanges_of g.more) f.told
+        (subst (λ n. Told tells n q (exchanges_of g.more) r) between g.told));
   }
 
 pub same_keeper_twice : (a b c : KeeperState) → IsSameKeeper a b → IsSameKeeper b c → IsSameKeeper a c
-same_keeper_twice a b c p q = record { jobs = q.jobs ∙ p.jobs; replies = q.replies ∙ p.replies; start = q.start ∙ p.start }
+same_keeper_twice a b c p q =
+    record { jobs = q.jobs ∙ p.jobs; replies = q.replies ∙ p.replies; start = q.start ∙ p.start }

@@ -1,5 +1,7 @@
 -- Each move of a line keeps its rule, whatever the other threads did.
-use Rattle.std.proofs.Common.{◌≡◌, ◌≢◌, ℕ, zero, suc, ◌+◌, ◌≤◌, ◌==◌, Bool, true, false, true≢false, cond, ◌||◌, List, [], ◌∷◌, ◌++◌, length, length-append, map, filter, set, sym, refl, ap, ◌∙◌, subst, inl, inr, ◌⊎◌, ⊎_elim, append_assoc, append-nil, arith}
+use Rattle.std.proofs.Common.{◌≡◌, ◌≢◌, ℕ, zero, suc, ◌+◌, ◌≤◌, ◌==◌, Bool, true, false, true≢false, cond, ◌||◌, List}
+use Rattle.std.proofs.Common.{[], ◌∷◌, ◌++◌, length, length-append, map, filter, set, sym, refl, ap, ◌∙◌, subst, inl}
+use Rattle.std.proofs.Common.{inr, ◌⊎◌, ⊎_elim, append_assoc, append-nil, arith}
 use Rattle.std.proofs.lemmas.List.{map-append}
 use Rattle.std.proofs.lemmas.List.Elements.{filter-append}
 use Rattle.std.proofs.lemmas.Bool.{eq-eqb, eqb-true, le-leb, leb-true}
@@ -11,7 +13,8 @@ use Rattle.upload_intake.specs.declared.line.Item.{Item}
 use Rattle.upload_intake.specs.declared.line.Sending.{Sending}
 use Rattle.upload_intake.specs.declared.line.Sending.TheVariants.{Nothing, One, AllFrom}
 use Rattle.upload_intake.specs.declared.line.LineView.{LineView}
-use Rattle.upload_intake.specs.Line.{items_of, sends, is_sender, sent, Fits, InOrder, Waits, IsOfAnother, unused, idle, after, next, more, without_next, next_alone, joined, with_sent, with_taken}
+use Rattle.upload_intake.specs.Line.{items_of, sends, is_sender, sent, Fits, InOrder, Waits, IsOfAnother, unused, idle}
+use Rattle.upload_intake.specs.Line.{after, next, more, without_next, next_alone, joined, with_sent, with_taken}
 use Rattle.upload_intake.specs.Passes.{taker_view}
 
 pub same : (n : ℕ) → (n == n) ≡ true
@@ -32,12 +35,15 @@ none : {A : Type 0} → false ≡ true → A
 none p = absurd (true≢false (sym p))
 
 module _ {T : Type 0} where
-  pub items_of-append : (seat : ℕ) (xs ys : List (Item T)) → items_of seat (xs ++ ys) ≡ items_of seat xs ++ items_of seat ys
+  pub items_of-append : (seat : ℕ) (xs ys : List (Item T))
+      → items_of seat (xs ++ ys) ≡ items_of seat xs ++ items_of seat ys
   items_of-append seat xs ys =
       let ours = λ (x : Item T). seat == x.seat in
-      ap (λ l. map (λ (x : Item T). x.what) l) (filter-append ours xs ys) ∙ map-append (λ (x : Item T). x.what) (filter ours xs) (filter ours ys)
+      ap (λ l. map (λ (x : Item T). x.what) l) (filter-append ours xs ys)
+      ∙ map-append (λ (x : Item T). x.what) (filter ours xs) (filter ours ys)
 
-  at_end : (l : List (LineView T)) (a b : LineView T) (j : ℕ) → get_elem? l j ≢ some b → get_elem? (l ++ a ∷ []) j ≡ some b → j ≡ length l
+  at_end : (l : List (LineView T)) (a b : LineView T) (j : ℕ) → get_elem? l j ≢ some b
+      → get_elem? (l ++ a ∷ []) j ≡ some b → j ≡ length l
   at_end [] a b zero n e = refl
   at_end [] a b (suc j) n e = absurd (some-ne-none b (sym e))
   at_end (x ∷ xs) a b zero n e = absurd (n e)
@@ -47,19 +53,27 @@ module _ {T : Type 0} where
   abbrev Each : (ℕ → LineView T → Type 0) → List (LineView T) → Type 0
   Each F views = (port : ℕ) (v : LineView T) → get_elem? views port ≡ some v → F port v
 
-  each_set : (F : ℕ → LineView T → Type 0) (views : List (LineView T)) (port : ℕ) (w : LineView T) → F port w → ((j : ℕ) (u : LineView T) → j ≢ port → get_elem? views j ≡ some u → F j u) → Each F (set views port w)
-  each_set F views port w mine others j u e = ⊎_elim (λ (x : (j ≡ port) × (w ≡ u)). subst (λ (y : ℕ × LineView T). F y.0 y.1) (λ i. (sym x.0 i, x.1 i)) mine)
+  each_set : (F : ℕ → LineView T → Type 0) (views : List (LineView T)) (port : ℕ) (w : LineView T) → F port w
+      → ((j : ℕ) (u : LineView T) → j ≢ port → get_elem? views j ≡ some u → F j u) → Each F (set views port w)
+  each_set F views port w mine others j u e =
+      ⊎_elim (λ (x : (j ≡ port) × (w ≡ u)). subst (λ (y : ℕ × LineView T). F y.0 y.1) (λ i. (sym x.0 i, x.1 i)) mine)
       (λ (x : (j ≢ port) × (get_elem? views j ≡ some u)). others j u x.0 x.1) (at_set views port j w u e)
 
   each_one : (F : ℕ → LineView T → Type 0) (w : LineView T) → F 0 w → Each F (w ∷ [])
-  each_one F w mine j u e = each_set F (w ∷ []) 0 w mine (λ i x other at. absurd (other (at_end [] w x i (λ y. some-ne-none x (sym y)) at))) j u e
+  each_one F w mine j u e =
+      each_set F (w ∷ []) 0 w mine
+      (λ i x other at. absurd (other (at_end [] w x i (λ y. some-ne-none x (sym y)) at))) j u e
 
   pub begins : InOrder {T = T} [] (unused ∷ [])
-  begins = let z : ℕ = 0 in ((λ _. z), z, [], each_one (Fits (λ _. z) z [] []) unused ((λ seat _. (refl, refl)), λ _. (refl, refl)))
+  begins =
+      let z : ℕ = 0 in
+      ((λ _. z), z, [], each_one (Fits (λ _. z) z [] []) unused ((λ seat _. (refl, refl)), λ _. (refl, refl)))
 
   -- what a seat sent, with one item more behind all
-  grown : (seat : ℕ) (x : Item T) (taken items : List (Item T)) → items_of seat (taken ++ (items ++ x ∷ [])) ≡ items_of seat (taken ++ items) ++ items_of seat (x ∷ [])
-  grown seat x taken items = ap (items_of seat) (sym (append_assoc taken items (x ∷ []))) ∙ items_of-append seat (taken ++ items) (x ∷ [])
+  grown : (seat : ℕ) (x : Item T) (taken items : List (Item T))
+      → items_of seat (taken ++ (items ++ x ∷ [])) ≡ items_of seat (taken ++ items) ++ items_of seat (x ∷ [])
+  grown seat x taken items =
+      ap (items_of seat) (sym (append_assoc taken items (x ∷ []))) ∙ items_of-append seat (taken ++ items) (x ∷ [])
 
   -- one item more, of its own seat and of another
   pub of_own : (seat : ℕ) (x : Item T) → (seat == x.seat) ≡ true → items_of seat (x ∷ []) ≡ x.what ∷ []
@@ -88,7 +102,8 @@ module _ {T : Type 0} where
   only seat other Nothing p q = none p
   only seat other (AllFrom first) p q = none p
 
-  pub sending : (n port : ℕ) (v : LineView T) (x : Item T) → is_sender x.seat v.sending ≡ true → Pushes InOrder n port v x (λ w. w ≡ with_sent x v)
+  pub sending : (n port : ℕ) (v : LineView T) (x : Item T) → is_sender x.seat v.sending ≡ true
+      → Pushes InOrder n port v x (λ w. w ≡ with_sent x v)
   sending n port v x may items views room h at =
       let w : LineView T = with_sent x v in
       let mine = h.3 port v at in
@@ -101,15 +116,22 @@ module _ {T : Type 0} where
           each_set (Fits h.0 h.1 h.2 (items ++ x ∷ [])) views port w (
             (λ s p.
                 let was = more_sends s x.what v.sending p in
-                let own = eq-eqb s x.seat (only x.seat s v.sending may was) in
-                ((mine.0 s was).0, more_sent x.seat x.what v.sending may ∙ (λ i. (mine.0 s was).1 i ++ sym (of_own s x own) i) ∙ sym (grown s x h.2 items))),
+                let own = eq-eqb s x.seat (only x.seat s v.sending may was) in (
+                  (mine.0 s was).0,
+                  more_sent x.seat x.what v.sending may ∙ (λ i. (mine.0 s was).1 i ++ sym (of_own s x own) i)
+                      ∙ sym (grown s x h.2 items),
+                )),
             mine.1,
           )
               (λ j u other e. (
                 (λ s p.
                     let it = (h.3 j u e).0 s p in
-                    let apart : (s == x.seat) ≡ false = differ s x.seat (λ q. other (it.0 ∙ ap h.0 q ∙ sym first.0)) in
-                    (it.0, it.1 ∙ sym (append-nil (items_of s (h.2 ++ items))) ∙ (λ i. items_of s (h.2 ++ items) ++ sym (of_other s x apart) i) ∙ sym (grown s x h.2 items))),
+                    let apart : (s == x.seat) ≡ false =
+                    differ s x.seat (λ q. other (it.0 ∙ ap h.0 q ∙ sym first.0)) in (
+                      it.0,
+                      it.1 ∙ sym (append-nil (items_of s (h.2 ++ items)))
+                          ∙ (λ i. items_of s (h.2 ++ items) ++ sym (of_other s x apart) i) ∙ sym (grown s x h.2 items),
+                    )),
                 (h.3 j u e).1,
               )),
         ),
@@ -120,41 +142,55 @@ module _ {T : Type 0} where
   never_none : (x : Item T) (xs ys : List (Item T)) → items_of x.seat (xs ++ x ∷ ys) ≢ []
   never_none x xs ys e =
       let ours = λ (y : Item T). x.seat == y.seat in
-      let front : items_of x.seat (x ∷ ys) ≡ x.what ∷ items_of x.seat ys = ap (λ b. map (λ (y : Item T). y.what) (cond b (x ∷ filter ours ys) (filter ours ys))) (same x.seat) in
+      let front : items_of x.seat (x ∷ ys) ≡ x.what ∷ items_of x.seat ys =
+      ap (λ b. map (λ (y : Item T). y.what) (cond b (x ∷ filter ours ys) (filter ours ys))) (same x.seat) in
       let all = ap length (sym e ∙ items_of-append x.seat xs (x ∷ ys) ∙ ap (λ l. items_of x.seat xs ++ l) front) in
       let n = length-append (items_of x.seat xs) (x.what ∷ items_of x.seat ys) in
       omega arith
 
-  pub taking : (port : ℕ) (v : LineView T) → v.takes ≡ true → Pops InOrder port v (λ x w. (w ≡ with_taken x v) × IsOfAnother v x)
+  pub taking : (port : ℕ) (v : LineView T) → v.takes ≡ true
+      → Pops InOrder port v (λ x w. (w ≡ with_taken x v) × IsOfAnother v x)
   taking port v may x items views h at =
       let w : LineView T = with_taken x v in
       let mine = h.3 port v at in
       let taken : List (Item T) = h.2 ++ x ∷ [] in
-      let as_one : (s : ℕ) → items_of s (h.2 ++ x ∷ items) ≡ items_of s (taken ++ items) = λ s. ap (items_of s) (sym (append_assoc h.2 (x ∷ []) items)) in (
+      let as_one : (s : ℕ) → items_of s (h.2 ++ x ∷ items) ≡ items_of s (taken ++ items) =
+      λ s. ap (items_of s) (sym (append_assoc h.2 (x ∷ []) items)) in (
         w,
         (
           h.0,
           h.1,
           taken,
-          each_set (Fits h.0 h.1 taken items) views port w
-              ((λ s p. ((mine.0 s p).0, (mine.0 s p).1 ∙ as_one s)), λ _. ((mine.1 may).0, ap (λ l. l ++ x ∷ []) (mine.1 may).1))
-              (λ j u other e. ((λ s p. (((h.3 j u e).0 s p).0, ((h.3 j u e).0 s p).1 ∙ as_one s)), λ p. absurd (other (((h.3 j u e).1 p).0 ∙ sym (mine.1 may).0)))),
+          each_set (Fits h.0 h.1 taken items) views port w (
+            (λ s p. ((mine.0 s p).0, (mine.0 s p).1 ∙ as_one s)),
+            λ _. ((mine.1 may).0, ap (λ l. l ++ x ∷ []) (mine.1 may).1),
+          )
+              (λ j u other e. (
+                (λ s p. (((h.3 j u e).0 s p).0, ((h.3 j u e).0 s p).1 ∙ as_one s)),
+                λ p. absurd (other (((h.3 j u e).1 p).0 ∙ sym (mine.1 may).0)),
+              )),
         ),
         (refl, λ may_send empty. never_none x h.2 items (sym (mine.0 x.seat may_send).1 ∙ empty)),
       )
 
   -- an item of a list with one more at the end, and where it is
-  at_more : (l : List (LineView T)) (a b : LineView T) (j : ℕ) → get_elem? (l ++ a ∷ []) j ≡ some b → (get_elem? l j ≡ some b) ⊎ ((j ≡ length l) × (a ≡ b))
+  at_more : (l : List (LineView T)) (a b : LineView T) (j : ℕ) → get_elem? (l ++ a ∷ []) j ≡ some b
+      → (get_elem? l j ≡ some b) ⊎ ((j ≡ length l) × (a ≡ b))
   at_more [] a b zero e = inr (refl, some-injective a b e)
   at_more [] a b (suc j) e = absurd (some-ne-none b (sym e))
   at_more (x ∷ xs) a b zero e = inl e
   at_more (x ∷ xs) a b (suc j) e = ⊎_elim (λ p. inl p) (λ p. inr (ap suc p.0, p.1)) (at_more xs a b j e)
 
-  each_more : (F : ℕ → LineView T → Type 0) (views : List (LineView T)) (w : LineView T) → Each F views → F (length views) w → Each F (views ++ w ∷ [])
-  each_more F views w old new j u e = ⊎_elim (old j u) (λ (x : (j ≡ length views) × (w ≡ u)). subst (λ (y : ℕ × LineView T). F y.0 y.1) (λ i. (sym x.0 i, x.1 i)) new) (at_more views w u j e)
+  each_more : (F : ℕ → LineView T → Type 0) (views : List (LineView T)) (w : LineView T) → Each F views
+      → F (length views) w → Each F (views ++ w ∷ [])
+  each_more F views w old new j u e =
+      ⊎_elim (old j u)
+      (λ (x : (j ≡ length views) × (w ≡ u)). subst (λ (y : ℕ × LineView T). F y.0 y.1) (λ i. (sym x.0 i, x.1 i)) new)
+      (at_more views w u j e)
 
   -- what is kept where the next seat's sender is cut off, and what is cut off
-  kept : (seat : ℕ) (k : Sending T) → sends seat (after k) ≡ true → (sends seat k ≡ true) × (sent (after k) ≡ sent k) × (sends seat (next k) ≡ true → ⊥)
+  kept : (seat : ℕ) (k : Sending T) → sends seat (after k) ≡ true
+      → (sends seat k ≡ true) × (sent (after k) ≡ sent k) × (sends seat (next k) ≡ true → ⊥)
   kept seat (AllFrom first) p =
       let above = leb-true (first + 1) seat p in
       (le-leb first seat (omega arith), refl, λ q. let e = eqb-true seat first q in omega arith)
@@ -178,40 +214,57 @@ module _ {T : Type 0} where
         h.1,
         h.2,
         each_more (Fits sender h.1 h.2 items) vs r
-            (each_set (Fits sender h.1 h.2 items) views port l
-            ((λ s p. let k = kept s v.sending p in ((mine.0 s k.0).0 ∙ sym (stays (sends s r.sending) n (h.0 s) k.2), k.1 ∙ (mine.0 s k.0).1)), mine.1)
+            (each_set (Fits sender h.1 h.2 items) views port l (
+              (λ s p. let k = kept s v.sending p in
+                  ((mine.0 s k.0).0 ∙ sym (stays (sends s r.sending) n (h.0 s) k.2), k.1 ∙ (mine.0 s k.0).1)),
+              mine.1,
+            )
             (λ j u other e. (
-              (λ s p. let it = (h.3 j u e).0 s p in (it.0 ∙ sym (stays (sends s r.sending) n (h.0 s) (λ q. other (it.0 ∙ sym (mine.0 s (cut s v.sending q).0).0))), it.1)),
+              (λ s p. let it = (h.3 j u e).0 s p in (
+                it.0 ∙ sym
+                    (stays (sends s r.sending) n (h.0 s) (λ q. other (it.0 ∙ sym (mine.0 s (cut s v.sending q).0).0))),
+                it.1,
+              )),
               (h.3 j u e).1,
-            )))
-            ((λ s p. let c = cut s v.sending p in (sym (ap (λ b. cond b n (h.0 s)) p), c.1 ∙ (mine.0 s c.0).1)), λ p. none p),
+            ))) (
+              (λ s p. let c = cut s v.sending p in (sym (ap (λ b. cond b n (h.0 s)) p), c.1 ∙ (mine.0 s c.0).1)),
+              λ p. none p,
+            ),
       )
 
-  pub merging : (port : ℕ) (v : LineView T) (other : ℕ) (u : LineView T) → Merges InOrder port v other u (joined v u) idle
+  pub merging : (port : ℕ) (v : LineView T) (other : ℕ) (u : LineView T)
+      → Merges InOrder port v other u (joined v u) idle
   merging port v other u items views h at two at' =
       let both : LineView T = joined v u in
       let mine = h.3 port v at in
       let vs : List (LineView T) = set views port both in
-      let was : get_elem? views other ≡ some u = ⊎_elim (λ x. absurd (two x.0)) (λ x. x.1) (at_set views port other both u at') in
+      let was : get_elem? views other ≡ some u =
+      ⊎_elim (λ x. absurd (two x.0)) (λ x. x.1) (at_set views port other both u at') in
       let theirs = h.3 other u was in
       let sender : ℕ → ℕ = λ s. cond (sends s u.sending) port (h.0 s) in
       let Now : ℕ → LineView T → Type 0 = λ j y. j ≢ other → Fits sender h.1 h.2 items j y in
       let now : Each Now vs = each_set Now views port both
       (λ _. ((λ s q. (sym (ap (λ b. cond b port (h.0 s)) q), (theirs.0 s q).1)), mine.1))
       (λ j y _ e apart. (
-        (λ s p. let it = (h.3 j y e).0 s p in (it.0 ∙ sym (stays (sends s u.sending) port (h.0 s) (λ q. apart (it.0 ∙ sym (theirs.0 s q).0))), it.1)),
+        (λ s p. let it = (h.3 j y e).0 s p in
+            (it.0 ∙ sym (stays (sends s u.sending) port (h.0 s) (λ q. apart (it.0 ∙ sym (theirs.0 s q).0))), it.1)),
         (h.3 j y e).1,
       )) in (
         sender,
         h.1,
         h.2,
-        each_set (Fits sender h.1 h.2 items) vs other idle ((λ s p. none p), λ p. none p) (λ j y apart e. now j y e apart),
+        each_set (Fits sender h.1 h.2 items) vs other idle ((λ s p. none p), λ p. none p)
+            (λ j y apart e. now j y e apart),
       )
 
   pub learning : (port : ℕ) (v : LineView T) → Learns InOrder port v (Waits v)
-  learning port v items views h at = let mine = h.3 port v at in λ takes s may. (mine.0 s may).1 ∙ ap (λ l. items_of s (l ++ items)) (sym (mine.1 takes).1)
+  learning port v items views h at =
+      let mine = h.3 port v at in
+      λ takes s may. (mine.0 s may).1 ∙ ap (λ l. items_of s (l ++ items)) (sym (mine.1 takes).1)
 
   -- a taken item is of a seat that was cut off
-  pub seat_below : (seats : ℕ) (taken : List (Item T)) (v : LineView T) (x : Item T) → v ≡ taker_view seats taken → IsOfAnother v x → seats ≤ x.seat → ⊥
+  pub seat_below : (seats : ℕ) (taken : List (Item T)) (v : LineView T) (x : Item T) → v ≡ taker_view seats taken
+      → IsOfAnother v x → seats ≤ x.seat → ⊥
   seat_below seats taken v x e other above =
-      subst (λ (y : LineView T). sends x.seat y.sending ≡ true → sent y.sending ≢ []) e other (le-leb seats x.seat above) refl
+      subst (λ (y : LineView T). sends x.seat y.sending ≡ true → sent y.sending ≢ []) e other
+      (le-leb seats x.seat above) refl

@@ -1,5 +1,6 @@
 -- What a seat's passes know after a request, an answer, and the end.
-use Rattle.std.proofs.Common.{◌≡◌, ◌≤◌, ◌==◌, ℕ, zero, suc, Bool, true, false, true≢false, List, [], ◌∷◌, ◌++◌, length, length-append, sym, refl, ap, ◌∙◌, arith, append-nil, Result, Ok, Err, MatchResult}
+use Rattle.std.proofs.Common.{◌≡◌, ◌≤◌, ◌==◌, ℕ, zero, suc, Bool, true, false, true≢false, List, [], ◌∷◌, ◌++◌, length}
+use Rattle.std.proofs.Common.{length-append, sym, refl, ap, ◌∙◌, arith, append-nil, Result, Ok, Err, MatchResult}
 use Rattle.std.proofs.lemmas.List.{map-append}
 use Rattle.upload_names.specs.declared.digest.Algorithm.{Algorithm}
 use Rattle.upload_service.specs.declared.ask.Ask.{Ask}
@@ -25,7 +26,8 @@ jobs_in-append (message.Job ask secret ∷ xs) ys = ap (λ l. (ask, secret) ∷ 
 jobs_in-append (message.Hash at by ∷ xs) ys = jobs_in-append xs ys
 jobs_in-append (message.Finish ∷ xs) ys = jobs_in-append xs ys
 
-still_unfinished : (xs : List Message) (m : Message) → has_finish (m ∷ []) ≡ false → has_finish xs ≡ false → has_finish (xs ++ m ∷ []) ≡ false
+still_unfinished : (xs : List Message) (m : Message) → has_finish (m ∷ []) ≡ false → has_finish xs ≡ false
+    → has_finish (xs ++ m ∷ []) ≡ false
 still_unfinished [] m last e = last
 still_unfinished (message.Job a s ∷ xs) m last e = still_unfinished xs m last e
 still_unfinished (message.Hash a b ∷ xs) m last e = still_unfinished xs m last e
@@ -49,26 +51,34 @@ zero_unless (suc n) h = absurd (h (omega arith))
 
 module _ (seat : ℕ) (gone : Bool) (j : LineView Message) (r : LineView Answer) (s : Sits seat gone j r) where
   -- the view of the jobs, after one message more
-  more : (m : Message) (j' : LineView Message) → j' ≡ with_sent (record { seat = seat; what = m }) j → j' ≡ sender_view seat (s.sent ++ m ∷ [])
+  more : (m : Message) (j' : LineView Message) → j' ≡ with_sent (record { seat = seat; what = m }) j
+      → j' ≡ sender_view seat (s.sent ++ m ∷ [])
   more m j' e = e ∙ ap (with_sent (record { seat = seat; what = m })) s.knows.jobs_view
 
   jobs_before : jobs_in (sent j.sending) ≡ jobs_in s.sent
   jobs_before = ap (λ v. jobs_in (sent v.sending)) s.knows.jobs_view
 
-  jobs_after : (m : Message) (j' : LineView Message) → j' ≡ with_sent (record { seat = seat; what = m }) j → jobs_in (sent j'.sending) ≡ jobs_in s.sent ++ jobs_in (m ∷ [])
+  jobs_after : (m : Message) (j' : LineView Message) → j' ≡ with_sent (record { seat = seat; what = m }) j
+      → jobs_in (sent j'.sending) ≡ jobs_in s.sent ++ jobs_in (m ∷ [])
   jobs_after m j' e =
       ap (λ v. jobs_in (sent v.sending)) (more m j' e) ∙ jobs_in-append s.sent (m ∷ [])
 
-  pub one_more_sent : (ask : Ask) (secret : List ℕ) (j' : LineView Message) → j' ≡ with_sent (record { seat = seat; what = message.Job ask secret }) j → jobs_in (sent j'.sending) ≡ jobs_in (sent j.sending) ++ (ask, secret) ∷ []
-  one_more_sent ask secret j' e = jobs_after (message.Job ask secret) j' e ∙ ap (λ l. l ++ (ask, secret) ∷ []) (sym jobs_before)
+  pub one_more_sent : (ask : Ask) (secret : List ℕ) (j' : LineView Message)
+      → j' ≡ with_sent (record { seat = seat; what = message.Job ask secret }) j
+      → jobs_in (sent j'.sending) ≡ jobs_in (sent j.sending) ++ (ask, secret) ∷ []
+  one_more_sent ask secret j' e =
+      jobs_after (message.Job ask secret) j' e ∙ ap (λ l. l ++ (ask, secret) ∷ []) (sym jobs_before)
 
-  no_more_sent : (j' : LineView Message) → j' ≡ with_sent (record { seat = seat; what = message.Finish }) j → jobs_in (sent j'.sending) ≡ jobs_in (sent j.sending)
+  no_more_sent : (j' : LineView Message) → j' ≡ with_sent (record { seat = seat; what = message.Finish }) j
+      → jobs_in (sent j'.sending) ≡ jobs_in (sent j.sending)
   no_more_sent j' e = jobs_after message.Finish j' e ∙ append-nil (jobs_in s.sent) ∙ sym jobs_before
 
   -- a wish was sent, which is no job
-  pub wish_sent : (at : List ℕ) (by : Algorithm) (j' : LineView Message) → j' ≡ with_sent (record { seat = seat; what = message.Hash at by }) j → Sits seat gone j' r
+  pub wish_sent : (at : List ℕ) (by : Algorithm) (j' : LineView Message)
+      → j' ≡ with_sent (record { seat = seat; what = message.Hash at by }) j → Sits seat gone j' r
   wish_sent at by j' e =
-      let same : jobs_in (s.sent ++ message.Hash at by ∷ []) ≡ jobs_in s.sent = jobs_in-append s.sent (message.Hash at by ∷ []) ∙ append-nil (jobs_in s.sent) in
+      let same : jobs_in (s.sent ++ message.Hash at by ∷ []) ≡ jobs_in s.sent =
+      jobs_in-append s.sent (message.Hash at by ∷ []) ∙ append-nil (jobs_in s.sent) in
       record {
         sent = s.sent ++ message.Hash at by ∷ [];
         knows = record {
@@ -81,11 +91,14 @@ module _ (seat : ℕ) (gone : Bool) (j : LineView Message) (r : LineView Answer)
         unfinished = still_unfinished s.sent (message.Hash at by) refl s.unfinished;
       }
 
-  pub no_job_sent : (at : List ℕ) (by : Algorithm) (j' : LineView Message) → j' ≡ with_sent (record { seat = seat; what = message.Hash at by }) j → jobs_in (sent j'.sending) ≡ jobs_in (sent j.sending)
+  pub no_job_sent : (at : List ℕ) (by : Algorithm) (j' : LineView Message)
+      → j' ≡ with_sent (record { seat = seat; what = message.Hash at by }) j
+      → jobs_in (sent j'.sending) ≡ jobs_in (sent j.sending)
   no_job_sent at by j' e = jobs_after (message.Hash at by) j' e ∙ append-nil (jobs_in s.sent) ∙ sym jobs_before
 
-  pub answered : gone ≡ false → (ask : Ask) (secret : List ℕ) (x : Item Answer) (j' : LineView Message) (r' : LineView Answer)
-      → j' ≡ with_sent (record { seat = seat; what = message.Job ask secret }) j → (r' ≡ with_taken x r) × IsOfAnother r x → Sits seat gone j' r'
+  pub answered : gone ≡ false → (ask : Ask) (secret : List ℕ) (x : Item Answer) (j' : LineView Message)
+      (r' : LineView Answer) → j' ≡ with_sent (record { seat = seat; what = message.Job ask secret }) j
+      → (r' ≡ with_taken x r) × IsOfAnother r x → Sits seat gone j' r'
   answered here ask secret x j' r' e f =
       let n : length s.knows.got ≡ length (jobs_in s.sent) = s.knows.each_answered here in
       record {
@@ -94,8 +107,17 @@ module _ (seat : ℕ) (gone : Bool) (j : LineView Message) (r : LineView Answer)
           got = s.knows.got ++ x ∷ [];
           jobs_view = more (message.Job ask secret) j' e;
           replies_view = f.0 ∙ ap (with_taken x) s.knows.replies_view;
-          of_one = items_of-append 0 s.knows.got (x ∷ []) ∙ (λ i. s.knows.of_one i ++ of_own 0 x (zero_unless x.seat (seat_below 1 s.knows.got r x s.knows.replies_view f.1)) i) ∙ sym (whats_more s.knows.got x);
-          each_answered = λ _. omega (arith, length-append s.knows.got (x ∷ []), ap length (jobs_in-append s.sent (message.Job ask secret ∷ [])), length-append (jobs_in s.sent) ((ask, secret) ∷ []), n);
+          of_one =
+              items_of-append 0 s.knows.got (x ∷ []) ∙ (λ i. s.knows.of_one i
+              ++ of_own 0 x (zero_unless x.seat (seat_below 1 s.knows.got r x s.knows.replies_view f.1)) i)
+              ∙ sym (whats_more s.knows.got x);
+          each_answered = λ _. omega (
+            arith,
+            length-append s.knows.got (x ∷ []),
+            ap length (jobs_in-append s.sent (message.Job ask secret ∷ [])),
+            length-append (jobs_in s.sent) ((ask, secret) ∷ []),
+            n,
+          );
         };
         unfinished = still_unfinished s.sent (message.Job ask secret) refl s.unfinished;
       }
@@ -114,7 +136,8 @@ module _ (seat : ℕ) (gone : Bool) (j : LineView Message) (r : LineView Answer)
     unfinished = still_unfinished s.sent (message.Job ask secret) refl s.unfinished;
   }
 
-  ended : (j' : LineView Message) → j' ≡ with_sent (record { seat = seat; what = message.Finish }) j → SatToTheEnd seat gone j' r
+  ended : (j' : LineView Message) → j' ≡ with_sent (record { seat = seat; what = message.Finish }) j
+      → SatToTheEnd seat gone j' r
   ended j' e = record {
     sent = s.sent ++ message.Finish ∷ [];
     knows = record {
@@ -122,7 +145,9 @@ module _ (seat : ℕ) (gone : Bool) (j : LineView Message) (r : LineView Answer)
       jobs_view = more message.Finish j' e;
       replies_view = s.knows.replies_view;
       of_one = s.knows.of_one;
-      each_answered = λ p. s.knows.each_answered p ∙ ap length (sym (jobs_in-append s.sent (message.Finish ∷ []) ∙ append-nil (jobs_in s.sent)));
+      each_answered =
+          λ p. s.knows.each_answered p
+          ∙ ap length (sym (jobs_in-append s.sent (message.Finish ∷ []) ∙ append-nil (jobs_in s.sent)));
     };
     finished_last = closed_by_finish s.sent s.unfinished;
   }
@@ -130,34 +155,62 @@ module _ (seat : ℕ) (gone : Bool) (j : LineView Message) (r : LineView Answer)
   ended_unsent : (j' : LineView Message) → j' ≡ j → SatToTheEnd seat gone j' r
   ended_unsent j' e = record {
     sent = s.sent;
-    knows = record { got = s.knows.got; jobs_view = e ∙ s.knows.jobs_view; replies_view = s.knows.replies_view; of_one = s.knows.of_one; each_answered = s.knows.each_answered };
+    knows = record {
+      got = s.knows.got;
+      jobs_view = e ∙ s.knows.jobs_view;
+      replies_view = s.knows.replies_view;
+      of_one = s.knows.of_one;
+      each_answered = s.knows.each_answered;
+    };
     finished_last = closed_without s.sent s.unfinished;
   }
 
   -- whether or not the finish was sent
-  pub ended_by : (j' : LineView Message) (o : Result (Unit {0}) (Item Message)) → MatchResult o (λ _. j' ≡ with_sent (record { seat = seat; what = message.Finish }) j) (λ back. (back ≡ record { seat = seat; what = message.Finish }) × (j' ≡ j)) → SatToTheEnd seat gone j' r
+  pub ended_by : (j' : LineView Message) (o : Result (Unit {0}) (Item Message))
+      → MatchResult o (λ _. j' ≡ with_sent (record { seat = seat; what = message.Finish }) j)
+      (λ back. (back ≡ record { seat = seat; what = message.Finish }) × (j' ≡ j)) → SatToTheEnd seat gone j' r
   ended_by j' (Ok x) m = ended j' m
   ended_by j' (Err b) m = ended_unsent j' m.1
 
-  pub same_by : (j' : LineView Message) (o : Result (Unit {0}) (Item Message)) → MatchResult o (λ _. j' ≡ with_sent (record { seat = seat; what = message.Finish }) j) (λ back. (back ≡ record { seat = seat; what = message.Finish }) × (j' ≡ j)) → jobs_in (sent j'.sending) ≡ jobs_in (sent j.sending)
+  pub same_by : (j' : LineView Message) (o : Result (Unit {0}) (Item Message))
+      → MatchResult o (λ _. j' ≡ with_sent (record { seat = seat; what = message.Finish }) j) (λ back.
+      (back ≡ record { seat = seat; what = message.Finish }) × (j' ≡ j))
+      → jobs_in (sent j'.sending) ≡ jobs_in (sent j.sending)
   same_by j' (Ok x) m = no_more_sent j' m
   same_by j' (Err b) m = ap (λ v. jobs_in (sent v.sending)) m.1
 
 abbrev seat_state : LineId Message → LineId Answer → ℕ → List Job → List Answer → Bool → SeatState
-seat_state jobs replies seat sent heard gone = record { jobs = jobs; replies = replies; seat = seat; sent = sent; heard = heard; gone = gone }
+seat_state jobs replies seat sent heard gone =
+    record { jobs = jobs; replies = replies; seat = seat; sent = sent; heard = heard; gone = gone }
 
-pub told : (a a' : LineId Message) (b b' : LineId Answer) (seat : ℕ) (s s' : List Job) (h h' : List Answer) (g g' last : Bool) (old : SeatState) (ms : List Job) (mh : List Answer)
-    → seat_state a b seat s h g ≡ old → a' ≡ a → b' ≡ b → s' ≡ s ++ ms → h' ≡ h ++ mh → g' ≡ last
+pub told : (a a' : LineId Message) (b b' : LineId Answer) (seat : ℕ) (s s' : List Job) (h h' : List Answer)
+    (g g' last : Bool) (old : SeatState) (ms : List Job) (mh : List Answer) → seat_state a b seat s h g ≡ old → a' ≡ a
+    → b' ≡ b → s' ≡ s ++ ms → h' ≡ h ++ mh → g' ≡ last
     → seat_state a' b' seat s' h' g' ≡ seat_state old.jobs old.replies old.seat (old.sent ++ ms) (old.heard ++ mh) last
 told a a' b b' seat s s' h h' g g' last old ms mh is p q u v w =
-    λ i. record { jobs = (p ∙ ap (λ o. o.jobs) is) i; replies = (q ∙ ap (λ o. o.replies) is) i; seat = ap (λ o. o.seat) is i; sent = (u ∙ ap (λ o. o.sent ++ ms) is) i; heard = (v ∙ ap (λ o. o.heard ++ mh) is) i; gone = w i }
+    λ i. record {
+      jobs = (p ∙ ap (λ o. o.jobs) is) i;
+      replies = (q ∙ ap (λ o. o.replies) is) i;
+      seat = ap (λ o. o.seat) is i;
+      sent = (u ∙ ap (λ o. o.sent ++ ms) is) i;
+      heard = (v ∙ ap (λ o. o.heard ++ mh) is) i;
+      gone = w i;
+    }
 
-pub told_none : (a a' : LineId Message) (b b' : LineId Answer) (seat : ℕ) (s s' : List Job) (h h' : List Answer) (g : Bool) (old : SeatState) (ms : List Job)
-    → seat_state a b seat s h g ≡ old → a' ≡ a → b' ≡ b → s' ≡ s ++ ms → h' ≡ h
-    → seat_state a' b' seat s' h' true ≡ seat_state old.jobs old.replies old.seat (old.sent ++ ms) old.heard true
+pub told_none : (a a' : LineId Message) (b b' : LineId Answer) (seat : ℕ) (s s' : List Job) (h h' : List Answer)
+    (g : Bool) (old : SeatState) (ms : List Job) → seat_state a b seat s h g ≡ old → a' ≡ a → b' ≡ b → s' ≡ s ++ ms → h'
+    ≡ h → seat_state a' b' seat s' h' true ≡ seat_state old.jobs old.replies old.seat (old.sent ++ ms) old.heard true
 told_none a a' b b' seat s s' h h' g old ms is p q u v =
-    λ i. record { jobs = (p ∙ ap (λ o. o.jobs) is) i; replies = (q ∙ ap (λ o. o.replies) is) i; seat = ap (λ o. o.seat) is i; sent = (u ∙ ap (λ o. o.sent ++ ms) is) i; heard = (v ∙ ap (λ o. o.heard) is) i; gone = true }
+    λ i. record {
+      jobs = (p ∙ ap (λ o. o.jobs) is) i;
+      replies = (q ∙ ap (λ o. o.replies) is) i;
+      seat = ap (λ o. o.seat) is i;
+      sent = (u ∙ ap (λ o. o.sent ++ ms) is) i;
+      heard = (v ∙ ap (λ o. o.heard) is) i;
+      gone = true;
+    }
 
-pub told_nothing : (a a' : LineId Message) (b : LineId Answer) (seat : ℕ) (s s' : List Job) (h : List Answer) (g : Bool) (old : SeatState)
-    → seat_state a b seat s h g ≡ old → a' ≡ a → s' ≡ s → seat_state a' b seat s' h g ≡ old
-told_nothing a a' b seat s s' h g old is p u = (λ i. record { jobs = p i; replies = b; seat = seat; sent = u i; heard = h; gone = g }) ∙ is
+pub told_nothing : (a a' : LineId Message) (b : LineId Answer) (seat : ℕ) (s s' : List Job) (h : List Answer) (g : Bool)
+    (old : SeatState) → seat_state a b seat s h g ≡ old → a' ≡ a → s' ≡ s → seat_state a' b seat s' h g ≡ old
+told_nothing a a' b seat s s' h g old is p u =
+    (λ i. record { jobs = p i; replies = b; seat = seat; sent = u i; heard = h; gone = g }) ∙ is

@@ -1,5 +1,7 @@
 -- What the ends of a settlement say together.
-use Rattle.std.proofs.Common.{◌≡◌, ℕ, ◌<◌, ◌==◌, suc, Bool, true, false, true≢false, cond, List, [], ◌∷◌, ◌++◌, length, map, filter, length-append, sym, refl, ap, ◌∙◌, subst, arith, append-nil, append_assoc, get_or, min}
+use Rattle.std.proofs.Common.{◌≡◌, ℕ, ◌<◌, ◌==◌, suc, Bool, true, false, true≢false, cond, List, [], ◌∷◌, ◌++◌, length}
+use Rattle.std.proofs.Common.{map, filter, length-append, sym, refl, ap, ◌∙◌, subst, arith, append-nil, append_assoc}
+use Rattle.std.proofs.Common.{get_or, min}
 use Rattle.std.proofs.lemmas.List.{length-map}
 use Rattle.std.specs.List.{AllByRecursion}
 use Rattle.upload_service.specs.Headline.{HeadlineHolds}
@@ -19,7 +21,8 @@ use Rattle.upload_intake.specs.Served.{KeeperState, IsServed, IsSeatOf, AreOfOne
 use Rattle.crossbeam_channel.specs.Claims.{view as known}
 use Rattle.upload_intake.specs.Log.{TakenJob, Step, exchanges_of, taken_by, jobs_of, answers_to}
 use Rattle.upload_intake.specs.Passes.{LineId, sender_view, taker_view, whats}
-use Rattle.upload_intake.specs.Kept.{jobs_in, taken_in, add_job, has_finish, is_empty, is_closed, Outlet, outlet_of, Replied, SatToTheEnd, IsKeeping, AreDone, TookFinish}
+use Rattle.upload_intake.specs.Kept.{jobs_in, taken_in, add_job, has_finish, is_empty, is_closed, Outlet, outlet_of}
+use Rattle.upload_intake.specs.Kept.{Replied, SatToTheEnd, IsKeeping, AreDone, TookFinish}
 use Rattle.upload_intake.proofs.KeeperMoves.{served}
 use Rattle.upload_intake.proofs.LineMoves.{same, items_of-append}
 use Rattle.upload_intake.proofs.Opening.{get_or-map, get_or-mid, mid_below}
@@ -37,25 +40,39 @@ nothing_after (message.Hash a b ∷ xs) ys f c = nothing_after xs ys f c
 nothing_after (message.Finish ∷ xs) ys f c = empty xs ys c
 
 -- where the finish was taken, everything was
-all_taken : (seat : ℕ) (taken waiting : List (Item Message)) (sent : List Message) → sent ≡ items_of seat (taken ++ waiting) → is_closed sent ≡ true → has_finish (items_of seat taken) ≡ true → items_of seat taken ≡ sent
+all_taken : (seat : ℕ) (taken waiting : List (Item Message)) (sent : List Message)
+    → sent ≡ items_of seat (taken ++ waiting) → is_closed sent ≡ true → has_finish (items_of seat taken) ≡ true
+    → items_of seat taken ≡ sent
 all_taken seat taken waiting sent e c f =
     let parts : sent ≡ items_of seat taken ++ items_of seat waiting = e ∙ items_of-append seat taken waiting in
-    let none : items_of seat waiting ≡ [] = nothing_after (items_of seat taken) (items_of seat waiting) f (ap is_closed (sym parts) ∙ c) in
+    let none : items_of seat waiting ≡ [] =
+    nothing_after (items_of seat taken) (items_of seat waiting) f (ap is_closed (sym parts) ∙ c) in
     sym (parts ∙ ap (λ l. items_of seat taken ++ l) none ∙ append-nil (items_of seat taken))
 
 -- of one item in front: its job is of its seat
-jobs_of-add_job : (seat : ℕ) (x : Item Message) (jobs : List TakenJob) → jobs_of seat (add_job x.seat x.what jobs) ≡ jobs_in (cond (seat == x.seat) (x.what ∷ []) []) ++ jobs_of seat jobs
+jobs_of-add_job : (seat : ℕ) (x : Item Message) (jobs : List TakenJob)
+    → jobs_of seat (add_job x.seat x.what jobs) ≡ jobs_in (cond (seat == x.seat) (x.what ∷ []) []) ++ jobs_of seat jobs
 jobs_of-add_job seat x jobs =
-    elim x.what as (λ m. jobs_of seat (add_job x.seat m jobs) ≡ jobs_in (cond (seat == x.seat) (m ∷ []) []) ++ jobs_of seat jobs) [
-      | message.Job ask secret ↦ elim (seat == x.seat) as (λ b. map (λ (j : TakenJob). j.job) (cond b (record { seat = x.seat; job = (ask, secret) } ∷ filter (λ (j : TakenJob). seat == j.seat) jobs) (filter (λ (j : TakenJob). seat == j.seat) jobs)) ≡ jobs_in (cond b (message.Job ask secret ∷ []) []) ++ jobs_of seat jobs) [ true ↦ refl | false ↦ refl ]
-      | message.Hash at by ↦ elim (seat == x.seat) as (λ b. jobs_of seat jobs ≡ jobs_in (cond b (message.Hash at by ∷ []) []) ++ jobs_of seat jobs) [ true ↦ refl | false ↦ refl ]
-      | message.Finish ↦ elim (seat == x.seat) as (λ b. jobs_of seat jobs ≡ jobs_in (cond b (message.Finish ∷ []) []) ++ jobs_of seat jobs) [ true ↦ refl | false ↦ refl ]
+    elim x.what
+    as (λ m. jobs_of seat (add_job x.seat m jobs) ≡ jobs_in (cond (seat == x.seat) (m ∷ []) []) ++ jobs_of seat jobs) [
+      | message.Job ask secret ↦ elim (seat == x.seat)
+          as (λ b. map (λ (j : TakenJob). j.job) (cond b (record { seat = x.seat; job = (ask, secret) }
+          ∷ filter (λ (j : TakenJob). seat == j.seat) jobs) (filter (λ (j : TakenJob). seat == j.seat) jobs))
+          ≡ jobs_in (cond b (message.Job ask secret ∷ []) []) ++ jobs_of seat jobs) [ true ↦ refl | false ↦ refl ]
+      | message.Hash at by ↦ elim (seat == x.seat) as (λ b. jobs_of seat jobs
+          ≡ jobs_in (cond b (message.Hash at by ∷ []) []) ++ jobs_of seat jobs) [ true ↦ refl | false ↦ refl ]
+      | message.Finish ↦ elim (seat == x.seat) as (λ b. jobs_of seat jobs
+          ≡ jobs_in (cond b (message.Finish ∷ []) []) ++ jobs_of seat jobs) [ true ↦ refl | false ↦ refl ]
     ]
 
-jobs_in-items_of : (seat : ℕ) (x : Item Message) (xs : List (Item Message)) → jobs_in (items_of seat (x ∷ xs)) ≡ jobs_in (cond (seat == x.seat) (x.what ∷ []) []) ++ jobs_in (items_of seat xs)
+jobs_in-items_of : (seat : ℕ) (x : Item Message) (xs : List (Item Message))
+    → jobs_in (items_of seat (x ∷ xs)) ≡ jobs_in (cond (seat == x.seat) (x.what ∷ []) []) ++ jobs_in (items_of seat xs)
 jobs_in-items_of seat x xs =
-    elim (seat == x.seat) as (λ b. jobs_in (map (λ (y : Item Message). y.what) (cond b (x ∷ filter (λ (y : Item Message). seat == y.seat) xs) (filter (λ (y : Item Message). seat == y.seat) xs))) ≡ jobs_in (cond b (x.what ∷ []) []) ++ jobs_in (items_of seat xs)) [
-      | true ↦ elim x.what as (λ m. jobs_in (m ∷ items_of seat xs) ≡ jobs_in (m ∷ []) ++ jobs_in (items_of seat xs)) [ message.Job ask secret ↦ refl | message.Hash at by ↦ refl | message.Finish ↦ refl ]
+    elim (seat == x.seat) as (λ b. jobs_in (map (λ (y : Item Message). y.what)
+    (cond b (x ∷ filter (λ (y : Item Message). seat == y.seat) xs) (filter (λ (y : Item Message). seat == y.seat) xs)))
+    ≡ jobs_in (cond b (x.what ∷ []) []) ++ jobs_in (items_of seat xs)) [
+      | true ↦ elim x.what as (λ m. jobs_in (m ∷ items_of seat xs) ≡ jobs_in (m ∷ []) ++ jobs_in (items_of seat xs))
+          [ message.Job ask secret ↦ refl | message.Hash at by ↦ refl | message.Finish ↦ refl ]
       | false ↦ refl
     ]
 
@@ -66,12 +83,16 @@ jobs_of-taken_in seat (x ∷ xs) =
     ∙ ap (λ l. jobs_in (cond (seat == x.seat) (x.what ∷ []) []) ++ l) (jobs_of-taken_in seat xs)
     ∙ sym (jobs_in-items_of seat x xs)
 
-length-answers_to : (seat : ℕ) (steps : List Step) → length (answers_to seat steps) ≡ length (jobs_of seat (taken_by steps))
+length-answers_to : (seat : ℕ) (steps : List Step)
+    → length (answers_to seat steps) ≡ length (jobs_of seat (taken_by steps))
 length-answers_to seat [] = refl
 length-answers_to seat (s ∷ steps) =
     let ours = λ (y : Step). seat == y.seat in
     let theirs = λ (j : TakenJob). seat == j.seat in
-    elim (seat == s.seat) as (λ b. length (map (λ (y : Step). y.exchange.answer) (cond b (s ∷ filter ours steps) (filter ours steps))) ≡ length (map (λ (j : TakenJob). j.job) (cond b (record { seat = s.seat; job = (s.exchange.ask, s.exchange.secret) } ∷ filter theirs (taken_by steps)) (filter theirs (taken_by steps)))))
+    elim (seat == s.seat)
+    as (λ b. length (map (λ (y : Step). y.exchange.answer) (cond b (s ∷ filter ours steps) (filter ours steps)))
+    ≡ length (map (λ (j : TakenJob). j.job) (cond b (record { seat = s.seat; job = (s.exchange.ask, s.exchange.secret) }
+    ∷ filter theirs (taken_by steps)) (filter theirs (taken_by steps)))))
     [ true ↦ ap suc (length-answers_to seat steps) | false ↦ length-answers_to seat steps ]
 
 module _ {T : Type 0} where
@@ -84,40 +105,63 @@ is_nil [] e = refl
 is_nil (x ∷ xs) e = absurd (omega arith)
 
 -- what a seat heard, of the answers to it
-heard : (seat : ℕ) (steps : List Step) (outlet : Outlet) (gone : Bool) (replies : LineView Answer) (got : List (Item Answer)) (sent : List Message)
-    → Replied seat steps outlet → replies ≡ taker_view 1 got → items_of 0 got ≡ whats got → ((waiting : List (Item Answer)) × Waits (joined replies outlet.view) waiting)
+heard : (seat : ℕ) (steps : List Step) (outlet : Outlet) (gone : Bool) (replies : LineView Answer)
+    (got : List (Item Answer)) (sent : List Message) → Replied seat steps outlet → replies ≡ taker_view 1 got
+    → items_of 0 got ≡ whats got → ((waiting : List (Item Answer)) × Waits (joined replies outlet.view) waiting)
     → (gone ≡ false → length got ≡ length (jobs_in sent)) → jobs_of seat (taken_by steps) ≡ jobs_in sent
     → (unheard : List Answer) × (answers_to seat steps ≡ whats replies.taken ++ unheard) × (gone ≡ false → unheard ≡ [])
 heard seat steps outlet gone replies got sent h is_taker of_one waits whole all =
     let waiting : List (Item Answer) = waits.0 in
-    let known : Waits (joined (taker_view 1 got) (sender_view 0 h.replies)) waiting = subst (λ (p : LineView Answer × LineView Answer). Waits (joined p.1 p.0) waiting) (λ i. (h.view i, is_taker i)) waits.1 in
+    let known : Waits (joined (taker_view 1 got) (sender_view 0 h.replies)) waiting =
+    subst (λ (p : LineView Answer × LineView Answer). Waits (joined p.1 p.0) waiting)
+    (λ i. (h.view i, is_taker i)) waits.1 in
     let later : List Answer = items_of 0 waiting in
-    let begins : h.replies ≡ whats got ++ later = known refl 0 refl ∙ items_of-append 0 got waiting ∙ ap (λ l. l ++ later) of_one in
-    let all_is : answers_to seat steps ≡ whats got ++ (later ++ h.unsent) = h.in_order ∙ ap (λ l. l ++ h.unsent) begins ∙ append_assoc (whats got) later h.unsent in (
+    let begins : h.replies ≡ whats got ++ later =
+    known refl 0 refl ∙ items_of-append 0 got waiting ∙ ap (λ l. l ++ later) of_one in
+    let all_is : answers_to seat steps ≡ whats got ++ (later ++ h.unsent) =
+    h.in_order ∙ ap (λ l. l ++ h.unsent) begins ∙ append_assoc (whats got) later h.unsent in (
       later ++ h.unsent,
       all_is ∙ ap (λ v. whats v.taken ++ (later ++ h.unsent)) (sym is_taker),
       λ here. is_nil (later ++ h.unsent)
-          (let a = whole here in let b = ap length all in let c = length-answers_to seat steps in let d = ap length all_is in let e = length-append (whats got) (later ++ h.unsent) in let k = length-whats got in omega arith),
+          (let a = whole here in let b = ap length all in let c = length-answers_to seat steps in
+          let d = ap length all_is in let e = length-append (whats got) (later ++ h.unsent) in
+          let k = length-whats got in omega arith),
     )
 
 -- One seat's end is settled, with the keeper's pass of the jobs and the seat's passes, which were joined.
-pub settled_seat : (start service : State) (now count : ℕ) (j : LineView Message) (lines : List ReplyLine) (steps : List Step) → IsKeeping start service now count steps j lines → AreDone lines
+pub settled_seat : (start service : State) (now count : ℕ) (j : LineView Message)
+    (lines : List ReplyLine) (steps : List Step) → IsKeeping start service now count steps j lines → AreDone lines
     → (seat : ℕ) (line : ReplyLine) → seat < length lines → line ≡ get_or lines seat line
-    → (number : ℕ) (gone : Bool) (sj : LineView Message) (sr : LineView Answer) → number ≡ seat → SatToTheEnd number gone sj sr
-    → (jt : LineView Message) → jt.takes ≡ true → jt.taken ≡ j.taken
-    → ((waiting : List (Item Message)) × Waits (joined jt sj) waiting) → ((waiting : List (Item Answer)) × Waits (joined sr (known line.replies.pass)) waiting)
-    → (jobs : LineId Message) (replies : LineId Answer) (end : SeatState)
-    → record { jobs = jobs; replies = replies; seat = number; sent = jobs_in (sent sj.sending); heard = whats sr.taken; gone = gone } ≡ end → IsSettledSeat seat steps end
-settled_seat start service now count j lines steps k done seat line below line_is number gone sj sr number_is sat jt takes taken jobs_wait replies_wait jobs replies end is =
+    → (number : ℕ) (gone : Bool) (sj : LineView Message) (sr : LineView Answer) → number ≡ seat
+    → SatToTheEnd number gone sj sr → (jt : LineView Message) → jt.takes ≡ true → jt.taken ≡ j.taken
+    → ((waiting : List (Item Message)) × Waits (joined jt sj) waiting)
+    → ((waiting : List (Item Answer)) × Waits (joined sr (known line.replies.pass)) waiting)
+    → (jobs : LineId Message) (replies : LineId Answer) (end : SeatState) → record {
+      jobs = jobs;
+      replies = replies;
+      seat = number;
+      sent = jobs_in (sent sj.sending);
+      heard = whats sr.taken;
+      gone = gone;
+    } ≡ end → IsSettledSeat seat steps end
+settled_seat start service now count j lines steps k done seat line below line_is number gone sj sr number_is sat jt
+    takes taken jobs_wait replies_wait jobs replies end is =
     let kept = k.each seat line below in
     let finish : TookFinish seat j = kept.finish (done seat line below) in
     let its_view : sj ≡ sender_view seat sat.sent = sat.knows.jobs_view ∙ ap (λ n. sender_view n sat.sent) number_is in
-    let waits : Waits (joined jt (sender_view seat sat.sent)) jobs_wait.0 = subst (λ v. Waits (joined jt v) jobs_wait.0) its_view jobs_wait.1 in
-    let all_sent : sat.sent ≡ items_of seat (j.taken ++ jobs_wait.0) = waits takes seat (same seat) ∙ ap (λ l. items_of seat (l ++ jobs_wait.0)) taken in
-    let items : items_of seat j.taken ≡ sat.sent = all_taken seat j.taken jobs_wait.0 sat.sent all_sent sat.finished_last finish in
-    let jobs_are : jobs_of seat (taken_by steps) ≡ jobs_in sat.sent = ap (jobs_of seat) k.keeps.is_taken ∙ jobs_of-taken_in seat j.taken ∙ ap jobs_in items in
-    let replied : Replied seat steps (outlet_of line) = subst (λ (y : ReplyLine). Replied seat steps (outlet_of y)) (sym line_is) kept.replied in
-    let h = heard seat steps (outlet_of line) gone sr sat.knows.got sat.sent replied sat.knows.replies_view sat.knows.of_one replies_wait sat.knows.each_answered jobs_are in
+    let waits : Waits (joined jt (sender_view seat sat.sent)) jobs_wait.0 =
+    subst (λ v. Waits (joined jt v) jobs_wait.0) its_view jobs_wait.1 in
+    let all_sent : sat.sent ≡ items_of seat (j.taken ++ jobs_wait.0) =
+    waits takes seat (same seat) ∙ ap (λ l. items_of seat (l ++ jobs_wait.0)) taken in
+    let items : items_of seat j.taken ≡ sat.sent =
+    all_taken seat j.taken jobs_wait.0 sat.sent all_sent sat.finished_last finish in
+    let jobs_are : jobs_of seat (taken_by steps) ≡ jobs_in sat.sent =
+    ap (jobs_of seat) k.keeps.is_taken ∙ jobs_of-taken_in seat j.taken ∙ ap jobs_in items in
+    let replied : Replied seat steps (outlet_of line) =
+    subst (λ (y : ReplyLine). Replied seat steps (outlet_of y)) (sym line_is) kept.replied in
+    let h =
+    heard seat steps (outlet_of line) gone sr sat.knows.got sat.sent replied sat.knows.replies_view sat.knows.of_one
+    replies_wait sat.knows.each_answered jobs_are in
     subst (λ (e : SeatState). IsSettledSeat seat steps e) is record {
       sent = jobs_are ∙ ap jobs_in (sym (ap (λ v. sent v.sending) its_view));
       heard = record { unheard = h.0; in_order = h.1; all = h.2 };
@@ -126,12 +170,16 @@ settled_seat start service now count j lines steps k done seat line below line_i
 -- ---- one seat after the other
 
 -- the next end is of the next seat
-pub next_seat : (keeper : KeeperState) (ends : List SeatState) → AreOfOneCall keeper ends → (done rest : List SeatState) (end : SeatState) → done ++ end ∷ rest ≡ ends → IsSeatOf keeper (length done) end
-next_seat keeper ends one done rest end e = subst (IsSeatOf keeper (length done)) (get_or-mid done end rest ends end e) (one.each (length done) end (mid_below done end rest ends e))
+pub next_seat : (keeper : KeeperState) (ends : List SeatState) → AreOfOneCall keeper ends
+    → (done rest : List SeatState) (end : SeatState) → done ++ end ∷ rest ≡ ends → IsSeatOf keeper (length done) end
+next_seat keeper ends one done rest end e =
+    subst (IsSeatOf keeper (length done)) (get_or-mid done end rest ends end e)
+    (one.each (length done) end (mid_below done end rest ends e))
 
 -- and the next line is its line
-pub its_line : (keeper : KeeperState) (lines : List ReplyLine) → map replies_on lines ≡ keeper.replies → (done rest : List ReplyLine) (line : ReplyLine) → done ++ line ∷ rest ≡ lines
-    → (number : ℕ) → number ≡ length done → (end : SeatState) → IsSeatOf keeper number end → end.replies ≡ replies_on line
+pub its_line : (keeper : KeeperState) (lines : List ReplyLine) → map replies_on lines ≡ keeper.replies
+    → (done rest : List ReplyLine) (line : ReplyLine) → done ++ line ∷ rest ≡ lines → (number : ℕ)
+    → number ≡ length done → (end : SeatState) → IsSeatOf keeper number end → end.replies ≡ replies_on line
 its_line keeper lines are done rest line e number number_is end seat =
     seat.replies (replies_on line)
     ∙ ap (λ l. get_or l number (replies_on line)) (sym are)
@@ -139,24 +187,42 @@ its_line keeper lines are done rest line e number number_is end seat =
     ∙ get_or-map replies_on lines (length done) line (replies_on line) (mid_below done line rest lines e)
     ∙ ap replies_on (get_or-mid done line rest lines line e)
 
-pub next_settled : (start service : State) (now count : ℕ) (steps : List Step) (j : LineView Message) (lines : List ReplyLine) → IsKeeping start service now count steps j lines × AreDone lines
-    → (jt : LineView Message) → jt.takes ≡ true → jt.taken ≡ j.taken → (done rest : List ReplyLine) (line : ReplyLine) → done ++ line ∷ rest ≡ lines
-    → (number : ℕ) → number ≡ length done → (end : SeatState) → end.seat ≡ number → Settles jt line end → (log : List Step) → steps ≡ log → IsSettledSeat number log end
-next_settled start service now count steps j lines k jt takes taken done rest line e number number_is end seat settles log log_is =
+pub next_settled : (start service : State) (now count : ℕ) (steps : List Step) (j : LineView Message)
+    (lines : List ReplyLine) → IsKeeping start service now count steps j lines × AreDone lines → (jt : LineView Message)
+    → jt.takes ≡ true → jt.taken ≡ j.taken → (done rest : List ReplyLine) (line : ReplyLine)
+    → done ++ line ∷ rest ≡ lines → (number : ℕ) → number ≡ length done → (end : SeatState) → end.seat ≡ number
+    → Settles jt line end → (log : List Step) → steps ≡ log → IsSettledSeat number log end
+next_settled start service now count steps j lines k jt takes taken done rest line e number number_is end seat
+    settles log log_is =
     let b = mid_below done line rest lines e in
     let below : end.seat < length lines = omega (arith, seat, number_is, b) in
-    let here : line ≡ get_or lines end.seat line = sym (get_or-mid done line rest lines line e) ∙ ap (λ n. get_or lines n line) (sym (seat ∙ number_is)) in
-    subst (λ (x : ℕ × List Step). IsSettledSeat x.0 x.1 end) (λ i. (seat i, log_is i)) (settles start service now count steps j lines k.0 k.1 takes taken below here)
+    let here : line ≡ get_or lines end.seat line =
+    sym (get_or-mid done line rest lines line e) ∙ ap (λ n. get_or lines n line) (sym (seat ∙ number_is)) in
+    subst (λ (x : ℕ × List Step). IsSettledSeat x.0 x.1 end) (λ i. (seat i, log_is i))
+    (settles start service now count steps j lines k.0 k.1 takes taken below here)
 
-pub all_settled : HeadlineHolds → (start service : State) (now count : ℕ) (steps : List Step) (j : LineView Message) (lines : List ReplyLine) → (k : IsKeeping start service now count steps j lines)
-    → (keeper : KeeperState) (jobs : LineId Message) → record { jobs = jobs; replies = map replies_on lines; start = start; service = service; log = steps } ≡ keeper
-    → (ends : List SeatState) → AreOfOneCall keeper ends → ((number : ℕ) (d : SeatState) → number < length ends → IsSettledSeat number keeper.log (get_or ends number d)) → IsSettled keeper ends service count
+pub all_settled : HeadlineHolds
+    → (start service : State) (now count : ℕ) (steps : List Step) (j : LineView Message) (lines : List ReplyLine)
+    → (k : IsKeeping start service now count steps j lines) → (keeper : KeeperState) (jobs : LineId Message) → record {
+      jobs = jobs;
+      replies = map replies_on lines;
+      start = start;
+      service = service;
+      log = steps;
+    } ≡ keeper → (ends : List SeatState) → AreOfOneCall keeper ends
+    → ((number : ℕ) (d : SeatState) → number < length ends → IsSettledSeat number keeper.log (get_or ends number d))
+    → IsSettled keeper ends service count
 all_settled holds start service now count steps j lines k keeper jobs is ends one each =
-    let count_is : length ends ≡ length lines = one.count ∙ ap (λ (x : KeeperState). length x.replies) (sym is) ∙ length-map lines replies_on in
+    let count_is : length ends ≡ length lines =
+    one.count ∙ ap (λ (x : KeeperState). length x.replies) (sym is) ∙ length-map lines replies_on in
     record {
       each = each;
-      seated = subst (λ (x : KeeperState). AllByRecursion (λ (s : Step). s.seat < length ends) x.log) is (subst (λ n. AllByRecursion (λ (s : Step). s.seat < n) steps) (sym count_is) k.seated);
+      seated =
+          subst (λ (x : KeeperState). AllByRecursion (λ (s : Step). s.seat < length ends) x.log) is
+          (subst (λ n. AllByRecursion (λ (s : Step). s.seat < n) steps) (sym count_is) k.seated);
       same = ap (λ (x : KeeperState). x.service) is;
-      served = subst (λ (x : KeeperState). IsServed x.start (exchanges_of x.log) service) is (served holds _ _ _ _ _ _ k.keeps);
+      served =
+          subst (λ (x : KeeperState). IsServed x.start (exchanges_of x.log) service) is
+          (served holds _ _ _ _ _ _ k.keeps);
       counted = k.keeps.counted ∙ ap (λ (x : KeeperState). min (length x.log) count_limit) is;
     }

@@ -13,18 +13,23 @@ whole_of : (had more all : List ℕ) → all ≡ had ++ more → had ≡ [] → 
 whole_of had more all e none = e ∙ ap (λ t. t ++ more) none
 
 module _ {C In Out S G O : Type 0} (m : Means C In Out S G O) (max_body : ℕ) (unused : GivesUnused m) where
-  one_told : (conns mid : C) (t : Talk m max_body) → m.gives conns (Some (t.reader, t.writer)) mid → TellsAll m max_body t
+  one_told : (conns mid : C) (t : Talk m max_body) → m.gives conns (Some (t.reader, t.writer)) mid
+      → TellsAll m max_body t
   one_told conns mid t given =
-      let whole = conversations_told (steps m max_body) max_body (m.reads t.reader) (m.reads t.reader_left) t.old t.new (m.writes t.writer) (m.writes t.writer_left) t.end t.conversation in
+      let whole =
+      conversations_told (steps m max_body) max_body (m.reads t.reader) (m.reads t.reader_left) t.old t.new
+      (m.writes t.writer) (m.writes t.writer_left) t.end t.conversation in
       let empty = unused conns mid t.reader t.writer given in
       record { read = whole_of _ _ _ whole.read empty.0; written = whole_of _ _ _ whole.written empty.1 }
 
-  all_told : (conns : C) (desk new : SeatState × S) (ts : List (Talk m max_body)) → Serves m max_body conns desk ts new → AllByRecursion (TellsAll m max_body) ts
+  all_told : (conns : C) (desk new : SeatState × S) (ts : List (Talk m max_body)) → Serves m max_body conns desk ts new
+      → AllByRecursion (TellsAll m max_body) ts
   all_told conns desk new [] s = tt
   all_told conns desk new (t ∷ ts) s = (
     one_told conns s.0 t s.1,
     ⊎_elim
-        (λ (x : (t.end ≡ DeskGone) × ((ts ≡ []) × (new ≡ t.new))). subst (AllByRecursion (TellsAll m max_body)) (sym x.1.0) tt)
+        (λ (x : (t.end ≡ DeskGone) × ((ts ≡ []) × (new ≡ t.new))).
+        subst (AllByRecursion (TellsAll m max_body)) (sym x.1.0) tt)
         (λ (x : (t.end ≡ DeskGone → ⊥) × Serves m max_body s.0 t.new ts new). all_told s.0 t.new new ts x.1)
         (behind t.end ((ts ≡ []) × (new ≡ t.new)) (Serves m max_body s.0 t.new ts new) s.3),
   )

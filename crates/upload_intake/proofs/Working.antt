@@ -1,5 +1,7 @@
 -- What a worker's loop keeps, and what all its conversations added to its seat.
-use Rattle.std.proofs.Common.{◌≡◌, ℕ, ◌+◌, min, Bool, true, false, true≢false, List, [], ◌∷◌, ◌++◌, length, filter, cond, Option, Some, None, sym, refl, ap, ◌∙◌, subst, inl, inr, ◌⊎◌, ⊎_elim, append-nil, append_assoc, length-append, arith}
+use Rattle.std.proofs.Common.{◌≡◌, ℕ, ◌+◌, min, Bool, true, false, true≢false, List, [], ◌∷◌, ◌++◌, length, filter}
+use Rattle.std.proofs.Common.{cond, Option, Some, None, sym, refl, ap, ◌∙◌, subst, inl, inr, ◌⊎◌, ⊎_elim, append-nil}
+use Rattle.std.proofs.Common.{append_assoc, length-append, arith}
 use Rattle.std.proofs.lemmas.List.Elements.{filter-append}
 use Rattle.upload_service.specs.declared.ask.Ask.{Ask}
 use Rattle.upload_service.specs.declared.answer.Answer.{Answer}
@@ -9,7 +11,9 @@ use Rattle.upload_intake.specs.Desks.{seat_of, secrets_of}
 use Rattle.upload_intake.specs.declared.work.GatedDesk.{GatedDesk}
 use Rattle.upload_intake.specs.Settled.{count_limit}
 use Rattle.upload_intake.specs.SeatConversations.{Adds}
-use Rattle.upload_intake.specs.Working.{Means, Behind, is_clean, is_gone, Serves, Talk, steps, answered_on, unanswered_on, all_answered, all_unanswered, count_clean, TellsTalk, TellsTalks, IsWorked}
+use Rattle.upload_intake.specs.Working.{Means, Behind, is_clean, is_gone, Serves, Talk, steps, answered_on}
+use Rattle.upload_intake.specs.Working.{unanswered_on, all_answered, all_unanswered, count_clean, TellsTalk, TellsTalks}
+use Rattle.upload_intake.specs.Working.{IsWorked}
 use Rattle.upload_intake.proofs.Conversations.{GatedSteps}
 use Rattle.upload_intake.proofs.SeatConversations.{adds_none, adds_twice, fills}
 use Rattle.upload_intake.proofs.Watching.{each_twice, watched_on, watched_lost}
@@ -20,30 +24,79 @@ use Rattle.upload_wire.specs.Told.{TellsEnd, IsTold, rules, sides}
 use Rattle.upload_wire.proofs.ToldLemmas.{hears_more}
 use Rattle.upload_wire.specs.ConnectionRuns.{answered_last, unanswered_last, answered, unanswered}
 use Rattle.upload_wire.specs.declared.connection.ConnEnd.{ConnEnd}
-use Rattle.upload_wire.specs.declared.connection.ConnEnd.TheVariants.{Clean, AfterClose, AfterBad, TooMany, DeskGone, Fault}
+use Rattle.upload_wire.specs.declared.connection.ConnEnd.TheVariants.{Clean, AfterClose, AfterBad, TooMany, DeskGone}
+use Rattle.upload_wire.specs.declared.connection.ConnEnd.TheVariants.{Fault}
 use Rattle.upload_wire.specs.declared.connection.ConnFault.TheVariants as Conn
 
 -- ---- a conversation over a desk of which less is seen
 
 module _ {D E : Type 0} (step : Moves D) (seen : Moves E) (see : D → E)
-    (each : (old : D) (ask : Ask) (answer : Option Answer) (new : D) → step old ask answer new → seen (see old) ask answer (see new)) where
+    (each : (old : D) (ask : Ask) (answer : Option Answer) (new : D) → step old ask answer new
+    → seen (see old) ask answer (see new)) where
   see_answers : (xs : List Exchange) (old at : D) → Answers step old xs at → Answers seen (see old) xs (see at)
   see_answers [] old at a = ap see a
   see_answers (x ∷ xs) old at a = (see a.0, each old x.ask (Some x.answer) a.0 a.1, see_answers xs a.0 at a.2)
 
-  see_end : (max_body count : ℕ) (at new : D) (rest : List ℕ) (left : SourceState) (mid after : SinkState) (end : ConnEnd) → EndsWith step max_body (stand count rest left at mid) new after end → EndsWith seen max_body (stand count rest left (see at) mid) (see new) after end
-  see_end max_body count at new rest left mid after Clean e = (e.0, e.1, record { unasked = ap see e.2.unasked; unwritten = e.2.unwritten })
-  see_end max_body count at new rest left mid after AfterClose e = (e.0, record { more = e.1.more; read = e.1.read; request = e.1.request; answered = each at e.0.ask (Some e.0.answer) new e.1.answered }, e.2, e.3)
-  see_end max_body count at new rest left mid after AfterBad e = (e.0, record { bad = e.1.bad; unasked = ap see e.1.unasked }, e.2)
-  see_end max_body count at new rest left mid after TooMany e = (e.0, record { more = e.1.more; read = e.1.read; request = e.1.request; answered = each at e.0.ask (Some e.0.answer) new e.1.answered }, e.2, e.3, e.4)
-  see_end max_body count at new rest left mid after DeskGone e =
-      (record { message = e.0.message; more = e.0.more; ask = e.0.ask; style = e.0.style; read = e.0.read; request = e.0.request; gone = each at e.0.ask None new e.0.gone }, e.1)
-  see_end max_body count at new rest left mid after (Fault (Conn.Wire fault)) e = (e.0, record { unasked = ap see e.1.unasked; unwritten = e.1.unwritten })
+  see_end : (max_body count : ℕ) (at new : D) (rest : List ℕ) (left : SourceState) (mid after : SinkState)
+      (end : ConnEnd) → EndsWith step max_body (stand count rest left at mid) new after end
+      → EndsWith seen max_body (stand count rest left (see at) mid) (see new) after end
+  see_end max_body count at new rest left mid after Clean e =
+      (e.0, e.1, record { unasked = ap see e.2.unasked; unwritten = e.2.unwritten })
+  see_end max_body count at new rest left mid after AfterClose e = (
+    e.0,
+    record {
+      more = e.1.more;
+      read = e.1.read;
+      request = e.1.request;
+      answered = each at e.0.ask (Some e.0.answer) new e.1.answered;
+    },
+    e.2,
+    e.3,
+  )
+  see_end max_body count at new rest left mid after AfterBad e =
+      (e.0, record { bad = e.1.bad; unasked = ap see e.1.unasked }, e.2)
+  see_end max_body count at new rest left mid after TooMany e = (
+    e.0,
+    record {
+      more = e.1.more;
+      read = e.1.read;
+      request = e.1.request;
+      answered = each at e.0.ask (Some e.0.answer) new e.1.answered;
+    },
+    e.2,
+    e.3,
+    e.4,
+  )
+  see_end max_body count at new rest left mid after DeskGone e = (
+    record {
+      message = e.0.message;
+      more = e.0.more;
+      ask = e.0.ask;
+      style = e.0.style;
+      read = e.0.read;
+      request = e.0.request;
+      gone = each at e.0.ask None new e.0.gone;
+    },
+    e.1,
+  )
+  see_end max_body count at new rest left mid after (Fault (Conn.Wire fault)) e =
+      (e.0, record { unasked = ap see e.1.unasked; unwritten = e.1.unwritten })
   see_end max_body count at new rest left mid after (Fault Conn.Write) e =
-      ⊎_elim (λ s. inl (s.0, record { more = s.1.more; read = s.1.read; request = s.1.request; answered = each at s.0.ask (Some s.0.answer) new s.1.answered }, s.2))
+      ⊎_elim (λ s. inl (
+        s.0,
+        record {
+          more = s.1.more;
+          read = s.1.read;
+          request = s.1.request;
+          answered = each at s.0.ask (Some s.0.answer) new s.1.answered;
+        },
+        s.2,
+      ))
       (λ s. inr (s.0, record { bad = s.1.bad; unasked = ap see s.1.unasked }, s.2)) e
 
-  pub seen_as : (max_body : ℕ) (first left : SourceState) (old new : D) (before after : SinkState) (end : ConnEnd) → IsConversation step max_body first left old new before after end → IsConversation seen max_body first left (see old) (see new) before after end
+  pub seen_as : (max_body : ℕ) (first left : SourceState) (old new : D) (before after : SinkState) (end : ConnEnd)
+      → IsConversation step max_body first left old new before after end
+      → IsConversation seen max_body first left (see old) (see new) before after end
   seen_as max_body first left old new before after end c = record {
     bytes = c.bytes;
     gives = c.gives;
@@ -64,8 +117,10 @@ module _ {D E : Type 0} (step : Moves D) (seen : Moves E) (see : D → E)
   }
 
   -- the same is answered and unanswered there
-  see_answered : (max_body count : ℕ) (at new : D) (rest : List ℕ) (left : SourceState) (mid after : SinkState) (end : ConnEnd) (e : EndsWith step max_body (stand count rest left at mid) new after end)
-      → answered_last seen max_body (stand count rest left (see at) mid) (see new) after end (see_end max_body count at new rest left mid after end e) ≡ answered_last step max_body (stand count rest left at mid) new after end e
+  see_answered : (max_body count : ℕ) (at new : D) (rest : List ℕ) (left : SourceState) (mid after : SinkState)
+      (end : ConnEnd) (e : EndsWith step max_body (stand count rest left at mid) new after end)
+      → answered_last seen max_body (stand count rest left (see at) mid) (see new) after end (see_end max_body count at
+      new rest left mid after end e) ≡ answered_last step max_body (stand count rest left at mid) new after end e
   unfolding see_end
   see_answered max_body count at new rest left mid after Clean e = refl
   see_answered max_body count at new rest left mid after AfterClose e = refl
@@ -76,8 +131,10 @@ module _ {D E : Type 0} (step : Moves D) (seen : Moves E) (see : D → E)
   see_answered max_body count at new rest left mid after (Fault Conn.Write) (inl s) = refl
   see_answered max_body count at new rest left mid after (Fault Conn.Write) (inr s) = refl
 
-  see_unanswered : (max_body count : ℕ) (at new : D) (rest : List ℕ) (left : SourceState) (mid after : SinkState) (end : ConnEnd) (e : EndsWith step max_body (stand count rest left at mid) new after end)
-      → unanswered_last seen max_body (stand count rest left (see at) mid) (see new) after end (see_end max_body count at new rest left mid after end e) ≡ unanswered_last step max_body (stand count rest left at mid) new after end e
+  see_unanswered : (max_body count : ℕ) (at new : D) (rest : List ℕ) (left : SourceState) (mid after : SinkState)
+      (end : ConnEnd) (e : EndsWith step max_body (stand count rest left at mid) new after end)
+      → unanswered_last seen max_body (stand count rest left (see at) mid) (see new) after end (see_end max_body count
+      at new rest left mid after end e) ≡ unanswered_last step max_body (stand count rest left at mid) new after end e
   unfolding see_end
   see_unanswered max_body count at new rest left mid after Clean e = refl
   see_unanswered max_body count at new rest left mid after AfterClose e = refl
@@ -88,9 +145,21 @@ module _ {D E : Type 0} (step : Moves D) (seen : Moves E) (see : D → E)
   see_unanswered max_body count at new rest left mid after (Fault Conn.Write) e = refl
 
   -- the same is told of it there
-  see_tells : (max_body count : ℕ) (at new : D) (rest : List ℕ) (left : SourceState) (mid after : SinkState) (end : ConnEnd) (e : EndsWith step max_body (stand count rest left at mid) new after end) (events : List Event)
-      → TellsEnd (record { moves = step; max_body = max_body; stood = stand count rest left at mid; desk = new; sink = after }) end e events
-      → TellsEnd (record { moves = seen; max_body = max_body; stood = stand count rest left (see at) mid; desk = see new; sink = after }) end (see_end max_body count at new rest left mid after end e) events
+  see_tells : (max_body count : ℕ) (at new : D) (rest : List ℕ) (left : SourceState) (mid after : SinkState)
+      (end : ConnEnd) (e : EndsWith step max_body (stand count rest left at mid) new after end) (events : List Event)
+      → TellsEnd (record {
+        moves = step;
+        max_body = max_body;
+        stood = stand count rest left at mid;
+        desk = new;
+        sink = after;
+      }) end e events → TellsEnd (record {
+        moves = seen;
+        max_body = max_body;
+        stood = stand count rest left (see at) mid;
+        desk = see new;
+        sink = after;
+      }) end (see_end max_body count at new rest left mid after end e) events
   unfolding see_end
   see_tells max_body count at new rest left mid after Clean e events told = told
   see_tells max_body count at new rest left mid after AfterClose e events told = told
@@ -133,8 +202,10 @@ gone_is TooMany gone = absurd (true≢false (sym gone))
 gone_is DeskGone gone = refl
 gone_is (Fault fault) gone = absurd (true≢false (sym gone))
 
-module _ {D : Type 0} (step : Moves D) (max_body count : ℕ) (at new : D) (rest : List ℕ) (left : SourceState) (mid after : SinkState) where
-  all_heard : (end : ConnEnd) (e : EndsWith step max_body (stand count rest left at mid) new after end) → (end ≡ DeskGone → ⊥) → unanswered_last step max_body (stand count rest left at mid) new after end e ≡ []
+module _ {D : Type 0} (step : Moves D) (max_body count : ℕ) (at new : D) (rest : List ℕ) (left : SourceState)
+    (mid after : SinkState) where
+  all_heard : (end : ConnEnd) (e : EndsWith step max_body (stand count rest left at mid) new after end)
+      → (end ≡ DeskGone → ⊥) → unanswered_last step max_body (stand count rest left at mid) new after end e ≡ []
   all_heard Clean e there = refl
   all_heard AfterClose e there = refl
   all_heard AfterBad e there = refl
@@ -150,65 +221,108 @@ module _ {C In Out S G O : Type 0} (m : Means C In Out S G O) (max_body : ℕ) w
   abbrev pub SoFar : C → SeatState × S → List (Talk m max_body) → C → SeatState × S → Type 0
   SoFar conns desk [] conns' desk' = (conns' ≡ conns) × (desk' ≡ desk)
   SoFar conns desk (t ∷ ts) conns' desk' =
-      (mid : C) × m.gives conns (Some (t.reader, t.writer)) mid × (t.old ≡ desk) × (t.end ≡ DeskGone → ⊥) × SoFar mid t.new ts conns' desk'
+      (mid : C) × m.gives conns (Some (t.reader, t.writer)) mid × (t.old ≡ desk) × (t.end ≡ DeskGone → ⊥)
+      × SoFar mid t.new ts conns' desk'
 
-  one_more : (conns : C) (desk : SeatState × S) (ts : List (Talk m max_body)) (conns' : C) (desk' : SeatState × S) → SoFar conns desk ts conns' desk'
-      → (t : Talk m max_body) (mid : C) → m.gives conns' (Some (t.reader, t.writer)) mid → t.old ≡ desk' → (t.end ≡ DeskGone → ⊥) → SoFar conns desk (ts ++ t ∷ []) mid t.new
-  one_more conns desk [] conns' desk' so t mid given stands there = (mid, subst (λ c. m.gives c (Some (t.reader, t.writer)) mid) so.0 given, stands ∙ so.1, there, (refl, refl))
-  one_more conns desk (u ∷ us) conns' desk' so t mid given stands there = (so.0, so.1, so.2, so.3, one_more so.0 u.new us conns' desk' so.4 t mid given stands there)
+  one_more : (conns : C) (desk : SeatState × S) (ts : List (Talk m max_body)) (conns' : C) (desk' : SeatState × S)
+      → SoFar conns desk ts conns' desk' → (t : Talk m max_body) (mid : C)
+      → m.gives conns' (Some (t.reader, t.writer)) mid → t.old ≡ desk' → (t.end ≡ DeskGone → ⊥)
+      → SoFar conns desk (ts ++ t ∷ []) mid t.new
+  one_more conns desk [] conns' desk' so t mid given stands there =
+      (mid, subst (λ c. m.gives c (Some (t.reader, t.writer)) mid) so.0 given, stands ∙ so.1, there, (refl, refl))
+  one_more conns desk (u ∷ us) conns' desk' so t mid given stands there =
+      (so.0, so.1, so.2, so.3, one_more so.0 u.new us conns' desk' so.4 t mid given stands there)
 
-  none_came : (conns : C) (desk : SeatState × S) (ts : List (Talk m max_body)) (conns' : C) (desk' : SeatState × S) → SoFar conns desk ts conns' desk'
-      → (left : C) → m.gives conns' None left → Serves m max_body conns desk ts desk'
+  none_came : (conns : C) (desk : SeatState × S) (ts : List (Talk m max_body)) (conns' : C) (desk' : SeatState × S)
+      → SoFar conns desk ts conns' desk' → (left : C) → m.gives conns' None left → Serves m max_body conns desk ts desk'
   none_came conns desk [] conns' desk' so left given = (left, subst (λ c. m.gives c None left) so.0 given, so.1)
-  none_came conns desk (u ∷ us) conns' desk' so left given =
-      (so.0, so.1, so.2, goes_on u.end ((us ≡ []) × (desk' ≡ u.new)) (Serves m max_body so.0 u.new us desk') so.3 (none_came so.0 u.new us conns' desk' so.4 left given))
+  none_came conns desk (u ∷ us) conns' desk' so left given = (
+    so.0,
+    so.1,
+    so.2,
+    goes_on u.end ((us ≡ []) × (desk' ≡ u.new)) (Serves m max_body so.0 u.new us desk') so.3
+        (none_came so.0 u.new us conns' desk' so.4 left given),
+  )
 
-  gone_at : (conns : C) (desk : SeatState × S) (ts : List (Talk m max_body)) (conns' : C) (desk' : SeatState × S) → SoFar conns desk ts conns' desk'
-      → (t : Talk m max_body) (mid : C) → m.gives conns' (Some (t.reader, t.writer)) mid → t.old ≡ desk' → t.end ≡ DeskGone → Serves m max_body conns desk (ts ++ t ∷ []) t.new
-  gone_at conns desk [] conns' desk' so t mid given stands gone =
-      (mid, subst (λ c. m.gives c (Some (t.reader, t.writer)) mid) so.0 given, stands ∙ so.1, is_over t.end (([] ≡ []) × (t.new ≡ t.new)) (Serves m max_body mid t.new [] t.new) gone (refl, refl))
-  gone_at conns desk (u ∷ us) conns' desk' so t mid given stands gone =
-      (so.0, so.1, so.2, goes_on u.end ((us ++ t ∷ [] ≡ []) × (t.new ≡ u.new)) (Serves m max_body so.0 u.new (us ++ t ∷ []) t.new) so.3 (gone_at so.0 u.new us conns' desk' so.4 t mid given stands gone))
+  gone_at : (conns : C) (desk : SeatState × S) (ts : List (Talk m max_body)) (conns' : C) (desk' : SeatState × S)
+      → SoFar conns desk ts conns' desk' → (t : Talk m max_body) (mid : C)
+      → m.gives conns' (Some (t.reader, t.writer)) mid → t.old ≡ desk' → t.end ≡ DeskGone
+      → Serves m max_body conns desk (ts ++ t ∷ []) t.new
+  gone_at conns desk [] conns' desk' so t mid given stands gone = (
+    mid,
+    subst (λ c. m.gives c (Some (t.reader, t.writer)) mid) so.0 given,
+    stands ∙ so.1,
+    is_over t.end (([] ≡ []) × (t.new ≡ t.new)) (Serves m max_body mid t.new [] t.new) gone (refl, refl),
+  )
+  gone_at conns desk (u ∷ us) conns' desk' so t mid given stands gone = (
+    so.0,
+    so.1,
+    so.2,
+    goes_on u.end ((us ++ t ∷ [] ≡ []) × (t.new ≡ u.new)) (Serves m max_body so.0 u.new (us ++ t ∷ []) t.new) so.3
+        (gone_at so.0 u.new us conns' desk' so.4 t mid given stands gone),
+  )
 
   -- all that was asked and answered was added to the seat
   fills_by : (t : Talk m max_body) → Adds t.old.0 t.new.0 (answered_on m max_body t) (unanswered_on m max_body t)
-  fills_by t = fills {D = SeatState × S} {S = S} m.draws (λ d. d.0) (λ d. d.1) max_body (m.reads t.reader) (m.reads t.reader_left) t.old t.new (m.writes t.writer) (m.writes t.writer_left) t.end t.conversation
+  fills_by t =
+      fills {D = SeatState × S} {S = S} m.draws (λ d. d.0) (λ d. d.1) max_body (m.reads t.reader)
+      (m.reads t.reader_left) t.old t.new (m.writes t.writer) (m.writes t.writer_left) t.end t.conversation
 
-  pub adds_all : (conns : C) (desk : SeatState × S) (ts : List (Talk m max_body)) (new : SeatState × S) → Serves m max_body conns desk ts new → Adds desk.0 new.0 (all_answered m max_body ts) (all_unanswered m max_body ts)
+  pub adds_all : (conns : C) (desk : SeatState × S) (ts : List (Talk m max_body)) (new : SeatState × S)
+      → Serves m max_body conns desk ts new
+      → Adds desk.0 new.0 (all_answered m max_body ts) (all_unanswered m max_body ts)
   adds_all conns desk [] new s = adds_none desk.0 new.0 (ap (λ d. d.0) s.2)
   adds_all conns desk (t ∷ ts) new s =
-      let first : Adds desk.0 t.new.0 (answered_on m max_body t) (unanswered_on m max_body t) = subst (λ d. Adds d.0 t.new.0 (answered_on m max_body t) (unanswered_on m max_body t)) s.2 (fills_by t) in
+      let first : Adds desk.0 t.new.0 (answered_on m max_body t) (unanswered_on m max_body t) =
+      subst (λ d. Adds d.0 t.new.0 (answered_on m max_body t) (unanswered_on m max_body t)) s.2 (fills_by t) in
       ⊎_elim
       (λ (x : (t.end ≡ DeskGone) × ((ts ≡ []) × (new ≡ t.new))).
-      subst (λ (us : List (Talk m max_body)). Adds desk.0 new.0 (all_answered m max_body (t ∷ us)) (all_unanswered m max_body (t ∷ us))) (sym x.1.0)
-      (subst (λ (d : SeatState × S). Adds desk.0 d.0 (answered_on m max_body t ++ []) (unanswered_on m max_body t ++ [])) (sym x.1.1)
-      (subst (λ (l : List Exchange). Adds desk.0 t.new.0 l (unanswered_on m max_body t ++ [])) (sym (append-nil (answered_on m max_body t)))
-      (subst (λ (l : List Ask). Adds desk.0 t.new.0 (answered_on m max_body t) l) (sym (append-nil (unanswered_on m max_body t))) first))))
+      subst (λ (us : List (Talk m max_body)).
+      Adds desk.0 new.0 (all_answered m max_body (t ∷ us)) (all_unanswered m max_body (t ∷ us))) (sym x.1.0)
+      (subst (λ (d : SeatState × S).
+      Adds desk.0 d.0 (answered_on m max_body t ++ []) (unanswered_on m max_body t ++ [])) (sym x.1.1)
+      (subst (λ (l : List Exchange). Adds desk.0 t.new.0 l (unanswered_on m max_body t ++ []))
+      (sym (append-nil (answered_on m max_body t)))
+      (subst (λ (l : List Ask). Adds desk.0 t.new.0 (answered_on m max_body t) l)
+      (sym (append-nil (unanswered_on m max_body t))) first))))
       (λ (x : (t.end ≡ DeskGone → ⊥) × Serves m max_body s.0 t.new ts new).
-      let heard : unanswered_on m max_body t ≡ [] = all_heard (steps m max_body) max_body (length t.conversation.exchanges) t.conversation.at t.new t.conversation.rest (m.reads t.reader_left) t.conversation.mid (m.writes t.writer_left) t.end t.conversation.ended x.0 in
-      subst (λ (l : List Ask). Adds desk.0 new.0 (all_answered m max_body (t ∷ ts)) (l ++ all_unanswered m max_body ts)) (sym heard)
-      (adds_twice desk.0 t.new.0 new.0 (answered_on m max_body t) (all_answered m max_body ts) (all_unanswered m max_body ts)
+      let heard : unanswered_on m max_body t ≡ [] =
+      all_heard (steps m max_body) max_body (length t.conversation.exchanges) t.conversation.at t.new
+      t.conversation.rest (m.reads t.reader_left) t.conversation.mid (m.writes t.writer_left) t.end
+      t.conversation.ended x.0 in
+      subst (λ (l : List Ask). Adds desk.0 new.0 (all_answered m max_body (t ∷ ts)) (l ++ all_unanswered m max_body ts))
+      (sym heard)
+      (adds_twice desk.0 t.new.0 new.0 (answered_on m max_body t) (all_answered m max_body ts)
+      (all_unanswered m max_body ts)
       (subst (λ (l : List Ask). Adds desk.0 t.new.0 (answered_on m max_body t) l) heard first)
       (adds_all s.0 t.new ts new x.1)))
       (behind t.end ((ts ≡ []) × (new ≡ t.new)) (Serves m max_body s.0 t.new ts new) s.3)
 
   -- ---- what the gate and the observer are told, and the counts
 
-  answered_more : (ts : List (Talk m max_body)) (t : Talk m max_body) → all_answered m max_body (ts ++ t ∷ []) ≡ all_answered m max_body ts ++ answered_on m max_body t
+  answered_more : (ts : List (Talk m max_body)) (t : Talk m max_body)
+      → all_answered m max_body (ts ++ t ∷ []) ≡ all_answered m max_body ts ++ answered_on m max_body t
   answered_more [] t = append-nil (answered_on m max_body t)
-  answered_more (u ∷ us) t = ap (λ l. answered_on m max_body u ++ l) (answered_more us t) ∙ sym (append_assoc (answered_on m max_body u) (all_answered m max_body us) (answered_on m max_body t))
+  answered_more (u ∷ us) t =
+      ap (λ l. answered_on m max_body u ++ l) (answered_more us t)
+      ∙ sym (append_assoc (answered_on m max_body u) (all_answered m max_body us) (answered_on m max_body t))
 
-  unanswered_more : (ts : List (Talk m max_body)) (t : Talk m max_body) → all_unanswered m max_body (ts ++ t ∷ []) ≡ all_unanswered m max_body ts ++ unanswered_on m max_body t
+  unanswered_more : (ts : List (Talk m max_body)) (t : Talk m max_body)
+      → all_unanswered m max_body (ts ++ t ∷ []) ≡ all_unanswered m max_body ts ++ unanswered_on m max_body t
   unanswered_more [] t = append-nil (unanswered_on m max_body t)
-  unanswered_more (u ∷ us) t = ap (λ l. unanswered_on m max_body u ++ l) (unanswered_more us t) ∙ sym (append_assoc (unanswered_on m max_body u) (all_unanswered m max_body us) (unanswered_on m max_body t))
+  unanswered_more (u ∷ us) t =
+      ap (λ l. unanswered_on m max_body u ++ l) (unanswered_more us t)
+      ∙ sym (append_assoc (unanswered_on m max_body u) (all_unanswered m max_body us) (unanswered_on m max_body t))
 
-  tells_more : (ts : List (Talk m max_body)) (t : Talk m max_body) (es fs : List Event) → TellsTalks m max_body ts es → TellsTalk m max_body t fs
-      → TellsTalks m max_body (ts ++ t ∷ []) (es ++ fs)
+  tells_more : (ts : List (Talk m max_body)) (t : Talk m max_body) (es fs : List Event) → TellsTalks m max_body ts es
+      → TellsTalk m max_body t fs → TellsTalks m max_body (ts ++ t ∷ []) (es ++ fs)
   tells_more [] t es fs h k = (fs, [], k, refl, ap (λ l. l ++ fs) h ∙ sym (append-nil fs))
-  tells_more (u ∷ us) t es fs h k = (h.0, h.1 ++ fs, h.2, tells_more us t h.1 fs h.3 k, ap (λ l. l ++ fs) h.4 ∙ append_assoc h.0 h.1 fs)
+  tells_more (u ∷ us) t es fs h k =
+      (h.0, h.1 ++ fs, h.2, tells_more us t h.1 fs h.3 k, ap (λ l. l ++ fs) h.4 ∙ append_assoc h.0 h.1 fs)
 
   -- a worker that goes on, with its gate, its observer, the turns so far and its counts
-  pub record Working (conns : C) (desk : SeatState × S) (gate : G) (observer : O) (conns' : C) (desk' : SeatState × S) (gate' : G) (observer' : O) (turn taken clean : ℕ) : Type 0 where
+  pub record Working (conns : C) (desk : SeatState × S) (gate : G) (observer : O) (conns' : C) (desk' : SeatState × S)
+      (gate' : G) (observer' : O) (turn taken clean : ℕ) : Type 0 where
     pub talks : List (Talk m max_body)
     pub so_far : SoFar conns desk talks conns' desk'
     pub watched : WatchesEach m.watches gate 0 (all_answered m max_body talks) gate' turn
@@ -223,13 +337,16 @@ module _ {C In Out S G O : Type 0} (m : Means C In Out S G O) (max_body : ℕ) w
   clean_step true t = refl
   clean_step false t = refl
 
-  count_more : (ts : List (Talk m max_body)) (t : Talk m max_body) → count_clean m max_body (ts ++ t ∷ []) ≡ count_clean m max_body ts + cond (is_clean t.end) 1 0
+  count_more : (ts : List (Talk m max_body)) (t : Talk m max_body)
+      → count_clean m max_body (ts ++ t ∷ []) ≡ count_clean m max_body ts + cond (is_clean t.end) 1 0
   count_more ts t =
       ap length (filter-append (λ (t : Talk m max_body). is_clean t.end) ts (t ∷ []))
-      ∙ length-append (filter (λ (t : Talk m max_body). is_clean t.end) ts) (filter (λ (t : Talk m max_body). is_clean t.end) (t ∷ []))
+      ∙ length-append (filter (λ (t : Talk m max_body). is_clean t.end) ts)
+      (filter (λ (t : Talk m max_body). is_clean t.end) (t ∷ []))
       ∙ ap (λ n. count_clean m max_body ts + n) (clean_step (is_clean t.end) t)
 
-  pub begins : (conns : C) (desk : SeatState × S) (gate : G) (observer : O) → Working conns desk gate observer conns desk gate observer 0 0 0
+  pub begins : (conns : C) (desk : SeatState × S) (gate : G) (observer : O)
+      → Working conns desk gate observer conns desk gate observer 0 0 0
   begins conns desk gate observer = record {
     talks = [];
     so_far = (refl, refl);
@@ -242,14 +359,22 @@ module _ {C In Out S G O : Type 0} (m : Means C In Out S G O) (max_body : ℕ) w
     clean_ones = refl;
   }
 
-  module _ (conns : C) (desk : SeatState × S) (gate : G) (observer : O) (conns' : C) (desk' : SeatState × S) (gate' : G) (observer' : O) (turn taken clean : ℕ)
+  module _ (conns : C) (desk : SeatState × S) (gate : G) (observer : O) (conns' : C) (desk' : SeatState × S) (gate' : G)
+      (observer' : O) (turn taken clean : ℕ)
       (w : Working conns desk gate observer conns' desk' gate' observer' turn taken clean) where
-    pub ends_at_none : (left : C) → m.gives conns' None left → IsWorked m max_body conns desk.1 gate observer desk.0 desk'.0 taken clean
+    pub ends_at_none : (left : C) → m.gives conns' None left
+        → IsWorked m max_body conns desk.1 gate observer desk.0 desk'.0 taken clean
     ends_at_none left given = record {
       talks = w.talks;
       secrets_left = desk'.1;
       served = none_came conns desk w.talks conns' desk' w.so_far left given;
-      watched = record { behind = gate'; turn = turn; left = gate'; each = w.watched; last = subst (λ l. WatchesLast m.watches gate' turn l gate') (sym w.none_lost) refl };
+      watched = record {
+        behind = gate';
+        turn = turn;
+        left = gate';
+        each = w.watched;
+        last = subst (λ l. WatchesLast m.watches gate' turn l gate') (sym w.none_lost) refl;
+      };
       events = w.events;
       observer_left = observer';
       tells = w.tells;
@@ -258,9 +383,12 @@ module _ {C In Out S G O : Type 0} (m : Means C In Out S G O) (max_body : ℕ) w
       clean_ones = w.clean_ones;
     }
 
-    module _ (t : Talk m max_body) (mid : C) (new_gate : G) (new_observer : O) (more : List Event) (tells : TellsTalk m max_body t more)
-        (hears : Hears m.told observer' more new_observer) (taken' clean' : ℕ) (given : m.gives conns' (Some (t.reader, t.writer)) mid) (stands : t.old ≡ desk')
-        (conns_count : taken' ≡ min (taken + 1) count_limit) (clean_count : clean' ≡ min (clean + cond (is_clean t.end) 1 0) count_limit) where
+    module _ (t : Talk m max_body) (mid : C) (new_gate : G) (new_observer : O) (more : List Event)
+        (tells : TellsTalk m max_body t more)
+        (hears : Hears m.told observer' more new_observer) (taken' clean' : ℕ)
+        (given : m.gives conns' (Some (t.reader, t.writer)) mid) (stands : t.old ≡ desk')
+        (conns_count : taken' ≡ min (taken + 1) count_limit)
+        (clean_count : clean' ≡ min (clean + cond (is_clean t.end) 1 0) count_limit) where
       counted : taken' ≡ min (length (w.talks ++ t ∷ [])) count_limit
       counted = let n = w.counted in let l = length-append w.talks (t ∷ []) in omega arith
 
@@ -268,8 +396,11 @@ module _ {C In Out S G O : Type 0} (m : Means C In Out S G O) (max_body : ℕ) w
       clean_ones = let n = w.clean_ones in let l = count_more w.talks t in omega arith
 
       -- with what the gate was told on this connection
-      told_too : (at : G) (now : ℕ) → WatchesEach m.watches gate' turn (answered_on m max_body t) at now → WatchesEach m.watches gate 0 (all_answered m max_body (w.talks ++ t ∷ [])) at now
-      told_too at now told = subst (λ l. WatchesEach m.watches gate 0 l at now) (sym (answered_more w.talks t)) (each_twice m.watches gate gate' at 0 turn now (all_answered m max_body w.talks) (answered_on m max_body t) w.watched told)
+      told_too : (at : G) (now : ℕ) → WatchesEach m.watches gate' turn (answered_on m max_body t) at now
+          → WatchesEach m.watches gate 0 (all_answered m max_body (w.talks ++ t ∷ [])) at now
+      told_too at now told =
+          subst (λ l. WatchesEach m.watches gate 0 l at now) (sym (answered_more w.talks t)) (each_twice m.watches gate
+          gate' at 0 turn now (all_answered m max_body w.talks) (answered_on m max_body t) w.watched told)
 
       lost_too : all_unanswered m max_body (w.talks ++ t ∷ []) ≡ unanswered_on m max_body t
       lost_too = unanswered_more w.talks t ∙ ap (λ l. l ++ unanswered_on m max_body t) w.none_lost
@@ -277,12 +408,16 @@ module _ {C In Out S G O : Type 0} (m : Means C In Out S G O) (max_body : ℕ) w
       heard_too : Hears m.told observer (w.events ++ more) new_observer
       heard_too = hears_more m.told observer observer' new_observer w.events more w.heard hears
 
-      pub talked : (now : ℕ) → WatchesEach m.watches gate' turn (answered_on m max_body t) new_gate now → (t.end ≡ DeskGone → ⊥) → Working conns desk gate observer mid t.new new_gate new_observer now taken' clean'
+      pub talked : (now : ℕ) → WatchesEach m.watches gate' turn (answered_on m max_body t) new_gate now
+          → (t.end ≡ DeskGone → ⊥) → Working conns desk gate observer mid t.new new_gate new_observer now taken' clean'
       talked now told there = record {
         talks = w.talks ++ t ∷ [];
         so_far = one_more conns desk w.talks conns' desk' w.so_far t mid given stands there;
         watched = told_too new_gate now told;
-        none_lost = lost_too ∙ all_heard (steps m max_body) max_body (length t.conversation.exchanges) t.conversation.at t.new t.conversation.rest (m.reads t.reader_left) t.conversation.mid (m.writes t.writer_left) t.end t.conversation.ended there;
+        none_lost =
+            lost_too ∙ all_heard (steps m max_body) max_body (length t.conversation.exchanges) t.conversation.at t.new
+            t.conversation.rest (m.reads t.reader_left) t.conversation.mid (m.writes t.writer_left) t.end
+            t.conversation.ended there;
         events = w.events ++ more;
         tells = tells_more w.talks t w.events more w.tells tells;
         heard = heard_too;
@@ -290,13 +425,20 @@ module _ {C In Out S G O : Type 0} (m : Means C In Out S G O) (max_body : ℕ) w
         clean_ones = clean_ones;
       }
 
-      pub ends_gone : (at : G) (now : ℕ) → WatchesEach m.watches gate' turn (answered_on m max_body t) at now → WatchesLast m.watches at now (unanswered_on m max_body t) new_gate
-          → t.end ≡ DeskGone → IsWorked m max_body conns desk.1 gate observer desk.0 t.new.0 taken' clean'
+      pub ends_gone : (at : G) (now : ℕ) → WatchesEach m.watches gate' turn (answered_on m max_body t) at now
+          → WatchesLast m.watches at now (unanswered_on m max_body t) new_gate → t.end ≡ DeskGone
+          → IsWorked m max_body conns desk.1 gate observer desk.0 t.new.0 taken' clean'
       ends_gone at now told last gone = record {
         talks = w.talks ++ t ∷ [];
         secrets_left = t.new.1;
         served = gone_at conns desk w.talks conns' desk' w.so_far t mid given stands gone;
-        watched = record { behind = at; turn = now; left = new_gate; each = told_too at now told; last = subst (λ l. WatchesLast m.watches at now l new_gate) (sym lost_too) last };
+        watched = record {
+          behind = at;
+          turn = now;
+          left = new_gate;
+          each = told_too at now told;
+          last = subst (λ l. WatchesLast m.watches at now l new_gate) (sym lost_too) last;
+        };
         events = w.events ++ more;
         observer_left = new_observer;
         tells = tells_more w.talks t w.events more w.tells tells;
@@ -308,15 +450,22 @@ module _ {C In Out S G O : Type 0} (m : Means C In Out S G O) (max_body : ℕ) w
   -- ---- the same, seen from elsewhere
 
   -- a connection as it was served at the limit of this server
-  pub at_limit : {R : Type 0} (reader reader_left : In) (writer writer_left : Out) (old new : GatedDesk R S G) (was is : O) (end : ConnEnd) (limit : ℕ) → limit ≡ max_body
-      → IsTold (rules (GatedSteps {R = R} m.draws m.watches) m.told limit) (sides (m.reads reader) old was (m.writes writer)) (sides (m.reads reader_left) new is (m.writes writer_left)) end
-      → IsTold (rules (GatedSteps {R = R} m.draws m.watches) m.told max_body) (sides (m.reads reader) old was (m.writes writer)) (sides (m.reads reader_left) new is (m.writes writer_left)) end
+  pub at_limit : {R : Type 0} (reader reader_left : In) (writer writer_left : Out) (old new : GatedDesk R S G)
+      (was is : O) (end : ConnEnd) (limit : ℕ) → limit ≡ max_body
+      → IsTold (rules (GatedSteps {R = R} m.draws m.watches) m.told limit)
+      (sides (m.reads reader) old was (m.writes writer)) (sides (m.reads reader_left) new is (m.writes writer_left)) end
+      → IsTold (rules (GatedSteps {R = R} m.draws m.watches) m.told max_body)
+      (sides (m.reads reader) old was (m.writes writer)) (sides (m.reads reader_left) new is (m.writes writer_left)) end
   at_limit {R} reader reader_left writer writer_left old new was is end limit same told =
-      subst (λ (n : ℕ). IsTold (rules (GatedSteps {R = R} m.draws m.watches) m.told n) (sides (m.reads reader) old was (m.writes writer)) (sides (m.reads reader_left) new is (m.writes writer_left)) end) same told
+      subst (λ (n : ℕ). IsTold (rules (GatedSteps {R = R} m.draws m.watches) m.told n) (sides (m.reads reader) old was
+      (m.writes writer)) (sides (m.reads reader_left) new is (m.writes writer_left)) end) same told
 
-  module _ {R : Type 0} (reader reader_left : In) (writer writer_left : Out) (old new : GatedDesk R S G) (was is : O) (end : ConnEnd)
-      (told : IsTold (rules (GatedSteps {R = R} m.draws m.watches) m.told max_body) (sides (m.reads reader) old was (m.writes writer)) (sides (m.reads reader_left) new is (m.writes writer_left)) end) where
-    abbrev c : IsConversation (GatedSteps {R = R} m.draws m.watches) max_body (m.reads reader) (m.reads reader_left) old new (m.writes writer) (m.writes writer_left) end
+  module _ {R : Type 0} (reader reader_left : In) (writer writer_left : Out) (old new : GatedDesk R S G)
+      (was is : O) (end : ConnEnd)
+      (told : IsTold (rules (GatedSteps {R = R} m.draws m.watches) m.told max_body) (sides (m.reads reader) old was
+      (m.writes writer)) (sides (m.reads reader_left) new is (m.writes writer_left)) end) where
+    abbrev c : IsConversation (GatedSteps {R = R} m.draws m.watches) max_body (m.reads reader) (m.reads reader_left) old
+        new (m.writes writer) (m.writes writer_left) end
     c = told.conversation
 
     abbrev see : GatedDesk R S G → SeatState × S
@@ -332,18 +481,26 @@ module _ {C In Out S G O : Type 0} (m : Means C In Out S G O) (max_body : ℕ) w
       old = see old;
       new = see new;
       end = end;
-      conversation = seen_as {D = GatedDesk R S G} {E = SeatState × S} (GatedSteps {R = R} m.draws m.watches) (steps m max_body) see (λ a ask answer b moved. moved.0)
+      conversation =
+          seen_as {D = GatedDesk R S G} {E = SeatState × S} (GatedSteps {R = R} m.draws m.watches)
+          (steps m max_body) see (λ a ask answer b moved. moved.0)
           max_body (m.reads reader) (m.reads reader_left) old new (m.writes writer) (m.writes writer_left) end c;
     }
 
-    same_answered : answered_on m max_body talk_of ≡ answered (GatedSteps {R = R} m.draws m.watches) max_body (m.reads reader) (m.reads reader_left) old new (m.writes writer) (m.writes writer_left) end c
+    same_answered : answered_on m max_body talk_of ≡ answered (GatedSteps {R = R} m.draws m.watches) max_body
+        (m.reads reader) (m.reads reader_left) old new (m.writes writer) (m.writes writer_left) end c
     unfolding seen_as
-    same_answered = ap (λ l. c.exchanges ++ l) (see_answered {D = GatedDesk R S G} {E = SeatState × S} (GatedSteps {R = R} m.draws m.watches) (steps m max_body) see (λ a ask answer b moved. moved.0)
+    same_answered =
+        ap (λ l. c.exchanges ++ l) (see_answered {D = GatedDesk R S G} {E = SeatState × S}
+        (GatedSteps {R = R} m.draws m.watches) (steps m max_body) see (λ a ask answer b moved. moved.0)
         max_body (length c.exchanges) c.at new c.rest (m.reads reader_left) c.mid (m.writes writer_left) end c.ended)
 
-    same_unanswered : unanswered_on m max_body talk_of ≡ unanswered (GatedSteps {R = R} m.draws m.watches) max_body (m.reads reader) (m.reads reader_left) old new (m.writes writer) (m.writes writer_left) end c
+    same_unanswered : unanswered_on m max_body talk_of ≡ unanswered (GatedSteps {R = R} m.draws m.watches) max_body
+        (m.reads reader) (m.reads reader_left) old new (m.writes writer) (m.writes writer_left) end c
     unfolding seen_as
-    same_unanswered = see_unanswered {D = GatedDesk R S G} {E = SeatState × S} (GatedSteps {R = R} m.draws m.watches) (steps m max_body) see (λ a ask answer b moved. moved.0)
+    same_unanswered =
+        see_unanswered {D = GatedDesk R S G} {E = SeatState × S} (GatedSteps {R = R} m.draws m.watches)
+        (steps m max_body) see (λ a ask answer b moved. moved.0)
         max_body (length c.exchanges) c.at new c.rest (m.reads reader_left) c.mid (m.writes writer_left) end c.ended
 
     -- what was told of it tells the talk
@@ -353,24 +510,39 @@ module _ {C In Out S G O : Type 0} (m : Means C In Out S G O) (max_body : ℕ) w
       of_exchanges = told.of_exchanges;
       of_end = told.of_end;
       each = told.each;
-      last = see_tells {D = GatedDesk R S G} {E = SeatState × S} (GatedSteps {R = R} m.draws m.watches) (steps m max_body) see (λ a ask answer b moved. moved.0)
-          max_body (length c.exchanges) c.at new c.rest (m.reads reader_left) c.mid (m.writes writer_left) end c.ended told.of_end told.last;
+      last =
+          see_tells {D = GatedDesk R S G} {E = SeatState × S} (GatedSteps {R = R} m.draws m.watches)
+          (steps m max_body) see (λ a ask answer b moved. moved.0)
+          max_body (length c.exchanges) c.at new c.rest (m.reads reader_left) c.mid (m.writes writer_left) end c.ended
+          told.of_end told.last;
       events_are = refl;
     }
 
     -- and the gate was told of it
-    pub told_on : (end ≡ DeskGone → ⊥) → WatchesEach m.watches old.gate old.turn (answered_on m max_body talk_of) new.gate new.turn
+    pub told_on : (end ≡ DeskGone → ⊥)
+        → WatchesEach m.watches old.gate old.turn (answered_on m max_body talk_of) new.gate new.turn
     told_on there = subst (λ l. WatchesEach m.watches old.gate old.turn l new.gate new.turn) (sym same_answered)
-        (watched_on {D = GatedDesk R S G} m.watches (GatedSteps {R = R} m.draws m.watches) (λ d. d.gate) (λ d. d.turn) (λ a ask answer b moved. moved.1)
+        (watched_on {D = GatedDesk R S G} m.watches (GatedSteps {R = R} m.draws m.watches) (λ d. d.gate) (λ d. d.turn)
+        (λ a ask answer b moved. moved.1)
         max_body (m.reads reader) (m.reads reader_left) old new (m.writes writer) (m.writes writer_left) end c there)
 
-    pub told_gone : end ≡ DeskGone → (at : G) × (now : ℕ) × WatchesEach m.watches old.gate old.turn (answered_on m max_body talk_of) at now × WatchesLast m.watches at now (unanswered_on m max_body talk_of) new.gate
+    pub told_gone : end ≡ DeskGone → (at : G) × (now : ℕ) × WatchesEach m.watches old.gate old.turn (answered_on m
+        max_body talk_of) at now × WatchesLast m.watches at now (unanswered_on m max_body talk_of) new.gate
     told_gone gone =
-        let l = watched_lost {D = GatedDesk R S G} m.watches (GatedSteps {R = R} m.draws m.watches) (λ d. d.gate) (λ d. d.turn) (λ a ask answer b moved. moved.1)
-        max_body (m.reads reader) (m.reads reader_left) old new (m.writes writer) (m.writes writer_left) end c gone in
-        (l.0, l.1, subst (λ xs. WatchesEach m.watches old.gate old.turn xs l.0 l.1) (sym same_answered) l.2, subst (λ us. WatchesLast m.watches l.0 l.1 us new.gate) (sym same_unanswered) l.3)
+        let l =
+        watched_lost {D = GatedDesk R S G} m.watches (GatedSteps {R = R} m.draws m.watches) (λ d. d.gate) (λ d. d.turn)
+        (λ a ask answer b moved. moved.1)
+        max_body (m.reads reader) (m.reads reader_left) old new (m.writes writer) (m.writes writer_left) end c gone in (
+          l.0,
+          l.1,
+          subst (λ xs. WatchesEach m.watches old.gate old.turn xs l.0 l.1) (sym same_answered) l.2,
+          subst (λ us. WatchesLast m.watches l.0 l.1 us new.gate) (sym same_unanswered) l.3,
+        )
 
-  pub worked_as : (conns : C) (secrets : S) (gate : G) (observer : O) (seat new new' : SeatState) (taken taken' clean clean' : ℕ) → IsWorked m max_body conns secrets gate observer seat new taken clean
-      → new' ≡ new → taken' ≡ taken → clean' ≡ clean → IsWorked m max_body conns secrets gate observer seat new' taken' clean'
+  pub worked_as : (conns : C) (secrets : S) (gate : G) (observer : O) (seat new new' : SeatState)
+      (taken taken' clean clean' : ℕ) → IsWorked m max_body conns secrets gate observer seat new taken clean
+      → new' ≡ new → taken' ≡ taken → clean' ≡ clean
+      → IsWorked m max_body conns secrets gate observer seat new' taken' clean'
   worked_as conns secrets gate observer seat new new' taken taken' clean clean' w p q r =
-      subst (λ (x : SeatState × (ℕ × ℕ)). IsWorked m max_body conns secrets gate observer seat x.0 x.1.0 x.1.1) (λ i. (sym p i, (sym q i, sym r i))) w
+      subst (λ (x : SeatState × (ℕ × ℕ)). IsWorked m max_body conns secrets gate observer seat x.0 x.1.0 x.1.1)
+      (λ i. (sym p i, (sym q i, sym r i))) w

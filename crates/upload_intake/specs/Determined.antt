@@ -9,7 +9,8 @@ use Rattle.upload_intake.specs.Served.{IsServed}
 use Rattle.upload_intake.specs.ServedPool.{Carries, read_and_replied}
 use Rattle.upload_wire.specs.Conversation.{Exchange}
 
--- a step but for its answer: from which seat the job came, what it asked, with which secret, and at which moment it was served
+-- a step but for its answer: from which seat the job came, what it asked, with which secret, and at which moment it was
+-- served
 abbrev pub taken : Step → ℕ × (Ask × (List ℕ × ℕ))
 taken s = (s.seat, (s.exchange.ask, (s.exchange.secret, s.exchange.now)))
 
@@ -17,8 +18,9 @@ taken s = (s.seat, (s.exchange.ask, (s.exchange.secret, s.exchange.now)))
 abbrev pub HaveMemory : List Step → Type 0
 HaveMemory steps = AllByRecursion (λ (s : Step). s.exchange.answer ≢ NoMemory) steps
 
--- What two services from the same state served in the same order: the same answers were given, and the same service is left, where memory
--- wasn't wanting. What two workers of one seat read and replied on all their connections is the same where the same steps are theirs, and no desk was gone.
+-- What two services from the same state served in the same order: the same answers were given, and the same service is
+-- left, where memory wasn't wanting. What two workers of one seat read and replied on all their connections is the same
+-- where the same steps are theirs, and no desk was gone.
 pub record ServedOrdersAreDetermined : Type 0 where
   pub by_order : (start one two : State) (steps others : List Step)
       → IsServed start (exchanges_of steps) one → IsServed start (exchanges_of others) two

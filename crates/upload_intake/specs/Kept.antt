@@ -49,7 +49,8 @@ is_closed (message.Job ask secret ∷ ms) = is_closed ms
 is_closed (message.Hash at algorithm ∷ ms) = is_closed ms
 
 -- What a seat's passes know: what it sent, what it got, and that a seat which isn't gone got a reply to each job.
-pub record Knows (seat : ℕ) (gone : Bool) (jobs : LineView Message) (replies : LineView Answer) (sent : List Message) : Type 0 where
+pub record Knows (seat : ℕ) (gone : Bool) (jobs : LineView Message) (replies : LineView Answer)
+    (sent : List Message) : Type 0 where
   pub got : List (Item Answer)
   pub jobs_view : jobs ≡ sender_view seat sent
   pub replies_view : replies ≡ taker_view 1 got
@@ -94,7 +95,8 @@ pub record KeepsSeat (seat : ℕ) (steps : List Step) (jobs : LineView Message) 
   pub finish : line.is_done ≡ true → TookFinish seat jobs
 
 -- what a keeper keeps of its service, over the steps in its log
-pub record Keeps (start service : State) (now count : ℕ) (steps : List Step) (taken : List (Item Message)) : Type 0 where
+pub record Keeps (start service : State) (now count : ℕ) (steps : List Step)
+    (taken : List (Item Message)) : Type 0 where
   pub lawful : IsLawful start
   pub run : Run start (exchanges_of steps) service
   pub moments : NeverFall (exchanges_of steps)
@@ -111,7 +113,8 @@ abbrev pub AreOfSeats : ℕ → List Step → Type 0
 AreOfSeats seats steps = AllByRecursion (λ (s : Step). s.seat < seats) steps
 
 -- a keeper that runs, with a reply line for each seat
-pub record IsKeeping (start service : State) (now count : ℕ) (steps : List Step) (jobs : LineView Message) (lines : List ReplyLine) : Type 0 where
+pub record IsKeeping (start service : State) (now count : ℕ) (steps : List Step) (jobs : LineView Message)
+    (lines : List ReplyLine) : Type 0 where
   pub keeps : Keeps start service now count steps jobs.taken
   pub receives : Receives (length lines) jobs
   pub seated : AreOfSeats (length lines) steps

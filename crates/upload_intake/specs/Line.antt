@@ -1,5 +1,5 @@
--- THE RULED LINE: senders, each of a seat, and one receiver. Of each seat, what was taken, followed by what waits, is what
--- it sent. Each item names its seat, and a line has no other items.
+-- THE RULED LINE: senders, each of a seat, and one receiver. Of each seat, what was taken, followed by what waits, is
+-- what it sent. Each item names its seat, and a line has no other items.
 use Rattle.std.specs.Prelude.{◌≡◌, ◌≢◌, ℕ, ◌+◌, ◌==◌, nat_le, Bool, true, false, List, [], ◌∷◌, ◌++◌, map, filter}
 use mathlib.Core.Option.{some}
 use lib.ListN.{get_elem?}
@@ -32,7 +32,8 @@ module _ {T : Type 0} where
   -- The pass at a port agrees with the line. There is one port at most for each seat, and one that receives.
   abbrev pub Fits : (ℕ → ℕ) → ℕ → List (Item T) → List (Item T) → ℕ → LineView T → Type 0
   Fits sender taker taken items port v =
-      ((seat : ℕ) → sends seat v.sending ≡ true → (port ≡ sender seat) × (sent v.sending ≡ items_of seat (taken ++ items)))
+      ((seat : ℕ) → sends seat v.sending ≡ true
+      → (port ≡ sender seat) × (sent v.sending ≡ items_of seat (taken ++ items)))
       × (v.takes ≡ true → (port ≡ taker) × (v.taken ≡ taken))
 
   -- what a line's items and the views of its passes have in common, at every moment
@@ -43,7 +44,8 @@ module _ {T : Type 0} where
 
   -- what a pass that also receives knows of the items that wait
   abbrev pub Waits : LineView T → List (Item T) → Type 0
-  Waits v items = v.takes ≡ true → (seat : ℕ) → sends seat v.sending ≡ true → sent v.sending ≡ items_of seat (v.taken ++ items)
+  Waits v items =
+      v.takes ≡ true → (seat : ℕ) → sends seat v.sending ≡ true → sent v.sending ≡ items_of seat (v.taken ++ items)
 
   -- the item isn't of a seat as which this pass sends and sent nothing
   abbrev pub IsOfAnother : LineView T → Item T → Type 0

@@ -21,7 +21,10 @@ pub record Step : Type 0 where
 
 -- an entry of a keeper's log as a step
 abbrev pub step_of : Entry → Step
-step_of e = record { seat = e.seat; exchange = record { ask = e.ask.value; secret = e.secret; now = e.now; answer = e.answer.value } }
+step_of e = record {
+  seat = e.seat;
+  exchange = record { ask = e.ask.value; secret = e.secret; now = e.now; answer = e.answer.value };
+}
 
 abbrev pub steps_of : List Entry → List Step
 steps_of entries = map step_of entries

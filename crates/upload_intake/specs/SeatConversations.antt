@@ -36,6 +36,8 @@ SeatSteps draws seat secrets a ask answer b = AsksWithDrawn draws (seat a) (secr
 abbrev pub ConversationsFillTheSeat : {S : Type 0} → (S → List ℕ → S → Type 0) → Type 0
 ConversationsFillTheSeat {S} draws =
     (max_body : ℕ) (first left : SourceState) (old new : SeatState × S) (before after : SinkState) (end : ConnEnd)
-    → (c : IsConversation {D = SeatState × S} (SeatSteps draws (λ d. d.0) (λ d. d.1)) max_body first left old new before after end)
-    → Adds old.0 new.0 (answered {D = SeatState × S} (SeatSteps draws (λ d. d.0) (λ d. d.1)) max_body first left old new before after end c)
-    (unanswered {D = SeatState × S} (SeatSteps draws (λ d. d.0) (λ d. d.1)) max_body first left old new before after end c)
+    → (c : IsConversation {D = SeatState × S} (SeatSteps draws (λ d. d.0) (λ d. d.1)) max_body first left old new before
+    after end) → Adds old.0 new.0 (answered {D = SeatState × S} (SeatSteps draws (λ d. d.0) (λ d. d.1)) max_body first
+    left old new before after end c)
+    (unanswered {D = SeatState × S} (SeatSteps draws (λ d. d.0) (λ d. d.1)) max_body first left old new
+    before after end c)

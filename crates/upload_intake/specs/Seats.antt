@@ -18,13 +18,14 @@ pub record SeatState : Type 0 where
   pub heard : List Answer
   pub gone : Bool
 
--- One call of `ask`. An answer comes only where no call ended Gone; it adds the job and the answer. NotSent gives the same
--- ask back and adds nothing. NoAnswer adds the job alone. After both the seat is gone.
+-- One call of `ask`. An answer comes only where no call ended Gone; it adds the job and the answer. NotSent gives the
+-- same ask back and adds nothing. NoAnswer adds the job alone. After both the seat is gone.
 abbrev pub Asks : SeatState → Ask → List ℕ → Result Answer Gone → SeatState → Type 0
 Asks old ask secret (Ok answer) new =
     (old.gone ≡ false) × (new ≡ record old { sent = old.sent ++ (ask, secret) ∷ []; heard = old.heard ++ answer ∷ [] })
 Asks old ask secret (Err (NotSent back)) new = (back ≡ ask) × (new ≡ record old { gone = true })
-Asks old ask secret (Err NoAnswer) new = (old.gone ≡ false) × (new ≡ record old { sent = old.sent ++ (ask, secret) ∷ []; gone = true })
+Asks old ask secret (Err NoAnswer) new =
+    (old.gone ≡ false) × (new ≡ record old { sent = old.sent ++ (ask, secret) ∷ []; gone = true })
 
 -- it sent and heard nothing yet
 pub record IsFresh (seat : SeatState) : Type 0 where

@@ -1,8 +1,9 @@
--- THE SERVED POOL, read aloud: each worker has a seat, and was given connections, one behind the other; what it read and wrote on each is a
--- conversation. What all these conversations asked was served by one service in one order, and nothing else was. In it stand each worker's
--- requests, in the order in which it read them, each once, with the answers that it wrote. At moments that the clock told, and that don't fall,
--- this order takes the service that was handed in to the one handed back, and the headline holds of it. Each worker's gate was told of
--- its requests and their answers, in the order in which it read them, and its observer of each head and of each reply on its connections.
+-- THE SERVED POOL, read aloud: each worker has a seat, and was given connections, one behind the other; what it read
+-- and wrote on each is a conversation. What all these conversations asked was served by one service in one order, and
+-- nothing else was. In it stand each worker's requests, in the order in which it read them, each once, with the answers
+-- that it wrote. At moments that the clock told, and that don't fall, this order takes the service that was handed in
+-- to the one handed back, and the headline holds of it. Each worker's gate was told of its requests and their answers,
+-- in the order in which it read them, and its observer of each head and of each reply on its connections.
 use Rattle.std.specs.Prelude.{◌≡◌, ℕ, ◌<◌, ◌==◌, ◌⊎◌, List, [], ◌++◌, map, filter, length, get_or}
 use Rattle.std.specs.List.{AllByRecursion}
 use Rattle.upload_service.specs.declared.ask.Ask.{Ask}
@@ -30,21 +31,25 @@ read_and_replied x = (x.ask, x.answer)
 abbrev pub asks : List Step → List Ask
 asks steps = map (λ (s : Step). s.exchange.ask) steps
 
--- One seat's steps are the exchanges of its conversations, in order, each once; and behind them at most the request at which the
--- desk was gone, where that one was sent: nobody heard its answer.
+-- One seat's steps are the exchanges of its conversations, in order, each once; and behind them at most the request at
+-- which the desk was gone, where that one was sent: nobody heard its answer.
 pub record Carries (seat : ℕ) (steps : List Step) (answered : List Exchange) (unanswered : List Ask) : Type 0 where
   pub unheard : List Step
-  pub in_order : map asked_and_answered (of_seat seat steps) ≡ map read_and_replied answered ++ map asked_and_answered unheard
+  pub in_order : map asked_and_answered (of_seat seat steps)
+      ≡ map read_and_replied answered ++ map asked_and_answered unheard
   pub lost : (asks unheard ≡ []) ⊎ (asks unheard ≡ unanswered)
 
--- The part of the worker on a seat, from its connections, its secrets, its gate and its observer to its two counts: what it served over a seat that had
--- asked nothing, the steps that its conversations are, and the jobs among them with the secrets that it drew.
+-- The part of the worker on a seat, from its connections, its secrets, its gate and its observer to its two counts:
+-- what it served over a seat that had asked nothing, the steps that its conversations are, and the jobs among them with
+-- the secrets that it drew.
 pub record HasPart {C In Out S G O : Type 0}
-    (m : Means C In Out S G O) (max_body : ℕ) (seat : ℕ) (steps : List Step) (part : Worker C S G O × WorkerEnd) : Type 0 where
+    (m : Means C In Out S G O) (max_body : ℕ) (seat : ℕ) (steps : List Step)
+    (part : Worker C S G O × WorkerEnd) : Type 0 where
   pub old : SeatState
   pub new : SeatState
   pub fresh : IsFresh old
-  pub worked : IsWorked m max_body part.0.conns part.0.secrets part.0.gate part.0.observer old new part.1.conns part.1.clean
+  pub worked : IsWorked m max_body part.0.conns part.0.secrets part.0.gate part.0.observer old new
+      part.1.conns part.1.clean
   pub carried : Carries seat steps (all_answered m max_body worked.talks) (all_unanswered m max_body worked.talks)
   pub sent : jobs_of seat (taken_by steps) ≡ new.sent
 
@@ -59,7 +64,8 @@ pub record Left (M : Type 0) : Type 0 where
   pub moments : M
   pub ends : List WorkerEnd
 
-pub record IsServedPool {C In Out S G O M : Type 0} (m : Means C In Out S G O) (tells : M → ℕ → M → Type 0) (given : Given M C S G O) (left : Left M) : Type 0 where
+pub record IsServedPool {C In Out S G O M : Type 0} (m : Means C In Out S G O) (tells : M → ℕ → M → Type 0)
+    (given : Given M C S G O) (left : Left M) : Type 0 where
   pub steps : List Step
   -- no step is of another seat
   pub seated : AllByRecursion (λ (s : Step). s.seat < length given.workers) steps

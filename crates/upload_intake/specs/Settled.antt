@@ -18,17 +18,19 @@ pub record Heard (number : ℕ) (steps : List Step) (seat : SeatState) : Type 0 
   pub in_order : answers_to number steps ≡ seat.heard ++ unheard
   pub all : seat.gone ≡ false → unheard ≡ []
 
--- the jobs of the steps are, of this seat, exactly those that it sent, in its order, each once; and what it heard is in order a front of the
--- answers to them
+-- the jobs of the steps are, of this seat, exactly those that it sent, in its order, each once; and what it heard is in
+-- order a front of the answers to them
 pub record IsSettledSeat (number : ℕ) (steps : List Step) (seat : SeatState) : Type 0 where
   pub sent : jobs_of number (taken_by steps) ≡ seat.sent
   pub heard : Heard number steps seat
 
 pub record IsSettled (keeper : KeeperState) (ends : List SeatState) (service : State) (log_length : ℕ) : Type 0 where
-  pub each : (number : ℕ) (d : SeatState) → number < length ends → IsSettledSeat number keeper.log (get_or ends number d)
+  pub each : (number : ℕ) (d : SeatState) → number < length ends
+      → IsSettledSeat number keeper.log (get_or ends number d)
   -- no step is of another seat
   pub seated : AllByRecursion (λ (s : Step). s.seat < length ends) keeper.log
-  -- the service is the keeper's, and those steps are a run to it, at moments that don't fall; so the headline holds of them
+  -- the service is the keeper's, and those steps are a run to it, at moments that don't fall; so the headline holds of
+  -- them
   pub same : service ≡ keeper.service
   pub served : IsServed keeper.start (exchanges_of keeper.log) service
   pub counted : log_length ≡ min (length keeper.log) count_limit

@@ -20,15 +20,19 @@ module _ {C S G O : Type 0} where
 
   -- the stations of the threads that were started
   abbrev pub promised : List (PromisedHandle (SeatState × WorkerEnd) (Work C S G O)) → List (Station C S G O)
-  promised handles = map (λ (h : PromisedHandle (SeatState × WorkerEnd) (Work C S G O)). h.promise.station.value) handles
+  promised handles =
+      map (λ (h : PromisedHandle (SeatState × WorkerEnd) (Work C S G O)). h.promise.station.value) handles
 
 -- A worker served over its seat, which it left so, and counted so.
-pub record Works {C In Out S G O : Type 0} (m : Means C In Out S G O) (station : Station C S G O) (seat : SeatState) (end : WorkerEnd) : Type 0 where
+pub record Works {C In Out S G O : Type 0} (m : Means C In Out S G O) (station : Station C S G O) (seat : SeatState)
+    (end : WorkerEnd) : Type 0 where
   pub same : IsSameSeat station.seat seat
-  pub worked : IsWorked m station.server.max_body station.worker.conns station.worker.secrets station.worker.gate station.worker.observer station.seat seat end.conns end.clean
+  pub worked : IsWorked m station.server.max_body station.worker.conns station.worker.secrets station.worker.gate
+      station.worker.observer station.seat seat end.conns end.clean
 
 -- so did each worker, in order
-abbrev pub EachWorks : {C In Out S G O : Type 0} → Means C In Out S G O → List (Station C S G O) → List SeatState → List WorkerEnd → Type 0
+abbrev pub EachWorks : {C In Out S G O : Type 0} → Means C In Out S G O → List (Station C S G O) → List SeatState
+    → List WorkerEnd → Type 0
 EachWorks {C} {In} {Out} {S} {G} {O} m stations seats ends =
     (k : ℕ) (station : Station C S G O) (seat : SeatState) (end : WorkerEnd) → k < length stations
     → Works m (get_or stations k station) (get_or seats k seat) (get_or ends k end)

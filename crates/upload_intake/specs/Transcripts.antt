@@ -12,14 +12,17 @@ GivesUnused {C} {In} {Out} m =
     → ((m.reads reader).given ≡ []) × ((m.writes writer).taken ≡ [])
 
 module _ {C In Out S G O : Type 0} (m : Means C In Out S G O) (max_body : ℕ) where
-  -- All that the connection's reads gave is what its conversation read, and all that its writes took is what its conversation wrote.
+  -- All that the connection's reads gave is what its conversation read, and all that its writes took is what its
+  -- conversation wrote.
   pub record TellsAll (t : Talk m max_body) : Type 0 where
     pub read : (m.reads t.reader_left).given
         ≡ all_read (steps m max_body) max_body
-        (m.reads t.reader) (m.reads t.reader_left) t.old t.new (m.writes t.writer) (m.writes t.writer_left) t.end t.conversation
+        (m.reads t.reader) (m.reads t.reader_left) t.old t.new (m.writes t.writer) (m.writes t.writer_left)
+        t.end t.conversation
     pub written : (m.writes t.writer_left).taken
         ≡ all_written (steps m max_body) max_body
-        (m.reads t.reader) (m.reads t.reader_left) t.old t.new (m.writes t.writer) (m.writes t.writer_left) t.end t.conversation
+        (m.reads t.reader) (m.reads t.reader_left) t.old t.new (m.writes t.writer) (m.writes t.writer_left)
+        t.end t.conversation
 
 -- if connections are given so, that is so of each that a worker served
 abbrev pub TranscriptsTellConnections : {C In Out S G O : Type 0} → Means C In Out S G O → Type 0

@@ -29,7 +29,8 @@ module _ {G : Type 0} (watches : Watching G) where
   WatchesLast old turn [] new = new ≡ old
   WatchesLast old turn (ask ∷ asks) new = (next : ℕ) × WatchesOne old turn ask None new next
 
-  -- The gate was told of each of these requests, at the turns 1, 2, 3 and so on, and of each answer; and at last of the one that got none.
+  -- The gate was told of each of these requests, at the turns 1, 2, 3 and so on, and of each answer; and at last of the
+  -- one that got none.
   pub record IsWatched (gate : G) (answered : List Exchange) (unanswered : List Ask) : Type 0 where
     pub behind : G
     pub turn : ℕ

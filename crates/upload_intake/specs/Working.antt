@@ -15,8 +15,8 @@ use Rattle.upload_wire.specs.ConnectionRuns.{answered, unanswered}
 use Rattle.upload_wire.specs.declared.connection.ConnEnd.{ConnEnd}
 use Rattle.upload_wire.specs.declared.connection.ConnEnd.TheVariants.{Clean, AfterClose, DeskGone}
 
--- How a worker is given connections, what contracts see of a reader and of a writer, how secrets are drawn, how its gate watches, and how
--- its observer takes what it is told.
+-- How a worker is given connections, what contracts see of a reader and of a writer, how secrets are drawn, how its
+-- gate watches, and how its observer takes what it is told.
 pub record Means (C In Out S G O : Type 0) : Type 1 where
   pub gives : C → Option (In × Out) → C → Type 0
   pub reads : In → SourceState
@@ -25,8 +25,8 @@ pub record Means (C In Out S G O : Type 0) : Type 1 where
   pub watches : Watching G
   pub told : Telling O
 
-abbrev pub means : {C In Out S G O : Type 0} → (C → Option (In × Out) → C → Type 0) → (In → SourceState) → (Out → SinkState)
-    → (S → List ℕ → S → Type 0) → Watching G → Telling O → Means C In Out S G O
+abbrev pub means : {C In Out S G O : Type 0} → (C → Option (In × Out) → C → Type 0) → (In → SourceState)
+    → (Out → SinkState) → (S → List ℕ → S → Type 0) → Watching G → Telling O → Means C In Out S G O
 means gives reads writes draws watches told =
     record { gives = gives; reads = reads; writes = writes; draws = draws; watches = watches; told = told }
 
@@ -50,8 +50,8 @@ module _ {C In Out S G O : Type 0} (m : Means C In Out S G O) (max_body : ℕ) w
   abbrev pub steps : Moves (SeatState × S)
   steps = SeatSteps {D = SeatState × S} {S = S} m.draws (λ d. d.0) (λ d. d.1)
 
-  -- A connection that was served: the reader and the writer as they were given and as they were left, the seat and the secrets
-  -- before and behind it, and how it ended. What was read and written is a conversation over the seat.
+  -- A connection that was served: the reader and the writer as they were given and as they were left, the seat and the
+  -- secrets before and behind it, and how it ended. What was read and written is a conversation over the seat.
   pub record Talk : Type 0 where
     pub reader : In
     pub writer : Out
@@ -66,12 +66,14 @@ module _ {C In Out S G O : Type 0} (m : Means C In Out S G O) (max_body : ℕ) w
   -- what was asked and answered on these connections, in order; and the request at which the desk was gone
   abbrev pub answered_on : Talk → List Exchange
   answered_on t =
-      answered steps max_body (m.reads t.reader) (m.reads t.reader_left) t.old t.new (m.writes t.writer) (m.writes t.writer_left) t.end
+      answered steps max_body (m.reads t.reader) (m.reads t.reader_left) t.old t.new (m.writes t.writer)
+      (m.writes t.writer_left) t.end
       t.conversation
 
   abbrev pub unanswered_on : Talk → List Ask
   unanswered_on t =
-      unanswered steps max_body (m.reads t.reader) (m.reads t.reader_left) t.old t.new (m.writes t.writer) (m.writes t.writer_left) t.end
+      unanswered steps max_body (m.reads t.reader) (m.reads t.reader_left) t.old t.new (m.writes t.writer)
+      (m.writes t.writer_left) t.end
       t.conversation
 
   abbrev pub all_answered : List Talk → List Exchange
@@ -83,8 +85,8 @@ module _ {C In Out S G O : Type 0} (m : Means C In Out S G O) (max_body : ℕ) w
   abbrev pub count_clean : List Talk → ℕ
   count_clean ts = length (filter (λ t. is_clean t.end) ts)
 
-  -- From this seat on: no more comes; or the next connection that is given is served from where the seat stands, and so on, but
-  -- where the desk was gone: behind that connection none is taken.
+  -- From this seat on: no more comes; or the next connection that is given is served from where the seat stands, and so
+  -- on, but where the desk was gone: behind that connection none is taken.
   abbrev pub Serves : C → SeatState × S → List Talk → SeatState × S → Type 0
   Serves conns desk [] new = (left : C) × m.gives conns None left × (new ≡ desk)
   Serves conns desk (t ∷ ts) new =
@@ -99,7 +101,9 @@ module _ {C In Out S G O : Type 0} (m : Means C In Out S G O) (max_body : ℕ) w
     pub last : TellsEnd (record {
       moves = steps;
       max_body = max_body;
-      stood = stand (length t.conversation.exchanges) t.conversation.rest (m.reads t.reader_left) t.conversation.at t.conversation.mid;
+      stood =
+          stand (length t.conversation.exchanges) t.conversation.rest (m.reads t.reader_left) t.conversation.at
+          t.conversation.mid;
       desk = t.new;
       sink = m.writes t.writer_left;
     }) t.end t.conversation.ended of_end
@@ -109,11 +113,13 @@ module _ {C In Out S G O : Type 0} (m : Means C In Out S G O) (max_body : ℕ) w
   abbrev pub TellsTalks : List Talk → List Event → Type 0
   TellsTalks [] events = events ≡ []
   TellsTalks (t ∷ ts) events =
-      (first : List Event) × (others : List Event) × TellsTalk t first × TellsTalks ts others × (events ≡ first ++ others)
+      (first : List Event) × (others : List Event) × TellsTalk t first × TellsTalks ts others
+      × (events ≡ first ++ others)
 
-  -- What a worker did over its seat: what it served, what its gate and its observer were told of that, how many connections it took, and how
-  -- many of them ended clean.
-  pub record IsWorked (conns : C) (secrets : S) (gate : G) (observer : O) (seat new : SeatState) (taken clean : ℕ) : Type 0 where
+  -- What a worker did over its seat: what it served, what its gate and its observer were told of that, how many
+  -- connections it took, and how many of them ended clean.
+  pub record IsWorked (conns : C) (secrets : S) (gate : G) (observer : O) (seat new : SeatState)
+      (taken clean : ℕ) : Type 0 where
     pub talks : List Talk
     pub secrets_left : S
     pub served : Serves conns (seat, secrets) talks (new, secrets_left)

@@ -41,7 +41,8 @@ impl<'a, R: Wait, S: Secrets + Drop> SeatDesk<'a, R, S> {
 impl<'a, R: Wait, S: Secrets> Desk for SeatDesk<'a, R, S> {
     ghost use Rattle.upload_intake.specs.SeatMoves.{AsksWithDrawn};
 
-    ghost moves = { λ old ask answer new. AsksWithDrawn S.draws old.seat old.secrets ask answer new.seat new.secrets };
+    ghost moves = { λ old ask answer new.
+        AsksWithDrawn S.draws old.seat old.secrets ask answer new.seat new.secrets };
 
     fn ask(&mut self, ask: Ask) -> Option<Answer> {
         let secret = self.secrets.draw();

@@ -50,7 +50,8 @@ impl<T: Drop> SendEnd<T> {
         ensures sent { MatchResult result
             (λ _. view self.new.pass ≡ with_sent item (view self.old.pass))
             (λ back. (back ≡ item) × (view self.new.pass ≡ view self.old.pass)) }
-        ensures closing { MatchResult result (λ _. self.new.is_open ≡ self.old.is_open) (λ _. self.new.is_open ≡ false) }
+        ensures closing { MatchResult result (λ _. self.new.is_open ≡ self.old.is_open)
+            (λ _. self.new.is_open ≡ false) }
     {
         match self.sender.send_as::<Sends, R>(rt, &mut self.pass, item) {
             Ok(()) => Ok(()),
@@ -69,7 +70,8 @@ impl<T: Drop> TakeEnd<T> {
         ensures line { self.new.receiver ≡ self.old.receiver }
         ensures taken { MatchOption result
             (view self.new.pass ≡ view self.old.pass)
-            (λ item. (view self.new.pass ≡ with_taken item (view self.old.pass)) × IsOfAnother (view self.old.pass) item) }
+            (λ item. (view self.new.pass ≡ with_taken item (view self.old.pass))
+            × IsOfAnother (view self.old.pass) item) }
     {
         self.receiver.recv_as::<Takes, R>(rt, &mut self.pass).ok()
     }
@@ -98,7 +100,8 @@ pub fn next_sender<T: Drop>(
 ) -> Result<SendEnd<T>, AllocError>
     requires line { receives_on taker.old.receiver ≡ sends_on sender.now }
     requires taker { view taker.old.pass ≡ taker_view seat [] }
-    ensures line { IfOk result (λ end. line_of (sends_on end.sender) ≡ line_of (sends_on sender.now)) }
+    ensures line { IfOk result
+        (λ end. line_of (sends_on end.sender) ≡ line_of (sends_on sender.now)) }
     ensures sender { IfOk result (λ end. view end.pass ≡ sender_view seat []) }
     ensures opened { IfOk result (λ end. end.is_open ≡ true) }
     ensures same_line { taker.new.receiver ≡ taker.old.receiver }
@@ -116,8 +119,10 @@ pub fn next_sender<T: Drop>(
 
 /// A line with one sender, on which one item waits at most.
 pub fn reply_line<T: Drop>(alloc: Global) -> Result<(SendEnd<T>, TakeEnd<T>), AllocError>
-    ensures line { IfOk result (λ ends. line_of (receives_on ends.1.receiver) ≡ line_of (sends_on ends.0.sender)) }
-    ensures views { IfOk result (λ ends. (view ends.0.pass ≡ sender_view 0 []) × (view ends.1.pass ≡ taker_view 1 [])) }
+    ensures line { IfOk result
+        (λ ends. line_of (receives_on ends.1.receiver) ≡ line_of (sends_on ends.0.sender)) }
+    ensures views { IfOk result
+        (λ ends. (view ends.0.pass ≡ sender_view 0 []) × (view ends.1.pass ≡ taker_view 1 [])) }
     ensures opened { IfOk result (λ ends. ends.0.is_open ≡ true) }
 {
     let (sender, mut taker) = open_line(alloc, 1)?;
@@ -125,8 +130,8 @@ pub fn reply_line<T: Drop>(alloc: Global) -> Result<(SendEnd<T>, TakeEnd<T>), Al
     Ok((only, taker))
 }
 
-/// With a sender of the line: what was taken of its seat, and then what waits of it, is what it sent. The receiver has the
-/// sender's pass from now on.
+/// With a sender of the line: what was taken of its seat, and then what waits of it, is what it sent. The receiver has
+/// the sender's pass from now on.
 pub fn settle_line<T: Drop>(sender: SendEnd<T>, taker: &mut TakeEnd<T>)
     requires { line_of (receives_on taker.old.receiver) ≡ line_of (sends_on sender.sender) }
     ensures line { taker.new.receiver ≡ taker.old.receiver }

@@ -5,8 +5,8 @@ ghost use Rattle.upload_intake.specs.Notices.Notice.{Asking, Answered};
 
 use upload_service::{Answer, Ask};
 
-/// Stands between a worker and its seat, where a test may hold the worker. It is told of each request that is asked: which of
-/// the worker's it is, counted from 1, and what it is answered. The count stays at 2^64 - 1 once there.
+/// Stands between a worker and its seat, where a test may hold the worker. It is told of each request that is asked:
+/// which of the worker's it is, counted from 1, and what it is answered. The count stays at 2^64 - 1 once there.
 pub trait Gate {
     // Holds of the state before, which request it is, what is told of it, and the state after.
     ghost watches: { Self → ℕ → Notice → Self → Type 0 };

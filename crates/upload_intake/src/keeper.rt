@@ -52,7 +52,8 @@ impl Model for Keeper {
       log = steps_of k.log.items;
     } };
 
-    ghost invariant = { λ k. IsKeeping k.start.value k.service k.now k.count (steps_of k.log.items) (known k.jobs.pass) k.lines.items };
+    ghost invariant = { λ k. IsKeeping k.start.value k.service k.now k.count (steps_of k.log.items)
+        (known k.jobs.pass) k.lines.items };
 }
 
 /// What a keeper leaves when all seats have finished. Contracts see the same of it.
@@ -91,7 +92,8 @@ impl Model for Served {
       log = steps_of k.log.items;
     } };
 
-    ghost invariant = { λ k. IsKeeping k.start.value k.service k.now k.count (steps_of k.log.items) (known k.jobs.pass) k.lines.items
+    ghost invariant = { λ k. IsKeeping k.start.value k.service k.now k.count (steps_of k.log.items)
+        (known k.jobs.pass) k.lines.items
         × AreDone k.lines.items };
 }
 

@@ -1,10 +1,10 @@
-//! Workers round one upload service, as many as the caller likes. The service is owned by one thread, the keeper, and asked from two seats over
-//! lines: bounded channels under a rule, by which what the keeper took is exactly what each seat sent, in its order, each
-//! once, and what a seat hears is in order what the service answered to its own requests.
+//! Workers round one upload service, as many as the caller likes. The service is owned by one thread, the keeper, and
+//! asked from two seats over lines: bounded channels under a rule, by which what the keeper took is exactly what each
+//! seat sent, in its order, each once, and what a seat hears is in order what the service answered to its own requests.
 //!
-//! A request goes from a connection (`conns`) over a worker's `gate` and `desk` to its `seat`, on a line (`line`, `ends`)
-//! to the `keeper`, and its answer back. `work` serves one worker's connections, `pool` starts all workers and the
-//! keeper, and `settlement` makes the lines and settles them.
+//! A request goes from a connection (`conns`) over a worker's `gate` and `desk` to its `seat`, on a line (`line`,
+//! `ends`) to the `keeper`, and its answer back. `work` serves one worker's connections, `pool` starts all workers and
+//! the keeper, and `settlement` makes the lines and settles them.
 #![tactic(auto)]
 
 mod conns;

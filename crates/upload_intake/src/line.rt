@@ -80,7 +80,8 @@ impl<T> Outcome<Item<T>, LineView<T>> for Takes {
     ghost use Rattle.std.specs.Prelude.{◌≡◌};
     ghost use Rattle.upload_intake.specs.Line.{with_taken, IsOfAnother};
 
-    ghost then = { λ before item after. (after ≡ with_taken item before) × IsOfAnother before item };
+    ghost then = { λ before item after.
+        (after ≡ with_taken item before) × IsOfAnother before item };
 }
 
 impl<T> Lesson<Item<T>, LineView<T>> for Takes {

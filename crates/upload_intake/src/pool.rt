@@ -90,8 +90,10 @@ struct Ends {
 impl Ends {
     // Room for so many, and nothing yet.
     fn with_capacity(alloc: Global, count: usize) -> Result<Ends, AllocError>
-        ensures seats { IfOk result (λ ends. (ends.seats.items ≡ []) × (count ≤ vec_capacity ends.seats)) }
-        ensures workers { IfOk result (λ ends. (ends.workers.items ≡ []) × (count ≤ vec_capacity ends.workers)) }
+        ensures seats { IfOk result
+            (λ ends. (ends.seats.items ≡ []) × (count ≤ vec_capacity ends.seats)) }
+        ensures workers { IfOk result
+            (λ ends. (ends.workers.items ≡ []) × (count ≤ vec_capacity ends.workers)) }
     {
         let seats = Vec::with_capacity(alloc, count)?;
         let workers = Vec::with_capacity(alloc, count)?;
@@ -115,7 +117,8 @@ where
     requires len { length seats.items ≡ length workers.items }
     ensures seats { IfOk result (λ stations. seats_of stations.items ≡ seats.items) }
     ensures workers { IfOk result (λ stations. workers_of stations.items ≡ workers.items) }
-    ensures servers { IfOk result (λ stations. All (λ n. n ≡ limits.max_body) (limits_of stations.items)) }
+    ensures servers { IfOk result
+        (λ stations. All (λ n. n ≡ limits.max_body) (limits_of stations.items)) }
 {
     let mut stations = Vec::new(alloc);
     let mut seats = seats.into_iter();
@@ -147,7 +150,8 @@ where
     requires { 0 < vec_len workers }
     ensures of_one_call { IfOk result (λ r. AreOfOneCall r.0 (seats_of r.1.items)) }
     ensures seats { IfOk result (λ r. All IsFresh (seats_of r.1.items)) }
-    ensures servers { IfOk result (λ r. All (λ n. n ≡ r.0.start.limits.max_body) (limits_of r.1.items)) }
+    ensures servers { IfOk result
+        (λ r. All (λ n. n ≡ r.0.start.limits.max_body) (limits_of r.1.items)) }
     ensures workers { IfOk result (λ r. workers_of r.1.items ≡ workers.items) }
     ensures start { IfOk result (λ r. r.0.start ≡ service) }
     ensures log { IfOk result (λ r. r.0.log ≡ []) }
@@ -184,14 +188,13 @@ where
 }
 
 /// Serves the connections of all workers at once, each worker's one after the other until no more come. All workers are
-/// started before the keeper runs on this thread, and every thread is joined. `moments` is asked once for each request, and
-/// handed back.
-/// What a worker reads through is taken before, once for all its connections.
+/// started before the keeper runs on this thread, and every thread is joined. `moments` is asked once for each request,
+/// and handed back. What a worker reads through is taken before, once for all its connections.
 ///
 /// `NoMemory` comes where the workers' buffers or the lines found no memory: no worker was started. All memory that the
-/// pool itself needs is taken before the first one is, so that what was served isn't lost. `NoThread` comes where a worker
-/// couldn't be started, once those that were started have ended. They may wait for a connection: the first that asks
-/// something ends `DeskGone`, and its worker takes no more. After either the service and the clock are dropped.
+/// pool itself needs is taken before the first one is, so that what was served isn't lost. `NoThread` comes where a
+/// worker couldn't be started, once those that were started have ended. They may wait for a connection: the first that
+/// asks something ends `DeskGone`, and its worker takes no more. After either the service and the clock are dropped.
 pub fn serve_workers<R, M, C, S, G, O>(
     rt: &R,
     alloc: Global,
@@ -222,13 +225,23 @@ where
         |scope| -> Result<Pool<M>, ServeFault>
             requires of_one_call { AreOfOneCall keeper (seats_of stations.items) }
             requires seats { All IsFresh (seats_of stations.items) }
-            requires servers { All (λ n. n ≡ keeper.start.limits.max_body) (limits_of stations.items) }
+            requires servers { All (λ n. n ≡ keeper.start.limits.max_body)
+                (limits_of stations.items) }
             requires fresh { keeper.log ≡ [] }
-            requires cross { IsSend C.row × IsSend S.row × IsSend G.row × IsSend O.row × IsSend C.In.row × IsSend C.Out.row × IsSync R.row }
+            requires cross { IsSend C.row × IsSend S.row × IsSend G.row × IsSend O.row
+                × IsSend C.In.row × IsSend C.Out.row × IsSync R.row }
             ensures served { IfOk result (λ pool. IsServedPool
                 (means C.gives C.In.state C.Out.state S.draws G.watches O.told) M.tells
-                (record { service = keeper.start; moments = moments; workers = workers_of stations.items })
-                (record { service = pool.service; moments = pool.moments; ends = pool.ends.items })) }
+                (record {
+                  service = keeper.start;
+                  moments = moments;
+                  workers = workers_of stations.items;
+                })
+                (record {
+                  service = pool.service;
+                  moments = pool.moments;
+                  ends = pool.ends.items;
+                })) }
             ensures lawful { IfOk result (λ pool. IsLawful pool.service) }
         {
             let Ok(room) = Ends::with_capacity(alloc, stations.len()) else {
@@ -292,7 +305,11 @@ where
     ensures served { IfOk result (λ pair. IsServedPool
         (means C.gives C.In.state C.Out.state S.draws G.watches O.told) M.tells
         (record { service = service; moments = moments; workers = left ∷ right ∷ [] })
-        (record { service = pair.service; moments = pair.moments; ends = pair.left ∷ pair.right ∷ [] })) }
+        (record {
+          service = pair.service;
+          moments = pair.moments;
+          ends = pair.left ∷ pair.right ∷ [];
+        })) }
     ensures lawful { IfOk result (λ pair. IsLawful pair.service) }
 {
     let Ok(workers) = two(alloc, left, right) else {

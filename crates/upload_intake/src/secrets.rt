@@ -45,7 +45,8 @@ impl<G: Rng> DrawnSecrets<G> {
 }
 
 impl<G: Rng> Secrets for DrawnSecrets<G> {
-    ghost draws = { λ old secret new. (secret, G.stream new.generator) ≡ secret_of (G.stream old.generator) };
+    ghost draws = { λ old secret new.
+        (secret, G.stream new.generator) ≡ secret_of (G.stream old.generator) };
 
     fn draw(&mut self) -> [u8; 12] {
         let high = self.generator.next_u64().to_be_bytes();

@@ -27,8 +27,8 @@ pub struct Settled {
     pub log_length: u64,
 }
 
-/// A keeper that has the service, and so many seats. At most `capacity` jobs wait on their line, and one reply on each of
-/// the others. Where memory is wanting the service is dropped.
+/// A keeper that has the service, and so many seats. At most `capacity` jobs wait on their line, and one reply on each
+/// of the others. Where memory is wanting the service is dropped.
 pub(crate) fn lines_of(
     alloc: Global,
     service: Service,
@@ -60,8 +60,8 @@ pub(crate) fn lines_of(
     Ok((Keeper::new(service, jobs, lines), seats))
 }
 
-/// A keeper that has the service, and the left and the right seat: those of two. At most `capacity` jobs wait on their line,
-/// and one reply on each of the two others. Where memory is wanting the service is dropped.
+/// A keeper that has the service, and the left and the right seat: those of two. At most `capacity` jobs wait on their
+/// line, and one reply on each of the two others. Where memory is wanting the service is dropped.
 pub fn lines(
     alloc: Global,
     service: Service,
@@ -101,8 +101,8 @@ fn settle_seat(jobs: &mut TakeEnd<Message>, line: ReplyLine, end: SeatEnd)
     settle_line(line.replies, &mut replies);
 }
 
-/// What the keeper took is what the seats sent, and what they heard is what the service answered. All are of one call of
-/// `lines_of`, the ends in the order of its seats. It waits for nobody.
+/// What the keeper took is what the seats sent, and what they heard is what the service answered. All are of one call
+/// of `lines_of`, the ends in the order of its seats. It waits for nobody.
 pub(crate) fn settle_all(served: Served, ends: Vec<SeatEnd>) -> Settled
     requires { AreOfOneCall served ends.items }
     ensures settled { IsSettled served ends.items result.service result.log_length }
@@ -134,8 +134,8 @@ pub(crate) fn settle_all(served: Served, ends: Vec<SeatEnd>) -> Settled
     }
 }
 
-/// What the keeper took is what the two seats sent, and what they heard is what the service answered. The three are of one
-/// call of `lines`, the ends in the order of its seats. It waits for nobody, and takes no memory.
+/// What the keeper took is what the two seats sent, and what they heard is what the service answered. The three are of
+/// one call of `lines`, the ends in the order of its seats. It waits for nobody, and takes no memory.
 pub fn settle(served: Served, left: SeatEnd, right: SeatEnd) -> Settled
     requires { AreOfOneCall served (left ∷ right ∷ []) }
     ensures settled { IsSettled served (left ∷ right ∷ []) result.service result.log_length }

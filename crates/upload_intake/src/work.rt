@@ -43,7 +43,8 @@ impl WorkerEnd {
     // Counts a connection that ended so.
     fn count(&mut self, end: ConnEnd)
         ensures conns { self.new.conns ≡ min (self.old.conns + 1) count_limit }
-        ensures clean { self.new.clean ≡ min (self.old.clean + (if is_clean end then 1 else 0)) count_limit }
+        ensures clean { self.new.clean
+            ≡ min (self.old.clean + (if is_clean end then 1 else 0)) count_limit }
     {
         self.conns = self.conns.saturating_add(1);
         self.clean = self.clean.saturating_add(u64::from(is_clean(end)));
@@ -79,7 +80,8 @@ pub(crate) struct Work<C, S, G, O> {
 
 impl<C: Conns, S: Secrets, G: Gate, O: Observer> Promise<(SeatEnd, WorkerEnd)>
     for Work<C, S, G, O> {
-    ghost kept_by = { λ promise end. Works (means C.gives C.In.state C.Out.state S.draws G.watches O.told)
+    ghost kept_by = { λ promise end.
+        Works (means C.gives C.In.state C.Out.state S.draws G.watches O.told)
         promise.station.value end.0 end.1 };
 }
 
@@ -97,7 +99,8 @@ impl<'a, R: Wait, S: Secrets, G: Gate> Desk for GatedDesk<'a, R, S, G> {
     ghost use Rattle.upload_intake.specs.Watched.{WatchesOne};
 
     ghost moves = { λ old ask answer new.
-        AsksWithDrawn S.draws (seat_of old.desk) (secrets_of old.desk) ask answer (seat_of new.desk) (secrets_of new.desk)
+        AsksWithDrawn S.draws (seat_of old.desk) (secrets_of old.desk) ask answer (seat_of new.desk)
+        (secrets_of new.desk)
         × WatchesOne G.watches old.gate old.turn ask answer new.gate new.turn };
 
     fn ask(&mut self, ask: Ask) -> Option<Answer> {
@@ -125,7 +128,8 @@ where
     O: Observer + Drop,
     ensures seat { IsSameSeat seat result.0 }
     ensures worked { IsWorked (means C.gives C.In.state C.Out.state S.draws G.watches O.told)
-        server.max_body worker.conns worker.secrets worker.gate worker.observer seat result.0 result.1.conns result.1.clean }
+        server.max_body worker.conns worker.secrets worker.gate worker.observer seat result.0
+        result.1.conns result.1.clean }
 {
     let Worker {
         mut conns,
@@ -166,7 +170,8 @@ where
     S: Secrets + Drop,
     G: Gate + Drop,
     O: Observer + Drop,
-    ensures { Works (means C.gives C.In.state C.Out.state S.draws G.watches O.told) station result.0 result.1 }
+    ensures { Works (means C.gives C.In.state C.Out.state S.draws G.watches O.told) station
+        result.0 result.1 }
 {
     let Station {
         seat,

@@ -1,5 +1,7 @@
 -- The digits of digests, and that the test of a digest's text decides its definition.
-use Rattle.std.proofs.Common.{◌≡◌, ◌≢◌, ℕ, zero, suc, ◌+◌, ◌-◌, ◌*◌, ◌/◌, ◌%◌, ◌<◌, ◌≤◌, ◌^◌, Bool, true, ◌&&◌, List, [], ◌∷◌, ◌++◌, length, take, drop, Option, Some, None, unwrap_or, Result, Ok, Err, refl, sym, ap, ◌∙◌, subst, inl, inr, cond, arith}
+use Rattle.std.proofs.Common.{◌≡◌, ◌≢◌, ℕ, zero, suc, ◌+◌, ◌-◌, ◌*◌, ◌/◌, ◌%◌, ◌<◌, ◌≤◌, ◌^◌, Bool, true, ◌&&◌, List}
+use Rattle.std.proofs.Common.{[], ◌∷◌, ◌++◌, length, take, drop, Option, Some, None, unwrap_or, Result, Ok, Err, refl}
+use Rattle.std.proofs.Common.{sym, ap, ◌∙◌, subst, inl, inr, cond, arith}
 use Rattle.std.specs.Prelude.{◌==◌, All, slice_index, nat_le, nat_lt, nat_eq, option_map}
 use Rattle.std.specs.List.{list_all, starts_with}
 use Rattle.std.specs.Result.{MatchResult, result_ok, result_unwrap_or}
@@ -12,14 +14,16 @@ use Rattle.sha2.specs.Sha256.{sha256, digest_bytes}
 use Rattle.sha2.specs.Sha512 as long
 use Rattle.sha2.proofs.Facts256.{length-sha256}
 use Rattle.sha2.proofs.Facts512.{length-sha512}
-use Rattle.hex.specs.Hex.{IsBytes, encode_with, encode_lower, lower_digits, hex_digit_value, digit_or_error, value_at, pair_value, decode_pairs, decode_sized}
+use Rattle.hex.specs.Hex.{IsBytes, encode_with, encode_lower, lower_digits, hex_digit_value, digit_or_error, value_at}
+use Rattle.hex.specs.Hex.{pair_value, decode_pairs, decode_sized}
 use Rattle.hex.specs.declared.error.FromHexError.{FromHexError}
 use Rattle.hex.specs.declared.error.FromHexError.TheVariants.{OddLength, InvalidStringLength}
 use Rattle.hex.proofs.HexLemmas.{length-encode_with, decode_sized-twice, decode_of-encode_lower}
 use Rattle.hex.proofs.Pairs.{cons_byte, decode_pairs-ok_pair}
 use Rattle.upload_names.specs.declared.digest.Algorithm.{Algorithm}
 use Rattle.upload_names.specs.declared.digest.Algorithm.TheVariants.{Sha256, Sha512}
-use Rattle.upload_names.specs.Digest.{Digest, IsDigest, content_digest, hash_size, prefix_of, digest_text, SpellsDigest, is_lower_digit, digits_read, read_by, digest_of}
+use Rattle.upload_names.specs.Digest.{Digest, IsDigest, content_digest, hash_size, prefix_of, digest_text, SpellsDigest}
+use Rattle.upload_names.specs.Digest.{is_lower_digit, digits_read, read_by, digest_of}
 
 -- ---- what the algorithms give
 
@@ -38,13 +42,15 @@ bytes_of_words : (words : List ℕ) (n : ℕ) → AreBytes (digest_bytes words n
 unfolding digest_bytes
 bytes_of_words words zero = All-nil (λ b. b < 256)
 bytes_of_words words (suc n) =
-    All-append (λ b. b < 256) (digest_bytes words n) (to_be_bytes w32 (slice_index words n)) (bytes_of_words words n) (bytes_of 4 (slice_index words n))
+    All-append (λ b. b < 256) (digest_bytes words n) (to_be_bytes w32 (slice_index words n)) (bytes_of_words words n)
+    (bytes_of 4 (slice_index words n))
 
 bytes_of_long_words : (words : List ℕ) (n : ℕ) → AreBytes (long.digest_bytes words n)
 unfolding long.digest_bytes
 bytes_of_long_words words zero = All-nil (λ b. b < 256)
 bytes_of_long_words words (suc n) =
-    All-append (λ b. b < 256) (long.digest_bytes words n) (to_be_bytes w64 (slice_index words n)) (bytes_of_long_words words n) (bytes_of 8 (slice_index words n))
+    All-append (λ b. b < 256) (long.digest_bytes words n) (to_be_bytes w64 (slice_index words n))
+    (bytes_of_long_words words n) (bytes_of 8 (slice_index words n))
 
 pub IsDigest-content : (algorithm : Algorithm) (content : List ℕ) → IsDigest (content_digest algorithm content)
 unfolding sha256 long.sha512
@@ -73,7 +79,9 @@ digit_code v = cond (nat_lt v 10) (48 + v) (87 + v)
 
 is_code : (v : ℕ) → v < 16 → slice_index lower_digits v ≡ digit_code v
 unfolding all_below
-is_code v lt = eqb-true (slice_index lower_digits v) (digit_code v) (at_below (λ k. slice_index lower_digits k == digit_code k) 16 v refl lt)
+is_code v lt =
+    eqb-true (slice_index lower_digits v) (digit_code v)
+    (at_below (λ k. slice_index lower_digits k == digit_code k) 16 v refl lt)
 
 is_lower : (v : ℕ) → v < 16 → is_lower_digit (slice_index lower_digits v) ≡ true
 unfolding all_below
@@ -105,8 +113,10 @@ letter_value c low high = record {
 has_value : (c : ℕ) → is_lower_digit c ≡ true → HasValue c
 has_value c h =
     elim (or_cases (nat_le 48 c && nat_le c 57) (nat_le 97 c && nat_le c 102) h) [
-      | inl e ↦ let p = and_parts (nat_le 48 c) (nat_le c 57) e in decimal_value c (leb-true 48 c p.0) (leb-true c 57 p.1)
-      | inr e ↦ let p = and_parts (nat_le 97 c) (nat_le c 102) e in letter_value c (leb-true 97 c p.0) (leb-true c 102 p.1)
+      | inl e ↦
+          let p = and_parts (nat_le 48 c) (nat_le c 57) e in decimal_value c (leb-true 48 c p.0) (leb-true c 57 p.1)
+      | inr e ↦
+          let p = and_parts (nat_le 97 c) (nat_le c 102) e in letter_value c (leb-true 97 c p.0) (leb-true c 102 p.1)
     ]
 
 -- ---- what digits spell
@@ -141,20 +151,25 @@ record IsSpelled (digits bytes : List ℕ) : Type 0 where
   small : AreBytes bytes
   half : length digits ≡ 2 * length bytes
 
-cons_byte-inverse : (v : ℕ) (r : Result (List ℕ) FromHexError) (bytes : List ℕ) → cons_byte v r ≡ Ok bytes → (tail : List ℕ) × (r ≡ Ok tail) × (v ∷ tail ≡ bytes)
+cons_byte-inverse : (v : ℕ) (r : Result (List ℕ) FromHexError) (bytes : List ℕ) → cons_byte v r ≡ Ok bytes
+    → (tail : List ℕ) × (r ≡ Ok tail) × (v ∷ tail ≡ bytes)
 cons_byte-inverse v (Ok tail) bytes e = (tail, refl, ap (λ r. result_unwrap_or r []) e)
 cons_byte-inverse v (Err error) bytes e = cc e
 
-spelled : (i : ℕ) (digits bytes : List ℕ) → list_all is_lower_digit digits ≡ true → decode_pairs i digits ≡ Ok bytes → IsSpelled digits bytes
+spelled : (i : ℕ) (digits bytes : List ℕ) → list_all is_lower_digit digits ≡ true → decode_pairs i digits ≡ Ok bytes
+    → IsSpelled digits bytes
 unfolding decode_pairs encode_with
 spelled i [] bytes h e =
-    subst (IsSpelled []) (ap (λ r. result_unwrap_or r []) e) (record { writes = refl; small = All-nil (λ b. b < 256); half = refl })
+    subst (IsSpelled []) (ap (λ r. result_unwrap_or r []) e)
+    (record { writes = refl; small = All-nil (λ b. b < 256); half = refl })
 spelled i (one ∷ []) bytes h e = cc e
 spelled i (high ∷ low ∷ rest) bytes h e =
     let first = and_parts (is_lower_digit high) (is_lower_digit low && list_all is_lower_digit rest) h in
     let second = and_parts (is_lower_digit low) (list_all is_lower_digit rest) first.1 in
     let pair = pair_of i high low (has_value high first.0) (has_value low second.0) in
-    let (tail, reads, is) = cons_byte-inverse pair.byte (decode_pairs (i + 2) rest) bytes (sym (decode_pairs-ok_pair i high low pair.byte rest pair.reads) ∙ e) in
+    let (tail, reads, is) =
+    cons_byte-inverse pair.byte (decode_pairs (i + 2) rest) bytes
+    (sym (decode_pairs-ok_pair i high low pair.byte rest pair.reads) ∙ e) in
     let ih = spelled (i + 2) rest tail second.1 reads in
     let half = ih.half in
     subst (IsSpelled (high ∷ low ∷ rest)) is (record {
@@ -164,27 +179,38 @@ spelled i (high ∷ low ∷ rest) bytes h e =
     })
 
 -- what room for some bytes takes of lower case digits
-spelled_in_room : (size : ℕ) (digits bytes : List ℕ) → digits_read size digits ≡ Some bytes → IsSpelled digits bytes × (length bytes ≡ size)
+spelled_in_room : (size : ℕ) (digits bytes : List ℕ) → digits_read size digits ≡ Some bytes
+    → IsSpelled digits bytes × (length bytes ≡ size)
 spelled_in_room size digits bytes h =
     elim (cases_Bool (list_all is_lower_digit digits)) [
       | inl lower ↦
-          let room : result_ok (decode_sized digits size) ≡ Some bytes = sym (ap (λ b. cond b (result_ok (decode_sized digits size)) None) lower) ∙ h in
+          let room : result_ok (decode_sized digits size) ≡ Some bytes =
+          sym (ap (λ b. cond b (result_ok (decode_sized digits size)) None) lower) ∙ h in
           elim (cases_Bool (length digits % 2 == 1)) [
             | inl odd ↦
-                let none : None ≡ Some bytes = sym (ap (λ b. result_ok (cond b (Err OddLength) (cond (length digits / 2 == size) (decode_pairs 0 digits) (Err InvalidStringLength)))) odd) ∙ room in
+                let none : None ≡ Some bytes =
+                sym (ap (λ b. result_ok (cond b (Err OddLength)
+                (cond (length digits / 2 == size) (decode_pairs 0 digits) (Err InvalidStringLength)))) odd) ∙ room in
                 cc none
             | inr even ↦
-                let some : result_ok (cond (length digits / 2 == size) (decode_pairs 0 digits) (Err InvalidStringLength)) ≡ Some bytes =
-                sym (ap (λ b. result_ok (cond b (Err OddLength) (cond (length digits / 2 == size) (decode_pairs 0 digits) (Err InvalidStringLength)))) even) ∙ room in
+                let some : result_ok
+                (cond (length digits / 2 == size) (decode_pairs 0 digits) (Err InvalidStringLength)) ≡ Some bytes =
+                sym (ap (λ b. result_ok (cond b (Err OddLength)
+                (cond (length digits / 2 == size) (decode_pairs 0 digits) (Err InvalidStringLength)))) even) ∙ room in
                 elim (cases_Bool (length digits / 2 == size)) [
                   | inl fits ↦
-                      let is_ok = ok_from (decode_pairs 0 digits) bytes (sym (ap (λ b. result_ok (cond b (decode_pairs 0 digits) (Err InvalidStringLength))) fits) ∙ some) in
+                      let is_ok =
+                      ok_from (decode_pairs 0 digits) bytes
+                      (sym (ap (λ b. result_ok (cond b (decode_pairs 0 digits) (Err InvalidStringLength))) fits)
+                      ∙ some) in
                       let s = spelled 0 digits bytes lower is_ok in
                       let half = s.half in
                       let exact = eqb-true (length digits / 2) size fits in
                       (s, omega (arith, half, exact))
                   | inr other ↦
-                      let none : None ≡ Some bytes = sym (ap (λ b. result_ok (cond b (decode_pairs 0 digits) (Err InvalidStringLength))) other) ∙ some in
+                      let none : None ≡ Some bytes =
+                      sym (ap (λ b. result_ok (cond b (decode_pairs 0 digits) (Err InvalidStringLength))) other)
+                      ∙ some in
                       cc none
                 ]
           ]
@@ -215,20 +241,25 @@ is_bytes bytes h i =
       | inr past ↦ let zero_there = get_or_past bytes i 0 past in omega (arith, zero_there)
     ]
 
-pub digits_read-written : (size : ℕ) (bytes : List ℕ) → length bytes ≡ size → AreBytes bytes → digits_read size (encode_lower bytes) ≡ Some bytes
+pub digits_read-written : (size : ℕ) (bytes : List ℕ) → length bytes ≡ size → AreBytes bytes
+    → digits_read size (encode_lower bytes) ≡ Some bytes
 digits_read-written size bytes len small =
     let double = length-encode_with lower_digits bytes in
     let sized : decode_sized (encode_lower bytes) size ≡ Ok bytes =
-    decode_sized-twice (encode_lower bytes) size (omega (arith, double, len)) ∙ decode_of-encode_lower bytes (is_bytes bytes small) in
-    ap (λ b. cond b (result_ok (decode_sized (encode_lower bytes) size)) None) (lower_written bytes small) ∙ ap result_ok sized
+    decode_sized-twice (encode_lower bytes) size (omega (arith, double, len))
+    ∙ decode_of-encode_lower bytes (is_bytes bytes small) in
+    ap (λ b. cond b (result_ok (decode_sized (encode_lower bytes) size)) None) (lower_written bytes small)
+    ∙ ap result_ok sized
 
 -- ---- texts of digests
 
 cut_prefix : (prefix text : List ℕ) → starts_with nat_eq text prefix ≡ true → text ≡ prefix ++ drop (length prefix) text
 cut_prefix prefix text h =
-    sym (take-append-drop (length prefix) text) ∙ ap (λ front. front ++ drop (length prefix) text) (sym (same_text prefix (take (length prefix) text) (sym h)))
+    sym (take-append-drop (length prefix) text)
+    ∙ ap (λ front. front ++ drop (length prefix) text) (sym (same_text prefix (take (length prefix) text) (sym h)))
 
-mapped : (algorithm : Algorithm) (digits : List ℕ) (digest : Digest) (o : Option (List ℕ)) → digits_read (hash_size algorithm) digits ≡ o
+mapped : (algorithm : Algorithm) (digits : List ℕ) (digest : Digest) (o : Option (List ℕ))
+    → digits_read (hash_size algorithm) digits ≡ o
     → option_map (λ bytes. record { algorithm = algorithm; bytes = bytes }) o ≡ Some digest
     → IsDigest digest × (prefix_of algorithm ++ digits ≡ digest_text digest)
 unfolding digest_text
@@ -242,7 +273,8 @@ mapped algorithm digits digest (Some bytes) e h =
 
 read_by-spells : (algorithm : Algorithm) (digits : List ℕ) (digest : Digest) → read_by algorithm digits ≡ Some digest
     → IsDigest digest × (prefix_of algorithm ++ digits ≡ digest_text digest)
-read_by-spells algorithm digits digest h = mapped algorithm digits digest (digits_read (hash_size algorithm) digits) refl h
+read_by-spells algorithm digits digest h =
+    mapped algorithm digits digest (digits_read (hash_size algorithm) digits) refl h
 
 pub digest_of-spells : (text : List ℕ) (digest : Digest) → digest_of text ≡ Some digest → SpellsDigest text digest
 unfolding digest_of
@@ -250,13 +282,17 @@ digest_of-spells text digest h =
     let by_512 = cond (starts_with nat_eq text (prefix_of Sha512)) (read_by Sha512 (drop 7 text)) None in
     elim (cases_Bool (starts_with nat_eq text (prefix_of Sha256))) [
       | inl e ↦
-          let s = read_by-spells Sha256 (drop 7 text) digest (sym (ap (λ b. cond b (read_by Sha256 (drop 7 text)) by_512) e) ∙ h) in
+          let s =
+          read_by-spells Sha256 (drop 7 text) digest
+          (sym (ap (λ b. cond b (read_by Sha256 (drop 7 text)) by_512) e) ∙ h) in
           (s.0, cut_prefix (prefix_of Sha256) text e ∙ s.1)
       | inr e ↦
           let rest : by_512 ≡ Some digest = sym (ap (λ b. cond b (read_by Sha256 (drop 7 text)) by_512) e) ∙ h in
           elim (cases_Bool (starts_with nat_eq text (prefix_of Sha512))) [
             | inl f ↦
-                let s = read_by-spells Sha512 (drop 7 text) digest (sym (ap (λ b. cond b (read_by Sha512 (drop 7 text)) None) f) ∙ rest) in
+                let s =
+                read_by-spells Sha512 (drop 7 text) digest
+                (sym (ap (λ b. cond b (read_by Sha512 (drop 7 text)) None) f) ∙ rest) in
                 (s.0, cut_prefix (prefix_of Sha512) text f ∙ s.1)
             | inr f ↦
                 let none : None ≡ Some digest = sym (ap (λ b. cond b (read_by Sha512 (drop 7 text)) None) f) ∙ rest in
@@ -267,8 +303,10 @@ digest_of-spells text digest h =
 reads_back : (algorithm : Algorithm) (bytes : List ℕ) → length bytes ≡ hash_size algorithm → AreBytes bytes
     → digest_of (prefix_of algorithm ++ encode_lower bytes) ≡ Some (record { algorithm = algorithm; bytes = bytes })
 unfolding digest_of
-reads_back Sha256 bytes sized small = ap (option_map (λ b. record { algorithm = Sha256; bytes = b })) (digits_read-written 32 bytes sized small)
-reads_back Sha512 bytes sized small = ap (option_map (λ b. record { algorithm = Sha512; bytes = b })) (digits_read-written 64 bytes sized small)
+reads_back Sha256 bytes sized small =
+    ap (option_map (λ b. record { algorithm = Sha256; bytes = b })) (digits_read-written 32 bytes sized small)
+reads_back Sha512 bytes sized small =
+    ap (option_map (λ b. record { algorithm = Sha512; bytes = b })) (digits_read-written 64 bytes sized small)
 
 pub digest_of-text : (digest : Digest) → IsDigest digest → digest_of (digest_text digest) ≡ Some digest
 unfolding digest_text
@@ -287,28 +325,34 @@ pub reads_512 : (text digits : List ℕ) → text ≡ prefix_of Sha512 ++ digits
 unfolding digest_of
 reads_512 text digits e = ap digest_of e
 
-pub reads_none : (text : List ℕ) → ((digits : List ℕ) → text ≢ prefix_of Sha256 ++ digits) → ((digits : List ℕ) → text ≢ prefix_of Sha512 ++ digits) → digest_of text ≡ None
+pub reads_none : (text : List ℕ) → ((digits : List ℕ) → text ≢ prefix_of Sha256 ++ digits)
+    → ((digits : List ℕ) → text ≢ prefix_of Sha512 ++ digits) → digest_of text ≡ None
 unfolding digest_of
 reads_none text no_256 no_512 =
     elim (cases_Bool (starts_with nat_eq text (prefix_of Sha256))) [
       | inl e ↦ absurd (no_256 (drop 7 text) (cut_prefix (prefix_of Sha256) text e))
       | inr e ↦
-          ap (λ b. cond b (read_by Sha256 (drop 7 text)) (cond (starts_with nat_eq text (prefix_of Sha512)) (read_by Sha512 (drop 7 text)) None)) e
-          ∙ elim (cases_Bool (starts_with nat_eq text (prefix_of Sha512))) as (λ _. cond (starts_with nat_eq text (prefix_of Sha512)) (read_by Sha512 (drop 7 text)) None ≡ None) [
+          ap (λ b. cond b (read_by Sha256 (drop 7 text))
+          (cond (starts_with nat_eq text (prefix_of Sha512)) (read_by Sha512 (drop 7 text)) None)) e
+          ∙ elim (cases_Bool (starts_with nat_eq text (prefix_of Sha512)))
+          as (λ _. cond (starts_with nat_eq text (prefix_of Sha512)) (read_by Sha512 (drop 7 text)) None ≡ None) [
             | inl f ↦ absurd (no_512 (drop 7 text) (cut_prefix (prefix_of Sha512) text f))
             | inr f ↦ ap (λ b. cond b (read_by Sha512 (drop 7 text)) None) f
           ]
     ]
 
 -- the digits read give a digest
-pub IsDigest-read : (algorithm : Algorithm) (digits bytes : List ℕ) → digits_read (hash_size algorithm) digits ≡ Some bytes → IsDigest (record { algorithm = algorithm; bytes = bytes })
-IsDigest-read algorithm digits bytes h = let s = spelled_in_room (hash_size algorithm) digits bytes h in record { sized = s.1; bytes = s.0.small }
+pub IsDigest-read : (algorithm : Algorithm) (digits bytes : List ℕ)
+    → digits_read (hash_size algorithm) digits ≡ Some bytes → IsDigest (record { algorithm = algorithm; bytes = bytes })
+IsDigest-read algorithm digits bytes h =
+    let s = spelled_in_room (hash_size algorithm) digits bytes h in record { sized = s.1; bytes = s.0.small }
 
 -- what `hex` wrote into room for so many bytes
 abbrev done : Result (Unit {0}) FromHexError
 done = Ok tt
 
-pub decoded : (r : Result (List ℕ) FromHexError) (out : List ℕ) → MatchResult r (λ bytes. (done ≡ Ok tt) × (out ≡ bytes)) (λ e. done ≡ Err e) → Some out ≡ result_ok r
+pub decoded : (r : Result (List ℕ) FromHexError) (out : List ℕ)
+    → MatchResult r (λ bytes. (done ≡ Ok tt) × (out ≡ bytes)) (λ e. done ≡ Err e) → Some out ≡ result_ok r
 decoded (Ok bytes) out h = ap Some h.1
 decoded (Err e) out h = cc h
 

@@ -1,5 +1,6 @@
 -- The pass over a text decides the grammar of names.
-use Rattle.std.proofs.Common.{◌≡◌, ℕ, zero, suc, ◌+◌, ◌≤◌, true, false, ◌&&◌, ◌||◌, List, [], ◌∷◌, ◌++◌, length, Option, Some, None, refl, sym, ap, ◌∙◌, subst, ◌⊎◌, inl, inr, cond, arith, append_assoc}
+use Rattle.std.proofs.Common.{◌≡◌, ℕ, zero, suc, ◌+◌, ◌≤◌, true, false, ◌&&◌, ◌||◌, List, [], ◌∷◌, ◌++◌, length, Option}
+use Rattle.std.proofs.Common.{Some, None, refl, sym, ap, ◌∙◌, subst, ◌⊎◌, inl, inr, cond, arith, append_assoc}
 use Rattle.std.specs.Prelude.{◌==◌, codes, flat_map, All, replicate, nat_le}
 use Rattle.std.specs.List.{list_all}
 use Rattle.std.specs.Str.{IsAscii, IsUtf8}
@@ -9,37 +10,43 @@ use Rattle.std.proofs.lemmas.Bool.{cases_lt, and_parts, or_cases, cases_Bool, eq
 use Rattle.std.proofs.lemmas.List.Elements.{All-cons, All-nil, All-head, All-tail}
 use Rattle.upload_names.specs.declared.grammar.Place.{Place}
 use Rattle.upload_names.specs.declared.grammar.Place.TheVariants.{WordStart, InWord, BehindUnderscore, BehindHyphen}
-use Rattle.upload_names.specs.Name.{is_word_byte, hyphen, slash, IsWord, IsSeparator, Joint, IsJoint, joint_text, IsComponent, behind_slash, IsInGrammar, IsName, longest_name}
+use Rattle.upload_names.specs.Name.{is_word_byte, hyphen, slash, IsWord, IsSeparator, Joint, IsJoint, joint_text}
+use Rattle.upload_names.specs.Name.{IsComponent, behind_slash, IsInGrammar, IsName, longest_name}
 use Rattle.upload_names.specs.NameBytes.{dot, underscore}
 use Rattle.upload_names.specs.NamePass.{place_behind_joint, passes, is_in_grammar, is_name}
 
 -- ---- one byte of a pass
 
 -- a byte of a word leads into a word
-in_word : (place : Place) (c : ℕ) (text : List ℕ) → is_word_byte c ≡ true → passes (Some place) (c ∷ text) ≡ passes (Some InWord) text
+in_word : (place : Place) (c : ℕ) (text : List ℕ) → is_word_byte c ≡ true
+    → passes (Some place) (c ∷ text) ≡ passes (Some InWord) text
 in_word place c text h = ap (λ b. passes (cond b (Some InWord) (place_behind_joint place c)) text) h
 
 -- any other byte belongs to a joint
-in_joint : (place : Place) (c : ℕ) (text : List ℕ) → is_word_byte c ≡ false → passes (Some place) (c ∷ text) ≡ passes (place_behind_joint place c) text
+in_joint : (place : Place) (c : ℕ) (text : List ℕ) → is_word_byte c ≡ false
+    → passes (Some place) (c ∷ text) ≡ passes (place_behind_joint place c) text
 in_joint place c text h = ap (λ b. passes (cond b (Some InWord) (place_behind_joint place c)) text) h
 
 -- ---- every text of the grammar takes the pass
 
 -- the bytes of a word lead into a word
-passes-word_bytes : (bytes rest : List ℕ) → list_all is_word_byte bytes ≡ true → passes (Some InWord) (bytes ++ rest) ≡ passes (Some InWord) rest
+passes-word_bytes : (bytes rest : List ℕ) → list_all is_word_byte bytes ≡ true
+    → passes (Some InWord) (bytes ++ rest) ≡ passes (Some InWord) rest
 passes-word_bytes [] rest h = refl
 passes-word_bytes (c ∷ bytes) rest h =
     let parts = and_parts (is_word_byte c) (list_all is_word_byte bytes) h in
     in_word InWord c (bytes ++ rest) parts.0 ∙ passes-word_bytes bytes rest parts.1
 
 -- a word may begin anywhere
-passes-word : (place : Place) (word rest : List ℕ) → IsWord word → passes (Some place) (word ++ rest) ≡ passes (Some InWord) rest
+passes-word : (place : Place) (word rest : List ℕ) → IsWord word
+    → passes (Some place) (word ++ rest) ≡ passes (Some InWord) rest
 passes-word place [] rest w = absurd (omega (arith, w.filled))
 passes-word place (c ∷ bytes) rest w =
     let parts = and_parts (is_word_byte c) (list_all is_word_byte bytes) w.bytes in
     in_word place c (bytes ++ rest) parts.0 ∙ passes-word_bytes bytes rest parts.1
 
-passes-hyphens : (more : ℕ) (word rest : List ℕ) → IsWord word → passes (Some BehindHyphen) (replicate more hyphen ++ (word ++ rest)) ≡ passes (Some InWord) rest
+passes-hyphens : (more : ℕ) (word rest : List ℕ) → IsWord word
+    → passes (Some BehindHyphen) (replicate more hyphen ++ (word ++ rest)) ≡ passes (Some InWord) rest
 passes-hyphens zero word rest w = passes-word BehindHyphen word rest w
 passes-hyphens (suc more) word rest w = passes-hyphens more word rest w
 
@@ -61,24 +68,29 @@ passes-joint separator word rest s w =
           subst leads (sym (e ∙ replicate-more more)) (passes-hyphens more word rest w)
     ]
 
-passes-joints : (joints : List Joint) (rest : List ℕ) → All IsJoint joints → passes (Some InWord) (flat_map joint_text joints ++ rest) ≡ passes (Some InWord) rest
+passes-joints : (joints : List Joint) (rest : List ℕ) → All IsJoint joints
+    → passes (Some InWord) (flat_map joint_text joints ++ rest) ≡ passes (Some InWord) rest
 passes-joints [] rest h = refl
 passes-joints (joint ∷ joints) rest h =
     let one = All-head IsJoint joint joints h in
-    let apart : flat_map joint_text (joint ∷ joints) ++ rest ≡ joint.separator ++ (joint.word ++ (flat_map joint_text joints ++ rest)) =
-    append_assoc (joint.separator ++ joint.word) (flat_map joint_text joints) rest ∙ append_assoc joint.separator joint.word (flat_map joint_text joints ++ rest) in
+    let apart : flat_map joint_text (joint ∷ joints) ++ rest
+    ≡ joint.separator ++ (joint.word ++ (flat_map joint_text joints ++ rest)) =
+    append_assoc (joint.separator ++ joint.word) (flat_map joint_text joints) rest
+    ∙ append_assoc joint.separator joint.word (flat_map joint_text joints ++ rest) in
     ap (passes (Some InWord)) apart
     ∙ passes-joint joint.separator joint.word (flat_map joint_text joints ++ rest) one.0 one.1
     ∙ passes-joints joints rest (All-tail IsJoint joint joints h)
 
-passes-component : (component rest : List ℕ) → IsComponent component → passes (Some WordStart) (component ++ rest) ≡ passes (Some InWord) rest
+passes-component : (component rest : List ℕ) → IsComponent component
+    → passes (Some WordStart) (component ++ rest) ≡ passes (Some InWord) rest
 passes-component component rest k =
     ap (λ text. passes (Some WordStart) (text ++ rest)) k.cut
     ∙ ap (passes (Some WordStart)) (append_assoc k.first (flat_map joint_text k.joints) rest)
     ∙ passes-word WordStart k.first (flat_map joint_text k.joints ++ rest) k.is_word
     ∙ passes-joints k.joints rest k.are_joints
 
-passes-others : (others : List (List ℕ)) → All IsComponent others → passes (Some InWord) (flat_map behind_slash others) ≡ true
+passes-others : (others : List (List ℕ)) → All IsComponent others
+    → passes (Some InWord) (flat_map behind_slash others) ≡ true
 passes-others [] h = refl
 passes-others (component ∷ others) h =
     passes-component component (flat_map behind_slash others) (All-head IsComponent component others h)
@@ -110,7 +122,8 @@ record IsNamed (text : List ℕ) : Type 0 where
   cut : text ≡ word ++ tail
 
 IsTail-nil : IsTail []
-IsTail-nil = record { joints = []; others = []; are_joints = All-nil IsJoint; are_components = All-nil IsComponent; cut = refl }
+IsTail-nil =
+    record { joints = []; others = []; are_joints = All-nil IsJoint; are_components = All-nil IsComponent; cut = refl }
 
 -- behind a separator
 IsTail-joint : (separator text : List ℕ) → IsSeparator separator → IsNamed text → IsTail (separator ++ text)
@@ -122,15 +135,24 @@ IsTail-joint separator text s n =
       are_joints = All-cons IsJoint joint n.is_tail.joints (s, n.is_word) n.is_tail.are_joints;
       are_components = n.is_tail.are_components;
       cut = ap (λ t. separator ++ t) (n.cut ∙ ap (λ t. n.word ++ t) n.is_tail.cut)
-          ∙ sym (append_assoc separator n.word (flat_map joint_text n.is_tail.joints ++ flat_map behind_slash n.is_tail.others))
-          ∙ sym (append_assoc (separator ++ n.word) (flat_map joint_text n.is_tail.joints) (flat_map behind_slash n.is_tail.others));
+          ∙ sym (append_assoc separator n.word
+          (flat_map joint_text n.is_tail.joints ++ flat_map behind_slash n.is_tail.others))
+          ∙ sym (append_assoc (separator ++ n.word) (flat_map joint_text n.is_tail.joints)
+          (flat_map behind_slash n.is_tail.others));
     }
 
 -- the component that a word and the joints behind it make
 component_of : (text : List ℕ) (n : IsNamed text) → IsComponent (n.word ++ flat_map joint_text n.is_tail.joints)
-component_of text n = record { first = n.word; joints = n.is_tail.joints; is_word = n.is_word; are_joints = n.is_tail.are_joints; cut = refl }
+component_of text n = record {
+  first = n.word;
+  joints = n.is_tail.joints;
+  is_word = n.is_word;
+  are_joints = n.is_tail.are_joints;
+  cut = refl;
+}
 
-apart_from : (text : List ℕ) (n : IsNamed text) → text ≡ (n.word ++ flat_map joint_text n.is_tail.joints) ++ flat_map behind_slash n.is_tail.others
+apart_from : (text : List ℕ) (n : IsNamed text)
+    → text ≡ (n.word ++ flat_map joint_text n.is_tail.joints) ++ flat_map behind_slash n.is_tail.others
 apart_from text n =
     n.cut ∙ ap (λ t. n.word ++ t) n.is_tail.cut
     ∙ sym (append_assoc n.word (flat_map joint_text n.is_tail.joints) (flat_map behind_slash n.is_tail.others))
@@ -176,7 +198,8 @@ IsWordRest-tail : (text : List ℕ) → IsTail text → IsWordRest text
 IsWordRest-tail text t = record { bytes = []; tail = text; are_bytes = refl; is_tail = t; cut = refl }
 
 -- a name that begins with a byte of a word follows each place
-begins_word : (place : Place) (c : ℕ) (text : List ℕ) → is_word_byte c ≡ true → IsWordRest text → Follows place (c ∷ text)
+begins_word : (place : Place) (c : ℕ) (text : List ℕ) → is_word_byte c ≡ true → IsWordRest text
+    → Follows place (c ∷ text)
 unfolding Follows
 begins_word WordStart c text h r = IsNamed-cons c text h r
 begins_word InWord c text h r = record {
@@ -195,7 +218,8 @@ unfolding Follows
 IsTail-underscore text f =
     elim f [
       | inl n ↦ IsTail-joint (codes "_") text (inr (inl refl)) n
-      | inr (rest, n, e) ↦ subst (λ t. IsTail (underscore ∷ t)) (sym e) (IsTail-joint (codes "__") rest (inr (inr (inl refl))) n)
+      | inr (rest, n, e) ↦
+          subst (λ t. IsTail (underscore ∷ t)) (sym e) (IsTail-joint (codes "__") rest (inr (inr (inl refl))) n)
     ]
 
 -- behind a hyphen
@@ -203,37 +227,55 @@ IsTail-hyphen : (text : List ℕ) → Follows BehindHyphen text → IsTail (hyph
 unfolding Follows
 IsTail-hyphen text (more, rest, n, e) =
     subst (λ t. IsTail (hyphen ∷ t)) (sym e)
-    (subst (λ t. IsTail (t ++ rest)) (replicate-more more) (IsTail-joint (replicate (more + 1) hyphen) rest (inr (inr (inr (more, refl)))) n))
+    (subst (λ t. IsTail (t ++ rest)) (replicate-more more)
+    (IsTail-joint (replicate (more + 1) hyphen) rest (inr (inr (inr (more, refl)))) n))
 
 -- what passes behind a byte of a joint follows its place
-passes_joint : (place : Place) (c : ℕ) (text : List ℕ) → ((next : Place) → passes (Some next) text ≡ true → Follows next text)
+passes_joint : (place : Place) (c : ℕ) (text : List ℕ)
+    → ((next : Place) → passes (Some next) text ≡ true → Follows next text)
     → passes (place_behind_joint place c) text ≡ true → Follows place (c ∷ text)
 unfolding Follows
 passes_joint WordStart c text ih h = cc h
 passes_joint InWord c text ih h =
     elim (cases_Bool ((c == dot) || (c == slash))) [
       | inl e ↦
-          let n = ih WordStart (sym (ap (λ b. passes (cond b (Some WordStart) (cond (c == underscore) (Some BehindUnderscore) (cond (c == hyphen) (Some BehindHyphen) None))) text) e) ∙ h) in
+          let n =
+          ih WordStart (sym (ap (λ b. passes (cond b (Some WordStart) (cond (c == underscore) (Some BehindUnderscore)
+          (cond (c == hyphen) (Some BehindHyphen) None))) text) e) ∙ h) in
           elim (or_cases (c == dot) (c == slash) e) [
-            | inl is_dot ↦ subst (λ d. IsWordRest (d ∷ text)) (sym (eqb-true c dot is_dot)) (IsWordRest-tail (dot ∷ text) (IsTail-joint (codes ".") text (inl refl) n))
-            | inr is_slash ↦ subst (λ d. IsWordRest (d ∷ text)) (sym (eqb-true c slash is_slash)) (IsWordRest-tail (slash ∷ text) (IsTail-slash text n))
+            | inl is_dot ↦ subst (λ d. IsWordRest (d ∷ text)) (sym (eqb-true c dot is_dot))
+                (IsWordRest-tail (dot ∷ text) (IsTail-joint (codes ".") text (inl refl) n))
+            | inr is_slash ↦ subst (λ d. IsWordRest (d ∷ text)) (sym (eqb-true c slash is_slash))
+                (IsWordRest-tail (slash ∷ text) (IsTail-slash text n))
           ]
       | inr e ↦
-          let rest : passes (cond (c == underscore) (Some BehindUnderscore) (cond (c == hyphen) (Some BehindHyphen) None)) text ≡ true =
-          sym (ap (λ b. passes (cond b (Some WordStart) (cond (c == underscore) (Some BehindUnderscore) (cond (c == hyphen) (Some BehindHyphen) None))) text) e) ∙ h in
+          let rest : passes
+          (cond (c == underscore) (Some BehindUnderscore) (cond (c == hyphen) (Some BehindHyphen) None)) text ≡ true =
+          sym (ap (λ b. passes (cond b (Some WordStart)
+          (cond (c == underscore) (Some BehindUnderscore) (cond (c == hyphen) (Some BehindHyphen) None))) text) e)
+          ∙ h in
           elim (cases_Bool (c == underscore)) [
             | inl u ↦
-                let f = ih BehindUnderscore (sym (ap (λ b. passes (cond b (Some BehindUnderscore) (cond (c == hyphen) (Some BehindHyphen) None)) text) u) ∙ rest) in
-                subst (λ d. IsWordRest (d ∷ text)) (sym (eqb-true c underscore u)) (IsWordRest-tail (underscore ∷ text) (IsTail-underscore text f))
+                let f =
+                ih BehindUnderscore (sym
+                (ap (λ b. passes (cond b (Some BehindUnderscore) (cond (c == hyphen) (Some BehindHyphen) None)) text) u)
+                ∙ rest) in
+                subst (λ d. IsWordRest (d ∷ text)) (sym (eqb-true c underscore u))
+                (IsWordRest-tail (underscore ∷ text) (IsTail-underscore text f))
             | inr u ↦
                 let last : passes (cond (c == hyphen) (Some BehindHyphen) None) text ≡ true =
-                sym (ap (λ b. passes (cond b (Some BehindUnderscore) (cond (c == hyphen) (Some BehindHyphen) None)) text) u) ∙ rest in
+                sym
+                (ap (λ b. passes (cond b (Some BehindUnderscore) (cond (c == hyphen) (Some BehindHyphen) None)) text) u)
+                ∙ rest in
                 elim (cases_Bool (c == hyphen)) [
                   | inl y ↦
-                      let f = ih BehindHyphen (sym (ap (λ b. passes (cond b (Some BehindHyphen) None) text) y) ∙ last) in
-                      subst (λ d. IsWordRest (d ∷ text)) (sym (eqb-true c hyphen y)) (IsWordRest-tail (hyphen ∷ text) (IsTail-hyphen text f))
+                      let f =
+                      ih BehindHyphen (sym (ap (λ b. passes (cond b (Some BehindHyphen) None) text) y) ∙ last) in
+                      subst (λ d. IsWordRest (d ∷ text)) (sym (eqb-true c hyphen y))
+                      (IsWordRest-tail (hyphen ∷ text) (IsTail-hyphen text f))
                   | inr y ↦
-                      let none : false ≡ true = sym (ap (λ b. passes (cond b (Some BehindHyphen) None) text) y) ∙ last in
+                      let none : false ≡ true =
+                      sym (ap (λ b. passes (cond b (Some BehindHyphen) None) text) y) ∙ last in
                       cc none
                 ]
           ]
@@ -300,14 +342,17 @@ IsAscii-passes (c ∷ text) place h =
       | inl low ↦
           elim (cases_Bool (is_word_byte c)) [
             | inl w ↦ IsAscii-cons c text low (IsAscii-passes text InWord (sym (in_word place c text w) ∙ h))
-            | inr w ↦ IsAscii-cons c text low (behind_some (place_behind_joint place c) (IsAscii-passes text) (sym (in_joint place c text w) ∙ h))
+            | inr w ↦ IsAscii-cons c text low
+                (behind_some (place_behind_joint place c) (IsAscii-passes text) (sym (in_joint place c text w) ∙ h))
           ]
       | inr high ↦
-          let none : false ≡ true = sym (in_joint place c text (not_word_byte c high) ∙ ap (λ o. passes o text) (no_joint place c high)) ∙ h in
+          let none : false ≡ true =
+          sym (in_joint place c text (not_word_byte c high) ∙ ap (λ o. passes o text) (no_joint place c high)) ∙ h in
           cc none
     ]
   where
-    behind_some : (o : Option Place) → ((next : Place) → passes (Some next) text ≡ true → IsAscii text) → passes o text ≡ true → IsAscii text
+    behind_some : (o : Option Place) → ((next : Place) → passes (Some next) text ≡ true → IsAscii text)
+        → passes o text ≡ true → IsAscii text
     behind_some None ih e = cc e
     behind_some (Some next) ih e = ih next e
 
@@ -320,7 +365,8 @@ IsUtf8-in_grammar text h = IsUtf8-from_ascii text (IsAscii-passes text WordStart
 pub is_name-true : (text : List ℕ) → IsName text → is_name text ≡ true
 unfolding is_name
 is_name-true text n =
-    ap (λ b. b && nat_le (length text) longest_name) (is_in_grammar-true text n.in_grammar) ∙ le-leb (length text) longest_name n.short
+    ap (λ b. b && nat_le (length text) longest_name) (is_in_grammar-true text n.in_grammar)
+    ∙ le-leb (length text) longest_name n.short
 
 pub IsName-from : (text : List ℕ) → is_name text ≡ true → IsName text
 unfolding is_name

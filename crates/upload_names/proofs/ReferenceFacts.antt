@@ -15,12 +15,20 @@ unfolding number_of reference
 number_of-reference n secret h = from_be_bytes-to_be_bytes_4 n h
 
 -- a reference is read back from its text
-pub reference_of-text : (at : List ℕ) → length at ≡ 16 → All (λ b. b < 256) at → reference_of (reference_text at) ≡ Some at
+pub reference_of-text : (at : List ℕ) → length at ≡ 16 → All (λ b. b < 256) at
+    → reference_of (reference_text at) ≡ Some at
 unfolding reference_of reference_text
 reference_of-text at long small = sym (parses_hyphenated lower at (inl refl) long small)
 
 -- the number that four bytes write
-pub number_of-bytes : (bytes : List ℕ) (n : ℕ) → n ≡ from_be_bytes w32 (get_or bytes 0 0 ∷ get_or bytes 1 0 ∷ get_or bytes 2 0 ∷ get_or bytes 3 0 ∷ []) → n ≡ number_of bytes
+pub number_of-bytes : (bytes : List ℕ) (n : ℕ)
+    → n ≡ from_be_bytes w32 (get_or bytes 0 0 ∷ get_or bytes 1 0 ∷ get_or bytes 2 0 ∷ get_or bytes 3 0 ∷ [])
+    → n ≡ number_of bytes
 unfolding number_of
 number_of-bytes bytes n h =
-    rw (get_or-take 4 bytes 0 0 (omega arith), get_or-take 4 bytes 1 0 (omega arith), get_or-take 4 bytes 2 0 (omega arith), get_or-take 4 bytes 3 0 (omega arith)) h
+    rw (
+      get_or-take 4 bytes 0 0 (omega arith),
+      get_or-take 4 bytes 1 0 (omega arith),
+      get_or-take 4 bytes 2 0 (omega arith),
+      get_or-take 4 bytes 3 0 (omega arith),
+    ) h

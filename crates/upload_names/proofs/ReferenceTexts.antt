@@ -1,5 +1,6 @@
 -- The bytes of the texts of references.
-use Rattle.std.proofs.Common.{◌≡◌, ℕ, zero, suc, ◌<◌, ◌||◌, ◌&&◌, ◌==◌, Bool, true, false, List, [], ◌∷◌, All, length, refl, arith, IsTrue, if◌then◌else◌}
+use Rattle.std.proofs.Common.{◌≡◌, ℕ, zero, suc, ◌<◌, ◌||◌, ◌&&◌, ◌==◌, Bool, true, false, List, [], ◌∷◌, All, length}
+use Rattle.std.proofs.Common.{refl, arith, IsTrue, if◌then◌else◌}
 use Rattle.std.specs.Prelude.{nat_le}
 use Rattle.std.proofs.lemmas.Bool.Decides.{nat_tests}
 use Rattle.std.proofs.lemmas.List.Elements.{All-append, All-cons, All-nil}
@@ -28,16 +29,19 @@ each_byte : (n : ℕ) (f : ℕ → ℕ) → ((k : ℕ) → is_reference_byte (f 
 unfolding by_index
 each_byte zero f h = All-nil (λ c. IsTrue (is_reference_byte c))
 each_byte (suc n) f h =
-    let last = All-cons (λ c. IsTrue (is_reference_byte c)) (f n) [] (h n) (All-nil (λ c. IsTrue (is_reference_byte c))) in
+    let last =
+    All-cons (λ c. IsTrue (is_reference_byte c)) (f n) [] (h n) (All-nil (λ c. IsTrue (is_reference_byte c))) in
     All-append (λ c. IsTrue (is_reference_byte c)) (by_index n f) (f n ∷ []) (each_byte n f h) last
 
 -- a reference's text is made of digits and hyphens
 pub reference_text-bytes : (at : List ℕ) → All (λ c. IsTrue (is_reference_byte c)) (reference_text at)
 unfolding reference_text
 reference_text-bytes at =
-    each_byte 36 _ (λ k. hyphen_or (is_hyphen_place k) _ (digit_byte (nibble at (digit_place k)) (nibble_small at (digit_place k))))
+    each_byte 36 _
+    (λ k. hyphen_or (is_hyphen_place k) _ (digit_byte (nibble at (digit_place k)) (nibble_small at (digit_place k))))
 
 -- and has 36 bytes
 pub length-reference_text : (at : List ℕ) → length (reference_text at) ≡ 36
 unfolding reference_text
-length-reference_text at = by_index_length 36 (λ k. if is_hyphen_place k then 45 else hex_digit lower (nibble at (digit_place k)))
+length-reference_text at =
+    by_index_length 36 (λ k. if is_hyphen_place k then 45 else hex_digit lower (nibble at (digit_place k)))

@@ -1,6 +1,7 @@
 -- The ranges of chunks (OCI Distribution Specification 1.1, section "Pushing a blob in chunks", Content-Range):
 -- a first and a last position, both in the range.
-use Rattle.std.specs.Prelude.{◌≡◌, ℕ, ◌+◌, ◌-◌, ◌<◌, ◌≤◌, ◌^◌, ◌==◌, ◌&&◌, min, nat_lt, Bool, List, ◌∷◌, ◌++◌, length, take, drop, position, Option, Some, None, option_and_then, if◌then◌else◌, IsTrue}
+use Rattle.std.specs.Prelude.{◌≡◌, ℕ, ◌+◌, ◌-◌, ◌<◌, ◌≤◌, ◌^◌, ◌==◌, ◌&&◌, min, nat_lt, Bool, List, ◌∷◌, ◌++◌, length}
+use Rattle.std.specs.Prelude.{take, drop, position, Option, Some, None, option_and_then, if◌then◌else◌, IsTrue}
 use Rattle.std.specs.List.{list_all}
 use Rattle.std.specs.Char.{is_ascii_digit}
 use Rattle.std.specs.Str.Parse.{digits_value}

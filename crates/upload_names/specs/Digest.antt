@@ -1,5 +1,6 @@
 -- Digests (OCI Image Specification 1.1, section "Digests"): an algorithm and the bytes that it gives.
-use Rattle.std.specs.Prelude.{◌≡◌, ℕ, ◌<◌, ◌&&◌, ◌||◌, nat_le, Bool, List, ◌∷◌, ◌++◌, length, drop, codes, All, Option, Some, None, option_map, if◌then◌else◌}
+use Rattle.std.specs.Prelude.{◌≡◌, ℕ, ◌<◌, ◌&&◌, ◌||◌, nat_le, Bool, List, ◌∷◌, ◌++◌, length, drop, codes, All, Option}
+use Rattle.std.specs.Prelude.{Some, None, option_map, if◌then◌else◌}
 use Rattle.std.specs.List.{list_all, starts_with}
 use Rattle.std.specs.Result.{result_ok}
 use Rattle.std.specs.Prelude.{nat_eq}
@@ -62,7 +63,8 @@ abbrev pub digits_read : ℕ → List ℕ → Option (List ℕ)
 digits_read size digits = if list_all is_lower_digit digits then result_ok (decode_sized digits size) else None
 
 abbrev pub read_by : Algorithm → List ℕ → Option Digest
-read_by algorithm digits = option_map (λ bytes. record { algorithm = algorithm; bytes = bytes }) (digits_read (hash_size algorithm) digits)
+read_by algorithm digits =
+    option_map (λ bytes. record { algorithm = algorithm; bytes = bytes }) (digits_read (hash_size algorithm) digits)
 
 -- the digest that a text spells, if it spells one
 unfoldable pub digest_of : List ℕ → Option Digest

@@ -10,8 +10,8 @@ abbrev pub Stands : Hashing → List ℕ → Type 0
 Stands (Here hash) bytes = Holds hash bytes
 Stands (Away thread) bytes =
     (hash : Running)
-    → ((before : List ℕ) → Holds thread.promise.before.value before → Holds hash (before ++ thread.promise.part.value.items))
-    → Holds hash bytes
+    → ((before : List ℕ) → Holds thread.promise.before.value before
+    → Holds hash (before ++ thread.promise.part.value.items)) → Holds hash bytes
 
 -- a hash, if there is one, stands for so many of these bytes
 abbrev pub StandsFor : Option Hashing → ℕ → List ℕ → Type 0

@@ -1,5 +1,6 @@
 -- The names of repositories (OCI Distribution Specification 1.1, section "Pulling manifests", `<name>`).
-use Rattle.std.specs.Prelude.{◌≡◌, ℕ, ◌+◌, ◌<◌, ◌≤◌, List, ◌∷◌, ◌++◌, length, codes, flat_map, All, replicate, ◌⊎◌, IsTrue}
+use Rattle.std.specs.Prelude.{◌≡◌, ℕ, ◌+◌, ◌<◌, ◌≤◌, List, ◌∷◌, ◌++◌, length, codes, flat_map, All, replicate, ◌⊎◌}
+use Rattle.std.specs.Prelude.{IsTrue}
 use Rattle.std.specs.List.{list_all}
 pub use Rattle.upload_names.specs.NameBytes.{is_word_byte, hyphen, slash, longest_name}
 -- the tests that decide what is defined here
@@ -13,7 +14,8 @@ pub record IsWord (text : List ℕ) : Type 0 where
 -- a dot, an underscore, two underscores, or one or more hyphens
 abbrev pub IsSeparator : List ℕ → Type 0
 IsSeparator text =
-    (text ≡ codes ".") ⊎ ((text ≡ codes "_") ⊎ ((text ≡ codes "__") ⊎ ((more : ℕ) × (text ≡ replicate (more + 1) hyphen))))
+    (text ≡ codes ".")
+    ⊎ ((text ≡ codes "_") ⊎ ((text ≡ codes "__") ⊎ ((more : ℕ) × (text ≡ replicate (more + 1) hyphen))))
 
 -- a separator and the word behind it
 pub record Joint : Type 0 where

@@ -1,10 +1,12 @@
 //! Digests of blobs.
-ghost use Rattle.std.specs.Prelude.{◌≡◌, ◌≢◌, MatchOption, ◌↔◌, ◌+◌, ◌*◌, ◌≤◌, ◌++◌, List, ℕ, length, IsTrue, Some, refl};
+ghost use Rattle.std.specs.Prelude.{◌≡◌, ◌≢◌, MatchOption, ◌↔◌, ◌+◌, ◌*◌, ◌≤◌, ◌++◌, List, ℕ, length, IsTrue, Some};
+ghost use Rattle.std.specs.Prelude.{refl};
 ghost use Rattle.std.specs.Cmp.{partial_equiv_from_equiv};
 ghost use Rattle.std.specs.List.{list_all};
 ghost use Rattle.hex.specs.Hex.{encode_lower};
 ghost use Rattle.sha2.specs.Hashers.{Holds256};
-ghost use Rattle.upload_names.specs.Digest.{Digest as DigestModel, IsDigest, SpellsDigest, content_digest, digest_of, digest_text, digits_read, is_lower_digit, hash_size};
+ghost use Rattle.upload_names.specs.Digest.{Digest as DigestModel, IsDigest, SpellsDigest, content_digest, digest_of};
+ghost use Rattle.upload_names.specs.Digest.{digest_text, digits_read, is_lower_digit, hash_size};
 
 use crate::bytes::Bytes;
 use sha2::{Digest, Sha256, Sha512};
@@ -174,7 +176,8 @@ fn are_lower_digits(text: &[u8]) -> bool
 
 /// What stands behind the prefix, where the text has it.
 fn behind<'t>(prefix: &[u8], text: &'t [u8]) -> Option<&'t [u8]>
-    ensures { MatchOption result ((rest : List ℕ) → text.now ≢ prefix.now ++ rest) (λ rest. text.now ≡ prefix.now ++ rest.now) }
+    ensures { MatchOption result ((rest : List ℕ) → text.now ≢ prefix.now ++ rest)
+        (λ rest. text.now ≡ prefix.now ++ rest.now) }
 {
     text.strip_prefix(prefix)
 }
@@ -249,7 +252,8 @@ impl BlobDigest {
     /// The SHA-256 digest of what was hashed so far, piece by piece.
     pub fn of_hashed(hash: Sha256) -> BlobDigest
         requires { (content : List ℕ) × Holds256 hash content }
-        ensures { (content : List ℕ) → Holds256 hash content → result ≡ content_digest Algorithm.Sha256 content }
+        ensures { (content : List ℕ) → Holds256 hash content
+            → result ≡ content_digest Algorithm.Sha256 content }
     {
         let sum = Sum::Sha256(hash.finalize());
         BlobDigest { sum }
@@ -357,6 +361,8 @@ impl DigestText {
 
 /// The law that the test of `specs/Digest.antt` decides the definition, and that a digest is read back from its text.
 pub fn digests_are_decided()
-    ensures decided { (text : List ℕ) (digest : DigestModel) → (digest_of text ≡ Some digest) ↔ SpellsDigest text digest }
-    ensures read_back { (digest : DigestModel) → IsDigest digest → digest_of (digest_text digest) ≡ Some digest }
+    ensures decided { (text : List ℕ) (digest : DigestModel)
+        → (digest_of text ≡ Some digest) ↔ SpellsDigest text digest }
+    ensures read_back { (digest : DigestModel) → IsDigest digest
+        → digest_of (digest_text digest) ≡ Some digest }
 {}

@@ -23,7 +23,8 @@ impl Promise<Running> for Behind {
     ghost use Rattle.std.specs.Prelude.{List, ℕ, ◌++◌};
     ghost use Rattle.upload_names.specs.Running.{Holds};
 
-    ghost kept_by = { λ p hash. (before : List ℕ) → Holds p.before.value before → Holds hash (before ++ p.part.value.items) };
+    ghost kept_by = { λ p hash. (before : List ℕ) → Holds p.before.value before
+        → Holds hash (before ++ p.part.value.items) };
 }
 
 /// A hash that takes bytes in, here or in a thread of its own. A thread that nobody joins runs to its end.
@@ -38,7 +39,8 @@ pub trait HashPlace {
     /// Has a hash take a part in. What it is taking in already is waited for. `None` comes only from a place without
     /// threads, for a hash that is away in one.
     fn go_on(&self, alloc: Global, hash: Hashing, part: &[u8]) -> Option<Hashing>
-        ensures { IfSome result (λ more. (bytes : List ℕ) → Stands hash bytes → Stands more (bytes ++ part.now)) };
+        ensures { IfSome result
+            (λ more. (bytes : List ℕ) → Stands hash bytes → Stands more (bytes ++ part.now)) };
 
     /// The hash, once its thread has ended. `None` comes as from `go_on`.
     fn come_home(&self, hash: Hashing) -> Option<Running>

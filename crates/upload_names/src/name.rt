@@ -1,7 +1,8 @@
 //! Names of repositories.
 ghost use Rattle.std.specs.Prelude.{◌≡◌, ◌↔◌, ◌<◌, List, ℕ, length, IsTrue, IfOk, OnOk, nat_eq, refl, Some, Ok, Err};
 ghost use Rattle.std.specs.Ordering.{nat_cmp};
-ghost use Rattle.std.specs.Cmp.Lexicographic.{pointwise, slice_cmp, nat_list_eq_equiv, nat_list_cmp_total, texts_ties, texts_po};
+ghost use Rattle.std.specs.Cmp.Lexicographic.{pointwise, slice_cmp, nat_list_eq_equiv, nat_list_cmp_total, texts_ties};
+ghost use Rattle.std.specs.Cmp.Lexicographic.{texts_po};
 ghost use Rattle.std.specs.Cmp.{partial_equiv_from_equiv};
 ghost use Rattle.upload_names.specs.Name.{IsInGrammar, IsName, longest_name};
 ghost use Rattle.upload_names.specs.NamePass.{is_in_grammar, is_name};
@@ -116,7 +117,8 @@ impl RepoName {
         ensures named { OnOk result (IsName text.now) }
 
         ensures not_a_name { (result ≡ Err NameFault.NotAName) ↔ ¬ (IsInGrammar text.now) }
-        ensures too_long { (result ≡ Err NameFault.TooLong) ↔ (IsInGrammar text.now × (longest_name < length text.now)) }
+        ensures too_long { (result ≡ Err NameFault.TooLong) ↔
+            (IsInGrammar text.now × (longest_name < length text.now)) }
         ensures no_memory { result ≡ Err NameFault.NoMemory → IsName text.now }
     {
         if !is_in_grammar(text) {

@@ -135,5 +135,6 @@ impl UploadRef {
 
 /// The law that a reference is read back from its text.
 pub fn references_read_back()
-    ensures { (at : List ℕ) → length at ≡ 16 → All (λ b. b < 256) at → reference_of (reference_text at) ≡ Some at }
+    ensures { (at : List ℕ) → length at ≡ 16 → All (λ b. b < 256) at
+        → reference_of (reference_text at) ≡ Some at }
 {}

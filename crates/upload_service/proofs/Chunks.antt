@@ -1,5 +1,6 @@
 -- What an open session has is what it received, and what a closed one takes.
-use Rattle.std.proofs.Common.{◌≡◌, ℕ, ◌≤◌, List, [], ◌∷◌, ◌++◌, true, false, Option, Some, None, refl, sym, ◌∙◌, ap, subst, ◌⊎◌, inl, inr, cond, arith}
+use Rattle.std.proofs.Common.{◌≡◌, ℕ, ◌≤◌, List, [], ◌∷◌, ◌++◌, true, false, Option, Some, None, refl, sym, ◌∙◌, ap}
+use Rattle.std.proofs.Common.{subst, ◌⊎◌, inl, inr, cond, arith}
 use Rattle.std.specs.Prelude.{◌||◌}
 use Rattle.std.specs.FinMap as map
 use Rattle.upload_names.specs.Reference.{number_of}
@@ -7,15 +8,18 @@ use Rattle.upload_service.specs.declared.ask.Ask.{Ask}
 use Rattle.upload_service.specs.declared.answer.Answer.{Answer}
 use Rattle.upload_service.specs.declared.answer.Answer.TheVariants as answers
 use Rattle.upload_service.specs.UploadView.{Act, Sends, AsksOffset, Closes, upload_view}
-use Rattle.upload_service.specs.Machine.{same, swept, Session, State, Outcome, Replies, Begins, Takes, Commits, Stores, Mounts, answer_of, state_after, outcome}
+use Rattle.upload_service.specs.Machine.{same, swept, Session, State, Outcome, Replies, Begins, Takes, Commits, Stores}
+use Rattle.upload_service.specs.Machine.{Mounts, answer_of, state_after, outcome}
 use Rattle.std.specs.Prelude.{flat_map}
 use Rattle.std.proofs.Common.{append_assoc}
 use Rattle.std.proofs.lemmas.List.{append-nil}
 use Rattle.std.proofs.lemmas.List.Elements.{filter-append}
 use Rattle.upload_service.specs.Machine.{Turn}
 use Rattle.upload_service.specs.Run.{Exchange, Run}
-use Rattle.upload_service.specs.Session.{carries, begins, is_part, part, is_taken, is_stored, accepted_by, accepted_of, accepted, taken, joined, bytes_of, received}
-use Rattle.upload_service.proofs.Tables.{one_or_two, get-insert_same, get-insert_other, get-remove_same, get-remove_other, same_from_eq, same_from_ne}
+use Rattle.upload_service.specs.Session.{carries, begins, is_part, part, is_taken, is_stored, accepted_by, accepted_of}
+use Rattle.upload_service.specs.Session.{accepted, taken, joined, bytes_of, received}
+use Rattle.upload_service.proofs.Tables.{one_or_two, get-insert_same, get-insert_other, get-remove_same}
+use Rattle.upload_service.proofs.Tables.{get-remove_other, same_from_eq, same_from_ne}
 use Rattle.upload_service.proofs.UploadView.{on_each}
 use Rattle.upload_service.proofs.Steps.{IsReply, IsOutcome, outcome_sound, None≢Some}
 use Rattle.upload_service.proofs.Sweeps.{kept_or_left, none_there}
@@ -29,38 +33,50 @@ abbrev pub gave : List ℕ → Exchange → List (List ℕ)
 gave at x = cond (is_part at x) (accepted x) []
 
 pub taken-cons : (x : Exchange) (xs : List Exchange) (at : List ℕ) → taken (x ∷ xs) at ≡ gave at x ++ taken xs at
-taken-cons x xs at = elim (is_part at x) as (λ b. flat_map accepted (cond b (x ∷ part xs at) (part xs at)) ≡ cond b (accepted x) [] ++ taken xs at) [ true ↦ refl | false ↦ refl ]
+taken-cons x xs at =
+    elim (is_part at x) as (λ b. flat_map accepted (cond b (x ∷ part xs at) (part xs at))
+    ≡ cond b (accepted x) [] ++ taken xs at) [ true ↦ refl | false ↦ refl ]
 
-flat_map-append : {A B : Type 0} (f : A → List B) (xs ys : List A) → flat_map f (xs ++ ys) ≡ flat_map f xs ++ flat_map f ys
+flat_map-append : {A B : Type 0} (f : A → List B) (xs ys : List A)
+    → flat_map f (xs ++ ys) ≡ flat_map f xs ++ flat_map f ys
 flat_map-append f [] ys = refl
-flat_map-append f (x ∷ xs) ys = ap (λ zs. f x ++ zs) (flat_map-append f xs ys) ∙ sym (append_assoc (f x) (flat_map f xs) (flat_map f ys))
+flat_map-append f (x ∷ xs) ys =
+    ap (λ zs. f x ++ zs) (flat_map-append f xs ys) ∙ sym (append_assoc (f x) (flat_map f xs) (flat_map f ys))
 
 pub taken-append : (xs ys : List Exchange) (at : List ℕ) → taken (xs ++ ys) at ≡ taken xs at ++ taken ys at
-taken-append xs ys at = ap (flat_map accepted) (filter-append (is_part at) xs ys) ∙ flat_map-append accepted (part xs at) (part ys at)
+taken-append xs ys at =
+    ap (flat_map accepted) (filter-append (is_part at) xs ys) ∙ flat_map-append accepted (part xs at) (part ys at)
 
 joined-append : (xs ys : List (List ℕ)) → joined (xs ++ ys) ≡ joined xs ++ joined ys
 joined-append xs ys = flat_map-append (λ chunk. chunk) xs ys
 
-pub received-cons : (s : State) (x : Exchange) (xs : List Exchange) (at : List ℕ) → received s (x ∷ xs) at ≡ (bytes_of (map.get s.sessions at) ++ joined (gave at x)) ++ joined (taken xs at)
+pub received-cons : (s : State) (x : Exchange) (xs : List Exchange) (at : List ℕ)
+    → received s (x ∷ xs) at ≡ (bytes_of (map.get s.sessions at) ++ joined (gave at x)) ++ joined (taken xs at)
 received-cons s x xs at =
     ap (λ c. bytes_of (map.get s.sessions at) ++ joined c) (taken-cons x xs at)
     ∙ ap (λ b. bytes_of (map.get s.sessions at) ++ b) (joined-append (gave at x) (taken xs at))
     ∙ sym (append_assoc (bytes_of (map.get s.sessions at)) (joined (gave at x)) (joined (taken xs at)))
 
-pub received-push : (s : State) (xs : List Exchange) (x : Exchange) (at : List ℕ) → received s (xs ++ x ∷ []) at ≡ received s xs at ++ joined (gave at x)
+pub received-push : (s : State) (xs : List Exchange) (x : Exchange) (at : List ℕ)
+    → received s (xs ++ x ∷ []) at ≡ received s xs at ++ joined (gave at x)
 received-push s xs x at =
-    ap (λ c. bytes_of (map.get s.sessions at) ++ joined c) (taken-append xs (x ∷ []) at ∙ ap (λ c. taken xs at ++ c) (taken-cons x [] at))
-    ∙ ap (λ b. bytes_of (map.get s.sessions at) ++ b) (joined-append (taken xs at) (gave at x ++ []) ∙ ap (λ b. joined (taken xs at) ++ b) (joined-append (gave at x) [] ∙ append_none _))
+    ap (λ c. bytes_of (map.get s.sessions at) ++ joined c)
+    (taken-append xs (x ∷ []) at ∙ ap (λ c. taken xs at ++ c) (taken-cons x [] at))
+    ∙ ap (λ b. bytes_of (map.get s.sessions at) ++ b) (joined-append (taken xs at) (gave at x ++ [])
+    ∙ ap (λ b. joined (taken xs at) ++ b) (joined-append (gave at x) [] ∙ append_none _))
     ∙ sym (append_assoc (bytes_of (map.get s.sessions at)) (joined (taken xs at)) (joined (gave at x)))
 
 -- what is answered otherwise gives nothing
-not_accepted_by : (act : Act) (answer : Answer) → is_taken answer ≡ false → is_stored answer ≡ false → accepted_by act answer ≡ []
+not_accepted_by : (act : Act) (answer : Answer) → is_taken answer ≡ false → is_stored answer ≡ false
+    → accepted_by act answer ≡ []
 not_accepted_by (Sends range body) answer t s = ap (λ b. cond b (body ∷ []) []) t
 not_accepted_by AsksOffset answer t s = refl
 not_accepted_by (Closes range digest body) answer t s = ap (λ b. cond b (body ∷ []) []) s
 
-not_accepted : (ask : Ask) (answer : Answer) → is_taken answer ≡ false → is_stored answer ≡ false → accepted_of ask answer ≡ []
-not_accepted ask answer t s = on_each (λ bodies. bodies ≡ []) (upload_view ask) [] _ refl (λ name at act. not_accepted_by act answer t s)
+not_accepted : (ask : Ask) (answer : Answer) → is_taken answer ≡ false → is_stored answer ≡ false
+    → accepted_of ask answer ≡ []
+not_accepted ask answer t s =
+    on_each (λ bodies. bodies ≡ []) (upload_view ask) [] _ refl (λ name at act. not_accepted_by act answer t s)
 
 gave_none : (x : Exchange) (at : List ℕ) → accepted x ≡ [] → gave at x ≡ []
 gave_none x at e = elim (is_part at x) as (λ b. cond b (accepted x) [] ≡ []) [ true ↦ e | false ↦ refl ]
@@ -71,7 +87,8 @@ gave_other x at c b = ap (λ p. cond p (accepted x) []) (ap (λ q. q || begins a
 pub gave_own : (x : Exchange) (at : List ℕ) → carries at x.ask ≡ true → gave at x ≡ accepted x
 gave_own x at c = ap (λ q. cond (q || begins at x.answer) (accepted x) []) c
 
-pub reply_not_accepted : (s : State) (now : ℕ) (ask : Ask) (answer : Answer) → IsReply s now ask answer → (is_taken answer ≡ false) × (is_stored answer ≡ false)
+pub reply_not_accepted : (s : State) (now : ℕ) (ask : Ask) (answer : Answer) → IsReply s now ask answer
+    → (is_taken answer ≡ false) × (is_stored answer ≡ false)
 reply_not_accepted s now ask (answers.Stored name digest) f = absurd f
 reply_not_accepted s now ask (answers.Taken name to next) f = absurd f
 reply_not_accepted s now ask other f = (refl, refl)
@@ -80,19 +97,22 @@ reply_not_accepted s now ask other f = (refl, refl)
 abbrev Grew : State → State → List ℕ → Exchange → Type 0
 Grew s t at x = bytes_of (map.get t.sessions at) ≡ bytes_of (map.get s.sessions at) ++ joined (gave at x)
 
-kept : (s t : State) (at : List ℕ) (x : Exchange) → map.get t.sessions at ≡ map.get s.sessions at → gave at x ≡ [] → Grew s t at x
+kept : (s t : State) (at : List ℕ) (x : Exchange) → map.get t.sessions at ≡ map.get s.sessions at
+    → gave at x ≡ [] → Grew s t at x
 kept s t at x e g = ap bytes_of e ∙ sym (ap (λ c. bytes_of (map.get s.sessions at) ++ joined c) g ∙ append_none _)
 
 -- a reference whose number isn't issued has nothing
-nothing_yet : (s : State) (at : List ℕ) (o : Option Session) → map.get s.sessions at ≡ o → ((session : Session) → o ≡ Some session → ⊥) → bytes_of o ≡ []
+nothing_yet : (s : State) (at : List ℕ) (o : Option Session) → map.get s.sessions at ≡ o
+    → ((session : Session) → o ≡ Some session → ⊥) → bytes_of o ≡ []
 nothing_yet s at None e n = refl
 nothing_yet s at (Some session) e n = absurd (n session refl)
 
-grows : (s : State) (x : Exchange) (o : Outcome) → IsOutcome s x.ask x.secret x.now o → IsNumbered s → x.answer ≡ answer_of o → (at : List ℕ)
-    → IsGone (state_after s x.now o) at ⊎ Grew s (state_after s x.now o) at x
+grows : (s : State) (x : Exchange) (o : Outcome) → IsOutcome s x.ask x.secret x.now o → IsNumbered s
+    → x.answer ≡ answer_of o → (at : List ℕ) → IsGone (state_after s x.now o) at ⊎ Grew s (state_after s x.now o) at x
 grows s x (Replies answer) f h e at =
     let not_one : (is_taken answer ≡ false) × (is_stored answer ≡ false) = reply_not_accepted s x.now x.ask answer f in
-    inr (kept s s at x refl (gave_none x at (not_accepted x.ask x.answer (ap is_taken e ∙ not_one.0) (ap is_stored e ∙ not_one.1))))
+    inr (kept s s at x refl
+    (gave_none x at (not_accepted x.ask x.answer (ap is_taken e ∙ not_one.0) (ap is_stored e ∙ not_one.1))))
 grows s x (Begins name new) f h e at =
     let g : gave at x ≡ [] = gave_none x at (not_accepted x.ask x.answer (ap is_taken e) (ap is_stored e)) in
     let t : State = state_after s x.now (Begins name new) in
@@ -100,51 +120,76 @@ grows s x (Begins name new) f h e at =
       | inl same ↦
           inr (ap bytes_of (ap (map.get t.sessions) same ∙ get-insert_same (swept s x.now) new _)
           ∙ sym (ap (λ c. bytes_of (map.get s.sessions at) ++ joined c) g ∙ append_none _
-          ∙ nothing_yet s at (map.get s.sessions at) refl (λ session o. not_new s x.secret at new f.is_new f.numbers_left (h at session o) same)))
+          ∙ nothing_yet s at (map.get s.sessions at) refl
+          (λ session o. not_new s x.secret at new f.is_new f.numbers_left (h at session o) same)))
       | inr other ↦
           elim (kept_or_left s x.now at) [
             | inl still ↦ inr (kept s t at x (get-insert_other (swept s x.now) new _ at other ∙ still) g)
-            | inr left ↦ inl (get-insert_other (swept s x.now) new _ at other ∙ left.left, let le : number_of at ≤ s.issued = h at left.session left.was_open in omega arith)
+            | inr left ↦ inl (
+              get-insert_other (swept s x.now) new _ at other ∙ left.left,
+              let le : number_of at ≤ s.issued = h at left.session left.was_open in omega arith,
+            )
           ]
     ]
 grows s x (Takes name to got) f h e at =
     elim (one_or_two at to) [
       | inl same ↦
-          let g : gave at x ≡ f.body ∷ [] = gave_own x at (ap (carries at) f.asked ∙ same_from_eq at to same) ∙ (λ i. accepted_of (f.asked i) (e i)) in
-          inr (ap bytes_of (ap (map.get (state_after s x.now (Takes name to got)).sessions) same ∙ get-insert_same s.sessions to _)
+          let g : gave at x ≡ f.body ∷ [] =
+          gave_own x at (ap (carries at) f.asked ∙ same_from_eq at to same) ∙ (λ i. accepted_of (f.asked i) (e i)) in
+          inr (ap bytes_of
+          (ap (map.get (state_after s x.now (Takes name to got)).sessions) same ∙ get-insert_same s.sessions to _)
           ∙ f.grown
-          ∙ sym (ap (λ c. bytes_of (map.get s.sessions at) ++ joined c) g ∙ ap (λ b. bytes_of (map.get s.sessions at) ++ b) (append_none f.body) ∙ ap (λ o. bytes_of o ++ f.body) (ap (map.get s.sessions) same ∙ f.found.is_open)))
+          ∙ sym (ap (λ c. bytes_of (map.get s.sessions at) ++ joined c) g ∙ ap (λ b. bytes_of (map.get s.sessions at)
+          ++ b) (append_none f.body) ∙ ap (λ o. bytes_of o ++ f.body) (ap (map.get s.sessions) same ∙ f.found.is_open)))
       | inr other ↦
           inr (kept s (state_after s x.now (Takes name to got)) at x (get-insert_other s.sessions to _ at other)
           (gave_other x at (ap (carries at) f.asked ∙ same_from_ne at to other) (ap (begins at) e)))
     ]
 grows s x (Commits name to digest blob) f h e at =
     elim (one_or_two at to) [
-      | inl same ↦ inl (ap (map.get (map.remove s.sessions to)) same ∙ get-remove_same s.sessions to, h at f.found.session (ap (map.get s.sessions) same ∙ f.found.is_open))
+      | inl same ↦ inl (
+        ap (map.get (map.remove s.sessions to)) same ∙ get-remove_same s.sessions to,
+        h at f.found.session (ap (map.get s.sessions) same ∙ f.found.is_open),
+      )
       | inr other ↦
           inr (kept s (state_after s x.now (Commits name to digest blob)) at x (get-remove_other s.sessions to at other)
           (gave_other x at (ap (carries at) f.asked ∙ same_from_ne at to other) (ap (begins at) e)))
     ]
 grows s x (Stores name digest blob) f h e at =
-    inr (kept s (state_after s x.now (Stores name digest blob)) at x refl (gave_none x at (ap (λ a. accepted_of a x.answer) f.asked)))
+    inr (kept s (state_after s x.now (Stores name digest blob)) at x refl
+    (gave_none x at (ap (λ a. accepted_of a x.answer) f.asked)))
 grows s x (Mounts name digest) f h e at =
-    inr (kept s (state_after s x.now (Mounts name digest)) at x refl (gave_none x at (ap (λ a. accepted_of a x.answer) f.asked)))
+    inr (kept s (state_after s x.now (Mounts name digest)) at x refl
+    (gave_none x at (ap (λ a. accepted_of a x.answer) f.asked)))
 
 -- a session that has left the table doesn't come back
-gone_after : (s : State) (ask : Ask) (secret : List ℕ) (now : ℕ) (o : Outcome) → IsOutcome s ask secret now o → (at : List ℕ) → IsGone s at → IsGone (state_after s now o) at
+gone_after : (s : State) (ask : Ask) (secret : List ℕ) (now : ℕ) (o : Outcome) → IsOutcome s ask secret now o
+    → (at : List ℕ) → IsGone s at → IsGone (state_after s now o) at
 gone_after s ask secret now (Replies answer) f at g = g
-gone_after s ask secret now (Begins name new) f at g =
-    (get-insert_other (swept s now) new _ at (not_new s secret at new f.is_new f.numbers_left g.1) ∙ none_there s now at g.0, let le : number_of at ≤ s.issued = g.1 in omega arith)
-gone_after s ask secret now (Takes name to got) f at g =
-    (get-insert_other s.sessions to _ at (λ same. None≢Some (sym g.0 ∙ ap (map.get s.sessions) same ∙ f.found.is_open)) ∙ g.0, g.1)
-gone_after s ask secret now (Commits name to digest blob) f at g =
-    (get-remove_other s.sessions to at (λ same. None≢Some (sym g.0 ∙ ap (map.get s.sessions) same ∙ f.found.is_open)) ∙ g.0, g.1)
+gone_after s ask secret now (Begins name new) f at g = (
+  get-insert_other (swept s now) new _ at (not_new s secret at new f.is_new f.numbers_left g.1)
+      ∙ none_there s now at g.0,
+  let le : number_of at ≤ s.issued = g.1 in omega arith,
+)
+gone_after s ask secret now (Takes name to got) f at g = (
+  get-insert_other s.sessions to _ at (λ same. None≢Some (sym g.0 ∙ ap (map.get s.sessions) same ∙ f.found.is_open))
+      ∙ g.0,
+  g.1,
+)
+gone_after s ask secret now (Commits name to digest blob) f at g = (
+  get-remove_other s.sessions to at (λ same. None≢Some (sym g.0 ∙ ap (map.get s.sessions) same ∙ f.found.is_open))
+      ∙ g.0,
+  g.1,
+)
 gone_after s ask secret now (Stores name digest blob) f at g = g
 gone_after s ask secret now (Mounts name digest) f at g = g
 
-pub gone_turn : (s : State) (x : Exchange) (t : State) (at : List ℕ) → Turn s x.ask x.secret x.now x.answer t → IsGone s at → IsGone t at
+pub gone_turn : (s : State) (x : Exchange) (t : State) (at : List ℕ) → Turn s x.ask x.secret x.now x.answer t
+    → IsGone s at → IsGone t at
 unfolding Turn
-gone_turn s x t at (inl did) g = subst (λ q. IsGone q at) (sym did.1) (gone_after s x.ask x.secret x.now (outcome s x.ask x.secret x.now) (outcome_sound s x.now x.ask x.secret) at g)
+gone_turn s x t at (inl did) g =
+    subst (λ q. IsGone q at) (sym did.1)
+    (gone_after s x.ask x.secret x.now (outcome s x.ask x.secret x.now) (outcome_sound s x.now x.ask x.secret) at g)
 gone_turn s x t at (inr lacked) g = subst (λ q. IsGone q at) (sym lacked.2) g
 
 pub gone_run : (xs : List Exchange) (s t : State) (at : List ℕ) → Run s xs t → IsGone s at → IsGone t at
@@ -152,9 +197,12 @@ unfolding Turn
 gone_run [] s t at e g = subst (λ q. IsGone q at) (sym e) g
 gone_run (x ∷ xs) s t at (mid, turn, rest) g = gone_run xs mid t at rest (gone_turn s x mid at turn g)
 
-pub numbered_turn : (s : State) (x : Exchange) (t : State) → Turn s x.ask x.secret x.now x.answer t → IsNumbered s → IsNumbered t
+pub numbered_turn : (s : State) (x : Exchange) (t : State) → Turn s x.ask x.secret x.now x.answer t
+    → IsNumbered s → IsNumbered t
 unfolding Turn
-numbered_turn s x t (inl did) h = subst IsNumbered (sym did.1) (numbered_after s x.ask x.secret x.now (outcome s x.ask x.secret x.now) (outcome_sound s x.now x.ask x.secret) h)
+numbered_turn s x t (inl did) h =
+    subst IsNumbered (sym did.1)
+    (numbered_after s x.ask x.secret x.now (outcome s x.ask x.secret x.now) (outcome_sound s x.now x.ask x.secret) h)
 numbered_turn s x t (inr lacked) h = subst IsNumbered (sym lacked.2) h
 
 pub numbered_run : (xs : List Exchange) (s t : State) → Run s xs t → IsNumbered s → IsNumbered t
@@ -162,17 +210,22 @@ unfolding Turn
 numbered_run [] s t e h = subst IsNumbered (sym e) h
 numbered_run (x ∷ xs) s t (mid, turn, rest) h = numbered_run xs mid t rest (numbered_turn s x mid turn h)
 
-grew_turn : (s : State) (x : Exchange) (t : State) (at : List ℕ) → Turn s x.ask x.secret x.now x.answer t → IsNumbered s → IsGone t at ⊎ Grew s t at x
+grew_turn : (s : State) (x : Exchange) (t : State) (at : List ℕ) → Turn s x.ask x.secret x.now x.answer t → IsNumbered s
+    → IsGone t at ⊎ Grew s t at x
 unfolding Turn
 grew_turn s x t at (inl did) h =
-    subst (λ q. IsGone q at ⊎ Grew s q at x) (sym did.1) (grows s x (outcome s x.ask x.secret x.now) (outcome_sound s x.now x.ask x.secret) h did.0 at)
+    subst (λ q. IsGone q at ⊎ Grew s q at x) (sym did.1)
+    (grows s x (outcome s x.ask x.secret x.now) (outcome_sound s x.now x.ask x.secret) h did.0 at)
 grew_turn s x t at (inr lacked) h =
-    inr (kept s t at x (ap (λ q. map.get q.sessions at) lacked.2) (gave_none x at (not_accepted x.ask x.answer (ap is_taken lacked.1) (ap is_stored lacked.1))))
+    inr (kept s t at x (ap (λ q. map.get q.sessions at) lacked.2)
+    (gave_none x at (not_accepted x.ask x.answer (ap is_taken lacked.1) (ap is_stored lacked.1))))
 
 -- THE INVARIANT: what an open session has is what it received.
-pub open_is_received : (xs : List Exchange) (s t : State) (at : List ℕ) (session : Session) → Run s xs t → IsNumbered s → map.get t.sessions at ≡ Some session → session.received ≡ received s xs at
+pub open_is_received : (xs : List Exchange) (s t : State) (at : List ℕ) (session : Session) → Run s xs t → IsNumbered s
+    → map.get t.sessions at ≡ Some session → session.received ≡ received s xs at
 unfolding Turn
-open_is_received [] s t at session e h is = ap bytes_of (sym is ∙ ap (λ q. map.get q.sessions at) e) ∙ sym (append_none _)
+open_is_received [] s t at session e h is =
+    ap bytes_of (sym is ∙ ap (λ q. map.get q.sessions at) e) ∙ sym (append_none _)
 open_is_received (x ∷ xs) s t at session (mid, turn, rest) h is =
     open_is_received xs mid t at session rest (numbered_turn s x mid turn h) is
     ∙ elim (grew_turn s x mid at turn h) as (λ _. received mid xs at ≡ received s (x ∷ xs) at) [

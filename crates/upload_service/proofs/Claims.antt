@@ -21,34 +21,49 @@ pub record Moment (start : State) (front : List Exchange) (before : State) (x : 
   pub turn : Turn before x.ask x.secret x.now x.answer after
 
 abbrev pub CommitsItsChunks : Type 0
-CommitsItsChunks = (start : State) (front : List Exchange) (before : State) (x : Exchange) (after : State) → Moment start front before x after
+CommitsItsChunks =
+    (start : State) (front : List Exchange) (before : State) (x : Exchange) (after : State)
+    → Moment start front before x after
     → (name at : List ℕ) (range : Extent) (asked : Option Digest) (body : List ℕ) (name' : List ℕ) (digest : Digest)
     → x.ask ≡ asks.Close name at range asked body → x.answer ≡ answers.Stored name' digest
     → IsCommitted (received start (front ++ x ∷ []) at) name name' asked digest after
 
 abbrev pub MissedChunkChangesNothing : Type 0
-MissedChunkChangesNothing = (start : State) (front : List Exchange) (before : State) (x : Exchange) (after : State) → Moment start front before x after
-    → (aim : Aim) → aim_of x.ask ≡ Some aim → IsAwake before x.now aim.name aim.at → aim.first ≢ length (received start front aim.at)
+MissedChunkChangesNothing =
+    (start : State) (front : List Exchange) (before : State) (x : Exchange) (after : State)
+    → Moment start front before x after
+    → (aim : Aim) → aim_of x.ask ≡ Some aim → IsAwake before x.now aim.name aim.at
+    → aim.first ≢ length (received start front aim.at)
     → (x.answer ≡ answers.Misplaced aim.name aim.at (length (received start front aim.at))) × (after ≡ before)
 
 abbrev pub MisplacedOnlyThere : Type 0
-MisplacedOnlyThere = (start : State) (front : List Exchange) (before : State) (x : Exchange) (after : State) → Moment start front before x after
+MisplacedOnlyThere =
+    (start : State) (front : List Exchange) (before : State) (x : Exchange) (after : State)
+    → Moment start front before x after
     → (name at : List ℕ) (next : ℕ) → x.answer ≡ answers.Misplaced name at next
-    → (first : ℕ) × (aim_of x.ask ≡ Some (record { name = name; at = at; first = first })) × IsAwake before x.now name at × (next ≡ length (received start front at)) × (first ≢ next)
+    → (first : ℕ) × (aim_of x.ask ≡ Some (record { name = name; at = at; first = first }))
+    × IsAwake before x.now name at × (next ≡ length (received start front at)) × (first ≢ next)
 
 abbrev pub ClosedTakesNothing : Type 0
-ClosedTakesNothing = (start : State) (front : List Exchange) (before : State) (x : Exchange) (after : State) → Moment start front before x after
+ClosedTakesNothing =
+    (start : State) (front : List Exchange) (before : State) (x : Exchange) (after : State)
+    → Moment start front before x after
     → (at : List ℕ) → IsTrue (is_closed start front at x.now) → IsTrue (carries at x.ask)
     → (x.answer ≡ answers.Refused refusals.NoUpload) × (after ≡ before)
 
 abbrev pub AnsweredAsAlone : Type 0
-AnsweredAsAlone = (start : State) (xs : List Exchange) (end : State) → IsLawful start → NeverFall xs → Run start xs end → (at : List ℕ) → IsToldAsAlone start xs at
+AnsweredAsAlone =
+    (start : State) (xs : List Exchange) (end : State) → IsLawful start → NeverFall xs → Run start xs end
+    → (at : List ℕ) → IsToldAsAlone start xs at
 
 abbrev pub StoreIsWhatWasStored : Type 0
-StoreIsWhatWasStored = (start : State) (xs : List Exchange) (end : State) → IsLawful start → Run start xs end → IsStoreAfter start xs end
+StoreIsWhatWasStored =
+    (start : State) (xs : List Exchange) (end : State) → IsLawful start → Run start xs end → IsStoreAfter start xs end
 
 abbrev pub BlobIsWhatWasStored : Type 0
-BlobIsWhatWasStored = (start : State) (front : List Exchange) (before : State) (x : Exchange) (after : State) → Moment start front before x after
+BlobIsWhatWasStored =
+    (start : State) (front : List Exchange) (before : State) (x : Exchange) (after : State)
+    → Moment start front before x after
     → (name : List ℕ) (digest : Digest) (head : Bool) (of : Digest) (size : ℕ) (bytes : Option (List ℕ))
     → x.ask ≡ asks.Has name digest head → x.answer ≡ answers.Blob of size bytes
     → IsHandedOut digest head (last_under digest (stored start front) (map.get start.blobs digest)) of size bytes

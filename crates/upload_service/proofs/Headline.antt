@@ -1,5 +1,6 @@
 -- The headline: what a session commits, what a chunk that misses does, and what a closed session takes.
-use Rattle.std.proofs.Common.{◌≡◌, ◌≢◌, ℕ, ◌+◌, ◌-◌, List, [], ◌∷◌, ◌++◌, length, Bool, true, false, Option, Some, None, refl, sym, ◌∙◌, ap, subst, inl, inr, not}
+use Rattle.std.proofs.Common.{◌≡◌, ◌≢◌, ℕ, ◌+◌, ◌-◌, List, [], ◌∷◌, ◌++◌, length, Bool, true, false, Option, Some, None}
+use Rattle.std.proofs.Common.{refl, sym, ◌∙◌, ap, subst, inl, inr, not}
 use Rattle.std.specs.Prelude.{◌||◌, ◌==◌, nat_lt, if◌then◌else◌}
 use Rattle.std.proofs.lemmas.Bool.{true≢false}
 use Rattle.std.specs.FinMap as map
@@ -12,14 +13,18 @@ use Rattle.upload_service.specs.declared.ask.Ask.{Ask}
 use Rattle.upload_service.specs.declared.ask.Ask.TheVariants as asks
 use Rattle.upload_service.specs.declared.answer.Answer.{Answer}
 use Rattle.upload_service.specs.declared.answer.Answer.TheVariants as answers
-use Rattle.upload_service.specs.UploadView.{Act, Sends, AsksOffset, Closes, UploadView, OfSession, upload_view, on_session}
-use Rattle.upload_service.specs.Machine.{same, unless_idle, awake, Session, State, Outcome, Replies, Begins, Takes, Commits, Stores, Mounts, answer_of, state_after, refused, size_fault, body_fault, unless_fault, at_session, holds, outcome}
+use Rattle.upload_service.specs.UploadView.{Act, Sends, AsksOffset, Closes, UploadView, OfSession, upload_view}
+use Rattle.upload_service.specs.UploadView.{on_session}
+use Rattle.upload_service.specs.Machine.{same, unless_idle, awake, Session, State, Outcome, Replies, Begins, Takes}
+use Rattle.upload_service.specs.Machine.{Commits, Stores, Mounts, answer_of, state_after, refused, size_fault}
+use Rattle.upload_service.specs.Machine.{body_fault, unless_fault, at_session, holds, outcome}
 use Rattle.upload_service.proofs.Tables.{eq_from_same}
 use Rattle.std.specs.Prelude.{◌&&◌}
 use Rattle.std.specs.List.{list_any}
 use Rattle.std.proofs.lemmas.Bool.{eqb-true, false_from_ne_true}
 use Rattle.upload_service.specs.Machine.{Turn, IsLawful, may_lack_memory}
-use Rattle.upload_service.proofs.Claims.{CommitsItsChunks, MissedChunkChangesNothing, MisplacedOnlyThere, ClosedTakesNothing}
+use Rattle.upload_service.proofs.Claims.{CommitsItsChunks, MissedChunkChangesNothing, MisplacedOnlyThere}
+use Rattle.upload_service.proofs.Claims.{ClosedTakesNothing}
 use Rattle.upload_service.specs.Run.{Exchange, Run}
 use Rattle.upload_service.specs.Session.{carries, is_stored, accepted_of, joined, received, closed_by, closes_of}
 use Rattle.upload_service.specs.Headline.{Aim, aim_by, aim_of, IsCommitted}
@@ -30,17 +35,19 @@ use Rattle.upload_service.proofs.Turns.{IsNumbered, IsGone}
 use Rattle.upload_service.proofs.Alone.{numbered_if_lawful}
 use Rattle.upload_service.specs.Session.{is_lapsed, seen_of}
 use Rattle.upload_service.proofs.Idle.{over_not_awake, lapsed_is_over, tracks_at_start}
-use Rattle.upload_service.proofs.Chunks.{append_none, gave, gave_own, received-push, reply_not_accepted, gone_run, numbered_run, numbered_turn, open_is_received}
+use Rattle.upload_service.proofs.Chunks.{append_none, gave, gave_own, received-push, reply_not_accepted, gone_run}
+use Rattle.upload_service.proofs.Chunks.{numbered_run, numbered_turn, open_is_received}
 
 -- committed by a session
-committed : (start : State) (front : List Exchange) (before : State) (x : Exchange) (o : Outcome) → IsLawful start → Run start front before
-    → IsOutcome before x.ask x.secret x.now o → x.answer ≡ answer_of o
+committed : (start : State) (front : List Exchange) (before : State) (x : Exchange) (o : Outcome) → IsLawful start
+    → Run start front before → IsOutcome before x.ask x.secret x.now o → x.answer ≡ answer_of o
     → (name at : List ℕ) (range : Extent) (asked : Option Digest) (body : List ℕ) (name' : List ℕ) (digest : Digest)
     → x.ask ≡ asks.Close name at range asked body → x.answer ≡ answers.Stored name' digest
     → IsCommitted (received start (front ++ x ∷ []) at) name name' asked digest (state_after before x.now o)
 unfolding Turn
 committed start front before x (Replies answer) lawful run f e name at range asked body name' digest a r =
-    absurd (let bad : IsReply before x.now x.ask (answers.Stored name' digest) = subst (IsReply before x.now x.ask) (sym e ∙ r) f in bad)
+    absurd (let bad : IsReply before x.now x.ask (answers.Stored name' digest) =
+    subst (IsReply before x.now x.ask) (sym e ∙ r) f in bad)
 committed start front before x (Begins n to) lawful run f e name at range asked body name' digest a r =
     let no : answers.Begun n to ≡ answers.Stored name' digest = sym e ∙ r in cc
 committed start front before x (Takes n to got) lawful run f e name at range asked body name' digest a r =
@@ -57,10 +64,12 @@ committed start front before x (Commits n to d blob) lawful run f e name at rang
     let carried : carries at x.ask ≡ true = ap (carries at) a ∙ same_itself at in
     let g : gave at x ≡ body ∷ [] = gave_own x at carried ∙ (λ i. accepted_of (a i) (r i)) in
     let had : f.found.session.received ≡ received start front at =
-    open_is_received front start before at f.found.session run (numbered_if_lawful start lawful) (ap (map.get before.sessions) (sym to_is) ∙ f.found.is_open) in
+    open_is_received front start before at f.found.session run (numbered_if_lawful start lawful)
+    (ap (map.get before.sessions) (sym to_is) ∙ f.found.is_open) in
     let blob_is : blob ≡ received start (front ++ x ∷ []) at =
     f.grown ∙ (λ i. had i ++ body_is i)
-    ∙ sym (received-push start front x at ∙ ap (λ c. received start front at ++ joined c) g ∙ ap (λ b. received start front at ++ b) (append_none body)) in
+    ∙ sym (received-push start front x at ∙ ap (λ c. received start front at ++ joined c) g
+    ∙ ap (λ b. received start front at ++ b) (append_none body)) in
     let new : State = state_after before x.now (Commits n to d blob) in
     let n'_is : n ≡ name' = cc in
     record {
@@ -81,7 +90,8 @@ commits_its_chunks start front before x after m name at range asked body name' d
     elim m.turn [
       | inl did ↦
           subst (IsCommitted (received start (front ++ x ∷ []) at) name name' asked digest) (sym did.1)
-          (committed start front before x (outcome before x.ask x.secret x.now) m.lawful m.so_far (outcome_sound before x.now x.ask x.secret) did.0 name at range asked body name' digest a r)
+          (committed start front before x (outcome before x.ask x.secret x.now) m.lawful m.so_far
+          (outcome_sound before x.now x.ask x.secret) did.0 name at range asked body name' digest a r)
       | inr lacked ↦ let no : answers.NoMemory ≡ answers.Stored name' digest = sym lacked.1 ∙ r in cc
     ]
 
@@ -91,37 +101,45 @@ misses_next : (max_blob : ℕ) (name at : List ℕ) (next : ℕ) (r : Span) (bod
 misses_next max_blob name at next r body o n =
     let e : (r.first == next) ≡ false = false_from_ne_true _ (λ is. n (eqb-true _ _ is)) in
     ap (λ b. unless_fault (if not b then Some (answers.Misplaced name at next)
-    else if nat_lt r.last r.first || not (r.last - r.first + 1 == length body) then Some (answers.Refused refusals.WrongLength)
+    else if nat_lt r.last r.first
+    || not (r.last - r.first + 1 == length body) then Some (answers.Refused refusals.WrongLength)
     else size_fault max_blob next body) o) e
 
-missed_act : (s : State) (now : ℕ) (aim : Aim) (session : Session) → awake s now aim.at ≡ Some session → session.name ≡ aim.name → aim.first ≢ length session.received
-    → (name at : List ℕ) (act : Act) → aim_by name at act ≡ Some aim
-    → at_session s.limits.max_blob (awake s now at) name at act ≡ Replies (answers.Misplaced aim.name aim.at (length session.received))
+missed_act : (s : State) (now : ℕ) (aim : Aim) (session : Session) → awake s now aim.at ≡ Some session
+    → session.name ≡ aim.name → aim.first ≢ length session.received → (name at : List ℕ) (act : Act)
+    → aim_by name at act ≡ Some aim → at_session s.limits.max_blob (awake s now at) name at act
+    ≡ Replies (answers.Misplaced aim.name aim.at (length session.received))
 missed_act s now aim session is_awake named miss name at (Sends (Given r) body) e =
     let is : ◌≡◌ {A = Aim} (record { name = name; at = at; first = r.first }) aim = cc in
     let missed_r : r.first ≢ length session.received = λ q. miss (ap (λ (a : Aim). a.first) (sym is) ∙ q) in
-    named_session s.limits.max_blob (awake s now at) session name at _ (ap (λ (a : Aim). awake s now a.at) is ∙ is_awake) (named ∙ ap (λ (a : Aim). a.name) (sym is))
+    named_session s.limits.max_blob (awake s now at) session name at _
+    (ap (λ (a : Aim). awake s now a.at) is ∙ is_awake) (named ∙ ap (λ (a : Aim). a.name) (sym is))
     ∙ misses_next s.limits.max_blob name at (length session.received) r body _ missed_r
     ∙ ap (λ (a : Aim). Replies (answers.Misplaced a.name a.at (length session.received))) is
 missed_act s now aim session is_awake named miss name at (Closes (Given r) digest body) e =
     let is : ◌≡◌ {A = Aim} (record { name = name; at = at; first = r.first }) aim = cc in
     let missed_r : r.first ≢ length session.received = λ q. miss (ap (λ (a : Aim). a.first) (sym is) ∙ q) in
-    named_session s.limits.max_blob (awake s now at) session name at _ (ap (λ (a : Aim). awake s now a.at) is ∙ is_awake) (named ∙ ap (λ (a : Aim). a.name) (sym is))
+    named_session s.limits.max_blob (awake s now at) session name at _
+    (ap (λ (a : Aim). awake s now a.at) is ∙ is_awake) (named ∙ ap (λ (a : Aim). a.name) (sym is))
     ∙ misses_next s.limits.max_blob name at (length session.received) r body _ missed_r
     ∙ ap (λ (a : Aim). Replies (answers.Misplaced a.name a.at (length session.received))) is
 missed_act s now aim session is_awake named miss name at other e = cc
 
-missed : (s : State) (secret : List ℕ) (now : ℕ) (aim : Aim) (session : Session) → awake s now aim.at ≡ Some session → session.name ≡ aim.name → aim.first ≢ length session.received
-    → (ask : Ask) → aim_of ask ≡ Some aim → outcome s ask secret now ≡ Replies (answers.Misplaced aim.name aim.at (length session.received))
+missed : (s : State) (secret : List ℕ) (now : ℕ) (aim : Aim) (session : Session) → awake s now aim.at ≡ Some session
+    → session.name ≡ aim.name → aim.first ≢ length session.received → (ask : Ask) → aim_of ask ≡ Some aim
+    → outcome s ask secret now ≡ Replies (answers.Misplaced aim.name aim.at (length session.received))
 missed s secret now aim session is_awake named miss ask e = by_view (upload_view ask) refl e
   where
     by_view : (v : UploadView) → upload_view ask ≡ v → on_session v None aim_by ≡ Some aim
         → outcome s ask secret now ≡ Replies (answers.Misplaced aim.name aim.at (length session.received))
-    by_view (OfSession name at act) is aims = outcome_of_view s ask secret now name at act is ∙ missed_act s now aim session is_awake named miss name at act aims
+    by_view (OfSession name at act) is aims =
+        outcome_of_view s ask secret now name at act is
+        ∙ missed_act s now aim session is_awake named miss name at act aims
     by_view other is aims = cc
 
 -- a turn whose outcome hands nothing out
-plain_turn : (s : State) (x : Exchange) (t : State) (answer : Answer) → Turn s x.ask x.secret x.now x.answer t → outcome s x.ask x.secret x.now ≡ Replies answer → may_lack_memory (Replies answer) ≡ false
+plain_turn : (s : State) (x : Exchange) (t : State) (answer : Answer) → Turn s x.ask x.secret x.now x.answer t
+    → outcome s x.ask x.secret x.now ≡ Replies answer → may_lack_memory (Replies answer) ≡ false
     → (x.answer ≡ answer) × (t ≡ s)
 unfolding Turn
 plain_turn s x t answer (inl did) e plain = (did.0 ∙ ap answer_of e, did.1 ∙ ap (state_after s x.now) e)
@@ -130,14 +148,18 @@ plain_turn s x t answer (inr lacked) e plain = absurd (true≢false (sym lacked.
 pub missed_chunk_changes_nothing : MissedChunkChangesNothing
 unfolding Turn
 missed_chunk_changes_nothing start front before x after m aim aimed (session, is_awake, named) miss =
-    let is_open : map.get before.sessions aim.at ≡ Some session = (awake_is_open before.limits.max_idle x.now (map.get before.sessions aim.at) session is_awake).0 in
-    let had : session.received ≡ received start front aim.at = open_is_received front start before aim.at session m.so_far (numbered_if_lawful start m.lawful) is_open in
-    let e : outcome before x.ask x.secret x.now ≡ Replies (answers.Misplaced aim.name aim.at (length (received start front aim.at))) =
+    let is_open : map.get before.sessions aim.at ≡ Some session =
+    (awake_is_open before.limits.max_idle x.now (map.get before.sessions aim.at) session is_awake).0 in
+    let had : session.received ≡ received start front aim.at =
+    open_is_received front start before aim.at session m.so_far (numbered_if_lawful start m.lawful) is_open in
+    let e : outcome before x.ask x.secret x.now
+    ≡ Replies (answers.Misplaced aim.name aim.at (length (received start front aim.at))) =
     missed before x.secret x.now aim session is_awake named (λ q. miss (q ∙ ap length had)) x.ask aimed
     ∙ ap (λ b. Replies (answers.Misplaced aim.name aim.at (length b))) had in
     plain_turn before x after _ m.turn e refl
 
-misplaced_fact : (s : State) (ask : Ask) (secret : List ℕ) (now : ℕ) (o : Outcome) (name at : List ℕ) (next : ℕ) → IsOutcome s ask secret now o → answer_of o ≡ answers.Misplaced name at next → IsMisplaced s now ask name at next
+misplaced_fact : (s : State) (ask : Ask) (secret : List ℕ) (now : ℕ) (o : Outcome) (name at : List ℕ) (next : ℕ)
+    → IsOutcome s ask secret now o → answer_of o ≡ answers.Misplaced name at next → IsMisplaced s now ask name at next
 misplaced_fact s ask secret now (Replies answer) name at next f e = subst (IsReply s now ask) e f
 misplaced_fact s ask secret now (Begins n to) name at next f e = cc
 misplaced_fact s ask secret now (Takes n to got) name at next f e = cc
@@ -150,8 +172,12 @@ unfolding Turn
 misplaced_only_there start front before x after m name at next r =
     elim m.turn [
       | inl did ↦
-          let f : IsMisplaced before x.now x.ask name at next = misplaced_fact before x.ask x.secret x.now (outcome before x.ask x.secret x.now) name at next (outcome_sound before x.now x.ask x.secret) (sym did.0 ∙ r) in
-          let had : f.found.session.received ≡ received start front at = open_is_received front start before at f.found.session m.so_far (numbered_if_lawful start m.lawful) f.found.is_open in
+          let f : IsMisplaced before x.now x.ask name at next =
+          misplaced_fact before x.ask x.secret x.now (outcome before x.ask x.secret x.now) name at next
+          (outcome_sound before x.now x.ask x.secret) (sym did.0 ∙ r) in
+          let had : f.found.session.received ≡ received start front at =
+          open_is_received front start before at f.found.session m.so_far (numbered_if_lawful start m.lawful)
+          f.found.is_open in
           (f.first, f.aimed, (f.found.session, f.found.is_awake, f.found.named), f.is_next ∙ ap length had, f.missed)
       | inr lacked ↦ let no : answers.NoMemory ≡ answers.Misplaced name at next = sym lacked.1 ∙ r in cc
     ]
@@ -166,48 +192,68 @@ closed_is_stored (Sends range body) answer e = absurd (true≢false (sym e))
 closed_is_stored AsksOffset answer e = absurd (true≢false (sym e))
 closed_is_stored (Closes range digest body) answer e = e
 
-closing_is_stored : (at : List ℕ) (ask : Ask) (answer : Answer) → closes_of at ask answer ≡ true → is_stored answer ≡ true
+closing_is_stored : (at : List ℕ) (ask : Ask) (answer : Answer) → closes_of at ask answer ≡ true
+    → is_stored answer ≡ true
 closing_is_stored at ask answer e =
     on_each (λ b. b ≡ true → is_stored answer ≡ true) (upload_view ask) false _ (λ c. absurd (true≢false (sym c)))
     (λ name to act c. closed_is_stored act answer (and_true (same at to) _ c).1) e
 
-closing : (s : State) (x : Exchange) (o : Outcome) (at : List ℕ) → IsOutcome s x.ask x.secret x.now o → IsNumbered s → x.answer ≡ answer_of o → closes_of at x.ask x.answer ≡ true → IsGone (state_after s x.now o) at
+closing : (s : State) (x : Exchange) (o : Outcome) (at : List ℕ) → IsOutcome s x.ask x.secret x.now o → IsNumbered s
+    → x.answer ≡ answer_of o → closes_of at x.ask x.answer ≡ true → IsGone (state_after s x.now o) at
 closing s x (Replies answer) at f h e c =
-    absurd (true≢false (sym (closing_is_stored at x.ask x.answer c) ∙ ap is_stored e ∙ (reply_not_accepted s x.now x.ask answer f).1))
-closing s x (Begins n to) at f h e c = absurd (true≢false (sym (closing_is_stored at x.ask x.answer c) ∙ ap is_stored e))
-closing s x (Takes n to got) at f h e c = absurd (true≢false (sym (closing_is_stored at x.ask x.answer c) ∙ ap is_stored e))
+    absurd (true≢false
+    (sym (closing_is_stored at x.ask x.answer c) ∙ ap is_stored e ∙ (reply_not_accepted s x.now x.ask answer f).1))
+closing s x (Begins n to) at f h e c =
+    absurd (true≢false (sym (closing_is_stored at x.ask x.answer c) ∙ ap is_stored e))
+closing s x (Takes n to got) at f h e c =
+    absurd (true≢false (sym (closing_is_stored at x.ask x.answer c) ∙ ap is_stored e))
 closing s x (Commits n to d blob) at f h e c =
-    let is : at ≡ to = eq_from_same at to (and_true (same at to) _ (sym (ap (λ a. closes_of at a x.answer) f.asked) ∙ c)).0 in
-    (ap (map.get (map.remove s.sessions to)) is ∙ get-remove_same s.sessions to, h at f.found.session (ap (map.get s.sessions) is ∙ f.found.is_open))
+    let is : at ≡ to =
+    eq_from_same at to (and_true (same at to) _ (sym (ap (λ a. closes_of at a x.answer) f.asked) ∙ c)).0 in (
+      ap (map.get (map.remove s.sessions to)) is ∙ get-remove_same s.sessions to,
+      h at f.found.session (ap (map.get s.sessions) is ∙ f.found.is_open),
+    )
 closing s x (Stores n d blob) at f h e c = absurd (true≢false (sym c ∙ ap (λ a. closes_of at a x.answer) f.asked))
 closing s x (Mounts n d) at f h e c = absurd (true≢false (sym c ∙ ap (λ a. closes_of at a x.answer) f.asked))
 
-closing_turn : (s : State) (x : Exchange) (t : State) (at : List ℕ) → Turn s x.ask x.secret x.now x.answer t → IsNumbered s → closes_of at x.ask x.answer ≡ true → IsGone t at
+closing_turn : (s : State) (x : Exchange) (t : State) (at : List ℕ) → Turn s x.ask x.secret x.now x.answer t
+    → IsNumbered s → closes_of at x.ask x.answer ≡ true → IsGone t at
 unfolding Turn
-closing_turn s x t at (inl did) h c = subst (λ q. IsGone q at) (sym did.1) (closing s x (outcome s x.ask x.secret x.now) at (outcome_sound s x.now x.ask x.secret) h did.0 c)
-closing_turn s x t at (inr lacked) h c = absurd (true≢false (sym (closing_is_stored at x.ask x.answer c) ∙ ap is_stored lacked.1))
+closing_turn s x t at (inl did) h c =
+    subst (λ q. IsGone q at) (sym did.1)
+    (closing s x (outcome s x.ask x.secret x.now) at (outcome_sound s x.now x.ask x.secret) h did.0 c)
+closing_turn s x t at (inr lacked) h c =
+    absurd (true≢false (sym (closing_is_stored at x.ask x.answer c) ∙ ap is_stored lacked.1))
 
-closed_is_gone : (xs : List Exchange) (s t : State) (at : List ℕ) → Run s xs t → IsNumbered s → list_any (λ x. closes_of at x.ask x.answer) xs ≡ true → IsGone t at
+closed_is_gone : (xs : List Exchange) (s t : State) (at : List ℕ) → Run s xs t → IsNumbered s
+    → list_any (λ x. closes_of at x.ask x.answer) xs ≡ true → IsGone t at
 unfolding Turn
 closed_is_gone [] s t at run h c = absurd (true≢false (sym c))
 closed_is_gone (x ∷ xs) s t at (mid, turn, rest) h c =
-    elim (closes_of at x.ask x.answer) as (λ b. closes_of at x.ask x.answer ≡ b → (b || list_any (λ y. closes_of at y.ask y.answer) xs) ≡ true → IsGone t at) [
+    elim (closes_of at x.ask x.answer) as (λ b. closes_of at x.ask x.answer ≡ b
+    → (b || list_any (λ y. closes_of at y.ask y.answer) xs) ≡ true → IsGone t at) [
       | true ↦ λ e _. gone_run xs mid t at rest (closing_turn s x mid at turn h e)
       | false ↦ λ _ later. closed_is_gone xs mid t at rest (numbered_turn s x mid turn h) later
     ] refl c
 
-refuses_closed : (s : State) (ask : Ask) (secret : List ℕ) (now : ℕ) (at : List ℕ) → carries at ask ≡ true → awake s now at ≡ None → outcome s ask secret now ≡ refused refusals.NoUpload
+refuses_closed : (s : State) (ask : Ask) (secret : List ℕ) (now : ℕ) (at : List ℕ) → carries at ask ≡ true
+    → awake s now at ≡ None → outcome s ask secret now ≡ refused refusals.NoUpload
 refuses_closed s ask secret now at c none =
     let to = carried at ask c in
-    outcome_of_view s ask secret now to.name at to.act to.view ∙ ap (λ o. at_session s.limits.max_blob o to.name at to.act) none
+    outcome_of_view s ask secret now to.name at to.act to.view
+    ∙ ap (λ o. at_session s.limits.max_blob o to.name at to.act) none
 
 pub closed_takes_nothing : ClosedTakesNothing
 unfolding Turn
 closed_takes_nothing start front before x after m at closed c =
     let h : IsNumbered start = numbered_if_lawful start m.lawful in
     let none : awake before x.now at ≡ None =
-    elim (list_any (λ y. closes_of at y.ask y.answer) front) as (λ b. list_any (λ y. closes_of at y.ask y.answer) front ≡ b → (b || is_lapsed start.limits.max_idle at (seen_of (map.get start.sessions at)) front x.now) ≡ true → awake before x.now at ≡ None) [
-      | true ↦ λ e _. ap (unless_idle before.limits.max_idle x.now) (closed_is_gone front start before at m.so_far h e).0
-      | false ↦ λ _ lapsed. over_not_awake before x.now at (lapsed_is_over start.limits at x front start before 0 _ refl h (tracks_at_start start at h) m.never_fall m.so_far lapsed)
+    elim (list_any (λ y. closes_of at y.ask y.answer) front) as (λ b. list_any (λ y. closes_of at y.ask y.answer) front
+    ≡ b → (b || is_lapsed start.limits.max_idle at (seen_of (map.get start.sessions at)) front x.now) ≡ true
+    → awake before x.now at ≡ None) [
+      | true ↦
+          λ e _. ap (unless_idle before.limits.max_idle x.now) (closed_is_gone front start before at m.so_far h e).0
+      | false ↦ λ _ lapsed. over_not_awake before x.now at (lapsed_is_over start.limits at x front start before 0 _ refl
+          h (tracks_at_start start at h) m.never_fall m.so_far lapsed)
     ] refl closed in
     plain_turn before x after _ m.turn (refuses_closed before x.ask x.secret x.now at c none) refl

@@ -1,5 +1,6 @@
 -- Sessions that fell idle, and what other requests leave of a session.
-use Rattle.std.proofs.Common.{◌≡◌, ℕ, ◌+◌, ◌<◌, ◌≤◌, List, [], ◌∷◌, ◌++◌, Bool, true, false, Option, Some, None, refl, sym, ◌∙◌, ap, subst, ◌⊎◌, inl, inr, cond, arith}
+use Rattle.std.proofs.Common.{◌≡◌, ℕ, ◌+◌, ◌<◌, ◌≤◌, List, [], ◌∷◌, ◌++◌, Bool, true, false, Option, Some, None, refl}
+use Rattle.std.proofs.Common.{sym, ◌∙◌, ap, subst, ◌⊎◌, inl, inr, cond, arith}
 use Rattle.std.specs.Prelude.{◌||◌, ◌&&◌, IsTrue}
 use Rattle.std.proofs.lemmas.Bool.{true≢false, ltb-true}
 use Rattle.std.specs.FinMap as map
@@ -8,11 +9,13 @@ use Rattle.upload_service.specs.declared.limits.Limits.{Limits}
 use Rattle.upload_service.specs.declared.ask.Ask.{Ask}
 use Rattle.upload_service.specs.declared.answer.Answer.{Answer}
 use Rattle.upload_service.specs.declared.answer.Answer.TheVariants as answers
-use Rattle.upload_service.specs.Machine.{same, is_idle, unless_idle, awake, swept, Session, State, Outcome, Replies, Begins, Takes, Commits, Stores, Mounts, answer_of, state_after, outcome, Turn}
+use Rattle.upload_service.specs.Machine.{same, is_idle, unless_idle, awake, swept, Session, State, Outcome, Replies}
+use Rattle.upload_service.specs.Machine.{Begins, Takes, Commits, Stores, Mounts, answer_of, state_after, outcome, Turn}
 use Rattle.upload_service.specs.Run.{Exchange, Run, NeverBefore}
 use Rattle.upload_service.specs.Session.{carries, begins, is_taken, touches, seen_of, is_late, is_lapsed}
 use Rattle.upload_service.specs.Headline.{OthersLeaveIt}
-use Rattle.upload_service.proofs.Tables.{one_or_two, get-insert_same, get-insert_other, get-remove_same, get-remove_other, same_from_eq, same_from_ne, ne_from_same}
+use Rattle.upload_service.proofs.Tables.{one_or_two, get-insert_same, get-insert_other, get-remove_same}
+use Rattle.upload_service.proofs.Tables.{get-remove_other, same_from_eq, same_from_ne, ne_from_same}
 use Rattle.upload_service.proofs.Steps.{IsReply, IsOutcome, outcome_sound, None≢Some}
 use Rattle.upload_service.proofs.Sweeps.{kept_or_left, was_there, idle_later}
 use Rattle.upload_service.proofs.Turns.{IsNumbered, new_number, not_new}
@@ -21,14 +24,18 @@ use Rattle.upload_service.proofs.Chunks.{numbered_turn, reply_not_accepted}
 
 -- a session that no request reaches from this moment on
 abbrev pub IsOver : State → ℕ → List ℕ → Type 0
-IsOver s now at = (number_of at ≤ s.issued) × ((session : Session) → map.get s.sessions at ≡ Some session → session.seen + s.limits.max_idle < now)
+IsOver s now at =
+    (number_of at ≤ s.issued)
+    × ((session : Session) → map.get s.sessions at ≡ Some session → session.seen + s.limits.max_idle < now)
 
 over_later : (s : State) (from now : ℕ) (at : List ℕ) → from ≤ now → IsOver s from at → IsOver s now at
-over_later s from now at le over = (over.0, λ session e. let lt : session.seen + s.limits.max_idle < from = over.1 session e in omega arith)
+over_later s from now at le over =
+    (over.0, λ session e. let lt : session.seen + s.limits.max_idle < from = over.1 session e in omega arith)
 
 -- what this leaves of a table is of the table
-over_by : (s t : State) (from now : ℕ) (at : List ℕ) → ((session : Session) → map.get t.sessions at ≡ Some session → map.get s.sessions at ≡ Some session) → s.issued ≤ t.issued → t.limits ≡ s.limits → from ≤ now
-    → IsOver s from at → IsOver t now at
+over_by : (s t : State) (from now : ℕ) (at : List ℕ)
+    → ((session : Session) → map.get t.sessions at ≡ Some session → map.get s.sessions at ≡ Some session)
+    → s.issued ≤ t.issued → t.limits ≡ s.limits → from ≤ now → IsOver s from at → IsOver t now at
 over_by s t from now at there le k later over =
     let n : number_of at ≤ s.issued = over.0 in (
       omega arith,
@@ -38,17 +45,21 @@ over_by s t from now at there le k later over =
           omega arith,
     )
 
-over_after : (s : State) (ask : Ask) (secret : List ℕ) (from now : ℕ) (o : Outcome) → IsOutcome s ask secret now o → from ≤ now → (at : List ℕ) → IsOver s from at → IsOver (state_after s now o) now at
+over_after : (s : State) (ask : Ask) (secret : List ℕ) (from now : ℕ) (o : Outcome) → IsOutcome s ask secret now o
+    → from ≤ now → (at : List ℕ) → IsOver s from at → IsOver (state_after s now o) now at
 over_after s ask secret from now (Replies answer) f later at over = over_later s from now at later over
 over_after s ask secret from now (Begins name new) f later at over =
     over_by s (state_after s now (Begins name new)) from now at
-    (λ session e. was_there s now at session (sym (get-insert_other (swept s now) new _ at (not_new s secret at new f.is_new f.numbers_left over.0)) ∙ e))
+    (λ session e. was_there s now at session
+    (sym (get-insert_other (swept s now) new _ at (not_new s secret at new f.is_new f.numbers_left over.0)) ∙ e))
     (omega arith) refl later over
 over_after s ask secret from now (Takes name to got) f later at over =
     over_by s (state_after s now (Takes name to got)) from now at
     (λ session e. elim (one_or_two at to) [
       | inl same ↦
-          let idle : is_idle s.limits.max_idle now f.found.session ≡ true = idle_later s.limits.max_idle from now f.found.session (over.1 f.found.session (ap (map.get s.sessions) same ∙ f.found.is_open)) later in
+          let idle : is_idle s.limits.max_idle now f.found.session ≡ true =
+          idle_later s.limits.max_idle from now f.found.session
+          (over.1 f.found.session (ap (map.get s.sessions) same ∙ f.found.is_open)) later in
           absurd (true≢false (sym idle ∙ f.found.not_idle))
       | inr other ↦ sym (get-insert_other s.sessions to _ at other) ∙ e
     ])
@@ -56,28 +67,39 @@ over_after s ask secret from now (Takes name to got) f later at over =
 over_after s ask secret from now (Commits name to digest blob) f later at over =
     over_by s (state_after s now (Commits name to digest blob)) from now at
     (λ session e. elim (one_or_two at to) [
-      | inl same ↦ absurd (None≢Some (sym (get-remove_same s.sessions to) ∙ ap (map.get (map.remove s.sessions to)) (sym same) ∙ e))
+      | inl same ↦ absurd
+          (None≢Some (sym (get-remove_same s.sessions to) ∙ ap (map.get (map.remove s.sessions to)) (sym same) ∙ e))
       | inr other ↦ sym (get-remove_other s.sessions to at other) ∙ e
     ])
     (omega arith) refl later over
-over_after s ask secret from now (Stores name digest blob) f later at over = over_by s (state_after s now (Stores name digest blob)) from now at (λ session e. e) (omega arith) refl later over
-over_after s ask secret from now (Mounts name digest) f later at over = over_by s (state_after s now (Mounts name digest)) from now at (λ session e. e) (omega arith) refl later over
+over_after s ask secret from now (Stores name digest blob) f later at over =
+    over_by s (state_after s now (Stores name digest blob)) from now at (λ session e. e) (omega arith) refl later over
+over_after s ask secret from now (Mounts name digest) f later at over =
+    over_by s (state_after s now (Mounts name digest)) from now at (λ session e. e) (omega arith) refl later over
 
-over_turn : (s : State) (x : Exchange) (t : State) (from : ℕ) (at : List ℕ) → from ≤ x.now → Turn s x.ask x.secret x.now x.answer t → IsOver s from at → IsOver t x.now at
+over_turn : (s : State) (x : Exchange) (t : State) (from : ℕ) (at : List ℕ) → from ≤ x.now
+    → Turn s x.ask x.secret x.now x.answer t → IsOver s from at → IsOver t x.now at
 unfolding Turn
-over_turn s x t from at later (inl did) over = subst (λ q. IsOver q x.now at) (sym did.1) (over_after s x.ask x.secret from x.now (outcome s x.ask x.secret x.now) (outcome_sound s x.now x.ask x.secret) later at over)
-over_turn s x t from at later (inr lacked) over = subst (λ q. IsOver q x.now at) (sym lacked.2) (over_later s from x.now at later over)
+over_turn s x t from at later (inl did) over =
+    subst (λ q. IsOver q x.now at) (sym did.1) (over_after s x.ask x.secret from x.now (outcome s x.ask x.secret x.now)
+    (outcome_sound s x.now x.ask x.secret) later at over)
+over_turn s x t from at later (inr lacked) over =
+    subst (λ q. IsOver q x.now at) (sym lacked.2) (over_later s from x.now at later over)
 
-over_run : (x : Exchange) (xs : List Exchange) (s t : State) (from : ℕ) (at : List ℕ) → NeverBefore from (xs ++ x ∷ []) → Run s xs t → IsOver s from at → IsOver t x.now at
+over_run : (x : Exchange) (xs : List Exchange) (s t : State) (from : ℕ) (at : List ℕ) → NeverBefore from (xs ++ x ∷ [])
+    → Run s xs t → IsOver s from at → IsOver t x.now at
 unfolding Turn
-over_run x [] s t from at (later, never) e over = subst (λ q. IsOver q x.now at) (sym e) (over_later s from x.now at later over)
-over_run x (y ∷ ys) s t from at (later, never) (mid, turn, rest) over = over_run x ys mid t y.now at never rest (over_turn s y mid from at later turn over)
+over_run x [] s t from at (later, never) e over =
+    subst (λ q. IsOver q x.now at) (sym e) (over_later s from x.now at later over)
+over_run x (y ∷ ys) s t from at (later, never) (mid, turn, rest) over =
+    over_run x ys mid t y.now at never rest (over_turn s y mid from at later turn over)
 
 pub over_not_awake : (s : State) (now : ℕ) (at : List ℕ) → IsOver s now at → awake s now at ≡ None
 over_not_awake s now at over =
     elim (map.get s.sessions at) as (λ o. map.get s.sessions at ≡ o → unless_idle s.limits.max_idle now o ≡ None) [
       | None ↦ λ _. refl
-      | Some session ↦ λ e. ap (λ b. cond b None (Some session)) (idle_later s.limits.max_idle now now session (over.1 session e) (omega arith))
+      | Some session ↦ λ e. ap (λ b. cond b None (Some session))
+          (idle_later s.limits.max_idle now now session (over.1 session e) (omega arith))
     ] refl
 
 -- when a session was last touched is what the table says of it
@@ -89,17 +111,20 @@ pub tracks_at_start : (s : State) (at : List ℕ) → IsNumbered s → Tracks s 
 tracks_at_start s at h =
     record {
       seen = λ session e. ap seen_of e;
-      issued = λ moment. elim (map.get s.sessions at) as (λ o. map.get s.sessions at ≡ o → seen_of o ≡ Some moment → number_of at ≤ s.issued) [
-        | None ↦ λ _ no. absurd (None≢Some no)
-        | Some session ↦ λ e _. h at session e
-      ] refl;
+      issued =
+          λ moment. elim (map.get s.sessions at)
+          as (λ o. map.get s.sessions at ≡ o → seen_of o ≡ Some moment → number_of at ≤ s.issued) [
+            | None ↦ λ _ no. absurd (None≢Some no)
+            | Some session ↦ λ e _. h at session e
+          ] refl;
     }
 
 abbrev touched_by : List ℕ → Exchange → Option ℕ → Option ℕ
 touched_by at x touched = cond (touches at x) (Some x.now) touched
 
-tracks_kept : (s t : State) (x : Exchange) (at : List ℕ) (touched : Option ℕ) → touches at x ≡ false → ((session : Session) → map.get t.sessions at ≡ Some session → map.get s.sessions at ≡ Some session) → s.issued ≤ t.issued
-    → Tracks s at touched → Tracks t at (touched_by at x touched)
+tracks_kept : (s t : State) (x : Exchange) (at : List ℕ) (touched : Option ℕ) → touches at x ≡ false
+    → ((session : Session) → map.get t.sessions at ≡ Some session → map.get s.sessions at ≡ Some session)
+    → s.issued ≤ t.issued → Tracks s at touched → Tracks t at (touched_by at x touched)
 tracks_kept s t x at touched apart there le tracks =
     subst (λ b. Tracks t at (cond b (Some x.now) touched)) (sym apart)
     (record {
@@ -107,7 +132,9 @@ tracks_kept s t x at touched apart there le tracks =
       issued = λ moment e. let n : number_of at ≤ s.issued = tracks.issued moment e in omega arith;
     })
 
-tracks_new : (t : State) (x : Exchange) (at : List ℕ) (touched : Option ℕ) → touches at x ≡ true → number_of at ≤ t.issued → (name received : List ℕ) → map.get t.sessions at ≡ Some (record { name = name; received = received; seen = x.now })
+tracks_new : (t : State) (x : Exchange) (at : List ℕ) (touched : Option ℕ)
+    → touches at x ≡ true → number_of at ≤ t.issued → (name received : List ℕ)
+    → map.get t.sessions at ≡ Some (record { name = name; received = received; seen = x.now })
     → Tracks t at (touched_by at x touched)
 tracks_new t x at touched own number name received is =
     subst (λ b. Tracks t at (cond b (Some x.now) touched)) (sym own)
@@ -123,55 +150,74 @@ and_false : (a : Bool) → (a && false) ≡ false
 and_false true = refl
 and_false false = refl
 
-touches_none : (at : List ℕ) (x : Exchange) → begins at x.answer ≡ false → is_taken x.answer ≡ false → touches at x ≡ false
+touches_none : (at : List ℕ) (x : Exchange) → begins at x.answer ≡ false → is_taken x.answer ≡ false
+    → touches at x ≡ false
 touches_none at x b t = (λ i. b i || (carries at x.ask && t i)) ∙ and_false (carries at x.ask)
 
-reply_begins_no : (s : State) (now : ℕ) (ask : Ask) (at : List ℕ) (answer : Answer) → IsReply s now ask answer → begins at answer ≡ false
+reply_begins_no : (s : State) (now : ℕ) (ask : Ask) (at : List ℕ) (answer : Answer) → IsReply s now ask answer
+    → begins at answer ≡ false
 reply_begins_no s now ask at (answers.Begun name new) f = absurd f
 reply_begins_no s now ask at other f = refl
 
-tracks_after : (s : State) (x : Exchange) (o : Outcome) → IsOutcome s x.ask x.secret x.now o → IsNumbered s → x.answer ≡ answer_of o → (at : List ℕ) (touched : Option ℕ)
-    → Tracks s at touched → Tracks (state_after s x.now o) at (touched_by at x touched)
+tracks_after : (s : State) (x : Exchange) (o : Outcome) → IsOutcome s x.ask x.secret x.now o → IsNumbered s
+    → x.answer ≡ answer_of o → (at : List ℕ) (touched : Option ℕ) → Tracks s at touched
+    → Tracks (state_after s x.now o) at (touched_by at x touched)
 tracks_after s x (Replies answer) f h e at touched tracks =
-    tracks_kept s s x at touched (touches_none at x (ap (begins at) e ∙ reply_begins_no s x.now x.ask at answer f) (ap is_taken e ∙ (reply_not_accepted s x.now x.ask answer f).0)) (λ session q. q) (omega arith) tracks
+    tracks_kept s s x at touched (touches_none at x (ap (begins at) e ∙ reply_begins_no s x.now x.ask at answer f)
+    (ap is_taken e ∙ (reply_not_accepted s x.now x.ask answer f).0)) (λ session q. q) (omega arith) tracks
 tracks_after s x (Begins name new) f h e at touched tracks =
     let t : State = state_after s x.now (Begins name new) in
     elim (one_or_two at new) [
       | inl same ↦
           let n : number_of new ≡ s.issued + 1 = new_number s x.secret new f.is_new f.numbers_left in
           let m : number_of at ≡ number_of new = ap number_of same in
-          tracks_new t x at touched (ap (λ b. b || (carries at x.ask && is_taken x.answer)) (ap (begins at) e ∙ same_from_eq at new same)) (omega arith) name [] (ap (map.get t.sessions) same ∙ get-insert_same (swept s x.now) new _)
+          tracks_new t x at touched
+          (ap (λ b. b || (carries at x.ask && is_taken x.answer)) (ap (begins at) e ∙ same_from_eq at new same))
+          (omega arith) name [] (ap (map.get t.sessions) same ∙ get-insert_same (swept s x.now) new _)
       | inr other ↦
-          tracks_kept s t x at touched (touches_none at x (ap (begins at) e ∙ same_from_ne at new other) (ap is_taken e))
-          (λ session q. was_there s x.now at session (sym (get-insert_other (swept s x.now) new _ at other) ∙ q)) (omega arith) tracks
+          tracks_kept s t x at touched
+          (touches_none at x (ap (begins at) e ∙ same_from_ne at new other) (ap is_taken e))
+          (λ session q. was_there s x.now at session (sym (get-insert_other (swept s x.now) new _ at other) ∙ q))
+          (omega arith) tracks
     ]
 tracks_after s x (Takes name to got) f h e at touched tracks =
     let t : State = state_after s x.now (Takes name to got) in
     elim (one_or_two at to) [
       | inl same ↦
-          tracks_new t x at touched ((λ i. begins at (e i) || (carries at (f.asked i) && is_taken (e i))) ∙ ap (λ b. b && true) (same_from_eq at to same))
-          (h at f.found.session (ap (map.get s.sessions) same ∙ f.found.is_open)) name got (ap (map.get t.sessions) same ∙ get-insert_same s.sessions to _)
+          tracks_new t x at touched ((λ i. begins at (e i) || (carries at (f.asked i) && is_taken (e i)))
+          ∙ ap (λ b. b && true) (same_from_eq at to same))
+          (h at f.found.session (ap (map.get s.sessions) same ∙ f.found.is_open)) name got
+          (ap (map.get t.sessions) same ∙ get-insert_same s.sessions to _)
       | inr other ↦
-          tracks_kept s t x at touched ((λ i. begins at (e i) || (carries at (f.asked i) && is_taken (e i))) ∙ ap (λ b. b && true) (same_from_ne at to other))
+          tracks_kept s t x at touched ((λ i. begins at (e i) || (carries at (f.asked i) && is_taken (e i)))
+          ∙ ap (λ b. b && true) (same_from_ne at to other))
           (λ session q. sym (get-insert_other s.sessions to _ at other) ∙ q) (omega arith) tracks
     ]
 tracks_after s x (Commits name to digest blob) f h e at touched tracks =
-    tracks_kept s (state_after s x.now (Commits name to digest blob)) x at touched (touches_none at x (ap (begins at) e) (ap is_taken e))
+    tracks_kept s (state_after s x.now (Commits name to digest blob)) x at touched
+    (touches_none at x (ap (begins at) e) (ap is_taken e))
     (λ session q. elim (one_or_two at to) [
-      | inl same ↦ absurd (None≢Some (sym (get-remove_same s.sessions to) ∙ ap (map.get (map.remove s.sessions to)) (sym same) ∙ q))
+      | inl same ↦ absurd
+          (None≢Some (sym (get-remove_same s.sessions to) ∙ ap (map.get (map.remove s.sessions to)) (sym same) ∙ q))
       | inr other ↦ sym (get-remove_other s.sessions to at other) ∙ q
     ])
     (omega arith) tracks
 tracks_after s x (Stores name digest blob) f h e at touched tracks =
-    tracks_kept s (state_after s x.now (Stores name digest blob)) x at touched (touches_none at x (ap (begins at) e) (ap is_taken e)) (λ session q. q) (omega arith) tracks
+    tracks_kept s (state_after s x.now (Stores name digest blob)) x at touched
+    (touches_none at x (ap (begins at) e) (ap is_taken e)) (λ session q. q) (omega arith) tracks
 tracks_after s x (Mounts name digest) f h e at touched tracks =
-    tracks_kept s (state_after s x.now (Mounts name digest)) x at touched (touches_none at x (ap (begins at) e) (ap is_taken e)) (λ session q. q) (omega arith) tracks
+    tracks_kept s (state_after s x.now (Mounts name digest)) x at touched
+    (touches_none at x (ap (begins at) e) (ap is_taken e)) (λ session q. q) (omega arith) tracks
 
-tracks_turn : (s : State) (x : Exchange) (t : State) (at : List ℕ) (touched : Option ℕ) → IsNumbered s → Turn s x.ask x.secret x.now x.answer t → Tracks s at touched → Tracks t at (touched_by at x touched)
+tracks_turn : (s : State) (x : Exchange) (t : State) (at : List ℕ) (touched : Option ℕ) → IsNumbered s
+    → Turn s x.ask x.secret x.now x.answer t → Tracks s at touched → Tracks t at (touched_by at x touched)
 unfolding Turn
-tracks_turn s x t at touched h (inl did) tracks = subst (λ q. Tracks q at (touched_by at x touched)) (sym did.1) (tracks_after s x (outcome s x.ask x.secret x.now) (outcome_sound s x.now x.ask x.secret) h did.0 at touched tracks)
+tracks_turn s x t at touched h (inl did) tracks =
+    subst (λ q. Tracks q at (touched_by at x touched)) (sym did.1)
+    (tracks_after s x (outcome s x.ask x.secret x.now) (outcome_sound s x.now x.ask x.secret) h did.0 at touched tracks)
 tracks_turn s x t at touched h (inr lacked) tracks =
-    tracks_kept s t x at touched (touches_none at x (ap (begins at) lacked.1) (ap is_taken lacked.1)) (λ session q. sym (ap (λ q. map.get q.sessions at) lacked.2) ∙ q)
+    tracks_kept s t x at touched (touches_none at x (ap (begins at) lacked.1) (ap is_taken lacked.1))
+    (λ session q. sym (ap (λ q. map.get q.sessions at) lacked.2) ∙ q)
     (let same : t.issued ≡ s.issued = ap (λ q. q.issued) lacked.2 in omega arith) tracks
 
 limits_turn : (s : State) (x : Exchange) (t : State) → Turn s x.ask x.secret x.now x.answer t → t.limits ≡ s.limits
@@ -180,7 +226,8 @@ limits_turn s x t (inl did) = ap (λ q. q.limits) did.1 ∙ same_limits s x.now 
 limits_turn s x t (inr lacked) = ap (λ q. q.limits) lacked.2
 
 -- a late exchange finds the session over
-late_is_over : (s : State) (now : ℕ) (at : List ℕ) (touched : Option ℕ) → Tracks s at touched → is_late s.limits.max_idle touched now ≡ true → IsOver s now at
+late_is_over : (s : State) (now : ℕ) (at : List ℕ) (touched : Option ℕ) → Tracks s at touched
+    → is_late s.limits.max_idle touched now ≡ true → IsOver s now at
 late_is_over s now at None tracks late = absurd (true≢false (sym late))
 late_is_over s now at (Some moment) tracks late = (
   tracks.issued moment refl,
@@ -191,29 +238,38 @@ late_is_over s now at (Some moment) tracks late = (
       omega arith,
 )
 
-pub lapsed_is_over : (limits : Limits) (at : List ℕ) (x : Exchange) (xs : List Exchange) (s t : State) (from : ℕ) (touched : Option ℕ) → s.limits ≡ limits → IsNumbered s → Tracks s at touched
-    → NeverBefore from (xs ++ x ∷ []) → Run s xs t → is_lapsed limits.max_idle at touched xs x.now ≡ true → IsOver t x.now at
+pub lapsed_is_over : (limits : Limits) (at : List ℕ) (x : Exchange) (xs : List Exchange) (s t : State) (from : ℕ)
+    (touched : Option ℕ) → s.limits ≡ limits → IsNumbered s → Tracks s at touched → NeverBefore from (xs ++ x ∷ [])
+    → Run s xs t → is_lapsed limits.max_idle at touched xs x.now ≡ true → IsOver t x.now at
 unfolding Turn
 lapsed_is_over limits at x [] s t from touched m h tracks never run lapsed =
-    subst (λ q. IsOver q x.now at) (sym run) (late_is_over s x.now at touched tracks (ap (λ (k : Limits). is_late k.max_idle touched x.now) m ∙ lapsed))
+    subst (λ q. IsOver q x.now at) (sym run)
+    (late_is_over s x.now at touched tracks (ap (λ (k : Limits). is_late k.max_idle touched x.now) m ∙ lapsed))
 lapsed_is_over limits at x (y ∷ ys) s t from touched m h tracks (later, never) (mid, turn, rest) lapsed =
-    elim (is_late limits.max_idle touched y.now) as (λ b. is_late limits.max_idle touched y.now ≡ b → (b || is_lapsed limits.max_idle at (touched_by at y touched) ys x.now) ≡ true → IsOver t x.now at) [
+    elim (is_late limits.max_idle touched y.now) as (λ b. is_late limits.max_idle touched y.now ≡ b
+    → (b || is_lapsed limits.max_idle at (touched_by at y touched) ys x.now) ≡ true → IsOver t x.now at) [
       | true ↦ λ late _.
-          let over : IsOver s y.now at = late_is_over s y.now at touched tracks (ap (λ (k : Limits). is_late k.max_idle touched y.now) m ∙ late) in
+          let over : IsOver s y.now at =
+          late_is_over s y.now at touched tracks (ap (λ (k : Limits). is_late k.max_idle touched y.now) m ∙ late) in
           over_run x ys mid t y.now at never rest (over_turn s y mid y.now at (omega arith) turn over)
       | false ↦ λ _ more.
-          lapsed_is_over limits at x ys mid t y.now (touched_by at y touched) (limits_turn s y mid turn ∙ m) (numbered_turn s y mid turn h) (tracks_turn s y mid at touched h turn tracks) never rest more
+          lapsed_is_over limits at x ys mid t y.now (touched_by at y touched) (limits_turn s y mid turn ∙ m)
+          (numbered_turn s y mid turn h) (tracks_turn s y mid at touched h turn tracks) never rest more
     ] refl lapsed
 
 -- other requests
 abbrev Stays : State → ℕ → State → List ℕ → Session → Type 0
-Stays s now t at session = (map.get t.sessions at ≡ Some session) ⊎ (IsTrue (is_idle s.limits.max_idle now session) × (map.get t.sessions at ≡ None))
+Stays s now t at session =
+    (map.get t.sessions at ≡ Some session)
+    ⊎ (IsTrue (is_idle s.limits.max_idle now session) × (map.get t.sessions at ≡ None))
 
-stays_after : (s : State) (ask : Ask) (secret : List ℕ) (now : ℕ) (o : Outcome) → IsOutcome s ask secret now o → IsNumbered s → (at : List ℕ) (session : Session) → map.get s.sessions at ≡ Some session → carries at ask ≡ false
+stays_after : (s : State) (ask : Ask) (secret : List ℕ) (now : ℕ) (o : Outcome) → IsOutcome s ask secret now o
+    → IsNumbered s → (at : List ℕ) (session : Session) → map.get s.sessions at ≡ Some session → carries at ask ≡ false
     → Stays s now (state_after s now o) at session
 stays_after s ask secret now (Replies answer) f h at session e c = inl e
 stays_after s ask secret now (Begins name new) f h at session e c =
-    let there : map.get (state_after s now (Begins name new)).sessions at ≡ map.get (swept s now) at = get-insert_other (swept s now) new _ at (not_new s secret at new f.is_new f.numbers_left (h at session e)) in
+    let there : map.get (state_after s now (Begins name new)).sessions at ≡ map.get (swept s now) at =
+    get-insert_other (swept s now) new _ at (not_new s secret at new f.is_new f.numbers_left (h at session e)) in
     elim (kept_or_left s now at) [
       | inl kept ↦ inl (there ∙ kept ∙ e)
       | inr left ↦
@@ -221,13 +277,17 @@ stays_after s ask secret now (Begins name new) f h at session e c =
           let is : left.session ≡ session = cc in
           inr (ap (is_idle s.limits.max_idle now) (sym is) ∙ left.idle, there ∙ left.left)
     ]
-stays_after s ask secret now (Takes name to got) f h at session e c = inl (get-insert_other s.sessions to _ at (ne_from_same at to (sym (ap (carries at) f.asked) ∙ c)) ∙ e)
-stays_after s ask secret now (Commits name to digest blob) f h at session e c = inl (get-remove_other s.sessions to at (ne_from_same at to (sym (ap (carries at) f.asked) ∙ c)) ∙ e)
+stays_after s ask secret now (Takes name to got) f h at session e c =
+    inl (get-insert_other s.sessions to _ at (ne_from_same at to (sym (ap (carries at) f.asked) ∙ c)) ∙ e)
+stays_after s ask secret now (Commits name to digest blob) f h at session e c =
+    inl (get-remove_other s.sessions to at (ne_from_same at to (sym (ap (carries at) f.asked) ∙ c)) ∙ e)
 stays_after s ask secret now (Stores name digest blob) f h at session e c = inl e
 stays_after s ask secret now (Mounts name digest) f h at session e c = inl e
 
 pub others_leave_it : OthersLeaveIt
 unfolding Turn
 others_leave_it s ask secret now answer t lawful (inl did) at session e c =
-    subst (λ q. Stays s now q at session) (sym did.1) (stays_after s ask secret now (outcome s ask secret now) (outcome_sound s now ask secret) (numbered_if_lawful s lawful) at session e c)
-others_leave_it s ask secret now answer t lawful (inr lacked) at session e c = inl (ap (λ q. map.get q.sessions at) lacked.2 ∙ e)
+    subst (λ q. Stays s now q at session) (sym did.1) (stays_after s ask secret now (outcome s ask secret now)
+    (outcome_sound s now ask secret) (numbered_if_lawful s lawful) at session e c)
+others_leave_it s ask secret now answer t lawful (inr lacked) at session e c =
+    inl (ap (λ q. map.get q.sessions at) lacked.2 ∙ e)

@@ -1,5 +1,6 @@
 -- A service stays lawful.
-use Rattle.std.proofs.Common.{◌≡◌, ◌≢◌, ℕ, ◌+◌, ◌-◌, ◌<◌, ◌≤◌, List, [], ◌∷◌, length, true, false, Option, Some, None, refl, sym, ◌∙◌, ap, subst, ◌⊎◌, inl, inr, cond, arith}
+use Rattle.std.proofs.Common.{◌≡◌, ◌≢◌, ℕ, ◌+◌, ◌-◌, ◌<◌, ◌≤◌, List, [], ◌∷◌, length, true, false, Option, Some, None}
+use Rattle.std.proofs.Common.{refl, sym, ◌∙◌, ap, subst, ◌⊎◌, inl, inr, cond, arith}
 use Rattle.std.specs.Prelude.{◌||◌}
 use Rattle.std.proofs.lemmas.Bool.{true≢false}
 use Rattle.std.specs.FinMap as map
@@ -8,7 +9,8 @@ use Rattle.upload_names.specs.Digest.{Digest, digest_cmp, HasDigest}
 use Rattle.upload_names.specs.Reference.{number_of}
 use Rattle.upload_service.specs.declared.ask.Ask.{Ask}
 use Rattle.upload_service.specs.declared.answer.Answer.{Answer}
-use Rattle.upload_service.specs.Machine.{same, swept, Table, Session, State, Outcome, Replies, Begins, Takes, Commits, Stores, Mounts, state_after, last_number, holds, outcome}
+use Rattle.upload_service.specs.Machine.{same, swept, Table, Session, State, Outcome, Replies, Begins, Takes, Commits}
+use Rattle.upload_service.specs.Machine.{Stores, Mounts, state_after, last_number, holds, outcome}
 use Rattle.std.specs.Prelude.{IsSome, is_some}
 use Rattle.std.specs.FinSet as set
 use Rattle.std.specs.Ordering.{eq_by_cmp}
@@ -16,7 +18,9 @@ use Rattle.std.specs.FinMap.{len-insert, len-remove, contains_key}
 use Rattle.std.specs.Cmp.Lexicographic.{nat_list_cmp_total}
 use Rattle.upload_service.specs.Machine.{Turn, IsLawful, pair_cmp}
 use Rattle.upload_service.proofs.Claims.{StaysLawful}
-use Rattle.upload_service.proofs.Tables.{one_or_two, one_or_two_digests, blob-insert_same, blob-insert_other, get-insert_same, get-insert_other, get-remove_same, get-remove_other, contains-insert, pair_from_same}
+use Rattle.upload_service.proofs.Tables.{one_or_two, one_or_two_digests, blob-insert_same, blob-insert_other}
+use Rattle.upload_service.proofs.Tables.{get-insert_same, get-insert_other, get-remove_same, get-remove_other}
+use Rattle.upload_service.proofs.Tables.{contains-insert, pair_from_same}
 use Rattle.upload_service.proofs.Steps.{IsOutcome, outcome_sound, by_test, None≢Some}
 use Rattle.upload_service.proofs.Sweeps.{was_there, swept_has_room}
 use Rattle.upload_service.proofs.Turns.{number_of-reference}
@@ -25,13 +29,16 @@ some_is : {A : Type 0} (o : Option A) → IsSome o → (x : A) × (o ≡ Some x)
 some_is None e = absurd (true≢false (sym e))
 some_is (Some x) e = (x, refl)
 
-len_under : {X : Type 0} (m : Table X) (k : List ℕ) (v : X) (bound : ℕ) → map.len m < bound → map.len (map.insert m k v) ≤ bound
+len_under : {X : Type 0} (m : Table X) (k : List ℕ) (v : X) (bound : ℕ) → map.len m < bound
+    → map.len (map.insert m k v) ≤ bound
 len_under m k v bound h =
     subst (λ n. n ≤ bound) (sym (len-insert nat_list_cmp_total m k v))
     (by_test (λ n. n ≤ bound) (contains_key m k) (map.len m) (map.len m + 1) (λ _. omega arith) (λ _. omega arith))
 
-len_again : {X : Type 0} (m : Table X) (k : List ℕ) (old v : X) → map.get m k ≡ Some old → map.len (map.insert m k v) ≡ map.len m
-len_again m k old v e = len-insert nat_list_cmp_total m k v ∙ ap (λ b. cond b (map.len m) (map.len m + 1)) (ap is_some e)
+len_again : {X : Type 0} (m : Table X) (k : List ℕ) (old v : X) → map.get m k ≡ Some old
+    → map.len (map.insert m k v) ≡ map.len m
+len_again m k old v e =
+    len-insert nat_list_cmp_total m k v ∙ ap (λ b. cond b (map.len m) (map.len m + 1)) (ap is_some e)
 
 len_less : {X : Type 0} (m : Table X) (k : List ℕ) → map.len (map.remove m k) ≤ map.len m
 len_less m k =
@@ -39,17 +46,21 @@ len_less m k =
     (by_test (λ n. n ≤ map.len m) (contains_key m k) (map.len m - 1) (map.len m) (λ _. omega arith) (λ _. omega arith))
 
 -- a fact of each session, after an insertion
-each_insert : (m : Table Session) (k : List ℕ) (v : Session) (P : List ℕ → Session → Type 0) → P k v → ((at : List ℕ) (session : Session) → map.get m at ≡ Some session → P at session)
+each_insert : (m : Table Session) (k : List ℕ) (v : Session) (P : List ℕ → Session → Type 0)
+    → P k v → ((at : List ℕ) (session : Session) → map.get m at ≡ Some session → P at session)
     → (at : List ℕ) (session : Session) → map.get (map.insert m k v) at ≡ Some session → P at session
 each_insert m k v P new each at session e =
     elim (one_or_two at k) [
       | inl same ↦
-          let v_is : v ≡ session = let both : Some v ≡ Some session = sym (get-insert_same m k v) ∙ ap (map.get (map.insert m k v)) (sym same) ∙ e in cc in
+          let v_is : v ≡ session =
+          let both : Some v ≡ Some session =
+          sym (get-insert_same m k v) ∙ ap (map.get (map.insert m k v)) (sym same) ∙ e in cc in
           subst (λ q. P q session) (sym same) (subst (P k) v_is new)
       | inr other ↦ each at session (sym (get-insert_other m k v at other) ∙ e)
     ]
 
-each_remove : (m : Table Session) (k : List ℕ) (P : List ℕ → Session → Type 0) → ((at : List ℕ) (session : Session) → map.get m at ≡ Some session → P at session)
+each_remove : (m : Table Session) (k : List ℕ) (P : List ℕ → Session → Type 0)
+    → ((at : List ℕ) (session : Session) → map.get m at ≡ Some session → P at session)
     → (at : List ℕ) (session : Session) → map.get (map.remove m k) at ≡ Some session → P at session
 each_remove m k P each at session e =
     elim (one_or_two at k) [
@@ -67,18 +78,23 @@ abbrev AreDifferent : Table Session → Type 0
 AreDifferent m = (a b : List ℕ) → IsSome (map.get m a) → IsSome (map.get m b) → number_of a ≡ number_of b → a ≡ b
 
 -- one more session, whose number no other has
-different_insert : (m : Table Session) (k : List ℕ) (v : Session) → ((at : List ℕ) → at ≢ k → IsSome (map.get m at) → number_of at ≢ number_of k) → AreDifferent m → AreDifferent (map.insert m k v)
+different_insert : (m : Table Session) (k : List ℕ) (v : Session)
+    → ((at : List ℕ) → at ≢ k → IsSome (map.get m at) → number_of at ≢ number_of k) → AreDifferent m
+    → AreDifferent (map.insert m k v)
 different_insert m k v fresh h a b p q e =
     elim (one_or_two a k) [
       | inl a_is ↦
           elim (one_or_two b k) [
             | inl b_is ↦ a_is ∙ sym b_is
-            | inr b_not ↦ absurd (fresh b b_not (sym (ap is_some (get-insert_other m k v b b_not)) ∙ q) (sym e ∙ ap number_of a_is))
+            | inr b_not ↦ absurd
+                (fresh b b_not (sym (ap is_some (get-insert_other m k v b b_not)) ∙ q) (sym e ∙ ap number_of a_is))
           ]
       | inr a_not ↦
           elim (one_or_two b k) [
-            | inl b_is ↦ absurd (fresh a a_not (sym (ap is_some (get-insert_other m k v a a_not)) ∙ p) (e ∙ ap number_of b_is))
-            | inr b_not ↦ h a b (sym (ap is_some (get-insert_other m k v a a_not)) ∙ p) (sym (ap is_some (get-insert_other m k v b b_not)) ∙ q) e
+            | inl b_is ↦
+                absurd (fresh a a_not (sym (ap is_some (get-insert_other m k v a a_not)) ∙ p) (e ∙ ap number_of b_is))
+            | inr b_not ↦ h a b (sym (ap is_some (get-insert_other m k v a a_not)) ∙ p)
+                (sym (ap is_some (get-insert_other m k v b b_not)) ∙ q) e
           ]
     ]
 
@@ -89,8 +105,10 @@ some_before_remove m k a p =
       | inr other ↦ sym (ap is_some (get-remove_other m k a other)) ∙ p
     ]
 
-some_before_sweep : (s : State) (now : ℕ) (a : List ℕ) → IsSome (map.get (swept s now) a) → IsSome (map.get s.sessions a)
-some_before_sweep s now a p = let found = some_is (map.get (swept s now) a) p in ap is_some (was_there s now a found.0 found.1)
+some_before_sweep : (s : State) (now : ℕ) (a : List ℕ) → IsSome (map.get (swept s now) a)
+    → IsSome (map.get s.sessions a)
+some_before_sweep s now a p =
+    let found = some_is (map.get (swept s now) a) p in ap is_some (was_there s now a found.0 found.1)
 
 -- a blob stored under its own digest, and a pair of it
 own_digest_insert : (s : State) (digest : Digest) (blob : List ℕ) → IsLawful s → HasDigest blob digest
@@ -98,54 +116,73 @@ own_digest_insert : (s : State) (digest : Digest) (blob : List ℕ) → IsLawful
 own_digest_insert s digest blob h own d b e =
     elim (one_or_two_digests d digest) [
       | inl same ↦
-          let b_is : blob ≡ b = let both : Some blob ≡ Some b = sym (blob-insert_same s.blobs digest blob) ∙ ap (map.get (map.insert s.blobs digest blob)) (sym same) ∙ e in cc in
+          let b_is : blob ≡ b =
+          let both : Some blob ≡ Some b = sym (blob-insert_same s.blobs digest blob)
+          ∙ ap (map.get (map.insert s.blobs digest blob)) (sym same) ∙ e in cc in
           subst (λ q. HasDigest q d) b_is (subst (HasDigest blob) (sym same) own)
       | inr other ↦ h.own_digest d b (sym (blob-insert_other s.blobs digest blob d other) ∙ e)
     ]
 
-is_stored_insert : (m : FinMap digest_cmp (List ℕ)) (digest : Digest) (blob : List ℕ) (d : Digest) → IsSome (map.get m d) → IsSome (map.get (map.insert m digest blob) d)
+is_stored_insert : (m : FinMap digest_cmp (List ℕ)) (digest : Digest) (blob : List ℕ) (d : Digest)
+    → IsSome (map.get m d) → IsSome (map.get (map.insert m digest blob) d)
 is_stored_insert m digest blob d h =
     elim (one_or_two_digests d digest) [
       | inl same ↦ ap is_some (ap (map.get (map.insert m digest blob)) same ∙ blob-insert_same m digest blob)
       | inr other ↦ ap is_some (blob-insert_other m digest blob d other) ∙ h
     ]
 
-pair_parts : (n : List ℕ) (d : Digest) (name : List ℕ) (digest : Digest) → eq_by_cmp pair_cmp (name, digest) (n, d) ≡ true → digest ≡ d
+pair_parts : (n : List ℕ) (d : Digest) (name : List ℕ) (digest : Digest)
+    → eq_by_cmp pair_cmp (name, digest) (n, d) ≡ true → digest ≡ d
 pair_parts n d name digest e = ap (λ (p : List ℕ × Digest). p.1) (pair_from_same (name, digest) (n, d) e)
 
-held_insert : (s : State) (n : List ℕ) (d : Digest) (name : List ℕ) (digest : Digest) → holds (record s { pairs = set.insert s.pairs (n, d) }) name digest ≡ true → (digest ≡ d) ⊎ (holds s name digest ≡ true)
+held_insert : (s : State) (n : List ℕ) (d : Digest) (name : List ℕ) (digest : Digest)
+    → holds (record s { pairs = set.insert s.pairs (n, d) }) name digest ≡ true
+    → (digest ≡ d) ⊎ (holds s name digest ≡ true)
 held_insert s n d name digest e =
-    elim (eq_by_cmp pair_cmp (name, digest) (n, d)) as (λ b. eq_by_cmp pair_cmp (name, digest) (n, d) ≡ b → (b || holds s name digest) ≡ true → (digest ≡ d) ⊎ (holds s name digest ≡ true)) [
+    elim (eq_by_cmp pair_cmp (name, digest) (n, d)) as (λ b. eq_by_cmp pair_cmp (name, digest) (n, d) ≡ b
+    → (b || holds s name digest) ≡ true → (digest ≡ d) ⊎ (holds s name digest ≡ true)) [
       | true ↦ λ p _. inl (pair_parts n d name digest p)
       | false ↦ λ _ q. inr q
     ] refl (sym (contains-insert s.pairs (n, d) (name, digest)) ∙ e)
 
-stored_insert : (s : State) (n : List ℕ) (digest : Digest) (blob : List ℕ) → IsLawful s → (name : List ℕ) (d : Digest) → holds (record s { pairs = set.insert s.pairs (n, digest) }) name d ≡ true → IsSome (map.get (map.insert s.blobs digest blob) d)
+stored_insert : (s : State) (n : List ℕ) (digest : Digest) (blob : List ℕ) → IsLawful s → (name : List ℕ) (d : Digest)
+    → holds (record s { pairs = set.insert s.pairs (n, digest) }) name d ≡ true
+    → IsSome (map.get (map.insert s.blobs digest blob) d)
 stored_insert s n digest blob h name d e =
     elim (held_insert s n digest name d e) [
       | inl is ↦ ap is_some (ap (map.get (map.insert s.blobs digest blob)) is ∙ blob-insert_same s.blobs digest blob)
       | inr had ↦ is_stored_insert s.blobs digest blob d (h.stored name d had)
     ]
 
-lawful_after : (s : State) (ask : Ask) (secret : List ℕ) (now : ℕ) (o : Outcome) → IsOutcome s ask secret now o → IsLawful s → IsLawful (state_after s now o)
+lawful_after : (s : State) (ask : Ask) (secret : List ℕ) (now : ℕ) (o : Outcome) → IsOutcome s ask secret now o
+    → IsLawful s → IsLawful (state_after s now o)
 lawful_after s ask secret now (Replies answer) f h = h
 lawful_after s ask secret now (Begins name new) f h =
-    let n : number_of new ≡ s.issued + 1 = ap number_of f.is_new ∙ number_of-reference (s.issued + 1) secret (let left : s.issued < last_number = f.numbers_left in omega arith) in
+    let n : number_of new ≡ s.issued + 1 =
+    ap number_of f.is_new ∙ number_of-reference (s.issued + 1) secret
+    (let left : s.issued < last_number = f.numbers_left in omega arith) in
     record {
       numbered = each_insert (swept s now) new _ (IsNumberIn (s.issued + 1)) (omega arith, omega arith) (λ at session e.
-          let was = h.numbered at session (was_there s now at session e) in let old : number_of at ≤ s.issued = was.1 in (was.0, omega arith));
+          let was = h.numbered at session (was_there s now at session e) in let old : number_of at ≤ s.issued = was.1 in
+          (was.0, omega arith));
       different = different_insert (swept s now) new _ (λ at other some same.
-          let found = some_is (map.get (swept s now) at) some in let old : number_of at ≤ s.issued = (h.numbered at found.0 (was_there s now at found.0 found.1)).1 in omega arith)
+          let found = some_is (map.get (swept s now) at) some in let old : number_of at ≤ s.issued =
+          (h.numbered at found.0 (was_there s now at found.0 found.1)).1 in omega arith)
           (λ a b p q. h.different a b (some_before_sweep s now a p) (some_before_sweep s now b q));
       few = len_under (swept s now) new _ s.limits.max_open (swept_has_room s now f.room);
-      small = each_insert (swept s now) new _ (IsSmall s.limits.max_blob) (omega arith) (λ at session e. h.small at session (was_there s now at session e));
+      small =
+          each_insert (swept s now) new _ (IsSmall s.limits.max_blob) (omega arith)
+          (λ at session e. h.small at session (was_there s now at session e));
       own_digest = h.own_digest;
       stored = h.stored;
     }
 lawful_after s ask secret now (Takes name to got) f h =
     record {
-      numbered = each_insert s.sessions to _ (IsNumberIn s.issued) (h.numbered to f.found.session f.found.is_open) h.numbered;
-      different = different_insert s.sessions to _ (λ at other some same. other (h.different at to some (ap is_some f.found.is_open) same)) h.different;
+      numbered =
+          each_insert s.sessions to _ (IsNumberIn s.issued) (h.numbered to f.found.session f.found.is_open) h.numbered;
+      different =
+          different_insert s.sessions to _
+          (λ at other some same. other (h.different at to some (ap is_some f.found.is_open) same)) h.different;
       few = subst (λ n. n ≤ s.limits.max_open) (sym (len_again s.sessions to f.found.session _ f.found.is_open)) h.few;
       small = each_insert s.sessions to _ (IsSmall s.limits.max_blob) f.small h.small;
       own_digest = h.own_digest;
@@ -154,8 +191,11 @@ lawful_after s ask secret now (Takes name to got) f h =
 lawful_after s ask secret now (Commits name to digest blob) f h =
     record {
       numbered = each_remove s.sessions to (IsNumberIn s.issued) h.numbered;
-      different = λ a b p q e. h.different a b (some_before_remove s.sessions to a p) (some_before_remove s.sessions to b q) e;
-      few = let less : map.len (map.remove s.sessions to) ≤ map.len s.sessions = len_less s.sessions to in let few : map.len s.sessions ≤ s.limits.max_open = h.few in omega arith;
+      different =
+          λ a b p q e. h.different a b (some_before_remove s.sessions to a p) (some_before_remove s.sessions to b q) e;
+      few =
+          let less : map.len (map.remove s.sessions to) ≤ map.len s.sessions = len_less s.sessions to in
+          let few : map.len s.sessions ≤ s.limits.max_open = h.few in omega arith;
       small = each_remove s.sessions to (IsSmall s.limits.max_blob) h.small;
       own_digest = own_digest_insert s digest blob h f.own_digest;
       stored = stored_insert s name digest blob h;
@@ -182,12 +222,16 @@ lawful_after s ask secret now (Mounts name digest) f h =
       ];
     }
 
-pub lawful_turn : (s : State) (ask : Ask) (secret : List ℕ) (now : ℕ) (answer : Answer) (t : State) → IsLawful s → Turn s ask secret now answer t → IsLawful t
+pub lawful_turn : (s : State) (ask : Ask) (secret : List ℕ) (now : ℕ) (answer : Answer) (t : State) → IsLawful s
+    → Turn s ask secret now answer t → IsLawful t
 unfolding Turn
-lawful_turn s ask secret now answer t h (inl did) = subst IsLawful (sym did.1) (lawful_after s ask secret now (outcome s ask secret now) (outcome_sound s now ask secret) h)
+lawful_turn s ask secret now answer t h (inl did) =
+    subst IsLawful (sym did.1)
+    (lawful_after s ask secret now (outcome s ask secret now) (outcome_sound s now ask secret) h)
 lawful_turn s ask secret now answer t h (inr lacked) = subst IsLawful (sym lacked.2) h
 
 pub stays_lawful : StaysLawful
 unfolding Turn
 stays_lawful start [] end h e = subst IsLawful (sym e) h
-stays_lawful start (x ∷ xs) end h (mid, turn, rest) = stays_lawful mid xs end (lawful_turn start x.ask x.secret x.now x.answer mid h turn) rest
+stays_lawful start (x ∷ xs) end h (mid, turn, rest) =
+    stays_lawful mid xs end (lawful_turn start x.ask x.secret x.now x.answer mid h turn) rest

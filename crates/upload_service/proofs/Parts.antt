@@ -1,5 +1,6 @@
 -- What one more part does to the bytes.
-use Rattle.std.proofs.Common.{◌≡◌, ℕ, zero, suc, ◌+◌, ◌-◌, ◌<◌, List, [], ◌∷◌, ◌++◌, length, take, drop, get_or, refl, sym, ◌∙◌, ap, arith}
+use Rattle.std.proofs.Common.{◌≡◌, ℕ, zero, suc, ◌+◌, ◌-◌, ◌<◌, List, [], ◌∷◌, ◌++◌, length, take, drop, get_or, refl}
+use Rattle.std.proofs.Common.{sym, ◌∙◌, ap, arith}
 use Rattle.std.proofs.lemmas.List.{append-nil, append_assoc, take-append-drop, take_rest}
 use Rattle.std.specs.List.{concat}
 use Rattle.upload_service.specs.Kept.Parts.{joined, with_part}
@@ -16,16 +17,19 @@ joined-with_part xs [] = sym (append-nil (joined xs))
 joined-with_part xs (b ∷ x) = joined-push xs (b ∷ x)
 
 -- the next part comes behind those that were taken
-pub joined-take_next : (xs : List (List ℕ)) (i : ℕ) (d : List ℕ) → i < length xs → joined (take (i + 1) xs) ≡ joined (take i xs) ++ get_or xs i d
+pub joined-take_next : (xs : List (List ℕ)) (i : ℕ) (d : List ℕ) → i < length xs
+    → joined (take (i + 1) xs) ≡ joined (take i xs) ++ get_or xs i d
 joined-take_next [] i d lt = absurd (omega arith)
 joined-take_next (x ∷ xs) zero d lt = append-nil x
 joined-take_next (x ∷ xs) (suc i) d lt =
     let e : suc i + 1 ≡ suc (i + 1) = omega arith in
     ap (λ n. joined (take n (x ∷ xs))) e
-    ∙ ap (λ r. x ++ r) (joined-take_next xs i d (omega arith)) ∙ sym (append_assoc x (joined (take i xs)) (get_or xs i d))
+    ∙ ap (λ r. x ++ r) (joined-take_next xs i d (omega arith))
+    ∙ sym (append_assoc x (joined (take i xs)) (get_or xs i d))
 
 -- the parts that were taken, and the rest as a slice behind them
-pub joined-take_rest : (i : ℕ) (xs : List (List ℕ)) → joined (take i xs) ++ joined (take (length xs - i) (drop i xs)) ≡ joined xs
+pub joined-take_rest : (i : ℕ) (xs : List (List ℕ))
+    → joined (take i xs) ++ joined (take (length xs - i) (drop i xs)) ≡ joined xs
 joined-take_rest i xs =
     ap (λ r. joined (take i xs) ++ joined r) (take_rest xs i)
     ∙ sym (joined-append (take i xs) (drop i xs)) ∙ ap joined (take-append-drop i xs)
@@ -35,7 +39,8 @@ pub joined-concat : (xs : List (List ℕ)) → joined xs ≡ concat xs
 joined-concat [] = refl
 joined-concat (x ∷ xs) = ap (λ r. x ++ r) (joined-concat xs)
 
-pub take_next : (xs : List (List ℕ)) (i : ℕ) (d : List ℕ) → i < length xs → take (i + 1) xs ≡ take i xs ++ get_or xs i d ∷ []
+pub take_next : (xs : List (List ℕ)) (i : ℕ) (d : List ℕ) → i < length xs
+    → take (i + 1) xs ≡ take i xs ++ get_or xs i d ∷ []
 take_next [] i d lt = absurd (omega arith)
 take_next (x ∷ xs) zero d lt = refl
 take_next (x ∷ xs) (suc i) d lt =

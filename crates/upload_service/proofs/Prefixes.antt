@@ -19,16 +19,20 @@ holds_all by settled held new rest = record {
 }
 
 -- a prefix of the segments is one of more of them
-pub holds_of_more : (by : By) (old new : List (List ℕ)) (hash : PrefixHash) → take (length old) new ≡ old → length old ≤ length new
-    → HoldsPrefix by old hash → HoldsPrefix by new hash
+pub holds_of_more : (by : By) (old new : List (List ℕ)) (hash : PrefixHash) → take (length old) new ≡ old
+    → length old ≤ length new → HoldsPrefix by old hash → HoldsPrefix by new hash
 holds_of_more by old new hash front longer h =
     let same : take hash.held old ≡ take hash.held new =
     ap (take hash.held) (sym front) ∙ take-take hash.held (length old) new h.within in
     let within = h.within in
-    record { holds = subst (λ (p : List (List ℕ)). Holds by hash.running (joined p)) same h.holds; within = omega (arith, within, longer) }
+    record {
+      holds = subst (λ (p : List (List ℕ)). Holds by hash.running (joined p)) same h.holds;
+      within = omega (arith, within, longer);
+    }
 
 -- the first body, if no segment is small, is all that stays as it is
-pub settled_first : (old new : Parts) (body : List ℕ) → length (whole old) ≡ 0 → whole new ≡ whole old ++ body → length new.tail ≡ 0 → joined new.settled ≡ body
+pub settled_first : (old new : Parts) (body : List ℕ) → length (whole old) ≡ 0 → whole new ≡ whole old ++ body
+    → length new.tail ≡ 0 → joined new.settled ≡ body
 settled_first old new body none more no_tail =
     sym (append-nil (joined new.settled))
     ∙ ap (λ t. joined new.settled ++ t) (sym (nil_from_length new.tail no_tail))

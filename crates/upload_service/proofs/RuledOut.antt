@@ -1,5 +1,6 @@
 -- What the headline's claims rule out.
-use Rattle.std.proofs.Common.{◌≡◌, ℕ, ◌<◌, List, [], ◌∷◌, ◌++◌, length, Bool, true, false, not, Option, Some, None, refl, sym, ◌∙◌, ap, subst, ◌⊎◌, inl, inr, cond, arith, filter, map as list_map}
+use Rattle.std.proofs.Common.{◌≡◌, ℕ, ◌<◌, List, [], ◌∷◌, ◌++◌, length, Bool, true, false, not, Option, Some, None}
+use Rattle.std.proofs.Common.{refl, sym, ◌∙◌, ap, subst, ◌⊎◌, inl, inr, cond, arith, filter, map as list_map}
 use Rattle.std.specs.Prelude.{◌||◌, ◌==◌, ◌+◌, ◌-◌, All, nat_le, nat_lt}
 use Rattle.std.specs.FinMap as map
 use Rattle.std.proofs.lemmas.Bool.{true≢false}
@@ -14,17 +15,23 @@ use Rattle.upload_service.specs.declared.answer.Refusal.TheVariants as refusals
 use Rattle.upload_service.specs.declared.answer.Answer.{Answer}
 use Rattle.upload_service.specs.declared.answer.Answer.TheVariants as answers
 use Rattle.upload_service.specs.UploadView.{Act, Sends, AsksOffset, Closes, upload_view, opened_under}
-use Rattle.upload_service.specs.Machine.{Session, State, Outcome, Takes, Commits, answer_of, refused, same, same_digest, size_fault, body_fault, unless_fault, checked, in_session, at_session, unless_idle}
+use Rattle.upload_service.specs.Machine.{Session, State, Outcome, Takes, Commits, answer_of, refused, same, same_digest}
+use Rattle.upload_service.specs.Machine.{size_fault, body_fault, unless_fault, checked, in_session, at_session}
+use Rattle.upload_service.specs.Machine.{unless_idle}
 use Rattle.upload_service.specs.Run.{Exchange}
 use Rattle.upload_service.specs.Session.{carries, begins, is_part, part, is_taken, received}
-use Rattle.upload_service.specs.Alone.{Life, Unborn, Open, Gone, life_of, life_in, life_after, alone_outcome, first_answer, first_life, alone_answer, alone_after, alone, lacks_memory, told, IsToldAsAlone}
+use Rattle.upload_service.specs.Alone.{Life, Unborn, Open, Gone, life_of, life_in, life_after, alone_outcome}
+use Rattle.upload_service.specs.Alone.{first_answer, first_life, alone_answer, alone_after, alone, lacks_memory, told}
+use Rattle.upload_service.specs.Alone.{IsToldAsAlone}
 use Rattle.upload_service.specs.Headline.{Aim, aim_of, IsAwake, IsOrderly}
 use Rattle.upload_service.specs.RuledOut.{IsBorn, HeadlineRulesOut}
 use Rattle.upload_service.proofs.UploadView.{on_each, carried}
 use Rattle.upload_service.proofs.Alone.{told_other, told_none, told_own, SoFar}
 
-overlap : (start : State) (front : List Exchange) (before : State) (x : Exchange) (after : State) → IsOrderly start front before x after
-    → (aim : Aim) → aim_of x.ask ≡ Some aim → IsAwake before x.now aim.name aim.at → aim.first < length (received start front aim.at) → is_taken x.answer ≡ false
+overlap : (start : State) (front : List Exchange) (before : State) (x : Exchange) (after : State)
+    → IsOrderly start front before x after → (aim : Aim)
+    → aim_of x.ask ≡ Some aim → IsAwake before x.now aim.name aim.at → aim.first < length (received start front aim.at)
+    → is_taken x.answer ≡ false
 overlap start front before x after orderly aim e awake lt =
     ap is_taken (orderly.missed aim e awake (λ is. absurd (omega arith))).0
 
@@ -37,48 +44,65 @@ Quiet at (Some answer) = begins at answer ≡ false
 quiet_size : (max_blob next : ℕ) (body at : List ℕ) → Quiet at (size_fault max_blob next body)
 unfolding Quiet
 quiet_size max_blob next body at =
-    elim (nat_lt max_blob (next + length body)) as (λ b. Quiet at (cond b (Some (answers.Refused refusals.TooLarge)) None)) [ true ↦ refl | false ↦ tt ]
+    elim (nat_lt max_blob (next + length body))
+    as (λ b. Quiet at (cond b (Some (answers.Refused refusals.TooLarge)) None)) [ true ↦ refl | false ↦ tt ]
 
-quiet_fault : (max_blob : ℕ) (name to : List ℕ) (next : ℕ) (range : Extent) (body at : List ℕ) → Quiet at (body_fault max_blob name to next range body)
+quiet_fault : (max_blob : ℕ) (name to : List ℕ) (next : ℕ) (range : Extent) (body at : List ℕ)
+    → Quiet at (body_fault max_blob name to next range body)
 unfolding Quiet
 quiet_fault max_blob name to next Absent body at = quiet_size max_blob next body at
 quiet_fault max_blob name to next Bad body at = refl
 quiet_fault max_blob name to next (Given range) body at =
-    elim (not (range.first == next)) as (λ b. Quiet at (cond b (Some (answers.Misplaced name to next)) (cond (nat_lt range.last range.first || not (range.last - range.first + 1 == length body)) (Some (answers.Refused refusals.WrongLength)) (size_fault max_blob next body)))) [
+    elim (not (range.first == next)) as (λ b. Quiet at (cond b (Some (answers.Misplaced name to next))
+    (cond (nat_lt range.last range.first || not (range.last - range.first + 1 == length body))
+    (Some (answers.Refused refusals.WrongLength)) (size_fault max_blob next body)))) [
       | true ↦ refl
-      | false ↦ elim (nat_lt range.last range.first || not (range.last - range.first + 1 == length body)) as (λ b. Quiet at (cond b (Some (answers.Refused refusals.WrongLength)) (size_fault max_blob next body))) [
-        | true ↦ refl
-        | false ↦ quiet_size max_blob next body at
-      ]
+      | false ↦ elim (nat_lt range.last range.first || not (range.last - range.first + 1 == length body))
+          as (λ b. Quiet at (cond b (Some (answers.Refused refusals.WrongLength)) (size_fault max_blob next body))) [
+            | true ↦ refl
+            | false ↦ quiet_size max_blob next body at
+          ]
     ]
 
-quiet_unless : (at : List ℕ) (fault : Option Answer) (o : Outcome) → Quiet at fault → begins at (answer_of o) ≡ false → begins at (answer_of (unless_fault fault o)) ≡ false
+quiet_unless : (at : List ℕ) (fault : Option Answer) (o : Outcome) → Quiet at fault → begins at (answer_of o) ≡ false
+    → begins at (answer_of (unless_fault fault o)) ≡ false
 unfolding Quiet
 quiet_unless at None o q h = h
 quiet_unless at (Some answer) o q h = q
 
-quiet_checked : (at : List ℕ) (asked : Option Digest) (blob name to : List ℕ) → begins at (answer_of (checked asked blob (λ d. Commits name to d blob))) ≡ false
+quiet_checked : (at : List ℕ) (asked : Option Digest) (blob name to : List ℕ)
+    → begins at (answer_of (checked asked blob (λ d. Commits name to d blob))) ≡ false
 quiet_checked at None blob name to = refl
 quiet_checked at (Some d) blob name to =
-    elim (same_digest (content_digest d.algorithm blob) d) as (λ b. begins at (answer_of (cond b (Commits name to d blob) (refused refusals.Mismatch))) ≡ false) [ true ↦ refl | false ↦ refl ]
+    elim (same_digest (content_digest d.algorithm blob) d)
+    as (λ b. begins at (answer_of (cond b (Commits name to d blob) (refused refusals.Mismatch))) ≡ false)
+    [ true ↦ refl | false ↦ refl ]
 
-quiet_in_session : (at : List ℕ) (max_blob : ℕ) (session : Session) (name to : List ℕ) (act : Act) → begins at (answer_of (in_session max_blob session name to act)) ≡ false
+quiet_in_session : (at : List ℕ) (max_blob : ℕ) (session : Session) (name to : List ℕ) (act : Act)
+    → begins at (answer_of (in_session max_blob session name to act)) ≡ false
 quiet_in_session at max_blob session name to (Sends range body) =
-    quiet_unless at (body_fault max_blob name to (length session.received) range body) (Takes name to (session.received ++ body)) (quiet_fault max_blob name to (length session.received) range body at) refl
+    quiet_unless at (body_fault max_blob name to (length session.received) range body)
+    (Takes name to (session.received ++ body))
+    (quiet_fault max_blob name to (length session.received) range body at) refl
 quiet_in_session at max_blob session name to (Closes range digest body) =
-    quiet_unless at (body_fault max_blob name to (length session.received) range body) (checked digest (session.received ++ body) (λ d. Commits name to d (session.received ++ body))) (quiet_fault max_blob name to (length session.received) range body at)
+    quiet_unless at (body_fault max_blob name to (length session.received) range body)
+    (checked digest (session.received ++ body) (λ d. Commits name to d (session.received ++ body)))
+    (quiet_fault max_blob name to (length session.received) range body at)
     (quiet_checked at digest (session.received ++ body) name to)
 quiet_in_session at max_blob session name to AsksOffset = refl
 
-quiet_at_session : (at : List ℕ) (max_blob : ℕ) (o : Option Session) (name to : List ℕ) (act : Act) → begins at (answer_of (at_session max_blob o name to act)) ≡ false
+quiet_at_session : (at : List ℕ) (max_blob : ℕ) (o : Option Session) (name to : List ℕ) (act : Act)
+    → begins at (answer_of (at_session max_blob o name to act)) ≡ false
 quiet_at_session at max_blob None name to act = refl
 quiet_at_session at max_blob (Some session) name to act =
-    elim (same session.name name) as (λ b. begins at (answer_of (cond b (in_session max_blob session name to act) (refused refusals.NoUpload))) ≡ false) [
+    elim (same session.name name) as (λ b.
+    begins at (answer_of (cond b (in_session max_blob session name to act) (refused refusals.NoUpload))) ≡ false) [
       | true ↦ quiet_in_session at max_blob session name to act
       | false ↦ refl
     ]
 
-quiet_alone : (at : List ℕ) (limits : Limits) (life : Life) (ask : Ask) (now : ℕ) → IsBorn life → begins at (alone_answer limits.max_blob limits.max_idle at life ask now) ≡ false
+quiet_alone : (at : List ℕ) (limits : Limits) (life : Life) (ask : Ask) (now : ℕ) → IsBorn life
+    → begins at (alone_answer limits.max_blob limits.max_idle at life ask now) ≡ false
 quiet_alone at limits Unborn ask now born = absurd born
 quiet_alone at limits (Open session) ask now born =
     on_each (λ o. begins at (answer_of o) ≡ false) (upload_view ask) (refused refusals.NoUpload) _ refl
@@ -90,9 +114,11 @@ born_after session now (Takes name at received) = tt
 born_after session now (Commits name at digest blob) = tt
 born_after session now other = tt
 
-stays_born : (at : List ℕ) (limits : Limits) (life : Life) (ask : Ask) (now : ℕ) → IsBorn life → IsBorn (alone_after limits.max_blob limits.max_idle life ask now)
+stays_born : (at : List ℕ) (limits : Limits) (life : Life) (ask : Ask) (now : ℕ) → IsBorn life
+    → IsBorn (alone_after limits.max_blob limits.max_idle life ask now)
 stays_born at limits Unborn ask now born = absurd born
-stays_born at limits (Open session) ask now born = born_after session now (alone_outcome limits.max_blob limits.max_idle session ask now)
+stays_born at limits (Open session) ask now born =
+    born_after session now (alone_outcome limits.max_blob limits.max_idle session ask now)
 stays_born at limits Gone ask now born = tt
 
 -- ---- over a list
@@ -123,25 +149,38 @@ record Parted (limits : Limits) (at : List ℕ) (life : Life) (x : Exchange) (xs
   pub first : x.answer ≡ alone_answer limits.max_blob limits.max_idle at life x.ask x.now
   pub later : SoFar limits at (alone_after limits.max_blob limits.max_idle life x.ask x.now) xs
 
-skip : (limits : Limits) (at : List ℕ) (life : Life) (x : Exchange) (xs : List Exchange) → told (x ∷ xs) at ≡ told xs at → SoFar limits at life (x ∷ xs) → SoFar limits at life xs
-skip limits at life x xs e h = subst (λ ys. list_map (λ y. y.answer) ys ≡ alone limits.max_blob limits.max_idle at life (list_map (λ y. (y.ask, y.now)) ys)) e h
+skip : (limits : Limits) (at : List ℕ) (life : Life) (x : Exchange) (xs : List Exchange) → told (x ∷ xs) at ≡ told xs at
+    → SoFar limits at life (x ∷ xs) → SoFar limits at life xs
+skip limits at life x xs e h =
+    subst (λ ys. list_map (λ y. y.answer) ys
+    ≡ alone limits.max_blob limits.max_idle at life (list_map (λ y. (y.ask, y.now)) ys)) e h
 
-parted : (limits : Limits) (at : List ℕ) (life : Life) (x : Exchange) (xs : List Exchange) → told (x ∷ xs) at ≡ x ∷ told xs at → SoFar limits at life (x ∷ xs) → Parted limits at life x xs
+parted : (limits : Limits) (at : List ℕ) (life : Life) (x : Exchange) (xs : List Exchange)
+    → told (x ∷ xs) at ≡ x ∷ told xs at → SoFar limits at life (x ∷ xs) → Parted limits at life x xs
 parted limits at life x xs e h =
-    let both : x.answer ∷ list_map (λ y. y.answer) (told xs at) ≡ alone_answer limits.max_blob limits.max_idle at life x.ask x.now ∷ alone limits.max_blob limits.max_idle at (alone_after limits.max_blob limits.max_idle life x.ask x.now) (list_map (λ y. (y.ask, y.now)) (told xs at)) =
-    subst (λ ys. list_map (λ y. y.answer) ys ≡ alone limits.max_blob limits.max_idle at life (list_map (λ y. (y.ask, y.now)) ys)) e h in
+    let both : x.answer ∷ list_map (λ y. y.answer) (told xs at)
+    ≡ alone_answer limits.max_blob limits.max_idle at life x.ask x.now ∷ alone limits.max_blob limits.max_idle at
+    (alone_after limits.max_blob limits.max_idle life x.ask x.now) (list_map (λ y. (y.ask, y.now)) (told xs at)) =
+    subst (λ ys. list_map (λ y. y.answer) ys
+    ≡ alone limits.max_blob limits.max_idle at life (list_map (λ y. (y.ask, y.now)) ys)) e h in
     record { first = cc; later = cc }
 
-again_from : (limits : Limits) (at : List ℕ) (xs : List Exchange) (life : Life) → IsBorn life → SoFar limits at life xs → All (λ x. begins at x.answer ≡ false) xs
+again_from : (limits : Limits) (at : List ℕ) (xs : List Exchange) (life : Life) → IsBorn life → SoFar limits at life xs
+    → All (λ x. begins at x.answer ≡ false) xs
 again_from limits at [] life born h = All-nil (λ y. begins at y.answer ≡ false)
 again_from limits at (x ∷ xs) life born h =
     elim (lacks_memory x.answer) as (λ b. lacks_memory x.answer ≡ b → All (λ y. begins at y.answer ≡ false) (x ∷ xs)) [
-      | true ↦ λ m. All-cons (λ y. begins at y.answer ≡ false) x xs (lacking x.answer at m) (again_from limits at xs life born (skip limits at life x xs (told_none x xs at m) h))
+      | true ↦ λ m. All-cons (λ y. begins at y.answer ≡ false) x xs (lacking x.answer at m)
+          (again_from limits at xs life born (skip limits at life x xs (told_none x xs at m) h))
       | false ↦ λ m. elim (is_part at x) as (λ b. is_part at x ≡ b → All (λ y. begins at y.answer ≡ false) (x ∷ xs)) [
         | true ↦ λ p.
             let apart = parted limits at life x xs (told_own x xs at p m) h in
-            All-cons (λ y. begins at y.answer ≡ false) x xs (ap (begins at) apart.first ∙ quiet_alone at limits life x.ask x.now born) (again_from limits at xs _ (stays_born at limits life x.ask x.now born) apart.later)
-        | false ↦ λ p. All-cons (λ y. begins at y.answer ≡ false) x xs (or_false (carries at x.ask) (begins at x.answer) p) (again_from limits at xs life born (skip limits at life x xs (told_other x xs at p) h))
+            All-cons (λ y. begins at y.answer ≡ false) x xs
+            (ap (begins at) apart.first ∙ quiet_alone at limits life x.ask x.now born)
+            (again_from limits at xs _ (stays_born at limits life x.ask x.now born) apart.later)
+        | false ↦
+            λ p. All-cons (λ y. begins at y.answer ≡ false) x xs (or_false (carries at x.ask) (begins at x.answer) p)
+            (again_from limits at xs life born (skip limits at life x xs (told_other x xs at p) h))
       ] refl
     ] refl
 
@@ -151,31 +190,42 @@ IsAbsent Unborn = Unit {0}
 IsAbsent (Open session) = ⊥
 IsAbsent Gone = Unit {0}
 
-absent_answer : (at : List ℕ) (limits : Limits) (life : Life) (ask : Ask) (now : ℕ) → IsAbsent life → carries at ask ≡ true → alone_answer limits.max_blob limits.max_idle at life ask now ≡ answers.Refused refusals.NoUpload
+absent_answer : (at : List ℕ) (limits : Limits) (life : Life) (ask : Ask) (now : ℕ) → IsAbsent life → carries at ask
+    ≡ true → alone_answer limits.max_blob limits.max_idle at life ask now ≡ answers.Refused refusals.NoUpload
 absent_answer at limits (Open session) ask now none c = absurd none
 absent_answer at limits Gone ask now none c = refl
 absent_answer at limits Unborn ask now none c = ap (λ v. first_answer at (opened_under v)) (carried at ask c).view
 
-absent_after : (at : List ℕ) (limits : Limits) (life : Life) (ask : Ask) (now : ℕ) → IsAbsent life → carries at ask ≡ true → IsAbsent (alone_after limits.max_blob limits.max_idle life ask now)
+absent_after : (at : List ℕ) (limits : Limits) (life : Life) (ask : Ask) (now : ℕ) → IsAbsent life
+    → carries at ask ≡ true → IsAbsent (alone_after limits.max_blob limits.max_idle life ask now)
 absent_after at limits (Open session) ask now none c = absurd none
 absent_after at limits Gone ask now none c = tt
-absent_after at limits Unborn ask now none c = subst (λ v. IsAbsent (first_life (opened_under v) now)) (sym (carried at ask c).view) tt
+absent_after at limits Unborn ask now none c =
+    subst (λ v. IsAbsent (first_life (opened_under v) now)) (sym (carried at ask c).view) tt
 
 abbrev GetsNothing : List ℕ → Exchange → Type 0
-GetsNothing at x = carries at x.ask ≡ true → (x.answer ≡ answers.Refused refusals.NoUpload) ⊎ (x.answer ≡ answers.NoMemory)
+GetsNothing at x =
+    carries at x.ask ≡ true → (x.answer ≡ answers.Refused refusals.NoUpload) ⊎ (x.answer ≡ answers.NoMemory)
 
-stranger_from : (limits : Limits) (at : List ℕ) (xs : List Exchange) (life : Life) → IsAbsent life → All (λ x. begins at x.answer ≡ false) xs → SoFar limits at life xs → All (GetsNothing at) xs
+stranger_from : (limits : Limits) (at : List ℕ) (xs : List Exchange) (life : Life) → IsAbsent life
+    → All (λ x. begins at x.answer ≡ false) xs → SoFar limits at life xs → All (GetsNothing at) xs
 stranger_from limits at [] life none quiet h = All-nil (GetsNothing at)
 stranger_from limits at (x ∷ xs) life none quiet h =
     let rest : All (λ y. begins at y.answer ≡ false) xs = All-tail (λ y. begins at y.answer ≡ false) x xs quiet in
     elim (lacks_memory x.answer) as (λ b. lacks_memory x.answer ≡ b → All (GetsNothing at) (x ∷ xs)) [
-      | true ↦ λ m. All-cons (GetsNothing at) x xs (λ c. inr (lacking_is x.answer m)) (stranger_from limits at xs life none rest (skip limits at life x xs (told_none x xs at m) h))
+      | true ↦ λ m. All-cons (GetsNothing at) x xs (λ c. inr (lacking_is x.answer m))
+          (stranger_from limits at xs life none rest (skip limits at life x xs (told_none x xs at m) h))
       | false ↦ λ m. elim (is_part at x) as (λ b. is_part at x ≡ b → All (GetsNothing at) (x ∷ xs)) [
         | true ↦ λ p.
             let apart = parted limits at life x xs (told_own x xs at p m) h in
-            let c : carries at x.ask ≡ true = or_from_right (carries at x.ask) (begins at x.answer) p (All-head (λ y. begins at y.answer ≡ false) x xs quiet) in
-            All-cons (GetsNothing at) x xs (λ _. inl (apart.first ∙ absent_answer at limits life x.ask x.now none c)) (stranger_from limits at xs _ (absent_after at limits life x.ask x.now none c) rest apart.later)
-        | false ↦ λ p. All-cons (GetsNothing at) x xs (λ c. absurd (true≢false (sym c ∙ or_false_left (carries at x.ask) (begins at x.answer) p))) (stranger_from limits at xs life none rest (skip limits at life x xs (told_other x xs at p) h))
+            let c : carries at x.ask ≡ true =
+            or_from_right (carries at x.ask) (begins at x.answer) p
+            (All-head (λ y. begins at y.answer ≡ false) x xs quiet) in
+            All-cons (GetsNothing at) x xs (λ _. inl (apart.first ∙ absent_answer at limits life x.ask x.now none c))
+            (stranger_from limits at xs _ (absent_after at limits life x.ask x.now none c) rest apart.later)
+        | false ↦ λ p. All-cons (GetsNothing at) x xs
+            (λ c. absurd (true≢false (sym c ∙ or_false_left (carries at x.ask) (begins at x.answer) p)))
+            (stranger_from limits at xs life none rest (skip limits at life x xs (told_other x xs at p) h))
       ] refl
     ] refl
 
@@ -185,24 +235,30 @@ absent_at_start None false e = tt
 absent_at_start (Some session) b e = absurd (let no : ⊥ = cc in no)
 
 -- an exchange that was answered NoMemory isn't told
-told-skip : (front : List Exchange) (x : Exchange) (rest : List Exchange) (at : List ℕ) → lacks_memory x.answer ≡ true → told (front ++ x ∷ rest) at ≡ told (front ++ rest) at
+told-skip : (front : List Exchange) (x : Exchange) (rest : List Exchange) (at : List ℕ) → lacks_memory x.answer ≡ true
+    → told (front ++ x ∷ rest) at ≡ told (front ++ rest) at
 told-skip [] x rest at m = told_none x rest at m
 told-skip (y ∷ ys) x rest at m =
-    elim (is_part at y) as (λ b. filter (λ z. not (lacks_memory z.answer)) (cond b (y ∷ part (ys ++ x ∷ rest) at) (part (ys ++ x ∷ rest) at)) ≡ filter (λ z. not (lacks_memory z.answer)) (cond b (y ∷ part (ys ++ rest) at) (part (ys ++ rest) at))) [
+    elim (is_part at y) as (λ b.
+    filter (λ z. not (lacks_memory z.answer)) (cond b (y ∷ part (ys ++ x ∷ rest) at) (part (ys ++ x ∷ rest) at))
+    ≡ filter (λ z. not (lacks_memory z.answer)) (cond b (y ∷ part (ys ++ rest) at) (part (ys ++ rest) at))) [
       | true ↦ ap (λ zs. cond (not (lacks_memory y.answer)) (y ∷ zs) zs) (told-skip ys x rest at m)
       | false ↦ told-skip ys x rest at m
     ]
 
-trace : (start : State) (front : List Exchange) (x : Exchange) (rest : List Exchange) (at : List ℕ) → x.answer ≡ answers.NoMemory
-    → IsToldAsAlone start (front ++ x ∷ rest) at → IsToldAsAlone start (front ++ rest) at
+trace : (start : State) (front : List Exchange) (x : Exchange) (rest : List Exchange) (at : List ℕ)
+    → x.answer ≡ answers.NoMemory → IsToldAsAlone start (front ++ x ∷ rest) at → IsToldAsAlone start (front ++ rest) at
 trace start front x rest at e h =
-    subst (λ ys. list_map (λ y. y.answer) ys ≡ alone start.limits.max_blob start.limits.max_idle at (life_in start at) (list_map (λ y. (y.ask, y.now)) ys)) (told-skip front x rest at (ap lacks_memory e)) h
+    subst (λ ys. list_map (λ y. y.answer) ys ≡ alone start.limits.max_blob start.limits.max_idle at (life_in start at)
+    (list_map (λ y. (y.ask, y.now)) ys)) (told-skip front x rest at (ap lacks_memory e)) h
 
 pub headline_rules_out : HeadlineRulesOut
 headline_rules_out =
     record {
       overlap = overlap;
-      stranger = λ start xs at h none quiet. stranger_from start.limits at xs (life_in start at) (absent_at_start (map.get start.sessions at) (nat_le (number_of at) start.issued) none) quiet h;
+      stranger =
+          λ start xs at h none quiet. stranger_from start.limits at xs (life_in start at)
+          (absent_at_start (map.get start.sessions at) (nat_le (number_of at) start.issued) none) quiet h;
       again = λ start xs at h born. again_from start.limits at xs (life_in start at) born h;
       trace = trace;
     }

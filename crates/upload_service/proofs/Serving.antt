@@ -1,5 +1,6 @@
 -- How a path through the code meets the machine.
-use Rattle.std.proofs.Common.{◌≡◌, ◌≢◌, ℕ, ◌+◌, ◌≤◌, List, ◌++◌, length, true, Option, Some, None, refl, sym, ◌∙◌, ap, subst, inl, inr, arith}
+use Rattle.std.proofs.Common.{◌≡◌, ◌≢◌, ℕ, ◌+◌, ◌≤◌, List, ◌++◌, length, true, Option, Some, None, refl, sym, ◌∙◌, ap}
+use Rattle.std.proofs.Common.{subst, inl, inr, arith}
 use Rattle.std.specs.Prelude.{if◌then◌else◌}
 use Rattle.std.proofs.lemmas.Bool.{true≢false, le-ltb}
 use Rattle.std.specs.FinMap as map
@@ -11,7 +12,9 @@ use Rattle.upload_service.specs.UploadView.{Act, Sends, Closes}
 use Rattle.upload_service.proofs.UploadView.{named}
 use Rattle.upload_service.specs.declared.answer.Answer.{Answer}
 use Rattle.upload_service.specs.declared.answer.Answer.TheVariants as answers
-use Rattle.upload_service.specs.Machine.{Session, State, Outcome, Replies, Takes, Commits, Stores, answer_of, state_after, refused, size_fault, body_fault, unless_fault, checked, in_session, at_session}
+use Rattle.upload_service.specs.Machine.{Session, State, Outcome, Replies, Takes, Commits, Stores, answer_of}
+use Rattle.upload_service.specs.Machine.{state_after, refused, size_fault, body_fault, unless_fault, checked}
+use Rattle.upload_service.specs.Machine.{in_session, at_session}
 use Rattle.std.specs.Prelude.{IsSome, is_some}
 use Rattle.std.specs.FinSet as set
 use Rattle.std.specs.Ordering.{nat_cmp}
@@ -19,19 +22,25 @@ use Rattle.std.specs.Cmp.Lexicographic.{slice_cmp}
 use Rattle.upload_service.specs.Machine.{Comes, IsLawful, may_lack_memory, empty_state, pair_cmp}
 use Rattle.upload_service.proofs.Tables.{same_from_ne, same_digest_from_eq, same_digest_from_ne}
 
-pub does : (s : State) (now : ℕ) (o p : Outcome) (answer : Answer) (t : State) → o ≡ p → answer ≡ answer_of p → t ≡ state_after s now p → Comes s now o answer t
+pub does : (s : State) (now : ℕ) (o p : Outcome) (answer : Answer) (t : State) → o ≡ p → answer ≡ answer_of p
+    → t ≡ state_after s now p → Comes s now o answer t
 does s now o p answer t e a n = inl (a ∙ ap answer_of (sym e), n ∙ ap (state_after s now) (sym e))
 
-pub lacks : (s : State) (now : ℕ) (o p : Outcome) (answer : Answer) (t : State) → o ≡ p → may_lack_memory p ≡ true → answer ≡ answers.NoMemory → t ≡ s → Comes s now o answer t
+pub lacks : (s : State) (now : ℕ) (o p : Outcome) (answer : Answer) (t : State) → o ≡ p → may_lack_memory p ≡ true
+    → answer ≡ answers.NoMemory → t ≡ s → Comes s now o answer t
 lacks s now o p answer t e m a n = inr (ap may_lack_memory e ∙ m, a, n)
 
-pub comes_by : (s : State) (now : ℕ) (o p : Outcome) (answer : Answer) (t : State) → o ≡ p → Comes s now p answer t → Comes s now o answer t
+pub comes_by : (s : State) (now : ℕ) (o p : Outcome) (answer : Answer) (t : State) → o ≡ p → Comes s now p answer t
+    → Comes s now o answer t
 comes_by s now o p answer t e h = subst (λ q. Comes s now q answer t) (sym e) h
 
-pub none_named : (max_blob : ℕ) (o : Option Session) (name at : List ℕ) (act : Act) → ((session : Session) → o ≡ Some session → session.name ≢ name) → at_session max_blob o name at act ≡ refused refusals.NoUpload
+pub none_named : (max_blob : ℕ) (o : Option Session) (name at : List ℕ) (act : Act)
+    → ((session : Session) → o ≡ Some session → session.name ≢ name)
+    → at_session max_blob o name at act ≡ refused refusals.NoUpload
 none_named max_blob None name at act h = refl
 none_named max_blob (Some session) name at act h =
-    ap (λ b. if b then in_session max_blob session name at act else refused refusals.NoUpload) (same_from_ne session.name name (h session refl))
+    ap (λ b. if b then in_session max_blob session name at act else refused refusals.NoUpload)
+    (same_from_ne session.name name (h session refl))
 
 None≢Some : {A : Type 0} {x : A} → None ≡ Some x → ⊥
 None≢Some e = cc
@@ -51,46 +60,65 @@ empty_is_lawful limits issued =
     }
 
 -- a body that is turned away, and one that fits
-pub chunk_turned_away : (max_blob : ℕ) (o : Option Session) (session : Session) (name at : List ℕ) (range : Extent) (body : List ℕ) (next : ℕ) (answer : Answer)
-    → o ≡ Some session → session.name ≡ name → next ≡ length session.received → body_fault max_blob name at next range body ≡ Some answer
+pub chunk_turned_away : (max_blob : ℕ) (o : Option Session) (session : Session) (name at : List ℕ)
+    (range : Extent) (body : List ℕ) (next : ℕ) (answer : Answer) → o ≡ Some session → session.name ≡ name
+    → next ≡ length session.received → body_fault max_blob name at next range body ≡ Some answer
     → at_session max_blob o name at (Sends range body) ≡ Replies answer
 chunk_turned_away max_blob o session name at range body next answer e n l f =
     named max_blob o session name at _ e n
-    ∙ ap (λ k. unless_fault (body_fault max_blob name at k range body) (Takes name at (session.received ++ body))) (sym l)
+    ∙ ap (λ k. unless_fault (body_fault max_blob name at k range body) (Takes name at (session.received ++ body)))
+    (sym l)
     ∙ ap (λ q. unless_fault q (Takes name at (session.received ++ body))) f
 
-pub chunk_fits : (max_blob : ℕ) (o : Option Session) (session : Session) (name at : List ℕ) (range : Extent) (body : List ℕ) (next : ℕ)
-    → o ≡ Some session → session.name ≡ name → next ≡ length session.received → body_fault max_blob name at next range body ≡ None
+pub chunk_fits : (max_blob : ℕ) (o : Option Session) (session : Session) (name at : List ℕ) (range : Extent)
+    (body : List ℕ) (next : ℕ) → o ≡ Some session
+    → session.name ≡ name → next ≡ length session.received → body_fault max_blob name at next range body ≡ None
     → at_session max_blob o name at (Sends range body) ≡ Takes name at (session.received ++ body)
 chunk_fits max_blob o session name at range body next e n l f =
     named max_blob o session name at _ e n
-    ∙ ap (λ k. unless_fault (body_fault max_blob name at k range body) (Takes name at (session.received ++ body))) (sym l)
+    ∙ ap (λ k. unless_fault (body_fault max_blob name at k range body) (Takes name at (session.received ++ body)))
+    (sym l)
     ∙ ap (λ q. unless_fault q (Takes name at (session.received ++ body))) f
 
-pub close_turned_away : (max_blob : ℕ) (o : Option Session) (session : Session) (name at : List ℕ) (range : Extent) (digest : Option Digest) (body : List ℕ) (next : ℕ) (answer : Answer)
-    → o ≡ Some session → session.name ≡ name → next ≡ length session.received → body_fault max_blob name at next range body ≡ Some answer
+pub close_turned_away : (max_blob : ℕ) (o : Option Session) (session : Session) (name at : List ℕ) (range : Extent)
+    (digest : Option Digest) (body : List ℕ) (next : ℕ) (answer : Answer) → o ≡ Some session → session.name ≡ name
+    → next ≡ length session.received → body_fault max_blob name at next range body ≡ Some answer
     → at_session max_blob o name at (Closes range digest body) ≡ Replies answer
 close_turned_away max_blob o session name at range digest body next answer e n l f =
     named max_blob o session name at _ e n
-    ∙ ap (λ k. unless_fault (body_fault max_blob name at k range body) (checked digest (session.received ++ body) (λ d. Commits name at d (session.received ++ body)))) (sym l)
-    ∙ ap (λ q. unless_fault q (checked digest (session.received ++ body) (λ d. Commits name at d (session.received ++ body)))) f
+    ∙ ap (λ k. unless_fault (body_fault max_blob name at k range body)
+    (checked digest (session.received ++ body) (λ d. Commits name at d (session.received ++ body)))) (sym l)
+    ∙ ap (λ q.
+    unless_fault q (checked digest (session.received ++ body) (λ d. Commits name at d (session.received ++ body)))) f
 
-pub close_fits : (max_blob : ℕ) (o : Option Session) (session : Session) (name at : List ℕ) (range : Extent) (digest : Option Digest) (body : List ℕ) (next : ℕ)
-    → o ≡ Some session → session.name ≡ name → next ≡ length session.received → body_fault max_blob name at next range body ≡ None
-    → at_session max_blob o name at (Closes range digest body) ≡ checked digest (session.received ++ body) (λ d. Commits name at d (session.received ++ body))
+pub close_fits : (max_blob : ℕ) (o : Option Session) (session : Session) (name at : List ℕ) (range : Extent)
+    (digest : Option Digest) (body : List ℕ) (next : ℕ) → o ≡ Some session → session.name ≡ name
+    → next ≡ length session.received → body_fault max_blob name at next range body ≡ None
+    → at_session max_blob o name at (Closes range digest body)
+    ≡ checked digest (session.received ++ body) (λ d. Commits name at d (session.received ++ body))
 close_fits max_blob o session name at range digest body next e n l f =
     named max_blob o session name at _ e n
-    ∙ ap (λ k. unless_fault (body_fault max_blob name at k range body) (checked digest (session.received ++ body) (λ d. Commits name at d (session.received ++ body)))) (sym l)
-    ∙ ap (λ q. unless_fault q (checked digest (session.received ++ body) (λ d. Commits name at d (session.received ++ body)))) f
+    ∙ ap (λ k. unless_fault (body_fault max_blob name at k range body)
+    (checked digest (session.received ++ body) (λ d. Commits name at d (session.received ++ body)))) (sym l)
+    ∙ ap (λ q.
+    unless_fault q (checked digest (session.received ++ body) (λ d. Commits name at d (session.received ++ body)))) f
 
-pub mismatch : (digest : Digest) (blob : List ℕ) (done : Digest → Outcome) → content_digest digest.algorithm blob ≢ digest → checked (Some digest) blob done ≡ refused refusals.Mismatch
-mismatch digest blob done n = ap (λ b. if b then done digest else refused refusals.Mismatch) (same_digest_from_ne (content_digest digest.algorithm blob) digest n)
+pub mismatch : (digest : Digest) (blob : List ℕ) (done : Digest → Outcome)
+    → content_digest digest.algorithm blob ≢ digest → checked (Some digest) blob done ≡ refused refusals.Mismatch
+mismatch digest blob done n =
+    ap (λ b. if b then done digest else refused refusals.Mismatch)
+    (same_digest_from_ne (content_digest digest.algorithm blob) digest n)
 
-pub match : (digest : Digest) (blob : List ℕ) (done : Digest → Outcome) → content_digest digest.algorithm blob ≡ digest → checked (Some digest) blob done ≡ done digest
-match digest blob done e = ap (λ b. if b then done digest else refused refusals.Mismatch) (same_digest_from_eq (content_digest digest.algorithm blob) digest e)
+pub match : (digest : Digest) (blob : List ℕ) (done : Digest → Outcome) → content_digest digest.algorithm blob ≡ digest
+    → checked (Some digest) blob done ≡ done digest
+match digest blob done e =
+    ap (λ b. if b then done digest else refused refusals.Mismatch)
+    (same_digest_from_eq (content_digest digest.algorithm blob) digest e)
 
-pub single_fits : (max_blob : ℕ) (name body : List ℕ) (asked : Option Digest) (digest : Digest) → length body ≤ max_blob → asked ≡ Some digest
-    → unless_fault (size_fault max_blob 0 body) (checked asked body (λ d. Stores name d body)) ≡ checked (Some digest) body (λ d. Stores name d body)
+pub single_fits : (max_blob : ℕ) (name body : List ℕ) (asked : Option Digest) (digest : Digest) → length body ≤ max_blob
+    → asked ≡ Some digest → unless_fault (size_fault max_blob 0 body) (checked asked body (λ d. Stores name d body))
+    ≡ checked (Some digest) body (λ d. Stores name d body)
 single_fits max_blob name body asked digest le e =
-    ap (λ b. unless_fault (if b then Some (answers.Refused refusals.TooLarge) else None) (checked asked body (λ d. Stores name d body))) (le-ltb max_blob (0 + length body) (omega arith))
+    ap (λ b. unless_fault (if b then Some (answers.Refused refusals.TooLarge) else None)
+    (checked asked body (λ d. Stores name d body))) (le-ltb max_blob (0 + length body) (omega arith))
     ∙ ap (λ a. checked a body (λ d. Stores name d body)) e

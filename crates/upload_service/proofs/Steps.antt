@@ -1,5 +1,6 @@
 -- What each outcome says of the request and the state that it came from.
-use Rattle.std.proofs.Common.{◌≡◌, ◌≢◌, ℕ, ◌+◌, ◌-◌, ◌<◌, ◌≤◌, List, ◌++◌, length, Bool, true, false, Option, Some, None, refl, sym, ◌∙◌, ap, cond, not, length-append}
+use Rattle.std.proofs.Common.{◌≡◌, ◌≢◌, ℕ, ◌+◌, ◌-◌, ◌<◌, ◌≤◌, List, ◌++◌, length, Bool, true, false, Option, Some}
+use Rattle.std.proofs.Common.{None, refl, sym, ◌∙◌, ap, cond, not, length-append}
 use Rattle.std.specs.Prelude.{◌||◌, ◌==◌, nat_lt, nat_le, if◌then◌else◌}
 use Rattle.std.proofs.lemmas.Bool.{true≢false, ltb-false, leb-false, eq-eqb}
 use Rattle.std.specs.FinMap as map
@@ -15,7 +16,10 @@ use Rattle.upload_service.specs.declared.ask.Ask.TheVariants as asks
 use Rattle.upload_service.specs.declared.answer.Answer.{Answer}
 use Rattle.upload_service.specs.declared.answer.Answer.TheVariants as answers
 use Rattle.upload_service.specs.UploadView.{Act, Sends, AsksOffset, Closes, upload_view, opened_under}
-use Rattle.upload_service.specs.Machine.{same, same_digest, is_idle, unless_idle, awake, all_awake, Session, State, Outcome, Replies, Begins, Takes, Commits, Stores, Mounts, refused, size_fault, body_fault, unless_fault, checked, in_session, at_session, last_number, opening, blob_reply, holds, outcome}
+use Rattle.upload_service.specs.Machine.{same, same_digest, is_idle, unless_idle, awake, all_awake, Session, State}
+use Rattle.upload_service.specs.Machine.{Outcome, Replies, Begins, Takes, Commits, Stores, Mounts, refused, size_fault}
+use Rattle.upload_service.specs.Machine.{body_fault, unless_fault, checked, in_session, at_session, last_number}
+use Rattle.upload_service.specs.Machine.{opening, blob_reply, holds, outcome}
 use Rattle.upload_service.specs.Headline.{aim_of, aim_at}
 use Rattle.upload_service.proofs.Tables.{eq_from_same, eq_from_same_digest}
 
@@ -72,7 +76,8 @@ pub record IsTaken (s : State) (now : ℕ) (ask : Ask) (name at received : List 
   pub grown : received ≡ found.session.received ++ body
   pub small : length received ≤ s.limits.max_blob
 
-pub record IsCommit (s : State) (now : ℕ) (ask : Ask) (name at : List ℕ) (digest : Digest) (blob : List ℕ) : Type 0 where
+pub record IsCommit (s : State) (now : ℕ) (ask : Ask) (name at : List ℕ) (digest : Digest)
+    (blob : List ℕ) : Type 0 where
   pub found : Found s now name at
   pub range : Extent
   pub body : List ℕ
@@ -106,7 +111,8 @@ or_false true b e = absurd (true≢false e)
 or_false false b e = (refl, e)
 
 module _ (P : Outcome → Type 0) (refusals_do : (r : Refusal) → P (refused r)) where
-  pub by_size : (max_blob next : ℕ) (body : List ℕ) (o : Outcome) → (next + length body ≤ max_blob → P o) → P (unless_fault (size_fault max_blob next body) o)
+  pub by_size : (max_blob next : ℕ) (body : List ℕ) (o : Outcome) → (next + length body ≤ max_blob → P o)
+      → P (unless_fault (size_fault max_blob next body) o)
   by_size max_blob next body o fits =
       by_test (λ fault. P (unless_fault fault o)) (nat_lt max_blob (next + length body)) _ _
       (λ _. refusals_do refusals.TooLarge)
@@ -121,7 +127,8 @@ module _ (P : Outcome → Type 0) (refusals_do : (r : Refusal) → P (refused r)
   by_body max_blob name at next (Given r) body o misses fits =
       by_test (λ fault. P (unless_fault fault o)) (not (r.first == next)) _ _
       (λ e. misses r refl (λ aligned. true≢false (sym e ∙ ap not (eq-eqb _ _ aligned))))
-      (λ _. by_test (λ fault. P (unless_fault fault o)) (nat_lt r.last r.first || not (r.last - r.first + 1 == length body)) _ _
+      (λ _. by_test (λ fault. P (unless_fault fault o))
+      (nat_lt r.last r.first || not (r.last - r.first + 1 == length body)) _ _
       (λ _. refusals_do refusals.WrongLength)
       (λ _. by_size max_blob next body o fits))
 
@@ -138,45 +145,69 @@ pub None≢Some : {A : Type 0} {x : A} → None ≡ Some x → ⊥
 None≢Some e = cc
 
 -- what isn't idle is open
-pub awake_is_open : (max_idle now : ℕ) (o : Option Session) (session : Session) → unless_idle max_idle now o ≡ Some session → (o ≡ Some session) × (is_idle max_idle now session ≡ false)
+pub awake_is_open : (max_idle now : ℕ) (o : Option Session) (session : Session)
+    → unless_idle max_idle now o ≡ Some session → (o ≡ Some session) × (is_idle max_idle now session ≡ false)
 awake_is_open max_idle now None session e = absurd (None≢Some e)
 awake_is_open max_idle now (Some had) session e =
-    elim (is_idle max_idle now had) as (λ b. is_idle max_idle now had ≡ b → cond b None (Some had) ≡ Some session → (Some had ≡ Some session) × (is_idle max_idle now session ≡ false)) [
+    elim (is_idle max_idle now had) as (λ b. is_idle max_idle now had ≡ b → cond b None (Some had) ≡ Some session
+    → (Some had ≡ Some session) × (is_idle max_idle now session ≡ false)) [
       | true ↦ λ _ q. absurd (None≢Some q)
       | false ↦ λ p q. (q, let is : had ≡ session = cc in ap (is_idle max_idle now) (sym is) ∙ p)
     ] refl e
 
-pub idle_is_none : (max_idle now : ℕ) (session : Session) → is_idle max_idle now session ≡ true → unless_idle max_idle now (Some session) ≡ None
+pub idle_is_none : (max_idle now : ℕ) (session : Session) → is_idle max_idle now session ≡ true
+    → unless_idle max_idle now (Some session) ≡ None
 idle_is_none max_idle now session e = ap (λ b. cond b None (Some session)) e
 
 module _ (s : State) (now : ℕ) where
-  sound_opening : (ask : Ask) (name secret : List ℕ) → AsksToBegin name ask → IsOutcome s ask secret now (opening s name secret now)
+  sound_opening : (ask : Ask) (name secret : List ℕ) → AsksToBegin name ask
+      → IsOutcome s ask secret now (opening s name secret now)
   sound_opening ask name secret asked =
-      by_test (IsOutcome s ask secret now) (nat_le s.limits.max_open (map.len (all_awake s now)) || nat_le last_number s.issued) _ _
+      by_test (IsOutcome s ask secret now)
+      (nat_le s.limits.max_open (map.len (all_awake s now)) || nat_le last_number s.issued) _ _
       (λ _. tt)
       (λ e. let none = or_false _ _ e in
       record { asked = asked; is_new = refl; numbers_left = leb-false _ _ none.1; room = leb-false _ _ none.0 })
 
-  sound_blob : (name : List ℕ) (digest : Digest) (head : Bool) (secret : List ℕ) (stored : Option (List ℕ)) → map.get s.blobs digest ≡ stored → holds s name digest ≡ true
+  sound_blob : (name : List ℕ) (digest : Digest) (head : Bool) (secret : List ℕ) (stored : Option (List ℕ))
+      → map.get s.blobs digest ≡ stored → holds s name digest ≡ true
       → IsOutcome s (asks.Has name digest head) secret now (blob_reply digest head stored)
   sound_blob name digest head secret None e held = tt
   sound_blob name digest head secret (Some blob) e held =
-      record { name = name; head = head; blob = blob; asked = refl; held = held; is_stored = e; is_size = refl; is_bytes = refl }
+      record {
+        name = name;
+        head = head;
+        blob = blob;
+        asked = refl;
+        held = held;
+        is_stored = e;
+        is_size = refl;
+        is_bytes = refl;
+      }
 
   sound_session : (ask : Ask) (secret name at : List ℕ) (act : Act) (o : Option Session) → awake s now at ≡ o
-      → ((found : Found s now name at) → IsOutcome s ask secret now (in_session s.limits.max_blob found.session name at act))
+      → ((found : Found s now name at)
+      → IsOutcome s ask secret now (in_session s.limits.max_blob found.session name at act))
       → IsOutcome s ask secret now (at_session s.limits.max_blob o name at act)
   sound_session ask secret name at act None e inside = tt
   sound_session ask secret name at act (Some session) e inside =
       let is = awake_is_open s.limits.max_idle now (map.get s.sessions at) session e in
       by_test (IsOutcome s ask secret now) (same session.name name) _ _
-      (λ q. inside (record { session = session; is_awake = e; is_open = is.0; not_idle = is.1; named = eq_from_same _ _ q }))
+      (λ q.
+      inside (record { session = session; is_awake = e; is_open = is.0; not_idle = is.1; named = eq_from_same _ _ q }))
       (λ _. tt)
 
-  sound_misplaced : (ask : Ask) (name at : List ℕ) (range : Extent) → aim_of ask ≡ aim_at name at range → (found : Found s now name at)
-      → (r : Span) → range ≡ Given r → r.first ≢ length found.session.received → IsMisplaced s now ask name at (length found.session.received)
+  sound_misplaced : (ask : Ask) (name at : List ℕ) (range : Extent) → aim_of ask ≡ aim_at name at range
+      → (found : Found s now name at) → (r : Span) → range ≡ Given r → r.first ≢ length found.session.received
+      → IsMisplaced s now ask name at (length found.session.received)
   sound_misplaced ask name at range aims found r given missed =
-      record { found = found; first = r.first; aimed = aims ∙ ap (aim_at name at) given; is_next = refl; missed = missed }
+      record {
+        found = found;
+        first = r.first;
+        aimed = aims ∙ ap (aim_at name at) given;
+        is_next = refl;
+        missed = missed;
+      }
 
   pub outcome_sound : (ask : Ask) (secret : List ℕ) → IsOutcome s ask secret now (outcome s ask secret now)
   outcome_sound asks.Base secret = tt
@@ -198,15 +229,32 @@ module _ (s : State) (now : ℕ) where
   outcome_sound (asks.Chunk name at range body) secret =
       let ask : Ask = asks.Chunk name at range body in
       sound_session ask secret name at (Sends range body) (awake s now at) refl (λ found.
-      by_body (IsOutcome s ask secret now) (λ _. tt) s.limits.max_blob name at (length found.session.received) range body _
+      by_body (IsOutcome s ask secret now) (λ _. tt) s.limits.max_blob name at
+      (length found.session.received) range body _
       (sound_misplaced ask name at range refl found)
-      (λ fits. record { found = found; range = range; body = body; asked = refl; grown = refl; small = simp length-append fits }))
-  outcome_sound (asks.Status name at) secret = sound_session (asks.Status name at) secret name at AsksOffset (awake s now at) refl (λ _. tt)
+      (λ fits. record {
+        found = found;
+        range = range;
+        body = body;
+        asked = refl;
+        grown = refl;
+        small = simp length-append fits;
+      }))
+  outcome_sound (asks.Status name at) secret =
+      sound_session (asks.Status name at) secret name at AsksOffset (awake s now at) refl (λ _. tt)
   outcome_sound (asks.Close name at range asked body) secret =
       let ask : Ask = asks.Close name at range asked body in
       let P : Outcome → Type 0 = IsOutcome s ask secret now in
       sound_session ask secret name at (Closes range asked body) (awake s now at) refl (λ found.
       by_body P (λ _. tt) s.limits.max_blob name at (length found.session.received) range body _
       (sound_misplaced ask name at range refl found)
-      (λ _. by_digest P (λ _. tt) asked (found.session.received ++ body) (λ d. Commits name at d (found.session.received ++ body)) (λ digest e own.
-      record { found = found; range = range; body = body; asked = ap (λ a. asks.Close name at range a body) e; grown = refl; own_digest = own })))
+      (λ _. by_digest P (λ _. tt) asked (found.session.received ++ body)
+      (λ d. Commits name at d (found.session.received ++ body)) (λ digest e own.
+      record {
+        found = found;
+        range = range;
+        body = body;
+        asked = ap (λ a. asks.Close name at range a body) e;
+        grown = refl;
+        own_digest = own;
+      })))

@@ -1,5 +1,6 @@
 -- The store after a run.
-use Rattle.std.proofs.Common.{◌≡◌, ℕ, List, [], ◌∷◌, ◌++◌, Bool, true, false, Option, Some, None, refl, sym, ◌∙◌, ap, subst, inl, inr, cond}
+use Rattle.std.proofs.Common.{◌≡◌, ℕ, List, [], ◌∷◌, ◌++◌, Bool, true, false, Option, Some, None, refl, sym, ◌∙◌, ap}
+use Rattle.std.proofs.Common.{subst, inl, inr, cond}
 use Rattle.std.specs.Prelude.{◌||◌, if◌then◌else◌}
 use Rattle.std.specs.FinMap as map
 use Rattle.upload_names.specs.Digest.{Digest}
@@ -7,7 +8,8 @@ use Rattle.upload_service.specs.declared.ask.Ask.{Ask}
 use Rattle.upload_service.specs.declared.ask.Ask.TheVariants as asks
 use Rattle.upload_service.specs.declared.answer.Answer.{Answer}
 use Rattle.upload_service.specs.declared.answer.Answer.TheVariants as answers
-use Rattle.upload_service.specs.Machine.{same_digest, State, Outcome, Replies, Begins, Takes, Commits, Stores, Mounts, answer_of, state_after, holds, outcome}
+use Rattle.upload_service.specs.Machine.{same_digest, State, Outcome, Replies, Begins, Takes, Commits, Stores, Mounts}
+use Rattle.upload_service.specs.Machine.{answer_of, state_after, holds, outcome}
 use Rattle.std.specs.List.{list_any}
 use Rattle.upload_service.specs.Machine.{Turn, IsLawful}
 use Rattle.upload_service.proofs.Claims.{StoreIsWhatWasStored, BlobIsWhatWasStored}
@@ -19,79 +21,111 @@ use Rattle.upload_service.proofs.Steps.{IsReply, IsBlob, IsCommit, IsOutcome, ou
 use Rattle.upload_service.proofs.Alone.{numbered_if_lawful}
 use Rattle.upload_service.proofs.Chunks.{append_none, gave, gave_own, received-push, open_is_received}
 
-pub run-push : (xs : List Exchange) (s m t : State) (x : Exchange) → Run s xs m → Turn m x.ask x.secret x.now x.answer t → Run s (xs ++ x ∷ []) t
+pub run-push : (xs : List Exchange) (s m t : State) (x : Exchange) → Run s xs m → Turn m x.ask x.secret x.now x.answer t
+    → Run s (xs ++ x ∷ []) t
 unfolding Turn
 run-push [] s m t x e turn = (t, subst (λ q. Turn q x.ask x.secret x.now x.answer t) e turn, refl)
 run-push (y ∷ ys) s m t x (mid, first, rest) turn = (mid, first, run-push ys mid m t x rest turn)
 
-last_under-append : (d : Digest) (xs ys : List Stored) (had : Option (List ℕ)) → last_under d (xs ++ ys) had ≡ last_under d ys (last_under d xs had)
+last_under-append : (d : Digest) (xs ys : List Stored) (had : Option (List ℕ))
+    → last_under d (xs ++ ys) had ≡ last_under d ys (last_under d xs had)
 last_under-append d [] ys had = refl
 last_under-append d (x ∷ xs) ys had = last_under-append d xs ys _
 
 -- the blob of a commit is what its session received
-pub commit_blob : (start : State) (front : List Exchange) (before : State) (x : Exchange) (name at : List ℕ) (digest : Digest) (blob : List ℕ) → IsLawful start → Run start front before
-    → IsCommit before x.now x.ask name at digest blob → x.answer ≡ answers.Stored name digest → blob ≡ received start (front ++ x ∷ []) at
+pub commit_blob : (start : State) (front : List Exchange) (before : State) (x : Exchange) (name at : List ℕ)
+    (digest : Digest) (blob : List ℕ) → IsLawful start → Run start front before
+    → IsCommit before x.now x.ask name at digest blob → x.answer ≡ answers.Stored name digest
+    → blob ≡ received start (front ++ x ∷ []) at
 unfolding Turn
 commit_blob start front before x name at digest blob lawful run f e =
     let carried : carries at x.ask ≡ true = ap (carries at) f.asked ∙ same_itself at in
     let g : gave at x ≡ f.body ∷ [] = gave_own x at carried ∙ (λ i. accepted_of (f.asked i) (e i)) in
-    let had : f.found.session.received ≡ received start front at = open_is_received front start before at f.found.session run (numbered_if_lawful start lawful) f.found.is_open in
+    let had : f.found.session.received ≡ received start front at =
+    open_is_received front start before at f.found.session run (numbered_if_lawful start lawful) f.found.is_open in
     f.grown ∙ ap (λ b. b ++ f.body) had
-    ∙ sym (received-push start front x at ∙ ap (λ c. received start front at ++ joined c) g ∙ ap (λ b. received start front at ++ b) (append_none f.body))
+    ∙ sym (received-push start front x at ∙ ap (λ c. received start front at ++ joined c) g
+    ∙ ap (λ b. received start front at ++ b) (append_none f.body))
 
-reply_not_stored : (s : State) (now : ℕ) (ask : Ask) (answer : Answer) → IsReply s now ask answer → (start : State) (upto : List Exchange) → stored_by start upto ask answer ≡ []
+reply_not_stored : (s : State) (now : ℕ) (ask : Ask) (answer : Answer) → IsReply s now ask answer
+    → (start : State) (upto : List Exchange) → stored_by start upto ask answer ≡ []
 reply_not_stored s now ask (answers.Stored name digest) f start upto = absurd f
 reply_not_stored s now ask other f start upto = refl
 
-reply_not_noted : (s : State) (now : ℕ) (ask : Ask) (answer : Answer) → IsReply s now ask answer → (name : List ℕ) (digest : Digest) → notes name digest answer ≡ false
+reply_not_noted : (s : State) (now : ℕ) (ask : Ask) (answer : Answer) → IsReply s now ask answer
+    → (name : List ℕ) (digest : Digest) → notes name digest answer ≡ false
 reply_not_noted s now ask (answers.Stored n d) f name digest = absurd f
 reply_not_noted s now ask other f name digest = refl
 
-blobs_after : (start : State) (front : List Exchange) (s : State) (x : Exchange) (o : Outcome) → IsLawful start → Run start front s → IsOutcome s x.ask x.secret x.now o → x.answer ≡ answer_of o
-    → (d : Digest) → map.get (state_after s x.now o).blobs d ≡ last_under d (stored_by start (front ++ x ∷ []) x.ask x.answer) (map.get s.blobs d)
+blobs_after : (start : State) (front : List Exchange) (s : State) (x : Exchange) (o : Outcome) → IsLawful start
+    → Run start front s → IsOutcome s x.ask x.secret x.now o → x.answer ≡ answer_of o → (d : Digest)
+    → map.get (state_after s x.now o).blobs d
+    ≡ last_under d (stored_by start (front ++ x ∷ []) x.ask x.answer) (map.get s.blobs d)
 unfolding Turn
 blobs_after start front s x (Replies answer) lawful run f e d =
-    sym (ap (λ xs. last_under d xs (map.get s.blobs d)) (ap (stored_by start (front ++ x ∷ []) x.ask) e ∙ reply_not_stored s x.now x.ask answer f start (front ++ x ∷ [])))
-blobs_after start front s x (Begins n to) lawful run f e d = sym (ap (λ a. last_under d (stored_by start (front ++ x ∷ []) x.ask a) (map.get s.blobs d)) e)
-blobs_after start front s x (Takes n to got) lawful run f e d = sym (ap (λ a. last_under d (stored_by start (front ++ x ∷ []) x.ask a) (map.get s.blobs d)) e)
+    sym (ap (λ xs. last_under d xs (map.get s.blobs d))
+    (ap (stored_by start (front ++ x ∷ []) x.ask) e ∙ reply_not_stored s x.now x.ask answer f start (front ++ x ∷ [])))
+blobs_after start front s x (Begins n to) lawful run f e d =
+    sym (ap (λ a. last_under d (stored_by start (front ++ x ∷ []) x.ask a) (map.get s.blobs d)) e)
+blobs_after start front s x (Takes n to got) lawful run f e d =
+    sym (ap (λ a. last_under d (stored_by start (front ++ x ∷ []) x.ask a) (map.get s.blobs d)) e)
 blobs_after start front s x (Commits n to digest blob) lawful run f e d =
     blob-insert s.blobs digest blob d
-    ∙ ap (λ b. cond (same_digest d digest) (Some b) (map.get s.blobs d)) (commit_blob start front s x n to digest blob lawful run f e)
+    ∙ ap (λ b. cond (same_digest d digest) (Some b) (map.get s.blobs d))
+    (commit_blob start front s x n to digest blob lawful run f e)
     ∙ sym (λ i. last_under d (stored_by start (front ++ x ∷ []) (f.asked i) (e i)) (map.get s.blobs d))
 blobs_after start front s x (Stores n digest blob) lawful run f e d =
-    blob-insert s.blobs digest blob d ∙ sym (λ i. last_under d (stored_by start (front ++ x ∷ []) (f.asked i) (e i)) (map.get s.blobs d))
-blobs_after start front s x (Mounts n digest) lawful run f e d = sym (λ i. last_under d (stored_by start (front ++ x ∷ []) (f.asked i) (e i)) (map.get s.blobs d))
+    blob-insert s.blobs digest blob d
+    ∙ sym (λ i. last_under d (stored_by start (front ++ x ∷ []) (f.asked i) (e i)) (map.get s.blobs d))
+blobs_after start front s x (Mounts n digest) lawful run f e d =
+    sym (λ i. last_under d (stored_by start (front ++ x ∷ []) (f.asked i) (e i)) (map.get s.blobs d))
 
 pairs_after : (s : State) (x : Exchange) (o : Outcome) → IsOutcome s x.ask x.secret x.now o → x.answer ≡ answer_of o
-    → (name : List ℕ) (digest : Digest) → holds (state_after s x.now o) name digest ≡ (notes name digest x.answer || holds s name digest)
-pairs_after s x (Replies answer) f e name digest = sym (ap (λ b. b || holds s name digest) (ap (notes name digest) e ∙ reply_not_noted s x.now x.ask answer f name digest))
+    → (name : List ℕ) (digest : Digest)
+    → holds (state_after s x.now o) name digest ≡ (notes name digest x.answer || holds s name digest)
+pairs_after s x (Replies answer) f e name digest =
+    sym
+    (ap (λ b. b || holds s name digest) (ap (notes name digest) e ∙ reply_not_noted s x.now x.ask answer f name digest))
 pairs_after s x (Begins n to) f e name digest = sym (ap (λ a. notes name digest a || holds s name digest) e)
 pairs_after s x (Takes n to got) f e name digest = sym (ap (λ a. notes name digest a || holds s name digest) e)
-pairs_after s x (Commits n to d blob) f e name digest = contains-insert s.pairs (n, d) (name, digest) ∙ sym (ap (λ a. notes name digest a || holds s name digest) e)
-pairs_after s x (Stores n d blob) f e name digest = contains-insert s.pairs (n, d) (name, digest) ∙ sym (ap (λ a. notes name digest a || holds s name digest) e)
-pairs_after s x (Mounts n d) f e name digest = contains-insert s.pairs (n, d) (name, digest) ∙ sym (ap (λ a. notes name digest a || holds s name digest) e)
+pairs_after s x (Commits n to d blob) f e name digest =
+    contains-insert s.pairs (n, d) (name, digest) ∙ sym (ap (λ a. notes name digest a || holds s name digest) e)
+pairs_after s x (Stores n d blob) f e name digest =
+    contains-insert s.pairs (n, d) (name, digest) ∙ sym (ap (λ a. notes name digest a || holds s name digest) e)
+pairs_after s x (Mounts n d) f e name digest =
+    contains-insert s.pairs (n, d) (name, digest) ∙ sym (ap (λ a. notes name digest a || holds s name digest) e)
 
-blobs_turn : (start : State) (front : List Exchange) (s : State) (x : Exchange) (t : State) → IsLawful start → Run start front s → Turn s x.ask x.secret x.now x.answer t
-    → (d : Digest) → map.get t.blobs d ≡ last_under d (stored_by start (front ++ x ∷ []) x.ask x.answer) (map.get s.blobs d)
+blobs_turn : (start : State) (front : List Exchange) (s : State) (x : Exchange) (t : State) → IsLawful start
+    → Run start front s → Turn s x.ask x.secret x.now x.answer t → (d : Digest)
+    → map.get t.blobs d ≡ last_under d (stored_by start (front ++ x ∷ []) x.ask x.answer) (map.get s.blobs d)
 unfolding Turn
 blobs_turn start front s x t lawful run (inl did) d =
-    ap (λ q. map.get q.blobs d) did.1 ∙ blobs_after start front s x (outcome s x.ask x.secret x.now) lawful run (outcome_sound s x.now x.ask x.secret) did.0 d
+    ap (λ q. map.get q.blobs d) did.1 ∙ blobs_after start front s x (outcome s x.ask x.secret x.now) lawful run
+    (outcome_sound s x.now x.ask x.secret) did.0 d
 blobs_turn start front s x t lawful run (inr lacked) d =
-    ap (λ q. map.get q.blobs d) lacked.2 ∙ sym (ap (λ a. last_under d (stored_by start (front ++ x ∷ []) x.ask a) (map.get s.blobs d)) lacked.1)
+    ap (λ q. map.get q.blobs d) lacked.2
+    ∙ sym (ap (λ a. last_under d (stored_by start (front ++ x ∷ []) x.ask a) (map.get s.blobs d)) lacked.1)
 
-pairs_turn : (s : State) (x : Exchange) (t : State) → Turn s x.ask x.secret x.now x.answer t → (name : List ℕ) (digest : Digest) → holds t name digest ≡ (notes name digest x.answer || holds s name digest)
+pairs_turn : (s : State) (x : Exchange) (t : State) → Turn s x.ask x.secret x.now x.answer t
+    → (name : List ℕ) (digest : Digest) → holds t name digest ≡ (notes name digest x.answer || holds s name digest)
 unfolding Turn
-pairs_turn s x t (inl did) name digest = ap (λ q. holds q name digest) did.1 ∙ pairs_after s x (outcome s x.ask x.secret x.now) (outcome_sound s x.now x.ask x.secret) did.0 name digest
-pairs_turn s x t (inr lacked) name digest = ap (λ q. holds q name digest) lacked.2 ∙ sym (ap (λ a. notes name digest a || holds s name digest) lacked.1)
+pairs_turn s x t (inl did) name digest =
+    ap (λ q. holds q name digest) did.1
+    ∙ pairs_after s x (outcome s x.ask x.secret x.now) (outcome_sound s x.now x.ask x.secret) did.0 name digest
+pairs_turn s x t (inr lacked) name digest =
+    ap (λ q. holds q name digest) lacked.2 ∙ sym (ap (λ a. notes name digest a || holds s name digest) lacked.1)
 
-blobs_run : (xs : List Exchange) (start : State) (front : List Exchange) (s t : State) → IsLawful start → Run start front s → Run s xs t
-    → (d : Digest) → map.get t.blobs d ≡ last_under d (stored_from start front xs) (map.get s.blobs d)
+blobs_run : (xs : List Exchange) (start : State) (front : List Exchange) (s t : State)
+    → IsLawful start → Run start front s → Run s xs t → (d : Digest)
+    → map.get t.blobs d ≡ last_under d (stored_from start front xs) (map.get s.blobs d)
 unfolding Turn
 blobs_run [] start front s t lawful so_far e d = ap (λ q. map.get q.blobs d) e
 blobs_run (x ∷ xs) start front s t lawful so_far (mid, turn, rest) d =
     blobs_run xs start (front ++ x ∷ []) mid t lawful (run-push front start s mid x so_far turn) rest d
-    ∙ ap (λ had. last_under d (stored_from start (front ++ x ∷ []) xs) had) (blobs_turn start front s x mid lawful so_far turn d)
-    ∙ sym (last_under-append d (stored_by start (front ++ x ∷ []) x.ask x.answer) (stored_from start (front ++ x ∷ []) xs) _)
+    ∙ ap (λ had. last_under d (stored_from start (front ++ x ∷ []) xs) had)
+    (blobs_turn start front s x mid lawful so_far turn d)
+    ∙ sym
+    (last_under-append d (stored_by start (front ++ x ∷ []) x.ask x.answer) (stored_from start (front ++ x ∷ []) xs) _)
 
 or_swap : (a b c : Bool) → ((a || b) || c) ≡ (b || (a || c))
 or_swap true true c = refl
@@ -103,7 +137,8 @@ or_none : (a : Bool) → a ≡ (a || false)
 or_none true = refl
 or_none false = refl
 
-pairs_run : (xs : List Exchange) (s t : State) → Run s xs t → (name : List ℕ) (digest : Digest) → holds t name digest ≡ (holds s name digest || list_any (λ x. notes name digest x.answer) xs)
+pairs_run : (xs : List Exchange) (s t : State) → Run s xs t → (name : List ℕ) (digest : Digest)
+    → holds t name digest ≡ (holds s name digest || list_any (λ x. notes name digest x.answer) xs)
 unfolding Turn
 pairs_run [] s t e name digest = ap (λ q. holds q name digest) e ∙ or_none _
 pairs_run (x ∷ xs) s t (mid, turn, rest) name digest =
@@ -116,7 +151,9 @@ unfolding Turn
 store_is_what_was_stored start xs end lawful run =
     record { blobs = blobs_run xs start [] start end lawful refl run; pairs = pairs_run xs start end run }
 
-blob_fact : (s : State) (ask : Ask) (secret : List ℕ) (now : ℕ) (o : Outcome) (digest : Digest) (size : ℕ) (bytes : Option (List ℕ)) → IsOutcome s ask secret now o → answer_of o ≡ answers.Blob digest size bytes → IsBlob s ask digest size bytes
+blob_fact : (s : State) (ask : Ask) (secret : List ℕ) (now : ℕ) (o : Outcome) (digest : Digest)
+    (size : ℕ) (bytes : Option (List ℕ)) → IsOutcome s ask secret now o → answer_of o ≡ answers.Blob digest size bytes
+    → IsBlob s ask digest size bytes
 blob_fact s ask secret now (Replies answer) digest size bytes f e = subst (IsReply s now ask) e f
 blob_fact s ask secret now (Begins n to) digest size bytes f e = cc
 blob_fact s ask secret now (Takes n to got) digest size bytes f e = cc
@@ -129,14 +166,18 @@ unfolding Turn
 blob_is_what_was_stored start front before x after m name digest head of size bytes a r =
     elim m.turn [
       | inl did ↦
-          let f : IsBlob before x.ask of size bytes = blob_fact before x.ask x.secret x.now (outcome before x.ask x.secret x.now) of size bytes (outcome_sound before x.now x.ask x.secret) (sym did.0 ∙ r) in
+          let f : IsBlob before x.ask of size bytes =
+          blob_fact before x.ask x.secret x.now (outcome before x.ask x.secret x.now) of size bytes
+          (outcome_sound before x.now x.ask x.secret) (sym did.0 ∙ r) in
           let has : asks.Has f.name of f.head ≡ asks.Has name digest head = sym f.asked ∙ a in
           let of_is : of ≡ digest = cc in
           let head_is : f.head ≡ head = cc in
           record {
             own = of_is;
             content = f.blob;
-            is_content = sym (blobs_run front start [] start before m.lawful refl m.so_far digest) ∙ ap (map.get before.blobs) (sym of_is) ∙ f.is_stored;
+            is_content =
+                sym (blobs_run front start [] start before m.lawful refl m.so_far digest)
+                ∙ ap (map.get before.blobs) (sym of_is) ∙ f.is_stored;
             is_size = f.is_size;
             is_bytes = f.is_bytes ∙ ap (λ h. if h then None else Some f.blob) head_is;
           }

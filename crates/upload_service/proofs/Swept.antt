@@ -1,5 +1,6 @@
 -- The entries of the awake sessions, and the table that they stand for.
-use Rattle.std.proofs.Common.{◌≡◌, ℕ, ◌+◌, ◌≤◌, ◌<◌, List, length, Bool, true, false, not, Option, Some, None, refl, sym, ◌∙◌, ap, cond, filter, arith}
+use Rattle.std.proofs.Common.{◌≡◌, ℕ, ◌+◌, ◌≤◌, ◌<◌, List, length, Bool, true, false, not, Option, Some, None, refl}
+use Rattle.std.proofs.Common.{sym, ◌∙◌, ap, cond, filter, arith}
 use Rattle.std.specs.Option.{option_map}
 use Rattle.std.specs.Map.{lookup, keys_of}
 use Rattle.std.specs.List.Sorted.{IsStrictlySortedBy}
@@ -32,32 +33,41 @@ Entries = List (List ℕ × OpenSession)
 abbrev pub table : Entries → Table Session
 table es = kept_as bytes_cmp session_of es
 
-only_awake : (max_idle now : ℕ) (o : Option OpenSession) → option_map session_of (option_filter (λ s. not (is_idle max_idle now (session_of s))) o) ≡ unless_idle max_idle now (option_map session_of o)
+only_awake : (max_idle now : ℕ) (o : Option OpenSession)
+    → option_map session_of (option_filter (λ s. not (is_idle max_idle now (session_of s))) o)
+    ≡ unless_idle max_idle now (option_map session_of o)
 only_awake max_idle now None = refl
 only_awake max_idle now (Some s) =
-    elim (is_idle max_idle now (session_of s)) as (λ b. option_map session_of (cond (not b) (Some s) None) ≡ cond b None (Some (session_of s))) [ true ↦ refl | false ↦ refl ]
+    elim (is_idle max_idle now (session_of s)) as (λ b. option_map session_of (cond (not b) (Some s) None)
+    ≡ cond b None (Some (session_of s))) [ true ↦ refl | false ↦ refl ]
 
 -- the awake entries stand for the awake sessions
-pub table_awake : (max_idle now : ℕ) (es : Entries) → IsStrictlySortedBy bytes_cmp (keys_of es) → table (filter (is_kept max_idle now) es) ≡ awake_of max_idle now (table es)
+pub table_awake : (max_idle now : ℕ) (es : Entries) → IsStrictlySortedBy bytes_cmp (keys_of es)
+    → table (filter (is_kept max_idle now) es) ≡ awake_of max_idle now (table es)
 table_awake max_idle now es h =
     map.same_map nat_list_cmp_total keys_exact _ _ (λ q.
     get-kept nat_list_cmp_total keys_exact session_of (filter (is_kept max_idle now) es) q
-    ∙ ap (option_map session_of) (lookup-filter-values (eq_by_cmp_equiv nat_list_cmp_total) (λ s. not (is_idle max_idle now (session_of s))) q es (IsDistinct-from_sorted bytes_cmp (keys_of es) h))
+    ∙ ap (option_map session_of) (lookup-filter-values (eq_by_cmp_equiv nat_list_cmp_total)
+    (λ s. not (is_idle max_idle now (session_of s))) q es (IsDistinct-from_sorted bytes_cmp (keys_of es) h))
     ∙ only_awake max_idle now (lookup (same q) es)
     ∙ ap (unless_idle max_idle now) (sym (get-kept nat_list_cmp_total keys_exact session_of es q))
     ∙ sym (get-awake_of max_idle now (table es) q))
 
-pub len_awake : (max_idle now : ℕ) (es : Entries) → IsStrictlySortedBy bytes_cmp (keys_of es) → map.len (awake_of max_idle now (table es)) ≡ length (filter (is_kept max_idle now) es)
+pub len_awake : (max_idle now : ℕ) (es : Entries) → IsStrictlySortedBy bytes_cmp (keys_of es)
+    → map.len (awake_of max_idle now (table es)) ≡ length (filter (is_kept max_idle now) es)
 len_awake max_idle now es h =
     ap map.len (sym (table_awake max_idle now es h))
-    ∙ len_distinct nat_list_cmp_total keys_exact session_of (filter (is_kept max_idle now) es) (IsDistinct-keys_filter same (is_kept max_idle now) es (IsDistinct-from_sorted bytes_cmp (keys_of es) h))
+    ∙ len_distinct nat_list_cmp_total keys_exact session_of (filter (is_kept max_idle now) es)
+    (IsDistinct-keys_filter same (is_kept max_idle now) es (IsDistinct-from_sorted bytes_cmp (keys_of es) h))
 
 -- a session that is awake stays in a sweep
-awake_stays : (max_idle now : ℕ) (s : Session) (o : Option Session) (b : Bool) → is_idle max_idle now s ≡ false → unless_idle max_idle now (cond b (Some s) o) ≡ cond b (Some s) (unless_idle max_idle now o)
+awake_stays : (max_idle now : ℕ) (s : Session) (o : Option Session) (b : Bool) → is_idle max_idle now s ≡ false
+    → unless_idle max_idle now (cond b (Some s) o) ≡ cond b (Some s) (unless_idle max_idle now o)
 awake_stays max_idle now s o true e = ap (λ c. cond c None (Some s)) e
 awake_stays max_idle now s o false e = refl
 
-pub awake-insert : (max_idle now : ℕ) (m : Table Session) (at : List ℕ) (s : Session) → is_idle max_idle now s ≡ false → awake_of max_idle now (map.insert m at s) ≡ map.insert (awake_of max_idle now m) at s
+pub awake-insert : (max_idle now : ℕ) (m : Table Session) (at : List ℕ) (s : Session) → is_idle max_idle now s ≡ false
+    → awake_of max_idle now (map.insert m at s) ≡ map.insert (awake_of max_idle now m) at s
 awake-insert max_idle now m at s e =
     map.same_map nat_list_cmp_total keys_exact _ _ (λ q.
     get-awake_of max_idle now (map.insert m at s) q
@@ -66,16 +76,21 @@ awake-insert max_idle now m at s e =
     ∙ ap (cond (same q at) (Some s)) (sym (get-awake_of max_idle now m q))
     ∙ sym (map.get-insert nat_list_cmp_total (awake_of max_idle now m) at s q))
 
-pub new_is_awake : (max_idle now : ℕ) (name received : List ℕ) → is_idle max_idle now (record { name = name; received = received; seen = now }) ≡ false
+pub new_is_awake : (max_idle now : ℕ) (name received : List ℕ)
+    → is_idle max_idle now (record { name = name; received = received; seen = now }) ≡ false
 new_is_awake max_idle now name received = le-ltb (now + max_idle) now (omega arith)
 
 -- the table beside which one more is opened, by how many entries there are
-pub swept_full : (limits : Limits) (now : ℕ) (es : Entries) → IsStrictlySortedBy bytes_cmp (keys_of es) → limits.max_open ≤ length es → swept_of limits now (table es) ≡ awake_of limits.max_idle now (table es)
+pub swept_full : (limits : Limits) (now : ℕ) (es : Entries) → IsStrictlySortedBy bytes_cmp (keys_of es)
+    → limits.max_open ≤ length es → swept_of limits now (table es) ≡ awake_of limits.max_idle now (table es)
 swept_full limits now es h full =
     let len : map.len (table es) ≡ length es = len-kept nat_list_cmp_total keys_exact session_of es h in
-    ap (λ b. cond b (awake_of limits.max_idle now (table es)) (table es)) (le-leb limits.max_open (map.len (table es)) (omega arith))
+    ap (λ b. cond b (awake_of limits.max_idle now (table es)) (table es))
+    (le-leb limits.max_open (map.len (table es)) (omega arith))
 
-pub swept_roomy : (limits : Limits) (now : ℕ) (es : Entries) → IsStrictlySortedBy bytes_cmp (keys_of es) → length es < limits.max_open → swept_of limits now (table es) ≡ table es
+pub swept_roomy : (limits : Limits) (now : ℕ) (es : Entries) → IsStrictlySortedBy bytes_cmp (keys_of es)
+    → length es < limits.max_open → swept_of limits now (table es) ≡ table es
 swept_roomy limits now es h room =
     let len : map.len (table es) ≡ length es = len-kept nat_list_cmp_total keys_exact session_of es h in
-    ap (λ b. cond b (awake_of limits.max_idle now (table es)) (table es)) (lt-leb limits.max_open (map.len (table es)) (omega arith))
+    ap (λ b. cond b (awake_of limits.max_idle now (table es)) (table es))
+    (lt-leb limits.max_open (map.len (table es)) (omega arith))

@@ -1,5 +1,6 @@
 -- Tables at the key that was written, and at the others.
-use Rattle.std.proofs.Common.{◌≡◌, ◌≢◌, ℕ, arith, List, ◌∷◌, true, false, Some, None, refl, sym, ◌∙◌, ap, ◌⊎◌, inl, inr, cond}
+use Rattle.std.proofs.Common.{◌≡◌, ◌≢◌, ℕ, arith, List, ◌∷◌, true, false, Some, None, refl, sym, ◌∙◌, ap, ◌⊎◌, inl, inr}
+use Rattle.std.proofs.Common.{cond}
 use Rattle.std.specs.Ordering.{nat_cmp, eq_by_cmp, is_eq}
 use Rattle.std.specs.Cmp.{Equal-is, tied_itself, IsTotalOrder}
 use Rattle.std.specs.Cmp.Lexicographic.{slice_cmp, nat_list_cmp_total}
@@ -41,16 +42,20 @@ one_or_two x y =
 
 module _ {X : Type 0} where
   pub get-insert_same : (m : Table X) (k : List ℕ) (v : X) → map.get (map.insert m k v) k ≡ Some v
-  get-insert_same m k v = map.get-insert nat_list_cmp_total m k v k ∙ ap (λ b. cond b (Some v) (map.get m k)) (same_itself k)
+  get-insert_same m k v =
+      map.get-insert nat_list_cmp_total m k v k ∙ ap (λ b. cond b (Some v) (map.get m k)) (same_itself k)
 
-  pub get-insert_other : (m : Table X) (k : List ℕ) (v : X) (q : List ℕ) → q ≢ k → map.get (map.insert m k v) q ≡ map.get m q
-  get-insert_other m k v q n = map.get-insert nat_list_cmp_total m k v q ∙ ap (λ b. cond b (Some v) (map.get m q)) (same_from_ne q k n)
+  pub get-insert_other : (m : Table X) (k : List ℕ) (v : X) (q : List ℕ) → q ≢ k
+      → map.get (map.insert m k v) q ≡ map.get m q
+  get-insert_other m k v q n =
+      map.get-insert nat_list_cmp_total m k v q ∙ ap (λ b. cond b (Some v) (map.get m q)) (same_from_ne q k n)
 
   pub get-remove_same : (m : Table X) (k : List ℕ) → map.get (map.remove m k) k ≡ None
   get-remove_same m k = map.get-remove nat_list_cmp_total m k k ∙ ap (λ b. cond b None (map.get m k)) (same_itself k)
 
   pub get-remove_other : (m : Table X) (k q : List ℕ) → q ≢ k → map.get (map.remove m k) q ≡ map.get m q
-  get-remove_other m k q n = map.get-remove nat_list_cmp_total m k q ∙ ap (λ b. cond b None (map.get m q)) (same_from_ne q k n)
+  get-remove_other m k q n =
+      map.get-remove nat_list_cmp_total m k q ∙ ap (λ b. cond b None (map.get m q)) (same_from_ne q k n)
 
 same_rank : (a b : Algorithm) → rank a ≡ rank b → a ≡ b
 same_rank algorithms.Sha256 algorithms.Sha256 e = refl
@@ -63,7 +68,8 @@ digests_total = on_total digest_key nat_list_cmp_total
 
 pub digests_exact : IsAntisymmetric digest_cmp
 digests_exact a b e =
-    let keys : rank a.algorithm ∷ a.bytes ≡ rank b.algorithm ∷ b.bytes = slice_cmp-IsAntisymmetric nat_cmp-IsAntisymmetric (digest_key a) (digest_key b) e in
+    let keys : rank a.algorithm ∷ a.bytes ≡ rank b.algorithm ∷ b.bytes =
+    slice_cmp-IsAntisymmetric nat_cmp-IsAntisymmetric (digest_key a) (digest_key b) e in
     let ranks : rank a.algorithm ≡ rank b.algorithm = cc in
     let bytes : a.bytes ≡ b.bytes = cc in
     let made : a.algorithm ≡ b.algorithm = same_rank a.algorithm b.algorithm ranks in
@@ -88,25 +94,33 @@ one_or_two_digests x y =
       | false ↦ λ e. inr (λ p. true≢false (sym (ap (same_digest x) (sym p) ∙ same_digest_itself x) ∙ e))
     ] refl
 
-pub blob-insert : {X : Type 0} (m : FinMap digest_cmp X) (k : Digest) (v : X) (q : Digest) → map.get (map.insert m k v) q ≡ cond (same_digest q k) (Some v) (map.get m q)
+pub blob-insert : {X : Type 0} (m : FinMap digest_cmp X) (k : Digest) (v : X) (q : Digest)
+    → map.get (map.insert m k v) q ≡ cond (same_digest q k) (Some v) (map.get m q)
 blob-insert m k v q = map.get-insert digests_total m k v q
 
-pub blob-insert_same : {X : Type 0} (m : FinMap digest_cmp X) (k : Digest) (v : X) → map.get (map.insert m k v) k ≡ Some v
+pub blob-insert_same : {X : Type 0} (m : FinMap digest_cmp X) (k : Digest) (v : X)
+    → map.get (map.insert m k v) k ≡ Some v
 blob-insert_same m k v = blob-insert m k v k ∙ ap (λ b. cond b (Some v) (map.get m k)) (same_digest_itself k)
 
-pub blob-insert_other : {X : Type 0} (m : FinMap digest_cmp X) (k : Digest) (v : X) (q : Digest) → q ≢ k → map.get (map.insert m k v) q ≡ map.get m q
+pub blob-insert_other : {X : Type 0} (m : FinMap digest_cmp X) (k : Digest) (v : X) (q : Digest) → q ≢ k
+    → map.get (map.insert m k v) q ≡ map.get m q
 blob-insert_other m k v q n = blob-insert m k v q ∙ ap (λ b. cond b (Some v) (map.get m q)) (same_digest_from_ne q k n)
 
 pub pairs_total : IsTotalOrder pair_cmp
-pairs_total = then_total (on_total (λ (p : List ℕ × Digest). p.0) nat_list_cmp_total) (on_total (λ (p : List ℕ × Digest). p.1) digests_total)
+pairs_total =
+    then_total (on_total (λ (p : List ℕ × Digest). p.0) nat_list_cmp_total)
+    (on_total (λ (p : List ℕ × Digest). p.1) digests_total)
 
 pub contains-insert_same : (m : FinSet pair_cmp) (p : List ℕ × Digest) → set.contains (set.insert m p) p ≡ true
-contains-insert_same m p = set.contains-insert pairs_total m p p ∙ ap (λ b. b || set.contains m p) (ap is_eq (tied_itself pairs_total p))
+contains-insert_same m p =
+    set.contains-insert pairs_total m p p ∙ ap (λ b. b || set.contains m p) (ap is_eq (tied_itself pairs_total p))
 
-pub contains-insert : (m : FinSet pair_cmp) (p q : List ℕ × Digest) → set.contains (set.insert m p) q ≡ (eq_by_cmp pair_cmp q p || set.contains m q)
+pub contains-insert : (m : FinSet pair_cmp) (p q : List ℕ × Digest)
+    → set.contains (set.insert m p) q ≡ (eq_by_cmp pair_cmp q p || set.contains m q)
 contains-insert m p q = set.contains-insert pairs_total m p q
 
-pub get-insert : {X : Type 0} (m : Table X) (k : List ℕ) (v : X) (q : List ℕ) → map.get (map.insert m k v) q ≡ cond (same q k) (Some v) (map.get m q)
+pub get-insert : {X : Type 0} (m : Table X) (k : List ℕ) (v : X) (q : List ℕ)
+    → map.get (map.insert m k v) q ≡ cond (same q k) (Some v) (map.get m q)
 get-insert m k v q = map.get-insert nat_list_cmp_total m k v q
 
 pub pairs_exact : IsAntisymmetric pair_cmp

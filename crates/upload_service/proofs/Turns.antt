@@ -1,5 +1,6 @@
 -- What one turn does to each session.
-use Rattle.std.proofs.Common.{◌≡◌, ◌≢◌, ℕ, ◌+◌, ◌<◌, ◌≤◌, ◌^◌, List, true, false, Some, None, refl, sym, ◌∙◌, ap, subst, ◌⊎◌, inl, inr, arith}
+use Rattle.std.proofs.Common.{◌≡◌, ◌≢◌, ℕ, ◌+◌, ◌<◌, ◌≤◌, ◌^◌, List, true, false, Some, None, refl, sym, ◌∙◌, ap, subst}
+use Rattle.std.proofs.Common.{◌⊎◌, inl, inr, arith}
 use Rattle.std.proofs.lemmas.Bool.{true≢false}
 use Rattle.std.specs.FinMap as map
 use Rattle.upload_names.specs.Reference.{reference, number_of}
@@ -9,12 +10,16 @@ use Rattle.upload_service.specs.declared.ask.Ask.{Ask}
 use Rattle.upload_service.specs.declared.answer.Answer.{Answer}
 use Rattle.upload_service.specs.declared.answer.Answer.TheVariants as answers
 use Rattle.upload_service.specs.UploadView.{Act, OfSession, upload_view, on_session, opened_under}
-use Rattle.upload_service.specs.Machine.{is_idle, unless_idle, swept, Session, State, Outcome, Replies, Begins, Takes, Commits, Stores, Mounts, answer_of, state_after, refused, at_session, last_number, outcome}
+use Rattle.upload_service.specs.Machine.{is_idle, unless_idle, swept, Session, State, Outcome, Replies, Begins, Takes}
+use Rattle.upload_service.specs.Machine.{Commits, Stores, Mounts, answer_of, state_after, refused, at_session}
+use Rattle.upload_service.specs.Machine.{last_number, outcome}
 use Rattle.upload_service.specs.Session.{carries, begins}
-use Rattle.upload_service.specs.Alone.{Life, Unborn, Open, Gone, life_after, alone_outcome, first_answer, first_life, alone_answer, alone_after}
+use Rattle.upload_service.specs.Alone.{Life, Unborn, Open, Gone, life_after, alone_outcome, first_answer, first_life}
+use Rattle.upload_service.specs.Alone.{alone_answer, alone_after}
 use Rattle.upload_service.proofs.Tables.{eq_from_same}
 use Rattle.std.proofs.lemmas.Nat.{from_be_bytes-to_be_bytes_4}
-use Rattle.upload_service.proofs.Tables.{one_or_two, get-insert_same, get-insert_other, get-remove_same, get-remove_other, ne_from_same}
+use Rattle.upload_service.proofs.Tables.{one_or_two, get-insert_same, get-insert_other, get-remove_same}
+use Rattle.upload_service.proofs.Tables.{get-remove_other, ne_from_same}
 use Rattle.upload_service.proofs.UploadView.{outcome_of_view, carried}
 use Rattle.upload_service.proofs.Steps.{IsReply, IsOutcome, AsksToBegin, outcome_sound, None≢Some, idle_is_none}
 use Rattle.upload_service.proofs.Sweeps.{kept_or_left, was_there, idle_later, idle_from}
@@ -27,28 +32,41 @@ number_of-reference n secret h = from_be_bytes-to_be_bytes_4 n h
 abbrev pub IsNumbered : State → Type 0
 IsNumbered s = (at : List ℕ) (session : Session) → map.get s.sessions at ≡ Some session → number_of at ≤ s.issued
 
-pub new_number : (s : State) (secret at : List ℕ) → at ≡ reference (s.issued + 1) secret → s.issued < last_number → number_of at ≡ s.issued + 1
+pub new_number : (s : State) (secret at : List ℕ) → at ≡ reference (s.issued + 1) secret → s.issued < last_number
+    → number_of at ≡ s.issued + 1
 new_number s secret at e h = ap number_of e ∙ number_of-reference (s.issued + 1) secret (omega arith)
 
 -- a number that was issued isn't the next
-pub not_new : (s : State) (secret at new : List ℕ) → new ≡ reference (s.issued + 1) secret → s.issued < last_number → number_of at ≤ s.issued → at ≢ new
-not_new s secret at new e h le same = let n : number_of new ≡ s.issued + 1 = new_number s secret new e h in let m : number_of at ≡ number_of new = ap number_of same in omega arith
+pub not_new : (s : State) (secret at new : List ℕ) → new ≡ reference (s.issued + 1) secret → s.issued < last_number
+    → number_of at ≤ s.issued → at ≢ new
+not_new s secret at new e h le same =
+    let n : number_of new ≡ s.issued + 1 = new_number s secret new e h in
+    let m : number_of at ≡ number_of new = ap number_of same in omega arith
 
-pub numbered_after : (s : State) (ask : Ask) (secret : List ℕ) (now : ℕ) (o : Outcome) → IsOutcome s ask secret now o → IsNumbered s → IsNumbered (state_after s now o)
+pub numbered_after : (s : State) (ask : Ask) (secret : List ℕ) (now : ℕ) (o : Outcome) → IsOutcome s ask secret now o
+    → IsNumbered s → IsNumbered (state_after s now o)
 numbered_after s ask secret now (Replies answer) f h = h
 numbered_after s ask secret now (Begins name new) f h = λ at session e.
     elim (one_or_two at new) [
-      | inl same ↦ let n : number_of new ≡ s.issued + 1 = new_number s secret new f.is_new f.numbers_left in let m : number_of at ≡ number_of new = ap number_of same in omega arith
-      | inr other ↦ let le : number_of at ≤ s.issued = h at session (was_there s now at session (sym (get-insert_other (swept s now) new _ at other) ∙ e)) in omega arith
+      | inl same ↦
+          let n : number_of new ≡ s.issued + 1 = new_number s secret new f.is_new f.numbers_left in
+          let m : number_of at ≡ number_of new = ap number_of same in omega arith
+      | inr other ↦
+          let le : number_of at ≤ s.issued =
+          h at session (was_there s now at session (sym (get-insert_other (swept s now) new _ at other) ∙ e)) in
+          omega arith
     ]
 numbered_after s ask secret now (Takes name to received) f h = λ at session e.
     elim (one_or_two at to) [
-      | inl same ↦ let m : number_of at ≡ number_of to = ap number_of same in let le : number_of to ≤ s.issued = h to f.found.session f.found.is_open in omega arith
+      | inl same ↦
+          let m : number_of at ≡ number_of to = ap number_of same in
+          let le : number_of to ≤ s.issued = h to f.found.session f.found.is_open in omega arith
       | inr other ↦ h at session (sym (get-insert_other s.sessions to _ at other) ∙ e)
     ]
 numbered_after s ask secret now (Commits name to digest blob) f h = λ at session e.
     elim (one_or_two at to) [
-      | inl same ↦ absurd (None≢Some (sym (get-remove_same s.sessions to) ∙ ap (map.get (map.remove s.sessions to)) (sym same) ∙ e))
+      | inl same ↦ absurd
+          (None≢Some (sym (get-remove_same s.sessions to) ∙ ap (map.get (map.remove s.sessions to)) (sym same) ∙ e))
       | inr other ↦ h at session (sym (get-remove_other s.sessions to at other) ∙ e)
     ]
 numbered_after s ask secret now (Stores name digest blob) f h = h
@@ -70,8 +88,8 @@ Fits s now at (Open session) = (map.get s.sessions at ≡ Some session) ⊎ Left
 Fits s now at Gone = IsGone s at
 
 -- the part of the table at a reference and the count of numbers are all that a life speaks of
-pub fits_by : (s t : State) (from now : ℕ) (at : List ℕ) (life : Life) → map.get t.sessions at ≡ map.get s.sessions at → s.issued ≤ t.issued → t.limits ≡ s.limits → from ≤ now
-    → Fits s from at life → Fits t now at life
+pub fits_by : (s t : State) (from now : ℕ) (at : List ℕ) (life : Life) → map.get t.sessions at ≡ map.get s.sessions at
+    → s.issued ≤ t.issued → t.limits ≡ s.limits → from ≤ now → Fits s from at life → Fits t now at life
 fits_by s t from now at Unborn e le k later f = e ∙ f
 fits_by s t from now at (Open session) e le k later (inl f) = inl (e ∙ f)
 fits_by s t from now at (Open session) e le k later (inr f) =
@@ -82,8 +100,9 @@ fits_by s t from now at (Open session) e le k later (inr f) =
 fits_by s t from now at Gone e le k later f = (e ∙ f.0, let g : number_of at ≤ s.issued = f.1 in omega arith)
 
 -- a session that leaves the table because it is idle
-fits_left : (s t : State) (from now : ℕ) (at : List ℕ) (life : Life) → IsNumbered s → (session : Session) → map.get s.sessions at ≡ Some session → is_idle s.limits.max_idle now session ≡ true
-    → map.get t.sessions at ≡ None → s.issued ≤ t.issued → t.limits ≡ s.limits → Fits s from at life → Fits t now at life
+fits_left : (s t : State) (from now : ℕ) (at : List ℕ) (life : Life) → IsNumbered s → (session : Session)
+    → map.get s.sessions at ≡ Some session → is_idle s.limits.max_idle now session ≡ true → map.get t.sessions at ≡ None
+    → s.issued ≤ t.issued → t.limits ≡ s.limits → Fits s from at life → Fits t now at life
 fits_left s t from now at Unborn h session was idle none le k f = none
 fits_left s t from now at (Open mine) h session was idle none le k (inl f) =
     let both : Some mine ≡ Some session = sym f ∙ was in
@@ -94,33 +113,45 @@ fits_left s t from now at (Open mine) h session was idle none le k (inl f) =
     let late : session.seen + s.limits.max_idle < now = idle_from s.limits.max_idle now session idle in
     inr (record { gone = (none, omega arith); idle = omega arith })
 fits_left s t from now at (Open mine) h session was idle none le k (inr f) = absurd (None≢Some (sym f.gone.0 ∙ was))
-fits_left s t from now at Gone h session was idle none le k f = (none, let g : number_of at ≤ s.issued = f.1 in omega arith)
+fits_left s t from now at Gone h session was idle none le k f =
+    (none, let g : number_of at ≤ s.issued = f.1 in omega arith)
 
 -- an exchange that isn't the session's leaves the session
-pub others_leave : (s : State) (ask : Ask) (secret : List ℕ) (from now : ℕ) (o : Outcome) → IsOutcome s ask secret now o → IsNumbered s → from ≤ now → (at : List ℕ) (life : Life)
-    → carries at ask ≡ false → begins at (answer_of o) ≡ false → Fits s from at life → Fits (state_after s now o) now at life
-others_leave s ask secret from now (Replies answer) f h later at life c b fits = fits_by s s from now at life refl (omega arith) refl later fits
+pub others_leave : (s : State) (ask : Ask) (secret : List ℕ) (from now : ℕ) (o : Outcome) → IsOutcome s ask secret now o
+    → IsNumbered s → from ≤ now → (at : List ℕ) (life : Life) → carries at ask ≡ false → begins at (answer_of o) ≡ false
+    → Fits s from at life → Fits (state_after s now o) now at life
+others_leave s ask secret from now (Replies answer) f h later at life c b fits =
+    fits_by s s from now at life refl (omega arith) refl later fits
 others_leave s ask secret from now (Begins name new) f h later at life c b fits =
     let t : State = state_after s now (Begins name new) in
-    let there : map.get t.sessions at ≡ map.get (swept s now) at = get-insert_other (swept s now) new _ at (ne_from_same at new b) in
+    let there : map.get t.sessions at ≡ map.get (swept s now) at =
+    get-insert_other (swept s now) new _ at (ne_from_same at new b) in
     elim (kept_or_left s now at) [
       | inl kept ↦ fits_by s t from now at life (there ∙ kept) (omega arith) refl later fits
-      | inr left ↦ fits_left s t from now at life h left.session left.was_open left.idle (there ∙ left.left) (omega arith) refl fits
+      | inr left ↦ fits_left s t from now at life h left.session left.was_open left.idle (there ∙ left.left)
+          (omega arith) refl fits
     ]
 others_leave s ask secret from now (Takes name to received) f h later at life c b fits =
-    fits_by s (state_after s now (Takes name to received)) from now at life (get-insert_other s.sessions to _ at (ne_from_same at to (sym (ap (carries at) f.asked) ∙ c))) (omega arith) refl later fits
+    fits_by s (state_after s now (Takes name to received)) from now at life
+    (get-insert_other s.sessions to _ at (ne_from_same at to (sym (ap (carries at) f.asked) ∙ c)))
+    (omega arith) refl later fits
 others_leave s ask secret from now (Commits name to digest blob) f h later at life c b fits =
-    fits_by s (state_after s now (Commits name to digest blob)) from now at life (get-remove_other s.sessions to at (ne_from_same at to (sym (ap (carries at) f.asked) ∙ c))) (omega arith) refl later fits
-others_leave s ask secret from now (Stores name digest blob) f h later at life c b fits = fits_by s (state_after s now (Stores name digest blob)) from now at life refl (omega arith) refl later fits
-others_leave s ask secret from now (Mounts name digest) f h later at life c b fits = fits_by s (state_after s now (Mounts name digest)) from now at life refl (omega arith) refl later fits
+    fits_by s (state_after s now (Commits name to digest blob)) from now at life
+    (get-remove_other s.sessions to at (ne_from_same at to (sym (ap (carries at) f.asked) ∙ c)))
+    (omega arith) refl later fits
+others_leave s ask secret from now (Stores name digest blob) f h later at life c b fits =
+    fits_by s (state_after s now (Stores name digest blob)) from now at life refl (omega arith) refl later fits
+others_leave s ask secret from now (Mounts name digest) f h later at life c b fits =
+    fits_by s (state_after s now (Mounts name digest)) from now at life refl (omega arith) refl later fits
 
 -- what carries a reference doesn't ask to begin
 no_opening_carries : (name at : List ℕ) (ask : Ask) → AsksToBegin name ask → carries at ask ≡ true → ⊥
 no_opening_carries name at ask a c = None≢Some (sym (ap opened_under (carried at ask c).view) ∙ a)
 
 -- an open session after a request that carries its reference
-open_after : (s : State) (ask : Ask) (secret : List ℕ) (now : ℕ) (o : Outcome) → IsOutcome s ask secret now o → IsNumbered s → (at : List ℕ) (session : Session)
-    → map.get s.sessions at ≡ Some session → carries at ask ≡ true → Fits (state_after s now o) now at (life_after session now o)
+open_after : (s : State) (ask : Ask) (secret : List ℕ) (now : ℕ) (o : Outcome) → IsOutcome s ask secret now o
+    → IsNumbered s → (at : List ℕ) (session : Session) → map.get s.sessions at ≡ Some session → carries at ask ≡ true
+    → Fits (state_after s now o) now at (life_after session now o)
 open_after s ask secret now (Replies answer) f h at session e c = inl e
 open_after s ask secret now (Begins name new) f h at session e c = absurd (no_opening_carries name at ask f.asked c)
 open_after s ask secret now (Takes name to received) f h at session e c =
@@ -137,69 +168,97 @@ pub record Own (s : State) (ask : Ask) (now : ℕ) (o : Outcome) (at : List ℕ)
   pub told : answer_of o ≡ alone_answer s.limits.max_blob s.limits.max_idle at life ask now
   pub fits : Fits (state_after s now o) now at (alone_after s.limits.max_blob s.limits.max_idle life ask now)
 
-own_refused : (s : State) (ask : Ask) (now : ℕ) (o : Outcome) (at : List ℕ) (life : Life) → o ≡ refused refusals.NoUpload
-    → alone_answer s.limits.max_blob s.limits.max_idle at life ask now ≡ answers.Refused refusals.NoUpload → alone_after s.limits.max_blob s.limits.max_idle life ask now ≡ life → Fits s now at life → Own s ask now o at life
+own_refused : (s : State) (ask : Ask) (now : ℕ) (o : Outcome) (at : List ℕ) (life : Life)
+    → o ≡ refused refusals.NoUpload
+    → alone_answer s.limits.max_blob s.limits.max_idle at life ask now ≡ answers.Refused refusals.NoUpload
+    → alone_after s.limits.max_blob s.limits.max_idle life ask now ≡ life → Fits s now at life → Own s ask now o at life
 own_refused s ask now o at life e a l fits =
     record {
       told = ap answer_of e ∙ sym a;
-      fits = subst (λ q. Fits (state_after s now q) now at (alone_after s.limits.max_blob s.limits.max_idle life ask now)) (sym e) (subst (λ q. Fits s now at q) (sym l) fits);
+      fits =
+          subst (λ q. Fits (state_after s now q) now at (alone_after s.limits.max_blob s.limits.max_idle life ask now))
+          (sym e) (subst (λ q. Fits s now at q) (sym l) fits);
     }
 
 -- what a request asks of this session, alone
-alone_act : (max_blob max_idle : ℕ) (session : Session) (ask : Ask) (now : ℕ) (name at : List ℕ) (act : Act) → upload_view ask ≡ OfSession name at act
-    → alone_outcome max_blob max_idle session ask now ≡ at_session max_blob (unless_idle max_idle now (Some session)) name at act
+alone_act : (max_blob max_idle : ℕ) (session : Session) (ask : Ask) (now : ℕ) (name at : List ℕ) (act : Act)
+    → upload_view ask ≡ OfSession name at act → alone_outcome max_blob max_idle session ask now
+    ≡ at_session max_blob (unless_idle max_idle now (Some session)) name at act
 alone_act max_blob max_idle session ask now name at act view =
-    ap (λ v. on_session v (refused refusals.NoUpload) (at_session max_blob (unless_idle max_idle now (Some session)))) view
+    ap (λ v. on_session v (refused refusals.NoUpload) (at_session max_blob (unless_idle max_idle now (Some session))))
+    view
 
-own_carried : (s : State) (ask : Ask) (secret : List ℕ) (from now : ℕ) (name at : List ℕ) (act : Act) (life : Life) → IsNumbered s → from ≤ now
-    → upload_view ask ≡ OfSession name at act → carries at ask ≡ true → Fits s from at life → Own s ask now (outcome s ask secret now) at life
+own_carried : (s : State) (ask : Ask) (secret : List ℕ) (from now : ℕ) (name at : List ℕ) (act : Act) (life : Life)
+    → IsNumbered s → from ≤ now → upload_view ask ≡ OfSession name at act → carries at ask ≡ true → Fits s from at life
+    → Own s ask now (outcome s ask secret now) at life
 own_carried s ask secret from now name at act Unborn h later view c fits =
     own_refused s ask now (outcome s ask secret now) at Unborn
-    (outcome_of_view s ask secret now name at act view ∙ ap (λ x. at_session s.limits.max_blob (unless_idle s.limits.max_idle now x) name at act) fits)
+    (outcome_of_view s ask secret now name at act view
+    ∙ ap (λ x. at_session s.limits.max_blob (unless_idle s.limits.max_idle now x) name at act) fits)
     (ap (λ v. first_answer at (opened_under v)) view) (ap (λ v. first_life (opened_under v) now) view) fits
 own_carried s ask secret from now name at act Gone h later view c fits =
     own_refused s ask now (outcome s ask secret now) at Gone
-    (outcome_of_view s ask secret now name at act view ∙ ap (λ x. at_session s.limits.max_blob (unless_idle s.limits.max_idle now x) name at act) fits.0) refl refl fits
+    (outcome_of_view s ask secret now name at act view
+    ∙ ap (λ x. at_session s.limits.max_blob (unless_idle s.limits.max_idle now x) name at act) fits.0) refl refl fits
 own_carried s ask secret from now name at act (Open session) h later view c (inl is_open) =
     let e : outcome s ask secret now ≡ alone_outcome s.limits.max_blob s.limits.max_idle session ask now =
-    outcome_of_view s ask secret now name at act view ∙ ap (λ x. at_session s.limits.max_blob (unless_idle s.limits.max_idle now x) name at act) is_open
+    outcome_of_view s ask secret now name at act view
+    ∙ ap (λ x. at_session s.limits.max_blob (unless_idle s.limits.max_idle now x) name at act) is_open
     ∙ sym (alone_act s.limits.max_blob s.limits.max_idle session ask now name at act view) in
     record {
       told = ap answer_of e;
-      fits = subst (λ q. Fits (state_after s now (outcome s ask secret now)) now at (life_after session now q)) e (open_after s ask secret now (outcome s ask secret now) (outcome_sound s now ask secret) h at session is_open c);
+      fits =
+          subst (λ q. Fits (state_after s now (outcome s ask secret now)) now at (life_after session now q)) e
+          (open_after s ask secret now (outcome s ask secret now) (outcome_sound s now ask secret) h at
+          session is_open c);
     }
 own_carried s ask secret from now name at act (Open session) h later view c (inr left) =
-    let idle : is_idle s.limits.max_idle now session ≡ true = idle_later s.limits.max_idle from now session left.idle later in
+    let idle : is_idle s.limits.max_idle now session ≡ true =
+    idle_later s.limits.max_idle from now session left.idle later in
     let e : alone_outcome s.limits.max_blob s.limits.max_idle session ask now ≡ refused refusals.NoUpload =
     alone_act s.limits.max_blob s.limits.max_idle session ask now name at act view
     ∙ ap (λ x. at_session s.limits.max_blob x name at act) (idle_is_none s.limits.max_idle now session idle) in
     own_refused s ask now (outcome s ask secret now) at (Open session)
-    (outcome_of_view s ask secret now name at act view ∙ ap (λ x. at_session s.limits.max_blob (unless_idle s.limits.max_idle now x) name at act) left.gone.0)
+    (outcome_of_view s ask secret now name at act view
+    ∙ ap (λ x. at_session s.limits.max_blob (unless_idle s.limits.max_idle now x) name at act) left.gone.0)
     (ap answer_of e) (ap (life_after session now) e)
     (fits_by s s from now at (Open session) refl (omega arith) refl later (inr left))
 
-pub own_by_reference : (s : State) (ask : Ask) (secret : List ℕ) (from now : ℕ) (at : List ℕ) (life : Life) → IsNumbered s → from ≤ now → carries at ask ≡ true → Fits s from at life → Own s ask now (outcome s ask secret now) at life
+pub own_by_reference : (s : State) (ask : Ask) (secret : List ℕ) (from now : ℕ) (at : List ℕ) (life : Life)
+    → IsNumbered s → from ≤ now → carries at ask ≡ true → Fits s from at life
+    → Own s ask now (outcome s ask secret now) at life
 own_by_reference s ask secret from now at life h later c fits =
     let to = carried at ask c in own_carried s ask secret from now to.name at to.act life h later to.view c fits
 
-reply_begins_none : (s : State) (now : ℕ) (ask : Ask) (at : List ℕ) (answer : Answer) → IsReply s now ask answer → begins at answer ≡ true → ⊥
+reply_begins_none : (s : State) (now : ℕ) (ask : Ask) (at : List ℕ) (answer : Answer) → IsReply s now ask answer
+    → begins at answer ≡ true → ⊥
 reply_begins_none s now ask at (answers.Begun name new) f b = f
 reply_begins_none s now ask at other f b = true≢false (sym b)
 
-begun_alone : (s : State) (ask : Ask) (now : ℕ) (name at new : List ℕ) → at ≡ new → AsksToBegin name ask → Own s ask now (Begins name new) at Unborn
+begun_alone : (s : State) (ask : Ask) (now : ℕ) (name at new : List ℕ) → at ≡ new → AsksToBegin name ask
+    → Own s ask now (Begins name new) at Unborn
 begun_alone s ask now name at new is a =
     let t : State = state_after s now (Begins name new) in
     record {
       told = ap (answers.Begun name) (sym is) ∙ sym (ap (first_answer at) a);
-      fits = subst (λ o. Fits t now at (first_life o now)) (sym a) (inl (ap (map.get t.sessions) is ∙ get-insert_same (swept s now) new _));
+      fits =
+          subst (λ o. Fits t now at (first_life o now)) (sym a)
+          (inl (ap (map.get t.sessions) is ∙ get-insert_same (swept s now) new _));
     }
 
-pub own_by_opening : (s : State) (ask : Ask) (secret : List ℕ) (from now : ℕ) (o : Outcome) → IsOutcome s ask secret now o → (at : List ℕ) (life : Life) → IsNumbered s → begins at (answer_of o) ≡ true → Fits s from at life → Own s ask now o at life
-own_by_opening s ask secret from now (Replies answer) f at life h b fits = absurd (reply_begins_none s now ask at answer f b)
-own_by_opening s ask secret from now (Begins name new) f at Unborn h b fits = begun_alone s ask now name at new (eq_from_same at new b) f.asked
-own_by_opening s ask secret from now (Begins name new) f at (Open session) h b (inl fits) = absurd (not_new s secret at new f.is_new f.numbers_left (h at session fits) (eq_from_same at new b))
-own_by_opening s ask secret from now (Begins name new) f at (Open session) h b (inr left) = absurd (not_new s secret at new f.is_new f.numbers_left left.gone.1 (eq_from_same at new b))
-own_by_opening s ask secret from now (Begins name new) f at Gone h b fits = absurd (not_new s secret at new f.is_new f.numbers_left fits.1 (eq_from_same at new b))
+pub own_by_opening : (s : State) (ask : Ask) (secret : List ℕ) (from now : ℕ) (o : Outcome)
+    → IsOutcome s ask secret now o → (at : List ℕ) (life : Life) → IsNumbered s → begins at (answer_of o) ≡ true
+    → Fits s from at life → Own s ask now o at life
+own_by_opening s ask secret from now (Replies answer) f at life h b fits =
+    absurd (reply_begins_none s now ask at answer f b)
+own_by_opening s ask secret from now (Begins name new) f at Unborn h b fits =
+    begun_alone s ask now name at new (eq_from_same at new b) f.asked
+own_by_opening s ask secret from now (Begins name new) f at (Open session) h b (inl fits) =
+    absurd (not_new s secret at new f.is_new f.numbers_left (h at session fits) (eq_from_same at new b))
+own_by_opening s ask secret from now (Begins name new) f at (Open session) h b (inr left) =
+    absurd (not_new s secret at new f.is_new f.numbers_left left.gone.1 (eq_from_same at new b))
+own_by_opening s ask secret from now (Begins name new) f at Gone h b fits =
+    absurd (not_new s secret at new f.is_new f.numbers_left fits.1 (eq_from_same at new b))
 own_by_opening s ask secret from now (Takes name to received) f at life h b fits = absurd (true≢false (sym b))
 own_by_opening s ask secret from now (Commits name to digest blob) f at life h b fits = absurd (true≢false (sym b))
 own_by_opening s ask secret from now (Stores name digest blob) f at life h b fits = absurd (true≢false (sym b))

@@ -5,24 +5,27 @@ use Rattle.std.proofs.lemmas.Bool.{true≢false}
 use Rattle.upload_service.specs.declared.answer.Refusal.TheVariants as refusals
 use Rattle.upload_service.specs.declared.ask.Ask.{Ask}
 use Rattle.upload_service.specs.declared.ask.Ask.TheVariants as asks
-use Rattle.upload_service.specs.UploadView.{Act, UploadView, OfSession, Opens, WholeBlob, Unrelated, upload_view, on_session}
+use Rattle.upload_service.specs.UploadView.{Act, UploadView, OfSession, Opens, WholeBlob, Unrelated, upload_view}
+use Rattle.upload_service.specs.UploadView.{on_session}
 use Rattle.upload_service.specs.Machine.{same, awake, Session, State, Outcome, refused, in_session, at_session, outcome}
 use Rattle.upload_service.specs.Session.{carries}
 use Rattle.upload_service.proofs.Tables.{eq_from_same, same_from_eq}
 
 -- what holds of none, and of whatever is said of a request to a session, holds of what is said of each request
-pub on_each : {A : Type 0} (P : A → Type 0) (v : UploadView) (none : A) (said : List ℕ → List ℕ → Act → A) → P none → ((name at : List ℕ) (act : Act) → P (said name at act))
-    → P (on_session v none said)
+pub on_each : {A : Type 0} (P : A → Type 0) (v : UploadView) (none : A) (said : List ℕ → List ℕ → Act → A) → P none
+    → ((name at : List ℕ) (act : Act) → P (said name at act)) → P (on_session v none said)
 on_each P (OfSession name at act) none said p q = q name at act
 on_each P (Opens name) none said p q = p
 on_each P (WholeBlob body) none said p q = p
 on_each P Unrelated none said p q = p
 
 abbrev session_outcome : State → ℕ → UploadView → Outcome
-session_outcome s now v = on_session v (refused refusals.NoUpload) (λ name at act. at_session s.limits.max_blob (awake s now at) name at act)
+session_outcome s now v =
+    on_session v (refused refusals.NoUpload) (λ name at act. at_session s.limits.max_blob (awake s now at) name at act)
 
 -- the machine has a request to a session meet that session
-pub outcome_of_view : (s : State) (ask : Ask) (secret : List ℕ) (now : ℕ) (name at : List ℕ) (act : Act) → upload_view ask ≡ OfSession name at act
+pub outcome_of_view : (s : State) (ask : Ask) (secret : List ℕ) (now : ℕ) (name at : List ℕ) (act : Act)
+    → upload_view ask ≡ OfSession name at act
     → outcome s ask secret now ≡ at_session s.limits.max_blob (awake s now at) name at act
 outcome_of_view s (asks.Chunk n to range body) secret now name at act e = ap (session_outcome s now) e
 outcome_of_view s (asks.Status n to) secret now name at act e = ap (session_outcome s now) e
@@ -30,11 +33,12 @@ outcome_of_view s (asks.Close n to range digest body) secret now name at act e =
 outcome_of_view s other secret now name at act e = cc
 
 -- a session that is there, under the name that is asked for
-pub named : (max_blob : ℕ) (o : Option Session) (session : Session) (name at : List ℕ) (act : Act) → o ≡ Some session → session.name ≡ name
-    → at_session max_blob o name at act ≡ in_session max_blob session name at act
+pub named : (max_blob : ℕ) (o : Option Session) (session : Session) (name at : List ℕ) (act : Act) → o ≡ Some session
+    → session.name ≡ name → at_session max_blob o name at act ≡ in_session max_blob session name at act
 named max_blob o session name at act e n =
     ap (λ q. at_session max_blob q name at act) e
-    ∙ ap (λ b. if b then in_session max_blob session name at act else refused refusals.NoUpload) (same_from_eq session.name name n)
+    ∙ ap (λ b. if b then in_session max_blob session name at act else refused refusals.NoUpload)
+    (same_from_eq session.name name n)
 
 -- a request that carries a reference asks something of its session
 pub record IsCarried (at : List ℕ) (v : UploadView) : Type 0 where
@@ -43,7 +47,8 @@ pub record IsCarried (at : List ℕ) (v : UploadView) : Type 0 where
   pub view : v ≡ OfSession name at act
 
 carried_view : (at : List ℕ) (v : UploadView) → on_session v false (λ name to act. same at to) ≡ true → IsCarried at v
-carried_view at (OfSession name to act) c = record { name = name; act = act; view = ap (λ k. OfSession name k act) (sym (eq_from_same at to c)) }
+carried_view at (OfSession name to act) c =
+    record { name = name; act = act; view = ap (λ k. OfSession name k act) (sym (eq_from_same at to c)) }
 carried_view at (Opens name) c = absurd (true≢false (sym c))
 carried_view at (WholeBlob body) c = absurd (true≢false (sym c))
 carried_view at Unrelated c = absurd (true≢false (sym c))

@@ -7,12 +7,14 @@ use Rattle.upload_service.specs.Machine.{Turn}
 use Rattle.upload_service.proofs.Claims.{Moment}
 use Rattle.upload_service.specs.Run.{Exchange, NeverBefore, NeverFall, Run, exchanges}
 use Rattle.upload_service.specs.Headline.{IsOrderly, HeadlineHolds}
-use Rattle.upload_service.proofs.Headline.{commits_its_chunks, missed_chunk_changes_nothing, misplaced_only_there, closed_takes_nothing}
+use Rattle.upload_service.proofs.Headline.{commits_its_chunks, missed_chunk_changes_nothing, misplaced_only_there}
+use Rattle.upload_service.proofs.Headline.{closed_takes_nothing}
 use Rattle.upload_service.proofs.Alone.{answered_as_alone}
 use Rattle.upload_service.proofs.Store.{run-push, store_is_what_was_stored, blob_is_what_was_stored}
 use Rattle.upload_service.proofs.Lawful.{stays_lawful}
 
-pub orderly : (start : State) (front : List Exchange) (before : State) (x : Exchange) (after : State) → Moment start front before x after → IsOrderly start front before x after
+pub orderly : (start : State) (front : List Exchange) (before : State) (x : Exchange) (after : State)
+    → Moment start front before x after → IsOrderly start front before x after
 unfolding Turn
 orderly start front before x after m =
     record {
@@ -24,15 +26,17 @@ orderly start front before x after m =
     }
 
 -- a run comes apart at each of its exchanges
-run_split : (front : List Exchange) (s : State) (x : Exchange) (rest : List Exchange) (t : State) → Run s (front ++ x ∷ rest) t
-    → (before : State) × (after : State) × Run s front before × Turn before x.ask x.secret x.now x.answer after × Run after rest t
+run_split : (front : List Exchange) (s : State) (x : Exchange) (rest : List Exchange) (t : State)
+    → Run s (front ++ x ∷ rest) t → (before : State) × (after : State) × Run s front before
+    × Turn before x.ask x.secret x.now x.answer after × Run after rest t
 unfolding Turn
 run_split [] s x rest t (mid, turn, later) = (s, mid, refl, turn, later)
 run_split (y ∷ ys) s x rest t (mid, turn, later) =
     let parts = run_split ys mid x rest t later in
     (parts.0, parts.1, (mid, turn, parts.2), parts.3, parts.4)
 
-never_in_front : (front : List Exchange) (x : Exchange) (rest : List Exchange) (from : ℕ) → NeverBefore from (front ++ x ∷ rest) → NeverBefore from (front ++ x ∷ [])
+never_in_front : (front : List Exchange) (x : Exchange) (rest : List Exchange) (from : ℕ)
+    → NeverBefore from (front ++ x ∷ rest) → NeverBefore from (front ++ x ∷ [])
 never_in_front [] x rest from (later, never) = (later, tt)
 never_in_front (y ∷ ys) x rest from (later, never) = (later, never_in_front ys x rest y.now never)
 
@@ -42,8 +46,15 @@ headline_holds start xs end lawful never run =
     record {
       each = λ front x rest e.
           let parts = run_split front start x rest end (subst (λ ys. Run start ys end) e run) in
-          let no_fall : NeverFall (front ++ x ∷ []) = never_in_front front x rest 0 (subst NeverFall e never) in
-          (parts.0, parts.1, parts.2, parts.3, parts.4, orderly start front parts.0 x parts.1 (record { lawful = lawful; never_fall = no_fall; so_far = parts.2; turn = parts.3 }));
+          let no_fall : NeverFall (front ++ x ∷ []) = never_in_front front x rest 0 (subst NeverFall e never) in (
+            parts.0,
+            parts.1,
+            parts.2,
+            parts.3,
+            parts.4,
+            orderly start front parts.0 x parts.1
+                (record { lawful = lawful; never_fall = no_fall; so_far = parts.2; turn = parts.3 }),
+          );
       alone = answered_as_alone start xs end lawful never run;
       store = store_is_what_was_stored start xs end lawful run;
       lawful = stays_lawful start xs end lawful run;
@@ -52,15 +63,20 @@ headline_holds start xs end lawful never run =
 abbrev Job : Type 0
 Job = Ask × List ℕ × ℕ
 
-pub exchanges-push : (jobs : List Job) (answered : List Answer) (job : Job) (answer : Answer) → length jobs ≡ length answered
-    → exchanges (jobs ++ job ∷ []) (answered ++ answer ∷ []) ≡ exchanges jobs answered ++ record { ask = job.0; secret = job.1; now = job.2; answer = answer } ∷ []
+pub exchanges-push : (jobs : List Job) (answered : List Answer) (job : Job) (answer : Answer)
+    → length jobs ≡ length answered → exchanges (jobs ++ job ∷ []) (answered ++ answer ∷ [])
+    ≡ exchanges jobs answered ++ record { ask = job.0; secret = job.1; now = job.2; answer = answer } ∷ []
 exchanges-push [] [] job answer e = refl
 exchanges-push [] (a ∷ as') job answer e = absurd (omega arith)
 exchanges-push (j ∷ js) [] job answer e = absurd (omega arith)
-exchanges-push (j ∷ js) (a ∷ as') job answer e = ap (λ xs. record { ask = j.0; secret = j.1; now = j.2; answer = a } ∷ xs) (exchanges-push js as' job answer (omega arith))
+exchanges-push (j ∷ js) (a ∷ as') job answer e =
+    ap (λ xs. record { ask = j.0; secret = j.1; now = j.2; answer = a } ∷ xs)
+    (exchanges-push js as' job answer (omega arith))
 
-pub run_more : (start mid end : State) (jobs : List Job) (answered : List Answer) (job : Job) (answer : Answer) → length jobs ≡ length answered
-    → Run start (exchanges jobs answered) mid → Turn mid job.0 job.1 job.2 answer end → Run start (exchanges (jobs ++ job ∷ []) (answered ++ answer ∷ [])) end
+pub run_more : (start mid end : State) (jobs : List Job) (answered : List Answer) (job : Job) (answer : Answer)
+    → length jobs ≡ length answered → Run start (exchanges jobs answered) mid → Turn mid job.0 job.1 job.2 answer end
+    → Run start (exchanges (jobs ++ job ∷ []) (answered ++ answer ∷ [])) end
 unfolding Turn
 run_more start mid end jobs answered job answer e run turn =
-    subst (λ xs. Run start xs end) (sym (exchanges-push jobs answered job answer e)) (run-push (exchanges jobs answered) start mid end _ run turn)
+    subst (λ xs. Run start xs end) (sym (exchanges-push jobs answered job answer e))
+    (run-push (exchanges jobs answered) start mid end _ run turn)

@@ -1,5 +1,6 @@
 -- One session with nothing else of the service, and what it would be told.
-use Rattle.std.specs.Prelude.{◌≡◌, ℕ, not, nat_le, Bool, true, false, List, [], ◌∷◌, map as list_map, filter, Option, Some, None}
+use Rattle.std.specs.Prelude.{◌≡◌, ℕ, not, nat_le, Bool, true, false, List, [], ◌∷◌, map as list_map, filter, Option}
+use Rattle.std.specs.Prelude.{Some, None}
 use Rattle.std.specs.FinMap as map
 use Rattle.upload_names.specs.Reference.{number_of}
 use Rattle.upload_service.specs.declared.answer.Refusal.TheVariants as refusals
@@ -7,7 +8,8 @@ use Rattle.upload_service.specs.declared.ask.Ask.{Ask}
 use Rattle.upload_service.specs.declared.answer.Answer.{Answer}
 use Rattle.upload_service.specs.declared.answer.Answer.TheVariants as answers
 use Rattle.upload_service.specs.UploadView.{upload_view, on_session, opened_under}
-use Rattle.upload_service.specs.Machine.{unless_idle, Session, State, Outcome, Replies, Begins, Takes, Commits, Stores, Mounts, answer_of, refused, at_session}
+use Rattle.upload_service.specs.Machine.{unless_idle, Session, State, Outcome, Replies, Begins, Takes, Commits, Stores}
+use Rattle.upload_service.specs.Machine.{Mounts, answer_of, refused, at_session}
 use Rattle.upload_service.specs.Run.{Exchange}
 use Rattle.upload_service.specs.Session.{part, received}
 
@@ -38,10 +40,11 @@ life_after session now (Mounts name digest) = Open session
 -- what a request to the session comes to
 abbrev pub alone_outcome : ℕ → ℕ → Session → Ask → ℕ → Outcome
 alone_outcome max_blob max_idle session ask now =
-    on_session (upload_view ask) (refused refusals.NoUpload) (at_session max_blob (unless_idle max_idle now (Some session)))
+    on_session (upload_view ask) (refused refusals.NoUpload)
+    (at_session max_blob (unless_idle max_idle now (Some session)))
 
--- the answer to a request, and the session after it, if the session isn't there yet: by the name under which the request
--- asks for a new one
+-- the answer to a request, and the session after it, if the session isn't there yet: by the name under which the
+-- request asks for a new one
 abbrev pub first_answer : List ℕ → Option (List ℕ) → Answer
 first_answer at (Some name) = answers.Begun name at
 first_answer at None = answers.Refused refusals.NoUpload
@@ -58,14 +61,16 @@ alone_answer max_blob max_idle at Gone ask now = answers.Refused refusals.NoUplo
 
 abbrev pub alone_after : ℕ → ℕ → Life → Ask → ℕ → Life
 alone_after max_blob max_idle Unborn ask now = first_life (opened_under (upload_view ask)) now
-alone_after max_blob max_idle (Open session) ask now = life_after session now (alone_outcome max_blob max_idle session ask now)
+alone_after max_blob max_idle (Open session) ask now =
+    life_after session now (alone_outcome max_blob max_idle session ask now)
 alone_after max_blob max_idle Gone ask now = Gone
 
 -- the answers to the requests of one session that is alone, each at its moment
 abbrev pub alone : ℕ → ℕ → List ℕ → Life → List (Ask × ℕ) → List Answer
 alone max_blob max_idle at life [] = []
 alone max_blob max_idle at life ((ask, now) ∷ asked) =
-    alone_answer max_blob max_idle at life ask now ∷ alone max_blob max_idle at (alone_after max_blob max_idle life ask now) asked
+    alone_answer max_blob max_idle at life ask now
+    ∷ alone max_blob max_idle at (alone_after max_blob max_idle life ask now) asked
 
 abbrev pub lacks_memory : Answer → Bool
 lacks_memory answers.NoMemory = true
@@ -79,4 +84,5 @@ told xs at = filter (λ x. not (lacks_memory x.answer)) (part xs at)
 abbrev pub IsToldAsAlone : State → List Exchange → List ℕ → Type 0
 IsToldAsAlone start xs at =
     list_map (λ x. x.answer) (told xs at)
-    ≡ alone start.limits.max_blob start.limits.max_idle at (life_in start at) (list_map (λ x. (x.ask, x.now)) (told xs at))
+    ≡ alone start.limits.max_blob start.limits.max_idle at (life_in start at)
+    (list_map (λ x. (x.ask, x.now)) (told xs at))

@@ -49,7 +49,8 @@ limits_code = code_by (ℕ × (ℕ × (ℕ × ℕ))) (coded× coded_ℕ (coded×
 abbrev pub state_code : Coded State
 state_code =
     code_by (Limits × (ℕ × (Table Session × (FinMap digest_cmp (List ℕ) × FinSet pair_cmp))))
-    (coded× limits_code (coded× coded_ℕ (coded× (map.code bytes_code session_code) (coded× (map.code digest_code bytes_code) (set.code pair_code)))))
+    (coded× limits_code (coded× coded_ℕ
+    (coded× (map.code bytes_code session_code) (coded× (map.code digest_code bytes_code) (set.code pair_code)))))
     (λ s. (s.limits, (s.issued, (s.sessions, (s.blobs, s.pairs)))))
     (λ p. record { limits = p.0; issued = p.1.0; sessions = p.1.1.0; blobs = p.1.1.1.0; pairs = p.1.1.1.1 })
     (λ _. refl)

@@ -3,7 +3,8 @@ use Rattle.std.specs.Prelude.{◌≡◌, ℕ, ◌+◌, ◌<◌, ◌≤◌, false
 use Rattle.std.specs.FinMap as map
 use Rattle.upload_names.specs.Reference.{reference}
 use Rattle.upload_service.specs.declared.answer.Refusal.TheVariants as refusals
-use Rattle.upload_service.specs.Machine.{Session, State, Begins, refused, is_idle, unless_idle, swept, last_number, opening}
+use Rattle.upload_service.specs.Machine.{Session, State, Begins, refused, is_idle, unless_idle, swept, last_number}
+use Rattle.upload_service.specs.Machine.{opening}
 
 -- as many sessions are open as may be
 abbrev pub IsFull : State → Type 0
@@ -11,12 +12,15 @@ IsFull s = map.len s.sessions ≡ s.limits.max_open
 
 -- no open session is idle then
 abbrev pub NoneIsIdle : State → ℕ → Type 0
-NoneIsIdle s now = (at : List ℕ) (session : Session) → map.get s.sessions at ≡ Some session → is_idle s.limits.max_idle now session ≡ false
+NoneIsIdle s now =
+    (at : List ℕ) (session : Session) → map.get s.sessions at ≡ Some session
+    → is_idle s.limits.max_idle now session ≡ false
 
 -- some open session is idle then
 abbrev pub OneIsIdle : State → ℕ → Type 0
 OneIsIdle s now =
-    (at : List ℕ) × (session : Session) × (map.get s.sessions at ≡ Some session) × (is_idle s.limits.max_idle now session ≡ true)
+    (at : List ℕ) × (session : Session) × (map.get s.sessions at ≡ Some session)
+    × (is_idle s.limits.max_idle now session ≡ true)
 
 pub record OpeningsMeetTheTable : Type 0 where
   -- an opening is refused where all numbers were given out
@@ -27,9 +31,11 @@ pub record OpeningsMeetTheTable : Type 0 where
       → IsFull s → NoneIsIdle s now → opening s name secret now ≡ refused refusals.TooMany
   -- else it begins a session: where one of them is idle, and where the table has room
   pub idle : (s : State) (name secret : List ℕ) (now : ℕ)
-      → s.issued < last_number → IsFull s → OneIsIdle s now → opening s name secret now ≡ Begins name (reference (s.issued + 1) secret)
+      → s.issued < last_number → IsFull s → OneIsIdle s now
+      → opening s name secret now ≡ Begins name (reference (s.issued + 1) secret)
   pub room : (s : State) (name secret : List ℕ) (now : ℕ)
-      → s.issued < last_number → map.len s.sessions < s.limits.max_open → opening s name secret now ≡ Begins name (reference (s.issued + 1) secret)
+      → s.issued < last_number → map.len s.sessions < s.limits.max_open
+      → opening s name secret now ≡ Begins name (reference (s.issued + 1) secret)
   -- the idle sessions leave a full table, and no other does
   pub leave : (s : State) (now : ℕ) → IsFull s → (at : List ℕ)
       → map.get (swept s now) at ≡ unless_idle s.limits.max_idle now (map.get s.sessions at)

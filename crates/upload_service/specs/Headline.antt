@@ -48,10 +48,11 @@ pub record IsCommitted (blob name name' : List ℕ) (asked : Option Digest) (dig
 
 -- What holds of every exchange of a run, where front are the exchanges before it, and received start front at is what a
 -- session has received by then.
-pub record IsOrderly (start : State) (front : List Exchange) (before : State) (x : Exchange) (after : State) : Type 0 where
+pub record IsOrderly (start : State) (front : List Exchange) (before : State) (x : Exchange)
+    (after : State) : Type 0 where
   -- what a session commits is what it received, with the digest asked for, stored under it
-  pub committed : (name at : List ℕ) (range : Extent) (asked : Option Digest) (body : List ℕ) (name' : List ℕ) (digest : Digest)
-      → x.ask ≡ asks.Close name at range asked body → x.answer ≡ answers.Stored name' digest
+  pub committed : (name at : List ℕ) (range : Extent) (asked : Option Digest) (body : List ℕ) (name' : List ℕ)
+      (digest : Digest) → x.ask ≡ asks.Close name at range asked body → x.answer ≡ answers.Stored name' digest
       → IsCommitted (received start (front ++ x ∷ []) at) name name' asked digest after
   -- a chunk that misses the next offset is answered so, and changes nothing
   pub missed : (aim : Aim) → aim_of x.ask ≡ Some aim → IsAwake before x.now aim.name aim.at
@@ -82,11 +83,14 @@ pub record Headline (start : State) (xs : List Exchange) (end : State) : Type 0 
 
 -- The headline holds of every run from every lawful state, where the moments don't fall.
 abbrev pub HeadlineHolds : Type 0
-HeadlineHolds = (start : State) (xs : List Exchange) (end : State) → IsLawful start → NeverFall xs → Run start xs end → Headline start xs end
+HeadlineHolds =
+    (start : State) (xs : List Exchange) (end : State) → IsLawful start → NeverFall xs → Run start xs end
+    → Headline start xs end
 
 -- Other requests leave an open session as it is, or it is idle then and leaves the table.
 abbrev pub OthersLeaveIt : Type 0
 OthersLeaveIt = (old : State) (ask : Ask) (secret : List ℕ) (now : ℕ) (answer : Answer) (new : State)
     → IsLawful old → Turn old ask secret now answer new
     → (at : List ℕ) (session : Session) → map.get old.sessions at ≡ Some session → carries at ask ≡ false
-    → (map.get new.sessions at ≡ Some session) ⊎ (IsTrue (is_idle old.limits.max_idle now session) × (map.get new.sessions at ≡ None))
+    → (map.get new.sessions at ≡ Some session)
+    ⊎ (IsTrue (is_idle old.limits.max_idle now session) × (map.get new.sessions at ≡ None))

@@ -1,6 +1,7 @@
 -- The upload service as a machine over plain data: the open sessions, the stored blobs, and which repository
 -- has which blob. A name, a reference and a body are lists of bytes; moments are in seconds.
-use Rattle.std.specs.Prelude.{◌≡◌, ℕ, ◌+◌, ◌-◌, ◌<◌, ◌≤◌, ◌^◌, ◌==◌, ◌||◌, nat_lt, nat_le, not, Bool, true, false, List, [], ◌++◌, length, Option, Some, None, is_some, IsSome, IsTrue, ◌⊎◌, if◌then◌else◌}
+use Rattle.std.specs.Prelude.{◌≡◌, ℕ, ◌+◌, ◌-◌, ◌<◌, ◌≤◌, ◌^◌, ◌==◌, ◌||◌, nat_lt, nat_le, not, Bool, true, false, List}
+use Rattle.std.specs.Prelude.{[], ◌++◌, length, Option, Some, None, is_some, IsSome, IsTrue, ◌⊎◌, if◌then◌else◌}
 use Rattle.std.specs.declared.cmp.Ordering.{Ordering}
 use Rattle.std.specs.Ordering.{nat_cmp, eq_by_cmp, ordering_then}
 use Rattle.std.specs.Cmp.Lexicographic.{slice_cmp}
@@ -62,7 +63,8 @@ pub record State : Type 0 where
   pub pairs : FinSet pair_cmp
 
 abbrev pub empty_state : Limits → ℕ → State
-empty_state limits issued = record { limits = limits; issued = issued; sessions = map.empty; blobs = map.empty; pairs = set.empty }
+empty_state limits issued =
+    record { limits = limits; issued = issued; sessions = map.empty; blobs = map.empty; pairs = set.empty }
 
 -- a session that took nothing for more than max_idle seconds
 abbrev pub is_idle : ℕ → ℕ → Session → Bool
@@ -78,14 +80,16 @@ awake s now at = unless_idle s.limits.max_idle now (map.get s.sessions at)
 
 -- the sessions that aren't idle then
 abbrev pub awake_of : ℕ → ℕ → Table Session → Table Session
-awake_of max_idle now sessions = map.retain_keys sessions (λ at. is_some (unless_idle max_idle now (map.get sessions at)))
+awake_of max_idle now sessions =
+    map.retain_keys sessions (λ at. is_some (unless_idle max_idle now (map.get sessions at)))
 
 abbrev pub all_awake : State → ℕ → Table Session
 all_awake s now = awake_of s.limits.max_idle now s.sessions
 
 -- the sessions beside which one more is opened: where the table is full, the idle ones leave
 abbrev pub swept_of : Limits → ℕ → Table Session → Table Session
-swept_of limits now sessions = if nat_le limits.max_open (map.len sessions) then awake_of limits.max_idle now sessions else sessions
+swept_of limits now sessions =
+    if nat_le limits.max_open (map.len sessions) then awake_of limits.max_idle now sessions else sessions
 
 abbrev pub swept : State → ℕ → Table Session
 swept s now = swept_of s.limits now s.sessions
@@ -122,7 +126,8 @@ state_after s now (Commits name at digest blob) = record s {
   blobs = map.insert s.blobs digest blob;
   pairs = set.insert s.pairs (name, digest);
 }
-state_after s now (Stores name digest blob) = record s { blobs = map.insert s.blobs digest blob; pairs = set.insert s.pairs (name, digest) }
+state_after s now (Stores name digest blob) =
+    record s { blobs = map.insert s.blobs digest blob; pairs = set.insert s.pairs (name, digest) }
 state_after s now (Mounts name digest) = record s { pairs = set.insert s.pairs (name, digest) }
 
 abbrev pub refused : Refusal → Outcome
@@ -130,14 +135,16 @@ refused refusal = Replies (answers.Refused refusal)
 
 -- why a body isn't taken behind `next` bytes, by the first cause that applies; None where it is
 abbrev pub size_fault : ℕ → ℕ → List ℕ → Option Answer
-size_fault max_blob next body = if nat_lt max_blob (next + length body) then Some (answers.Refused refusals.TooLarge) else None
+size_fault max_blob next body =
+    if nat_lt max_blob (next + length body) then Some (answers.Refused refusals.TooLarge) else None
 
 abbrev pub body_fault : ℕ → List ℕ → List ℕ → ℕ → Extent → List ℕ → Option Answer
 body_fault max_blob name at next Absent body = size_fault max_blob next body
 body_fault max_blob name at next Bad body = Some (answers.Refused refusals.BadRange)
 body_fault max_blob name at next (Given range) body =
     if not (range.first == next) then Some (answers.Misplaced name at next)
-    else if nat_lt range.last range.first || not (range.last - range.first + 1 == length body) then Some (answers.Refused refusals.WrongLength)
+    else if nat_lt range.last range.first
+    || not (range.last - range.first + 1 == length body) then Some (answers.Refused refusals.WrongLength)
     else size_fault max_blob next body
 
 abbrev pub unless_fault : Option Answer → Outcome → Outcome
@@ -147,7 +154,8 @@ unless_fault None outcome = outcome
 -- a blob under the digest asked for: what is done with it where the digest is the blob's own
 abbrev pub checked : Option Digest → List ℕ → (Digest → Outcome) → Outcome
 checked None blob done = refused refusals.NoDigest
-checked (Some digest) blob done = if same_digest (content_digest digest.algorithm blob) digest then done digest else refused refusals.Mismatch
+checked (Some digest) blob done =
+    if same_digest (content_digest digest.algorithm blob) digest then done digest else refused refusals.Mismatch
 
 -- a request to an open session
 abbrev pub in_session : ℕ → Session → List ℕ → List ℕ → Act → Outcome
@@ -188,10 +196,12 @@ outcome s (asks.Refused refusal) secret now = refused refusal
 outcome s (asks.Has name digest head) secret now =
     if holds s name digest then blob_reply digest head (map.get s.blobs digest) else refused refusals.NoBlob
 outcome s (asks.Opening name) secret now = opening s name secret now
-outcome s (asks.Mount name digest source) secret now = if holds s source digest then Mounts name digest else opening s name secret now
+outcome s (asks.Mount name digest source) secret now =
+    if holds s source digest then Mounts name digest else opening s name secret now
 outcome s (asks.Single name digest body) secret now =
     unless_fault (size_fault s.limits.max_blob 0 body) (checked digest body (λ d. Stores name d body))
-outcome s (asks.Chunk name at range body) secret now = at_session s.limits.max_blob (awake s now at) name at (Sends range body)
+outcome s (asks.Chunk name at range body) secret now =
+    at_session s.limits.max_blob (awake s now at) name at (Sends range body)
 outcome s (asks.Status name at) secret now = at_session s.limits.max_blob (awake s now at) name at AsksOffset
 outcome s (asks.Close name at range digest body) secret now =
     at_session s.limits.max_blob (awake s now at) name at (Closes range digest body)
@@ -217,9 +227,12 @@ Turn old ask secret now answer new = Comes old now (outcome old ask secret now) 
 
 -- A lawful state: what holds of the service whatever it was asked.
 pub record IsLawful (s : State) : Type 0 where
-  pub numbered : (at : List ℕ) (session : Session) → map.get s.sessions at ≡ Some session → (0 < number_of at) × (number_of at ≤ s.issued)
-  pub different : (a b : List ℕ) → IsSome (map.get s.sessions a) → IsSome (map.get s.sessions b) → number_of a ≡ number_of b → a ≡ b
+  pub numbered : (at : List ℕ) (session : Session) → map.get s.sessions at ≡ Some session
+      → (0 < number_of at) × (number_of at ≤ s.issued)
+  pub different : (a b : List ℕ) → IsSome (map.get s.sessions a) → IsSome (map.get s.sessions b)
+      → number_of a ≡ number_of b → a ≡ b
   pub few : map.len s.sessions ≤ s.limits.max_open
-  pub small : (at : List ℕ) (session : Session) → map.get s.sessions at ≡ Some session → length session.received ≤ s.limits.max_blob
+  pub small : (at : List ℕ) (session : Session) → map.get s.sessions at ≡ Some session
+      → length session.received ≤ s.limits.max_blob
   pub own_digest : (digest : Digest) (blob : List ℕ) → map.get s.blobs digest ≡ Some blob → HasDigest blob digest
   pub stored : (name : List ℕ) (digest : Digest) → IsTrue (holds s name digest) → IsSome (map.get s.blobs digest)

@@ -29,4 +29,5 @@ NeverFall xs = NeverBefore 0 xs
 abbrev pub exchanges : List (Ask × List ℕ × ℕ) → List Answer → List Exchange
 exchanges [] answered = []
 exchanges (job ∷ jobs) [] = []
-exchanges (job ∷ jobs) (answer ∷ answered) = record { ask = job.0; secret = job.1; now = job.2; answer = answer } ∷ exchanges jobs answered
+exchanges (job ∷ jobs) (answer ∷ answered) =
+    record { ask = job.0; secret = job.1; now = job.2; answer = answer } ∷ exchanges jobs answered

@@ -6,7 +6,8 @@ use Rattle.upload_names.specs.Digest.{Digest}
 use Rattle.upload_service.specs.declared.ask.Ask.{Ask}
 use Rattle.upload_service.specs.declared.answer.Answer.{Answer}
 use Rattle.upload_service.specs.declared.answer.Answer.TheVariants as answers
-use Rattle.upload_service.specs.UploadView.{Act, Sends, AsksOffset, Closes, UploadView, OfSession, Opens, WholeBlob, Unrelated, upload_view}
+use Rattle.upload_service.specs.UploadView.{Act, Sends, AsksOffset, Closes, UploadView, OfSession, Opens, WholeBlob}
+use Rattle.upload_service.specs.UploadView.{Unrelated, upload_view}
 use Rattle.upload_service.specs.Machine.{same_digest, State, holds, pair_cmp}
 use Rattle.std.specs.Ordering.{eq_by_cmp}
 use Rattle.upload_service.specs.Run.{Exchange}
@@ -26,7 +27,8 @@ stored_act (Closes range digest body) stored = stored ∷ []
 
 -- what a request that was answered Stored stored, where upto are the exchanges up to it and with it
 abbrev pub blob_of : State → List Exchange → List ℕ → Digest → UploadView → List Stored
-blob_of start upto name digest (OfSession n at act) = stored_act act (record { name = name; digest = digest; blob = received start upto at })
+blob_of start upto name digest (OfSession n at act) =
+    stored_act act (record { name = name; digest = digest; blob = received start upto at })
 blob_of start upto name digest (Opens n) = []
 blob_of start upto name digest (WholeBlob body) = record { name = name; digest = digest; blob = body } ∷ []
 blob_of start upto name digest Unrelated = []
@@ -37,7 +39,8 @@ stored_by start upto ask other = []
 
 abbrev pub stored_from : State → List Exchange → List Exchange → List Stored
 stored_from start front [] = []
-stored_from start front (x ∷ xs) = stored_by start (front ++ x ∷ []) x.ask x.answer ++ stored_from start (front ++ x ∷ []) xs
+stored_from start front (x ∷ xs) =
+    stored_by start (front ++ x ∷ []) x.ask x.answer ++ stored_from start (front ++ x ∷ []) xs
 
 -- the blobs that were stored, in order
 abbrev pub stored : State → List Exchange → List Stored
@@ -56,7 +59,8 @@ notes name digest other = false
 -- What is stored after a run: under each digest the last blob that was stored there, else what was there at the start;
 -- and the pairs are those of the start and those that were answered Stored.
 pub record IsStoreAfter (start : State) (xs : List Exchange) (end : State) : Type 0 where
-  pub blobs : (digest : Digest) → map.get end.blobs digest ≡ last_under digest (stored start xs) (map.get start.blobs digest)
+  pub blobs : (digest : Digest)
+      → map.get end.blobs digest ≡ last_under digest (stored start xs) (map.get start.blobs digest)
   pub pairs : (name : List ℕ) (digest : Digest)
       → holds end name digest ≡ (holds start name digest || list_any (λ x. notes name digest x.answer) xs)
 

@@ -12,7 +12,8 @@ pub data Act : Type 0 where
   Closes : (range : Extent) (digest : Option Digest) (body : List ℕ) → Act  -- that it take a last chunk and be stored
 
 pub data UploadView : Type 0 where
-  OfSession : (name at : List ℕ) (act : Act) → UploadView  -- something of the session of this reference, under this name
+  OfSession : (name at : List ℕ) (act : Act)
+      → UploadView  -- something of the session of this reference, under this name
   Opens : (name : List ℕ) → UploadView  -- a new session; a mount may be answered without one
   WholeBlob : (body : List ℕ) → UploadView  -- a blob without a session
   Unrelated : UploadView  -- nothing of an upload

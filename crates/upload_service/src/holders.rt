@@ -1,5 +1,6 @@
 //! Which repositories have a blob. Nearly all blobs have one, whose name is kept once for all its blobs.
-ghost use Rattle.std.specs.Prelude.{◌≡◌, ◌||◌, ◌∷◌, [], true, false, map as list_map, ℕ, List, IfSome, IfNone, IfOk, OnOk, OnErr};
+ghost use Rattle.std.specs.Prelude.{◌≡◌, ◌||◌, ◌∷◌, [], true, false, map as list_map, ℕ, List, IfSome, IfNone, IfOk};
+ghost use Rattle.std.specs.Prelude.{OnOk, OnErr};
 ghost use Rattle.std.specs.Arc.{arc_value};
 ghost use Rattle.std.specs.List.{list_any};
 ghost use Rattle.upload_service.specs.Machine.{same};
@@ -49,13 +50,15 @@ impl Names {
         self.shared.get(name)
     }
 
-    /// One more owner of a name, which is copied where it is the first. It is among the names then, and no other that wasn't.
-    /// An `Err` changes nothing.
+    /// One more owner of a name, which is copied where it is the first. It is among the names then, and no other that
+    /// wasn't. An `Err` changes nothing.
     pub fn share(&mut self, name: &RepoName) -> Result<Arc<RepoName, Global>, AllocError>
         ensures shared { IfOk result (λ shared. arc_value shared ≡ name.now) }
         ensures known { OnOk result (list_any (same name.now) self.new ≡ true) }
-        ensures kept { (q : List ℕ) → list_any (same q) self.old ≡ true → list_any (same q) self.new ≡ true }
-        ensures names { OnOk result ((q : List ℕ) → list_any (same q) self.new ≡ (same q name.now || list_any (same q) self.old)) }
+        ensures kept { (q : List ℕ) → list_any (same q) self.old ≡ true
+            → list_any (same q) self.new ≡ true }
+        ensures names { OnOk result ((q : List ℕ)
+            → list_any (same q) self.new ≡ (same q name.now || list_any (same q) self.old)) }
         ensures err { OnErr result (self.new ≡ self.old) }
     {
         if let Some(shared) = self.shared.get(name) {
@@ -115,7 +118,8 @@ impl Holders {
 
     /// Puts a repository beside them. It takes no memory where that one is among them. An `Err` changes nothing.
     pub fn add(&mut self, alloc: Global, name: Arc<RepoName, Global>) -> Result<(), AllocError>
-        ensures ok { OnOk result ((q : List ℕ) → list_any (same q) self.new ≡ (same q (arc_value name) || list_any (same q) self.old)) }
+        ensures ok { OnOk result ((q : List ℕ) → list_any (same q) self.new
+            ≡ (same q (arc_value name) || list_any (same q) self.old)) }
         ensures err { OnErr result (self.new ≡ self.old) }
     {
         if self.has(&name) {
@@ -140,7 +144,8 @@ fn both(
     one: Arc<RepoName, Global>,
     other: Arc<RepoName, Global>,
 ) -> Result<Box<BTreeSet<Arc<RepoName, Global>>>, AllocError>
-    ensures { IfOk result (λ names. (q : List ℕ) → list_any (same q) (list_map arc_value names.value.keys)
+    ensures { IfOk result
+        (λ names. (q : List ℕ) → list_any (same q) (list_map arc_value names.value.keys)
         ≡ (same q (arc_value other) || list_any (same q) (arc_value one ∷ []))) }
 {
     let mut names = BTreeSet::new(alloc);

@@ -1,6 +1,7 @@
 //! Bodies one after another. Each is kept as it came, moved in and not copied, but that small ones are joined
 //! into one segment, so that a session which is fed a byte at a time takes little more than its bytes.
-ghost use Rattle.std.specs.Prelude.{◌≡◌, ◌+◌, ◌<◌, ◌≤◌, ◌^◌, ◌++◌, ◌∷◌, [], ℕ, List, length, take, vec_len, vec_capacity, IfOk, OnOk, OnErr};
+ghost use Rattle.std.specs.Prelude.{◌≡◌, ◌+◌, ◌<◌, ◌≤◌, ◌^◌, ◌++◌, ◌∷◌, [], ℕ, List, length, take, vec_len};
+ghost use Rattle.std.specs.Prelude.{vec_capacity, IfOk, OnOk, OnErr};
 ghost use Rattle.upload_service.specs.Kept.Parts.{joined, with_part, whole};
 
 use crate::shared::Part;
@@ -32,7 +33,8 @@ impl Model for Segments {
 
     ghost view = { λ a. record { settled = a.settled.items; tail = a.tail.items } };
 
-    ghost invariant = { λ a. a.total ≡ length (whole (record { settled = a.settled.items; tail = a.tail.items })) };
+    ghost invariant = { λ a.
+        a.total ≡ length (whole (record { settled = a.settled.items; tail = a.tail.items })) };
 }
 
 impl Segments {
@@ -93,7 +95,8 @@ impl Segments {
     pub fn append(&mut self, body: Bytes) -> Result<(), AllocError>
         requires { length (whole self.old) + length body < 2 ^ 64 }
         ensures more { OnOk result (whole self.new ≡ whole self.old ++ body) }
-        ensures front { OnOk result (take (length self.old.settled) self.new.settled ≡ self.old.settled) }
+        ensures front { OnOk result
+            (take (length self.old.settled) self.new.settled ≡ self.old.settled) }
         ensures longer { OnOk result (length self.old.settled ≤ length self.new.settled) }
         ensures err { OnErr result (self.new ≡ self.old) }
     {
@@ -131,10 +134,13 @@ fn roll_over(
     body: Bytes,
 ) -> Result<(), AllocError>
     requires { vec_len settled.old + 2 ≤ vec_capacity settled.old }
-    ensures more { OnOk result (joined settled.new.items ++ tail.new.items ≡ joined settled.old.items ++ tail.old.items ++ body) }
-    ensures front { OnOk result (take (length settled.old.items) settled.new.items ≡ settled.old.items) }
+    ensures more { OnOk result (joined settled.new.items ++ tail.new.items
+        ≡ joined settled.old.items ++ tail.old.items ++ body) }
+    ensures front { OnOk result
+        (take (length settled.old.items) settled.new.items ≡ settled.old.items) }
     ensures longer { OnOk result (length settled.old.items ≤ length settled.new.items) }
-    ensures err { OnErr result ((settled.new.items ≡ settled.old.items) × (tail.new.items ≡ tail.old.items)) }
+    ensures err { OnErr result
+        ((settled.new.items ≡ settled.old.items) × (tail.new.items ≡ tail.old.items)) }
 {
     if body.as_slice().len() > JOINED_SIZE {
         let Ok(part) = Part::of(alloc, body.into_vec()) else {
@@ -156,7 +162,8 @@ fn settle_tail(alloc: Global, settled: &mut Vec<Part>, tail: &mut Vec<u8>) -> Re
     ensures none { OnOk result (tail.new.items ≡ []) }
     ensures one { OnOk result (vec_len settled.new ≤ vec_len settled.old + 1) }
     ensures room { OnOk result (vec_capacity settled.old ≤ vec_capacity settled.new) }
-    ensures err { OnErr result ((settled.new.items ≡ settled.old.items) × (tail.new.items ≡ tail.old.items)) }
+    ensures err { OnErr result
+        ((settled.new.items ≡ settled.old.items) × (tail.new.items ≡ tail.old.items)) }
 {
     match Part::of(alloc, mem::replace(tail, Vec::new(alloc))) {
         Ok(part) => {

@@ -190,7 +190,8 @@ impl Service {
     /// How many bytes a session has received, or None where no such session is open. One that is idle counts
     /// as open until it leaves the table. It takes no memory.
     pub fn next_of(&self, at: &UploadRef) -> Option<u64>
-        ensures { result ≡ option_map (λ session. length session.received) (map.get self.now.sessions at.now) }
+        ensures { result
+            ≡ option_map (λ session. length session.received) (map.get self.now.sessions at.now) }
     {
         match self.tables.sessions.find(at) {
             Some(session) => Some(session.received.len()),
@@ -214,7 +215,8 @@ impl Service {
         jobs: Vec<(Ask, [u8; 12], u64)>,
     ) -> Result<Vec<Answer>, AllocError>
         ensures count { IfOk result (λ answers. length answers.items ≡ length jobs.items) }
-        ensures run { IfOk result (λ answers. Run self.old (exchanges jobs.items answers.items) self.new) }
+        ensures run { IfOk result
+            (λ answers. Run self.old (exchanges jobs.items answers.items) self.new) }
         ensures headline { IfOk result (λ answers. NeverFall (exchanges jobs.items answers.items)
             → Headline self.old (exchanges jobs.items answers.items) self.new) }
         ensures err { OnErr result (self.new ≡ self.old) }
@@ -230,7 +232,8 @@ impl Service {
         jobs: Vec<(Ask, [u8; 12], u64)>,
     ) -> Result<Vec<Answer>, AllocError>
         ensures count { IfOk result (λ answers. length answers.items ≡ length jobs.items) }
-        ensures run { IfOk result (λ answers. Run self.old (exchanges jobs.items answers.items) self.new) }
+        ensures run { IfOk result
+            (λ answers. Run self.old (exchanges jobs.items answers.items) self.new) }
         ensures err { OnErr result (self.new ≡ self.old) }
     {
         let mut answers = Vec::with_capacity(alloc, jobs.len())?;

@@ -1,5 +1,6 @@
 //! The open sessions, by their references.
-ghost use Rattle.std.specs.Prelude.{◌≡◌, ◌≢◌, ◌↔◌, ◌+◌, ◌<◌, ◌≤◌, ◌^◌, ◌++◌, [], ℕ, length, filter, nat_le, Some, None, IsTrue, IsSome, IfSome, IfNone, OnOk, OnErr};
+ghost use Rattle.std.specs.Prelude.{◌≡◌, ◌≢◌, ◌↔◌, ◌+◌, ◌<◌, ◌≤◌, ◌^◌, ◌++◌, [], ℕ, length, filter, nat_le, Some, None};
+ghost use Rattle.std.specs.Prelude.{IsTrue, IsSome, IfSome, IfNone, OnOk, OnErr};
 ghost use Rattle.std.specs.FinMap as map;
 ghost use Rattle.upload_names.specs.Digest.{HasDigest};
 ghost use Rattle.upload_service.specs.Machine.{Session, is_idle, unless_idle, awake_of, swept_of};
@@ -66,7 +67,8 @@ impl Sessions {
 
     /// The session of a reference, idle or not.
     pub fn find(&self, at: &UploadRef) -> Option<&OpenSession>
-        ensures found { IfSome result (λ session. map.get self.now at.now ≡ Some (session_of session.now)) }
+        ensures found { IfSome result
+            (λ session. map.get self.now at.now ≡ Some (session_of session.now)) }
         ensures none { IfNone result (map.get self.now at.now ≡ None) }
     {
         self.open.get(at)
@@ -80,10 +82,13 @@ impl Sessions {
         max_idle: u64,
         now: u64,
     ) -> Option<&OpenSession>
-        ensures found { IfSome result (λ session. map.get self.now at.now ≡ Some (session_of session.now)) }
-        ensures awake { IfSome result (λ session. unless_idle max_idle now (map.get self.now at.now) ≡ Some (session_of session.now)) }
+        ensures found { IfSome result
+            (λ session. map.get self.now at.now ≡ Some (session_of session.now)) }
+        ensures awake { IfSome result (λ session. unless_idle max_idle now (map.get self.now at.now)
+            ≡ Some (session_of session.now)) }
         ensures named { IfSome result (λ session. session.now.name ≡ name.now) }
-        ensures none { IfNone result ((session : Session) → unless_idle max_idle now (map.get self.now at.now) ≡ Some session
+        ensures none { IfNone result
+            ((session : Session) → unless_idle max_idle now (map.get self.now at.now) ≡ Some session
             → session.name ≢ name.now) }
     {
         let session = self.find(at)?;
@@ -98,7 +103,8 @@ impl Sessions {
 
     /// Whether as many sessions as may be open are open and not idle. Where the table has room it looks at none.
     pub fn is_full(&self, limits: Limits, now: u64) -> bool
-        ensures { result ≡ nat_le limits.max_open (map.len (awake_of limits.max_idle now self.now)) }
+        ensures { result
+            ≡ nat_le limits.max_open (map.len (awake_of limits.max_idle now self.now)) }
     {
         if self.open.len() < limits.max_open as usize {
             return false;
@@ -115,7 +121,8 @@ impl Sessions {
         name: RepoName,
         now: u64,
     ) -> Result<(), AllocError>
-        ensures ok { OnOk result (self.new ≡ map.insert (swept_of limits now self.old) at (record { name = name; received = []; seen = now })) }
+        ensures ok { OnOk result (self.new ≡ map.insert (swept_of limits now self.old) at
+            (record { name = name; received = []; seen = now })) }
         ensures err { OnErr result (self.new ≡ self.old) }
     {
         let full = self.open.len() >= limits.max_open as usize;
@@ -137,9 +144,14 @@ impl Sessions {
     /// Has an open session take a body in.
     pub fn append(&mut self, at: &UploadRef, body: Bytes, now: u64) -> Result<(), AllocError>
         requires open { IsSome (map.get self.old at.now) }
-        requires fits { (session : Session) → map.get self.old at.now ≡ Some session → length session.received + length body < 2 ^ 64 }
+        requires fits { (session : Session) → map.get self.old at.now ≡ Some session
+            → length session.received + length body < 2 ^ 64 }
         ensures ok { OnOk result ((session : Session) → map.get self.old at.now ≡ Some session →
-            self.new ≡ map.insert self.old at.now (record { name = session.name; received = session.received ++ body; seen = now })) }
+            self.new ≡ map.insert self.old at.now (record {
+              name = session.name;
+              received = session.received ++ body;
+              seen = now;
+            })) }
         ensures err { OnErr result (self.new ≡ self.old) }
     {
         let Some(session) = self.open.get_mut(at) else {
@@ -218,7 +230,8 @@ impl Sessions {
 
     /// Closes a session and hands it out.
     pub fn close(&mut self, at: &UploadRef) -> Option<OpenSession>
-        ensures found { IfSome result (λ session. map.get self.old at.now ≡ Some (session_of session)) }
+        ensures found { IfSome result
+            (λ session. map.get self.old at.now ≡ Some (session_of session)) }
         ensures none { IfNone result (map.get self.old at.now ≡ None) }
         ensures closed { IsSome result → self.new ≡ map.remove self.old at.now }
     {

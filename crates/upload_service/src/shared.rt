@@ -37,8 +37,10 @@ impl Part {
 
     /// Trades the bytes for others, where they have one owner. Says whether it did; where not, nothing changes.
     pub(crate) fn trade(&mut self, bytes: &mut Vec<u8>) -> bool
-        ensures traded { IsTrue result → (self.new ≡ bytes.old.items) × (bytes.new.items ≡ self.old) }
-        ensures kept { IsFalse result → (self.new ≡ self.old) × (bytes.new.items ≡ bytes.old.items) }
+        ensures traded { IsTrue result
+            → (self.new ≡ bytes.old.items) × (bytes.new.items ≡ self.old) }
+        ensures kept { IsFalse result
+            → (self.new ≡ self.old) × (bytes.new.items ≡ bytes.old.items) }
     {
         match Arc::get_mut(&mut self.bytes) {
             Some(held) => {

@@ -4,8 +4,8 @@ ghost use Rattle.std.specs.Prelude.{◌≡◌, ◌≤◌, vec_capacity, OnOk, On
 use std::alloc::{AllocError, Global};
 use std::marker::Model;
 
-/// Room that is taken anew before each change, while the old one is still held. Once the old one goes, as much memory is
-/// free. It is seen as how many bytes are wanted, and how many the room has.
+/// Room that is taken anew before each change, while the old one is still held. Once the old one goes, as much memory
+/// is free. It is seen as how many bytes are wanted, and how many the room has.
 #[derive(Drop)]
 pub struct Slack {
     alloc: Global,

@@ -1,6 +1,7 @@
 //! The stored blobs by their digests, each with the repositories that have it. There is a tree for each algorithm, so
 //! that a SHA-256 takes no more room than its 32 bytes, and no digest is kept twice.
-ghost use Rattle.std.specs.Prelude.{◌≡◌, ◌+◌, ◌<◌, ◌^◌, ◌++◌, ◌||◌, ◌&&◌, cond, ℕ, List, length, box_value, Some, None, IsSome, IsTrue, IfSome, IfNone, OnOk, OnErr};
+ghost use Rattle.std.specs.Prelude.{◌≡◌, ◌+◌, ◌<◌, ◌^◌, ◌++◌, ◌||◌, ◌&&◌, cond, ℕ, List, length, box_value, Some, None};
+ghost use Rattle.std.specs.Prelude.{IsSome, IsTrue, IfSome, IfNone, OnOk, OnErr};
 ghost use Rattle.std.specs.FinMap as map;
 ghost use Rattle.std.specs.FinSet as set;
 ghost use Rattle.std.specs.Arc.{arc_value};
@@ -99,7 +100,8 @@ impl Stock {
     pub fn mount(&mut self, name: &RepoName, digest: BlobDigest) -> Result<(), AllocError>
         requires { IsSome (map.get self.old.blobs digest) }
         ensures blobs { self.new.blobs ≡ self.old.blobs }
-        ensures pairs { OnOk result (self.new.pairs ≡ set.insert self.old.pairs (name.now, digest)) }
+        ensures pairs { OnOk result
+            (self.new.pairs ≡ set.insert self.old.pairs (name.now, digest)) }
         ensures err { OnErr result (self.new ≡ self.old) }
     {
         let Ok(()) = self.hold(name, digest) else {
@@ -116,7 +118,8 @@ impl Stock {
         blob: Blob,
     ) -> Result<(), AllocError>
         ensures blobs { OnOk result (self.new.blobs ≡ map.insert self.old.blobs digest blob) }
-        ensures pairs { OnOk result (self.new.pairs ≡ set.insert self.old.pairs (name.now, digest)) }
+        ensures pairs { OnOk result
+            (self.new.pairs ≡ set.insert self.old.pairs (name.now, digest)) }
         ensures err { OnErr result (self.new ≡ self.old) }
     {
         let Ok(()) = self.hold(name, digest) else {
@@ -137,11 +140,14 @@ impl Stock {
         body: Bytes,
     ) -> Result<(), AllocError>
         requires open { IsSome (map.get sessions.old at.now) }
-        requires fits { (session : Session) → map.get sessions.old at.now ≡ Some session → length session.received + length body < 2 ^ 64 }
-        ensures blobs { OnOk result ((session : Session) → map.get sessions.old at.now ≡ Some session
+        requires fits { (session : Session) → map.get sessions.old at.now ≡ Some session
+            → length session.received + length body < 2 ^ 64 }
+        ensures blobs { OnOk result
+            ((session : Session) → map.get sessions.old at.now ≡ Some session
             → self.new.blobs ≡ map.insert self.old.blobs digest (session.received ++ body)) }
         ensures sessions { OnOk result (sessions.new ≡ map.remove sessions.old at.now) }
-        ensures pairs { OnOk result (self.new.pairs ≡ set.insert self.old.pairs (name.now, digest)) }
+        ensures pairs { OnOk result
+            (self.new.pairs ≡ set.insert self.old.pairs (name.now, digest)) }
         ensures err { OnErr result ((self.new ≡ self.old) × (sessions.new ≡ sessions.old)) }
     {
         let Ok(last) = Part::of(self.alloc, body.into_vec()) else {
@@ -161,8 +167,10 @@ impl Stock {
 
     /// Notes that a repository has the blob of a digest, which has no bytes where none is stored yet.
     fn hold(&mut self, name: &RepoName, digest: BlobDigest) -> Result<(), AllocError>
-        ensures blobs { OnOk result (self.new.blobs ≡ map.insert self.old.blobs digest (or_empty (map.get self.old.blobs digest))) }
-        ensures pairs { OnOk result (self.new.pairs ≡ set.insert self.old.pairs (name.now, digest)) }
+        ensures blobs { OnOk result (self.new.blobs
+            ≡ map.insert self.old.blobs digest (or_empty (map.get self.old.blobs digest))) }
+        ensures pairs { OnOk result
+            (self.new.pairs ≡ set.insert self.old.pairs (name.now, digest)) }
         ensures err { OnErr result (self.new ≡ self.old) }
     {
         let Ok(shared) = self.names.share(name) else {
@@ -210,7 +218,8 @@ fn blob_under<'a, const N: usize>(
     items: &'a BTreeMap<[u8; N], Item>,
     key: &[u8; N],
 ) -> Option<&'a Blob>
-    ensures found { IfSome result (λ blob. blob_in (lookup (same key.now) items.now.entries) ≡ Some blob.now) }
+    ensures found { IfSome result
+        (λ blob. blob_in (lookup (same key.now) items.now.entries) ≡ Some blob.now) }
     ensures none { IfNone result (blob_in (lookup (same key.now) items.now.entries) ≡ None) }
 {
     match items.get(key) {
@@ -241,11 +250,14 @@ fn hold_under<const N: usize>(
     name: Arc<RepoName, Global>,
 ) -> Result<(), AllocError>
     ensures blobs { OnOk result ((q : List ℕ) → blob_in (lookup (same q) items.new.entries)
-        ≡ cond (same q key.now) (Some (or_empty (blob_in (lookup (same key.now) items.old.entries))))
+        ≡ cond (same q key.now)
+        (Some (or_empty (blob_in (lookup (same key.now) items.old.entries))))
         (blob_in (lookup (same q) items.old.entries))) }
     ensures held { OnOk result ((q n : List ℕ) → is_held n (lookup (same q) items.new.entries)
-        ≡ ((same q key.now && same n (arc_value name)) || is_held n (lookup (same q) items.old.entries))) }
-    ensures err { OnErr result ((q : List ℕ) → lookup (same q) items.new.entries ≡ lookup (same q) items.old.entries) }
+        ≡ ((same q key.now && same n (arc_value name))
+        || is_held n (lookup (same q) items.old.entries))) }
+    ensures err { OnErr result
+        ((q : List ℕ) → lookup (same q) items.new.entries ≡ lookup (same q) items.old.entries) }
 {
     if let Some(item) = items.get_mut(key) {
         return item.holders.add(alloc, name);
@@ -263,7 +275,8 @@ fn put_under<const N: usize>(items: &mut BTreeMap<[u8; N], Item>, key: &[u8; N],
     requires { IsSome (blob_in (lookup (same key.now) items.old.entries)) }
     ensures blobs { (q : List ℕ) → blob_in (lookup (same q) items.new.entries)
         ≡ cond (same q key.now) (Some blob) (blob_in (lookup (same q) items.old.entries)) }
-    ensures held { (q n : List ℕ) → is_held n (lookup (same q) items.new.entries) ≡ is_held n (lookup (same q) items.old.entries) }
+    ensures held { (q n : List ℕ) → is_held n (lookup (same q) items.new.entries)
+        ≡ is_held n (lookup (same q) items.old.entries) }
 {
     let Some(item) = items.get_mut(key) else {
         unreachable!();
@@ -277,7 +290,8 @@ fn blob_of(alloc: Global, sessions: &mut Sessions, at: &UploadRef, place: Box<Se
     requires open { IsSome (map.get sessions.old at.now) }
     requires fits { (session : Session) → map.get sessions.old at.now ≡ Some session
         → length session.received + length (box_value place).last < 2 ^ 64 }
-    ensures blob { (session : Session) → map.get sessions.old at.now ≡ Some session → result ≡ session.received ++ (box_value place).last }
+    ensures blob { (session : Session) → map.get sessions.old at.now ≡ Some session
+        → result ≡ session.received ++ (box_value place).last }
     ensures closed { sessions.new ≡ map.remove sessions.old at.now }
 {
     let Some(session) = sessions.close(at) else {

@@ -4,7 +4,8 @@ ghost use Rattle.std.specs.Prelude.{◌≡◌, ◌+◌, ◌≤◌, ◌<◌, ◌^
 ghost use Rattle.std.specs.FinMap as map;
 ghost use Rattle.upload_service.specs.declared.limits.Limits.{Limits as LimitsOf};
 ghost use Rattle.upload_service.specs.UploadView.{Sends, AsksOffset, Closes};
-ghost use Rattle.upload_service.specs.Machine.{Session, Commits, Comes, Turn, IsLawful, opening as opening_of, at_session, awake};
+ghost use Rattle.upload_service.specs.Machine.{Session, Commits, Comes, Turn, IsLawful, opening as opening_of};
+ghost use Rattle.upload_service.specs.Machine.{at_session, awake};
 ghost use Rattle.upload_service.specs.Kept.Tables.{state_of, IsVerdict};
 
 use crate::answer::{Answer, Refusal};
@@ -84,7 +85,8 @@ fn chunk(
     now: u64,
 ) -> Answer
     ensures { Comes (state_of limits tables.old) now
-        (at_session limits.max_blob (awake (state_of limits tables.old) now at) name at (Sends range body))
+        (at_session limits.max_blob (awake (state_of limits tables.old) now at) name at
+        (Sends range body))
         result (state_of limits tables.new) }
 {
     let sessions = &tables.sessions;
@@ -120,7 +122,8 @@ fn close(
     now: u64,
 ) -> Answer
     ensures { Comes (state_of limits tables.old) now
-        (at_session limits.max_blob (awake (state_of limits tables.old) now at) name at (Closes range digest body))
+        (at_session limits.max_blob (awake (state_of limits tables.old) now at) name at
+        (Closes range digest body))
         result (state_of limits tables.new) }
 {
     let sessions = &tables.sessions;
@@ -152,9 +155,12 @@ fn commit(
     body: Bytes,
 ) -> Answer
     requires open { IsSome (map.get tables.old.sessions at) }
-    requires fits { (session : Session) → map.get tables.old.sessions at ≡ Some session → length session.received + length body < 2 ^ 64 }
-    ensures { (limits : LimitsOf) (now : ℕ) (session : Session) → map.get tables.old.sessions at ≡ Some session →
-        Comes (state_of limits tables.old) now (Commits name at digest (session.received ++ body)) result (state_of limits tables.new) }
+    requires fits { (session : Session) → map.get tables.old.sessions at ≡ Some session
+        → length session.received + length body < 2 ^ 64 }
+    ensures { (limits : LimitsOf) (now : ℕ) (session : Session)
+        → map.get tables.old.sessions at ≡ Some session →
+        Comes (state_of limits tables.old) now (Commits name at digest (session.received ++ body))
+        result (state_of limits tables.new) }
 {
     let Ok(()) = tables.slack.renew() else {
         return Answer::NoMemory;
@@ -177,7 +183,9 @@ fn opening(
     secret: [u8; 12],
     now: u64,
 ) -> Answer
-    ensures { Comes (state_of limits tables.old) now (opening_of (state_of limits tables.old) name secret now) result (state_of limits tables.new) }
+    ensures { Comes (state_of limits tables.old) now
+        (opening_of (state_of limits tables.old) name secret now) result
+        (state_of limits tables.new) }
 {
     if tables.sessions.is_full(limits, now) || tables.issued == u32::MAX {
         return Answer::Refused(Refusal::TooMany);
@@ -209,7 +217,8 @@ fn has(
     head: bool,
 ) -> Answer
     ensures { (secret : List ℕ) (now : ℕ)
-        → Turn (state_of limits tables.now) (Ask.Has name digest head) secret now result (state_of limits tables.now) }
+        → Turn (state_of limits tables.now) (Ask.Has name digest head) secret now result
+        (state_of limits tables.now) }
 {
     if !tables.stock.contains(&name, &digest) {
         return Answer::Refused(Refusal::NoBlob);
@@ -246,7 +255,8 @@ fn single(
     body: Bytes,
 ) -> Answer
     ensures { (secret : List ℕ) (now : ℕ)
-        → Turn (state_of limits tables.old) (Ask.Single name digest body) secret now result (state_of limits tables.new) }
+        → Turn (state_of limits tables.old) (Ask.Single name digest body) secret now result
+        (state_of limits tables.new) }
 {
     if body.as_slice().len() as u64 > limits.max_blob {
         return Answer::Refused(Refusal::TooLarge);
@@ -282,7 +292,8 @@ fn mount(
     secret: [u8; 12],
     now: u64,
 ) -> Answer
-    ensures { Turn (state_of limits tables.old) (Ask.Mount name digest source) secret now result (state_of limits tables.new) }
+    ensures { Turn (state_of limits tables.old) (Ask.Mount name digest source) secret now result
+        (state_of limits tables.new) }
 {
     if !tables.stock.contains(&source, &digest) {
         return opening(alloc, limits, tables, name, secret, now);

@@ -23,8 +23,9 @@ named_none text differs =
     ]
 
 -- what a form asks, asked at its path
-pub by_form : (path : List ℕ) (method : Method) (query : List ℕ) (range : Extent) (form : PathForm) (r : Result HeadAsk AllocError)
-    → IsFormOf path form → IfOk r (λ ask. ask ≡ ask_of_form form method query range) → IfOk r (AsksAt path method query range)
+pub by_form : (path : List ℕ) (method : Method) (query : List ℕ) (range : Extent) (form : PathForm)
+    (r : Result HeadAsk AllocError) → IsFormOf path form → IfOk r (λ ask. ask ≡ ask_of_form form method query range)
+    → IfOk r (AsksAt path method query range)
 by_form path method query range form (Ok ask) is h = (form, is, h)
 by_form path method query range form (Err e) is h = tt
 
@@ -34,9 +35,9 @@ pub copied_or : (query : Option (Bor (List ℕ))) (copied : Option (List ℕ)) (
 copied_or None copied none result same is empty = ap (λ b. b.now) is ∙ empty ∙ ap (λ o. unwrap_or o []) same
 copied_or (Some query) copied none result same is empty = ap (λ b. b.now) is ∙ ap (λ o. unwrap_or o []) same
 
-pub by_uri : (method target path query : List ℕ) (verb : Method) (range : Extent) (uri : Uri) (r : Result HeadAsk AllocError)
-    → Spells target uri → path ≡ uri_path uri → verb ≡ method_of method → query ≡ unwrap_or (uri_query uri) []
-    → IfOk r (AsksAt path verb query range) → IfOk r (Asks method target range)
+pub by_uri : (method target path query : List ℕ) (verb : Method) (range : Extent) (uri : Uri)
+    (r : Result HeadAsk AllocError) → Spells target uri → path ≡ uri_path uri → verb ≡ method_of method
+    → query ≡ unwrap_or (uri_query uri) [] → IfOk r (AsksAt path verb query range) → IfOk r (Asks method target range)
 by_uri method target path query verb range uri (Ok ask) spells same_path same_method same_query asks =
     inr (
       uri,

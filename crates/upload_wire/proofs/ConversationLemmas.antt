@@ -1,5 +1,6 @@
 -- One exchange after another.
-use Rattle.std.proofs.Common.{◌≡◌, ℕ, ◌+◌, List, [], ◌∷◌, ◌++◌, length, refl, sym, ap, ◌∙◌, subst, append_assoc, inl, inr, arith, length-append, lit<}
+use Rattle.std.proofs.Common.{◌≡◌, ℕ, ◌+◌, List, [], ◌∷◌, ◌++◌, length, refl, sym, ap, ◌∙◌, subst, append_assoc, inl}
+use Rattle.std.proofs.Common.{inr, arith, length-append, lit<}
 use Rattle.std.specs.Prelude.{Option, Some, None, IfSome, Result, Ok, Err}
 use Rattle.std.specs.List.{AllByRecursion}
 use Rattle.std.proofs.lemmas.List.{append-nil}
@@ -12,14 +13,16 @@ use Rattle.upload_wire.specs.declared.request.Style.{Style}
 use Rattle.upload_wire.specs.declared.request.Next.TheVariants.{Request}
 use Rattle.upload_wire.specs.declared.request.Next.TheVariants as nexts
 use Rattle.upload_wire.specs.declared.connection.ConnEnd.{ConnEnd}
-use Rattle.upload_wire.specs.declared.connection.ConnEnd.TheVariants.{Clean, AfterClose, AfterBad, TooMany, DeskGone, Fault}
+use Rattle.upload_wire.specs.declared.connection.ConnEnd.TheVariants.{Clean, AfterClose, AfterBad, TooMany, DeskGone}
+use Rattle.upload_wire.specs.declared.connection.ConnEnd.TheVariants.{Fault}
 use Rattle.upload_wire.specs.declared.connection.ConnFault.TheVariants as Conn
 use Rattle.upload_wire.specs.RequestText.{ReadsNext}
 use Rattle.upload_wire.specs.ReplyText.{reply}
 use Rattle.http_wire.specs.States.{SourceState, SinkState}
 use Rattle.http_wire.specs.Reading.{Gives}
 use Rattle.http_wire.specs.Writing.{TookAll}
-use Rattle.upload_wire.specs.Conversation.{Moves, Exchange, IsKept, messages, replies, Answers, HandedOn, HandedOnEach, Serves, AnswersNext, Standing, stand, EndsWith, ReadsFail, IsConversation}
+use Rattle.upload_wire.specs.Conversation.{Moves, Exchange, IsKept, messages, replies, Answers, HandedOn, HandedOnEach}
+use Rattle.upload_wire.specs.Conversation.{Serves, AnswersNext, Standing, stand, EndsWith, ReadsFail, IsConversation}
 use Rattle.upload_wire.specs.Inner.ConversationSteps.{Replies, RefusedWith, GoesOn, Stops}
 use Rattle.http_wire.proofs.GaveLemmas.{gives_none, gives_both}
 use Rattle.http_wire.proofs.WritingLemmas.{takes_none, took_both}
@@ -32,10 +35,12 @@ ok_not_err value error same = cc
 
 -- ---- one
 
-module _ {D : Type 0} (step : Moves D) (max count : ℕ) (held rest : List ℕ) (first left : SourceState) (ask : Ask) (style : Style)
+module _ {D : Type 0} (step : Moves D) (max count : ℕ) (held rest : List ℕ) (first left : SourceState)
+    (ask : Ask) (style : Style)
     (at new : D) (mid : SinkState) (answer : Answer) (after : SinkState) where
-  unfoldable pub one_more : (kept : List ℕ) (next : ℕ) → kept ≡ rest → next ≡ count + 1 → (r : Option ConnEnd) → ReadsNext max held first rest left (Ok (Request ask style))
-      → left.failed_reads ≡ first.failed_reads → step at ask (Some answer) new → Replies count answer style mid after r → r ≡ None
+  unfoldable pub one_more : (kept : List ℕ) (next : ℕ) → kept ≡ rest → next ≡ count + 1 → (r : Option ConnEnd)
+      → ReadsNext max held first rest left (Ok (Request ask style)) → left.failed_reads ≡ first.failed_reads
+      → step at ask (Some answer) new → Replies count answer style mid after r → r ≡ None
       → GoesOn step max (stand count held first at mid) (stand next kept left new after)
   one_more kept next stays one None n same answered a e = record {
     given = n.given;
@@ -59,28 +64,55 @@ module _ {D : Type 0} (step : Moves D) (max count : ℕ) (held rest : List ℕ) 
       → AnswersNext step max at new (held ++ n.given) (last_exchange n)
   answers_next n answered = record { more = rest; read = n.found.cut; request = n.found.request; answered = answered }
 
-  unfoldable pub one_last : (kept : List ℕ) (next : ℕ) (r : Option ConnEnd) → ReadsNext max held first rest left (Ok (Request ask style)) → left.failed_reads ≡ first.failed_reads
-      → step at ask (Some answer) new → Replies count answer style mid after r
+  unfoldable pub one_last : (kept : List ℕ) (next : ℕ) (r : Option ConnEnd)
+      → ReadsNext max held first rest left (Ok (Request ask style))
+      → left.failed_reads ≡ first.failed_reads → step at ask (Some answer) new → Replies count answer style mid after r
       → IfSome r (Stops step max (stand count held first at mid) (stand next kept left new after))
   one_last kept next None n same answered a = tt
   one_last kept next (Some Clean) n same answered a = absurd a
   one_last kept next (Some AfterClose) n same answered a =
-      record { given = n.given; gives = n.gives; reads = same; ended = (last_exchange n, answers_next n answered, a.1, a.0) }
+      record {
+        given = n.given;
+        gives = n.gives;
+        reads = same;
+        ended = (last_exchange n, answers_next n answered, a.1, a.0);
+      }
   one_last kept next (Some AfterBad) n same answered a = absurd a
   one_last kept next (Some TooMany) n same answered a =
-      record { given = n.given; gives = n.gives; reads = same; ended = (last_exchange n, answers_next n answered, a.1, a.2, a.0) }
+      record {
+        given = n.given;
+        gives = n.gives;
+        reads = same;
+        ended = (last_exchange n, answers_next n answered, a.1, a.2, a.0);
+      }
   one_last kept next (Some DeskGone) n same answered a = absurd a
   one_last kept next (Some (Fault (Conn.Wire f))) n same answered a = absurd a
   one_last kept next (Some (Fault Conn.Write)) n same answered a =
-      record { given = n.given; gives = n.gives; reads = same; ended = inl (last_exchange n, answers_next n answered, a) }
+      record {
+        given = n.given;
+        gives = n.gives;
+        reads = same;
+        ended = inl (last_exchange n, answers_next n answered, a);
+      }
 
-unfoldable pub after_refusal : {D : Type 0} (step : Moves D) (max : ℕ) (old new : Standing D) (rest : List ℕ) (why : Bad) (end : ConnEnd)
-    → ReadsNext max old.held old.source rest new.source (Ok (nexts.Bad why)) → new.source.failed_reads ≡ old.source.failed_reads
-    → new.desk ≡ old.desk → RefusedWith old.sink new.sink why end → Stops step max old new end
+unfoldable pub after_refusal : {D : Type 0} (step : Moves D) (max : ℕ) (old new : Standing D)
+    (rest : List ℕ) (why : Bad) (end : ConnEnd) → ReadsNext max old.held old.source rest new.source (Ok (nexts.Bad why))
+    → new.source.failed_reads ≡ old.source.failed_reads → new.desk ≡ old.desk → RefusedWith old.sink new.sink why end
+    → Stops step max old new end
 after_refusal step max old new rest why AfterBad n same unasked told =
-    record { given = n.given; gives = n.gives; reads = same; ended = (why, record { bad = n.found; unasked = unasked }, told) }
+    record {
+      given = n.given;
+      gives = n.gives;
+      reads = same;
+      ended = (why, record { bad = n.found; unasked = unasked }, told);
+    }
 after_refusal step max old new rest why (Fault Conn.Write) n same unasked front =
-    record { given = n.given; gives = n.gives; reads = same; ended = inr (why, record { bad = n.found; unasked = unasked }, front) }
+    record {
+      given = n.given;
+      gives = n.gives;
+      reads = same;
+      ended = inr (why, record { bad = n.found; unasked = unasked }, front);
+    }
 after_refusal step max old new rest why (Fault (Conn.Wire fault)) n same unasked h = absurd h
 after_refusal step max old new rest why Clean n same unasked h = absurd h
 after_refusal step max old new rest why AfterClose n same unasked h = absurd h
@@ -110,7 +142,8 @@ messages_more xs x =
 
 pub replies_more : (xs : List Exchange) (x : Exchange) → replies (xs ++ x ∷ []) ≡ replies xs ++ reply x.answer x.style
 replies_more xs x =
-    flat_map-append (λ x. reply x.answer x.style) xs (x ∷ []) ∙ ap (λ t. replies xs ++ t) (append-nil (reply x.answer x.style))
+    flat_map-append (λ x. reply x.answer x.style) xs (x ∷ [])
+    ∙ ap (λ t. replies xs ++ t) (append-nil (reply x.answer x.style))
 
 -- what a connection has done that stood so when it began
 pub record SoFar {D : Type 0} (step : Moves D) (max : ℕ) (begun now : Standing D) : Type 0 where
@@ -121,19 +154,27 @@ pub record SoFar {D : Type 0} (step : Moves D) (max : ℕ) (begun now : Standing
   pub counted : length exchanges ≡ now.answered
   pub served : Serves step max begun.desk now.desk given now.held begun.sink now.sink exchanges
 
-unfoldable pub starts : {D : Type 0} (step : Moves D) (max : ℕ) (before : ℕ) (left : List ℕ) (source : SourceState) (desk : D) (sink : SinkState) (held : List ℕ) (answered : ℕ)
-    → held ≡ [] → answered ≡ 0 → SoFar step max (stand before left source desk sink) (stand answered held source desk sink)
+unfoldable pub starts : {D : Type 0} (step : Moves D) (max : ℕ) (before : ℕ) (left : List ℕ)
+    (source : SourceState) (desk : D) (sink : SinkState) (held : List ℕ) (answered : ℕ) → held ≡ [] → answered ≡ 0
+    → SoFar step max (stand before left source desk sink) (stand answered held source desk sink)
 starts step max before left source desk sink held answered empty none = record {
   given = [];
   gives = gives_none source;
   unfailed = refl;
   exchanges = [];
   counted = sym none;
-  served = record { few = lit< tt; read = sym empty; kept = tt; answered = refl; written = took_none sink; handed_on = refl };
+  served = record {
+    few = lit< tt;
+    read = sym empty;
+    kept = tt;
+    answered = refl;
+    written = took_none sink;
+    handed_on = refl;
+  };
 }
 
-unfoldable pub goes_on : {D : Type 0} (step : Moves D) (max : ℕ) (begun now next : Standing D) → SoFar step max begun now
-    → GoesOn step max now next → SoFar step max begun next
+unfoldable pub goes_on : {D : Type 0} (step : Moves D) (max : ℕ) (begun now next : Standing D)
+    → SoFar step max begun now → GoesOn step max now next → SoFar step max begun next
 goes_on step max begun now next s n =
     let counted = s.counted in
     let one = n.counted in
@@ -146,12 +187,14 @@ goes_on step max begun now next s n =
       served = record {
         few = omega (arith, counted, n.few, length-append s.exchanges (n.exchange ∷ []));
         read = ap (λ t. t ++ n.given) s.served.read ∙ append_assoc (messages s.exchanges) now.held n.given
-            ∙ ap (λ t. messages s.exchanges ++ t) n.read ∙ sym (append_assoc (messages s.exchanges) n.exchange.message next.held)
+            ∙ ap (λ t. messages s.exchanges ++ t) n.read
+            ∙ sym (append_assoc (messages s.exchanges) n.exchange.message next.held)
             ∙ ap (λ t. t ++ next.held) (sym (messages_more s.exchanges n.exchange));
         kept = kept_more max s.exchanges n.exchange s.served.kept n.kept;
         answered = answers_more step begun.desk now.desk next.desk s.exchanges n.exchange s.served.answered n.answered;
         written = subst (TookAll begun.sink next.sink) (sym (replies_more s.exchanges n.exchange))
-            (took_both begun.sink now.sink next.sink (replies s.exchanges) (reply n.exchange.answer n.exchange.style) s.served.written n.written.took);
+            (took_both begun.sink now.sink next.sink (replies s.exchanges) (reply n.exchange.answer n.exchange.style)
+            s.served.written n.written.took);
         handed_on = handed_on_more begun.sink now.sink next.sink s.exchanges n.exchange s.served.handed_on n.written;
       };
     }
@@ -159,14 +202,16 @@ goes_on step max begun now next s n =
 pub reads_fail_from : (end : ConnEnd) (a b c : ℕ) → b ≡ a → ReadsFail end b c → ReadsFail end a c
 reads_fail_from end a b c same h = subst (λ n. ReadsFail end n c) same h
 
-unfoldable pub ends : {D : Type 0} (step : Moves D) (max : ℕ) (begun now last : Standing D) (end : ConnEnd) (s : SoFar step max begun now)
+unfoldable pub ends : {D : Type 0} (step : Moves D) (max : ℕ) (begun now last : Standing D) (end : ConnEnd)
+    (s : SoFar step max begun now)
     (n : Stops step max now last end)
-    → EndsWith step max (stand (length s.exchanges) (now.held ++ n.given) last.source now.desk now.sink) last.desk last.sink end
-    → IsConversation step max begun.source last.source begun.desk last.desk begun.sink last.sink end
+    → EndsWith step max (stand (length s.exchanges) (now.held ++ n.given) last.source now.desk now.sink) last.desk
+    last.sink end → IsConversation step max begun.source last.source begun.desk last.desk begun.sink last.sink end
 ends step max begun now last end s n ended = record {
   bytes = s.given ++ n.given;
   gives = gives_both begun.source now.source last.source s.given n.given s.gives n.gives;
-  reads = reads_fail_from end begun.source.failed_reads now.source.failed_reads last.source.failed_reads s.unfailed n.reads;
+  reads =
+      reads_fail_from end begun.source.failed_reads now.source.failed_reads last.source.failed_reads s.unfailed n.reads;
   exchanges = s.exchanges;
   rest = now.held ++ n.given;
   at = now.desk;
@@ -193,6 +238,7 @@ ends_at_once step max first desk before = record {
   rest = [];
   at = desk;
   mid = before;
-  served = record { few = lit< tt; read = refl; kept = tt; answered = refl; written = took_none before; handed_on = refl };
+  served =
+      record { few = lit< tt; read = refl; kept = tt; answered = refl; written = took_none before; handed_on = refl };
   ended = (tt, record { unasked = refl; unwritten = refl });
 }

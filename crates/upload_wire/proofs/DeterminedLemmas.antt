@@ -1,5 +1,6 @@
 -- What was read determines a conversation.
-use Rattle.std.proofs.Common.{◌≡◌, ◌≢◌, ℕ, ◌+◌, ◌<◌, List, [], ◌∷◌, ◌++◌, length, map, refl, sym, ap, subst, ◌∙◌, arith, append_assoc, length-append, inl, inr, subst₂, true≢false}
+use Rattle.std.proofs.Common.{◌≡◌, ◌≢◌, ℕ, ◌+◌, ◌<◌, List, [], ◌∷◌, ◌++◌, length, map, refl, sym, ap, subst, ◌∙◌, arith}
+use Rattle.std.proofs.Common.{append_assoc, length-append, inl, inr, subst₂, true≢false}
 use Rattle.std.specs.Prelude.{◌⊎◌, Option, Some, None}
 use Rattle.std.specs.List.{AllByRecursion}
 use Rattle.std.proofs.lemmas.List.{append_cancel_right, length-map, map-append}
@@ -14,16 +15,19 @@ use Rattle.http_wire.specs.declared.fault.WireFault.{WireFault}
 use Rattle.http_wire.specs.declared.fault.WireFault.TheVariants as Wire
 use Rattle.upload_wire.specs.declared.request.Style.{Style}
 use Rattle.upload_wire.specs.declared.connection.ConnEnd.{ConnEnd}
-use Rattle.upload_wire.specs.declared.connection.ConnEnd.TheVariants.{Clean, AfterClose, AfterBad, TooMany, DeskGone, Fault}
+use Rattle.upload_wire.specs.declared.connection.ConnEnd.TheVariants.{Clean, AfterClose, AfterBad, TooMany, DeskGone}
+use Rattle.upload_wire.specs.declared.connection.ConnEnd.TheVariants.{Fault}
 use Rattle.upload_wire.specs.declared.connection.ConnFault.TheVariants as Conn
 use Rattle.upload_wire.specs.RequestText.{IsBad, IsRequest}
 use Rattle.http_wire.specs.States.{SourceState, SinkState}
 use Rattle.http_wire.specs.Writing.{TookAll}
-use Rattle.upload_wire.specs.Conversation.{Moves, Exchange, IsKept, IsRead, messages, replies, last_reply, Answers, EndsWith, AnswersNext, FindsNoDesk, max_requests, stand}
+use Rattle.upload_wire.specs.Conversation.{Moves, Exchange, IsKept, IsRead, messages, replies, last_reply, Answers}
+use Rattle.upload_wire.specs.Conversation.{EndsWith, AnswersNext, FindsNoDesk, max_requests, stand}
 use Rattle.http_wire.specs.HeadText.{bad as bad_reply}
 use Rattle.upload_wire.specs.ConnectionRuns.{answered_last}
 use Rattle.upload_wire.specs.Unambiguous.{RequestParse, request, bad, cut, nothing, ParsesAs}
-use Rattle.upload_wire.specs.Determined.{Dialogue, all_answered, asked, IsUndecided, IsDecided, IsDeterministic, HasMemory, AskTheSame, AreTheSame, ConversationsAreDetermined}
+use Rattle.upload_wire.specs.Determined.{Dialogue, all_answered, asked, IsUndecided, IsDecided, IsDeterministic}
+use Rattle.upload_wire.specs.Determined.{HasMemory, AskTheSame, AreTheSame, ConversationsAreDetermined}
 use Rattle.http_wire.proofs.WritingLemmas.{took_both}
 use Rattle.upload_wire.proofs.ConversationLemmas.{took_none}
 use Rattle.upload_wire.proofs.UnambiguousRequests.{requests_are_unambiguous}
@@ -49,24 +53,34 @@ record SameRequest (a b : Ask) (s t : Style) (m n r q : List ℕ) : Type 0 where
   style : s ≡ t
   rest : r ≡ q
 
-same_request : (max : ℕ) (a b : Ask) (s t : Style) (m n r q : List ℕ) → IsRequest max m a s → IsRequest max n b t → m ++ r ≡ n ++ q → SameRequest a b s t m n r q
+same_request : (max : ℕ) (a b : Ask) (s t : Style) (m n r q : List ℕ) → IsRequest max m a s → IsRequest max n b t
+    → m ++ r ≡ n ++ q → SameRequest a b s t m n r q
 same_request max a b s t m n r q x y e =
     let same = requests_are_unambiguous.one max (m ++ r) (request a s r) (request b t q)
-    (record { message = m; cut = refl; request = x }) (record { message = n; cut = e; request = y }) (no_head a s r) (no_head b t q) in
+    (record { message = m; cut = refl; request = x }) (record { message = n; cut = e; request = y }) (no_head a s r)
+    (no_head b t q) in
     let rests : r ≡ q = cc in
     let asks : a ≡ b = cc in
     let styles : s ≡ t = cc in
-    record { message = append_cancel_right m n q (ap (λ x. m ++ x) (sym rests) ∙ e); ask = asks; style = styles; rest = rests }
+    record {
+      message = append_cancel_right m n q (ap (λ x. m ++ x) (sym rests) ∙ e);
+      ask = asks;
+      style = styles;
+      rest = rests;
+    }
 
 -- what is parsed as something else is no request
-not_request : (max : ℕ) (rest : List ℕ) (p : RequestParse) (y : Exchange) (more : List ℕ) → ParsesAs max rest p → p ≢ bad Head
-    → ((ask : Ask) (style : Style) (r : List ℕ) → p ≢ request ask style r) → rest ≡ y.message ++ more → IsKept max y → ⊥
+not_request : (max : ℕ) (rest : List ℕ) (p : RequestParse) (y : Exchange) (more : List ℕ) → ParsesAs max rest p
+    → p ≢ bad Head → ((ask : Ask) (style : Style) (r : List ℕ) → p ≢ request ask style r) → rest ≡ y.message ++ more
+    → IsKept max y → ⊥
 not_request max rest p y more x other never read kept =
     never y.ask y.style more
-    (requests_are_unambiguous.one max rest p (request y.ask y.style more) x (record { message = y.message; cut = read; request = kept.0 })
+    (requests_are_unambiguous.one max rest p (request y.ask y.style more) x
+    (record { message = y.message; cut = read; request = kept.0 })
     other (no_head y.ask y.style more))
 
-asked_same : (max : ℕ) (x y : Exchange) (r q : List ℕ) → IsRead max x → IsRead max y → x.message ++ r ≡ y.message ++ q → (asked x ≡ asked y) × (r ≡ q)
+asked_same : (max : ℕ) (x y : Exchange) (r q : List ℕ) → IsRead max x → IsRead max y → x.message ++ r ≡ y.message ++ q
+    → (asked x ≡ asked y) × (r ≡ q)
 asked_same max x y r q is other e =
     let s = same_request max x.ask y.ask x.style y.style x.message y.message r q is other e in
     (λ i. record { message = s.message i; ask = s.ask i; style = s.style i }, s.rest)
@@ -82,7 +96,8 @@ record GoesOn (max : ℕ) (rest : List ℕ) (xs ys : List Exchange) : Type 0 whe
   read : rest ≡ next.message ++ more
   kept : IsKept max next
 
-one_more : (max : ℕ) (rest : List ℕ) (x y : Exchange) (xs ys : List Exchange) → asked x ≡ asked y → GoesOn max rest xs ys → GoesOn max rest (x ∷ xs) (y ∷ ys)
+one_more : (max : ℕ) (rest : List ℕ) (x y : Exchange) (xs ys : List Exchange) → asked x ≡ asked y
+    → GoesOn max rest xs ys → GoesOn max rest (x ∷ xs) (y ∷ ys)
 one_more max rest x y xs ys e g = record {
   front = y ∷ g.front;
   next = g.next;
@@ -98,12 +113,14 @@ one_more max rest x y xs ys e g = record {
 abbrev Compare : ℕ → List ℕ → List ℕ → List Exchange → List Exchange → Type 0
 Compare max r q xs ys = ((map asked xs ≡ map asked ys) × (r ≡ q)) ⊎ (GoesOn max r xs ys ⊎ GoesOn max q ys xs)
 
-compare_more : (max : ℕ) (r q : List ℕ) (x y : Exchange) (xs ys : List Exchange) → asked x ≡ asked y → Compare max r q xs ys → Compare max r q (x ∷ xs) (y ∷ ys)
+compare_more : (max : ℕ) (r q : List ℕ) (x y : Exchange) (xs ys : List Exchange) → asked x ≡ asked y
+    → Compare max r q xs ys → Compare max r q (x ∷ xs) (y ∷ ys)
 compare_more max r q x y xs ys e (inl s) = inl (λ i. e i ∷ s.0 i, s.1)
 compare_more max r q x y xs ys e (inr (inl g)) = inr (inl (one_more max r x y xs ys e g))
 compare_more max r q x y xs ys e (inr (inr g)) = inr (inr (one_more max q y x ys xs (sym e) g))
 
-begins : (max : ℕ) (r q : List ℕ) (y : Exchange) (ys : List Exchange) → r ≡ messages (y ∷ ys) ++ q → IsKept max y → GoesOn max r [] (y ∷ ys)
+begins : (max : ℕ) (r q : List ℕ) (y : Exchange) (ys : List Exchange) → r ≡ messages (y ∷ ys) ++ q → IsKept max y
+    → GoesOn max r [] (y ∷ ys)
 begins max r q y ys e kept = record {
   front = [];
   next = y;
@@ -115,8 +132,8 @@ begins max r q y ys e kept = record {
   kept = kept;
 }
 
-compare : (max : ℕ) (r q : List ℕ) (xs ys : List Exchange) → AllByRecursion (IsKept max) xs → AllByRecursion (IsKept max) ys
-    → messages xs ++ r ≡ messages ys ++ q → Compare max r q xs ys
+compare : (max : ℕ) (r q : List ℕ) (xs ys : List Exchange) → AllByRecursion (IsKept max) xs
+    → AllByRecursion (IsKept max) ys → messages xs ++ r ≡ messages ys ++ q → Compare max r q xs ys
 compare max r q [] [] kept other e = inl (refl, e)
 compare max r q [] (y ∷ ys) kept other e = inr (inl (begins max r q y ys e other.0))
 compare max r q (x ∷ xs) [] kept other e = inr (inr (begins max q r x xs (sym e) kept.0))
@@ -130,14 +147,16 @@ compare max r q (x ∷ xs) (y ∷ ys) kept other e =
 -- what stands where a conversation ended behind so many requests, what was answered of it, and what was written
 abbrev LastOf : {D : Type 0} → Moves D → ℕ → List ℕ → D → D → ConnEnd → RequestParse → List Exchange → List ℕ → Type 0
 LastOf step count rest at new end (request ask style more) xs text =
-    ((x : Exchange) × (xs ≡ x ∷ []) × (x.ask ≡ ask) × (x.style ≡ style) × (rest ≡ x.message ++ more) × step at x.ask (Some x.answer) new
+    ((x : Exchange) × (xs ≡ x ∷ []) × (x.ask ≡ ask) × (x.style ≡ style) × (rest ≡ x.message ++ more)
+    × step at x.ask (Some x.answer) new
     × (text ≡ last_reply count x))
     ⊎ ((xs ≡ []) × step at ask None new × (end ≡ DeskGone) × (text ≡ []))
 LastOf step count rest at new end (bad why) xs text = (xs ≡ []) × (new ≡ at) × (text ≡ bad_reply why)
 LastOf step count rest at new end cut xs text = (xs ≡ []) × (new ≡ at) × (text ≡ [])
 LastOf step count rest at new end nothing xs text = (xs ≡ []) × (new ≡ at) × (text ≡ [])
 
-record Ends {D : Type 0} (step : Moves D) (max count : ℕ) (rest : List ℕ) (at new : D) (mid after : SinkState) (end : ConnEnd) (xs : List Exchange) : Type 0 where
+record Ends {D : Type 0} (step : Moves D) (max count : ℕ) (rest : List ℕ) (at new : D) (mid after : SinkState)
+    (end : ConnEnd) (xs : List Exchange) : Type 0 where
   parse : RequestParse
   parses : ParsesAs max rest parse
   no_bad_head : parse ≢ bad Head
@@ -145,26 +164,49 @@ record Ends {D : Type 0} (step : Moves D) (max count : ℕ) (rest : List ℕ) (a
   last : LastOf step count rest at new end parse xs text
   took : TookAll mid after text
 
-module _ {D : Type 0} (step : Moves D) (max count : ℕ) (at new : D) (rest : List ℕ) (left : SourceState) (mid after : SinkState) where
+module _ {D : Type 0} (step : Moves D) (max count : ℕ) (at new : D) (rest : List ℕ) (left : SourceState)
+    (mid after : SinkState) where
   -- a sink that stands as it stood took nothing
   unwritten : after ≡ mid → TookAll mid after []
   unwritten same = subst (λ s. TookAll mid s []) (sym same) (took_none mid)
 
-  ends_wire : (fault : WireFault) → EndsWith step max (stand count rest left at mid) new after (Fault (Conn.Wire fault)) → ¬ (IsUndecided max rest (Fault (Conn.Wire fault)))
+  ends_wire : (fault : WireFault) → EndsWith step max (stand count rest left at mid) new after (Fault (Conn.Wire fault))
+      → ¬ (IsUndecided max rest (Fault (Conn.Wire fault)))
       → Ends step max count rest at new mid after (Fault (Conn.Wire fault)) []
   ends_wire Wire.Truncated e decided =
-      record { parse = cut; parses = e.0.0; no_bad_head = λ s. absurd (cc); text = []; last = (refl, e.1.unasked, refl); took = unwritten e.1.unwritten }
+      record {
+        parse = cut;
+        parses = e.0.0;
+        no_bad_head = λ s. absurd (cc);
+        text = [];
+        last = (refl, e.1.unasked, refl);
+        took = unwritten e.1.unwritten;
+      }
   ends_wire Wire.Read e decided = elim e.0 [
     | inl none ↦
-        record { parse = nothing; parses = none; no_bad_head = λ s. absurd (cc); text = []; last = (refl, e.1.unasked, refl); took = unwritten e.1.unwritten }
+        record {
+          parse = nothing;
+          parses = none;
+          no_bad_head = λ s. absurd (cc);
+          text = [];
+          last = (refl, e.1.unasked, refl);
+          took = unwritten e.1.unwritten;
+        }
     | inr short ↦
-        record { parse = cut; parses = short; no_bad_head = λ s. absurd (cc); text = []; last = (refl, e.1.unasked, refl); took = unwritten e.1.unwritten }
+        record {
+          parse = cut;
+          parses = short;
+          no_bad_head = λ s. absurd (cc);
+          text = [];
+          last = (refl, e.1.unasked, refl);
+          took = unwritten e.1.unwritten;
+        }
   ]
   ends_wire Wire.NoMemory e decided = absurd (decided tt)
   ends_wire Wire.Ended e decided = absurd e.0
 
-  ends_answered : (end : ConnEnd) (x : Exchange) → AnswersNext step max at new rest x → TookAll mid after (last_reply count x)
-      → Ends step max count rest at new mid after end (x ∷ [])
+  ends_answered : (end : ConnEnd) (x : Exchange) → AnswersNext step max at new rest x
+      → TookAll mid after (last_reply count x) → Ends step max count rest at new mid after end (x ∷ [])
   ends_answered end x a took = record {
     parse = request x.ask x.style a.more;
     parses = record { message = x.message; cut = a.read; request = a.request };
@@ -174,10 +216,18 @@ module _ {D : Type 0} (step : Moves D) (max count : ℕ) (at new : D) (rest : Li
     took = took;
   }
 
-  ends : (end : ConnEnd) (e : EndsWith step max (stand count rest left at mid) new after end) → ¬ (IsUndecided max rest end)
-      → Ends step max count rest at new mid after end (answered_last step max (stand count rest left at mid) new after end e)
+  ends : (end : ConnEnd) (e : EndsWith step max (stand count rest left at mid) new after end)
+      → ¬ (IsUndecided max rest end) → Ends step max count rest at new mid after end
+      (answered_last step max (stand count rest left at mid) new after end e)
   ends Clean e decided =
-      record { parse = nothing; parses = e.0; no_bad_head = λ s. absurd (cc); text = []; last = (refl, e.2.unasked, refl); took = unwritten e.2.unwritten }
+      record {
+        parse = nothing;
+        parses = e.0;
+        no_bad_head = λ s. absurd (cc);
+        text = [];
+        last = (refl, e.2.unasked, refl);
+        took = unwritten e.2.unwritten;
+      }
   ends AfterClose e decided = ends_answered AfterClose e.0 e.1 e.3.took
   ends AfterBad e decided = record {
     parse = bad e.0;
@@ -199,15 +249,22 @@ module _ {D : Type 0} (step : Moves D) (max count : ℕ) (at new : D) (rest : Li
   ends (Fault (Conn.Wire fault)) e decided = ends_wire fault e decided
   ends (Fault Conn.Write) e decided = absurd (decided tt)
 
-  -- where a request stands that keeps the connection, and more may come, no conversation ends but by a desk that is gone
-  goes_on : (end : ConnEnd) → EndsWith step max (stand count rest left at mid) new after end → ¬ (IsUndecided max rest end) → count + 1 < max_requests
-      → (end ≡ DeskGone → FindsNoDesk step max at new rest → ⊥) → (y : Exchange) (more : List ℕ) → rest ≡ y.message ++ more → IsKept max y → ⊥
-  goes_on Clean e decided few there y more read kept = not_request max rest nothing y more e.0 (λ s. absurd (cc)) (λ a s r same. absurd (cc)) read kept
+  -- where a request stands that keeps the connection, and more may come, no conversation ends but by a desk that is
+  -- gone
+  goes_on : (end : ConnEnd) → EndsWith step max (stand count rest left at mid) new after end
+      → ¬ (IsUndecided max rest end) → count + 1 < max_requests
+      → (end ≡ DeskGone → FindsNoDesk step max at new rest → ⊥) → (y : Exchange) (more : List ℕ)
+      → rest ≡ y.message ++ more → IsKept max y → ⊥
+  goes_on Clean e decided few there y more read kept =
+      not_request max rest nothing y more e.0 (λ s. absurd (cc)) (λ a s r same. absurd (cc)) read kept
   goes_on AfterClose e decided few there y more read kept =
-      let s = same_request max e.0.ask y.ask e.0.style y.style e.0.message y.message e.1.more more e.1.request kept.0 (sym e.1.read ∙ read) in
+      let s =
+      same_request max e.0.ask y.ask e.0.style y.style e.0.message y.message e.1.more more e.1.request kept.0
+      (sym e.1.read ∙ read) in
       true≢false (sym kept.1 ∙ ap (λ t. t.keep) (sym s.style) ∙ e.2)
   goes_on AfterBad e decided few there y more read kept =
-      not_request max rest (bad e.0) y more e.1.bad (λ s. decided (subst (IsBad max rest) (why_same e.0 Head s) e.1.bad)) (λ a s r same. absurd (cc)) read kept
+      not_request max rest (bad e.0) y more e.1.bad
+      (λ s. decided (subst (IsBad max rest) (why_same e.0 Head s) e.1.bad)) (λ a s r same. absurd (cc)) read kept
   goes_on TooMany e decided few there y more read kept = let full = e.3 in omega (arith, full, few)
   goes_on DeskGone e decided few there y more read kept = there refl e.0
   goes_on (Fault (Conn.Wire Wire.Truncated)) e decided few there y more read kept =
@@ -223,41 +280,61 @@ module _ {D : Type 0} (step : Moves D) (max count : ℕ) (at new : D) (rest : Li
 -- ---- what is asked
 
 -- the same stands there, and what was asked of it is the same
-last_asked : {D : Type 0} (step : Moves D) (count count2 : ℕ) (rest : List ℕ) (at new at2 new2 : D) (end end2 : ConnEnd) (p : RequestParse) (xs ys : List Exchange)
-    (text text2 : List ℕ) → end ≢ DeskGone → end2 ≢ DeskGone → LastOf step count rest at new end p xs text → LastOf step count2 rest at2 new2 end2 p ys text2
+last_asked : {D : Type 0} (step : Moves D) (count count2 : ℕ) (rest : List ℕ) (at new at2 new2 : D) (end end2 : ConnEnd)
+    (p : RequestParse) (xs ys : List Exchange)
+    (text text2 : List ℕ) → end ≢ DeskGone → end2 ≢ DeskGone → LastOf step count rest at new end p xs text
+    → LastOf step count2 rest at2 new2 end2 p ys text2
     → map asked xs ≡ map asked ys
-last_asked step count count2 rest at new at2 new2 end end2 (request ask style more) xs ys text text2 there there2 (inl x) (inl y) =
+last_asked step count count2 rest at new at2 new2 end end2 (request ask style more) xs ys text text2 there there2
+    (inl x) (inl y) =
     let message : x.0.message ≡ y.0.message = append_cancel_right x.0.message y.0.message more (sym x.4 ∙ y.4) in
     let asks : x.0.ask ≡ y.0.ask = x.2 ∙ sym y.2 in
     let styles : x.0.style ≡ y.0.style = x.3 ∙ sym y.3 in
-    ap (map asked) x.1 ∙ (λ i. record { message = message i; ask = asks i; style = styles i } ∷ []) ∙ sym (ap (map asked) y.1)
-last_asked step count count2 rest at new at2 new2 end end2 (request ask style more) xs ys text text2 there there2 (inl x) (inr y) = absurd (there2 y.2)
-last_asked step count count2 rest at new at2 new2 end end2 (request ask style more) xs ys text text2 there there2 (inr x) y = absurd (there x.2)
-last_asked step count count2 rest at new at2 new2 end end2 (bad why) xs ys text text2 there there2 x y = ap (map asked) (x.0 ∙ sym y.0)
-last_asked step count count2 rest at new at2 new2 end end2 cut xs ys text text2 there there2 x y = ap (map asked) (x.0 ∙ sym y.0)
-last_asked step count count2 rest at new at2 new2 end end2 nothing xs ys text text2 there there2 x y = ap (map asked) (x.0 ∙ sym y.0)
+    ap (map asked) x.1 ∙ (λ i. record { message = message i; ask = asks i; style = styles i } ∷ [])
+    ∙ sym (ap (map asked) y.1)
+last_asked step count count2 rest at new at2 new2 end end2 (request ask style more) xs ys text text2 there there2
+    (inl x) (inr y) =
+    absurd (there2 y.2)
+last_asked step count count2 rest at new at2 new2 end end2 (request ask style more) xs ys text text2 there there2
+    (inr x) y =
+    absurd (there x.2)
+last_asked step count count2 rest at new at2 new2 end end2 (bad why) xs ys text text2 there there2 x y =
+    ap (map asked) (x.0 ∙ sym y.0)
+last_asked step count count2 rest at new at2 new2 end end2 cut xs ys text text2 there there2 x y =
+    ap (map asked) (x.0 ∙ sym y.0)
+last_asked step count count2 rest at new at2 new2 end end2 nothing xs ys text text2 there there2 x y =
+    ap (map asked) (x.0 ∙ sym y.0)
 
 -- ends at one rest have one parse
-same_parse : {D : Type 0} (step : Moves D) (max count count2 : ℕ) (rest rest2 : List ℕ) (at new at2 new2 : D) (mid after mid2 after2 : SinkState) (end end2 : ConnEnd)
-    (xs ys : List Exchange) → rest ≡ rest2 → (a : Ends step max count rest at new mid after end xs) (b : Ends step max count2 rest2 at2 new2 mid2 after2 end2 ys)
+same_parse : {D : Type 0} (step : Moves D) (max count count2 : ℕ) (rest rest2 : List ℕ) (at new at2 new2 : D)
+    (mid after mid2 after2 : SinkState) (end end2 : ConnEnd)
+    (xs ys : List Exchange) → rest ≡ rest2 → (a : Ends step max count rest at new mid after end xs)
+    (b : Ends step max count2 rest2 at2 new2 mid2 after2 end2 ys)
     → LastOf step count2 rest at2 new2 end2 a.parse ys b.text
 same_parse step max count count2 rest rest2 at new at2 new2 mid after mid2 after2 end end2 xs ys e a b =
-    let same = requests_are_unambiguous.one max rest b.parse a.parse (subst (λ r. ParsesAs max r b.parse) (sym e) b.parses) a.parses b.no_bad_head a.no_bad_head in
-    subst (λ p. LastOf step count2 rest at2 new2 end2 p ys b.text) same (subst (λ r. LastOf step count2 r at2 new2 end2 b.parse ys b.text) (sym e) b.last)
+    let same =
+    requests_are_unambiguous.one max rest b.parse a.parse (subst (λ r. ParsesAs max r b.parse) (sym e) b.parses)
+    a.parses b.no_bad_head a.no_bad_head in
+    subst (λ p. LastOf step count2 rest at2 new2 end2 p ys b.text) same
+    (subst (λ r. LastOf step count2 r at2 new2 end2 b.parse ys b.text) (sym e) b.last)
 
 -- how many come before one that goes on
-few_before : (max : ℕ) (rest : List ℕ) (xs ys : List Exchange) → GoesOn max rest xs ys → length ys < max_requests → length xs + 1 < max_requests
+few_before : (max : ℕ) (rest : List ℕ) (xs ys : List Exchange) → GoesOn max rest xs ys → length ys < max_requests
+    → length xs + 1 < max_requests
 few_before max rest xs ys g few =
     let total = ap length g.split in
     let front = ap length g.same in
-    omega (arith, few, total, front, length-append g.front (g.next ∷ g.behind), length-map xs asked, length-map g.front asked)
+    omega
+    (arith, few, total, front, length-append g.front (g.next ∷ g.behind), length-map xs asked, length-map g.front asked)
 
 module _ {D : Type 0} (step : Moves D) (max : ℕ) where
   -- the end of a dialogue
   ends_of : (d : Dialogue step max) → IsDecided step max d
       → Ends step max (length d.is.exchanges) d.is.rest d.is.at d.new d.is.mid d.after d.end
-      (answered_last step max (stand (length d.is.exchanges) d.is.rest d.left d.is.at d.is.mid) d.new d.after d.end d.is.ended)
-  ends_of d decided = ends step max (length d.is.exchanges) d.is.at d.new d.is.rest d.left d.is.mid d.after d.end d.is.ended decided
+      (answered_last step max (stand (length d.is.exchanges) d.is.rest d.left d.is.at d.is.mid) d.new d.after
+      d.end d.is.ended)
+  ends_of d decided =
+      ends step max (length d.is.exchanges) d.is.at d.new d.is.rest d.left d.is.mid d.after d.end d.is.ended decided
 
   -- of two with one rest, the end of the other at what this one found
   the_other : (d e : Dialogue step max) → d.is.rest ≡ e.is.rest → {xs ys : List Exchange}
@@ -265,12 +342,15 @@ module _ {D : Type 0} (step : Moves D) (max : ℕ) where
       (b : Ends step max (length e.is.exchanges) e.is.rest e.is.at e.new e.is.mid e.after e.end ys)
       → LastOf step (length e.is.exchanges) d.is.rest e.is.at e.new e.end a.parse ys b.text
   the_other d e same {xs} {ys} a b =
-      same_parse step max (length d.is.exchanges) (length e.is.exchanges) d.is.rest e.is.rest d.is.at d.new e.is.at e.new d.is.mid d.after e.is.mid e.after
+      same_parse step max (length d.is.exchanges) (length e.is.exchanges) d.is.rest e.is.rest d.is.at d.new e.is.at
+      e.new d.is.mid d.after e.is.mid e.after
       d.end e.end xs ys same a b
 
-  compared : (d e : Dialogue step max) → d.is.bytes ≡ e.is.bytes → Compare max d.is.rest e.is.rest d.is.exchanges e.is.exchanges
+  compared : (d e : Dialogue step max) → d.is.bytes ≡ e.is.bytes
+      → Compare max d.is.rest e.is.rest d.is.exchanges e.is.exchanges
   compared d e same =
-      compare max d.is.rest e.is.rest d.is.exchanges e.is.exchanges d.is.served.kept e.is.served.kept (sym d.is.served.read ∙ same ∙ e.is.served.read)
+      compare max d.is.rest e.is.rest d.is.exchanges e.is.exchanges d.is.served.kept e.is.served.kept
+      (sym d.is.served.read ∙ same ∙ e.is.served.read)
 
   -- no dialogue goes on where the other ended
   none_goes_on : (d e : Dialogue step max) → IsDecided step max d
@@ -288,10 +368,13 @@ module _ {D : Type 0} (step : Moves D) (max : ℕ) where
       by (inl s) =
           let a = ends_of d decided in
           let b = ends_of e decided2 in
-          let lasts = last_asked step (length d.is.exchanges) (length e.is.exchanges) d.is.rest d.is.at d.new e.is.at e.new d.end e.end a.parse _ _ a.text b.text
+          let lasts =
+          last_asked step (length d.is.exchanges) (length e.is.exchanges) d.is.rest d.is.at d.new e.is.at e.new d.end
+          e.end a.parse _ _ a.text b.text
           there there2 a.last (the_other d e s.1 a b) in
           record {
-            requests = map-append asked d.is.exchanges _ ∙ (λ i. s.0 i ++ lasts i) ∙ sym (map-append asked e.is.exchanges _);
+            requests =
+                map-append asked d.is.exchanges _ ∙ (λ i. s.0 i ++ lasts i) ∙ sym (map-append asked e.is.exchanges _);
             rest = s.1;
           }
       by (inr (inl g)) = absurd (none_goes_on d e decided g (λ gone f. there gone))
@@ -315,8 +398,8 @@ none_is_enough e = some_not_none NoMemory (sym e)
 
 module _ {D : Type 0} (step : Moves D) (det : IsDeterministic step) where
   -- the same was asked of one state, so the same was answered
-  same_answers : (old old2 at at2 : D) (xs ys : List Exchange) → HasMemory xs → HasMemory ys → old ≡ old2 → map asked xs ≡ map asked ys
-      → Answers step old xs at → Answers step old2 ys at2 → (xs ≡ ys) × (at ≡ at2)
+  same_answers : (old old2 at at2 : D) (xs ys : List Exchange) → HasMemory xs → HasMemory ys → old ≡ old2
+      → map asked xs ≡ map asked ys → Answers step old xs at → Answers step old2 ys at2 → (xs ≡ ys) × (at ≡ at2)
   same_answers old old2 at at2 [] [] m n e same x y = (refl, sym x ∙ e ∙ y)
   same_answers old old2 at at2 [] (b ∷ ys) m n e same x y = absurd (let l = ap length same in omega (arith, l))
   same_answers old old2 at at2 (a ∷ xs) [] m n e same x y = absurd (let l = ap length same in omega (arith, l))
@@ -327,8 +410,11 @@ module _ {D : Type 0} (step : Moves D) (det : IsDeterministic step) where
       let once = det old2 b.ask (Some a.answer) (Some b.answer) x.0 y.0
       (subst₂ (λ s q. step s q (Some a.answer) x.0) e asks x.1) y.1 (enough a.answer m.0) (enough b.answer n.0) in
       let answers : a.answer ≡ b.answer = same_some a.answer b.answer once.0 in
-      let next = same_answers x.0 y.0 at at2 xs ys m.1 n.1 once.1 others x.2 y.2 in
-      (λ i. record { message = (first i).message; ask = (first i).ask; style = (first i).style; answer = answers i } ∷ next.0 i, next.1)
+      let next = same_answers x.0 y.0 at at2 xs ys m.1 n.1 once.1 others x.2 y.2 in (
+        λ i. record { message = (first i).message; ask = (first i).ask; style = (first i).style; answer = answers i }
+            ∷ next.0 i,
+        next.1,
+      )
 
   answers_split : (old at : D) (front behind : List Exchange) (y : Exchange) → Answers step old (front ++ y ∷ behind) at
       → (mid : D) × (next : D) × Answers step old front mid × step mid y.ask (Some y.answer) next
@@ -341,48 +427,69 @@ module _ {D : Type 0} (step : Moves D) (det : IsDeterministic step) where
   abbrev LastSame : D → D → List Exchange → List Exchange → List ℕ → List ℕ → Type 0
   LastSame new new2 xs ys text text2 = (xs ≡ ys) × (new ≡ new2) × (text ≡ text2)
 
-  last_same : (count count2 : ℕ) (rest : List ℕ) (at new at2 new2 : D) (end end2 : ConnEnd) (p : RequestParse) (xs ys : List Exchange) (text text2 : List ℕ)
-      → HasMemory xs → HasMemory ys → count ≡ count2 → at ≡ at2 → LastOf step count rest at new end p xs text → LastOf step count2 rest at2 new2 end2 p ys text2
+  last_same : (count count2 : ℕ) (rest : List ℕ) (at new at2 new2 : D) (end end2 : ConnEnd) (p : RequestParse)
+      (xs ys : List Exchange) (text text2 : List ℕ) → HasMemory xs → HasMemory ys → count ≡ count2
+      → at ≡ at2 → LastOf step count rest at new end p xs text → LastOf step count2 rest at2 new2 end2 p ys text2
       → LastSame new new2 xs ys text text2
-  last_same count count2 rest at new at2 new2 end end2 (request ask style more) xs ys text text2 m n c e (inl x) (inl y) =
+  last_same count count2 rest at new at2 new2 end end2 (request ask style more) xs ys text text2 m n c e
+      (inl x) (inl y) =
       let message : x.0.message ≡ y.0.message = append_cancel_right x.0.message y.0.message more (sym x.4 ∙ y.4) in
       let asks : x.0.ask ≡ y.0.ask = x.2 ∙ sym y.2 in
       let styles : x.0.style ≡ y.0.style = x.3 ∙ sym y.3 in
-      let once = det at2 y.0.ask (Some x.0.answer) (Some y.0.answer) new new2 (subst₂ (λ s q. step s q (Some x.0.answer) new) e asks x.5) y.5
+      let once =
+      det at2 y.0.ask (Some x.0.answer) (Some y.0.answer) new new2
+      (subst₂ (λ s q. step s q (Some x.0.answer) new) e asks x.5) y.5
       (enough x.0.answer (subst HasMemory x.1 m).0) (enough y.0.answer (subst HasMemory y.1 n).0) in
       let answers : x.0.answer ≡ y.0.answer = same_some x.0.answer y.0.answer once.0 in
-      let exchange : x.0 ≡ y.0 = λ i. record { message = message i; ask = asks i; style = styles i; answer = answers i } in
+      let exchange : x.0 ≡ y.0 =
+      λ i. record { message = message i; ask = asks i; style = styles i; answer = answers i } in
       (x.1 ∙ ap (λ z. z ∷ []) exchange ∙ sym y.1, once.1, x.6 ∙ (λ i. last_reply (c i) (exchange i)) ∙ sym y.6)
-  last_same count count2 rest at new at2 new2 end end2 (request ask style more) xs ys text text2 m n c e (inl x) (inr y) =
-      absurd (some_not_none x.0.answer (det at2 ask (Some x.0.answer) None new new2 (subst₂ (λ s q. step s q (Some x.0.answer) new) e x.2 x.5) y.1
+  last_same count count2 rest at new at2 new2 end end2 (request ask style more) xs ys text text2 m n c e
+      (inl x) (inr y) =
+      absurd (some_not_none x.0.answer
+      (det at2 ask (Some x.0.answer) None new new2 (subst₂ (λ s q. step s q (Some x.0.answer) new) e x.2 x.5) y.1
       (enough x.0.answer (subst HasMemory x.1 m).0) none_is_enough).0)
-  last_same count count2 rest at new at2 new2 end end2 (request ask style more) xs ys text text2 m n c e (inr x) (inl y) =
-      absurd (some_not_none y.0.answer (det at ask (Some y.0.answer) None new2 new (subst₂ (λ s q. step s q (Some y.0.answer) new2) (sym e) y.2 y.5) x.1
+  last_same count count2 rest at new at2 new2 end end2 (request ask style more) xs ys text text2 m n c e
+      (inr x) (inl y) =
+      absurd (some_not_none y.0.answer
+      (det at ask (Some y.0.answer) None new2 new (subst₂ (λ s q. step s q (Some y.0.answer) new2) (sym e) y.2 y.5) x.1
       (enough y.0.answer (subst HasMemory y.1 n).0) none_is_enough).0)
-  last_same count count2 rest at new at2 new2 end end2 (request ask style more) xs ys text text2 m n c e (inr x) (inr y) = (
-    x.0 ∙ sym y.0,
-    (det at2 ask None None new new2 (subst (λ s. step s ask None new) e x.1) y.1 none_is_enough none_is_enough).1,
-    x.3 ∙ sym y.3,
-  )
-  last_same count count2 rest at new at2 new2 end end2 (bad why) xs ys text text2 m n c e x y = (x.0 ∙ sym y.0, x.1 ∙ e ∙ sym y.1, x.2 ∙ sym y.2)
-  last_same count count2 rest at new at2 new2 end end2 cut xs ys text text2 m n c e x y = (x.0 ∙ sym y.0, x.1 ∙ e ∙ sym y.1, x.2 ∙ sym y.2)
-  last_same count count2 rest at new at2 new2 end end2 nothing xs ys text text2 m n c e x y = (x.0 ∙ sym y.0, x.1 ∙ e ∙ sym y.1, x.2 ∙ sym y.2)
+  last_same count count2 rest at new at2 new2 end end2 (request ask style more) xs ys text text2 m n c e
+      (inr x) (inr y) = (
+        x.0 ∙ sym y.0,
+        (det at2 ask None None new new2 (subst (λ s. step s ask None new) e x.1) y.1 none_is_enough none_is_enough).1,
+        x.3 ∙ sym y.3,
+      )
+  last_same count count2 rest at new at2 new2 end end2 (bad why) xs ys text text2 m n c e x y =
+      (x.0 ∙ sym y.0, x.1 ∙ e ∙ sym y.1, x.2 ∙ sym y.2)
+  last_same count count2 rest at new at2 new2 end end2 cut xs ys text text2 m n c e x y =
+      (x.0 ∙ sym y.0, x.1 ∙ e ∙ sym y.1, x.2 ∙ sym y.2)
+  last_same count count2 rest at new at2 new2 end end2 nothing xs ys text text2 m n c e x y =
+      (x.0 ∙ sym y.0, x.1 ∙ e ∙ sym y.1, x.2 ∙ sym y.2)
 
   -- a desk that answers in one dialogue isn't gone in the other
   not_gone : (max : ℕ) (d e : Dialogue step max) → HasMemory d.is.exchanges → HasMemory e.is.exchanges → d.old ≡ e.old
       → (g : GoesOn max d.is.rest d.is.exchanges e.is.exchanges) → FindsNoDesk step max d.is.at d.new d.is.rest → ⊥
   not_gone max d e m n same g f =
       let split = subst HasMemory g.split n in
-      let parts = answers_split e.old e.is.at g.front g.behind g.next (subst (λ ys. Answers step e.old ys e.is.at) g.split e.is.served.answered) in
-      let at_same = (same_answers d.old e.old d.is.at parts.0 d.is.exchanges g.front m (memory_left g.front (g.next ∷ g.behind) split)
+      let parts =
+      answers_split e.old e.is.at g.front g.behind g.next
+      (subst (λ ys. Answers step e.old ys e.is.at) g.split e.is.served.answered) in
+      let at_same =
+      (same_answers d.old e.old d.is.at parts.0 d.is.exchanges g.front m (memory_left g.front (g.next ∷ g.behind) split)
       same g.same d.is.served.answered parts.2).1 in
-      let s = same_request max f.ask g.next.ask f.style g.next.style f.message g.next.message f.more g.more f.request g.kept.0 (sym f.read ∙ g.read) in
-      let once = det parts.0 g.next.ask None (Some g.next.answer) d.new parts.1 (subst₂ (λ s q. step s q None d.new) at_same s.ask f.gone) parts.3
+      let s =
+      same_request max f.ask g.next.ask f.style g.next.style f.message g.next.message f.more g.more f.request g.kept.0
+      (sym f.read ∙ g.read) in
+      let once =
+      det parts.0 g.next.ask None (Some g.next.answer) d.new parts.1
+      (subst₂ (λ s q. step s q None d.new) at_same s.ask f.gone) parts.3
       none_is_enough (enough g.next.answer (memory_right g.front (g.next ∷ g.behind) split).0) in
       some_not_none g.next.answer (sym once.0)
 
-  are_the_same : (max : ℕ) (d e : Dialogue step max) → d.is.bytes ≡ e.is.bytes → IsDecided step max d → IsDecided step max e → d.old ≡ e.old
-      → HasMemory (all_answered step max d) → HasMemory (all_answered step max e) → AreTheSame step max d e
+  are_the_same : (max : ℕ) (d e : Dialogue step max) → d.is.bytes ≡ e.is.bytes → IsDecided step max d
+      → IsDecided step max e → d.old ≡ e.old → HasMemory (all_answered step max d) → HasMemory (all_answered step max e)
+      → AreTheSame step max d e
   are_the_same max d e same decided decided2 from m n = by (compared step max d e same)
     where
       m_served : HasMemory d.is.exchanges
@@ -395,20 +502,30 @@ module _ {D : Type 0} (step : Moves D) (det : IsDeterministic step) where
       by (inl s) =
           let a = ends_of step max d decided in
           let b = ends_of step max e decided2 in
-          let whole = same_answers d.old e.old d.is.at e.is.at d.is.exchanges e.is.exchanges m_served n_served from s.0 d.is.served.answered e.is.served.answered in
-          let lasts = last_same (length d.is.exchanges) (length e.is.exchanges) d.is.rest d.is.at d.new e.is.at e.new d.end e.end a.parse _ _ a.text b.text
-          (memory_right d.is.exchanges _ m) (memory_right e.is.exchanges _ n) (ap length whole.0) whole.1 a.last (the_other step max d e s.1 a b) in
-          let texts : replies e.is.exchanges ++ b.text ≡ replies d.is.exchanges ++ a.text = λ i. replies (sym whole.0 i) ++ sym lasts.2 i in
+          let whole =
+          same_answers d.old e.old d.is.at e.is.at d.is.exchanges e.is.exchanges m_served n_served from s.0
+          d.is.served.answered e.is.served.answered in
+          let lasts =
+          last_same (length d.is.exchanges) (length e.is.exchanges) d.is.rest d.is.at d.new e.is.at e.new d.end e.end
+          a.parse _ _ a.text b.text
+          (memory_right d.is.exchanges _ m) (memory_right e.is.exchanges _ n) (ap length whole.0) whole.1 a.last
+          (the_other step max d e s.1 a b) in
+          let texts : replies e.is.exchanges ++ b.text ≡ replies d.is.exchanges ++ a.text =
+          λ i. replies (sym whole.0 i) ++ sym lasts.2 i in
           record {
             exchanges = λ i. whole.0 i ++ lasts.0 i;
             rest = s.1;
             desk = lasts.1;
             written = replies d.is.exchanges ++ a.text;
             taken = took_both d.before d.is.mid d.after (replies d.is.exchanges) a.text d.is.served.written a.took;
-            taken_too = subst (TookAll e.before e.after) texts (took_both e.before e.is.mid e.after (replies e.is.exchanges) b.text e.is.served.written b.took);
+            taken_too =
+                subst (TookAll e.before e.after) texts
+                (took_both e.before e.is.mid e.after (replies e.is.exchanges) b.text e.is.served.written b.took);
           }
-      by (inr (inl g)) = absurd (none_goes_on step max d e decided g (λ gone f. not_gone max d e m_served n_served from g f))
-      by (inr (inr g)) = absurd (none_goes_on step max e d decided2 g (λ gone f. not_gone max e d n_served m_served (sym from) g f))
+      by (inr (inl g)) =
+          absurd (none_goes_on step max d e decided g (λ gone f. not_gone max d e m_served n_served from g f))
+      by (inr (inr g)) =
+          absurd (none_goes_on step max e d decided2 g (λ gone f. not_gone max e d n_served m_served (sym from) g f))
 
 pub conversations_determined : {D : Type 0} (step : Moves D) → ConversationsAreDetermined step
 conversations_determined step = record {
@@ -418,21 +535,25 @@ conversations_determined step = record {
 
 -- ---- a service
 
-same_turn : (old : State) (o : Outcome) (now : ℕ) (a b : Answer) (new other : State) → Comes old now o a new → Comes old now o b other
-    → a ≢ NoMemory → b ≢ NoMemory → (a ≡ b) × (new ≡ other)
+same_turn : (old : State) (o : Outcome) (now : ℕ) (a b : Answer) (new other : State) → Comes old now o a new
+    → Comes old now o b other → a ≢ NoMemory → b ≢ NoMemory → (a ≡ b) × (new ≡ other)
 same_turn old o now a b new other (inl x) (inl y) m n = (x.0 ∙ sym y.0, x.1 ∙ sym y.1)
 same_turn old o now a b new other (inl x) (inr y) m n = absurd (n y.1)
 same_turn old o now a b new other (inr x) y m n = absurd (m x.1)
 
-turns_same : (old : State) (ask : Ask) (secret : List ℕ) (now : ℕ) (a b : Answer) (new other : State) → Turn old ask secret now a new
-    → Turn old ask secret now b other → a ≢ NoMemory → b ≢ NoMemory → (a ≡ b) × (new ≡ other)
+turns_same : (old : State) (ask : Ask) (secret : List ℕ) (now : ℕ) (a b : Answer) (new other : State)
+    → Turn old ask secret now a new → Turn old ask secret now b other → a ≢ NoMemory → b ≢ NoMemory
+    → (a ≡ b) × (new ≡ other)
 unfolding Turn
-turns_same old ask secret now a b new other x y m n = same_turn old (outcome old ask secret now) now a b new other x y m n
+turns_same old ask secret now a b new other x y m n =
+    same_turn old (outcome old ask secret now) now a b new other x y m n
 
 pub service_deterministic : IsDeterministic StepsService
 service_deterministic old ask answer other new another x y m n =
     let once = turns_same old.service ask old.secret old.now x.said y.said new.service another.service x.turn y.turn
     (λ e. m (x.answered ∙ ap Some e)) (λ e. n (y.answered ∙ ap Some e)) in
     let secrets : new.secret ≡ another.secret = x.same_secret ∙ sym y.same_secret in
-    let moments : new.now ≡ another.now = x.same_moment ∙ sym y.same_moment in
-    (x.answered ∙ ap Some once.0 ∙ sym y.answered, λ i. record { service = once.1 i; secret = secrets i; now = moments i })
+    let moments : new.now ≡ another.now = x.same_moment ∙ sym y.same_moment in (
+      x.answered ∙ ap Some once.0 ∙ sym y.answered,
+      λ i. record { service = once.1 i; secret = secrets i; now = moments i },
+    )

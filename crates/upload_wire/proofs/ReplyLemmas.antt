@@ -14,20 +14,24 @@ pub upload_text : (before : List ℕ) {name text at reference : List ℕ} → na
     → ((((before ++ codes "Location: /v2/") ++ name) ++ codes "/blobs/uploads/") ++ at) ++ crlf_bytes
     ≡ before ++ print_field (codes "Location", upload_path text reference)
 upload_text before name at =
-    (λ i. ((((before ++ codes "Location: /v2/") ++ name i) ++ codes "/blobs/uploads/") ++ at i) ++ crlf_bytes) ∙ simp append_assoc
+    (λ i. ((((before ++ codes "Location: /v2/") ++ name i) ++ codes "/blobs/uploads/") ++ at i) ++ crlf_bytes)
+    ∙ simp append_assoc
 
 pub blob_text : (before : List ℕ) {name text sum digest : List ℕ} → name ≡ text → sum ≡ digest
     → ((((before ++ codes "Location: /v2/") ++ name) ++ codes "/blobs/") ++ sum) ++ crlf_bytes
     ≡ before ++ print_field (codes "Location", blob_path text digest)
 blob_text before name sum =
-    (λ i. ((((before ++ codes "Location: /v2/") ++ name i) ++ codes "/blobs/") ++ sum i) ++ crlf_bytes) ∙ simp append_assoc
+    (λ i. ((((before ++ codes "Location: /v2/") ++ name i) ++ codes "/blobs/") ++ sum i) ++ crlf_bytes)
+    ∙ simp append_assoc
 
-range_when : (before : List ℕ) (none : Bool) (last : ℕ) → none ≡ false → ((before ++ codes "Range: 0-") ++ decimal last) ++ crlf_bytes
+range_when : (before : List ℕ) (none : Bool) (last : ℕ) → none ≡ false
+    → ((before ++ codes "Range: 0-") ++ decimal last) ++ crlf_bytes
     ≡ before ++ flat_map print_field (if none then [] else (codes "Range", codes "0-" ++ decimal last) ∷ [])
 range_when before true last some = absurd (cc)
 range_when before false last some = simp append_assoc
 
-pub range_text : (before : List ℕ) (next : ℕ) → (next ≡ 0 → ⊥) → ((before ++ codes "Range: 0-") ++ decimal (next - 1)) ++ crlf_bytes
+pub range_text : (before : List ℕ) (next : ℕ) → (next ≡ 0 → ⊥)
+    → ((before ++ codes "Range: 0-") ++ decimal (next - 1)) ++ crlf_bytes
     ≡ before ++ flat_map print_field (range_fields next)
 range_text before next some = range_when before (next == 0) (next - 1) (ne_eqb next 0 some)
 
@@ -35,14 +39,18 @@ pub error_text : (before : List ℕ) {size length_of_body : ℕ} → size ≡ le
     → (before ++ print_field (codes "Content-Type", codes "application/json")) ++ print_field (length_field size)
     ≡ before ++ flat_map print_field (body_fields (codes "application/json") length_of_body)
 error_text before size =
-    (λ i. (before ++ print_field (codes "Content-Type", codes "application/json")) ++ print_field (length_field (size i))) ∙ simp (append_assoc, append-nil)
+    (λ i. (before ++ print_field (codes "Content-Type", codes "application/json"))
+    ++ print_field (length_field (size i))) ∙ simp (append_assoc, append-nil)
 
 pub found_text : (before : List ℕ) {sum digest : List ℕ} (size : ℕ) → sum ≡ digest
-    → ((before ++ print_field (codes "Docker-Content-Digest", sum)) ++ print_field (codes "Content-Type", codes "application/octet-stream"))
+    → ((before ++ print_field (codes "Docker-Content-Digest", sum))
+    ++ print_field (codes "Content-Type", codes "application/octet-stream"))
     ++ print_field (length_field size)
-    ≡ before ++ flat_map print_field ((codes "Docker-Content-Digest", digest) ∷ body_fields (codes "application/octet-stream") size)
+    ≡ before ++ flat_map print_field
+    ((codes "Docker-Content-Digest", digest) ∷ body_fields (codes "application/octet-stream") size)
 found_text before size sum =
-    (λ i. ((before ++ print_field (codes "Docker-Content-Digest", sum i)) ++ print_field (codes "Content-Type", codes "application/octet-stream"))
+    (λ i. ((before ++ print_field (codes "Docker-Content-Digest", sum i))
+    ++ print_field (codes "Content-Type", codes "application/octet-stream"))
     ++ print_field (length_field size)) ∙ simp (append_assoc, append-nil)
 
 pub two_fields : (before : List ℕ) (first second : HeadField)
@@ -51,18 +59,22 @@ two_fields before first second = simp (append_assoc, append-nil)
 
 -- some fields, and then one
 pub fields_and : (before : List ℕ) (fields : List HeadField) (field : HeadField)
-    → (before ++ flat_map print_field fields) ++ print_field field ≡ before ++ flat_map print_field (fields ++ field ∷ [])
+    → (before ++ flat_map print_field fields) ++ print_field field
+    ≡ before ++ flat_map print_field (fields ++ field ∷ [])
 fields_and before fields field = simp (append_assoc, flat_map-append, append-nil)
 
 pub fields_both : (before : List ℕ) (fields others : List HeadField)
-    → (before ++ flat_map print_field fields) ++ flat_map print_field others ≡ before ++ flat_map print_field (fields ++ others)
+    → (before ++ flat_map print_field fields) ++ flat_map print_field others
+    ≡ before ++ flat_map print_field (fields ++ others)
 fields_both before fields others = simp (append_assoc, flat_map-append)
 
 -- The whole of a head.
 
-pub head_text : (before : List ℕ) {line : List ℕ} (status : Status) (fields : List HeadField) (keep : Bool) → line ≡ status_line status
+pub head_text : (before : List ℕ) {line : List ℕ} (status : Status) (fields : List HeadField) (keep : Bool)
+    → line ≡ status_line status
     → ((before ++ line) ++ flat_map print_field fields) ++ (flat_map print_field (closing_fields keep) ++ crlf_bytes)
     ≡ before ++ print_head status fields keep
 head_text before status fields keep line =
-    (λ i. ((before ++ line i) ++ flat_map print_field fields) ++ (flat_map print_field (closing_fields keep) ++ crlf_bytes))
+    (λ i. ((before ++ line i) ++ flat_map print_field fields)
+    ++ (flat_map print_field (closing_fields keep) ++ crlf_bytes))
     ∙ simp (append_assoc, flat_map-append)

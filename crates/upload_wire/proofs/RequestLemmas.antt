@@ -1,5 +1,6 @@
 -- From the spans of a head, and the body behind it, to the request.
-use Rattle.std.proofs.Common.{◌≡◌, ℕ, ◌≤◌, List, [], ◌++◌, length, take, drop, refl, sym, ap, ◌∙◌, subst, arith, append_assoc, length-take, inl, inr}
+use Rattle.std.proofs.Common.{◌≡◌, ℕ, ◌≤◌, List, [], ◌++◌, length, take, drop, refl, sym, ap, ◌∙◌, subst, arith}
+use Rattle.std.proofs.Common.{append_assoc, length-take, inl, inr}
 use Rattle.std.specs.Prelude.{Result, Ok, Err, bytes_eq, codes}
 use Rattle.std.proofs.lemmas.List.{take-append-drop, append-nil, length-map}
 use Rattle.std.proofs.Math.ListN.{drop_of_length-le}
@@ -41,15 +42,19 @@ the_head f = f.head.1.0
 drop_all : (n : ℕ) (text : List ℕ) → n ≤ length text → drop n (take n text) ≡ []
 drop_all n text le = drop_of_length-le (take n text) (omega (arith, length-take n text))
 
-front_printed : (text : List ℕ) (p : ParsedRequest) (f : IsHeadAtFront request_spans text p) → take p.spans.len text ≡ print_request (the_head f)
+front_printed : (text : List ℕ) (p : ParsedRequest) (f : IsHeadAtFront request_spans text p)
+    → take p.spans.len text ≡ print_request (the_head f)
 front_printed text p f =
-    f.head.1.1.reads.1 ∙ ap (λ t. print_request (the_head f) ++ t) (drop_all p.spans.len text f.in_range) ∙ append-nil (print_request (the_head f))
+    f.head.1.1.reads.1 ∙ ap (λ t. print_request (the_head f) ++ t) (drop_all p.spans.len text f.in_range)
+    ∙ append-nil (print_request (the_head f))
 
-fields_same : (text : List ℕ) (p : ParsedRequest) (f : IsHeadAtFront request_spans text p) → fields_of request_spans (take p.spans.len text) p ≡ head_fields (the_head f).fields
+fields_same : (text : List ℕ) (p : ParsedRequest) (f : IsHeadAtFront request_spans text p)
+    → fields_of request_spans (take p.spans.len text) p ≡ head_fields (the_head f).fields
 fields_same text p f = f.head.1.1.fields
 
 -- the head, and then any text
-pub head_then : (text more : List ℕ) (p : ParsedRequest) (f : IsHeadAtFront request_spans text p) → ReadsHead requests (take p.spans.len text ++ more) (the_head f) more
+pub head_then : (text more : List ℕ) (p : ParsedRequest) (f : IsHeadAtFront request_spans text p)
+    → ReadsHead requests (take p.spans.len text ++ more) (the_head f) more
 head_then text more p f =
     let len = f.head.1.1.len in
     let short = f.short in
@@ -69,8 +74,10 @@ head_then text more p f =
     }
 
 -- what the fields of the spans frame, the head frames
-framing_same : (max : ℕ) (text : List ℕ) (p : ParsedRequest) (r : Result Framing Bad) (f : IsHeadAtFront request_spans text p)
-    → framing_of max p.spans.version (fields_of request_spans (take p.spans.len text) p) ≡ r → head_framing max (the_head f) ≡ r
+framing_same : (max : ℕ) (text : List ℕ) (p : ParsedRequest)
+    (r : Result Framing Bad) (f : IsHeadAtFront request_spans text p)
+    → framing_of max p.spans.version (fields_of request_spans (take p.spans.len text) p) ≡ r
+    → head_framing max (the_head f) ≡ r
 framing_same max text p r f framed =
     ap (λ n. framing_of max n (head_fields (the_head f).fields)) (sym f.head.1.1.version)
     ∙ ap (framing_of max p.spans.version) (sym (fields_same text p f)) ∙ framed
@@ -78,7 +85,8 @@ framing_same max text p r f framed =
 -- the text in front of the body, what was read of the body, and what was read in all
 whole_text : (text given more : List ℕ) (n : ℕ) → more ≡ drop n text ++ given → text ++ given ≡ take n text ++ more
 whole_text text given more n same =
-    ap (λ t. t ++ given) (sym (take-append-drop n text)) ∙ append_assoc (take n text) (drop n text) given ∙ ap (λ t. take n text ++ t) (sym same)
+    ap (λ t. t ++ given) (sym (take-append-drop n text)) ∙ append_assoc (take n text) (drop n text) given
+    ∙ ap (λ t. take n text ++ t) (sym same)
 
 asks_same : (max : ℕ) (text body : List ℕ) (p : ParsedRequest) (d : Described) (f : IsHeadAtFront request_spans text p)
     → DescribesAll max (take p.spans.len text) p d → AsksWhole (the_head f) body (with_body d.ask body)
@@ -97,7 +105,8 @@ style_same : (max : ℕ) (text : List ℕ) (p : ParsedRequest) (d : Described) (
     → DescribesAll max (take p.spans.len text) p d → d.style ≡ style_of (the_head f)
 style_same max text p d f says =
     let h = the_head f in
-    let is_head : d.style.head ≡ bytes_eq h.method (codes "HEAD") = says.is_head ∙ ap (λ m. bytes_eq m (codes "HEAD")) f.head.1.1.method in
+    let is_head : d.style.head ≡ bytes_eq h.method (codes "HEAD") =
+    says.is_head ∙ ap (λ m. bytes_eq m (codes "HEAD")) f.head.1.1.method in
     let keeps : d.style.keep ≡ keeps_connection h.minor (head_fields h.fields) =
     says.keeps ∙ ap (λ n. keeps_connection n (fields_of request_spans (take p.spans.len text) p)) f.head.1.1.version
     ∙ ap (keeps_connection h.minor) (fields_same text p f) in
@@ -105,8 +114,8 @@ style_same max text p d f says =
 
 -- its line
 pub line_read : (text : List ℕ) (p : ParsedRequest) (f : IsHeadAtFront request_spans text p) (method target : List ℕ)
-    → method ≡ span_bytes (take p.spans.len text) p.spans.method → target ≡ span_bytes (take p.spans.len text) p.spans.path
-    → HasLine text method target
+    → method ≡ span_bytes (take p.spans.len text) p.spans.method
+    → target ≡ span_bytes (take p.spans.len text) p.spans.path → HasLine text method target
 line_read text p f method target m t = record {
   head = the_head f;
   rest = drop p.spans.len text;
@@ -117,35 +126,43 @@ line_read text p f method target m t = record {
 }
 
 -- a head of bad framing
-pub bad_framing_next : (max : ℕ) (old : SourceState) (held rest : List ℕ) (p : ParsedRequest) (why : Bad) (f : IsHeadAtFront request_spans held p)
-    → framing_of max p.spans.version (fields_of request_spans (take p.spans.len held) p) ≡ Err why → ReadsNext max held old rest old (Ok (nexts.Bad why))
+pub bad_framing_next : (max : ℕ) (old : SourceState) (held rest : List ℕ) (p : ParsedRequest) (why : Bad)
+    (f : IsHeadAtFront request_spans held p)
+    → framing_of max p.spans.version (fields_of request_spans (take p.spans.len held) p) ≡ Err why
+    → ReadsNext max held old rest old (Ok (nexts.Bad why))
 bad_framing_next max old held rest p why f refused = record {
   given = [];
   gives = gives_none old;
   found = inr (inr (inl (record {
     head = the_head f;
     rest = drop p.spans.len held;
-    reads = subst (λ t. ReadsHead requests t (the_head f) (drop p.spans.len held)) (take-append-drop p.spans.len held ∙ sym (append-nil held)) (head_then held (drop p.spans.len held) p f);
+    reads =
+        subst (λ t. ReadsHead requests t (the_head f) (drop p.spans.len held))
+        (take-append-drop p.spans.len held ∙ sym (append-nil held)) (head_then held (drop p.spans.len held) p f);
     refused = framing_same max held p (Err why) f refused;
   })));
 }
 
 -- what came behind the head ends inside the body
-cut_next : (max : ℕ) (old new : SourceState) (held : List ℕ) (p : ParsedRequest) (d : Described) (f : IsHeadAtFront request_spans held p)
-    → DescribesAll max (take p.spans.len held) p d
+cut_next : (max : ℕ) (old new : SourceState) (held : List ℕ) (p : ParsedRequest) (d : Described)
+    (f : IsHeadAtFront request_spans held p) → DescribesAll max (take p.spans.len held) p d
     → (b : CutsBody d.framing old (drop p.spans.len held) new) → HasCutBody max (held ++ b.gave.given)
 cut_next max old new held p d f says b = record {
   head = the_head f;
   rest = b.text;
-  reads = subst (λ t. ReadsHead requests t (the_head f) b.text) (sym (whole_text held b.gave.given b.text p.spans.len b.gave.joined)) (head_then held b.text p f);
+  reads =
+      subst (λ t. ReadsHead requests t (the_head f) b.text)
+      (sym (whole_text held b.gave.given b.text p.spans.len b.gave.joined)) (head_then held b.text p f);
   framing = d.framing;
   framed = framing_same max held p (Ok d.framing) f says.framed;
   short = b.cut;
 }
 
 -- what comes next, by what was found behind the head
-pub request_next : (max : ℕ) (old new : SourceState) (held rest : List ℕ) (p : ParsedRequest) (d : Described) (r : Result Next WireFault)
-    (f : IsHeadAtFront request_spans held p) → DescribesAll max (take p.spans.len held) p d → FindsRequest d old (drop p.spans.len held) new rest r
+pub request_next : (max : ℕ) (old new : SourceState) (held rest : List ℕ) (p : ParsedRequest) (d : Described)
+    (r : Result Next WireFault)
+    (f : IsHeadAtFront request_spans held p) → DescribesAll max (take p.spans.len held) p d
+    → FindsRequest d old (drop p.spans.len held) new rest r
     → ReadsNext max held old rest new r
 request_next max old new held rest p d (Ok (Request ask style)) f says b = record {
   given = b.taken.gave.given;
@@ -174,7 +191,9 @@ request_next max old new held rest p d (Ok (nexts.Bad why)) f says b = record {
   found = inr (inr (inr (record {
     head = the_head f;
     rest = b.text;
-    reads = subst (λ t. ReadsHead requests t (the_head f) b.text) (sym (whole_text held b.gave.given b.text p.spans.len b.gave.joined)) (head_then held b.text p f);
+    reads =
+        subst (λ t. ReadsHead requests t (the_head f) b.text)
+        (sym (whole_text held b.gave.given b.text p.spans.len b.gave.joined)) (head_then held b.text p f);
     framing = d.framing;
     framed = framing_same max held p (Ok d.framing) f says.framed;
     refused = b.bad;
@@ -190,7 +209,8 @@ request_next max old new held rest p d (Err Fault.Read) f says b = record {
   gives = b.gave.gives;
   found = inr (inr (cut_next max old new held p d f says b));
 }
-request_next max old new held rest p d (Err Fault.NoMemory) f says b = record { given = b.gave.given; gives = b.gave.gives; found = tt }
+request_next max old new held rest p d (Err Fault.NoMemory) f says b =
+    record { given = b.gave.given; gives = b.gave.gives; found = tt }
 request_next max old new held rest p d (Err Fault.Ended) f says b = absurd b
 
 -- what is found behind a head where its body stopped
@@ -201,8 +221,8 @@ body_fault d old new held rest body Body.Read b = b
 body_fault d old new held rest body Body.NoMemory b = b
 
 -- why no head came
-pub head_fault_next : (max : ℕ) (text rest : List ℕ) (new : SourceState) (e : InputFault) → FindsHead request_spans text new (Err e)
-    → FindsNext max text rest new (Err (wire_of_input e))
+pub head_fault_next : (max : ℕ) (text rest : List ℕ) (new : SourceState) (e : InputFault)
+    → FindsHead request_spans text new (Err e) → FindsNext max text rest new (Err (wire_of_input e))
 head_fault_next max text rest new Input.Truncated h = (inl h.0, h.1)
 head_fault_next max text rest new Input.Read h = elim h [
   | inl empty ↦ inl empty
@@ -215,17 +235,23 @@ unfoldable pub reads_after : (max : ℕ) (held text rest : List ℕ) (old mid ne
 reads_after max held text rest old mid new r gave next = record {
   given = gave.given ++ next.given;
   gives = gives_both old mid new gave.given next.given gave.gives next.gives;
-  found = subst (λ t. FindsNext max t rest new r) (ap (λ t. t ++ next.given) gave.joined ∙ append_assoc held gave.given next.given) next.found;
+  found =
+      subst (λ t. FindsNext max t rest new r)
+      (ap (λ t. t ++ next.given) gave.joined ∙ append_assoc held gave.given next.given) next.found;
 }
 
 pub described : (max : ℕ) (front : List ℕ) (p : ParsedRequest) (d : Described) (method target : List ℕ) (range : Extent)
     → method ≡ span_bytes front p.spans.method → target ≡ span_bytes front p.spans.path
-    → range ≡ extent_of (values_of (codes "content-range") (fields_of request_spans front p)) → Asks method target range d.ask
-    → d.style.head ≡ bytes_eq method (codes "HEAD") → d.style.keep ≡ keeps_connection p.spans.version (fields_of request_spans front p)
+    → range ≡ extent_of (values_of (codes "content-range") (fields_of request_spans front p))
+    → Asks method target range d.ask → d.style.head ≡ bytes_eq method (codes "HEAD")
+    → d.style.keep ≡ keeps_connection p.spans.version (fields_of request_spans front p)
     → Ok d.framing ≡ framing_of max p.spans.version (fields_of request_spans front p) → DescribesAll max front p d
 described max front p d method target range m t r asks is_head keeps framed = record {
-  asks = subst (λ x. Asks x (span_bytes front p.spans.path) (extent_of (values_of (codes "content-range") (fields_of request_spans front p))) d.ask) m
-      (subst (λ x. Asks method x (extent_of (values_of (codes "content-range") (fields_of request_spans front p))) d.ask) t
+  asks =
+      subst (λ x. Asks x (span_bytes front p.spans.path)
+      (extent_of (values_of (codes "content-range") (fields_of request_spans front p))) d.ask) m
+      (subst
+      (λ x. Asks method x (extent_of (values_of (codes "content-range") (fields_of request_spans front p))) d.ask) t
       (subst (λ x. Asks method target x d.ask) r asks));
   is_head = is_head ∙ ap (λ x. bytes_eq x (codes "HEAD")) m;
   keeps = keeps;

@@ -5,7 +5,8 @@ use Rattle.std.proofs.lemmas.List.{append-nil}
 use Rattle.upload_service.specs.Machine.{Turn}
 use Rattle.upload_service.specs.Run.{Run}
 use Rattle.upload_wire.specs.declared.connection.ConnEnd.{ConnEnd}
-use Rattle.upload_wire.specs.declared.connection.ConnEnd.TheVariants.{Clean, AfterClose, AfterBad, TooMany, DeskGone, Fault}
+use Rattle.upload_wire.specs.declared.connection.ConnEnd.TheVariants.{Clean, AfterClose, AfterBad, TooMany, DeskGone}
+use Rattle.upload_wire.specs.declared.connection.ConnEnd.TheVariants.{Fault}
 use Rattle.upload_wire.specs.declared.connection.ConnFault.TheVariants as Conn
 use Rattle.upload_wire.specs.declared.desk.ServiceDesk.{ServiceDesk}
 use Rattle.http_wire.specs.States.{SourceState, SinkState}
@@ -26,8 +27,8 @@ record Ran (old new : ServiceDesk) (xs : List Exchange) : Type 0 where
   same_secret : new.secret ≡ old.secret
   same_moment : new.now ≡ old.now
 
-with_secret : (from into : ServiceDesk) (xs : List Exchange) (new : ServiceDesk) → into.secret ≡ from.secret → into.now ≡ from.now
-    → Run into.service (map (service_exchange into.secret into.now) xs) new.service
+with_secret : (from into : ServiceDesk) (xs : List Exchange) (new : ServiceDesk) → into.secret ≡ from.secret
+    → into.now ≡ from.now → Run into.service (map (service_exchange into.secret into.now) xs) new.service
     → Run into.service (map (service_exchange from.secret from.now) xs) new.service
 with_secret from into xs new secret moment run =
     subst (λ m. Run into.service (map (service_exchange from.secret m) xs) new.service) moment
@@ -45,32 +46,38 @@ ran old new (x ∷ xs) h =
     record {
       run = (
         h.0.service,
-        subst (λ a. Turn old.service x.ask old.secret old.now a h.0.service) (same_said step.said x.answer step.answered) step.turn,
+        subst (λ a. Turn old.service x.ask old.secret old.now a h.0.service)
+            (same_said step.said x.answer step.answered) step.turn,
         with_secret old h.0 xs new step.same_secret step.same_moment more.run,
       );
       same_secret = more.same_secret ∙ step.same_secret;
       same_moment = more.same_moment ∙ step.same_moment;
     }
 
-run_of : (old new : ServiceDesk) (xs : List Exchange) (end : ConnEnd) → (end ≡ DeskGone → ⊥) → Answers StepsService old xs new → IsRunOfService old new xs end
+run_of : (old new : ServiceDesk) (xs : List Exchange) (end : ConnEnd) → (end ≡ DeskGone → ⊥)
+    → Answers StepsService old xs new → IsRunOfService old new xs end
 run_of old new xs end there answers =
     let all = ran old new xs answers in
     record { run = all.run; same_secret = all.same_secret; same_moment = all.same_moment; never_gone = there }
 
-module _ (max_body count : ℕ) (old at new : ServiceDesk) (rest : List ℕ) (left : SourceState) (mid after : SinkState) (xs : List Exchange)
+module _ (max_body count : ℕ) (old at new : ServiceDesk) (rest : List ℕ) (left : SourceState) (mid after : SinkState)
+    (xs : List Exchange)
     (answers : Answers StepsService old xs at) where
   -- nothing more was asked
   none_more : (end : ConnEnd) → (end ≡ DeskGone → ⊥) → new ≡ at → IsRunOfService old new (xs ++ []) end
   none_more end there same =
       run_of old new (xs ++ []) end there
-      (subst (λ ys. Answers StepsService old ys new) (sym (append-nil xs)) (subst (λ d. Answers StepsService old xs d) (sym same) answers))
+      (subst (λ ys. Answers StepsService old ys new) (sym (append-nil xs))
+      (subst (λ d. Answers StepsService old xs d) (sym same) answers))
 
-  one_more : (end : ConnEnd) (x : Exchange) → (end ≡ DeskGone → ⊥) → StepsService at x.ask (Some x.answer) new → IsRunOfService old new (xs ++ x ∷ []) end
+  one_more : (end : ConnEnd) (x : Exchange) → (end ≡ DeskGone → ⊥) → StepsService at x.ask (Some x.answer) new
+      → IsRunOfService old new (xs ++ x ∷ []) end
   one_more end x there step =
       run_of old new (xs ++ x ∷ []) end there (answers_more StepsService old at new xs x answers step)
 
   ended : (end : ConnEnd) (e : EndsWith StepsService max_body (stand count rest left at mid) new after end)
-      → IsRunOfService old new (xs ++ answered_last StepsService max_body (stand count rest left at mid) new after end e) end
+      → IsRunOfService old new
+      (xs ++ answered_last StepsService max_body (stand count rest left at mid) new after end e) end
   ended Clean e = none_more Clean (λ same. cc) e.2.unasked
   ended AfterClose e = one_more AfterClose e.0 (λ same. cc) e.1.answered
   ended AfterBad e = none_more AfterBad (λ same. cc) e.1.unasked
@@ -83,8 +90,8 @@ module _ (max_body count : ℕ) (old at new : ServiceDesk) (rest : List ℕ) (le
         | inr h ↦ none_more (Fault Conn.Write) (λ same. cc) h.1.unasked
       ]
 
-pub run_of_conversation : (max_body : ℕ) (first left : SourceState) (old new : ServiceDesk) (before after : SinkState) (end : ConnEnd)
-    → (c : IsConversation StepsService max_body first left old new before after end)
+pub run_of_conversation : (max_body : ℕ) (first left : SourceState) (old new : ServiceDesk) (before after : SinkState)
+    (end : ConnEnd) → (c : IsConversation StepsService max_body first left old new before after end)
     → IsRunOfService old new (answered StepsService max_body first left old new before after end c) end
 run_of_conversation max_body first left old new before after end c =
     ended max_body (length c.exchanges) old c.at new c.rest left c.mid after c.exchanges c.served.answered end c.ended

@@ -1,5 +1,6 @@
 -- Texts cut at their last slash.
-use Rattle.std.proofs.Common.{◌≡◌, ◌≢◌, ℕ, ◌+◌, ◌-◌, ◌<◌, ◌≤◌, List, [], ◌∷◌, ◌++◌, length, get_or, take, drop, refl, sym, ap, ◌∙◌, arith, append_assoc, length-append, drop-cons, add-one}
+use Rattle.std.proofs.Common.{◌≡◌, ◌≢◌, ℕ, ◌+◌, ◌-◌, ◌<◌, ◌≤◌, List, [], ◌∷◌, ◌++◌, length, get_or, take, drop, refl}
+use Rattle.std.proofs.Common.{sym, ap, ◌∙◌, arith, append_assoc, length-append, drop-cons, add-one}
 use Rattle.std.proofs.lemmas.List.{take-append-drop}
 use Rattle.std.proofs.Math.Seq.{take-append_seam, drop-append_seam}
 use Rattle.std.specs.Borrow.{Bor}
@@ -17,7 +18,8 @@ drop-next t k lt = drop-cons t k 0 lt ∙ ap (λ n. get_or t k 0 ∷ drop n t) (
 pub cut_at : (text : List ℕ) (i : ℕ) → i < length text → get_or text i 0 ≡ 47
     → text ≡ take i text ++ 47 ∷ drop (i + 1) text
 cut_at text i lt same =
-    sym (take-append-drop i text) ∙ ap (λ t. take i text ++ t) (drop-next text i lt ∙ ap (λ b. b ∷ drop (i + 1) text) same)
+    sym (take-append-drop i text)
+    ∙ ap (λ t. take i text ++ t) (drop-next text i lt ∙ ap (λ b. b ∷ drop (i + 1) text) same)
 
 -- a slash stands between two texts
 slash_between : (c d : List ℕ) → get_or (c ++ 47 ∷ d) (length c) 0 ≡ 47
@@ -42,18 +44,22 @@ cut_unique (x ∷ a) b (y ∷ c) d none other e =
     let rest = cut_unique a b c d none other tail in
     let same = rest.0 in (cc, rest.1)
 
-pub after_taken : (text prefix : List ℕ) → take (length prefix) text ≡ prefix → text ≡ prefix ++ drop (length prefix) text
-after_taken text prefix same = sym (take-append-drop (length prefix) text) ∙ ap (λ t. t ++ drop (length prefix) text) same
+pub after_taken : (text prefix : List ℕ) → take (length prefix) text ≡ prefix
+    → text ≡ prefix ++ drop (length prefix) text
+after_taken text prefix same =
+    sym (take-append-drop (length prefix) text) ∙ ap (λ t. t ++ drop (length prefix) text) same
 
 pub not_after_prefix : (text prefix rest : List ℕ) → (take (length prefix) text ≡ prefix → ⊥) → text ≢ prefix ++ rest
 not_after_prefix text prefix rest other e = other (ap (take (length prefix)) e ∙ take-append_seam prefix rest)
 
-pub before_taken : (text suffix : List ℕ) → length suffix ≤ length text → drop (length text - length suffix) text ≡ suffix
-    → text ≡ take (length text - length suffix) text ++ suffix
+pub before_taken : (text suffix : List ℕ) → length suffix ≤ length text
+    → drop (length text - length suffix) text ≡ suffix → text ≡ take (length text - length suffix) text ++ suffix
 before_taken text suffix le same =
-    sym (take-append-drop (length text - length suffix) text) ∙ ap (λ t. take (length text - length suffix) text ++ t) same
+    sym (take-append-drop (length text - length suffix) text)
+    ∙ ap (λ t. take (length text - length suffix) text ++ t) same
 
-pub not_before_suffix : (text suffix front : List ℕ) → (drop (length text - length suffix) text ≡ suffix → ⊥) → text ≢ front ++ suffix
+pub not_before_suffix : (text suffix front : List ℕ) → (drop (length text - length suffix) text ≡ suffix → ⊥)
+    → text ≢ front ++ suffix
 not_before_suffix text suffix front other e =
     let l = ap length e in
     let n : length text - length suffix ≡ length front = omega (arith, l, length-append front suffix) in
@@ -61,17 +67,21 @@ not_before_suffix text suffix front other e =
 
 pub after_found : (text prefix : List ℕ) (r : Option (Bor (List ℕ)))
     → MatchOption r (bytes_eq (take (length prefix) text) prefix ≡ false)
-    (λ x. (bytes_eq (take (length prefix) text) prefix ≡ true) × (x.now ≡ drop (length prefix) text) × (length x.now + length prefix ≡ length text))
+    (λ x. (bytes_eq (take (length prefix) text) prefix ≡ true) × (x.now ≡ drop (length prefix) text)
+    × (length x.now + length prefix ≡ length text))
     → MatchOption r ((rest : List ℕ) → text ≢ prefix ++ rest) (λ x. text ≡ prefix ++ x.now)
-after_found text prefix None h = λ rest. not_after_prefix text prefix rest (λ e. not_both h ((bytes_eq-Decides _ _).1 e))
+after_found text prefix None h =
+    λ rest. not_after_prefix text prefix rest (λ e. not_both h ((bytes_eq-Decides _ _).1 e))
 after_found text prefix (Some x) h =
     after_taken text prefix ((bytes_eq-Decides _ _).0 h.0) ∙ ap (λ t. prefix ++ t) (sym h.1)
 
 pub before_found : (text suffix : List ℕ) (r : Option (Bor (List ℕ)))
     → MatchOption r (bytes_eq (drop (length text - length suffix) text) suffix ≡ false)
-    (λ x. (bytes_eq (drop (length text - length suffix) text) suffix ≡ true) × (x.now ≡ take (length text - length suffix) text) × (length x.now + length suffix ≡ length text))
+    (λ x. (bytes_eq (drop (length text - length suffix) text) suffix ≡ true)
+    × (x.now ≡ take (length text - length suffix) text) × (length x.now + length suffix ≡ length text))
     → MatchOption r ((front : List ℕ) → text ≢ front ++ suffix) (λ x. text ≡ x.now ++ suffix)
-before_found text suffix None h = λ front. not_before_suffix text suffix front (λ e. not_both h ((bytes_eq-Decides _ _).1 e))
+before_found text suffix None h =
+    λ front. not_before_suffix text suffix front (λ e. not_both h ((bytes_eq-Decides _ _).1 e))
 before_found text suffix (Some x) h =
     let l = h.2 in
     before_taken text suffix (omega (arith, l)) ((bytes_eq-Decides _ _).0 h.0) ∙ ap (λ t. t ++ suffix) (sym h.1)
@@ -79,30 +89,39 @@ before_found text suffix (Some x) h =
 -- ---- no form
 
 -- a text that begins with "/v2/" and has neither end has no form
-pub no_form_with : (path rest front tail : List ℕ) → path ≡ 47 ∷ 118 ∷ 50 ∷ 47 ∷ rest → rest ≡ front ++ 47 ∷ tail → HasNoSlash tail
+pub no_form_with : (path rest front tail : List ℕ) → path ≡ 47 ∷ 118 ∷ 50 ∷ 47 ∷ rest → rest ≡ front ++ 47 ∷ tail
+    → HasNoSlash tail
     → ((x : List ℕ) → front ≢ x ++ (47 ∷ 98 ∷ 108 ∷ 111 ∷ 98 ∷ 115 ∷ 47 ∷ 117 ∷ 112 ∷ 108 ∷ 111 ∷ 97 ∷ 100 ∷ 115 ∷ []))
-    → ((x : List ℕ) → front ≢ x ++ (47 ∷ 98 ∷ 108 ∷ 111 ∷ 98 ∷ 115 ∷ []))
-    → IsFormOf path NoForm
+    → ((x : List ℕ) → front ≢ x ++ (47 ∷ 98 ∷ 108 ∷ 111 ∷ 98 ∷ 115 ∷ [])) → IsFormOf path NoForm
 no_form_with path rest front tail p r none not_uploads not_blobs = (
-  λ e. let same : rest ≡ [] = cc in let l = ap length (sym same ∙ r) in omega (arith, l, length-append front (47 ∷ tail)),
+  λ e. let same : rest ≡ [] = cc in
+      let l = ap length (sym same ∙ r) in omega (arith, l, length-append front (47 ∷ tail)),
   λ name other clear e.
       let same : rest ≡ name ++ (47 ∷ 98 ∷ 108 ∷ 111 ∷ 98 ∷ 115 ∷ 47 ∷ other) = cc in
       not_blobs name (cut_unique front tail (name ++ (47 ∷ 98 ∷ 108 ∷ 111 ∷ 98 ∷ 115 ∷ [])) other none clear
       (sym r ∙ same ∙ sym (append_assoc name (47 ∷ 98 ∷ 108 ∷ 111 ∷ 98 ∷ 115 ∷ []) (47 ∷ other)))).0,
   λ name other clear e.
-      let same : rest ≡ name ++ (47 ∷ 98 ∷ 108 ∷ 111 ∷ 98 ∷ 115 ∷ 47 ∷ 117 ∷ 112 ∷ 108 ∷ 111 ∷ 97 ∷ 100 ∷ 115 ∷ 47 ∷ other) = cc in
-      not_uploads name (cut_unique front tail (name ++ (47 ∷ 98 ∷ 108 ∷ 111 ∷ 98 ∷ 115 ∷ 47 ∷ 117 ∷ 112 ∷ 108 ∷ 111 ∷ 97 ∷ 100 ∷ 115 ∷ [])) other none clear
-      (sym r ∙ same ∙ sym (append_assoc name (47 ∷ 98 ∷ 108 ∷ 111 ∷ 98 ∷ 115 ∷ 47 ∷ 117 ∷ 112 ∷ 108 ∷ 111 ∷ 97 ∷ 100 ∷ 115 ∷ []) (47 ∷ other)))).0,
+      let same : rest
+      ≡ name ++ (47 ∷ 98 ∷ 108 ∷ 111 ∷ 98 ∷ 115 ∷ 47 ∷ 117 ∷ 112 ∷ 108 ∷ 111 ∷ 97 ∷ 100 ∷ 115 ∷ 47 ∷ other) =
+      cc in
+      not_uploads name (cut_unique front tail
+      (name ++ (47 ∷ 98 ∷ 108 ∷ 111 ∷ 98 ∷ 115 ∷ 47 ∷ 117 ∷ 112 ∷ 108 ∷ 111 ∷ 97 ∷ 100 ∷ 115 ∷ [])) other none clear
+      (sym r ∙ same ∙ sym (append_assoc name
+      (47 ∷ 98 ∷ 108 ∷ 111 ∷ 98 ∷ 115 ∷ 47 ∷ 117 ∷ 112 ∷ 108 ∷ 111 ∷ 97 ∷ 100 ∷ 115 ∷ []) (47 ∷ other)))).0,
 )
 
 -- and so has one that has no slash behind "/v2/"
-pub no_form_without : (path rest : List ℕ) → path ≡ 47 ∷ 118 ∷ 50 ∷ 47 ∷ rest → 0 < length rest → HasNoSlash rest → IsFormOf path NoForm
+pub no_form_without : (path rest : List ℕ) → path ≡ 47 ∷ 118 ∷ 50 ∷ 47 ∷ rest → 0 < length rest → HasNoSlash rest
+    → IsFormOf path NoForm
 no_form_without path rest p some none = (
   λ e. let same : rest ≡ [] = cc in let l = ap length same in omega (arith, l, some),
   λ name other clear e.
       let same : rest ≡ name ++ (47 ∷ 98 ∷ 108 ∷ 111 ∷ 98 ∷ 115 ∷ 47 ∷ other) = cc in
       not_after rest name (98 ∷ 108 ∷ 111 ∷ 98 ∷ 115 ∷ 47 ∷ other) none same,
   λ name other clear e.
-      let same : rest ≡ name ++ (47 ∷ 98 ∷ 108 ∷ 111 ∷ 98 ∷ 115 ∷ 47 ∷ 117 ∷ 112 ∷ 108 ∷ 111 ∷ 97 ∷ 100 ∷ 115 ∷ 47 ∷ other) = cc in
-      not_after rest name (98 ∷ 108 ∷ 111 ∷ 98 ∷ 115 ∷ 47 ∷ 117 ∷ 112 ∷ 108 ∷ 111 ∷ 97 ∷ 100 ∷ 115 ∷ 47 ∷ other) none same,
+      let same : rest
+      ≡ name ++ (47 ∷ 98 ∷ 108 ∷ 111 ∷ 98 ∷ 115 ∷ 47 ∷ 117 ∷ 112 ∷ 108 ∷ 111 ∷ 97 ∷ 100 ∷ 115 ∷ 47 ∷ other) =
+      cc in
+      not_after rest name
+      (98 ∷ 108 ∷ 111 ∷ 98 ∷ 115 ∷ 47 ∷ 117 ∷ 112 ∷ 108 ∷ 111 ∷ 97 ∷ 100 ∷ 115 ∷ 47 ∷ other) none same,
 )

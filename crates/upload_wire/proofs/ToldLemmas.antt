@@ -1,5 +1,6 @@
 -- What the observer of a connection is told, step by step.
-use Rattle.std.proofs.Common.{◌≡◌, ℕ, ◌+◌, List, [], ◌∷◌, ◌++◌, length, refl, sym, ap, ◌∙◌, subst, append_assoc, inl, inr}
+use Rattle.std.proofs.Common.{◌≡◌, ℕ, ◌+◌, List, [], ◌∷◌, ◌++◌, length, refl, sym, ap, ◌∙◌, subst, append_assoc, inl}
+use Rattle.std.proofs.Common.{inr}
 use Rattle.std.specs.Prelude.{◌⊎◌, Option, Some, None, IfSome, Result, Ok, Err}
 use Rattle.std.proofs.lemmas.List.{append-nil}
 use Rattle.httparse.specs.Grammar.{RequestHead, print_request}
@@ -24,22 +25,25 @@ use Rattle.upload_wire.specs.declared.request.Next.{Next}
 use Rattle.upload_wire.specs.declared.request.Next.TheVariants.{Request, Over}
 use Rattle.upload_wire.specs.declared.request.Next.TheVariants as nexts
 use Rattle.upload_wire.specs.declared.connection.ConnEnd.{ConnEnd}
-use Rattle.upload_wire.specs.declared.connection.ConnEnd.TheVariants.{Clean, AfterClose, AfterBad, TooMany, DeskGone, Fault}
+use Rattle.upload_wire.specs.declared.connection.ConnEnd.TheVariants.{Clean, AfterClose, AfterBad, TooMany, DeskGone}
+use Rattle.upload_wire.specs.declared.connection.ConnEnd.TheVariants.{Fault}
 use Rattle.upload_wire.specs.declared.connection.ConnFault.TheVariants as Conn
 use Rattle.upload_wire.specs.RequestText.{IsRequest, IsBad, ReadsNext, FindsNext}
 use Rattle.upload_wire.specs.Conversation.{Moves, Exchange, Standing, stand, ReadsFail, WireStops}
 use Rattle.upload_wire.specs.Phases.{most_reads}
 use Rattle.upload_wire.specs.Events.{Event, Head, Unreadable, Replied, Telling, Hears}
-use Rattle.upload_wire.specs.Told.{HasLine, TellsExchange, TellsEach, TellsRefusal, TellsCut, TellsEnd, event_of, rules, Rules, sides, Ending, HasEnded, IsTold}
+use Rattle.upload_wire.specs.Told.{HasLine, TellsExchange, TellsEach, TellsRefusal, TellsCut, TellsEnd, event_of, rules}
+use Rattle.upload_wire.specs.Told.{Rules, sides, Ending, HasEnded, IsTold}
 use Rattle.upload_wire.specs.Inner.ConversationSteps.{Replies, RefusedWith}
-use Rattle.upload_wire.specs.Inner.ToldSteps.{listening, TellsNext, ReadsTold, Observed, observed, GoesOnTold, StopsTold}
+use Rattle.upload_wire.specs.Inner.ToldSteps.{listening, TellsNext, ReadsTold, Observed, observed, GoesOnTold}
+use Rattle.upload_wire.specs.Inner.ToldSteps.{StopsTold}
 use Rattle.upload_wire.proofs.RequestLemmas.{head_fault_next, reads_after}
 use Rattle.upload_wire.proofs.ConversationLemmas.{one_more, one_last, after_refusal, SoFar, starts, goes_on, ends}
 
 -- ---- events
 
-pub hears_more : {O : Type 0} (telling : Telling O) (a b c : O) (es fs : List Event) → Hears telling a es b → Hears telling b fs c
-    → Hears telling a (es ++ fs) c
+pub hears_more : {O : Type 0} (telling : Telling O) (a b c : O) (es fs : List Event) → Hears telling a es b
+    → Hears telling b fs c → Hears telling a (es ++ fs) c
 hears_more telling a b c [] fs h k = subst (λ x. Hears telling x fs c) h k
 hears_more telling a b c (e ∷ es) fs h k = (h.0, h.1, hears_more telling h.0 b c es fs h.2 k)
 
@@ -64,18 +68,23 @@ head_in other long = other
 head_in other unfinished = other
 
 -- a text begins with the head of the request that it begins with
-pub line_within : (max : ℕ) (text message rest : List ℕ) (ask : Ask) (style : Style) (method target : List ℕ) → text ≡ message ++ rest
-    → IsRequest max message ask style → HasLine text method target → HasLine message method target
+pub line_within : (max : ℕ) (text message rest : List ℕ) (ask : Ask) (style : Style) (method target : List ℕ)
+    → text ≡ message ++ rest → IsRequest max message ask style → HasLine text method target
+    → HasLine message method target
 unfolding head_in
 line_within max text message rest ask style method target cut request line =
     let r = request.reads in
     let whole : ReadsHead requests text request.head (request.rest ++ rest) = record {
-      reads = (r.reads.0, cut ∙ ap (λ t. t ++ rest) r.reads.1 ∙ append_assoc (print_request request.head) request.rest rest);
+      reads = (
+        r.reads.0,
+        cut ∙ ap (λ t. t ++ rest) r.reads.1 ∙ append_assoc (print_request request.head) request.rest rest,
+      );
       short = r.short;
       few = r.few;
     } in
     let same : line.head ≡ request.head = ap (head_in line.head)
-    (requests_unambiguous.one text (head line.head line.rest) (head request.head (request.rest ++ rest)) line.reads whole) in
+    (requests_unambiguous.one text (head line.head line.rest) (head request.head (request.rest ++ rest))
+    line.reads whole) in
     record {
       head = request.head;
       rest = request.rest;
@@ -88,16 +97,19 @@ line_within max text message rest ask style method target cut request line =
 
 tells_behind : (text method target : List ℕ) (r : Result Next WireFault) → HasLine text method target → ¬ (r ≡ Ok Over)
     → TellsNext text r (Head method target ∷ [])
-tells_behind text method target (Ok (Request ask style)) line came = record { method = method; target = target; line = line; events_are = refl }
+tells_behind text method target (Ok (Request ask style)) line came =
+    record { method = method; target = target; line = line; events_are = refl }
 tells_behind text method target (Ok Over) line came = absurd (came refl)
 tells_behind text method target (Ok (nexts.Bad why)) line came = (Head method target, line, refl)
-tells_behind text method target (Err fault) line came = inr (record { method = method; target = target; line = line; events_are = refl })
+tells_behind text method target (Err fault) line came =
+    inr (record { method = method; target = target; line = line; events_are = refl })
 
-module _ {O : Type 0} (telling : Telling O) (max : ℕ) (held text : List ℕ) (first mid : SourceState) (gave : Gave first mid held text) (old : O) where
+module _ {O : Type 0} (telling : Telling O) (max : ℕ) (held text : List ℕ) (first mid : SourceState)
+    (gave : Gave first mid held text) (old : O) where
   -- a head was told, and then its body was read
   pub told_behind : (rest : List ℕ) (left : SourceState) (new : O) (method target : List ℕ) (r : Result Next WireFault)
-      → HasLine text method target → telling old (Head method target) new → ReadsNext max text mid rest left r → ¬ (r ≡ Ok Over)
-      → ReadsTold telling max (listening held first old) (listening rest left new) r
+      → HasLine text method target → telling old (Head method target) new → ReadsNext max text mid rest left r
+      → ¬ (r ≡ Ok Over) → ReadsTold telling max (listening held first old) (listening rest left new) r
   unfolding reads_after
   told_behind rest left new method target r line tells n came =
       let joined = ap (λ t. t ++ n.given) gave.joined ∙ append_assoc held gave.given n.given in
@@ -110,7 +122,8 @@ module _ {O : Type 0} (telling : Telling O) (max : ℕ) (held text : List ℕ) (
       }
 
   -- there is no head that can be read
-  pub told_unreadable : (new : O) (why : Bad) → IsBad max text why → (IsRefused requests text) ⊎ (IsTooLong requests text) → telling old Unreadable new
+  pub told_unreadable : (new : O) (why : Bad) → IsBad max text why
+      → (IsRefused requests text) ⊎ (IsTooLong requests text) → telling old Unreadable new
       → ReadsTold telling max (listening held first old) (listening text mid new) (Ok (nexts.Bad why))
   told_unreadable new why is_bad none tells = record {
     next = record {
@@ -146,10 +159,13 @@ module _ {O : Type 0} (telling : Telling O) (max : ℕ) (held text : List ℕ) (
 
 -- ---- one
 
-module _ {D O : Type 0} (step : Moves D) (telling : Telling O) (max count : ℕ) (held rest : List ℕ) (first left : SourceState) (ask : Ask) (style : Style)
-    (at new : D) (mid : SinkState) (was heard : O) (n : ReadsTold telling max (listening held first was) (listening rest left heard) (Ok (Request ask style)))
+module _ {D O : Type 0} (step : Moves D) (telling : Telling O) (max count : ℕ) (held rest : List ℕ)
+    (first left : SourceState) (ask : Ask) (style : Style)
+    (at new : D) (mid : SinkState) (was heard : O)
+    (n : ReadsTold telling max (listening held first was) (listening rest left heard) (Ok (Request ask style)))
     (same : left.failed_reads ≡ first.failed_reads) where
-  module _ (answer : Answer) (after : SinkState) (is : O) (replied : telling heard (event_of answer style) is) (answered : step at ask (Some answer) new) where
+  module _ (answer : Answer) (after : SinkState) (is : O) (replied : telling heard (event_of answer style) is)
+      (answered : step at ask (Some answer) new) where
     both : List Event
     both = n.events ++ event_of answer style ∷ []
 
@@ -165,15 +181,20 @@ module _ {D O : Type 0} (step : Moves D) (telling : Telling O) (max count : ℕ)
     tells_both = record {
       method = n.tells.method;
       target = n.tells.target;
-      line = line_within max (held ++ n.next.given) n.next.found.message rest ask style n.tells.method n.tells.target n.next.found.cut n.next.found.request n.tells.line;
+      line =
+          line_within max (held ++ n.next.given) n.next.found.message rest ask style n.tells.method n.tells.target
+          n.next.found.cut n.next.found.request n.tells.line;
       events_are = ap (λ es. es ++ event_of answer style ∷ []) n.tells.events_are;
     }
 
-    pub one_more_told : (kept : List ℕ) (next : ℕ) → kept ≡ rest → next ≡ count + 1 → (r : Option ConnEnd) → Replies count answer style mid after r → r ≡ None
-        → GoesOnTold (rules step telling max) (observed (stand count held first at mid) was) (observed (stand next kept left new after) is)
+    pub one_more_told : (kept : List ℕ) (next : ℕ) → kept ≡ rest → next ≡ count + 1 → (r : Option ConnEnd)
+        → Replies count answer style mid after r → r ≡ None → GoesOnTold (rules step telling
+        max) (observed (stand count held first at mid) was) (observed (stand next kept left new after) is)
     unfolding one_more
     one_more_told kept next stays one None a e = record {
-      goes_on = one_more step max count held rest first left ask style at new mid answer after kept next stays one None n.next same answered a e;
+      goes_on =
+          one_more step max count held rest first left ask style at new mid answer after kept next stays one None n.next
+          same answered a e;
       events = both;
       tells = tells_both;
       told = heard_both;
@@ -181,19 +202,24 @@ module _ {D O : Type 0} (step : Moves D) (telling : Telling O) (max count : ℕ)
     one_more_told kept next stays one (Some x) a e = absurd (cc)
 
     pub one_last_told : (kept : List ℕ) (next : ℕ) (r : Option ConnEnd) → Replies count answer style mid after r
-        → IfSome r (StopsTold (rules step telling max) (observed (stand count held first at mid) was) (observed (stand next kept left new after) is))
+        → IfSome r (StopsTold (rules step telling max) (observed (stand count held first at mid) was)
+        (observed (stand next kept left new after) is))
     unfolding one_last
     one_last_told kept next None a = tt
     one_last_told kept next (Some Clean) a = absurd a
     one_last_told kept next (Some AfterClose) a = record {
-      stops = one_last step max count held rest first left ask style at new mid answer after kept next (Some AfterClose) n.next same answered a;
+      stops =
+          one_last step max count held rest first left ask style at new mid answer after kept next
+          (Some AfterClose) n.next same answered a;
       events = both;
       tells = tells_both;
       told = heard_both;
     }
     one_last_told kept next (Some AfterBad) a = absurd a
     one_last_told kept next (Some TooMany) a = record {
-      stops = one_last step max count held rest first left ask style at new mid answer after kept next (Some TooMany) n.next same answered a;
+      stops =
+          one_last step max count held rest first left ask style at new mid answer after kept next
+          (Some TooMany) n.next same answered a;
       events = both;
       tells = tells_both;
       told = heard_both;
@@ -201,7 +227,9 @@ module _ {D O : Type 0} (step : Moves D) (telling : Telling O) (max count : ℕ)
     one_last_told kept next (Some DeskGone) a = absurd a
     one_last_told kept next (Some (Fault (Conn.Wire f))) a = absurd a
     one_last_told kept next (Some (Fault Conn.Write)) a = record {
-      stops = one_last step max count held rest first left ask style at new mid answer after kept next (Some (Fault Conn.Write)) n.next same answered a;
+      stops =
+          one_last step max count held rest first left ask style at new mid answer after kept next
+          (Some (Fault Conn.Write)) n.next same answered a;
       events = both;
       tells = tells_both;
       told = heard_both;
@@ -209,30 +237,47 @@ module _ {D O : Type 0} (step : Moves D) (telling : Telling O) (max count : ℕ)
 
   -- the desk was gone
   pub gone_told : (kept : List ℕ) (next : ℕ) → step at ask None new
-      → StopsTold (rules step telling max) (observed (stand count held first at mid) was) (observed (stand next kept left new mid) heard) DeskGone
+      → StopsTold (rules step telling max) (observed (stand count held first at mid) was)
+      (observed (stand next kept left new mid) heard) DeskGone
   gone_told kept next gone = record {
     stops = record {
       given = n.next.given;
       gives = n.next.gives;
       reads = same;
-      ended = (record { message = n.next.found.message; more = rest; ask = ask; style = style; read = n.next.found.cut; request = n.next.found.request; gone = gone }, refl);
+      ended = (
+        record {
+          message = n.next.found.message;
+          more = rest;
+          ask = ask;
+          style = style;
+          read = n.next.found.cut;
+          request = n.next.found.request;
+          gone = gone;
+        },
+        refl,
+      );
     };
     events = n.events;
     tells = n.tells;
     told = n.told;
   }
 
-module _ {D O : Type 0} (step : Moves D) (telling : Telling O) (max count : ℕ) (held rest : List ℕ) (first left : SourceState) (at : D) (mid : SinkState)
+module _ {D O : Type 0} (step : Moves D) (telling : Telling O) (max count : ℕ) (held rest : List ℕ)
+    (first left : SourceState) (at : D) (mid : SinkState)
     (was heard : O) where
   -- what came was refused
-  module _ (why : Bad) (n : ReadsTold telling max (listening held first was) (listening rest left heard) (Ok (nexts.Bad why)))
-      (same : left.failed_reads ≡ first.failed_reads) (after : SinkState) (is : O) (replied : telling heard (Replied (status_number (bad_status why)) 0) is) where
+  module _ (why : Bad)
+      (n : ReadsTold telling max (listening held first was) (listening rest left heard) (Ok (nexts.Bad why)))
+      (same : left.failed_reads ≡ first.failed_reads) (after : SinkState) (is : O)
+      (replied : telling heard (Replied (status_number (bad_status why)) 0) is) where
     refused : List Event
     refused = n.events ++ Replied (status_number (bad_status why)) 0 ∷ []
 
     heard_refused : Hears telling was refused is
     unfolding refused
-    heard_refused = hears_more telling was heard is n.events (Replied (status_number (bad_status why)) 0 ∷ []) n.told (is, replied, refl)
+    heard_refused =
+        hears_more telling was heard is n.events (Replied (status_number (bad_status why)) 0 ∷ []) n.told
+        (is, replied, refl)
 
     tells_refused : TellsRefusal (held ++ n.next.given) why refused
     unfolding refused
@@ -243,16 +288,21 @@ module _ {D O : Type 0} (step : Moves D) (telling : Telling O) (max count : ℕ)
     }
 
     pub refusal_told : (kept : List ℕ) (next : ℕ) (end : ConnEnd) → RefusedWith mid after why end
-        → StopsTold (rules step telling max) (observed (stand count held first at mid) was) (observed (stand next kept left at after) is) end
+        → StopsTold (rules step telling max) (observed (stand count held first at mid) was)
+        (observed (stand next kept left at after) is) end
     unfolding after_refusal
     refusal_told kept next AfterBad a = record {
-      stops = after_refusal step max (stand count held first at mid) (stand next kept left at after) rest why AfterBad n.next same refl a;
+      stops =
+          after_refusal step max (stand count held first at mid) (stand next kept left at after) rest why AfterBad
+          n.next same refl a;
       events = refused;
       tells = tells_refused;
       told = heard_refused;
     }
     refusal_told kept next (Fault Conn.Write) a = record {
-      stops = after_refusal step max (stand count held first at mid) (stand next kept left at after) rest why (Fault Conn.Write) n.next same refl a;
+      stops =
+          after_refusal step max (stand count held first at mid) (stand next kept left at after) rest why
+          (Fault Conn.Write) n.next same refl a;
       events = refused;
       tells = tells_refused;
       told = heard_refused;
@@ -263,23 +313,27 @@ module _ {D O : Type 0} (step : Moves D) (telling : Telling O) (max count : ℕ)
     refusal_told kept next TooMany a = absurd a
     refusal_told kept next DeskGone a = absurd a
 
-  reads_fail : (fault : WireFault) → Costs (most_reads max) (◌≡◌ {A = Result Next WireFault} (Err fault) (Err Wire.Read)) first left
+  reads_fail : (fault : WireFault)
+      → Costs (most_reads max) (◌≡◌ {A = Result Next WireFault} (Err fault) (Err Wire.Read)) first left
       → ReadsFail (Fault (Conn.Wire fault)) first.failed_reads left.failed_reads
   reads_fail Wire.Truncated costs = costs.unfailed (λ e. cc)
   reads_fail Wire.Read costs = costs.failed refl
   reads_fail Wire.NoMemory costs = costs.unfailed (λ e. cc)
   reads_fail Wire.Ended costs = costs.unfailed (λ e. cc)
 
-  wire_stops : (fault : WireFault) (text : List ℕ) → FindsNext max text rest left (Err fault) → WireStops max text left fault
+  wire_stops : (fault : WireFault) (text : List ℕ) → FindsNext max text rest left (Err fault)
+      → WireStops max text left fault
   wire_stops Wire.Truncated text found = found
   wire_stops Wire.Read text found = found
   wire_stops Wire.NoMemory text found = found
   wire_stops Wire.Ended text found = found
 
   -- no more could be read
-  pub stopped_told : (fault : WireFault) → ReadsTold telling max (listening held first was) (listening rest left heard) (Err fault)
-      → Costs (most_reads max) (◌≡◌ {A = Result Next WireFault} (Err fault) (Err Wire.Read)) first left → (kept : List ℕ) (next : ℕ)
-      → StopsTold (rules step telling max) (observed (stand count held first at mid) was) (observed (stand next kept left at mid) heard) (Fault (Conn.Wire fault))
+  pub stopped_told : (fault : WireFault)
+      → ReadsTold telling max (listening held first was) (listening rest left heard) (Err fault)
+      → Costs (most_reads max) (◌≡◌ {A = Result Next WireFault} (Err fault) (Err Wire.Read)) first left
+      → (kept : List ℕ) (next : ℕ) → StopsTold (rules step telling max) (observed (stand count held first at mid) was)
+      (observed (stand next kept left at mid) heard) (Fault (Conn.Wire fault))
   stopped_told fault n costs kept next = record {
     stops = record {
       given = n.next.given;
@@ -294,7 +348,8 @@ module _ {D O : Type 0} (step : Moves D) (telling : Telling O) (max count : ℕ)
 
 -- ---- many
 
-each_more : (xs : List Exchange) (x : Exchange) (es fs : List Event) → TellsEach xs es → TellsExchange x fs → TellsEach (xs ++ x ∷ []) (es ++ fs)
+each_more : (xs : List Exchange) (x : Exchange) (es fs : List Event) → TellsEach xs es → TellsExchange x fs
+    → TellsEach (xs ++ x ∷ []) (es ++ fs)
 each_more [] x es fs h k = (fs, [], k, refl, ap (λ l. l ++ fs) h ∙ sym (append-nil fs))
 each_more (y ∷ xs) x es fs h k =
     (h.0, h.1 ++ fs, h.2, each_more xs x h.1 fs h.3 k, ap (λ l. l ++ fs) h.4 ∙ append_assoc h.0 h.1 fs)
@@ -306,9 +361,11 @@ pub record SoFarTold {D O : Type 0} (r : Rules D O) (begun now : Observed D O) :
   pub each : TellsEach so_far.exchanges events
   pub told : Hears r.told begun.observer events now.observer
 
-pub starts_told : {D O : Type 0} (step : Moves D) (telling : Telling O) (max before : ℕ) (left : List ℕ) (source : SourceState) (desk : D) (sink : SinkState) (observer : O)
+pub starts_told : {D O : Type 0} (step : Moves D) (telling : Telling O) (max before : ℕ) (left : List ℕ)
+    (source : SourceState) (desk : D) (sink : SinkState) (observer : O)
     (held : List ℕ) (answered : ℕ) → held ≡ [] → answered ≡ 0
-    → SoFarTold (rules step telling max) (observed (stand before left source desk sink) observer) (observed (stand answered held source desk sink) observer)
+    → SoFarTold (rules step telling max) (observed (stand before left source desk sink) observer)
+    (observed (stand answered held source desk sink) observer)
 unfolding starts
 starts_told step telling max before left source desk sink observer held answered empty none = record {
   so_far = starts step max before left source desk sink held answered empty none;
@@ -317,8 +374,9 @@ starts_told step telling max before left source desk sink observer held answered
   told = refl;
 }
 
-pub goes_on_told : {D O : Type 0} (step : Moves D) (telling : Telling O) (max limit : ℕ) (begun now next : Observed D O) → limit ≡ max
-    → SoFarTold (rules step telling max) begun now → GoesOnTold (rules step telling limit) now next → SoFarTold (rules step telling max) begun next
+pub goes_on_told : {D O : Type 0} (step : Moves D) (telling : Telling O) (max limit : ℕ) (begun now next : Observed D O)
+    → limit ≡ max → SoFarTold (rules step telling max) begun now → GoesOnTold (rules step telling limit) now next
+    → SoFarTold (rules step telling max) begun next
 unfolding goes_on
 goes_on_told step telling max limit begun now next same s more =
     let n = subst (λ k. GoesOnTold (rules step telling k) now next) same more in
@@ -338,16 +396,19 @@ ending_at step max now last given count = record {
   sink = last.sink;
 }
 
-pub ends_told : {D O : Type 0} (step : Moves D) (telling : Telling O) (max limit : ℕ) (begun now last : Observed D O) (end : ConnEnd) → limit ≡ max
-    → SoFarTold (rules step telling max) begun now → StopsTold (rules step telling limit) now last end
-    → IsTold (rules step telling max) (sides begun.standing.source begun.standing.desk begun.observer begun.standing.sink)
+pub ends_told : {D O : Type 0} (step : Moves D) (telling : Telling O) (max limit : ℕ) (begun now last : Observed D O)
+    (end : ConnEnd) → limit ≡ max → SoFarTold (rules step telling max) begun now
+    → StopsTold (rules step telling limit) now last end → IsTold (rules step telling max)
+    (sides begun.standing.source begun.standing.desk begun.observer begun.standing.sink)
     (sides last.standing.source last.standing.desk last.observer last.standing.sink) end
 unfolding ends
 ends_told {D} {O} step telling max limit begun now last end same s stopped =
     let n = subst (λ k. StopsTold (rules step telling k) now last end) same stopped in
     let k : ℕ → Ending D = λ count. ending_at step max now.standing last.standing n.stops.given count in
-    let e : (e : HasEnded (k (length s.so_far.exchanges)) end) × TellsEnd (k (length s.so_far.exchanges)) end e n.events =
-    subst (λ count. (e : HasEnded (k count) end) × TellsEnd (k count) end e n.events) (sym s.so_far.counted) (n.stops.ended, n.tells) in
+    let e : (e : HasEnded (k (length s.so_far.exchanges)) end)
+    × TellsEnd (k (length s.so_far.exchanges)) end e n.events =
+    subst (λ count. (e : HasEnded (k count) end) × TellsEnd (k count) end e n.events) (sym s.so_far.counted)
+    (n.stops.ended, n.tells) in
     record {
       conversation = ends step max begun.standing now.standing last.standing end s.so_far n.stops e.0;
       of_exchanges = s.events;

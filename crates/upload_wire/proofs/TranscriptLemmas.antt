@@ -6,7 +6,8 @@ use Rattle.http_wire.specs.Writing.{Takes}
 use Rattle.upload_wire.specs.Conversation.{Moves, replies, Standing, stand, EndsWith}
 use Rattle.upload_wire.specs.Transcripts.{last_written, TranscriptsTellConversations}
 use Rattle.upload_wire.specs.declared.connection.ConnEnd.{ConnEnd}
-use Rattle.upload_wire.specs.declared.connection.ConnEnd.TheVariants.{Clean, AfterClose, AfterBad, TooMany, DeskGone, Fault}
+use Rattle.upload_wire.specs.declared.connection.ConnEnd.TheVariants.{Clean, AfterClose, AfterBad, TooMany, DeskGone}
+use Rattle.upload_wire.specs.declared.connection.ConnEnd.TheVariants.{Fault}
 use Rattle.upload_wire.specs.declared.connection.ConnFault.TheVariants as Conn
 
 nothing_more : (a b : SinkState) → b ≡ a → b.taken ≡ a.taken ++ []
@@ -14,7 +15,8 @@ nothing_more a b e = ap (λ (s : SinkState). s.taken) e ∙ sym (append-nil a.ta
 
 module _ {D : Type 0} (step : Moves D) (max_body : ℕ) (s : Standing D) (new : D) (after : SinkState) where
   -- what an end adds
-  last_told : (end : ConnEnd) (e : EndsWith step max_body s new after end) → after.taken ≡ s.sink.taken ++ last_written step max_body s new after end e
+  last_told : (end : ConnEnd) (e : EndsWith step max_body s new after end)
+      → after.taken ≡ s.sink.taken ++ last_written step max_body s new after end e
   last_told Clean e = nothing_more s.sink after e.2.unwritten
   last_told AfterClose e = e.3.took.takes.told
   last_told AfterBad e = e.2.took.takes.told
@@ -29,6 +31,8 @@ conversations_told step = λ max_body first left old new before after end c.
     let last = last_told step max_body (stand (length c.exchanges) c.rest left c.at c.mid) new after end c.ended in
     record {
       read = c.gives.told ∙ ap (λ t. first.given ++ t) c.served.read;
-      written = last ∙ ap (λ t. t ++ last_written step max_body (stand (length c.exchanges) c.rest left c.at c.mid) new after end c.ended) c.served.written.takes.told
+      written =
+          last ∙ ap (λ t. t ++ last_written step max_body (stand (length c.exchanges) c.rest left c.at c.mid) new after
+          end c.ended) c.served.written.takes.told
           ∙ append_assoc before.taken (replies c.exchanges) _;
     }

@@ -1,5 +1,6 @@
 -- A text begins with at most one request.
-use Rattle.std.proofs.Common.{◌≡◌, ◌≢◌, ℕ, ◌<◌, Bool, true, false, List, [], ◌∷◌, ◌++◌, length, refl, sym, ap, ◌∙◌, subst, arith, append_assoc, inl, inr}
+use Rattle.std.proofs.Common.{◌≡◌, ◌≢◌, ℕ, ◌<◌, Bool, true, false, List, [], ◌∷◌, ◌++◌, length, refl, sym, ap, ◌∙◌}
+use Rattle.std.proofs.Common.{subst, arith, append_assoc, inl, inr}
 use Rattle.std.specs.Prelude.{◌⊎◌, Result, Ok, Err, nat_lt, if◌then◌else◌, ◌&&◌, ◌==◌, codes}
 use Rattle.std.specs.Str.Parse.{digits_value}
 use Rattle.httparse.specs.Grammar.{RequestHead, print_request}
@@ -8,7 +9,8 @@ use Rattle.http_wire.specs.Fronts as front
 use Rattle.http_wire.specs.Fronts.{IsRefused, ReadsHead, requests}
 use Rattle.http_wire.specs.Fields.{same_word, values_of, head_fields}
 use Rattle.http_wire.specs.Body.{is_number, sized, framing_by, head_framing, IsBadBody}
-use Rattle.http_wire.specs.Unambiguous.{HeadParse, head, long, unfinished, BeginsWith, BodyParse, whole, refused, IsReadAs, cut as cut_body}
+use Rattle.http_wire.specs.Unambiguous.{HeadParse, head, long, unfinished, BeginsWith, BodyParse, whole, refused}
+use Rattle.http_wire.specs.Unambiguous.{IsReadAs, cut as cut_body}
 use Rattle.http_wire.specs.declared.framing.Framing.{Framing}
 use Rattle.http_wire.specs.declared.framing.Framing.TheVariants.{Length, Chunked}
 use Rattle.http_wire.specs.declared.fault.Bad.{Bad}
@@ -26,19 +28,23 @@ use Rattle.upload_wire.proofs.UnambiguousTargets.{asks_whole_unique}
 -- ---- the refusal of a head
 
 -- a length is never bad as a head
-length_no_head : (number over : Bool) (n : ℕ) → sized (if number then (if over then Err bads.TooLarge else Ok n) else Err bads.Length) ≡ Err bads.Head → ⊥
+length_no_head : (number over : Bool) (n : ℕ)
+    → sized (if number then (if over then Err bads.TooLarge else Ok n) else Err bads.Length) ≡ Err bads.Head → ⊥
 length_no_head true true n e = absurd (cc)
 length_no_head true false n e = absurd (cc)
 length_no_head false over n e = absurd (cc)
 
-coding_no_head : (max : ℕ) (known : Bool) → ◌≡◌ {A = Result Framing Bad} (if known then Ok (Chunked max) else Err bads.Coding) (Err bads.Head) → ⊥
+coding_no_head : (max : ℕ) (known : Bool)
+    → ◌≡◌ {A = Result Framing Bad} (if known then Ok (Chunked max) else Err bads.Coding) (Err bads.Head) → ⊥
 coding_no_head max true e = absurd (cc)
 coding_no_head max false e = absurd (cc)
 
 -- nor is a framing
-framing_no_head : (max minor : ℕ) (codings lengths : List (List ℕ)) → framing_by max minor codings lengths ≡ Err bads.Head → ⊥
+framing_no_head : (max minor : ℕ) (codings lengths : List (List ℕ))
+    → framing_by max minor codings lengths ≡ Err bads.Head → ⊥
 framing_no_head max minor [] [] e = absurd (cc)
-framing_no_head max minor [] (value ∷ []) e = length_no_head (is_number value) (nat_lt max (digits_value 10 value)) (digits_value 10 value) e
+framing_no_head max minor [] (value ∷ []) e =
+    length_no_head (is_number value) (nat_lt max (digits_value 10 value)) (digits_value 10 value) e
 framing_no_head max minor [] (value ∷ other ∷ values) e = absurd (cc)
 framing_no_head max minor (coding ∷ []) [] e = coding_no_head max ((minor == 1) && same_word coding (codes "chunked")) e
 framing_no_head max minor (coding ∷ other ∷ codings) [] e = absurd (cc)
@@ -53,7 +59,8 @@ refused_head : (max : ℕ) (text : List ℕ) → IsBad max text bads.Head → Is
 refused_head max text (inl x) = x.1
 refused_head max text (inr (inl x)) = let e = x.0 in absurd (cc)
 refused_head max text (inr (inr (inl x))) = absurd (framing_no_head max x.head.minor
-    (values_of (codes "transfer-encoding") (head_fields x.head.fields)) (values_of (codes "content-length") (head_fields x.head.fields)) x.refused)
+    (values_of (codes "transfer-encoding") (head_fields x.head.fields))
+    (values_of (codes "content-length") (head_fields x.head.fields)) x.refused)
 refused_head max text (inr (inr (inr x))) = absurd (body_no_head x.framing x.rest x.refused)
 
 -- ---- what stands behind a head
@@ -94,8 +101,10 @@ from_head : (max : ℕ) (text : List ℕ) (front : HeadParse requests) (p q : Re
 from_head max text (head h rest) p q x y = from_framing h (head_framing max h) rest p q x y
 from_head max text long p q x y = x ∙ sym y
 from_head max text unfinished p q (inl x) (inl y) = x.0 ∙ sym y.0
-from_head max text unfinished p q (inl x) (inr y) = let none = ap length y.1 in let some = x.1 in absurd (omega (arith, some, none))
-from_head max text unfinished p q (inr x) (inl y) = let none = ap length x.1 in let some = y.1 in absurd (omega (arith, some, none))
+from_head max text unfinished p q (inl x) (inr y) =
+    let none = ap length y.1 in let some = x.1 in absurd (omega (arith, some, none))
+from_head max text unfinished p q (inr x) (inl y) =
+    let none = ap length x.1 in let some = y.1 in absurd (omega (arith, some, none))
 from_head max text unfinished p q (inr x) (inr y) = x.0 ∙ sym y.0
 
 -- ---- the whole
@@ -112,16 +121,21 @@ pub request_head : (max : ℕ) (text rest : List ℕ) (ask : Ask) (style : Style
 request_head max text rest ask style x =
     let r = x.request.reads in
     record {
-      reads = (r.reads.0, x.cut ∙ ap (λ t. t ++ rest) r.reads.1 ∙ append_assoc (print_request x.request.head) x.request.rest rest);
+      reads = (
+        r.reads.0,
+        x.cut ∙ ap (λ t. t ++ rest) r.reads.1 ∙ append_assoc (print_request x.request.head) x.request.rest rest,
+      );
       short = r.short;
       few = r.few;
     }
 
 behind : (max : ℕ) (h : RequestHead) (framing : Framing) (rest : List ℕ) (body : BodyParse) (p : RequestParse)
-    → head_framing max h ≡ Ok framing → IsReadAs framing rest body → FromBody h body p → FromFraming h (head_framing max h) rest p
+    → head_framing max h ≡ Ok framing → IsReadAs framing rest body → FromBody h body p
+    → FromFraming h (head_framing max h) rest p
 behind max h framing rest body p framed x from = subst (λ r. FromFraming h r rest p) (sym framed) (body, x, from)
 
-parsed_bad : (max : ℕ) (text : List ℕ) (why : Bad) → IsBad max text why → bad why ≢ bad bads.Head → Parsed max text (bad why)
+parsed_bad : (max : ℕ) (text : List ℕ) (why : Bad) → IsBad max text why → bad why ≢ bad bads.Head
+    → Parsed max text (bad why)
 parsed_bad max text why (inl x) other = absurd (other (ap bad x.0))
 parsed_bad max text why (inr (inl x)) other = record { front = long; begins = x.1; from = ap bad x.0 }
 parsed_bad max text why (inr (inr (inl x))) other = record {
@@ -165,7 +179,8 @@ parsed max text nothing x other = record {
   from = inr (refl, x);
 }
 
-one_request : (max : ℕ) (text : List ℕ) (p q : RequestParse) → ParsesAs max text p → ParsesAs max text q → p ≢ bad bads.Head → q ≢ bad bads.Head → p ≡ q
+one_request : (max : ℕ) (text : List ℕ) (p q : RequestParse) → ParsesAs max text p → ParsesAs max text q
+    → p ≢ bad bads.Head → q ≢ bad bads.Head → p ≡ q
 one_request max text p q x y other another =
     let a = parsed max text p x other in
     let b = parsed max text q y another in

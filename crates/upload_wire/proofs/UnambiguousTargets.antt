@@ -1,5 +1,6 @@
 -- A head and a body ask one thing.
-use Rattle.std.proofs.Common.{◌≡◌, ℕ, List, [], ◌∷◌, ◌++◌, length, refl, sym, ap, subst₂, ◌∙◌, arith, append_assoc, length-append, inl, inr}
+use Rattle.std.proofs.Common.{◌≡◌, ℕ, List, [], ◌∷◌, ◌++◌, length, refl, sym, ap, subst₂, ◌∙◌, arith, append_assoc}
+use Rattle.std.proofs.Common.{length-append, inl, inr}
 use Rattle.std.specs.Prelude.{Option, unwrap_or}
 use Rattle.std.proofs.lemmas.List.{append_cancel_right}
 use Rattle.httparse.specs.Grammar.{RequestHead}
@@ -8,7 +9,8 @@ use Rattle.upload_texts.proofs.UriTexts.{path_unique, query_unique}
 use Rattle.upload_service.specs.declared.ask.Ask.{Ask}
 use Rattle.upload_service.specs.declared.ask.Extent.{Extent}
 use Rattle.http_wire.proofs.HeadLemmas.{snoc_inj}
-use Rattle.upload_wire.specs.Target.{HasNoSlash, IsFormOf, method_of, named, blob_ask, uploads_ask, upload_ask, ask_of_form, AsksAt, Asks, AsksWhole, with_body}
+use Rattle.upload_wire.specs.Target.{HasNoSlash, IsFormOf, method_of, named, blob_ask, uploads_ask, upload_ask}
+use Rattle.upload_wire.specs.Target.{ask_of_form, AsksAt, Asks, AsksWhole, with_body}
 use Rattle.upload_texts.specs.Paths.{blob_path, upload_path}
 use Rattle.upload_names.specs.Reference.{reference_of}
 use Rattle.upload_wire.specs.declared.asks.Method.{Method}
@@ -31,20 +33,24 @@ uploads : List ℕ
 uploads = 47 ∷ 98 ∷ 108 ∷ 111 ∷ 98 ∷ 115 ∷ 47 ∷ 117 ∷ 112 ∷ 108 ∷ 111 ∷ 97 ∷ 100 ∷ 115 ∷ []
 
 -- the path behind "/v2/", cut at its last slash
-blob_cut : (path name tail : List ℕ) → path ≡ blob_path name tail → path ≡ 47 ∷ 118 ∷ 50 ∷ 47 ∷ ((name ++ blobs) ++ 47 ∷ tail)
+blob_cut : (path name tail : List ℕ) → path ≡ blob_path name tail
+    → path ≡ 47 ∷ 118 ∷ 50 ∷ 47 ∷ ((name ++ blobs) ++ 47 ∷ tail)
 unfolding blobs
 blob_cut path name tail e =
     e ∙ ap (λ t. 47 ∷ 118 ∷ 50 ∷ 47 ∷ t) (sym (append_assoc name (47 ∷ 98 ∷ 108 ∷ 111 ∷ 98 ∷ 115 ∷ []) (47 ∷ tail)))
 
-upload_cut : (path name tail : List ℕ) → path ≡ upload_path name tail → path ≡ 47 ∷ 118 ∷ 50 ∷ 47 ∷ ((name ++ uploads) ++ 47 ∷ tail)
+upload_cut : (path name tail : List ℕ) → path ≡ upload_path name tail
+    → path ≡ 47 ∷ 118 ∷ 50 ∷ 47 ∷ ((name ++ uploads) ++ 47 ∷ tail)
 unfolding uploads
 upload_cut path name tail e =
     e ∙ ap (λ t. 47 ∷ 118 ∷ 50 ∷ 47 ∷ t)
-    (sym (append_assoc name (47 ∷ 98 ∷ 108 ∷ 111 ∷ 98 ∷ 115 ∷ 47 ∷ 117 ∷ 112 ∷ 108 ∷ 111 ∷ 97 ∷ 100 ∷ 115 ∷ []) (47 ∷ tail)))
+    (sym
+    (append_assoc name (47 ∷ 98 ∷ 108 ∷ 111 ∷ 98 ∷ 115 ∷ 47 ∷ 117 ∷ 112 ∷ 108 ∷ 111 ∷ 97 ∷ 100 ∷ 115 ∷ []) (47 ∷ tail)))
 
 -- two such cuts of one path are the same
 same_cut : (path front tail other behind : List ℕ) → path ≡ 47 ∷ 118 ∷ 50 ∷ 47 ∷ (front ++ 47 ∷ tail)
-    → path ≡ 47 ∷ 118 ∷ 50 ∷ 47 ∷ (other ++ 47 ∷ behind) → HasNoSlash tail → HasNoSlash behind → (front ≡ other) × (tail ≡ behind)
+    → path ≡ 47 ∷ 118 ∷ 50 ∷ 47 ∷ (other ++ 47 ∷ behind) → HasNoSlash tail → HasNoSlash behind
+    → (front ≡ other) × (tail ≡ behind)
 same_cut path front tail other behind x y none clear =
     let same : front ++ 47 ∷ tail ≡ other ++ 47 ∷ behind = cc in
     cut_unique front tail other behind none clear same
@@ -53,11 +59,16 @@ same_cut path front tail other behind x y none clear =
 not_both : (name other : List ℕ) → name ++ blobs ≡ other ++ uploads → ⊥
 unfolding blobs uploads
 not_both name other e =
-    let one = snoc_inj (name ++ (47 ∷ 98 ∷ 108 ∷ 111 ∷ 98 ∷ [])) (other ++ (47 ∷ 98 ∷ 108 ∷ 111 ∷ 98 ∷ 115 ∷ 47 ∷ 117 ∷ 112 ∷ 108 ∷ 111 ∷ 97 ∷ 100 ∷ []))
+    let one =
+    snoc_inj (name ++ (47 ∷ 98 ∷ 108 ∷ 111 ∷ 98 ∷ []))
+    (other ++ (47 ∷ 98 ∷ 108 ∷ 111 ∷ 98 ∷ 115 ∷ 47 ∷ 117 ∷ 112 ∷ 108 ∷ 111 ∷ 97 ∷ 100 ∷ []))
     115 115
     (append_assoc name (47 ∷ 98 ∷ 108 ∷ 111 ∷ 98 ∷ []) (115 ∷ []) ∙ e
-    ∙ sym (append_assoc other (47 ∷ 98 ∷ 108 ∷ 111 ∷ 98 ∷ 115 ∷ 47 ∷ 117 ∷ 112 ∷ 108 ∷ 111 ∷ 97 ∷ 100 ∷ []) (115 ∷ []))) in
-    let two = snoc_inj (name ++ (47 ∷ 98 ∷ 108 ∷ 111 ∷ [])) (other ++ (47 ∷ 98 ∷ 108 ∷ 111 ∷ 98 ∷ 115 ∷ 47 ∷ 117 ∷ 112 ∷ 108 ∷ 111 ∷ 97 ∷ []))
+    ∙ sym
+    (append_assoc other (47 ∷ 98 ∷ 108 ∷ 111 ∷ 98 ∷ 115 ∷ 47 ∷ 117 ∷ 112 ∷ 108 ∷ 111 ∷ 97 ∷ 100 ∷ []) (115 ∷ []))) in
+    let two =
+    snoc_inj (name ++ (47 ∷ 98 ∷ 108 ∷ 111 ∷ []))
+    (other ++ (47 ∷ 98 ∷ 108 ∷ 111 ∷ 98 ∷ 115 ∷ 47 ∷ 117 ∷ 112 ∷ 108 ∷ 111 ∷ 97 ∷ []))
     98 100
     (append_assoc name (47 ∷ 98 ∷ 108 ∷ 111 ∷ []) (98 ∷ []) ∙ one.0
     ∙ sym (append_assoc other (47 ∷ 98 ∷ 108 ∷ 111 ∷ 98 ∷ 115 ∷ 47 ∷ 117 ∷ 112 ∷ 108 ∷ 111 ∷ 97 ∷ []) (100 ∷ []))) in
@@ -65,7 +76,8 @@ not_both name other e =
     absurd (omega (arith, b))
 
 -- "/v2/" has no further slash
-base_has_no_cut : (path front tail : List ℕ) → path ≡ 47 ∷ 118 ∷ 50 ∷ 47 ∷ [] → path ≡ 47 ∷ 118 ∷ 50 ∷ 47 ∷ (front ++ 47 ∷ tail) → ⊥
+base_has_no_cut : (path front tail : List ℕ) → path ≡ 47 ∷ 118 ∷ 50 ∷ 47 ∷ []
+    → path ≡ 47 ∷ 118 ∷ 50 ∷ 47 ∷ (front ++ 47 ∷ tail) → ⊥
 base_has_no_cut path front tail x y =
     let same : [] ≡ front ++ 47 ∷ tail = cc in
     let l = ap length same in
@@ -154,6 +166,7 @@ asks_unique method target range asked other (inr x) (inr y) =
     asks_at_unique (uri_path y.0) (method_of method) (unwrap_or (uri_query y.0) []) range asked other
     (subst₂ (λ p q. AsksAt p (method_of method) (unwrap_or q []) range asked) paths queries x.2) y.2
 
-pub asks_whole_unique : (head : RequestHead) (body : List ℕ) (ask other : Ask) → AsksWhole head body ask → AsksWhole head body other → ask ≡ other
+pub asks_whole_unique : (head : RequestHead) (body : List ℕ) (ask other : Ask) → AsksWhole head body ask
+    → AsksWhole head body other → ask ≡ other
 asks_whole_unique head body ask other x y =
     x.2 ∙ ap (λ bare. with_body bare body) (asks_unique head.method head.target _ x.0 y.0 x.1 y.1) ∙ sym y.2

@@ -7,7 +7,8 @@ use Rattle.http_wire.specs.States.{SourceState, SinkState}
 use Rattle.upload_wire.specs.Conversation.{Moves, Exchange, Standing, stand, EndsWith, IsConversation}
 use Rattle.upload_wire.specs.ServiceTurns.{StepsService}
 use Rattle.upload_wire.specs.declared.connection.ConnEnd.{ConnEnd}
-use Rattle.upload_wire.specs.declared.connection.ConnEnd.TheVariants.{Clean, AfterClose, AfterBad, TooMany, DeskGone, Fault}
+use Rattle.upload_wire.specs.declared.connection.ConnEnd.TheVariants.{Clean, AfterClose, AfterBad, TooMany, DeskGone}
+use Rattle.upload_wire.specs.declared.connection.ConnEnd.TheVariants.{Fault}
 use Rattle.upload_wire.specs.declared.connection.ConnFault.TheVariants as Conn
 use Rattle.upload_wire.specs.declared.desk.ServiceDesk.{ServiceDesk}
 use mathlib.Core.Logic.{⊎_elim}
@@ -35,11 +36,14 @@ module _ {D : Type 0} (step : Moves D) (max_body : ℕ) (s : Standing D) (new : 
   unanswered_last (Fault (Conn.Wire fault)) e = []
   unanswered_last (Fault Conn.Write) e = []
 
-module _ {D : Type 0} (step : Moves D) (max_body : ℕ) (first left : SourceState) (old new : D) (before after : SinkState) (end : ConnEnd)
+module _ {D : Type 0} (step : Moves D) (max_body : ℕ) (first left : SourceState) (old new : D)
+    (before after : SinkState) (end : ConnEnd)
     (c : IsConversation step max_body first left old new before after end) where
   -- all requests that the desk answered, in their order, and the one that it didn't
   abbrev pub answered : List Exchange
-  answered = c.exchanges ++ answered_last step max_body (stand (length c.exchanges) c.rest left c.at c.mid) new after end c.ended
+  answered =
+      c.exchanges
+      ++ answered_last step max_body (stand (length c.exchanges) c.rest left c.at c.mid) new after end c.ended
 
   abbrev pub unanswered : List Ask
   unanswered = unanswered_last step max_body (stand (length c.exchanges) c.rest left c.at c.mid) new after end c.ended
@@ -53,8 +57,8 @@ service_exchange secret now x = record { ask = x.ask; secret = secret; now = now
 abbrev pub service_exchanges : ServiceDesk → List Exchange → List service.Exchange
 service_exchanges desk xs = map (service_exchange desk.secret desk.now) xs
 
--- The requests that were answered took the service from old to new, by one turn for each, all with the desk's secret and at
--- its moment, and the desk was not gone.
+-- The requests that were answered took the service from old to new, by one turn for each, all with the desk's secret
+-- and at its moment, and the desk was not gone.
 pub record IsRunOfService (old new : ServiceDesk) (exchanges : List Exchange) (end : ConnEnd) : Type 0 where
   pub run : Run old.service (service_exchanges old exchanges) new.service
   pub same_secret : new.secret ≡ old.secret

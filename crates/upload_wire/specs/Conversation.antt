@@ -1,6 +1,7 @@
 -- A connection as a conversation (RFC 9112, section 9.3): requests that were read one after another, each answered by
 -- the desk and replied to, and an end.
-use Rattle.std.specs.Prelude.{◌≡◌, ℕ, ◌+◌, ◌<◌, ◌⊎◌, ◌==◌, ◌&&◌, not, true, false, List, [], ◌∷◌, ◌++◌, length, flat_map, IsTrue, Option, Some, None, ⊤}
+use Rattle.std.specs.Prelude.{◌≡◌, ℕ, ◌+◌, ◌<◌, ◌⊎◌, ◌==◌, ◌&&◌, not, true, false, List, [], ◌∷◌, ◌++◌, length}
+use Rattle.std.specs.Prelude.{flat_map, IsTrue, Option, Some, None, ⊤}
 use Rattle.std.specs.List.{AllByRecursion}
 use Rattle.upload_service.specs.declared.ask.Ask.{Ask}
 use Rattle.upload_service.specs.declared.answer.Answer.{Answer}
@@ -16,7 +17,8 @@ use Rattle.http_wire.specs.declared.fault.WireFault.{WireFault}
 use Rattle.http_wire.specs.declared.fault.WireFault.TheVariants as Wire
 use Rattle.upload_wire.specs.declared.request.Style.{Style}
 use Rattle.upload_wire.specs.declared.connection.ConnEnd.{ConnEnd}
-use Rattle.upload_wire.specs.declared.connection.ConnEnd.TheVariants.{Clean, AfterClose, AfterBad, TooMany, DeskGone, Fault}
+use Rattle.upload_wire.specs.declared.connection.ConnEnd.TheVariants.{Clean, AfterClose, AfterBad, TooMany, DeskGone}
+use Rattle.upload_wire.specs.declared.connection.ConnEnd.TheVariants.{Fault}
 use Rattle.upload_wire.specs.declared.connection.ConnFault.TheVariants as Conn
 
 -- the most requests of a connection
@@ -64,12 +66,14 @@ pub record HandedOn (old new : SinkState) (text : List ℕ) : Type 0 where
 -- each reply was written whole and handed on before the next was begun
 abbrev pub HandedOnEach : SinkState → List Exchange → SinkState → Type 0
 HandedOnEach before [] mid = before ≡ mid
-HandedOnEach before (x ∷ xs) mid = (next : SinkState) × HandedOn before next (reply x.answer x.style) × HandedOnEach next xs mid
+HandedOnEach before (x ∷ xs) mid =
+    (next : SinkState) × HandedOn before next (reply x.answer x.style) × HandedOnEach next xs mid
 
--- The bytes are these requests and then rest; each request wanted the connection to go on, was answered by the desk, and
--- its reply was written whole and handed on.
+-- The bytes are these requests and then rest; each request wanted the connection to go on, was answered by the desk,
+-- and its reply was written whole and handed on.
 pub record Serves
-    {D : Type 0} (step : Moves D) (max_body : ℕ) (old at : D) (bytes rest : List ℕ) (before mid : SinkState) (xs : List Exchange)
+    {D : Type 0} (step : Moves D) (max_body : ℕ) (old at : D) (bytes rest : List ℕ) (before mid : SinkState)
+    (xs : List Exchange)
     : Type 0 where
   pub few : length xs < max_requests
   pub read : bytes ≡ messages xs ++ rest
@@ -80,7 +84,8 @@ pub record Serves
 
 -- ---- ends
 
--- Where a conversation stands: how many requests were answered, what was read and is held, the source, the desk and the sink.
+-- Where a conversation stands: how many requests were answered, what was read and is held, the source, the desk and the
+-- sink.
 pub record Standing (D : Type 0) : Type 0 where
   pub answered : ℕ
   pub held : List ℕ
@@ -100,7 +105,8 @@ abbrev pub last_reply : ℕ → Exchange → List ℕ
 last_reply count x = reply x.answer (last_style count x.style)
 
 -- rest begins with the request, and the desk answered it
-pub record AnswersNext {D : Type 0} (step : Moves D) (max_body : ℕ) (at new : D) (rest : List ℕ) (x : Exchange) : Type 0 where
+pub record AnswersNext {D : Type 0} (step : Moves D) (max_body : ℕ) (at new : D) (rest : List ℕ)
+    (x : Exchange) : Type 0 where
   pub more : List ℕ
   pub read : rest ≡ x.message ++ more
   pub request : IsRead max_body x
@@ -133,18 +139,22 @@ WireStops max_body rest left Wire.Read = HoldsNone max_body rest
 WireStops max_body rest left Wire.NoMemory = ⊤
 WireStops max_body rest left Wire.Ended = ⊥
 
--- How a conversation ends that stands so, where what it holds is all that was read and not answered: the desk's new state, and the sink's.
+-- How a conversation ends that stands so, where what it holds is all that was read and not answered: the desk's new
+-- state, and the sink's.
 abbrev pub EndsWith : {D : Type 0} → Moves D → ℕ → Standing D → D → SinkState → ConnEnd → Type 0
 EndsWith step max_body s new after Clean = (s.held ≡ []) × HasEnded s.source × IsQuiet s.desk new s.sink after
 EndsWith step max_body s new after AfterClose =
-    (x : Exchange) × AnswersNext step max_body s.desk new s.held x × (x.style.keep ≡ false) × HandedOn s.sink after (last_reply s.answered x)
+    (x : Exchange) × AnswersNext step max_body s.desk new s.held x × (x.style.keep ≡ false)
+    × HandedOn s.sink after (last_reply s.answered x)
 EndsWith step max_body s new after AfterBad =
     (why : Bad) × Refuses max_body s.desk new s.held why × HandedOn s.sink after (bad why)
 EndsWith step max_body s new after TooMany =
-    (x : Exchange) × AnswersNext step max_body s.desk new s.held x × (x.style.keep ≡ true) × (s.answered + 1 ≡ max_requests)
+    (x : Exchange) × AnswersNext step max_body s.desk new s.held x × (x.style.keep ≡ true)
+    × (s.answered + 1 ≡ max_requests)
     × HandedOn s.sink after (last_reply s.answered x)
 EndsWith step max_body s new after DeskGone = FindsNoDesk step max_body s.desk new s.held × (after ≡ s.sink)
-EndsWith step max_body s new after (Fault (Conn.Wire fault)) = WireStops max_body s.held s.source fault × IsQuiet s.desk new s.sink after
+EndsWith step max_body s new after (Fault (Conn.Wire fault)) =
+    WireStops max_body s.held s.source fault × IsQuiet s.desk new s.sink after
 EndsWith step max_body s new after (Fault Conn.Write) =
     ((x : Exchange) × AnswersNext step max_body s.desk new s.held x × TookFront s.sink after (last_reply s.answered x))
     ⊎ ((why : Bad) × Refuses max_body s.desk new s.held why × TookFront s.sink after (bad why))
@@ -158,7 +168,8 @@ ReadsFail other old new = new ≡ old
 
 -- The bytes that were read, the desk's moves, and the bytes that were written are a conversation with this end.
 pub record IsConversation
-    {D : Type 0} (step : Moves D) (max_body : ℕ) (first left : SourceState) (old new : D) (before after : SinkState) (end : ConnEnd)
+    {D : Type 0} (step : Moves D) (max_body : ℕ) (first left : SourceState) (old new : D)
+    (before after : SinkState) (end : ConnEnd)
     : Type 0 where
   pub bytes : List ℕ
   pub gives : Gives first left bytes

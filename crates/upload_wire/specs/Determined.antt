@@ -53,7 +53,8 @@ IsDecided step max_body d = ¬ (IsUndecided max_body d.is.rest d.end)
 -- where memory isn't wanting an ask has one answer, or none, and leaves one state
 abbrev pub IsDeterministic : {D : Type 0} → Moves D → Type 0
 IsDeterministic {D} step =
-    (old : D) (ask : Ask) (answer other : Option Answer) (new another : D) → step old ask answer new → step old ask other another
+    (old : D) (ask : Ask) (answer other : Option Answer) (new another : D) → step old ask answer new
+    → step old ask other another
     → answer ≢ Some NoMemory → other ≢ Some NoMemory → (answer ≡ other) × (new ≡ another)
 
 -- no answer was out of memory
@@ -74,12 +75,12 @@ pub record AreTheSame {D : Type 0} (step : Moves D) (max_body : ℕ) (d e : Dial
   pub taken : TookAll d.before d.after written
   pub taken_too : TookAll e.before e.after written
 
--- Of two conversations over the same bytes, whose ends these decide: what is asked is the same, whatever the desk answers, unless it was gone.
--- What is answered and written, and how the desk is left, is the same too where the desk is deterministic and stood at the same state, and no
--- answer was out of memory.
+-- Of two conversations over the same bytes, whose ends these decide: what is asked is the same, whatever the desk
+-- answers, unless it was gone. What is answered and written, and how the desk is left, is the same too where the desk
+-- is deterministic and stood at the same state, and no answer was out of memory.
 pub record ConversationsAreDetermined {D : Type 0} (step : Moves D) : Type 0 where
-  pub by_bytes : (max_body : ℕ) (d e : Dialogue step max_body) → d.is.bytes ≡ e.is.bytes → IsDecided step max_body d → IsDecided step max_body e
-      → d.end ≢ DeskGone → e.end ≢ DeskGone → AskTheSame step max_body d e
-  pub by_desk : (max_body : ℕ) (d e : Dialogue step max_body) → d.is.bytes ≡ e.is.bytes → IsDecided step max_body d → IsDecided step max_body e
-      → IsDeterministic step → d.old ≡ e.old → HasMemory (all_answered step max_body d) → HasMemory (all_answered step max_body e)
-      → AreTheSame step max_body d e
+  pub by_bytes : (max_body : ℕ) (d e : Dialogue step max_body) → d.is.bytes ≡ e.is.bytes → IsDecided step max_body d
+      → IsDecided step max_body e → d.end ≢ DeskGone → e.end ≢ DeskGone → AskTheSame step max_body d e
+  pub by_desk : (max_body : ℕ) (d e : Dialogue step max_body) → d.is.bytes ≡ e.is.bytes → IsDecided step max_body d
+      → IsDecided step max_body e → IsDeterministic step → d.old ≡ e.old → HasMemory (all_answered step max_body d)
+      → HasMemory (all_answered step max_body e) → AreTheSame step max_body d e

@@ -2,8 +2,8 @@
 use Rattle.std.specs.Prelude.{◌≡◌, ℕ, List, [], ◌∷◌, Option, Some, None}
 use Rattle.upload_wire.specs.declared.observer.RequestLine.{RequestLine}
 
--- A head came, with this method and this target; what came has no head that can be read; or a reply was written, or begun, with this
--- status and so many bytes of body.
+-- A head came, with this method and this target; what came has no head that can be read; or a reply was written, or
+-- begun, with this status and so many bytes of body.
 pub data Event : Type 0 where
   Head : List ℕ → List ℕ → Event
   Unreadable : Event

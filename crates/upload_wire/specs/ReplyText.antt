@@ -71,11 +71,15 @@ reply_of (answers.Blob digest size bytes) = record {
   fields = (codes "Docker-Content-Digest", digest_text digest) ∷ body_fields (codes "application/octet-stream") size;
   body = unwrap_or bytes [];
 }
-reply_of (answers.Begun name at) = without_body statuses.Accepted ((codes "Location", upload_location name at) ∷ length_field 0 ∷ [])
-reply_of (answers.Stored name digest) = without_body statuses.Created ((codes "Location", blob_location name digest) ∷ length_field 0 ∷ [])
-reply_of (answers.Taken name at next) = without_body statuses.Accepted (upload_fields name at next ++ length_field 0 ∷ [])
+reply_of (answers.Begun name at) =
+    without_body statuses.Accepted ((codes "Location", upload_location name at) ∷ length_field 0 ∷ [])
+reply_of (answers.Stored name digest) =
+    without_body statuses.Created ((codes "Location", blob_location name digest) ∷ length_field 0 ∷ [])
+reply_of (answers.Taken name at next) =
+    without_body statuses.Accepted (upload_fields name at next ++ length_field 0 ∷ [])
 reply_of (answers.Standing name at next) = without_body statuses.NoContent (upload_fields name at next)
-reply_of (answers.Misplaced name at next) = with_error statuses.RangeNotSatisfiable (upload_fields name at next) errors.BlobUploadInvalid
+reply_of (answers.Misplaced name at next) =
+    with_error statuses.RangeNotSatisfiable (upload_fields name at next) errors.BlobUploadInvalid
 reply_of (answers.Refused refusal) = with_error (refusal_status refusal) (allow_fields refusal) (refusal_code refusal)
 reply_of answers.NoMemory = without_body statuses.ServiceUnavailable (length_field 0 ∷ [])
 

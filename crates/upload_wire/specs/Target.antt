@@ -1,6 +1,7 @@
 -- What a request asks (OCI Distribution Specification 1.1, section Endpoints): the forms of a path, and the
 -- ask of each form, method, query and Content-Range.
-use Rattle.std.specs.Prelude.{◌≡◌, ◌≢◌, ℕ, ◌<◌, ◌⊎◌, Bool, true, false, ◌==◌, List, [], ◌∷◌, ◌++◌, length, codes, bytes_eq, slice_index, Option, Some, None, option_and_then, unwrap_or, if◌then◌else◌}
+use Rattle.std.specs.Prelude.{◌≡◌, ◌≢◌, ℕ, ◌<◌, ◌⊎◌, Bool, true, false, ◌==◌, List, [], ◌∷◌, ◌++◌, length, codes}
+use Rattle.std.specs.Prelude.{bytes_eq, slice_index, Option, Some, None, option_and_then, unwrap_or, if◌then◌else◌}
 use Rattle.httparse.specs.Grammar.{RequestHead}
 use Rattle.http_uri.specs.declared.uri.Uri.{Uri}
 use Rattle.http_uri.specs.Uri.{Spells, SpellsNone, uri_path, uri_query}
@@ -9,7 +10,8 @@ use Rattle.upload_names.specs.Digest.{Digest, digest_of}
 use Rattle.upload_names.specs.ByteRange.{Span, range_of}
 use Rattle.upload_names.specs.Reference.{reference_of}
 use Rattle.upload_service.specs.declared.ask.Ask.{Ask}
-use Rattle.upload_service.specs.declared.ask.Ask.TheVariants.{Base, Has, Opening, Single, Mount, Chunk, Status, Close, Refused}
+use Rattle.upload_service.specs.declared.ask.Ask.TheVariants.{Base, Has, Opening, Single, Mount, Chunk, Status, Close}
+use Rattle.upload_service.specs.declared.ask.Ask.TheVariants.{Refused}
 use Rattle.upload_service.specs.declared.ask.Extent.{Extent}
 use Rattle.upload_service.specs.declared.ask.Extent.TheVariants.{Absent, Bad, Given}
 use Rattle.upload_service.specs.declared.answer.Refusal.{Refusal}
@@ -94,7 +96,8 @@ single_ask name (Some digest) = heads.Single name (digest_of digest)
 -- POST with `mount`, and without
 abbrev pub post_ask : List ℕ → List ℕ → Option (List ℕ) → HeadAsk
 post_ask name query None = single_ask name (parameter (codes "digest") query)
-post_ask name query (Some mount) = mount_ask name (digest_of mount) (option_and_then named (parameter (codes "from") query))
+post_ask name query (Some mount) =
+    mount_ask name (digest_of mount) (option_and_then named (parameter (codes "from") query))
 
 abbrev pub uploads_ask : Option (List ℕ) → Method → List ℕ → HeadAsk
 uploads_ask None method query = refused refusals.BadName
@@ -118,7 +121,8 @@ abbrev pub ask_of_form : PathForm → Method → List ℕ → Extent → HeadAsk
 ask_of_form Path.Base method query range = base_ask method
 ask_of_form (Path.Blob name tail) method query range = blob_ask (named name.now) tail.now method
 ask_of_form (Path.Uploads name) method query range = uploads_ask (named name.now) method query
-ask_of_form (Path.Upload name tail) method query range = upload_ask (named name.now) (reference_of tail.now) method query range
+ask_of_form (Path.Upload name tail) method query range =
+    upload_ask (named name.now) (reference_of tail.now) method query range
 ask_of_form Path.NoForm method query range = refused refusals.NoForm
 
 -- The ask with its body: an opening and a mount have none, and an ask that carries none drops it.
@@ -147,14 +151,17 @@ head_range head = extent_of (values_of (codes "content-range") (head_fields head
 
 -- what is asked at a path
 abbrev pub AsksAt : List ℕ → Method → List ℕ → Extent → HeadAsk → Type 0
-AsksAt path method query range asked = (form : PathForm) × IsFormOf path form × (asked ≡ ask_of_form form method query range)
+AsksAt path method query range asked =
+    (form : PathForm) × IsFormOf path form × (asked ≡ ask_of_form form method query range)
 
 -- What a head asks, by the method, the target and the range. A target that spells no URI has no form.
 abbrev pub Asks : List ℕ → List ℕ → Extent → HeadAsk → Type 0
 Asks method target range asked =
     (SpellsNone target × (asked ≡ refused refusals.NoForm))
-    ⊎ ((uri : Uri) × Spells target uri × AsksAt (uri_path uri) (method_of method) (unwrap_or (uri_query uri) []) range asked)
+    ⊎ ((uri : Uri) × Spells target uri
+    × AsksAt (uri_path uri) (method_of method) (unwrap_or (uri_query uri) []) range asked)
 
 -- what a head and a body ask
 abbrev pub AsksWhole : RequestHead → List ℕ → Ask → Type 0
-AsksWhole head body ask = (asked : HeadAsk) × Asks head.method head.target (head_range head) asked × (ask ≡ with_body asked body)
+AsksWhole head body ask =
+    (asked : HeadAsk) × Asks head.method head.target (head_range head) asked × (ask ≡ with_body asked body)

@@ -1,5 +1,6 @@
--- What the observer of a connection is told, read aloud: of each request that was read its method and its target, as they came, and behind
--- them the status and the size of its reply, in the order of the replies; and at the end what was read and replied to there.
+-- What the observer of a connection is told, read aloud: of each request that was read its method and its target, as
+-- they came, and behind them the status and the size of its reply, in the order of the replies; and at the end what was
+-- read and replied to there.
 use Rattle.std.specs.Prelude.{◌≡◌, ℕ, ◌⊎◌, List, [], ◌∷◌, ◌++◌, length, if◌then◌else◌}
 use Rattle.httparse.specs.Grammar.{RequestHead}
 use Rattle.http_wire.specs.States.{SourceState, SinkState}
@@ -13,7 +14,8 @@ use Rattle.upload_wire.specs.ReplySize.{body_size}
 use Rattle.upload_wire.specs.ReplyText.{reply_of}
 use Rattle.upload_wire.specs.Conversation.{Moves, Exchange, Standing, stand, EndsWith, IsConversation}
 use Rattle.upload_wire.specs.declared.connection.ConnEnd.{ConnEnd}
-use Rattle.upload_wire.specs.declared.connection.ConnEnd.TheVariants.{Clean, AfterClose, AfterBad, TooMany, DeskGone, Fault}
+use Rattle.upload_wire.specs.declared.connection.ConnEnd.TheVariants.{Clean, AfterClose, AfterBad, TooMany, DeskGone}
+use Rattle.upload_wire.specs.declared.connection.ConnEnd.TheVariants.{Fault}
 use Rattle.upload_wire.specs.declared.connection.ConnFault.TheVariants as Conn
 use mathlib.Core.Logic.{⊎_elim}
 
@@ -55,7 +57,8 @@ pub record TellsExchange (x : Exchange) (events : List Event) : Type 0 where
 abbrev pub TellsEach : List Exchange → List Event → Type 0
 TellsEach [] events = events ≡ []
 TellsEach (x ∷ xs) events =
-    (first : List Event) × (others : List Event) × TellsExchange x first × TellsEach xs others × (events ≡ first ++ others)
+    (first : List Event) × (others : List Event) × TellsExchange x first × TellsEach xs others
+    × (events ≡ first ++ others)
 
 -- the head of what is refused, and then its reply, which has no body
 pub record TellsRefusal (text : List ℕ) (why : Bad) (events : List Event) : Type 0 where
@@ -80,7 +83,8 @@ pub record Ending (D : Type 0) : Type 1 where
 abbrev pub HasEnded : {D : Type 0} → Ending D → ConnEnd → Type 0
 HasEnded k end = EndsWith k.moves k.max_body k.stood k.desk k.sink end
 
--- what is told of an end: the request that was answered there, the one that was refused, or the head that nobody replied to
+-- what is told of an end: the request that was answered there, the one that was refused, or the head that nobody
+-- replied to
 abbrev pub TellsEnd : {D : Type 0} → (k : Ending D) (end : ConnEnd) → HasEnded k end → List Event → Type 0
 TellsEnd k Clean e events = events ≡ []
 TellsEnd k AfterClose e events = TellsExchange e.0 events
@@ -112,8 +116,8 @@ pub record Sides (D O : Type 0) : Type 0 where
 abbrev pub sides : {D O : Type 0} → SourceState → D → O → SinkState → Sides D O
 sides source desk observer sink = record { source = source; desk = desk; observer = observer; sink = sink }
 
--- What was read, asked and written is a conversation with this end, and the observer was told of it and of nothing else: of each request
--- behind which the connection went on, and then of its end.
+-- What was read, asked and written is a conversation with this end, and the observer was told of it and of nothing
+-- else: of each request behind which the connection went on, and then of its end.
 pub record IsTold {D O : Type 0} (r : Rules D O) (old new : Sides D O) (end : ConnEnd) : Type 0 where
   pub conversation : IsConversation r.moves r.max_body old.source new.source old.desk new.desk old.sink new.sink end
   pub of_exchanges : List Event

@@ -2,14 +2,17 @@
 use Rattle.std.specs.Prelude.{◌≡◌, ℕ, List, [], ◌++◌, length}
 use Rattle.http_wire.specs.HeadText.{bad}
 use Rattle.http_wire.specs.States.{SourceState, SinkState}
-use Rattle.upload_wire.specs.Conversation.{Moves, messages, replies, last_reply, Standing, stand, EndsWith, IsConversation}
+use Rattle.upload_wire.specs.Conversation.{Moves, messages, replies, last_reply, Standing, stand, EndsWith}
+use Rattle.upload_wire.specs.Conversation.{IsConversation}
 use Rattle.upload_wire.specs.declared.connection.ConnEnd.{ConnEnd}
-use Rattle.upload_wire.specs.declared.connection.ConnEnd.TheVariants.{Clean, AfterClose, AfterBad, TooMany, DeskGone, Fault}
+use Rattle.upload_wire.specs.declared.connection.ConnEnd.TheVariants.{Clean, AfterClose, AfterBad, TooMany, DeskGone}
+use Rattle.upload_wire.specs.declared.connection.ConnEnd.TheVariants.{Fault}
 use Rattle.upload_wire.specs.declared.connection.ConnFault.TheVariants as Conn
 use mathlib.Core.Logic.{⊎_elim}
 
 module _ {D : Type 0} (step : Moves D) (max_body : ℕ) (s : Standing D) (new : D) (after : SinkState) where
-  -- what is written at an end: the reply to the last request or to what is bad, a prefix of it if a write failed, or nothing
+  -- what is written at an end: the reply to the last request or to what is bad, a prefix of it if a write failed, or
+  -- nothing
   abbrev pub last_written : (end : ConnEnd) → EndsWith step max_body s new after end → List ℕ
   last_written Clean e = []
   last_written AfterClose e = last_reply s.answered e.0
@@ -19,15 +22,19 @@ module _ {D : Type 0} (step : Moves D) (max_body : ℕ) (s : Standing D) (new : 
   last_written (Fault (Conn.Wire fault)) e = []
   last_written (Fault Conn.Write) e = ⊎_elim (λ w. w.2.front) (λ w. w.2.front) e
 
-module _ {D : Type 0} (step : Moves D) (max_body : ℕ) (first left : SourceState) (old new : D) (before after : SinkState) (end : ConnEnd)
+module _ {D : Type 0} (step : Moves D) (max_body : ℕ) (first left : SourceState) (old new : D)
+    (before after : SinkState) (end : ConnEnd)
     (c : IsConversation step max_body first left old new before after end) where
-  -- all that was read: the requests that kept the connection, in order, and then what was read behind them, which is what the end speaks of
+  -- all that was read: the requests that kept the connection, in order, and then what was read behind them, which is
+  -- what the end speaks of
   abbrev pub all_read : List ℕ
   all_read = messages c.exchanges ++ c.rest
 
   -- all that was written: the replies to them, in order, and then what was written at the end
   abbrev pub all_written : List ℕ
-  all_written = replies c.exchanges ++ last_written step max_body (stand (length c.exchanges) c.rest left c.at c.mid) new after end c.ended
+  all_written =
+      replies c.exchanges
+      ++ last_written step max_body (stand (length c.exchanges) c.rest left c.at c.mid) new after end c.ended
 
   -- that was added to the transcripts, and nothing else
   pub record TranscriptsTell : Type 0 where

@@ -22,10 +22,10 @@ ParsesAs max_body text (bad why) = IsBad max_body text why
 ParsesAs max_body text cut = IsTruncated max_body text
 ParsesAs max_body text nothing = text ≡ []
 
--- Under one limit a text is read in one way, but that its head may be refused too; and it is not where it begins with one of at most 66
--- lines.
+-- Under one limit a text is read in one way, but that its head may be refused too; and it is not where it begins with
+-- one of at most 66 lines.
 pub record RequestsAreUnambiguous : Type 0 where
-  pub one : (max_body : ℕ) (text : List ℕ) (parse other : RequestParse) → ParsesAs max_body text parse → ParsesAs max_body text other
-      → parse ≢ bad Head → other ≢ bad Head → parse ≡ other
-  pub refused : (max_body : ℕ) (text : List ℕ) (head : RequestHead) (rest : List ℕ) → ReadsHead requests text head rest → IsBad max_body text Head
-      → max_fields + 2 < line_feeds (print_request head)
+  pub one : (max_body : ℕ) (text : List ℕ) (parse other : RequestParse) → ParsesAs max_body text parse
+      → ParsesAs max_body text other → parse ≢ bad Head → other ≢ bad Head → parse ≡ other
+  pub refused : (max_body : ℕ) (text : List ℕ) (head : RequestHead) (rest : List ℕ) → ReadsHead requests text head rest
+      → IsBad max_body text Head → max_fields + 2 < line_feeds (print_request head)

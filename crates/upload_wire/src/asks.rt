@@ -3,7 +3,8 @@ ghost use Rattle.std.specs.Prelude.{◌≡◌, IfOk, option_and_then, codes};
 ghost use Rattle.upload_names.specs.Digest.{digest_of};
 ghost use Rattle.upload_names.specs.Reference.{reference_of};
 ghost use Rattle.http_wire.specs.Query.{parameter};
-ghost use Rattle.upload_wire.specs.Target.{method_of, named, base_ask, blob_ask, mount_ask, uploads_ask, upload_ask, with_body, AsksAt, Asks};
+ghost use Rattle.upload_wire.specs.Target.{method_of, named, base_ask, blob_ask, mount_ask, uploads_ask, upload_ask};
+ghost use Rattle.upload_wire.specs.Target.{with_body, AsksAt, Asks};
 
 use crate::target::{PathForm, form_of};
 use http_uri::{Uri, UriError};
@@ -132,7 +133,8 @@ fn mount_ask(
     digest: Option<BlobDigest>,
     query: &[u8],
 ) -> Result<HeadAsk, AllocError>
-    ensures { IfOk result (λ ask. ask ≡ mount_ask name digest (option_and_then named (parameter (codes "from") query.now))) }
+    ensures { IfOk result (λ ask.
+        ask ≡ mount_ask name digest (option_and_then named (parameter (codes "from") query.now))) }
 {
     let source = match parameter(alloc, query, "from")? {
         Some(text) => name_of(alloc, text.as_str().as_bytes())?,
@@ -150,7 +152,8 @@ fn mount_ask(
 
 /// POST to a repository's uploads: a mount, a whole blob where the query has its digest, and else an opening.
 fn uploads_ask(alloc: Global, name: &[u8], parts: &Parts<'_>) -> Result<HeadAsk, AllocError>
-    ensures { IfOk result (λ ask. ask ≡ uploads_ask (named name.now) parts.now.method parts.now.query.now) }
+    ensures { IfOk result
+        (λ ask. ask ≡ uploads_ask (named name.now) parts.now.method parts.now.query.now) }
 {
     let Some(name) = name_of(alloc, name)? else {
         return Ok(refused(Refusal::BadName));
@@ -178,7 +181,8 @@ fn upload_ask(
     tail: &[u8],
     parts: &Parts<'_>,
 ) -> Result<HeadAsk, AllocError>
-    ensures { IfOk result (λ ask. ask ≡ upload_ask (named name.now) (reference_of tail.now) parts.now.method parts.now.query.now
+    ensures { IfOk result (λ ask. ask
+        ≡ upload_ask (named name.now) (reference_of tail.now) parts.now.method parts.now.query.now
         parts.now.range) }
 {
     let Some(name) = name_of(alloc, name)? else {

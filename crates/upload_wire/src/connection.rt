@@ -101,7 +101,8 @@ impl Model for ConnectionServer {
 
     ghost Value = { ServerState };
 
-    ghost view = { λ s. record { max_body = s.input.max_body; held = s.input.held; answered = s.answered } };
+    ghost view = { λ s.
+        record { max_body = s.input.max_body; held = s.input.held; answered = s.answered } };
 
     ghost invariant = { λ s. s.answered < 10000 };
 }
@@ -151,11 +152,15 @@ impl ConnectionServer {
         observer: &mut O,
     ) -> Option<ConnEnd>
         ensures goes_on { result ≡ None → GoesOnTold (rules D.moves O.told self.old.max_body)
-            (observed (standing self.old (S.state reader.old) desk.old (W.state writer.old)) observer.old)
-            (observed (standing self.new (S.state reader.new) desk.new (W.state writer.new)) observer.new) }
+            (observed (standing self.old (S.state reader.old) desk.old (W.state writer.old))
+            observer.old)
+            (observed (standing self.new (S.state reader.new) desk.new (W.state writer.new))
+            observer.new) }
         ensures stops { IfSome result (StopsTold (rules D.moves O.told self.old.max_body)
-            (observed (standing self.old (S.state reader.old) desk.old (W.state writer.old)) observer.old)
-            (observed (standing self.new (S.state reader.new) desk.new (W.state writer.new)) observer.new)) }
+            (observed (standing self.old (S.state reader.old) desk.old (W.state writer.old))
+            observer.old)
+            (observed (standing self.new (S.state reader.new) desk.new (W.state writer.new))
+            observer.new)) }
         ensures limit { self.new.max_body ≡ self.old.max_body }
     {
         match self.read_next(place, reader, observer) {
@@ -216,7 +221,8 @@ impl ConnectionServer {
         answer: &Answer,
         style: Style,
     ) -> Option<ConnEnd>
-        ensures replies { Replies self.old.answered answer.now style (W.state writer.old) (W.state writer.new) result }
+        ensures replies { Replies self.old.answered answer.now style (W.state writer.old)
+            (W.state writer.new) result }
         ensures counted { result ≡ None → self.new.answered ≡ self.old.answered + 1 }
         ensures held { self.new.held ≡ self.old.held }
         ensures limit { self.new.max_body ≡ self.old.max_body }

@@ -43,8 +43,8 @@ impl Model for RequestInput {
 }
 
 impl RequestInput {
-    /// An input of requests with bodies of at most `limits.max_body` bytes. It makes its one buffer of 64 KiB, or answers
-    /// that there is no memory for it.
+    /// An input of requests with bodies of at most `limits.max_body` bytes. It makes its one buffer of 64 KiB, or
+    /// answers that there is no memory for it.
     pub fn new(alloc: Global, limits: Limits) -> Result<RequestInput, AllocError>
         requires { AreLawful limits }
         ensures { IfOk result (λ input. input ≡ record { max_body = limits.max_body; held = [] }) }

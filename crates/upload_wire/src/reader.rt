@@ -73,7 +73,8 @@ impl<S: ByteSource> RequestReader<S> {
     pub fn next_request(&mut self) -> Result<Next, WireFault>
         ensures ready { self.old.phase ≡ Phase.Ready → ReadsNext self.old.max_body self.old.held
             self.old.source self.new.held self.new.source result }
-        ensures over { self.old.phase ≡ Phase.Over → (result ≡ Ok Next.Over) × (self.new ≡ self.old) }
+        ensures over { self.old.phase ≡ Phase.Over
+            → (result ≡ Ok Next.Over) × (self.new ≡ self.old) }
         ensures ended { self.old.phase ≡ Phase.Ended
             → (result ≡ Err WireFault.Ended) × (self.new ≡ self.old) }
         ensures phase { self.new.phase ≡ phase_after result }

@@ -26,7 +26,8 @@ pub fn write_reply<W: ByteSink>(
     answer: &Answer,
     style: Style,
 ) -> Result<(), WriteFault>
-    ensures wrote { Wrote (W.state writer.old) (W.state writer.new) (reply answer.now style) result }
+    ensures wrote { Wrote (W.state writer.old) (W.state writer.new)
+        (reply answer.now style) result }
     ensures flushed { OnOk result (IsTrue ((W.state writer.new).flushed)) }
 {
     let mut head = Gather::new();
@@ -40,7 +41,8 @@ pub fn write_reply<W: ByteSink>(
 
 /// Puts the body of a reply behind its head. What fits leaves in the same write.
 fn put_body<W: ByteSink>(head: &mut Gather, writer: &mut W, answer: &Answer)
-    ensures { Puts (W.state writer.old) head.old (W.state writer.new) head.new (reply_of answer.now).body }
+    ensures { Puts (W.state writer.old) head.old (W.state writer.new) head.new
+        (reply_of answer.now).body }
 {
     match answer {
         Answer::Blob {

@@ -50,7 +50,8 @@ pub(crate) struct Described {
 /// The range that a head gives.
 fn range_of(head: &[u8], parsed: &ParsedRequest) -> Extent
     requires { request_spans.IsHeadOf head.now parsed.now }
-    ensures { result ≡ extent_of (values_of (codes "content-range") (fields_of request_spans head.now parsed.now)) }
+    ensures { result ≡ extent_of
+        (values_of (codes "content-range") (fields_of request_spans head.now parsed.now)) }
 {
     match field_named(head, parsed, b"content-range") {
         Occurrence::Absent => Extent::Absent,
@@ -72,7 +73,8 @@ pub(crate) fn describe(
     requires limit { max_body ≤ 2 ^ 31 }
     requires head { request_spans.IsHeadOf head.now parsed.now }
     ensures found { Describes max_body head.now parsed.now result }
-    ensures kept { IfOk result (λ head. IfOk head (λ described. most_of described.framing ≤ max_body)) }
+    ensures kept { IfOk result
+        (λ head. IfOk head (λ described. most_of described.framing ≤ max_body)) }
 {
     let framing = match framing_of(head, parsed, max_body) {
         Ok(framing) => framing,
@@ -94,8 +96,8 @@ pub(crate) fn describe(
     }))
 }
 
-/// Reads the request whose head describes this, and was taken. `filled` is an upload that is known to have bytes. A body
-/// that is hashed as it comes is hashed at the place.
+/// Reads the request whose head describes this, and was taken. `filled` is an upload that is known to have bytes. A
+/// body that is hashed as it comes is hashed at the place.
 pub(crate) fn read_request<S: ByteSource, P: HashPlace>(
     alloc: Global,
     place: &P,
@@ -106,7 +108,8 @@ pub(crate) fn read_request<S: ByteSource, P: HashPlace>(
     requires { most_of described.framing ≤ 2 ^ 31 }
     ensures found { FindsRequest described (S.state input.old.source.now) input.old.buffer.now
         (S.state input.new.source.now) input.new.buffer.now result }
-    ensures costs { ReadsAtMost S.state (12 + 13 * most_of described.framing) (result ≡ Err WireFault.Read) input.old input.new }
+    ensures costs { ReadsAtMost S.state (12 + 13 * most_of described.framing)
+        (result ≡ Err WireFault.Read) input.old input.new }
 {
     let Described {
         ask,

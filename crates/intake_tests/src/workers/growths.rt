@@ -1,5 +1,5 @@
-//! A pair that is refused memory isn't served, or one connection of it goes without. The test holds whichever one growth
-//! is refused: `tests/growths.py` has each of them refused in turn.
+//! A pair that is refused memory isn't served, or one connection of it goes without. The test holds whichever one
+//! growth is refused: `tests/growths.py` has each of them refused in turn.
 
 use super::{Still, Texts, service};
 use crate::checks::check;
@@ -13,13 +13,19 @@ use upload_names::{BlobDigest, NameFault, RepoName};
 use upload_wire::NoObserver;
 
 /// The same blob twice.
-const LEFT: &[u8] =
-    b"POST /v2/lib/a/blobs/uploads/?digest=sha256:ba7816bf8f01cfea414140de5dae2223b00361a396177a9cb410ff61f20015ad HTTP/1.1\r\nContent-Length: 3\r\n\r\nabc\
-POST /v2/lib/a/blobs/uploads/?digest=sha256:ba7816bf8f01cfea414140de5dae2223b00361a396177a9cb410ff61f20015ad HTTP/1.1\r\nContent-Length: 3\r\n\r\nabc";
+const LEFT: &[u8] = b"POST /v2/lib/a/blobs/uploads/\
+    ?digest=sha256:ba7816bf8f01cfea414140de5dae2223b00361a396177a9cb410ff61f20015ad HTTP/1.1\r\n\
+    Content-Length: 3\r\n\r\nabc\
+    POST /v2/lib/a/blobs/uploads/\
+    ?digest=sha256:ba7816bf8f01cfea414140de5dae2223b00361a396177a9cb410ff61f20015ad HTTP/1.1\r\n\
+    Content-Length: 3\r\n\r\nabc";
 
-const RIGHT: &[u8] =
-    b"POST /v2/lib/b/blobs/uploads/?digest=sha256:ba7816bf8f01cfea414140de5dae2223b00361a396177a9cb410ff61f20015ad HTTP/1.1\r\nContent-Length: 3\r\n\r\nabc\
-POST /v2/lib/b/blobs/uploads/?digest=sha256:ba7816bf8f01cfea414140de5dae2223b00361a396177a9cb410ff61f20015ad HTTP/1.1\r\nContent-Length: 3\r\n\r\nabc";
+const RIGHT: &[u8] = b"POST /v2/lib/b/blobs/uploads/\
+    ?digest=sha256:ba7816bf8f01cfea414140de5dae2223b00361a396177a9cb410ff61f20015ad HTTP/1.1\r\n\
+    Content-Length: 3\r\n\r\nabc\
+    POST /v2/lib/b/blobs/uploads/\
+    ?digest=sha256:ba7816bf8f01cfea414140de5dae2223b00361a396177a9cb410ff61f20015ad HTTP/1.1\r\n\
+    Content-Length: 3\r\n\r\nabc";
 
 type TextWorker = Worker<Texts, ZeroSecrets, NoGate, NoObserver>;
 
@@ -61,8 +67,8 @@ fn name_for(alloc: Global, text: &[u8]) -> Result<RepoName, NameFault> {
     }
 }
 
-/// Each connection is served, and where it ends well its blob is held: one of its two requests had the memory. At least so
-/// many of the two end well.
+/// Each connection is served, and where it ends well its blob is held: one of its two requests had the memory. At least
+/// so many of the two end well.
 fn look(rt: &impl Abort, alloc: Global, pair: &Pair<Still>, least_clean: u64) -> Result<(), Fail> {
     let left = name_for(alloc, b"lib/a")?;
     let right = name_for(alloc, b"lib/b")?;

@@ -55,7 +55,8 @@ impl Conns for Same {
 
     // One that nobody has read or written yet.
     ghost gives = { λ old given new. IfSome given (λ conn.
-        (conn.0.given.bytes ≡ []) × (conn.0.reads ≡ 0) × (conn.1.taken.bytes ≡ []) × (conn.1.writes ≡ 0)) };
+        (conn.0.given.bytes ≡ []) × (conn.0.reads ≡ 0) × (conn.1.taken.bytes ≡ [])
+        × (conn.1.writes ≡ 0)) };
 
     fn next_conn(&mut self) -> Option<(Short, Nowhere)> {
         self.left = self.left.checked_sub(1)?;

@@ -18,8 +18,8 @@ use upload_wire::NoObserver;
 
 /// An opening and two chunks.
 const TEXT: &[u8] = b"POST /v2/lib/a/blobs/uploads/ HTTP/1.1\r\nContent-Length: 0\r\n\r\n\
-PATCH /v2/lib/a/blobs/uploads/00000001-0000-8000-8000-000000000000 HTTP/1.1\r\nContent-Length: 1\r\n\r\na\
-PATCH /v2/lib/a/blobs/uploads/00000001-0000-8000-8000-000000000000 HTTP/1.1\r\nContent-Length: 1\r\n\r\nb";
+    PATCH /v2/lib/a/blobs/uploads/00000001-0000-8000-8000-000000000000 HTTP/1.1\r\nContent-Length: 1\r\n\r\na\
+    PATCH /v2/lib/a/blobs/uploads/00000001-0000-8000-8000-000000000000 HTTP/1.1\r\nContent-Length: 1\r\n\r\nb";
 
 /// The moments that a clock tells at the three requests, and the statuses of their replies. A session may be without a
 /// chunk for ten seconds.
@@ -100,7 +100,8 @@ impl<'a> Conns for One<'a> {
 
     // One that nobody has read or written yet.
     ghost gives = { λ old given new. IfSome given (λ conn.
-        (conn.0.given.bytes ≡ []) × (conn.0.reads ≡ 0) × (conn.1.taken.bytes ≡ []) × (conn.1.writes ≡ 0)) };
+        (conn.0.given.bytes ≡ []) × (conn.0.reads ≡ 0) × (conn.1.taken.bytes ≡ [])
+        × (conn.1.writes ≡ 0)) };
 
     fn next_conn(&mut self) -> Option<(Text, Statuses<'a>)> {
         let text = self.text.take()?;

@@ -54,7 +54,9 @@ type TextWorker<'a> = Worker<Texts, ZeroSecrets, Together<'a>, NoObserver>;
 /// A worker with two connections, each of which uploads `abc` under the worker's own name; and one that is cut.
 fn worker<'a>(alloc: Global, number: u64, gate: Together<'a>) -> Result<TextWorker<'a>, Fail> {
     let text = format!(in alloc;
-        "POST /v2/lib/w{number}/blobs/uploads/?digest=sha256:ba7816bf8f01cfea414140de5dae2223b00361a396177a9cb410ff61f20015ad HTTP/1.1\r\nContent-Length: 3\r\n\r\nabc"
+        "POST /v2/lib/w{number}/blobs/uploads/\
+         ?digest=sha256:ba7816bf8f01cfea414140de5dae2223b00361a396177a9cb410ff61f20015ad HTTP/1.1\r\n\
+         Content-Length: 3\r\n\r\nabc"
     )?;
     let bytes = text.as_bytes();
     Ok(Worker {

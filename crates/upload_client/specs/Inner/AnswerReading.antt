@@ -21,7 +21,8 @@ use Rattle.http_wire.specs.declared.fault.BodyFault.TheVariants as Body
 -- A reply was read: what is heard in it, and whether it keeps the connection; behind a fault nothing is said of that.
 abbrev pub FindsReply : Bool → List ℕ → SourceState → List ℕ → SourceState → Result ReplyRead HeardFault → Type 0
 FindsReply head_only held old rest new (Ok reply) = ReadsAnswer head_only held old rest new (Ok reply.heard) reply.keep
-FindsReply head_only held old rest new (Err fault) = (keep : Bool) → ReadsAnswer head_only held old rest new (Err fault) keep
+FindsReply head_only held old rest new (Err fault) =
+    (keep : Bool) → ReadsAnswer head_only held old rest new (Err fault) keep
 
 -- ---- what it says
 

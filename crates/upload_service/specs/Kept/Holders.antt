@@ -14,4 +14,5 @@ names_in (kinds.Several names) = list_map arc_value (box_value names).keys
 
 -- under each name is that name
 abbrev pub AreShared : {Z : Type 0} → List (List ℕ × Arc (List ℕ) Z) → Type 0
-AreShared {Z} entries = (name : List ℕ) (shared : Arc (List ℕ) Z) → lookup (same name) entries ≡ Some shared → arc_value shared ≡ name
+AreShared {Z} entries =
+    (name : List ℕ) (shared : Arc (List ℕ) Z) → lookup (same name) entries ≡ Some shared → arc_value shared ≡ name

@@ -1,5 +1,6 @@
 -- What the stored blobs and their repositories stand for.
-use Rattle.std.specs.Prelude.{◌≡◌, ℕ, Bool, true, false, not, List, [], ◌∷◌, ◌++◌, Option, Some, None, refl, map as list_map}
+use Rattle.std.specs.Prelude.{◌≡◌, ℕ, Bool, true, false, not, List, [], ◌∷◌, ◌++◌, Option, Some, None, refl}
+use Rattle.std.specs.Prelude.{map as list_map}
 use Rattle.std.specs.Option.{option_map}
 use Rattle.std.specs.List.{list_any}
 use Rattle.std.specs.Coded.{Coded, code_by, coded×}
@@ -43,7 +44,8 @@ digest_at (keys.Sha512 bytes) = sha512_digest bytes
 
 -- the items of both trees by their digests
 abbrev pub rows : List (List ℕ × Item) → List (List ℕ × Item) → List (Digest × Item)
-rows sha256s sha512s = list_map (λ e. (sha256_digest e.0, e.1)) sha256s ++ list_map (λ e. (sha512_digest e.0, e.1)) sha512s
+rows sha256s sha512s =
+    list_map (λ e. (sha256_digest e.0, e.1)) sha256s ++ list_map (λ e. (sha512_digest e.0, e.1)) sha512s
 
 -- the pairs of a digest with each of these names, and others
 abbrev pub noted : Digest → List (List ℕ) → FinSet pair_cmp → FinSet pair_cmp
@@ -62,12 +64,17 @@ pub record Stocked : Type 0 where
 
 abbrev pub stocked_code : Coded Stocked
 stocked_code =
-    code_by (FinMap digest_cmp (List ℕ) × FinSet pair_cmp) (coded× (map.code digest_code bytes_code) (set.code pair_code))
+    code_by (FinMap digest_cmp (List ℕ) × FinSet pair_cmp)
+    (coded× (map.code digest_code bytes_code) (set.code pair_code))
     (λ s. (s.blobs, s.pairs)) (λ p. record { blobs = p.0; pairs = p.1 }) (λ _. refl)
 
 abbrev pub stocked : List (List ℕ × Item) → List (List ℕ × Item) → Stocked
-stocked sha256s sha512s = record { blobs = kept_as digest_cmp (λ item. item.blob) (rows sha256s sha512s); pairs = pairs_of (rows sha256s sha512s) }
+stocked sha256s sha512s = record {
+  blobs = kept_as digest_cmp (λ item. item.blob) (rows sha256s sha512s);
+  pairs = pairs_of (rows sha256s sha512s);
+}
 
 -- each name of a pair is among those that blobs share
 abbrev pub AreKnown : List (List ℕ) → FinSet pair_cmp → Type 0
-AreKnown names pairs = (name : List ℕ) (digest : Digest) → set.contains pairs (name, digest) ≡ true → list_any (same name) names ≡ true
+AreKnown names pairs =
+    (name : List ℕ) (digest : Digest) → set.contains pairs (name, digest) ≡ true → list_any (same name) names ≡ true

@@ -10,7 +10,8 @@ use Rattle.upload_service.specs.declared.turn.Verdict.TheVariants as verdicts
 use Rattle.upload_service.specs.Machine.{State, IsLawful, AreLawful, body_fault}
 
 abbrev pub state_of : Limits → Tables → State
-state_of limits t = record { limits = limits; issued = t.issued; sessions = t.sessions; blobs = t.stock.blobs; pairs = t.stock.pairs }
+state_of limits t =
+    record { limits = limits; issued = t.issued; sessions = t.sessions; blobs = t.stock.blobs; pairs = t.stock.pairs }
 
 -- the answer by which a body is turned away
 abbrev pub turned_away : List ℕ → List ℕ → ℕ → Verdict → Option Answer
@@ -20,7 +21,8 @@ turned_away name at next (verdicts.Refused refusal) = Some (answers.Refused refu
 
 abbrev pub IsVerdict : ℕ → ℕ → Extent → ℕ → Verdict → Type 0
 IsVerdict max_blob next range size verdict =
-    (name at body : List ℕ) → length body ≡ size → body_fault max_blob name at next range body ≡ turned_away name at next verdict
+    (name at body : List ℕ) → length body ≡ size
+    → body_fault max_blob name at next range body ≡ turned_away name at next verdict
 
 -- what a service keeps: its limits and its state are lawful
 pub record IsService (limits : Limits) (tables : Tables) : Type 0 where

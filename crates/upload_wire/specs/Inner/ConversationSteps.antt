@@ -7,24 +7,29 @@ use Rattle.upload_wire.specs.ReplyText.{reply}
 use Rattle.http_wire.specs.States.{SourceState, SinkState}
 use Rattle.http_wire.specs.Reading.{Gives}
 use Rattle.http_wire.specs.Writing.{TookFront}
-use Rattle.upload_wire.specs.Conversation.{Moves, Exchange, IsKept, HandedOn, Standing, stand, EndsWith, ReadsFail, max_requests, last_style}
+use Rattle.upload_wire.specs.Conversation.{Moves, Exchange, IsKept, HandedOn, Standing, stand, EndsWith, ReadsFail}
+use Rattle.upload_wire.specs.Conversation.{max_requests, last_style}
 use Rattle.upload_wire.specs.ServerState.{ServerState}
 use Rattle.upload_wire.specs.declared.request.Style.{Style}
 use Rattle.upload_wire.specs.declared.connection.ConnEnd.{ConnEnd}
-use Rattle.upload_wire.specs.declared.connection.ConnEnd.TheVariants.{Clean, AfterClose, AfterBad, TooMany, DeskGone, Fault}
+use Rattle.upload_wire.specs.declared.connection.ConnEnd.TheVariants.{Clean, AfterClose, AfterBad, TooMany, DeskGone}
+use Rattle.upload_wire.specs.declared.connection.ConnEnd.TheVariants.{Fault}
 use Rattle.upload_wire.specs.declared.connection.ConnFault.TheVariants as Conn
 
 -- How a request behind `count` others was replied to; None where the connection goes on.
 abbrev pub Replies : ℕ → Answer → Style → SinkState → SinkState → Option ConnEnd → Type 0
-Replies count answer style mid after None = HandedOn mid after (reply answer style) × (style.keep ≡ true) × (count + 1 < max_requests)
+Replies count answer style mid after None =
+    HandedOn mid after (reply answer style) × (style.keep ≡ true) × (count + 1 < max_requests)
 Replies count answer style mid after (Some Clean) = ⊥
-Replies count answer style mid after (Some AfterClose) = HandedOn mid after (reply answer (last_style count style)) × (style.keep ≡ false)
+Replies count answer style mid after (Some AfterClose) =
+    HandedOn mid after (reply answer (last_style count style)) × (style.keep ≡ false)
 Replies count answer style mid after (Some AfterBad) = ⊥
 Replies count answer style mid after (Some TooMany) =
     HandedOn mid after (reply answer (last_style count style)) × (style.keep ≡ true) × (count + 1 ≡ max_requests)
 Replies count answer style mid after (Some DeskGone) = ⊥
 Replies count answer style mid after (Some (Fault (Conn.Wire fault))) = ⊥
-Replies count answer style mid after (Some (Fault Conn.Write)) = TookFront mid after (reply answer (last_style count style))
+Replies count answer style mid after (Some (Fault Conn.Write)) =
+    TookFront mid after (reply answer (last_style count style))
 
 -- How what is no request was replied to.
 abbrev pub RefusedWith : SinkState → SinkState → Bad → ConnEnd → Type 0
@@ -54,4 +59,5 @@ pub record Stops {D : Type 0} (step : Moves D) (max_body : ℕ) (old new : Stand
   pub given : List ℕ
   pub gives : Gives old.source new.source given
   pub reads : ReadsFail end old.source.failed_reads new.source.failed_reads
-  pub ended : EndsWith step max_body (stand old.answered (old.held ++ given) new.source old.desk old.sink) new.desk new.sink end
+  pub ended : EndsWith step max_body (stand old.answered (old.held ++ given) new.source old.desk old.sink)
+      new.desk new.sink end

@@ -34,13 +34,15 @@ pub record DescribesAll (max_body : ℕ) (head : List ℕ) (p : ParsedRequest) (
 -- what is made of a head: that, or what is bad in how it frames its body, unless memory was refused
 abbrev pub Describes : ℕ → List ℕ → ParsedRequest → Result (Result Described Bad) WireFault → Type 0
 Describes max_body head p (Ok (Ok d)) = DescribesAll max_body head p d
-Describes max_body head p (Ok (Err why)) = framing_of max_body p.spans.version (fields_of request_spans head p) ≡ Err why
+Describes max_body head p (Ok (Err why)) =
+    framing_of max_body p.spans.version (fields_of request_spans head p) ≡ Err why
 Describes max_body head p (Err fault) = fault ≡ Fault.NoMemory
 
 -- ---- the body behind it
 
 -- a whole body was taken, and this is the request
-pub record TakesRequest (d : Described) (old : SourceState) (held : List ℕ) (new : SourceState) (rest : List ℕ) (ask : Ask) (style : Style)
+pub record TakesRequest (d : Described) (old : SourceState) (held : List ℕ) (new : SourceState) (rest : List ℕ)
+    (ask : Ask) (style : Style)
     : Type 0 where
   pub body : List ℕ
   pub taken : TakesBody d.framing old held new rest body

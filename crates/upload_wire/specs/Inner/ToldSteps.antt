@@ -31,7 +31,8 @@ TellsNext text (Ok (nexts.Bad why)) events = (head : Event) × TellsHead text he
 TellsNext text (Err fault) events = TellsCut text events
 
 -- what came next was read, and its head was told
-pub record ReadsTold {O : Type 0} (telling : Telling O) (max_body : ℕ) (old new : Listening O) (r : Result Next WireFault) : Type 0 where
+pub record ReadsTold {O : Type 0} (telling : Telling O) (max_body : ℕ) (old new : Listening O)
+    (r : Result Next WireFault) : Type 0 where
   pub next : ReadsNext max_body old.held old.source new.held new.source r
   pub events : List Event
   pub tells : TellsNext (old.held ++ next.given) r events
@@ -61,7 +62,9 @@ pub record StopsTold {D O : Type 0} (r : Rules D O) (old new : Observed D O) (en
   pub tells : TellsEnd (record {
     moves = r.moves;
     max_body = r.max_body;
-    stood = stand old.standing.answered (old.standing.held ++ stops.given) new.standing.source old.standing.desk old.standing.sink;
+    stood =
+        stand old.standing.answered (old.standing.held ++ stops.given) new.standing.source old.standing.desk
+        old.standing.sink;
     desk = new.standing.desk;
     sink = new.standing.sink;
   }) end stops.ended events

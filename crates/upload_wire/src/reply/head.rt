@@ -2,7 +2,8 @@
 ghost use Rattle.std.specs.Prelude.{◌≡◌, codes, flat_map};
 ghost use Rattle.http_wire.specs.Inner.Gathering.{Puts};
 ghost use Rattle.http_wire.specs.HeadText.{print_field};
-ghost use Rattle.upload_wire.specs.ReplyText.{allow_fields, blob_location, error_fields, range_fields, reply_head, reply_of, upload_fields, upload_location};
+ghost use Rattle.upload_wire.specs.ReplyText.{allow_fields, blob_location, error_fields, range_fields, reply_head};
+ghost use Rattle.upload_wire.specs.ReplyText.{reply_of, upload_fields, upload_location};
 
 use super::refusal::methods;
 use http_wire::{ByteSink, Gather, Status};
@@ -18,7 +19,8 @@ fn put_upload_location<W: ByteSink>(
     at: UploadRef,
 )
     ensures { Puts (W.state writer.old) head.old
-        (W.state writer.new) head.new (print_field (codes "Location", upload_location name.now at)) }
+        (W.state writer.new) head.new
+        (print_field (codes "Location", upload_location name.now at)) }
 {
     head.put(writer, b"Location: /v2/");
     head.put(writer, name.as_str().as_bytes());
@@ -35,7 +37,8 @@ fn put_blob_location<W: ByteSink>(
     digest: BlobDigest,
 )
     ensures { Puts (W.state writer.old) head.old
-        (W.state writer.new) head.new (print_field (codes "Location", blob_location name.now digest)) }
+        (W.state writer.new) head.new
+        (print_field (codes "Location", blob_location name.now digest)) }
 {
     head.put(writer, b"Location: /v2/");
     head.put(writer, name.as_str().as_bytes());
@@ -68,7 +71,8 @@ struct Progress<'a> {
 /// Adds the place of an upload and how many bytes it has.
 fn put_upload<W: ByteSink>(head: &mut Gather, writer: &mut W, progress: Progress<'_>)
     ensures { Puts (W.state writer.old) head.old
-        (W.state writer.new) head.new (flat_map print_field (upload_fields progress.entry.name.now progress.entry.at progress.entry.next)) }
+        (W.state writer.new) head.new (flat_map print_field
+        (upload_fields progress.entry.name.now progress.entry.at progress.entry.next)) }
 {
     put_upload_location(head, writer, progress.name, progress.at);
     put_range(head, writer, progress.next);
@@ -168,7 +172,8 @@ pub(super) fn put_reply_head<W: ByteSink>(
     answer: &Answer,
     keep: bool,
 )
-    ensures { Puts (W.state writer.old) head.old (W.state writer.new) head.new (reply_head answer.now keep) }
+    ensures { Puts (W.state writer.old) head.old (W.state writer.new) head.new
+        (reply_head answer.now keep) }
 {
     head.put(writer, status_of(answer).line().as_bytes());
     put_fields(head, writer, answer);

@@ -10,5 +10,7 @@ returns-in-Some c =
     let same : text ≡ code = c.as_slice-in-Some.ensures in
     let seen : is_word code ≡ true = ap is_word (sym c.as_slice.ensures) ∙ sym c.is_word.ensures ∙ c.if-is_word.true in
     let word : is_word text ≡ true = ap is_word same ∙ seen in
-    let read = read_text c.from_utf8.result (λ s. s.now) _ text _ (visible_utf8 text (word_visible text word)) c.from_utf8.ensures.cases in
+    let read =
+    read_text c.from_utf8.result (λ s. s.now) _ text _ (visible_utf8 text (word_visible text word))
+    c.from_utf8.ensures.cases in
     ap (λ s. s.now) c.unwrap_or.ensures ∙ read ∙ same ∙ shown_word code seen ∙ sym (ap shown c.in-Some.is)

@@ -8,5 +8,7 @@ pub loop-number-preserved : goal.loop-number-preserved
 loop-number-preserved g c = record {
   len = search rules;
   room = search rules;
-  logs = rw c.push_reserved.ensures.items (All-push (λ w. w.observer ≡ new_log (is_some c.args.log.now)) c.loop-number.workers.items c.in_ok-worker.worker c.loop-number.invariant.logs c.in_ok-worker.ensures);
+  logs =
+      rw c.push_reserved.ensures.items (All-push (λ w. w.observer ≡ new_log (is_some c.args.log.now))
+      c.loop-number.workers.items c.in_ok-worker.worker c.loop-number.invariant.logs c.in_ok-worker.ensures);
 }

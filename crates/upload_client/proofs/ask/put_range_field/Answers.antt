@@ -9,8 +9,11 @@ use Rattle.upload_client.proofs.ask.put_range_field.Goals as goal
 
 pub returns-in-Given : goal.returns-in-Given
 returns-in-Given g c = λ start before held.
-    let put = c.put-in-Given-2.ensures start _ (c.put_number-in-Given.ensures start _ (c.put-in-Given.ensures start _ (c.put_number.ensures start _ (c.put.ensures start before held)))) in
+    let put =
+    c.put-in-Given-2.ensures start _ (c.put_number-in-Given.ensures start _
+    (c.put-in-Given.ensures start _ (c.put_number.ensures start _ (c.put.ensures start before held)))) in
     let first = ap (λ (r : Span). r.first) c.range.view_is in
     let last = ap (λ (r : Span). r.last) c.range.view_is in
     subst (Gathered start (g.W.ByteSink.state c.put-in-Given-2.new.writer) c.put-in-Given-2.new.self)
-    (range_text_is before c.in-Given.range _ _ first last ∙ ap (λ r. before ++ flat_map print_field (range_fields r)) (sym c.in-Given.is)) put
+    (range_text_is before c.in-Given.range _ _ first last
+    ∙ ap (λ r. before ++ flat_map print_field (range_fields r)) (sym c.in-Given.is)) put

@@ -7,29 +7,36 @@ use Rattle.upload_client.proofs.ask.put_request_line.Goals as goal
 pub returns-in-Single : goal.returns-in-Single
 returns-in-Single g c = λ start before held.
     subst (λ t. Gathered start (g.W.ByteSink.state c.put_single.new.writer) c.put_single.new.head (before ++ t))
-    (single_line c.in-Single.name c.in-Single.digest c.in-Single.body ∙ ap (λ a. request_line (message_of a)) (sym c.in-Single.is)) (c.put_single.ensures start before held)
+    (single_line c.in-Single.name c.in-Single.digest c.in-Single.body
+    ∙ ap (λ a. request_line (message_of a)) (sym c.in-Single.is)) (c.put_single.ensures start before held)
 
 pub returns-in-Mount : goal.returns-in-Mount
 returns-in-Mount g c = λ start before held.
     let put = c.put_mounted.ensures start _ (c.put_target-in-Mount.ensures start before held) in
     subst (Gathered start (g.W.ByteSink.state c.put_mounted.new.writer) c.put_mounted.new.head)
-    (mount_put before c.in-Mount.name c.in-Mount.digest c.in-Mount.source ∙ ap (λ a. before ++ request_line (message_of a)) (sym c.in-Mount.is)) put
+    (mount_put before c.in-Mount.name c.in-Mount.digest c.in-Mount.source
+    ∙ ap (λ a. before ++ request_line (message_of a)) (sym c.in-Mount.is)) put
 
 pub returns-in-Chunk : goal.returns-in-Chunk
 returns-in-Chunk g c = λ start before held.
-    subst (λ t. Gathered start (g.W.ByteSink.state c.put_target-in-Chunk.new.writer) c.put_target-in-Chunk.new.head (before ++ t))
-    (chunk_line c.in-Chunk.name c.in-Chunk.at c.in-Chunk.range c.in-Chunk.body c.text-text-in-Chunk.result c.text-text-in-Chunk.ensures.text ∙ ap (λ a. request_line (message_of a)) (sym c.in-Chunk.is))
+    subst (λ t.
+    Gathered start (g.W.ByteSink.state c.put_target-in-Chunk.new.writer) c.put_target-in-Chunk.new.head (before ++ t))
+    (chunk_line c.in-Chunk.name c.in-Chunk.at c.in-Chunk.range c.in-Chunk.body c.text-text-in-Chunk.result
+    c.text-text-in-Chunk.ensures.text ∙ ap (λ a. request_line (message_of a)) (sym c.in-Chunk.is))
     (c.put_target-in-Chunk.ensures start before held)
 
 pub returns-in-Status : goal.returns-in-Status
 returns-in-Status g c = λ start before held.
-    subst (λ t. Gathered start (g.W.ByteSink.state c.put_target-in-Status.new.writer) c.put_target-in-Status.new.head (before ++ t))
-    (status_line c.in-Status.name c.in-Status.at c.text-text-in-Status.result c.text-text-in-Status.ensures.text ∙ ap (λ a. request_line (message_of a)) (sym c.in-Status.is))
+    subst (λ t.
+    Gathered start (g.W.ByteSink.state c.put_target-in-Status.new.writer) c.put_target-in-Status.new.head (before ++ t))
+    (status_line c.in-Status.name c.in-Status.at c.text-text-in-Status.result c.text-text-in-Status.ensures.text
+    ∙ ap (λ a. request_line (message_of a)) (sym c.in-Status.is))
     (c.put_target-in-Status.ensures start before held)
 
 pub returns-in-Close : goal.returns-in-Close
 returns-in-Close g c = λ start before held.
     let put = c.put_query.ensures start _ (c.put_target-in-Close.ensures start before held) in
     subst (Gathered start (g.W.ByteSink.state c.put_query.new.writer) c.put_query.new.head)
-    (close_line before c.in-Close.name c.in-Close.at c.in-Close.range c.in-Close.digest c.in-Close.body c.text-text-in-Close.result c.text-text-in-Close.ensures.text
+    (close_line before c.in-Close.name c.in-Close.at c.in-Close.range c.in-Close.digest c.in-Close.body
+    c.text-text-in-Close.result c.text-text-in-Close.ensures.text
     ∙ ap (λ a. before ++ request_line (message_of a)) (sym c.in-Close.is)) put

@@ -9,5 +9,7 @@ returns-clause-wrote g c =
     let start = g.W.ByteSink.state c.args.writer.now in
     let new = g.W.ByteSink.state c.finish.new.writer in
     let nothing = gathered_none start c.new-head.result c.new-head.ensures in
-    let wrote = c.finish.ensures.wrote start _ (c.put_section.ensures start _ (c.put_host.ensures start _ (c.put_request_line.ensures start [] nothing))) in
+    let wrote =
+    c.finish.ensures.wrote start _
+    (c.put_section.ensures start _ (c.put_host.ensures start _ (c.put_request_line.ensures start [] nothing))) in
     subst (λ t. Wrote start new t c.finish.result) (whole_text c.args.ask.now c.args.host.now _ c.body_of.ensures) wrote

@@ -10,7 +10,11 @@ returns-clause-wrote g c =
     let start = g.W.ByteSink.state c.args.writer.now in
     let new = g.W.ByteSink.state c.finish.new.writer in
     let nothing : Gathered start start c.new-head.result [] =
-    subst (λ h. Gathered start start h []) (sym c.new-head.ensures) ([], record { takes = takes_none start; unfailed = refl }, refl) in
-    let wrote = c.finish.ensures.wrote start _ (c.put_upload_section.ensures start _ (c.put_host.ensures start _ (c.put_target.ensures start [] nothing))) in
+    subst (λ h. Gathered start start h []) (sym c.new-head.ensures)
+    ([], record { takes = takes_none start; unfailed = refl }, refl) in
+    let wrote =
+    c.finish.ensures.wrote start _
+    (c.put_upload_section.ensures start _ (c.put_host.ensures start _ (c.put_target.ensures start [] nothing))) in
     subst (λ t. Wrote start new t c.finish.result)
-    (whole_chunk c.args.chunk.now.name.now c.args.chunk.now.at c.args.chunk.now.range c.args.chunk.now.body.now c.args.host.now c.text-text.result c.text-text.ensures.text) wrote
+    (whole_chunk c.args.chunk.now.name.now c.args.chunk.now.at c.args.chunk.now.range c.args.chunk.now.body.now
+    c.args.host.now c.text-text.result c.text-text.ensures.text) wrote

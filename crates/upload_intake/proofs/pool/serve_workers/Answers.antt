@@ -15,8 +15,24 @@ scoped-requires g c =
             (
               made.log,
               (
-                (search sendable depth 20, search sendable depth 20, search sendable depth 20, search sendable depth 20, search sendable depth 20, search sendable depth 20, search sendable depth 20),
-                (search sendable depth 20, search sendable depth 20, search sendable depth 20, search sendable depth 20, search sendable depth 20, search sendable depth 20, search sendable depth 20),
+                (
+                  search sendable depth 20,
+                  search sendable depth 20,
+                  search sendable depth 20,
+                  search sendable depth 20,
+                  search sendable depth 20,
+                  search sendable depth 20,
+                  search sendable depth 20,
+                ),
+                (
+                  search sendable depth 20,
+                  search sendable depth 20,
+                  search sendable depth 20,
+                  search sendable depth 20,
+                  search sendable depth 20,
+                  search sendable depth 20,
+                  search sendable depth 20,
+                ),
               ),
             ),
           ),

@@ -17,22 +17,31 @@ loop-worker-preserved g c =
     let other = c.in-Some.ensures.steps.0 in
     record {
       seats = ap (λ l. seats_of l ++ seats) pushed ∙ ap (λ l. l ++ seats) (map-append _ old _)
-          ∙ step_on (seats_of old) (into_iter_items c.loop-worker.seats) seats (into_iter_items c.into_iter-seats.result) c.in-Some-next.seat was.seats one;
+          ∙ step_on (seats_of old) (into_iter_items c.loop-worker.seats) seats
+          (into_iter_items c.into_iter-seats.result) c.in-Some-next.seat was.seats one;
       workers = ap (λ l. workers_of l ++ workers) pushed ∙ ap (λ l. l ++ workers) (map-append _ old _)
-          ∙ step_on (workers_of old) (into_iter_items c.loop-worker.worker-iterator) workers (into_iter_items c.into_iter-worker-iterator.result) c.in-Some.worker was.workers other;
-      servers = subst (λ l. (k : ℕ) (d : ℕ) → k < length l → get_or l k d ≡ c.args.limits.max_body) (sym (ap limits_of pushed ∙ map-append _ old _))
-          (each_push (λ _ n. n ≡ c.args.limits.max_body) (limits_of old) c.in_ok-server.server.max_body was.servers c.in_ok-server.ensures);
+          ∙ step_on (workers_of old) (into_iter_items c.loop-worker.worker-iterator) workers
+          (into_iter_items c.into_iter-worker-iterator.result) c.in-Some.worker was.workers other;
+      servers =
+          subst (λ l. (k : ℕ) (d : ℕ) → k < length l → get_or l k d ≡ c.args.limits.max_body)
+          (sym (ap limits_of pushed ∙ map-append _ old _))
+          (each_push (λ _ n. n ≡ c.args.limits.max_body) (limits_of old) c.in_ok-server.server.max_body was.servers
+          c.in_ok-server.ensures);
       len = (let n = was.len in let p = ap length one in let q = ap length other in omega arith);
     }
 
 pub returns-clause-seats : goal.returns-clause-seats
 returns-clause-seats g c =
     let was = c.loop-worker.invariant in
-    all_done (seats_of c.loop-worker.stations.items) (into_iter_items c.loop-worker.seats) (into_iter_items c.into_iter-seats.result) was.seats (was.len ∙ sym c.loop-worker.worker-iterator.rest.ok.0 ∙ c.in-None.ensures.steps.0)
+    all_done (seats_of c.loop-worker.stations.items) (into_iter_items c.loop-worker.seats)
+    (into_iter_items c.into_iter-seats.result) was.seats
+    (was.len ∙ sym c.loop-worker.worker-iterator.rest.ok.0 ∙ c.in-None.ensures.steps.0)
     ∙ c.into_iter-seats.ensures.rest
 
 pub returns-clause-workers : goal.returns-clause-workers
 returns-clause-workers g c =
     let was = c.loop-worker.invariant in
-    all_done (workers_of c.loop-worker.stations.items) (into_iter_items c.loop-worker.worker-iterator) (into_iter_items c.into_iter-worker-iterator.result) was.workers (sym c.loop-worker.worker-iterator.rest.ok.0 ∙ c.in-None.ensures.steps.0)
+    all_done (workers_of c.loop-worker.stations.items) (into_iter_items c.loop-worker.worker-iterator)
+    (into_iter_items c.into_iter-worker-iterator.result) was.workers
+    (sym c.loop-worker.worker-iterator.rest.ok.0 ∙ c.in-None.ensures.steps.0)
     ∙ c.into_iter-worker-iterator.ensures.into_iter_gives.0

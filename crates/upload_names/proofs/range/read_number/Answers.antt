@@ -1,4 +1,5 @@
-use Rattle.std.proofs.Common.{◌≡◌, ◌+◌, ◌*◌, ◌<◌, ◌-◌, List, ℕ, length, get_or, min, sym, ap, ◌∙◌, Some, true, false, subst, arith}
+use Rattle.std.proofs.Common.{◌≡◌, ◌+◌, ◌*◌, ◌<◌, ◌-◌, List, ℕ, length, get_or, min, sym, ap, ◌∙◌, Some, true, false}
+use Rattle.std.proofs.Common.{subst, arith}
 use Rattle.std.proofs.lemmas.List.{take_all}
 use Rattle.std.specs.Prelude.{◌==◌}
 use Rattle.std.specs.List.{list_all}
@@ -21,7 +22,8 @@ loop-digit-preserved c =
 
 pub returns-then-not-is_ascii_digit : goal.returns-then-not-is_ascii_digit
 returns-then-not-is_ascii_digit c =
-    sym (numeral_value-other c.args.digits.now c.loop-digit.digit-index c.loop-digit-test.true (sym c.if-not-is_ascii_digit.ensures.value))
+    sym (numeral_value-other c.args.digits.now c.loop-digit.digit-index c.loop-digit-test.true
+    (sym c.if-not-is_ascii_digit.ensures.value))
 
 -- a text that isn't empty
 filled : (text : List ℕ) → false ≡ (length text == 0) → 0 < length text
@@ -32,4 +34,5 @@ returns c =
     let text = c.args.digits.now in
     let all = take_all c.loop-digit.digit-index text c.loop-digit-test.false in
     let each = subst (λ t. list_all is_ascii_digit t ≡ true) all c.loop-digit.invariant.0 in
-    ap Some (c.loop-digit.invariant.1 ∙ ap capped_value all) ∙ sym (numeral_value-digits text (filled text c.if-is_empty.ensures) each)
+    ap Some (c.loop-digit.invariant.1 ∙ ap capped_value all)
+    ∙ sym (numeral_value-digits text (filled text c.if-is_empty.ensures) each)

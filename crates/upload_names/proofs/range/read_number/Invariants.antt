@@ -7,4 +7,5 @@ use Rattle.upload_names.proofs.range.read_number.Given as goal
 -- the digits so far are digits, and the number is what they spell
 abbrev pub invariant-loop-digit : goal.invariant-loop-digit
 invariant-loop-digit l =
-    (list_all is_ascii_digit (take l.digit-index l.digits) ≡ true) × (l.number ≡ capped_value (take l.digit-index l.digits))
+    (list_all is_ascii_digit (take l.digit-index l.digits) ≡ true)
+    × (l.number ≡ capped_value (take l.digit-index l.digits))

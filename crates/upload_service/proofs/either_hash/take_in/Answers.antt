@@ -14,11 +14,16 @@ loop-part-preserved g c = λ before holds.
     let front : List ℕ = joined (take c.loop-part.part-index parts) in
     let next : (before ++ front) ++ c.as_slice.result.now ≡ before ++ joined (take (c.loop-part.part-index + 1) parts) =
     append_assoc before front c.as_slice.result.now
-    ∙ ap (λ r. before ++ r) (ap (λ r. front ++ r) (c.as_slice.ensures ∙ c.part-item.is) ∙ sym (joined-take_next parts c.loop-part.part-index c.part-item.result (omega (arith, c.loop-part-test.true, c.loop-part.auto.part-index-end)))) in
-    subst (g.H.Digest.holds c.update.new.self) next (c.update.ensures (before ++ front) (c.loop-part.invariant before holds))
+    ∙ ap (λ r. before ++ r)
+    (ap (λ r. front ++ r) (c.as_slice.ensures ∙ c.part-item.is) ∙ sym (joined-take_next parts c.loop-part.part-index
+    c.part-item.result (omega (arith, c.loop-part-test.true, c.loop-part.auto.part-index-end)))) in
+    subst (g.H.Digest.holds c.update.new.self) next
+    (c.update.ensures (before ++ front) (c.loop-part.invariant before holds))
 
 pub returns : goal.returns
 returns g c = λ before holds.
     let parts : List (List ℕ) = c.args.parts.now in
-    let end : c.loop-part.part-index ≡ length parts = omega (arith, c.loop-part-test.false, c.loop-part.auto.part-index-end) in
-    subst (λ r. g.H.Digest.holds c.loop-part.hash (before ++ joined r)) (ap (λ n. take n parts) end ∙ take-length parts) (c.loop-part.invariant before holds)
+    let end : c.loop-part.part-index ≡ length parts =
+    omega (arith, c.loop-part-test.false, c.loop-part.auto.part-index-end) in
+    subst (λ r. g.H.Digest.holds c.loop-part.hash (before ++ joined r)) (ap (λ n. take n parts) end ∙ take-length parts)
+    (c.loop-part.invariant before holds)

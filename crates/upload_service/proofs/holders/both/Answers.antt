@@ -10,5 +10,7 @@ pub returns-in-Ok : goal.returns-in-Ok
 returns-in-Ok c = λ q.
     ap (λ s. list_any (same q) (list_map arc_value s.keys)) c.in-Ok.ensures.ok
     ∙ name_more c.args.other c.insert.new.self.keys c.insert-2.new.self.keys c.in_ok-insert-2.ensures.updates.0 q
-    ∙ ap (λ b. same q (arc_value c.args.other) || b) (name_more c.args.one c.new-names.result.keys c.insert.new.self.keys c.in_ok-insert.ensures.updates.0 q
-    ∙ ap (λ names. same q (arc_value c.args.one) || list_any (same q) (list_map arc_value names)) c.new-names.ensures.empty)
+    ∙ ap (λ b. same q (arc_value c.args.other) || b)
+    (name_more c.args.one c.new-names.result.keys c.insert.new.self.keys c.in_ok-insert.ensures.updates.0 q
+    ∙ ap (λ names. same q (arc_value c.args.one) || list_any (same q) (list_map arc_value names))
+    c.new-names.ensures.empty)

@@ -10,12 +10,15 @@ returns-in_ok-settle_tail-clause-more c =
     let first : joined c.settle_tail.new.settled.items ≡ joined old ++ c.args.tail.now.items =
     ap joined c.in_ok-settle_tail.ensures.items ∙ joined-with_part old c.args.tail.now.items in
     let second : joined c.settle.new.settled.items ≡ joined old ++ c.args.tail.now.items ++ c.args.body =
-    ap joined c.settle.ensures.items ∙ joined-with_part c.settle_tail.new.settled.items c.in-Ok.part ∙ (λ i. first i ++ (c.in-Ok.ensures.ok ∙ c.into_vec.ensures) i) in
-    (λ i. second i ++ c.in_ok-settle_tail.ensures.none i) ∙ append-nil (joined old ++ c.args.tail.now.items ++ c.args.body)
+    ap joined c.settle.ensures.items ∙ joined-with_part c.settle_tail.new.settled.items c.in-Ok.part
+    ∙ (λ i. first i ++ (c.in-Ok.ensures.ok ∙ c.into_vec.ensures) i) in
+    (λ i. second i ++ c.in_ok-settle_tail.ensures.none i)
+    ∙ append-nil (joined old ++ c.args.tail.now.items ++ c.args.body)
 
 pub returns-in_ok-settle_tail-2-clause-more : goal.returns-in_ok-settle_tail-2-clause-more
 returns-in_ok-settle_tail-2-clause-more c =
     let old : List (List ℕ) = c.args.settled.now.items in
-    let first : joined c.settle_tail-else-as_slice-gt-JOINED_SIZE.new.settled.items ≡ joined old ++ c.args.tail.now.items =
+    let first : joined c.settle_tail-else-as_slice-gt-JOINED_SIZE.new.settled.items
+    ≡ joined old ++ c.args.tail.now.items =
     ap joined c.in_ok-settle_tail-2.ensures.items ∙ joined-with_part old c.args.tail.now.items in
     (λ i. first i ++ c.into_vec-else-as_slice-gt-JOINED_SIZE.ensures i)

@@ -5,10 +5,12 @@ use Rattle.upload_service.proofs.stock.blob_of.Goals as goal
 
 pub of_parts-requires : goal.of_parts-requires
 of_parts-requires c =
-    subst (λ b. length b + length (box_value c.args.place).last < 2 ^ 64) (sym c.into_segments-segments.ensures) (c.requires.fits (session_of c.in-Some.session) c.in-Some.ensures.found)
+    subst (λ b. length b + length (box_value c.args.place).last < 2 ^ 64) (sym c.into_segments-segments.ensures)
+    (c.requires.fits (session_of c.in-Some.session) c.in-Some.ensures.found)
 
 pub returns-clause-blob : goal.returns-clause-blob
 returns-clause-blob c = λ session e.
     let both : Some (session_of c.in-Some.session) ≡ Some session = sym c.in-Some.ensures.found ∙ e in
     let is : session_of c.in-Some.session ≡ session = cc in
-    c.of_parts.ensures ∙ ap (λ b. b ++ (box_value c.args.place).last) (c.into_segments-segments.ensures ∙ (λ i. (is i).received))
+    c.of_parts.ensures
+    ∙ ap (λ b. b ++ (box_value c.args.place).last) (c.into_segments-segments.ensures ∙ (λ i. (is i).received))

@@ -8,12 +8,14 @@ pub returns-clause-blobs : goal.returns-clause-blobs
 returns-clause-blobs _ c =
     let item : Item = record { blob = c.args.blob; holders = c.in-Some.item.now.holders } in
     let holds = c.get_mut.follows.holds item in
-    blob_written c.args.items.now.entries (c.get_mut.follows.lender item).entries c.args.key.now item (Some c.in-Some.item.now) c.in-Some.ensures.value
+    blob_written c.args.items.now.entries (c.get_mut.follows.lender item).entries c.args.key.now item
+    (Some c.in-Some.item.now) c.in-Some.ensures.value
     ((holds.3 (ap is_some (sym c.in-Some.ensures.value))).0)
 
 pub returns-clause-held : goal.returns-clause-held
 returns-clause-held _ c =
     let item : Item = record { blob = c.args.blob; holders = c.in-Some.item.now.holders } in
     let holds = c.get_mut.follows.holds item in
-    held_kept c.args.items.now.entries (c.get_mut.follows.lender item).entries c.args.key.now item (Some c.in-Some.item.now) c.in-Some.ensures.value
+    held_kept c.args.items.now.entries (c.get_mut.follows.lender item).entries c.args.key.now item
+    (Some c.in-Some.item.now) c.in-Some.ensures.value
     ((holds.3 (ap is_some (sym c.in-Some.ensures.value))).0) (λ _. refl)

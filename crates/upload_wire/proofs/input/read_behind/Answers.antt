@@ -8,16 +8,21 @@ pub returns-in-Ok-clause-found : goal.returns-in-Ok-clause-found
 returns-in-Ok-clause-found g c =
     let p = c.args.parsed.now in
     let text = c.args.input.now.buffer.now in
-    let says = subst (λ t. Describes c.args.max_body (take p.spans.len t) p (Ok (Ok c.in-Ok.described))) c.unread.ensures
-    (subst (λ r. Describes c.args.max_body (take p.spans.len c.unread.result.now) p (Ok r)) c.in-Ok.is c.in_ok-described.ensures.found) in
+    let says =
+    subst (λ t. Describes c.args.max_body (take p.spans.len t) p (Ok (Ok c.in-Ok.described))) c.unread.ensures
+    (subst (λ r. Describes c.args.max_body (take p.spans.len c.unread.result.now) p (Ok r)) c.in-Ok.is
+    c.in_ok-described.ensures.found) in
     let found = subst (λ t. FindsRequest c.in-Ok.described (g.S.ByteSource.state c.args.input.now.source.now) t
-    (g.S.ByteSource.state c.read_request.new.input.source.now) c.read_request.new.input.buffer.now c.read_request.result) c.take.ensures.taken (rw c.take.ensures.unread at c.read_request.ensures.found) in
-    request_next c.args.max_body _ _ text c.read_request.new.input.buffer.now p c.in-Ok.described c.read_request.result c.requires.head says found
+    (g.S.ByteSource.state c.read_request.new.input.source.now) c.read_request.new.input.buffer.now
+    c.read_request.result) c.take.ensures.taken (rw c.take.ensures.unread at c.read_request.ensures.found) in
+    request_next c.args.max_body _ _ text c.read_request.new.input.buffer.now p c.in-Ok.described c.read_request.result
+    c.requires.head says found
 
 pub returns-in-Err-clause-found : goal.returns-in-Err-clause-found
 returns-in-Err-clause-found g c =
     let p = c.args.parsed.now in
     let text = c.args.input.now.buffer.now in
     let refused = subst (λ t. Describes c.args.max_body (take p.spans.len t) p (Ok (Err c.in-Err.bad))) c.unread.ensures
-    (subst (λ r. Describes c.args.max_body (take p.spans.len c.unread.result.now) p (Ok r)) c.in-Err.is c.in_ok-described.ensures.found) in
+    (subst (λ r. Describes c.args.max_body (take p.spans.len c.unread.result.now) p (Ok r)) c.in-Err.is
+    c.in_ok-described.ensures.found) in
     bad_framing_next c.args.max_body _ text text p c.in-Err.bad c.requires.head refused

@@ -17,13 +17,15 @@ loop-part-preserved g c = λ start text h.
     let whole : (text ++ concat (take at parts)) ++ c.as_slice.result.now ≡ text ++ concat (take (at + 1) parts) =
     append_assoc text (concat (take at parts)) c.as_slice.result.now
     ∙ ap (λ r. text ++ (concat (take at parts) ++ r)) (c.as_slice.ensures ∙ c.part-item.is)
-    ∙ ap (λ r. text ++ r) (sym (concat-take_next parts at c.part-item.result (omega (arith, c.loop-part-test.true, c.loop-part.auto.part-index-end)))) in
+    ∙ ap (λ r. text ++ r) (sym (concat-take_next parts at c.part-item.result
+    (omega (arith, c.loop-part-test.true, c.loop-part.auto.part-index-end)))) in
     subst (Gathered start (g.W.ByteSink.state c.put.new.writer) c.put.new.self) whole
     (c.put.ensures start (text ++ concat (take at parts)) (c.loop-part.invariant start text h))
 
 pub returns : goal.returns
 returns g c = λ start text h.
     let parts : List (List ℕ) = c.args.parts.now in
-    let end : c.loop-part.part-index ≡ length parts = omega (arith, c.loop-part-test.false, c.loop-part.auto.part-index-end) in
+    let end : c.loop-part.part-index ≡ length parts =
+    omega (arith, c.loop-part-test.false, c.loop-part.auto.part-index-end) in
     subst (λ t. Gathered start (g.W.ByteSink.state c.loop-part.writer) c.loop-part.head (text ++ concat t))
     (ap (λ n. take n parts) end ∙ take-length parts) (c.loop-part.invariant start text h)

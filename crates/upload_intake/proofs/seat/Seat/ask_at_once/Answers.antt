@@ -5,10 +5,12 @@ use Rattle.upload_intake.proofs.SeatMoves.{answered, unanswered, one_more_sent, 
 use Rattle.upload_intake.proofs.seat.Seat.ask_at_once.Goals as goal
 
 pub invariant_of-self-in-Some : goal.invariant_of-self-in-Some
-invariant_of-self-in-Some g c = answered _ _ _ _ c.self.invariant c.if-self.false _ _ _ _ _ c.in_default.ensures.sent c.in-Some.ensures.taken
+invariant_of-self-in-Some g c =
+    answered _ _ _ _ c.self.invariant c.if-self.false _ _ _ _ _ c.in_default.ensures.sent c.in-Some.ensures.taken
 
 pub invariant_of-self-in-None : goal.invariant_of-self-in-None
-invariant_of-self-in-None g c = unanswered _ _ _ _ c.self.invariant _ _ _ _ c.in_default.ensures.sent c.in-None.ensures.taken
+invariant_of-self-in-None g c =
+    unanswered _ _ _ _ c.self.invariant _ _ _ _ c.in_default.ensures.sent c.in-None.ensures.taken
 
 pub returns-in-Some : goal.returns-in-Some
 returns-in-Some g c = (

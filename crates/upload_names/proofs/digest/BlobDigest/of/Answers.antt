@@ -10,6 +10,8 @@ use Rattle.upload_names.proofs.digest.BlobDigest.of.Goals.{in-Sha256, in-Sha512}
 pub invariant_of-result : goal.invariant_of-result
 invariant_of-result c =
     elim c.match-algorithm.branch [
-      | in-Sha256 w ↦ subst (λ s. IsDigest (of_sum s)) (sym (w.sum-is ∙ ap sums.Sha256 w.digest.ensures)) (IsDigest-content Sha256 c.args.content.now)
-      | in-Sha512 w ↦ subst (λ s. IsDigest (of_sum s)) (sym (w.sum-is ∙ ap sums.Sha512 w.digest-in-Sha512.ensures)) (IsDigest-content Sha512 c.args.content.now)
+      | in-Sha256 w ↦ subst (λ s. IsDigest (of_sum s)) (sym (w.sum-is ∙ ap sums.Sha256 w.digest.ensures))
+          (IsDigest-content Sha256 c.args.content.now)
+      | in-Sha512 w ↦ subst (λ s. IsDigest (of_sum s)) (sym (w.sum-is ∙ ap sums.Sha512 w.digest-in-Sha512.ensures))
+          (IsDigest-content Sha512 c.args.content.now)
     ]

@@ -15,5 +15,6 @@ invariant_of-result c =
 
 pub invariant_of-result-in-Some-sha512 : goal.invariant_of-result-in-Some-sha512
 invariant_of-result-in-Some-sha512 c =
-    let is : c.finalize-in-Some-sha512.result ≡ sha512 c.args.body.now = c.finalize-in-Some-sha512.ensures c.args.body.now c.in-Some-sha512.ensures in
+    let is : c.finalize-in-Some-sha512.result ≡ sha512 c.args.body.now =
+    c.finalize-in-Some-sha512.ensures c.args.body.now c.in-Some-sha512.ensures in
     subst (λ bytes. IsDigest (of_sum (sums.Sha512 bytes))) (sym is) (IsDigest-content Sha512 c.args.body.now)

@@ -9,4 +9,5 @@ use Rattle.upload_names.proofs.digest.BlobDigest.of_hashed.Goals as goal
 pub invariant_of-result : goal.invariant_of-result
 invariant_of-result c =
     let content = c.requires.0 in
-    subst (λ bytes. IsDigest (of_sum (sums.Sha256 bytes))) (sym (c.finalize.ensures content c.requires.1)) (IsDigest-content Sha256 content)
+    subst (λ bytes. IsDigest (of_sum (sums.Sha256 bytes))) (sym (c.finalize.ensures content c.requires.1))
+    (IsDigest-content Sha256 content)

@@ -13,11 +13,15 @@ returns-clause-text c =
     elim c.match-self.branch [
       | in-Sha256 w ↦
           let is = sym (ap of_sum w.in-Sha256.is) ∙ c.self.view_is in
-          ap of_text w.text-is ∙ w.spell.ensures ∙ ap (λ bytes. prefix_of Sha256 ++ encode_lower bytes) w.as_slice.ensures ∙ ap digest_text is
+          ap of_text w.text-is ∙ w.spell.ensures
+          ∙ ap (λ bytes. prefix_of Sha256 ++ encode_lower bytes) w.as_slice.ensures ∙ ap digest_text is
       | in-Sha512 w ↦
           let is = sym (ap of_sum w.in-Sha512.is) ∙ c.self.view_is in
-          ap of_text w.text-is ∙ w.spell-in-Sha512.ensures ∙ ap (λ bytes. prefix_of Sha512 ++ encode_lower bytes) w.as_slice-in-Sha512.ensures ∙ ap digest_text is
+          ap of_text w.text-is ∙ w.spell-in-Sha512.ensures
+          ∙ ap (λ bytes. prefix_of Sha512 ++ encode_lower bytes) w.as_slice-in-Sha512.ensures ∙ ap digest_text is
     ]
 
 pub returns-clause-reads_back : goal.returns-clause-reads_back
-returns-clause-reads_back c = ap digest_of (returns-clause-text c) ∙ digest_of-text c.args.self.now (subst IsDigest c.self.view_is c.self.invariant)
+returns-clause-reads_back c =
+    ap digest_of (returns-clause-text c)
+    ∙ digest_of-text c.args.self.now (subst IsDigest c.self.view_is c.self.invariant)

@@ -5,7 +5,8 @@ use Rattle.upload_names.specs.ByteRange.{range_of, span_of, span_round, numeral_
 use Rattle.upload_names.proofs.range.ByteRange.read.Goals as goal
 
 -- the range of a text that is cut at a place
-cut_at : (text : List ℕ) (place : ℕ) (o : Option ℕ) → o ≡ position is_minus text → o ≡ Some place → range_of text ≡ span_round text place
+cut_at : (text : List ℕ) (place : ℕ) (o : Option ℕ) → o ≡ position is_minus text → o ≡ Some place
+    → range_of text ≡ span_round text place
 unfolding range_of
 cut_at text place o e f = ap (option_and_then (span_round text)) (sym e ∙ f)
 
@@ -14,7 +15,9 @@ unfolding range_of
 not_cut text o e f = ap (option_and_then (span_round text)) (sym e ∙ f)
 
 pub returns-in_err-hyphen : goal.returns-in_err-hyphen
-returns-in_err-hyphen c = c.from_residual.ensures ∙ sym (not_cut c.args.text.now c.first_hyphen.result c.first_hyphen.ensures c.in_err-hyphen.was)
+returns-in_err-hyphen c =
+    c.from_residual.ensures
+    ∙ sym (not_cut c.args.text.now c.first_hyphen.result c.first_hyphen.ensures c.in_err-hyphen.was)
 
 pub returns-in_err-first : goal.returns-in_err-first
 returns-in_err-first c =

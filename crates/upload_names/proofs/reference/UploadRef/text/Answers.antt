@@ -6,7 +6,8 @@ use Rattle.upload_names.specs.Reference.{reference_of, reference_text}
 use Rattle.upload_names.proofs.reference.UploadRef.text.Goals as goal
 
 pub copy_from_slice-requires : goal.copy_from_slice-requires
-copy_from_slice-requires c = sym (ap length (c.as_bytes.ensures.value ∙ c.encode_lower-written.ensures.text) ∙ by_index_length 36 _)
+copy_from_slice-requires c =
+    sym (ap length (c.as_bytes.ensures.value ∙ c.encode_lower-written.ensures.text) ∙ by_index_length 36 _)
 
 pub returns-clause-text : goal.returns-clause-text
 unfolding reference_text

@@ -7,11 +7,15 @@ use Rattle.upload_service.proofs.Holding.{shared_more, any_key, still_key, new_k
 use Rattle.upload_service.proofs.holders.Names.share.Goals as goal
 
 pub returns-in-Some-clause-shared : goal.returns-in-Some-clause-shared
-returns-in-Some-clause-shared c = IfOk-weaker c.try_clone.result _ _ (λ given is. is ∙ c.self.invariant c.args.name.now c.in-Some.shared.now (sym c.in-Some.ensures.value)) c.try_clone.ensures
+returns-in-Some-clause-shared c =
+    IfOk-weaker c.try_clone.result _ _
+    (λ given is. is ∙ c.self.invariant c.args.name.now c.in-Some.shared.now (sym c.in-Some.ensures.value))
+    c.try_clone.ensures
 
 pub returns-in-Some-clause-known : goal.returns-in-Some-clause-known
 returns-in-Some-clause-known c = always c.try_clone.result
-    (ap (list_any (same c.args.name.now)) (sym c.self.view_is) ∙ any_key (same c.args.name.now) c.self.inside.shared.entries ∙ ap is_some (sym c.in-Some.ensures.value))
+    (ap (list_any (same c.args.name.now)) (sym c.self.view_is)
+    ∙ any_key (same c.args.name.now) c.self.inside.shared.entries ∙ ap is_some (sym c.in-Some.ensures.value))
 
 pub invariant_of-self-2 : goal.invariant_of-self-2
 invariant_of-self-2 c =
@@ -19,18 +23,23 @@ invariant_of-self-2 c =
     (c.in-Ok.ensures.ok ∙ c.in_ok-copy.ensures ∙ sym c.in_ok-kept.ensures) c.in_ok-insert.ensures.updates.0
 
 pub returns-clause-known : goal.returns-clause-known
-returns-clause-known c = new_key c.self.inside.shared.entries c.insert.new.self.entries c.in_ok-kept.kept c.in-Ok.shared c.in_ok-insert.ensures.updates.0 c.args.name.now c.in_ok-kept.ensures
+returns-clause-known c =
+    new_key c.self.inside.shared.entries c.insert.new.self.entries c.in_ok-kept.kept c.in-Ok.shared
+    c.in_ok-insert.ensures.updates.0 c.args.name.now c.in_ok-kept.ensures
 
 pub returns-clause-kept : goal.returns-clause-kept
 returns-clause-kept c = λ q e.
-    still_key c.self.inside.shared.entries c.insert.new.self.entries c.in_ok-kept.kept c.in-Ok.shared c.in_ok-insert.ensures.updates.0 q (ap (list_any (same q)) c.self.view_is ∙ e)
+    still_key c.self.inside.shared.entries c.insert.new.self.entries c.in_ok-kept.kept c.in-Ok.shared
+    c.in_ok-insert.ensures.updates.0 q (ap (list_any (same q)) c.self.view_is ∙ e)
 
 pub returns-in-Some-clause-names : goal.returns-in-Some-clause-names
 returns-in-Some-clause-names c = always c.try_clone.result
     (known_one c.args.self.now c.args.name.now
-    (ap (list_any (same c.args.name.now)) (sym c.self.view_is) ∙ any_key (same c.args.name.now) c.self.inside.shared.entries ∙ ap is_some (sym c.in-Some.ensures.value)))
+    (ap (list_any (same c.args.name.now)) (sym c.self.view_is)
+    ∙ any_key (same c.args.name.now) c.self.inside.shared.entries ∙ ap is_some (sym c.in-Some.ensures.value)))
 
 pub returns-clause-names : goal.returns-clause-names
 returns-clause-names c = λ q.
-    one_key c.self.inside.shared.entries c.insert.new.self.entries c.in_ok-kept.kept c.in-Ok.shared c.in_ok-insert.ensures.updates.0 c.args.name.now c.in_ok-kept.ensures q
+    one_key c.self.inside.shared.entries c.insert.new.self.entries c.in_ok-kept.kept c.in-Ok.shared
+    c.in_ok-insert.ensures.updates.0 c.args.name.now c.in_ok-kept.ensures q
     ∙ ap (λ names. same q c.args.name.now || list_any (same q) names) c.self.view_is

@@ -10,4 +10,5 @@ returns-in-Here-clause-prefix c = λ by before.
     let settled : List (List ℕ) = c.args.settled.now in
     let held : ℕ = c.args.self.now.held in
     holds_all by settled held (Here c.take_in.new.self)
-    (c.take_in.ensures by (joined (take held settled)) (subst (λ r. Holds by r (joined (take held settled))) c.in-Here.is before.holds))
+    (c.take_in.ensures by (joined (take held settled))
+    (subst (λ r. Holds by r (joined (take held settled))) c.in-Here.is before.holds))

@@ -10,5 +10,6 @@ returns g c = λ by before.
     let held : ℕ = c.args.self.now.held in
     let front : List ℕ = joined (take held settled) in
     holds_all by settled held c.go_on.result
-    (subst (λ (n : ℕ). Holds by c.go_on.result (front ++ joined (take (length settled - n) (drop n settled)))) c.take_running-running.ensures.held
+    (subst (λ (n : ℕ). Holds by c.go_on.result (front ++ joined (take (length settled - n) (drop n settled))))
+    c.take_running-running.ensures.held
     (c.go_on.ensures by front (subst (λ r. Holds by r front) (sym c.take_running-running.ensures.taken) before.holds)))

@@ -10,9 +10,15 @@ pub invariant_of-self-then-is_empty : goal.invariant_of-self-then-is_empty
 invariant_of-self-then-is_empty c =
     let none : length (whole c.self.inside.segments) ≡ 0 = search rules in
     let no_tail : length c.append.new.self.tail ≡ 0 = search rules in
-    let all = settled_first c.self.inside.segments c.append.new.self c.args.body none c.in_ok-append.ensures.more no_tail in
-    let holds : Holds256 c.in-Some.hash (joined c.settled.result.now) = subst (Holds256 c.in-Some.hash) (sym (ap joined c.settled.ensures ∙ all)) c.in-Some.ensures in
+    let all =
+    settled_first c.self.inside.segments c.append.new.self c.args.body none c.in_ok-append.ensures.more no_tail in
+    let holds : Holds256 c.in-Some.hash (joined c.settled.result.now) =
+    subst (Holds256 c.in-Some.hash) (sym (ap joined c.settled.ensures ∙ all)) c.in-Some.ensures in
     record {
-      sha256 = subst (λ (p : List (List ℕ)). HoldsPrefix Sha256 p c.of_all.result) c.settled.ensures (c.of_all.ensures Sha256 holds);
-      sha512 = holds_of_more Sha512 c.self.inside.segments.settled c.append.new.self.settled c.self.inside.sha512 c.in_ok-append.ensures.front c.in_ok-append.ensures.longer c.self.invariant.sha512;
+      sha256 =
+          subst (λ (p : List (List ℕ)). HoldsPrefix Sha256 p c.of_all.result) c.settled.ensures
+          (c.of_all.ensures Sha256 holds);
+      sha512 =
+          holds_of_more Sha512 c.self.inside.segments.settled c.append.new.self.settled c.self.inside.sha512
+          c.in_ok-append.ensures.front c.in_ok-append.ensures.longer c.self.invariant.sha512;
     }

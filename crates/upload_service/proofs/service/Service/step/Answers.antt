@@ -5,8 +5,12 @@ use Rattle.upload_service.proofs.service.Service.step.Goals as goal
 pub invariant_of-self : goal.invariant_of-self
 invariant_of-self c = record {
   bounds = c.self.invariant.bounds;
-  state = lawful_turn (state_of c.self.inside.limits c.self.inside.tables) c.args.ask c.args.secret c.args.now c.turn.result _ c.self.invariant.state c.turn.ensures;
+  state =
+      lawful_turn (state_of c.self.inside.limits c.self.inside.tables) c.args.ask c.args.secret c.args.now c.turn.result
+      _ c.self.invariant.state c.turn.ensures;
 }
 
 pub returns-clause-lawful : goal.returns-clause-lawful
-returns-clause-lawful c = lawful_turn (state_of c.self.inside.limits c.self.inside.tables) c.args.ask c.args.secret c.args.now c.turn.result _ c.self.invariant.state c.turn.ensures
+returns-clause-lawful c =
+    lawful_turn (state_of c.self.inside.limits c.self.inside.tables) c.args.ask c.args.secret c.args.now c.turn.result _
+    c.self.invariant.state c.turn.ensures

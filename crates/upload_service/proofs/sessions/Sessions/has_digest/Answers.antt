@@ -15,22 +15,29 @@ use Rattle.upload_service.proofs.sessions.Sessions.has_digest.Goals as goal
 pub unreachable-requires : goal.unreachable-requires
 unreachable-requires c =
     let none : map.get c.args.self.now c.args.at.now ≡ None =
-    ap (λ (m : Table Session). map.get m c.args.at.now) (sym c.self.view_is) ∙ get-kept nat_list_cmp_total keys_exact session_of c.self.inside.open.entries c.args.at.now ∙ ap (option_map session_of) (sym c.in_default.ensures.value) in
+    ap (λ (m : Table Session). map.get m c.args.at.now) (sym c.self.view_is)
+    ∙ get-kept nat_list_cmp_total keys_exact session_of c.self.inside.open.entries c.args.at.now
+    ∙ ap (option_map session_of) (sym c.in_default.ensures.value) in
     true≢false (sym c.requires ∙ ap is_some none)
 
 pub returns-clause-is : goal.returns-clause-is
 returns-clause-is c = λ session e.
     let old : OpenSession = c.in-Some.session.now in
     let has : map.get c.args.self.now c.args.at.now ≡ Some (session_of old) =
-    ap (λ (m : Table Session). map.get m c.args.at.now) (sym c.self.view_is) ∙ get-kept nat_list_cmp_total keys_exact session_of c.self.inside.open.entries c.args.at.now ∙ ap (option_map session_of) (sym c.in-Some.ensures.value) in
+    ap (λ (m : Table Session). map.get m c.args.at.now) (sym c.self.view_is)
+    ∙ get-kept nat_list_cmp_total keys_exact session_of c.self.inside.open.entries c.args.at.now
+    ∙ ap (option_map session_of) (sym c.in-Some.ensures.value) in
     let both : Some (session_of old) ≡ Some session = sym has ∙ e in
     let is : session_of old ≡ session = cc in
-    subst (λ (s : Session). IsTrue c.has_digest.result ↔ HasDigest (s.received ++ c.args.body.now) c.args.digest.now) is c.has_digest.ensures.is
+    subst (λ (s : Session). IsTrue c.has_digest.result ↔ HasDigest (s.received ++ c.args.body.now) c.args.digest.now) is
+    c.has_digest.ensures.is
 
 pub returns-clause-same : goal.returns-clause-same
 returns-clause-same c =
     let old : OpenSession = c.in-Some.session.now in
     let at : OpenSession = record { name = old.name; received = c.has_digest.new.self; seen = old.seen } in
-    kept-written nat_list_cmp_total keys_exact session_of c.self.inside.open.entries (c.get_mut.follows.lender at).entries c.args.at.now old at c.in-Some.ensures.value (((c.get_mut.follows.holds at).3 (ap is_some (sym c.in-Some.ensures.value))).0)
+    kept-written nat_list_cmp_total keys_exact session_of c.self.inside.open.entries
+    (c.get_mut.follows.lender at).entries c.args.at.now old at c.in-Some.ensures.value
+    (((c.get_mut.follows.holds at).3 (ap is_some (sym c.in-Some.ensures.value))).0)
     (λ i. record { name = old.name; received = c.has_digest.ensures.same i; seen = old.seen })
     ∙ c.self.view_is

@@ -11,6 +11,8 @@ pub returns : goal.returns
 returns g c =
     let old : OpenSession = c.in-Some.session.now in
     let at : OpenSession = record { name = old.name; received = c.hash_for_close.new.self; seen = old.seen } in
-    kept-written nat_list_cmp_total keys_exact session_of c.self.inside.open.entries (c.get_mut.follows.lender at).entries c.args.at.now old at c.in-Some.ensures.value (((c.get_mut.follows.holds at).3 (ap is_some (sym c.in-Some.ensures.value))).0)
+    kept-written nat_list_cmp_total keys_exact session_of c.self.inside.open.entries
+    (c.get_mut.follows.lender at).entries c.args.at.now old at c.in-Some.ensures.value
+    (((c.get_mut.follows.holds at).3 (ap is_some (sym c.in-Some.ensures.value))).0)
     (λ i. record { name = old.name; received = c.hash_for_close.ensures i; seen = old.seen })
     ∙ c.self.view_is

@@ -5,7 +5,8 @@ use Rattle.std.specs.FinSet as set
 use Rattle.std.specs.Map.{lookup}
 use Rattle.upload_service.specs.Machine.{same}
 use Rattle.upload_service.specs.Kept.Stock.{is_held, digest_at, sha256_digest, sha512_digest, Stocked}
-use Rattle.upload_service.proofs.Stocked.{get_sha256, get_sha512, contains_sha256, contains_sha512, held_is_there, not_known}
+use Rattle.upload_service.proofs.Stocked.{get_sha256, get_sha512, contains_sha256, contains_sha512, held_is_there}
+use Rattle.upload_service.proofs.Stocked.{not_known}
 use Rattle.upload_service.proofs.stock.Stock.contains.Goals as goal
 
 pub returns-in-Sha256-clause-is : goal.returns-in-Sha256-clause-is
@@ -36,7 +37,10 @@ returns-in-Sha512-clause-there c = λ held.
     let is : sha512_digest c.in-Sha512.key ≡ c.args.digest.now = ap digest_at (sym c.in-Sha512.is) ∙ c.key_of.ensures in
     (λ i. is_some (map.get (sym c.self.view_is i).blobs (sym is i)))
     ∙ ap is_some (get_sha512 c.self.inside.sha256.entries c.self.inside.sha512.entries c.in-Sha512.key)
-    ∙ held_is_there _ (lookup (same c.in-Sha512.key) c.self.inside.sha512.entries) (sym c.has_holder-in-Sha512.ensures ∙ held)
+    ∙ held_is_there _ (lookup (same c.in-Sha512.key) c.self.inside.sha512.entries)
+    (sym c.has_holder-in-Sha512.ensures ∙ held)
 
 pub returns-in_default-clause-is : goal.returns-in_default-clause-is
-returns-in_default-clause-is c = sym (not_known c.self.inside.names _ c.self.invariant c.args.name.now c.args.digest.now c.in_default.ensures.none) ∙ ap (λ (s : Stocked). set.contains s.pairs (c.args.name.now, c.args.digest.now)) c.self.view_is
+returns-in_default-clause-is c =
+    sym (not_known c.self.inside.names _ c.self.invariant c.args.name.now c.args.digest.now c.in_default.ensures.none)
+    ∙ ap (λ (s : Stocked). set.contains s.pairs (c.args.name.now, c.args.digest.now)) c.self.view_is

@@ -7,4 +7,6 @@ use Rattle.upload_service.proofs.stock.Stock.new.Goals as goal
 
 pub invariant_of-result : goal.invariant_of-result
 invariant_of-result c = λ name digest has.
-    absurd (true≢false (sym has ∙ (λ i. set.contains (pairs_of (rows (c.new-2.ensures.empty i) (c.new-3.ensures.empty i))) (name, digest)) ∙ set.contains-empty pair_cmp (name, digest)))
+    absurd (true≢false
+    (sym has ∙ (λ i. set.contains (pairs_of (rows (c.new-2.ensures.empty i) (c.new-3.ensures.empty i))) (name, digest))
+    ∙ set.contains-empty pair_cmp (name, digest)))

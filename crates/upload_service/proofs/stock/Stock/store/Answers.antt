@@ -9,7 +9,9 @@ use Rattle.upload_service.proofs.Stocked.{put_again}
 use Rattle.upload_service.proofs.stock.Stock.store.Goals as goal
 
 pub put-requires : goal.put-requires
-put-requires c = ap (λ (m : FinMap digest_cmp (List ℕ)). is_some (map.get m c.args.digest)) c.in-Ok.ensures.blobs ∙ ap is_some (blob-insert_same c.args.self.now.blobs c.args.digest _)
+put-requires c =
+    ap (λ (m : FinMap digest_cmp (List ℕ)). is_some (map.get m c.args.digest)) c.in-Ok.ensures.blobs
+    ∙ ap is_some (blob-insert_same c.args.self.now.blobs c.args.digest _)
 
 pub returns-clause-blobs : goal.returns-clause-blobs
 returns-clause-blobs c =

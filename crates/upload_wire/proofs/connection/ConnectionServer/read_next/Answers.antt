@@ -13,7 +13,8 @@ returns-in_err-parsed-clause-told g c =
     let s = c.self.inside.input in
     let p = err_from_is_err_and c.from_residual.result c.from_residual.ensures.1 in
     rw (← c.self.view_is, p.1, p.2)
-    (told_fault g.O.Observer.told s.max_body s.held c.next_head.new.self.held (g.S.ByteSource.state c.args.reader.now) (g.S.ByteSource.state c.next_head.new.source)
+    (told_fault g.O.Observer.told s.max_body s.held c.next_head.new.self.held (g.S.ByteSource.state c.args.reader.now)
+    (g.S.ByteSource.state c.next_head.new.source)
     c.in_err-parsed.ensures.gave c.args.observer.now c.in_err-parsed.field-0.0 c.in_err-parsed.ensures.found)
 
 pub returns-in-Head-clause-told : goal.returns-in-Head-clause-told
@@ -23,10 +24,12 @@ returns-in-Head-clause-told g c =
     let mid = g.S.ByteSource.state c.next_head.new.source in
     let left = g.S.ByteSource.state c.next_body.new.source in
     rw (← c.self.view_is)
-    (told_behind g.O.Observer.told s.max_body s.held c.next_head.new.self.held first mid c.in_ok-parsed.ensures.gave c.args.observer.now
+    (told_behind g.O.Observer.told s.max_body s.held c.next_head.new.self.held first mid c.in_ok-parsed.ensures.gave
+    c.args.observer.now
     c.next_body.new.self.held left c.hears.new.self c.line.result.method.now c.line.result.target.now c.next_body.result
     c.line.ensures c.hears.ensures
-    (subst (λ n. ReadsNext n c.next_head.new.self.held mid c.next_body.new.self.held left c.next_body.result) c.in_ok-parsed.ensures.limit c.next_body.ensures.found)
+    (subst (λ n. ReadsNext n c.next_head.new.self.held mid c.next_body.new.self.held left c.next_body.result)
+    c.in_ok-parsed.ensures.limit c.next_body.ensures.found)
     c.next_body.ensures.came)
 
 pub returns-in-Refused-clause-told : goal.returns-in-Refused-clause-told
@@ -37,7 +40,8 @@ returns-in-Refused-clause-told g c =
     let refused = subst (λ r. FindsHead request_spans text mid (Ok r)) c.in-Refused.is c.in_ok-parsed.ensures.found in
     rw (← c.self.view_is)
     (told_unreadable g.O.Observer.told s.max_body s.held text (g.S.ByteSource.state c.args.reader.now) mid
-    c.in_ok-parsed.ensures.gave c.args.observer.now c.hears-in-Refused.new.self Head (inl (refl, refused)) (inl refused) c.hears-in-Refused.ensures)
+    c.in_ok-parsed.ensures.gave c.args.observer.now c.hears-in-Refused.new.self Head (inl (refl, refused))
+    (inl refused) c.hears-in-Refused.ensures)
 
 pub returns-in-TooLong-clause-told : goal.returns-in-TooLong-clause-told
 returns-in-TooLong-clause-told g c =
@@ -47,4 +51,5 @@ returns-in-TooLong-clause-told g c =
     let long = subst (λ r. FindsHead request_spans text mid (Ok r)) c.in-TooLong.is c.in_ok-parsed.ensures.found in
     rw (← c.self.view_is)
     (told_unreadable g.O.Observer.told s.max_body s.held text (g.S.ByteSource.state c.args.reader.now) mid
-    c.in_ok-parsed.ensures.gave c.args.observer.now c.hears-in-TooLong.new.self LongHead (inr (inl (refl, long))) (inr long) c.hears-in-TooLong.ensures)
+    c.in_ok-parsed.ensures.gave c.args.observer.now c.hears-in-TooLong.new.self LongHead (inr (inl (refl, long)))
+    (inr long) c.hears-in-TooLong.ensures)

@@ -3,7 +3,8 @@ use Rattle.upload_wire.proofs.ToldLemmas.{starts_told, goes_on_told, ends_told}
 use Rattle.upload_wire.proofs.connection.ConnectionServer.serve.Goals as goal
 
 pub loop-end-init : goal.loop-end-init
-loop-end-init g c = (starts_told g.D.Desk.moves g.O.Observer.told _ _ _ _ _ _ _ _ _ (ap (λ i. i.held) c.begin.ensures) refl, refl)
+loop-end-init g c =
+    (starts_told g.D.Desk.moves g.O.Observer.told _ _ _ _ _ _ _ _ _ (ap (λ i. i.held) c.begin.ensures) refl, refl)
 
 pub loop-end-preserved : goal.loop-end-preserved
 loop-end-preserved g c = (

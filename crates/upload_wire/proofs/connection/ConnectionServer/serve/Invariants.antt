@@ -8,7 +8,8 @@ use Rattle.upload_wire.proofs.connection.ConnectionServer.serve.Given as goal
 abbrev pub invariant-loop-end : goal.invariant-loop-end
 invariant-loop-end g l =
     SoFarTold (rules g.D.Desk.moves g.O.Observer.told l.initial.self.max_body)
-    (observed (standing l.initial.self (g.S.ByteSource.state l.initial.reader) l.initial.desk (g.W.ByteSink.state l.initial.writer)) l.initial.observer)
+    (observed (standing l.initial.self (g.S.ByteSource.state l.initial.reader) l.initial.desk
+    (g.W.ByteSink.state l.initial.writer)) l.initial.observer)
     (observed (standing l.self (g.S.ByteSource.state l.reader) l.desk (g.W.ByteSink.state l.writer)) l.observer)
     × (l.self.max_body ≡ l.initial.self.max_body)
 

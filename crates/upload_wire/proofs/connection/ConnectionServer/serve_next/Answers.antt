@@ -12,41 +12,52 @@ use Rattle.upload_wire.proofs.connection.ConnectionServer.serve_next.Goals as go
 pub returns-in-Some-clause-goes_on : goal.returns-in-Some-clause-goes_on
 returns-in-Some-clause-goes_on g c =
     λ none.
-    one_more_told g.D.Desk.moves g.O.Observer.told c.args.self.now.max_body c.args.self.now.answered c.args.self.now.held c.read_next.new.self.held
-    (g.S.ByteSource.state c.args.reader.now) (g.S.ByteSource.state c.read_next.new.reader) c.in-Ok-Request.ask c.in-Ok-Request.style
+    one_more_told g.D.Desk.moves g.O.Observer.told c.args.self.now.max_body c.args.self.now.answered
+    c.args.self.now.held c.read_next.new.self.held
+    (g.S.ByteSource.state c.args.reader.now) (g.S.ByteSource.state c.read_next.new.reader) c.in-Ok-Request.ask
+    c.in-Ok-Request.style
     c.args.desk.now c.ask.new.self (g.W.ByteSink.state c.args.writer.now) c.args.observer.now c.read_next.new.observer
     (subst (λ n. ReadsTold g.O.Observer.told c.args.self.now.max_body
     (listening c.args.self.now.held (g.S.ByteSource.state c.args.reader.now) c.args.observer.now)
     (listening c.read_next.new.self.held (g.S.ByteSource.state c.read_next.new.reader) c.read_next.new.observer) (Ok n))
     c.in-Ok-Request.field-0-is c.in-Ok-Request.ensures.told)
     (c.in-Ok-Request.ensures.costs.unfailed (ok_not_err c.in-Ok-Request.field-0 Read))
-    c.in-Some.answer (g.W.ByteSink.state c.reply-end.new.writer) c.tell_reply.new.observer c.tell_reply.ensures c.in-Some.ensures
+    c.in-Some.answer (g.W.ByteSink.state c.reply-end.new.writer) c.tell_reply.new.observer c.tell_reply.ensures
+    c.in-Some.ensures
     c.reply-end.new.self.held c.reply-end.new.self.answered c.reply-end.ensures.held
-    (subst (λ n. c.reply-end.new.self.answered ≡ n + 1) c.in-Ok-Request.ensures.answered (c.reply-end.ensures.counted none))
+    (subst (λ n. c.reply-end.new.self.answered ≡ n + 1) c.in-Ok-Request.ensures.answered
+    (c.reply-end.ensures.counted none))
     c.reply-end.result
-    (subst (λ n. Replies n c.in-Some.answer c.in-Ok-Request.style (g.W.ByteSink.state c.args.writer.now) (g.W.ByteSink.state c.reply-end.new.writer) c.reply-end.result)
+    (subst (λ n. Replies n c.in-Some.answer c.in-Ok-Request.style (g.W.ByteSink.state c.args.writer.now)
+    (g.W.ByteSink.state c.reply-end.new.writer) c.reply-end.result)
     c.in-Ok-Request.ensures.answered c.reply-end.ensures.replies)
     none
 
 pub returns-in-Some-clause-stops : goal.returns-in-Some-clause-stops
 returns-in-Some-clause-stops g c =
-    one_last_told g.D.Desk.moves g.O.Observer.told c.args.self.now.max_body c.args.self.now.answered c.args.self.now.held c.read_next.new.self.held
-    (g.S.ByteSource.state c.args.reader.now) (g.S.ByteSource.state c.read_next.new.reader) c.in-Ok-Request.ask c.in-Ok-Request.style
+    one_last_told g.D.Desk.moves g.O.Observer.told c.args.self.now.max_body c.args.self.now.answered
+    c.args.self.now.held c.read_next.new.self.held
+    (g.S.ByteSource.state c.args.reader.now) (g.S.ByteSource.state c.read_next.new.reader) c.in-Ok-Request.ask
+    c.in-Ok-Request.style
     c.args.desk.now c.ask.new.self (g.W.ByteSink.state c.args.writer.now) c.args.observer.now c.read_next.new.observer
     (subst (λ n. ReadsTold g.O.Observer.told c.args.self.now.max_body
     (listening c.args.self.now.held (g.S.ByteSource.state c.args.reader.now) c.args.observer.now)
     (listening c.read_next.new.self.held (g.S.ByteSource.state c.read_next.new.reader) c.read_next.new.observer) (Ok n))
     c.in-Ok-Request.field-0-is c.in-Ok-Request.ensures.told)
     (c.in-Ok-Request.ensures.costs.unfailed (ok_not_err c.in-Ok-Request.field-0 Read))
-    c.in-Some.answer (g.W.ByteSink.state c.reply-end.new.writer) c.tell_reply.new.observer c.tell_reply.ensures c.in-Some.ensures
+    c.in-Some.answer (g.W.ByteSink.state c.reply-end.new.writer) c.tell_reply.new.observer c.tell_reply.ensures
+    c.in-Some.ensures
     c.reply-end.new.self.held c.reply-end.new.self.answered c.reply-end.result
-    (subst (λ n. Replies n c.in-Some.answer c.in-Ok-Request.style (g.W.ByteSink.state c.args.writer.now) (g.W.ByteSink.state c.reply-end.new.writer) c.reply-end.result)
+    (subst (λ n. Replies n c.in-Some.answer c.in-Ok-Request.style (g.W.ByteSink.state c.args.writer.now)
+    (g.W.ByteSink.state c.reply-end.new.writer) c.reply-end.result)
     c.in-Ok-Request.ensures.answered c.reply-end.ensures.replies)
 
 pub returns-in-None-clause-stops : goal.returns-in-None-clause-stops
 returns-in-None-clause-stops g c =
-    gone_told g.D.Desk.moves g.O.Observer.told c.args.self.now.max_body c.args.self.now.answered c.args.self.now.held c.read_next.new.self.held
-    (g.S.ByteSource.state c.args.reader.now) (g.S.ByteSource.state c.read_next.new.reader) c.in-Ok-Request.ask c.in-Ok-Request.style
+    gone_told g.D.Desk.moves g.O.Observer.told c.args.self.now.max_body c.args.self.now.answered c.args.self.now.held
+    c.read_next.new.self.held
+    (g.S.ByteSource.state c.args.reader.now) (g.S.ByteSource.state c.read_next.new.reader) c.in-Ok-Request.ask
+    c.in-Ok-Request.style
     c.args.desk.now c.ask.new.self (g.W.ByteSink.state c.args.writer.now) c.args.observer.now c.read_next.new.observer
     (subst (λ n. ReadsTold g.O.Observer.told c.args.self.now.max_body
     (listening c.args.self.now.held (g.S.ByteSource.state c.args.reader.now) c.args.observer.now)
@@ -57,7 +68,8 @@ returns-in-None-clause-stops g c =
 
 pub returns-in-Ok-Bad-clause-stops : goal.returns-in-Ok-Bad-clause-stops
 returns-in-Ok-Bad-clause-stops g c =
-    refusal_told g.D.Desk.moves g.O.Observer.told c.args.self.now.max_body c.args.self.now.answered c.args.self.now.held c.read_next.new.self.held
+    refusal_told g.D.Desk.moves g.O.Observer.told c.args.self.now.max_body c.args.self.now.answered c.args.self.now.held
+    c.read_next.new.self.held
     (g.S.ByteSource.state c.args.reader.now) (g.S.ByteSource.state c.read_next.new.reader)
     c.args.desk.now (g.W.ByteSink.state c.args.writer.now) c.args.observer.now c.read_next.new.observer
     c.in-Ok-Bad.why
@@ -73,7 +85,8 @@ returns-in-Ok-Bad-clause-stops g c =
 
 pub returns-in-Err-clause-stops : goal.returns-in-Err-clause-stops
 returns-in-Err-clause-stops g c =
-    stopped_told g.D.Desk.moves g.O.Observer.told c.args.self.now.max_body c.args.self.now.answered c.args.self.now.held c.read_next.new.self.held
+    stopped_told g.D.Desk.moves g.O.Observer.told c.args.self.now.max_body c.args.self.now.answered c.args.self.now.held
+    c.read_next.new.self.held
     (g.S.ByteSource.state c.args.reader.now) (g.S.ByteSource.state c.read_next.new.reader)
     c.args.desk.now (g.W.ByteSink.state c.args.writer.now) c.args.observer.now c.read_next.new.observer
     c.in-Err.fault c.in-Err.ensures.told c.in-Err.ensures.costs

@@ -9,4 +9,5 @@ returns g c = λ start before held.
     let sum = c.as_bytes-2.ensures ∙ c.text.ensures.text in
     subst (Gathered start (g.W.ByteSink.state c.put-5.new.writer) c.put-5.new.self)
     (blob_text before name sum)
-    (c.put-5.ensures start _ (c.put-4.ensures start _ (c.put-3.ensures start _ (c.put-2.ensures start _ (c.put.ensures start before held)))))
+    (c.put-5.ensures start _
+    (c.put-4.ensures start _ (c.put-3.ensures start _ (c.put-2.ensures start _ (c.put.ensures start before held)))))

@@ -8,4 +8,5 @@ returns g c = λ start before held.
     let name = c.as_bytes.ensures.value ∙ c.as_str.ensures.text in
     subst (Gathered start (g.W.ByteSink.state c.put-5.new.writer) c.put-5.new.self)
     (upload_text before name c.text.ensures.text)
-    (c.put-5.ensures start _ (c.put-4.ensures start _ (c.put-3.ensures start _ (c.put-2.ensures start _ (c.put.ensures start before held)))))
+    (c.put-5.ensures start _
+    (c.put-4.ensures start _ (c.put-3.ensures start _ (c.put-2.ensures start _ (c.put.ensures start before held)))))

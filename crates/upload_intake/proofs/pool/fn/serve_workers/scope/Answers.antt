@@ -11,38 +11,57 @@ use Rattle.upload_intake.proofs.pool.fn.serve_workers.scope.Goals as goal
 -- what a thread's closure captures may cross to it
 pub spawn_scoped_with-requires-clause-runs : goal.spawn_scoped_with-requires-clause-runs
 spawn_scoped_with-requires-clause-runs g c κs within =
-    let s = c.requires.cross in
-    (search (sendable, s) depth 20, search (sendable, s) depth 20, search (sendable, s) depth 20, search (sendable, s) depth 20, search (sendable, s) depth 20, search (sendable, s) depth 20, search (sendable, s) depth 20)
+    let s = c.requires.cross in (
+      search (sendable, s) depth 20,
+      search (sendable, s) depth 20,
+      search (sendable, s) depth 20,
+      search (sendable, s) depth 20,
+      search (sendable, s) depth 20,
+      search (sendable, s) depth 20,
+      search (sendable, s) depth 20,
+    )
 
 pub settle_all-service-requires : goal.settle_all-service-requires
 settle_all-service-requires g c =
-    let m = means g.C.Conns.gives g.C.In.ByteSource.state g.C.Out.ByteSink.state g.S.Secrets.draws g.G.Gate.watches g.O.Observer.told in
+    let m =
+    means g.C.Conns.gives g.C.In.ByteSource.state g.C.Out.ByteSink.state g.S.Secrets.draws g.G.Gate.watches
+    g.O.Observer.told in
     let stations = c.captures.stations.items in
     let started = c.loop-station.started.items in
     let rest = into_iter_items c.loop-station.station-iterator in
-    let all : promised started ≡ stations = all_done (promised started) rest (into_iter_items c.into_iter-station-iterator.result) c.loop-station.invariant.order (sym c.loop-station.station-iterator.rest.ok.0 ∙ c.in-None.ensures.steps.0)
+    let all : promised started ≡ stations =
+    all_done (promised started) rest (into_iter_items c.into_iter-station-iterator.result)
+    c.loop-station.invariant.order (sym c.loop-station.station-iterator.rest.ok.0 ∙ c.in-None.ensures.steps.0)
     ∙ c.into_iter-station-iterator.ensures.into_iter_gives.0 in
     let count : length started ≡ length stations = sym (length-map started _) ∙ ap length all in
     let seats = c.join_all-ends.result.seats in
     let workers = c.join_all-ends.result.workers in
-    still_of_one_call m g.M.Moments.tells c.captures.keeper c.run-served.result stations seats.items workers.items c.requires.of_one_call c.run-served.ensures.same
+    still_of_one_call m g.M.Moments.tells c.captures.keeper c.run-served.result stations seats.items workers.items
+    c.requires.of_one_call c.run-served.ensures.same
     (sym seats.ok.0 ∙ c.join_all-ends.ensures.seats ∙ c.loop-station.started.ok.0 ∙ count)
     (subst (λ l. EachWorks m l seats.items workers.items) all c.join_all-ends.ensures.each)
 
 pub returns : goal.returns
 returns g c =
-    let m = means g.C.Conns.gives g.C.In.ByteSource.state g.C.Out.ByteSink.state g.S.Secrets.draws g.G.Gate.watches g.O.Observer.told in
+    let m =
+    means g.C.Conns.gives g.C.In.ByteSource.state g.C.Out.ByteSink.state g.S.Secrets.draws g.G.Gate.watches
+    g.O.Observer.told in
     let stations = c.captures.stations.items in
     let started = c.loop-station.started.items in
     let rest = into_iter_items c.loop-station.station-iterator in
-    let all : promised started ≡ stations = all_done (promised started) rest (into_iter_items c.into_iter-station-iterator.result) c.loop-station.invariant.order (sym c.loop-station.station-iterator.rest.ok.0 ∙ c.in-None.ensures.steps.0)
+    let all : promised started ≡ stations =
+    all_done (promised started) rest (into_iter_items c.into_iter-station-iterator.result)
+    c.loop-station.invariant.order (sym c.loop-station.station-iterator.rest.ok.0 ∙ c.in-None.ensures.steps.0)
     ∙ c.into_iter-station-iterator.ensures.into_iter_gives.0 in
     let count : length started ≡ length stations = sym (length-map started _) ∙ ap length all in
     let seats = c.join_all-ends.result.seats in
     let workers = c.join_all-ends.result.workers in
     record {
-      served = served_pool m g.M.Moments.tells c.captures.keeper c.run-served.result stations seats.items workers.items c.captures.moments c.run-served.new.moments
-          c.settle_all-service.result.service c.settle_all-service.result.log_length c.requires.fresh c.requires.seats c.requires.servers
+      served =
+          served_pool m g.M.Moments.tells c.captures.keeper c.run-served.result stations seats.items workers.items
+          c.captures.moments c.run-served.new.moments
+          c.settle_all-service.result.service c.settle_all-service.result.log_length c.requires.fresh c.requires.seats
+          c.requires.servers
           (sym seats.ok.0 ∙ c.join_all-ends.ensures.seats ∙ c.loop-station.started.ok.0 ∙ count)
           (sym workers.ok.0 ∙ c.join_all-ends.ensures.workers ∙ c.loop-station.started.ok.0 ∙ count)
           (subst (λ l. EachWorks m l seats.items workers.items) all c.join_all-ends.ensures.each)
