@@ -28,7 +28,7 @@ import time
 import raw
 
 TOP = os.path.dirname(os.path.dirname(os.path.abspath(__file__)))
-sys.path[:0] = [os.path.join(TOP, "tests"), os.path.join(TOP, "deploy")]
+sys.path.insert(0, os.path.join(TOP, "deploy"))
 import servers  # noqa: E402
 from harness.running import sha256  # noqa: E402
 

@@ -41,7 +41,7 @@ import time
 import raw
 
 TOP = os.path.dirname(os.path.dirname(os.path.abspath(__file__)))
-sys.path[:0] = [os.path.join(TOP, "tests"), os.path.join(TOP, "deploy")]
+sys.path.insert(0, os.path.join(TOP, "deploy"))
 import servers  # noqa: E402
 from harness import running  # noqa: E402
 
@@ -536,7 +536,8 @@ def push_row(server, blob, chunk):
 
 
 def converse(place, request, ending, rounds, together, meeting, told):
-    """One client of several: the same request again and again, so many written together. A reply is told by its end."""
+    """One client of several: the same request again and again, so many written together. A reply is told by its end:
+    the clients have the processors with the server, and parts of replies that they looked at would cost it requests."""
     with raw.Connection(place) as connection:
         talk, batch = connection.socket, request * together
 

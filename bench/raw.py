@@ -1,10 +1,13 @@
-"""The client of the measurements: it writes whole requests from memory to a raw socket, and takes less time for a reply
-than `http.client` does."""
+"""The client of the measurements: it writes whole requests from memory to a raw socket. It reads replies itself, since
+the tests' client takes much longer for one, and would be what is measured."""
 import collections
 import os
 import socket
+import sys
 
-PATIENCE = 300
+TOP = os.path.dirname(os.path.dirname(os.path.abspath(__file__)))
+sys.path.insert(0, os.path.join(TOP, "tests"))
+from harness.wire import PATIENCE, head_text, named  # noqa: E402
 
 Reply = collections.namedtuple("Reply", "status fields body")
 
@@ -32,11 +35,7 @@ class Connection:
 
     def head(self, method, target, **fields):
         """A request's head, with the fields of all requests and its own; of their names, each `_` stands for a `-`."""
-        lines = [
-            f"{method} {target} HTTP/1.1",
-            *(f"{name.replace('_', '-')}: {value}" for name, value in (self.always | fields).items()),
-        ]
-        return "".join(line + "\r\n" for line in lines).encode() + b"\r\n"
+        return head_text(method, target, named(self.always | fields))
 
     def ask(self, method, target, **fields):
         self.socket.sendall(self.head(method, target, **fields))

@@ -6,8 +6,8 @@ import random
 import threading
 import time
 
-from harness.running import PATIENCE, sha256
-from harness.wire import Complaint, Connection, demand, request_text
+from harness.running import sha256
+from harness.wire import PATIENCE, Complaint, Connection, demand, request_text
 
 NAMES = ["a", "lib/a", "lib/b", "lib/blobs/uploads"]
 SIZES = [0, 1, 2, 10, 300, 300, 5_000, 5_000, 70_000]

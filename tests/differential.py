@@ -27,7 +27,7 @@ import unittest
 import model
 import streams
 from harness import running, suite
-from harness.running import rest_of
+from harness.wire import rest_of
 
 # So many streams bring about all of these.
 ENOUGH = 1_000

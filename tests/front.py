@@ -109,14 +109,14 @@ def is_refused(name, heard, status, code, word):
     check(name, told[:2] == (status, code) and word in told[2], told)
 
 
-class Client:
-    """A client that keeps its connection for as long as the other side does."""
+class Client(wire.Client):
+    """A client of the service or of a reverse proxy: over TLS where it has certificates, and with a login if it is
+    given one."""
 
     def __init__(self, address, login=None, certificates=None):
-        self.place = servers.place(address)
+        super().__init__(servers.place(address))
         self.login = login and "Basic " + base64.b64encode(":".join(login).encode()).decode()
         self.tls = certificates and ssl.create_default_context(cafile=certificates)
-        self.socket = None
         # whether each request has a connection of its own
         self.fresh = False
         # how many bytes the system takes for a client that doesn't read, where that isn't left to it
@@ -132,40 +132,33 @@ class Client:
         if self.tls:
             self.socket = self.tls.wrap_socket(self.socket, server_hostname=self.place[0])
 
-    def close(self):
-        if self.socket:
-            self.socket.close()
-        self.socket = None
-
     def raw_tls(self):
         """A connection that takes any certificate."""
         context = ssl.create_default_context()
         context.check_hostname, context.verify_mode = False, ssl.CERT_NONE
-        return context.wrap_socket(running.connected(self.place))
+        return context.wrap_socket(wire.connected(self.place))
 
     def write(self, method, target, length, fields):
-        if self.socket is None:
-            self.connect()
-        lines = [f"{method} {target} HTTP/1.1", "Host: front", *(f"{name}: {value}" for name, value in fields.items())]
+        """Sends a head, for a body of a length if that is given."""
+        fields = {"Host": "front", **fields}
         if self.login:
-            lines.append(f"Authorization: {self.login}")
+            fields["Authorization"] = self.login
         if length is not None:
-            lines.append(f"Content-Length: {length}")
-        self.socket.sendall("\r\n".join([*lines, "", ""]).encode())
+            fields["Content-Length"] = length
+        self.send(wire.head_text(method, target, fields.items()))
 
     def heard(self, method):
         """The next reply: its status, its fields and its body."""
-        reply, is_last = wire.next_reply(self.socket, method)
-        if is_last or self.fresh:
+        reply = self.reply(method)
+        if self.fresh:
             self.close()
         return reply.status, reply.fields, reply.body
 
     def ask(self, method, target, body=b"", **fields):
-        fields = {name.replace("_", "-"): value for name, value in fields.items()}
         # a request that is refused in mid-body still has its reply
         with contextlib.suppress(BrokenPipeError, ConnectionResetError, ssl.SSLEOFError):
-            self.write(method, target, None if method in ("GET", "HEAD") else len(body), fields)
-            self.socket.sendall(body)
+            self.write(method, target, None if method in ("GET", "HEAD") else len(body), dict(wire.named(fields)))
+            self.send(body)
         return self.heard(method)
 
     def push(self, name, content):
@@ -359,7 +352,7 @@ def logins_are_asked_for(site):
         warnings.simplefilter("ignore")
         old.maximum_version = ssl.TLSVersion.TLSv1_1
     try:
-        old.wrap_socket(running.connected(servers.place(site.haproxy.tls)), server_hostname="127.0.0.1").close()
+        old.wrap_socket(wire.connected(servers.place(site.haproxy.tls)), server_hostname="127.0.0.1").close()
         check("TLS 1.1 is refused", False)
     except (ssl.SSLError, ConnectionError):
         check("TLS 1.1 is refused", True)

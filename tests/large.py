@@ -7,11 +7,13 @@ A body of a known length, a chunked one, and a push of a file in one chunk. The 
 pass, so that this script holds none; the server holds each. Its last line is 'N passed, M failed'.
 """
 import hashlib
+import itertools
 import random
 import tempfile
 import unittest
 
 from harness import running, suite
+from harness.wire import begun_reply, chunk_text, head_text, named
 
 MIB = 1 << 20
 # No multiple of any buffer's size.
@@ -42,20 +44,18 @@ class Large(unittest.TestCase):
         """The reply to a request whose body comes in pieces: its status and its fields."""
         client = self.server.client()
         self.addCleanup(client.close)
-        headers = {name.replace("_", "-"): value for name, value in fields.items()}
-        client.request(
-            method, target, body, {"Connection": "close", **headers}, encode_chunked="Transfer-Encoding" in headers
-        )
-        reply = client.getresponse()
-        reply.read()
-        return reply.status, reply.headers
+        client.send(head_text(method, target, [("Host", "h"), ("Connection", "close"), *named(fields)]))
+        for piece in body:
+            client.send(piece)
+        reply = client.reply(method)
+        return reply.status, reply.fields
 
     def pulled(self, digest):
         """How long the blob is, by its field and by its bytes, and their digest."""
         client = self.server.client()
         self.addCleanup(client.close)
-        client.request("GET", f"/v2/lib/a/blobs/{digest}", headers={"Connection": "close"})
-        reply = client.getresponse()
+        client.send(head_text("GET", f"/v2/lib/a/blobs/{digest}", [("Host", "h"), ("Connection", "close")]))
+        reply = begun_reply(client.socket, "GET")
         self.assertEqual(200, reply.status)
         length = 0
 
@@ -73,16 +73,17 @@ class Large(unittest.TestCase):
 
     def test_body_of_a_length(self):
         digest = digest_of(pieces(1))
-        status, fields = self.ask("POST", "/v2/lib/a/blobs/uploads/", b"", Content_Length="0")
+        status, fields = self.ask("POST", "/v2/lib/a/blobs/uploads/", [], Content_Length=0)
         self.assertEqual(202, status)
-        status, fields = self.ask("PUT", f"{fields['Location']}?digest={digest}", pieces(1), Content_Length=str(SIZE))
+        status, fields = self.ask("PUT", f"{fields['Location']}?digest={digest}", pieces(1), Content_Length=SIZE)
         self.assertEqual((201, f"/v2/lib/a/blobs/{digest}"), (status, fields["Location"]))
         self.comes_back(digest)
 
     def test_chunked_body(self):
         digest = digest_of(pieces(2))
+        chunks = map(chunk_text, itertools.chain(pieces(2), [b""]))
         status, fields = self.ask(
-            "POST", f"/v2/lib/a/blobs/uploads/?digest={digest}", pieces(2), Transfer_Encoding="chunked"
+            "POST", f"/v2/lib/a/blobs/uploads/?digest={digest}", chunks, Transfer_Encoding="chunked"
         )
         self.assertEqual((201, f"/v2/lib/a/blobs/{digest}"), (status, fields["Location"]))
         self.comes_back(digest)

@@ -9,6 +9,7 @@
 
 Its last line is 'N passed, M failed'.
 """
+import contextlib
 import random
 import time
 import unittest
@@ -16,7 +17,7 @@ import unittest
 import model
 from harness import running, suite
 from harness.running import sha256
-from harness.wire import request_text
+from harness.wire import connected, request_text
 
 ZERO_REFERENCE = model.reference_of(1)
 PLACE = f"/v2/a/blobs/uploads/{ZERO_REFERENCE}"
@@ -63,7 +64,7 @@ def rounds(place, reference, count):
     replies = [turn.text for turn in model.conversation(b"".join(FIRST + ROUND))[0]][len(FIRST) :]
     sent, wanted = (b"".join(texts).replace(ZERO_REFERENCE.encode(), reference.encode()) for texts in (ROUND, replies))
     while count:
-        with running.connected(place) as connection:
+        with connected(place) as connection:
             left = min(count, ROUNDS_OF_A_CONNECTION)
             count -= left
             while left:
@@ -77,7 +78,7 @@ def rounds(place, reference, count):
 def small_blobs(place, numbers):
     """Stores a small blob for each number. Gives whether all were answered as the model does."""
     for first in range(numbers.start, numbers.stop, model.MAX_REQUESTS // 2):
-        with running.connected(place) as connection:
+        with connected(place) as connection:
             last = min(first + model.MAX_REQUESTS // 2, numbers.stop)
             for begin in range(first, last, 100):
                 bodies = [b"%d" % number for number in range(begin, min(begin + 100, last))]
@@ -101,11 +102,12 @@ class LongRuns(unittest.TestCase):
         self.addCleanup(self.server.stop)
 
     def test_memory_stays_level(self):
-        with self.server.connect() as connection:
-            connection.sendall(FIRST[0])
-            reference = connection.recv(1 << 16).split(b"\r\n")[1].decode().rsplit("/", 1)[1]
-            connection.sendall(FIRST[1].replace(ZERO_REFERENCE.encode(), reference.encode()) + FIRST[2])
-            self.assertEqual(b"HTTP/1.1 202", connection.recv(12))
+        with contextlib.closing(self.server.client()) as client:
+            client.send(FIRST[0])
+            reference = client.reply("POST").fields["Location"].rsplit("/", 1)[1]
+            for text, method, status in ((FIRST[1], "PATCH", 202), (FIRST[2], "POST", 201)):
+                client.send(text.replace(ZERO_REFERENCE.encode(), reference.encode()))
+                self.assertEqual(status, client.reply(method).status)
         count, memory, begun = suite.OPTIONS.requests // len(ROUND) // 2, [], time.monotonic()
         with running.processes(2) as pool:
             for part in (count // 10, count - count // 10):

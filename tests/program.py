@@ -37,8 +37,9 @@ import unittest
 import urllib.parse
 
 from harness import running, shims, suite, wire
-from harness.running import USAGE, Server, ask, ask_alone, becomes, pull, rest_of, run, sha256, vanish
+from harness.running import USAGE, Server, ask_alone, becomes, pull, run, sha256
 from harness.suite import check
+from harness.wire import rest_of, vanish
 
 MIB = 1 << 20
 TOP = os.path.dirname(os.path.dirname(os.path.abspath(__file__)))
@@ -55,16 +56,16 @@ def upload(server, name, content, piece, meeting):
     """A whole upload over one connection, in pieces, once the others have opened their sessions too."""
     client = server.client()
     try:
-        status, fields, _ = ask(client, "POST", f"/v2/{name}/blobs/uploads/")
+        status, fields, _ = client.ask("POST", f"/v2/{name}/blobs/uploads/")
         place = fields["Location"]
         meeting.wait(timeout=running.PATIENCE)
         replies = [status]
         for first in range(0, len(content), piece):
             chunk = content[first : first + piece]
             last = first + len(chunk) - 1
-            status, fields, _ = ask(client, "PATCH", place, chunk, Content_Range=f"{first}-{last}")
+            status, fields, _ = client.ask("PATCH", place, chunk, Content_Range=f"{first}-{last}")
             replies.append(status if fields["Range"] == f"0-{last}" else fields["Range"])
-        replies.append(ask(client, "PUT", f"{place}?digest={sha256(content)}")[0])
+        replies.append(client.ask("PUT", f"{place}?digest={sha256(content)}")[0])
         return replies
     finally:
         client.close()
@@ -192,7 +193,7 @@ def ended_connections(server):
     body, and by a reset."""
     ask_alone(server, "GET", "/v2/")
     with contextlib.closing(server.client()) as client:
-        ask(client, "GET", "/v2/")
+        client.ask("GET", "/v2/")
     with server.connect() as refused:
         refused.sendall(b"GET /v2/ HTTP/9.9\r\n\r\n")
         rest_of(refused)
@@ -238,18 +239,18 @@ def kept_connections():
     with Server(2) as server:
         first, second, third = server.client(), server.client(), server.client()
         for client in (first, second):
-            check("a kept connection", [ask(client, "GET", "/v2/")[0] for _ in range(3)] == [200] * 3)
-        third.request("GET", "/v2/")
-        third.sock.settimeout(0.3)
+            check("a kept connection", [client.ask("GET", "/v2/")[0] for _ in range(3)] == [200] * 3)
+        third.send(wire.request_text("GET", "/v2/"))
+        third.socket.settimeout(0.3)
         try:
-            third.sock.recv(1, socket.MSG_PEEK)
+            third.socket.recv(1, socket.MSG_PEEK)
             check("a third connection waits", False, "it was answered")
         except TimeoutError:
             check("a third connection waits", True)
-        third.sock.settimeout(running.PATIENCE)
-        status, fields, _ = ask(first, "GET", "/v2/", Connection="close")
+        third.socket.settimeout(running.PATIENCE)
+        status, fields, _ = first.ask("GET", "/v2/", Connection="close")
         check("a request that asks to close", (status, fields["Connection"]) == (200, "close"), fields.items())
-        check("a third connection once one has ended", third.getresponse().status == 200)
+        check("a third connection once one has ended", third.reply("GET").status == 200)
         for client in (first, second, third):
             client.close()
         check("the last line after kept connections", server.end() == ("served\n", 0))
@@ -266,19 +267,19 @@ def serves_as_many_at_once_as_it_is_told():
     for value, number in ((None, 2), ("1", 1), ("3", 3), ("16", 16)):
         with Server(2, env=with_workers(value)) as server:
             clients = [server.client() for _ in range(number)]
-            statuses = [ask(client, "GET", "/v2/")[0] for client in clients]
+            statuses = [client.ask("GET", "/v2/")[0] for client in clients]
             check(f"{number} connections at once", statuses == [200] * number, statuses)
             late = server.client()
-            late.request("GET", "/v2/")
-            late.sock.settimeout(0.3)
+            late.send(wire.request_text("GET", "/v2/"))
+            late.socket.settimeout(0.3)
             try:
-                late.sock.recv(1, socket.MSG_PEEK)
+                late.socket.recv(1, socket.MSG_PEEK)
                 check(f"a connection beside {number} waits", False, "it was answered")
             except TimeoutError:
                 check(f"a connection beside {number} waits", True)
-            late.sock.settimeout(running.PATIENCE)
+            late.socket.settimeout(running.PATIENCE)
             clients.pop().close()
-            check(f"a connection beside {number} once one has ended", late.getresponse().status == 200)
+            check(f"a connection beside {number} once one has ended", late.reply("GET").status == 200)
             for client in (*clients, late):
                 client.close()
             # each worker takes two connections
@@ -316,8 +317,8 @@ def idle_connections_hold_nobody():
     content = random.Random(16).randbytes(20 * 10_000)
     with Server(env=with_workers("16")) as server, contextlib.ExitStack() as open_ones:
         idle = [open_ones.enter_context(contextlib.closing(server.client())) for _ in range(5)]
-        begun = [ask(client, "GET", "/v2/")[0] for client in idle]
-        places = [ask(idle[0], "POST", "/v2/lib/slow/blobs/uploads/")[1]["Location"] for _ in range(5)]
+        begun = [client.ask("GET", "/v2/")[0] for client in idle]
+        places = [idle[0].ask("POST", "/v2/lib/slow/blobs/uploads/")[1]["Location"] for _ in range(5)]
         # five inside a head, and five inside a body
         dripping = [Dripping(server, "GET", "/v2/") for _ in range(5)] + [
             Dripping(server, "PATCH", place, bytes(100)) for place in places
@@ -325,14 +326,14 @@ def idle_connections_hold_nobody():
         begun += [client.first and client.first.status for client in dripping]
         check("fifteen connections that have workers", begun == [200] * 15, begun)
         with contextlib.closing(server.client()) as quick:
-            place, statuses = ask(quick, "POST", "/v2/lib/quick/blobs/uploads/")[1]["Location"], []
+            place, statuses = quick.ask("POST", "/v2/lib/quick/blobs/uploads/")[1]["Location"], []
             for first in range(0, len(content), 10_000):
                 for client in dripping:
                     client.drip()
-                statuses.append(ask(quick, "PATCH", place, content[first : first + 10_000])[0])
-            statuses.append(ask(quick, "PUT", f"{place}?digest={sha256(content)}")[0])
+                statuses.append(quick.ask("PATCH", place, content[first : first + 10_000])[0])
+            statuses.append(quick.ask("PUT", f"{place}?digest={sha256(content)}")[0])
             check("an upload beside fifteen that are idle", statuses == [202] * 20 + [201], statuses)
-            pulled = ask(quick, "GET", f"/v2/lib/quick/blobs/{sha256(content)}")[2]
+            pulled = quick.ask("GET", f"/v2/lib/quick/blobs/{sha256(content)}")[2]
             check("a pull beside them", pulled == content, len(pulled))
         ends = [client.end() for client in dripping]
         check(
@@ -340,7 +341,7 @@ def idle_connections_hold_nobody():
             [end and end.status for end in ends] == [200] * 5 + [202] * 5,
             list(map(str, ends)),
         )
-        check("what was idle goes on", [ask(client, "GET", "/v2/")[0] for client in idle] == [200] * 5)
+        check("what was idle goes on", [client.ask("GET", "/v2/")[0] for client in idle] == [200] * 5)
 
 
 def refuses_other_numbers_of_workers():
@@ -520,7 +521,7 @@ def accounted(text):
 
 
 def replies_to(client, count):
-    return [ask(client, "GET", "/v2/")[0] for _ in range(count)]
+    return [client.ask("GET", "/v2/")[0] for _ in range(count)]
 
 
 def unread_log():
@@ -732,13 +733,13 @@ def descriptors_come_again():
     """A connection that finds no descriptor waits until there is one."""
     with Server(1, stderr=subprocess.PIPE) as server:
         client = server.client()
-        check("a reply while there are descriptors", ask(client, "GET", "/v2/")[0] == 200)
+        check("a reply while there are descriptors", client.ask("GET", "/v2/")[0] == 200)
         server.allow_descriptors(server.descriptors() - 1)
         with server.connect() as waiting:
             waiting.sendall(b"GET /v2/ HTTP/1.1\r\nConnection: close\r\n\r\n")
             check("no reply while there are none", not select.select([waiting], [], [], 1)[0])
             check("why there is no reply", server.told(60) == TOO_MANY_FILES)
-            check("the other worker goes on meanwhile", ask(client, "GET", "/v2/")[0] == 200)
+            check("the other worker goes on meanwhile", client.ask("GET", "/v2/")[0] == 200)
             server.allow_descriptors(64)
             reply = rest_of(waiting)
             check("a reply once there are descriptors", reply.startswith(b"HTTP/1.1 200 OK\r\n"), reply)
@@ -849,20 +850,20 @@ def signals():
         stored = ask_alone(server, "POST", f"/v2/lib/a/blobs/uploads/?digest={digest}", content)[0]
         check("a blob before signals", stored == 201, stored)
         with contextlib.closing(server.client()) as idle, server.connect() as busy:
-            check("a reply before signals", ask(idle, "GET", "/v2/")[0] == 200)
+            check("a reply before signals", idle.ask("GET", "/v2/")[0] == 200)
             head = f"POST /v2/lib/b/blobs/uploads/?digest={digest} HTTP/1.1\r\nContent-Length: {len(content)}\r\n\r\n"
             busy.sendall(head.encode() + content[:MIB])
             stop_for_a_while(server)
             busy.sendall(content[MIB:])
             reply = busy.recv(65536)
             check("a body over signals", reply.startswith(b"HTTP/1.1 201 Created\r\n"), reply)
-            check("an idle connection over signals", ask(idle, "GET", "/v2/")[0] == 200)
+            check("an idle connection over signals", idle.ask("GET", "/v2/")[0] == 200)
             busy.sendall(f"GET /v2/lib/b/blobs/{digest} HTTP/1.1\r\nConnection: close\r\n\r\n".encode())
             # the reply waits for its reader by now
             time.sleep(0.5)
             stop_for_a_while(server)
             check("a reply over signals", rest_of(busy).endswith(content))
-            check("an idle connection over more signals", ask(idle, "GET", "/v2/")[0] == 200)
+            check("an idle connection over more signals", idle.ask("GET", "/v2/")[0] == 200)
 
 
 def stop_for_a_while(server):
@@ -1061,13 +1062,13 @@ def an_image_by(name, digests, folder):
         Server(env=with_workers("16") | {"BLOBD_LOG": "1"}, stderr=stderr) as server,
         contextlib.closing(server.client()) as idle,
     ):
-        check(f"a connection before {name}", ask(idle, "GET", "/v2/")[0] == 200)
+        check(f"a connection before {name}", idle.ask("GET", "/v2/")[0] == 200)
         begun = time.monotonic()
         status, printed = IMAGE_CLIENTS[name](folder, f"docker://{server.addr}/{repository}:one")
         # a connection is ended behind a minute of silence
         check(
             f"{name} waits for no other connection",
-            time.monotonic() - begun > 55 or ask(idle, "GET", "/v2/")[0] == 200,
+            time.monotonic() - begun > 55 or idle.ask("GET", "/v2/")[0] == 200,
             printed,
         )
         check(f"{name} stops at the manifest", status != 0 and "manifest" in printed, (status, printed))
@@ -1153,13 +1154,13 @@ def status_cases(name, place, next_place, digest):
 
 def answered(client, name):
     """The statuses of such requests over one connection, and those that are wanted."""
-    places = [ask(client, "POST", f"/v2/{name}/blobs/uploads/")[1]["Location"] for _ in range(2)]
-    begun = ask(client, "PATCH", places[0], b"abc")[0]
+    places = [client.ask("POST", f"/v2/{name}/blobs/uploads/")[1]["Location"] for _ in range(2)]
+    begun = client.ask("PATCH", places[0], b"abc")[0]
     cases = status_cases(name, *places, sha256(b"abc"))
     got = []
     for method, target, body, fields, _ in cases:
         try:
-            got.append(ask(client, method, target, body, **fields)[0])
+            got.append(client.ask(method, target, body, **fields)[0])
         except OSError as error:
             return [begun, *got, error], [202, *(wanted for *_, wanted in cases)]
     return [begun, *got], [202, *(wanted for *_, wanted in cases)]
@@ -1172,7 +1173,7 @@ def statuses():
         for which, client in enumerate(clients):
             got, wanted = answered(client, f"lib/{which}")
             check(f"the statuses that worker {which} tells", got == wanted, got)
-        opened_all = [ask(clients[0], "POST", "/v2/lib/many/blobs/uploads/")[0] for _ in range(1030)]
+        opened_all = [clients[0].ask("POST", "/v2/lib/many/blobs/uploads/")[0] for _ in range(1030)]
         # two sessions of answered() are still open
         check(
             "as many sessions as there may be, and no more", opened_all == [202] * 1022 + [429] * 8, opened_all[1015:]
@@ -1188,10 +1189,10 @@ def many_uploads():
     with Server() as server, contextlib.closing(server.client()) as client:
         statuses = collections.Counter()
         for content in contents:
-            opening, fields, _ = ask(client, "POST", "/v2/lib/a/blobs/uploads/")
-            statuses[opening, ask(client, "PUT", f"{fields['Location']}?digest={sha256(content)}", content)[0]] += 1
+            opening, fields, _ = client.ask("POST", "/v2/lib/a/blobs/uploads/")
+            statuses[opening, client.ask("PUT", f"{fields['Location']}?digest={sha256(content)}", content)[0]] += 1
         check("many uploads", statuses == {(202, 201): 1_500}, statuses)
-        pulled = [ask(client, "GET", f"/v2/lib/a/blobs/{sha256(content)}")[2] for content in contents]
+        pulled = [client.ask("GET", f"/v2/lib/a/blobs/{sha256(content)}")[2] for content in contents]
         check("what many uploads left", pulled == contents)
 
 
@@ -1270,7 +1271,7 @@ def used_now_and_then(server):
     with contextlib.closing(server.client()) as client:
         for _ in range(6):
             with contextlib.suppress(OSError, http.client.HTTPException):
-                statuses.append(ask(client, "GET", "/v2/")[0])
+                statuses.append(client.ask("GET", "/v2/")[0])
             time.sleep(0.7)
     return statuses
 
@@ -1400,7 +1401,7 @@ class Hashing:
         self.chance, self.before, self.replies = random.Random(12), (0, 0), []
 
     def ask(self, method, target, body=b""):
-        status, fields, _ = ask(self.client, method, target, body)
+        status, fields, _ = self.client.ask(method, target, body)
         self.replies.append(status)
         return fields["Location"]
 
@@ -1477,7 +1478,7 @@ def each_byte_is_hashed_once():
 def timed_close(client, place, digest):
     """The status of a close without a body, and how long it took."""
     begun = time.monotonic()
-    status, _, _ = ask(client, "PUT", f"{place}?digest={digest}")
+    status, _, _ = client.ask("PUT", f"{place}?digest={digest}")
     return status, time.monotonic() - begun
 
 
@@ -1486,16 +1487,16 @@ def longest_wait(client, other):
     longest = 0
     while not other.done():
         begun = time.monotonic()
-        ask(client, "GET", "/v2/")
+        client.ask("GET", "/v2/")
         longest = max(longest, time.monotonic() - begun)
     return longest
 
 
 def in_chunks(client, content):
     """Where an upload is that has all of a content, and the statuses of its chunks."""
-    place = ask(client, "POST", "/v2/lib/a/blobs/uploads/")[1]["Location"]
+    place = client.ask("POST", "/v2/lib/a/blobs/uploads/")[1]["Location"]
     pieces = [content[first : first + 32 * MIB] for first in range(0, len(content), 32 * MIB)]
-    return place, [ask(client, "PATCH", place, piece)[0] for piece in pieces]
+    return place, [client.ask("PATCH", place, piece)[0] for piece in pieces]
 
 
 def closes_hold_nobody():

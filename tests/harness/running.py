@@ -1,26 +1,20 @@
 """Runs the built program: over one connection, and as a server over loopback."""
 import concurrent.futures
 import hashlib
-import http.client
 import multiprocessing
 import os
 import resource
 import select
-import socket
-import struct
 import subprocess
 import time
 
+from .wire import PATIENCE, Client, connected
 
 # The built program: the first word of every script.
 PROGRAM = ""
 
 # What it prints to standard error, in a line, for words that are no command.
 USAGE = "usage: blobd once | serve ADDR COUNT | push ADDR NAME FILE CHUNK"
-
-# Seconds after which what is waited for is taken to hang. No test tells speed by it: a machine that is slow for a while
-# passes.
-PATIENCE = 300
 
 
 def once(sent):
@@ -33,10 +27,6 @@ def run(*words, **options):
     """Standard output, the exit status and standard error of a run of the program that ends by itself."""
     ran = subprocess.run([PROGRAM, *words], capture_output=True, text=True, timeout=PATIENCE, check=False, **options)
     return ran.stdout, ran.returncode, ran.stderr
-
-
-def connected(place):
-    return socket.create_connection(place, timeout=PATIENCE)
 
 
 def becomes(wanted, value):
@@ -93,7 +83,7 @@ class Server:
         return connected(self.place())
 
     def client(self):
-        return http.client.HTTPConnection(*self.place(), timeout=PATIENCE)
+        return Client(self.place())
 
     def memory(self):
         """The bytes of its memory that are resident."""
@@ -134,19 +124,12 @@ class Server:
         return self.process.stdout.read(), self.process.wait(timeout=PATIENCE)
 
 
-def ask(client, method, target, body=b"", **fields):
-    """The reply to one request over a kept connection: its status, its fields and its body."""
-    headers = {name.replace("_", "-"): value for name, value in fields.items()}
-    client.request(method, target, body=body, headers={"Content-Length": str(len(body)), **headers})
-    reply = client.getresponse()
-    return reply.status, reply.headers, reply.read()
-
-
 def ask_alone(server, method, target, body=b"", **fields):
-    """The same over a connection of its own, which the request asks to close."""
+    """The reply to one request over a connection of its own, which the request asks to close: its status, its fields
+    and its body."""
     client = server.client()
     try:
-        return ask(client, method, target, body, Connection="close", **fields)
+        return client.ask(method, target, body, Connection="close", **fields)
     finally:
         client.close()
 
@@ -159,17 +142,3 @@ def pull(server, name, digest):
 
 def sha256(content):
     return "sha256:" + hashlib.sha256(content).hexdigest()
-
-
-def rest_of(connection):
-    """All that comes until the other side closes; a reset raises."""
-    parts = []
-    while part := connection.recv(65536):
-        parts.append(part)
-    return b"".join(parts)
-
-
-def vanish(connection):
-    """Closes so that the other side is reset."""
-    connection.setsockopt(socket.SOL_SOCKET, socket.SO_LINGER, struct.pack("ii", 1, 0))
-    connection.close()
