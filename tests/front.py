@@ -25,10 +25,8 @@ import collections
 import concurrent.futures
 import contextlib
 import functools
-import gzip
 import hashlib
 import http.client
-import io
 import json
 import os
 import random
@@ -39,7 +37,6 @@ import socket
 import ssl
 import subprocess
 import sys
-import tarfile
 import tempfile
 import threading
 import time
@@ -52,13 +49,14 @@ from harness.suite import check
 
 TOP = os.path.dirname(os.path.dirname(os.path.abspath(__file__)))
 sys.path.insert(0, os.path.join(TOP, "deploy"))
+import images  # noqa: E402
 import servers  # noqa: E402
 
 KIB, MIB = 1 << 10, 1 << 20
 LOGIN = ("alice", "wonder")
 # what every reverse proxy needs
 FRONT = ("haproxy", "lua-cjson", "openssl")
-IMAGE_TYPE = "application/vnd.oci.image.manifest.v1+json"
+IMAGE_TYPE = images.MANIFEST
 INDEX_TYPE = "application/vnd.oci.image.index.v1+json"
 EMPTY_BLOB = sha256(b"")
 # uploads that a shard has room for
@@ -241,43 +239,11 @@ def manifest_of(config, *layers):
     return json.dumps({"schemaVersion": 2, "mediaType": IMAGE_TYPE, **named}).encode()
 
 
-def layer(number, size):
-    """A layer's tar, with one file of random bytes."""
-    content = random.Random(number).randbytes(size)
-    room = io.BytesIO()
-    with tarfile.open(fileobj=room, mode="w") as tar:
-        entry = tarfile.TarInfo(f"file{number}")
-        entry.size = size
-        tar.addfile(entry, io.BytesIO(content))
-    return room.getvalue()
-
-
 def make_image(folder):
     """An image of six layers, from an empty file to 8 MiB, in the layout that OCI defines."""
-    blobs = os.path.join(folder, "blobs", "sha256")
-    os.makedirs(blobs)
-
-    def keep(content, kind):
-        with open(os.path.join(blobs, sha256(content).partition(":")[2]), "wb") as file:
-            file.write(content)
-        return descriptor(content, kind)
-
-    tars = [layer(number, size) for number, size in enumerate([0, 1, 5000, 70 * KIB, MIB, 8 * MIB])]
-    layers = [keep(gzip.compress(tar, 1, mtime=0), "application/vnd.oci.image.layer.v1.tar+gzip") for tar in tars]
-    config = {
-        "architecture": "amd64",
-        "os": "linux",
-        "config": {},
-        "rootfs": {"type": "layers", "diff_ids": [sha256(tar) for tar in tars]},
-    }
-    named = {"config": keep(json.dumps(config).encode(), "application/vnd.oci.image.config.v1+json"), "layers": layers}
-    manifest = keep(json.dumps({"schemaVersion": 2, "mediaType": IMAGE_TYPE, **named}).encode(), IMAGE_TYPE)
-    manifest["annotations"] = {"org.opencontainers.image.ref.name": "one"}
-    for name, content in (
-        ("oci-layout", {"imageLayoutVersion": "1.0.0"}), ("index.json", {"schemaVersion": 2, "manifests": [manifest]})
-    ):
-        with open(os.path.join(folder, name), "w", encoding="ascii") as file:
-            json.dump(content, file)
+    sizes = [0, 1, 5000, 70 * KIB, MIB, 8 * MIB]
+    tars = [images.layer_of(f"file{at}", random.Random(at).randbytes(size)) for at, size in enumerate(sizes)]
+    images.write_layout(folder, tars, "one", is_packed=True)
 
 
 def blobs_in(folder):

@@ -17,18 +17,15 @@ import fcntl
 import gzip
 import hashlib
 import http.client
-import io
-import json
 import os
 import random
 import re
-import resource
 import select
 import shutil
 import signal
 import socket
 import subprocess
-import tarfile
+import sys
 import tempfile
 import termios
 import threading
@@ -41,8 +38,11 @@ from harness.running import USAGE, Server, ask_alone, becomes, pull, run, sha256
 from harness.suite import check
 from harness.wire import rest_of, vanish
 
-MIB = 1 << 20
 TOP = os.path.dirname(os.path.dirname(os.path.abspath(__file__)))
+sys.path.insert(0, os.path.join(TOP, "deploy"))
+from images import layer_of, write_layout  # noqa: E402
+
+MIB = 1 << 20
 
 
 def opened(server, name):
@@ -956,48 +956,6 @@ def curl_uploads(folder):
             check(f"what curl uploaded ({how})", pull(server, name, sha256(content)) == content)
 
 
-def put_blob(layout, content):
-    """Puts a blob into an image layout, and gives its descriptor."""
-    digest = sha256(content)
-    with open(os.path.join(layout, "blobs", "sha256", digest.removeprefix("sha256:")), "wb") as file:
-        file.write(content)
-    return {"digest": digest, "size": len(content)}
-
-
-def layer_of(number, size):
-    """A layer's tar, with one file of random bytes."""
-    room = io.BytesIO()
-    with tarfile.open(fileobj=room, mode="w") as tar:
-        entry = tarfile.TarInfo(f"file{number}")
-        entry.size = size
-        tar.addfile(entry, io.BytesIO(random.Random(number).randbytes(size)))
-    return room.getvalue()
-
-
-def image_layout(layout, *layers):
-    """An image of these layers, as an OCI layout. Gives the digests of its configuration and its layers."""
-    media = "application/vnd.oci.image."
-    os.makedirs(os.path.join(layout, "blobs", "sha256"))
-    rootfs = {"type": "layers", "diff_ids": [sha256(layer) for layer in layers]}
-    config = put_blob(
-        layout, json.dumps({"architecture": "amd64", "os": "linux", "config": {}, "rootfs": rootfs}).encode()
-    )
-    stored = [put_blob(layout, layer) for layer in layers]
-    manifest = {
-        "schemaVersion": 2,
-        "mediaType": media + "manifest.v1+json",
-        "config": {"mediaType": media + "config.v1+json", **config},
-        "layers": [{"mediaType": media + "layer.v1.tar", **layer} for layer in stored],
-    }
-    entry = {"mediaType": manifest["mediaType"], **put_blob(layout, json.dumps(manifest).encode())}
-    for name, content in (
-        ("oci-layout", {"imageLayoutVersion": "1.0.0"}), ("index.json", {"schemaVersion": 2, "manifests": [entry]})
-    ):
-        with open(os.path.join(layout, name), "w", encoding="utf-8") as file:
-            json.dump(content, file)
-    return [blob["digest"] for blob in (config, *stored)]
-
-
 def output_of(words, folder):
     """A program's exit status, and what it printed, on standard error too. It runs in this folder."""
     ran = subprocess.run(
@@ -1089,9 +1047,10 @@ def an_image_by(name, digests, folder):
 
 def images(folder):
     """Those of the clients that are installed push the same image."""
-    digests = image_layout(
+    sizes = (0, 5_000, 70_000, 2 * MIB)
+    digests = write_layout(
         os.path.join(folder, "layout"),
-        *[layer_of(number, size) for number, size in enumerate((0, 5_000, 70_000, 2 * MIB))],
+        [layer_of(f"file{at}", random.Random(at).randbytes(size)) for at, size in enumerate(sizes)],
     )
     for name in IMAGE_CLIENTS:
         if not shutil.which(name):
@@ -1109,7 +1068,7 @@ def skopeo_copies(folder):
         print("skipped: skopeo isn't installed")
         return
     layout = os.path.join(folder, "layout")
-    digests = image_layout(layout, random.Random(6).randbytes(2 * MIB))
+    digests = write_layout(layout, [random.Random(6).randbytes(2 * MIB)])
     with Server(1000) as server:
         words = ["skopeo", "--insecure-policy", "copy", "--dest-tls-verify=false", "--preserve-digests"]
         words += ["--dest-no-creds", "--dest-compress=false", f"oci:{layout}", f"docker://{server.addr}/lib/image:one"]
