@@ -1,5 +1,6 @@
 pub mod Counts
 pub mod States
+pub mod Histories
 pub mod Faults
 pub mod FaultTexts
 pub mod Reading

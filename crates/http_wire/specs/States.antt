@@ -1,4 +1,4 @@
--- What contracts see of a source and of a sink.
+-- What contracts see of a source, of a sink, and of a transcript.
 use Rattle.std.specs.Prelude.{ℕ, Bool, List, Option}
 
 -- of a source: its transcript, which is the bytes that its reads have given so far, in order, and whether the last read
@@ -20,3 +20,8 @@ pub record SinkState : Type 0 where
   pub writes : ℕ
   pub failed_writes : ℕ
   pub flushed : Bool
+
+-- of a transcript: its bytes, in order, and whether the last piece of it was empty
+pub record TranscriptState : Type 0 where
+  pub bytes : List ℕ
+  pub ended : Bool

@@ -92,8 +92,8 @@ impl<R> FromRead<R> {
         ensures { result ≡ record {
           inner = inner;
           given = record { bytes = []; ended = false };
-          reads = record { count = 0 };
-          failed_reads = record { count = 0 };
+          reads = 0;
+          failed_reads = 0;
         } }
     {
         FromRead {
@@ -110,8 +110,8 @@ impl<R: Read> ByteSource for FromRead<R> {
       given = s.given.bytes;
       ended = s.given.ended;
       remaining = R.remaining s.inner;
-      reads = s.reads.count;
-      failed_reads = s.failed_reads.count;
+      reads = s.reads;
+      failed_reads = s.failed_reads;
     } };
 
     fn read(&mut self, buf: &mut [u8]) -> Result<usize, Failed> {
@@ -146,9 +146,9 @@ impl<W> ToWrite<W> {
         ensures { result ≡ record {
           inner = inner;
           taken = record { bytes = []; ended = false };
-          writes = record { count = 0 };
-          failed_writes = record { count = 0 };
-          unflushed = record { count = 0 };
+          writes = 0;
+          failed_writes = 0;
+          unflushed = 0;
         } }
     {
         ToWrite {
@@ -179,9 +179,9 @@ impl<W: Write> ByteSink for ToWrite<W> {
     ghost state = { λ s. record {
       taken = s.taken.bytes;
       contents = W.contents s.inner;
-      writes = s.writes.count;
-      failed_writes = s.failed_writes.count;
-      flushed = s.unflushed.count == 0;
+      writes = s.writes;
+      failed_writes = s.failed_writes;
+      flushed = s.unflushed == 0;
     } };
 
     fn write(&mut self, buf: &[u8]) -> Result<usize, Failed> {

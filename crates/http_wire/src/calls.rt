@@ -1,36 +1,39 @@
-//! A count that only proofs read. It takes no memory, and its methods do nothing at run time.
-ghost use Rattle.std.specs.Prelude.{◌≡◌, ℕ, ◌+◌};
-ghost use Rattle.std.specs.Borrow.{ftrue};
+//! A count, for proofs alone.
+ghost use Rattle.std.specs.Prelude.{◌≡◌, ◌+◌};
 
+use crate::history::History;
 use std::marker::Model;
 
-/// A clause reads the number as `count`.
+/// How often something was called. A clause reads it as a number.
 #[derive(Drop)]
 pub struct Calls {
-    pub ghost count: { ℕ },
+    made: History<()>,
 }
 
 impl Model for Calls {
-    ghost also_owns = { λ _. ftrue };
+    ghost use Rattle.std.specs.Prelude.{ℕ, length};
+
+    ghost Value = { ℕ };
+
+    ghost view = { λ c. length c.made };
 }
-
-// It owns nothing.
-unsafe impl Send for Calls {}
-
-unsafe impl Sync for Calls {}
 
 impl Calls {
     /// No call.
     pub fn none() -> Calls
-        ensures { result.count ≡ 0 }
+        ensures { result ≡ 0 }
     {
-        Calls {}
+        Calls {
+            made: History::none(),
+        }
     }
 
     /// One call more.
     pub fn and_one(&self) -> Calls
-        ensures { result.count ≡ self.now.count + 1 }
+        ensures { result ≡ self.now + 1 }
     {
-        Calls {}
+        Calls {
+            made: self.made.and(&()),
+        }
     }
 }

@@ -19,6 +19,7 @@ mod fields;
 mod framing;
 mod gather;
 mod head;
+mod history;
 mod input;
 mod laws;
 mod query;
@@ -39,6 +40,7 @@ pub use fields::{
 pub use framing::{Framing, framing_of, length_of};
 pub use gather::Gather;
 pub use head::{Grammar, HeadRead, MAX_FIELDS, MAX_HEAD, Verdict, read_head};
+pub use history::History;
 pub use input::Input;
 pub use laws::{bodies_are_unambiguous, heads_are_unambiguous, transcripts_are_of_the_known};
 pub use query::parameter;

@@ -1,33 +1,36 @@
-//! A history of bytes that only proofs read. It takes no memory, and its methods do nothing at run time.
-ghost use Rattle.std.specs.Prelude.{◌≡◌, ℕ, ◌==◌, Bool, false, List, [], ◌++◌, length};
-ghost use Rattle.std.specs.Borrow.{ftrue};
+//! A history of bytes, for proofs alone.
+ghost use Rattle.std.specs.Prelude.{◌≡◌, [], ◌++◌, false, ◌==◌, length};
 
+use crate::history::History;
 use std::marker::Model;
+use std::snapshot::Snapshot;
 
 /// A clause reads the bytes as `bytes`, in order, and as `ended` whether the last piece was empty, which is how a read
 /// says that its source has ended.
 #[derive(Drop)]
 pub struct Transcript {
-    pub ghost bytes: { List ℕ },
-    pub ghost ended: { Bool },
+    pieces: History<History<u8>>,
+    ended: Snapshot<bool>,
 }
 
 impl Model for Transcript {
-    ghost also_owns = { λ _. ftrue };
+    ghost use Rattle.std.specs.Prelude.{flat_map};
+    ghost use Rattle.http_wire.specs.States.{TranscriptState};
+
+    ghost Value = { TranscriptState };
+
+    ghost view = { λ t. record { bytes = flat_map (λ piece. piece) t.pieces; ended = t.ended.value } };
 }
-
-// It owns nothing.
-unsafe impl Send for Transcript {}
-
-unsafe impl Sync for Transcript {}
 
 impl Transcript {
     /// No byte.
     pub fn none() -> Transcript
         ensures { result ≡ record { bytes = []; ended = false } }
     {
-        // Of the fields only clauses know.
-        Transcript {}
+        Transcript {
+            pieces: History::none(),
+            ended: Snapshot::of(&false),
+        }
     }
 
     /// These bytes behind those that it has.
@@ -35,6 +38,9 @@ impl Transcript {
         ensures { result
             ≡ record { bytes = self.now.bytes ++ piece.now; ended = length piece.now == 0 } }
     {
-        Transcript {}
+        Transcript {
+            pieces: self.pieces.and(&History::of(piece)),
+            ended: Snapshot::of(&piece.is_empty()),
+        }
     }
 }
