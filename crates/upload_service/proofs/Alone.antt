@@ -6,8 +6,6 @@ use Rattle.std.specs.FinMap as map
 use Rattle.upload_names.specs.Reference.{number_of}
 use Rattle.upload_service.specs.declared.limits.Limits.{Limits}
 use Rattle.upload_service.specs.declared.ask.Ask.{Ask}
-use Rattle.upload_service.specs.declared.answer.Answer.{Answer}
-use Rattle.upload_service.specs.declared.answer.Answer.TheVariants as answers
 use Rattle.upload_service.specs.Machine.{Session, State, Outcome, Replies, Begins, Takes, Commits, Stores, Mounts}
 use Rattle.upload_service.specs.Machine.{answer_of, state_after, outcome}
 use Rattle.std.specs.Prelude.{filter, map as list_map}
@@ -17,7 +15,7 @@ use Rattle.upload_service.proofs.Claims.{AnsweredAsAlone}
 use Rattle.upload_service.specs.Run.{Exchange, NeverBefore, Run}
 use Rattle.upload_service.specs.Session.{carries, begins, is_part, part}
 use Rattle.upload_service.specs.Alone.{Life, life_of, life_in, alone_answer, alone_after, alone, lacks_memory, told}
-use Rattle.upload_service.proofs.Steps.{IsReply, IsOutcome, outcome_sound}
+use Rattle.upload_service.proofs.Steps.{IsOutcome, outcome_sound}
 use Rattle.upload_service.proofs.Turns.{IsNumbered, numbered_after, Fits, fits_by, others_leave, Own, own_by_reference}
 use Rattle.upload_service.proofs.Turns.{own_by_opening}
 
@@ -40,14 +38,9 @@ told_own x xs at e m =
     ap (λ b. filter (λ y. not (lacks_memory y.answer)) (cond b (x ∷ part xs at) (part xs at))) e
     ∙ ap (λ b. cond (not b) (x ∷ told xs at) (told xs at)) m
 
-reply_has_memory : (s : State) (now : ℕ) (ask : Ask) (answer : Answer) → IsReply s now ask answer
-    → lacks_memory answer ≡ false
-reply_has_memory s now ask answers.NoMemory f = absurd f
-reply_has_memory s now ask other f = refl
-
 pub has_memory : (s : State) (ask : Ask) (secret : List ℕ) (now : ℕ) (o : Outcome) → IsOutcome s ask secret now o
     → lacks_memory (answer_of o) ≡ false
-has_memory s ask secret now (Replies answer) f = reply_has_memory s now ask answer f
+has_memory s ask secret now (Replies answer) f = f.has_memory
 has_memory s ask secret now (Begins name new) f = refl
 has_memory s ask secret now (Takes name to received) f = refl
 has_memory s ask secret now (Commits name to digest blob) f = refl

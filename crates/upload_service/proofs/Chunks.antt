@@ -6,11 +6,10 @@ use Rattle.std.specs.FinMap as map
 use Rattle.upload_names.specs.Reference.{number_of}
 use Rattle.upload_service.specs.declared.ask.Ask.{Ask}
 use Rattle.upload_service.specs.declared.answer.Answer.{Answer}
-use Rattle.upload_service.specs.declared.answer.Answer.TheVariants as answers
 use Rattle.upload_service.specs.UploadView.{Act, Sends, AsksOffset, Closes, upload_view}
 use Rattle.upload_service.specs.Machine.{same, swept, Session, State, Outcome, Replies, Begins, Takes, Commits, Stores}
 use Rattle.upload_service.specs.Machine.{Mounts, answer_of, state_after, outcome}
-use Rattle.std.specs.Prelude.{flat_map}
+use Rattle.std.specs.Prelude.{flat_map, is_some}
 use Rattle.std.proofs.Common.{append_assoc}
 use Rattle.std.proofs.lemmas.List.{append-nil}
 use Rattle.std.proofs.lemmas.List.Elements.{filter-append}
@@ -21,7 +20,7 @@ use Rattle.upload_service.specs.Session.{accepted, taken, joined, bytes_of, rece
 use Rattle.upload_service.proofs.Tables.{one_or_two, get-insert_same, get-insert_other, get-remove_same}
 use Rattle.upload_service.proofs.Tables.{get-remove_other, same_from_eq, same_from_ne}
 use Rattle.upload_service.proofs.UploadView.{on_each}
-use Rattle.upload_service.proofs.Steps.{IsReply, IsOutcome, outcome_sound, None≢Some}
+use Rattle.upload_service.proofs.Steps.{IsOutcome, outcome_sound, None≢Some}
 use Rattle.upload_service.proofs.Sweeps.{kept_or_left, none_there}
 use Rattle.upload_service.proofs.Turns.{IsNumbered, numbered_after, IsGone, not_new}
 
@@ -87,12 +86,6 @@ gave_other x at c b = ap (λ p. cond p (accepted x) []) (ap (λ q. q || begins a
 pub gave_own : (x : Exchange) (at : List ℕ) → carries at x.ask ≡ true → gave at x ≡ accepted x
 gave_own x at c = ap (λ q. cond (q || begins at x.answer) (accepted x) []) c
 
-pub reply_not_accepted : (s : State) (now : ℕ) (ask : Ask) (answer : Answer) → IsReply s now ask answer
-    → (is_taken answer ≡ false) × (is_stored answer ≡ false)
-reply_not_accepted s now ask (answers.Stored name digest) f = absurd f
-reply_not_accepted s now ask (answers.Taken name to next) f = absurd f
-reply_not_accepted s now ask other f = (refl, refl)
-
 -- What is said of an open session after a turn: its bytes grew by what the exchange gave it, or it is gone.
 abbrev Grew : State → State → List ℕ → Exchange → Type 0
 Grew s t at x = bytes_of (map.get t.sessions at) ≡ bytes_of (map.get s.sessions at) ++ joined (gave at x)
@@ -110,9 +103,9 @@ nothing_yet s at (Some session) e n = absurd (n session refl)
 grows : (s : State) (x : Exchange) (o : Outcome) → IsOutcome s x.ask x.secret x.now o → IsNumbered s
     → x.answer ≡ answer_of o → (at : List ℕ) → IsGone (state_after s x.now o) at ⊎ Grew s (state_after s x.now o) at x
 grows s x (Replies answer) f h e at =
-    let not_one : (is_taken answer ≡ false) × (is_stored answer ≡ false) = reply_not_accepted s x.now x.ask answer f in
     inr (kept s s at x refl
-    (gave_none x at (not_accepted x.ask x.answer (ap is_taken e ∙ not_one.0) (ap is_stored e ∙ not_one.1))))
+    (gave_none x at (not_accepted x.ask x.answer (ap is_taken e ∙ f.took_none)
+    (ap is_stored e ∙ ap is_some f.stored_none))))
 grows s x (Begins name new) f h e at =
     let g : gave at x ≡ [] = gave_none x at (not_accepted x.ask x.answer (ap is_taken e) (ap is_stored e)) in
     let t : State = state_after s x.now (Begins name new) in

@@ -1,7 +1,7 @@
 -- The headline: what a session commits, what a chunk that misses does, and what a closed session takes.
 use Rattle.std.proofs.Common.{◌≡◌, ◌≢◌, ℕ, ◌+◌, ◌-◌, List, [], ◌∷◌, ◌++◌, length, Bool, true, false, Option, Some, None}
 use Rattle.std.proofs.Common.{refl, sym, ◌∙◌, ap, subst, inl, inr, not}
-use Rattle.std.specs.Prelude.{◌||◌, ◌==◌, nat_lt, if◌then◌else◌}
+use Rattle.std.specs.Prelude.{◌||◌, ◌==◌, nat_lt, is_some, if◌then◌else◌}
 use Rattle.std.proofs.lemmas.Bool.{true≢false}
 use Rattle.std.specs.FinMap as map
 use Rattle.upload_names.specs.ByteRange.{Span}
@@ -14,7 +14,7 @@ use Rattle.upload_service.specs.declared.ask.Ask.TheVariants as asks
 use Rattle.upload_service.specs.declared.answer.Answer.{Answer}
 use Rattle.upload_service.specs.declared.answer.Answer.TheVariants as answers
 use Rattle.upload_service.specs.UploadView.{Act, Sends, AsksOffset, Closes, UploadView, OfSession, upload_view}
-use Rattle.upload_service.specs.UploadView.{on_session}
+use Rattle.upload_service.specs.UploadView.{on_session, answer_view}
 use Rattle.upload_service.specs.Machine.{same, unless_idle, awake, Session, State, Outcome, Replies, Begins, Takes}
 use Rattle.upload_service.specs.Machine.{Commits, Stores, Mounts, answer_of, state_after, refused, size_fault}
 use Rattle.upload_service.specs.Machine.{body_fault, unless_fault, at_session, holds, outcome}
@@ -29,13 +29,14 @@ use Rattle.upload_service.specs.Run.{Exchange, Run}
 use Rattle.upload_service.specs.Session.{carries, is_stored, accepted_of, joined, received, closed_by, closes_of}
 use Rattle.upload_service.specs.Headline.{Aim, aim_by, aim_of, IsCommitted}
 use Rattle.upload_service.proofs.Tables.{get-remove_same, same_itself, blob-insert_same, contains-insert_same}
-use Rattle.upload_service.proofs.UploadView.{on_each, outcome_of_view, named as named_session, carried}
-use Rattle.upload_service.proofs.Steps.{IsMisplaced, IsReply, IsOutcome, outcome_sound, awake_is_open}
+use Rattle.upload_service.proofs.UploadView.{on_each, named as named_session, carried}
+use Rattle.upload_service.proofs.Steps.{IsMisplaced, IsOutcome, outcome_of_view, outcome_sound, awake_is_open}
+use Rattle.upload_service.proofs.Steps.{None≢Some}
 use Rattle.upload_service.proofs.Turns.{IsNumbered, IsGone}
 use Rattle.upload_service.proofs.Alone.{numbered_if_lawful}
 use Rattle.upload_service.specs.Session.{is_lapsed, seen_of}
 use Rattle.upload_service.proofs.Idle.{over_not_awake, lapsed_is_over, tracks_at_start}
-use Rattle.upload_service.proofs.Chunks.{append_none, gave, gave_own, received-push, reply_not_accepted, gone_run}
+use Rattle.upload_service.proofs.Chunks.{append_none, gave, gave_own, received-push, gone_run}
 use Rattle.upload_service.proofs.Chunks.{numbered_run, numbered_turn, open_is_received}
 
 -- committed by a session
@@ -46,8 +47,7 @@ committed : (start : State) (front : List Exchange) (before : State) (x : Exchan
     → IsCommitted (received start (front ++ x ∷ []) at) name name' asked digest (state_after before x.now o)
 unfolding Turn
 committed start front before x (Replies answer) lawful run f e name at range asked body name' digest a r =
-    absurd (let bad : IsReply before x.now x.ask (answers.Stored name' digest) =
-    subst (IsReply before x.now x.ask) (sym e ∙ r) f in bad)
+    absurd (None≢Some (sym f.stored_none ∙ ap (λ b. (answer_view b).pair) (sym e ∙ r)))
 committed start front before x (Begins n to) lawful run f e name at range asked body name' digest a r =
     let no : answers.Begun n to ≡ answers.Stored name' digest = sym e ∙ r in cc
 committed start front before x (Takes n to got) lawful run f e name at range asked body name' digest a r =
@@ -160,7 +160,7 @@ missed_chunk_changes_nothing start front before x after m aim aimed (session, is
 
 misplaced_fact : (s : State) (ask : Ask) (secret : List ℕ) (now : ℕ) (o : Outcome) (name at : List ℕ) (next : ℕ)
     → IsOutcome s ask secret now o → answer_of o ≡ answers.Misplaced name at next → IsMisplaced s now ask name at next
-misplaced_fact s ask secret now (Replies answer) name at next f e = subst (IsReply s now ask) e f
+misplaced_fact s ask secret now (Replies answer) name at next f e = f.misplaced name at next e
 misplaced_fact s ask secret now (Begins n to) name at next f e = cc
 misplaced_fact s ask secret now (Takes n to got) name at next f e = cc
 misplaced_fact s ask secret now (Commits n to d blob) name at next f e = cc
@@ -202,7 +202,7 @@ closing : (s : State) (x : Exchange) (o : Outcome) (at : List ℕ) → IsOutcome
     → x.answer ≡ answer_of o → closes_of at x.ask x.answer ≡ true → IsGone (state_after s x.now o) at
 closing s x (Replies answer) at f h e c =
     absurd (true≢false
-    (sym (closing_is_stored at x.ask x.answer c) ∙ ap is_stored e ∙ (reply_not_accepted s x.now x.ask answer f).1))
+    (sym (closing_is_stored at x.ask x.answer c) ∙ ap is_stored e ∙ ap is_some f.stored_none))
 closing s x (Begins n to) at f h e c =
     absurd (true≢false (sym (closing_is_stored at x.ask x.answer c) ∙ ap is_stored e))
 closing s x (Takes n to got) at f h e c =

@@ -7,20 +7,18 @@ use Rattle.std.specs.FinMap as map
 use Rattle.upload_names.specs.Reference.{number_of}
 use Rattle.upload_service.specs.declared.limits.Limits.{Limits}
 use Rattle.upload_service.specs.declared.ask.Ask.{Ask}
-use Rattle.upload_service.specs.declared.answer.Answer.{Answer}
-use Rattle.upload_service.specs.declared.answer.Answer.TheVariants as answers
 use Rattle.upload_service.specs.Machine.{same, is_idle, unless_idle, awake, swept, Session, State, Outcome, Replies}
 use Rattle.upload_service.specs.Machine.{Begins, Takes, Commits, Stores, Mounts, answer_of, state_after, outcome, Turn}
 use Rattle.upload_service.specs.Run.{Exchange, Run, NeverBefore}
-use Rattle.upload_service.specs.Session.{carries, begins, is_taken, touches, seen_of, is_late, is_lapsed}
+use Rattle.upload_service.specs.Session.{carries, is_same, begins, is_taken, touches, seen_of, is_late, is_lapsed}
 use Rattle.upload_service.specs.Headline.{OthersLeaveIt}
 use Rattle.upload_service.proofs.Tables.{one_or_two, get-insert_same, get-insert_other, get-remove_same}
 use Rattle.upload_service.proofs.Tables.{get-remove_other, same_from_eq, same_from_ne, ne_from_same}
-use Rattle.upload_service.proofs.Steps.{IsReply, IsOutcome, outcome_sound, None≢Some}
+use Rattle.upload_service.proofs.Steps.{IsOutcome, outcome_sound, None≢Some}
 use Rattle.upload_service.proofs.Sweeps.{kept_or_left, was_there, idle_later}
 use Rattle.upload_service.proofs.Turns.{IsNumbered, new_number, not_new}
 use Rattle.upload_service.proofs.Alone.{same_limits, numbered_if_lawful}
-use Rattle.upload_service.proofs.Chunks.{numbered_turn, reply_not_accepted}
+use Rattle.upload_service.proofs.Chunks.{numbered_turn}
 
 -- a session that no request reaches from this moment on
 abbrev pub IsOver : State → ℕ → List ℕ → Type 0
@@ -154,17 +152,12 @@ touches_none : (at : List ℕ) (x : Exchange) → begins at x.answer ≡ false �
     → touches at x ≡ false
 touches_none at x b t = (λ i. b i || (carries at x.ask && t i)) ∙ and_false (carries at x.ask)
 
-reply_begins_no : (s : State) (now : ℕ) (ask : Ask) (at : List ℕ) (answer : Answer) → IsReply s now ask answer
-    → begins at answer ≡ false
-reply_begins_no s now ask at (answers.Begun name new) f = absurd f
-reply_begins_no s now ask at other f = refl
-
 tracks_after : (s : State) (x : Exchange) (o : Outcome) → IsOutcome s x.ask x.secret x.now o → IsNumbered s
     → x.answer ≡ answer_of o → (at : List ℕ) (touched : Option ℕ) → Tracks s at touched
     → Tracks (state_after s x.now o) at (touched_by at x touched)
 tracks_after s x (Replies answer) f h e at touched tracks =
-    tracks_kept s s x at touched (touches_none at x (ap (begins at) e ∙ reply_begins_no s x.now x.ask at answer f)
-    (ap is_taken e ∙ (reply_not_accepted s x.now x.ask answer f).0)) (λ session q. q) (omega arith) tracks
+    tracks_kept s s x at touched (touches_none at x (ap (begins at) e ∙ ap (is_same at) f.begins_none)
+    (ap is_taken e ∙ f.took_none)) (λ session q. q) (omega arith) tracks
 tracks_after s x (Begins name new) f h e at touched tracks =
     let t : State = state_after s x.now (Begins name new) in
     elim (one_or_two at new) [

@@ -135,14 +135,12 @@ or_from_right : (a b : Bool) → (a || b) ≡ true → b ≡ false → a ≡ tru
 or_from_right true b e n = refl
 or_from_right false b e n = absurd (true≢false (sym e ∙ n))
 
-lacking : (answer : Answer) (at : List ℕ) → lacks_memory answer ≡ true → begins at answer ≡ false
-lacking answers.NoMemory at e = refl
-lacking (answers.Begun name to) at e = absurd (true≢false (sym e))
-lacking other at e = refl
-
 lacking_is : (answer : Answer) → lacks_memory answer ≡ true → answer ≡ answers.NoMemory
 lacking_is answers.NoMemory e = refl
 lacking_is other e = absurd (true≢false (sym e))
+
+lacking : (answer : Answer) (at : List ℕ) → lacks_memory answer ≡ true → begins at answer ≡ false
+lacking answer at e = ap (begins at) (lacking_is answer e)
 
 -- a list comes apart at its first exchange
 record Parted (limits : Limits) (at : List ℕ) (life : Life) (x : Exchange) (xs : List Exchange) : Type 0 where

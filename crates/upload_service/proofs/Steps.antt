@@ -1,6 +1,6 @@
 -- What each outcome says of the request and the state that it came from.
 use Rattle.std.proofs.Common.{◌≡◌, ◌≢◌, ℕ, ◌+◌, ◌-◌, ◌<◌, ◌≤◌, List, ◌++◌, length, Bool, true, false, Option, Some}
-use Rattle.std.proofs.Common.{None, refl, sym, ◌∙◌, ap, cond, not, length-append}
+use Rattle.std.proofs.Common.{None, refl, sym, ◌∙◌, ap, subst, cond, not, length-append}
 use Rattle.std.specs.Prelude.{◌||◌, ◌==◌, nat_lt, nat_le, if◌then◌else◌}
 use Rattle.std.proofs.lemmas.Bool.{true≢false, ltb-false, leb-false, eq-eqb}
 use Rattle.std.specs.FinMap as map
@@ -15,12 +15,13 @@ use Rattle.upload_service.specs.declared.ask.Ask.{Ask}
 use Rattle.upload_service.specs.declared.ask.Ask.TheVariants as asks
 use Rattle.upload_service.specs.declared.answer.Answer.{Answer}
 use Rattle.upload_service.specs.declared.answer.Answer.TheVariants as answers
-use Rattle.upload_service.specs.UploadView.{Act, Sends, AsksOffset, Closes, upload_view, opened_under}
+use Rattle.upload_service.specs.UploadView.{Act, Sends, AsksOffset, Closes, OfSession, upload_view, on_session}
+use Rattle.upload_service.specs.UploadView.{opened_under, nothing_done, answer_view}
 use Rattle.upload_service.specs.Machine.{same, same_digest, is_idle, unless_idle, awake, all_awake, Session, State}
 use Rattle.upload_service.specs.Machine.{Outcome, Replies, Begins, Takes, Commits, Stores, Mounts, refused, size_fault}
 use Rattle.upload_service.specs.Machine.{body_fault, unless_fault, checked, in_session, at_session, last_number}
 use Rattle.upload_service.specs.Machine.{opening, blob_reply, holds, outcome}
-use Rattle.upload_service.specs.Headline.{aim_of, aim_at}
+use Rattle.upload_service.specs.Headline.{aim_of, aim_at, aim_by}
 use Rattle.upload_service.proofs.Tables.{eq_from_same, eq_from_same_digest}
 
 -- the session that a request names: open and not idle, and under that name
@@ -48,16 +49,16 @@ pub record IsBlob (s : State) (ask : Ask) (digest : Digest) (size : ℕ) (bytes 
   pub is_size : size ≡ length blob
   pub is_bytes : bytes ≡ (if head then None else Some blob)
 
-abbrev pub IsReply : State → ℕ → Ask → Answer → Type 0
-IsReply s now ask answers.Base = Unit {0}
-IsReply s now ask (answers.Blob digest size bytes) = IsBlob s ask digest size bytes
-IsReply s now ask (answers.Begun name at) = ⊥
-IsReply s now ask (answers.Stored name digest) = ⊥
-IsReply s now ask (answers.Taken name at next) = ⊥
-IsReply s now ask (answers.Standing name at next) = Unit {0}
-IsReply s now ask (answers.Misplaced name at next) = IsMisplaced s now ask name at next
-IsReply s now ask (answers.Refused refusal) = Unit {0}
-IsReply s now ask answers.NoMemory = ⊥
+-- a reply, which changes nothing: it says that nothing was done, but that a blob was handed out
+pub record IsReply (s : State) (now : ℕ) (ask : Ask) (answer : Answer) : Type 0 where
+  pub begins_none : (answer_view answer).begun ≡ None
+  pub took_none : (answer_view answer).took ≡ false
+  pub stored_none : (answer_view answer).pair ≡ None
+  pub has_memory : (answer_view answer).no_memory ≡ false
+  pub blob : (digest : Digest) (size : ℕ) (bytes : Option (List ℕ)) → answer ≡ answers.Blob digest size bytes
+      → IsBlob s ask digest size bytes
+  pub misplaced : (name at : List ℕ) (next : ℕ) → answer ≡ answers.Misplaced name at next
+      → IsMisplaced s now ask name at next
 
 abbrev pub AsksToBegin : List ℕ → Ask → Type 0
 AsksToBegin name ask = opened_under (upload_view ask) ≡ Some name
@@ -159,102 +160,252 @@ pub idle_is_none : (max_idle now : ℕ) (session : Session) → is_idle max_idle
     → unless_idle max_idle now (Some session) ≡ None
 idle_is_none max_idle now session e = ap (λ b. cond b None (Some session)) e
 
-module _ (s : State) (now : ℕ) where
-  sound_opening : (ask : Ask) (name secret : List ℕ) → AsksToBegin name ask
-      → IsOutcome s ask secret now (opening s name secret now)
-  sound_opening ask name secret asked =
-      by_test (IsOutcome s ask secret now)
-      (nat_le s.limits.max_open (map.len (all_awake s now)) || nat_le last_number s.issued) _ _
-      (λ _. tt)
+-- the request to a session that asks this of it
+abbrev pub session_ask : List ℕ → List ℕ → Act → Ask
+session_ask name at (Sends range body) = asks.Chunk name at range body
+session_ask name at AsksOffset = asks.Status name at
+session_ask name at (Closes range digest body) = asks.Close name at range digest body
+
+-- there is no other
+pub is_session_ask : (ask : Ask) (name at : List ℕ) (act : Act) → upload_view ask ≡ OfSession name at act
+    → ask ≡ session_ask name at act
+is_session_ask (asks.Chunk n to range body) name at act e = ap (λ v. on_session v asks.Base session_ask) e
+is_session_ask (asks.Status n to) name at act e = ap (λ v. on_session v asks.Base session_ask) e
+is_session_ask (asks.Close n to range digest body) name at act e = ap (λ v. on_session v asks.Base session_ask) e
+is_session_ask other name at act e = cc
+
+outcome_of_act : (s : State) (secret : List ℕ) (now : ℕ) (name at : List ℕ) (act : Act)
+    → outcome s (session_ask name at act) secret now ≡ at_session s.limits.max_blob (awake s now at) name at act
+outcome_of_act s secret now name at (Sends range body) = refl
+outcome_of_act s secret now name at AsksOffset = refl
+outcome_of_act s secret now name at (Closes range digest body) = refl
+
+-- the machine has a request to a session meet that session
+pub outcome_of_view : (s : State) (ask : Ask) (secret : List ℕ) (now : ℕ) (name at : List ℕ) (act : Act)
+    → upload_view ask ≡ OfSession name at act
+    → outcome s ask secret now ≡ at_session s.limits.max_blob (awake s now at) name at act
+outcome_of_view s ask secret now name at act e =
+    ap (λ a. outcome s a secret now) (is_session_ask ask name at act e) ∙ outcome_of_act s secret now name at act
+
+-- ---- what a request comes to, case by case
+
+-- there is a number for one more session, and room for it
+pub record HasRoom (s : State) (now : ℕ) : Type 0 where
+  pub numbers_left : s.issued < last_number
+  pub room : map.len (all_awake s now) < s.limits.max_open
+
+-- what holds of each request and what it may come to
+pub record HoldsOfEach (s : State) (secret : List ℕ) (now : ℕ) (P : Ask → Outcome → Type 0) : Type 0 where
+  pub refusals : (ask : Ask) (refusal : Refusal) → P ask (refused refusal)
+  pub base : P asks.Base (Replies answers.Base)
+  pub blobs : (name : List ℕ) (digest : Digest) (head : Bool) (blob : List ℕ) → holds s name digest ≡ true
+      → map.get s.blobs digest ≡ Some blob
+      → P (asks.Has name digest head) (Replies (answers.Blob digest (length blob) (if head then None else Some blob)))
+  pub openings : (name : List ℕ) → HasRoom s now
+      → P (asks.Opening name) (Begins name (reference (s.issued + 1) secret))
+  pub unmounted : (name : List ℕ) (digest : Digest) (source : List ℕ) → HasRoom s now
+      → P (asks.Mount name digest source) (Begins name (reference (s.issued + 1) secret))
+  pub mounts : (name : List ℕ) (digest : Digest) (source : List ℕ) → holds s source digest ≡ true
+      → P (asks.Mount name digest source) (Mounts name digest)
+  pub stores : (name : List ℕ) (digest : Digest) (body : List ℕ) → HasDigest body digest
+      → P (asks.Single name (Some digest) body) (Stores name digest body)
+  pub standing : (name at : List ℕ) (found : Found s now name at)
+      → P (asks.Status name at) (Replies (answers.Standing name at (length found.session.received)))
+  pub misses : (name at : List ℕ) (act : Act) (found : Found s now name at) (first : ℕ)
+      → aim_by name at act ≡ Some (record { name = name; at = at; first = first })
+      → first ≢ length found.session.received
+      → P (session_ask name at act) (Replies (answers.Misplaced name at (length found.session.received)))
+  pub takes : (name at : List ℕ) (range : Extent) (body : List ℕ) (found : Found s now name at)
+      → length found.session.received + length body ≤ s.limits.max_blob
+      → P (asks.Chunk name at range body) (Takes name at (found.session.received ++ body))
+  pub commits : (name at : List ℕ) (range : Extent) (digest : Digest) (body : List ℕ) (found : Found s now name at)
+      → HasDigest (found.session.received ++ body) digest
+      → P (asks.Close name at range (Some digest) body) (Commits name at digest (found.session.received ++ body))
+
+-- it holds of a request and what that comes to
+module _ (s : State) (secret : List ℕ) (now : ℕ) (P : Ask → Outcome → Type 0) (each : HoldsOfEach s secret now P) where
+  of_opening : (ask : Ask) (name : List ℕ) → (HasRoom s now → P ask (Begins name (reference (s.issued + 1) secret)))
+      → P ask (opening s name secret now)
+  of_opening ask name has_room =
+      by_test (P ask) (nat_le s.limits.max_open (map.len (all_awake s now)) || nat_le last_number s.issued) _ _
+      (λ _. each.refusals ask refusals.TooMany)
       (λ e. let none = or_false _ _ e in
-      record { asked = asked; is_new = refl; numbers_left = leb-false _ _ none.1; room = leb-false _ _ none.0 })
+      has_room (record { numbers_left = leb-false _ _ none.1; room = leb-false _ _ none.0 }))
 
-  sound_blob : (name : List ℕ) (digest : Digest) (head : Bool) (secret : List ℕ) (stored : Option (List ℕ))
+  of_blob : (name : List ℕ) (digest : Digest) (head : Bool) (stored : Option (List ℕ))
       → map.get s.blobs digest ≡ stored → holds s name digest ≡ true
-      → IsOutcome s (asks.Has name digest head) secret now (blob_reply digest head stored)
-  sound_blob name digest head secret None e held = tt
-  sound_blob name digest head secret (Some blob) e held =
-      record {
-        name = name;
-        head = head;
-        blob = blob;
-        asked = refl;
-        held = held;
-        is_stored = e;
-        is_size = refl;
-        is_bytes = refl;
-      }
+      → P (asks.Has name digest head) (blob_reply digest head stored)
+  of_blob name digest head None e held = each.refusals (asks.Has name digest head) refusals.NoBlob
+  of_blob name digest head (Some blob) e held = each.blobs name digest head blob held e
 
-  sound_session : (ask : Ask) (secret name at : List ℕ) (act : Act) (o : Option Session) → awake s now at ≡ o
-      → ((found : Found s now name at)
-      → IsOutcome s ask secret now (in_session s.limits.max_blob found.session name at act))
-      → IsOutcome s ask secret now (at_session s.limits.max_blob o name at act)
-  sound_session ask secret name at act None e inside = tt
-  sound_session ask secret name at act (Some session) e inside =
+  -- a request with a range, inside its session
+  of_range : (name at : List ℕ) (act : Act) (range : Extent) (body : List ℕ) (found : Found s now name at) (o : Outcome)
+      → aim_by name at act ≡ aim_at name at range
+      → (length found.session.received + length body ≤ s.limits.max_blob → P (session_ask name at act) o)
+      → P (session_ask name at act)
+      (unless_fault (body_fault s.limits.max_blob name at (length found.session.received) range body) o)
+  of_range name at act range body found o aims =
+      by_body (P (session_ask name at act)) (each.refusals (session_ask name at act)) s.limits.max_blob name at
+      (length found.session.received) range body o
+      (λ r given missed. each.misses name at act found r.first (aims ∙ ap (aim_at name at) given) missed)
+
+  of_act : (name at : List ℕ) (act : Act) (found : Found s now name at)
+      → P (session_ask name at act) (in_session s.limits.max_blob found.session name at act)
+  of_act name at (Sends range body) found =
+      of_range name at (Sends range body) range body found _ refl (λ fits. each.takes name at range body found fits)
+  of_act name at AsksOffset found = each.standing name at found
+  of_act name at (Closes range asked body) found =
+      let blob : List ℕ = found.session.received ++ body in
+      of_range name at (Closes range asked body) range body found _ refl (λ _.
+      by_digest (P (asks.Close name at range asked body)) (each.refusals (asks.Close name at range asked body)) asked
+      blob (λ d. Commits name at d blob) (λ digest e own.
+      subst (λ a. P (asks.Close name at range a body) (Commits name at digest blob)) (sym e)
+      (each.commits name at range digest body found own)))
+
+  of_session : (name at : List ℕ) (act : Act) (o : Option Session) → awake s now at ≡ o
+      → P (session_ask name at act) (at_session s.limits.max_blob o name at act)
+  of_session name at act None e = each.refusals (session_ask name at act) refusals.NoUpload
+  of_session name at act (Some session) e =
       let is = awake_is_open s.limits.max_idle now (map.get s.sessions at) session e in
-      by_test (IsOutcome s ask secret now) (same session.name name) _ _
-      (λ q.
-      inside (record { session = session; is_awake = e; is_open = is.0; not_idle = is.1; named = eq_from_same _ _ q }))
-      (λ _. tt)
+      by_test (P (session_ask name at act)) (same session.name name) _ _
+      (λ q. of_act name at act
+      (record { session = session; is_awake = e; is_open = is.0; not_idle = is.1; named = eq_from_same _ _ q }))
+      (λ _. each.refusals (session_ask name at act) refusals.NoUpload)
 
-  sound_misplaced : (ask : Ask) (name at : List ℕ) (range : Extent) → aim_of ask ≡ aim_at name at range
-      → (found : Found s now name at) → (r : Span) → range ≡ Given r → r.first ≢ length found.session.received
-      → IsMisplaced s now ask name at (length found.session.received)
-  sound_misplaced ask name at range aims found r given missed =
-      record {
-        found = found;
-        first = r.first;
-        aimed = aims ∙ ap (aim_at name at) given;
-        is_next = refl;
-        missed = missed;
-      }
+  pub by_ask : (ask : Ask) → P ask (outcome s ask secret now)
+  by_ask asks.Base = each.base
+  by_ask (asks.Refused refusal) = each.refusals (asks.Refused refusal) refusal
+  by_ask (asks.Has name digest head) =
+      by_test (P (asks.Has name digest head)) (holds s name digest) _ _
+      (λ held. of_blob name digest head (map.get s.blobs digest) refl held)
+      (λ _. each.refusals (asks.Has name digest head) refusals.NoBlob)
+  by_ask (asks.Opening name) = of_opening (asks.Opening name) name (each.openings name)
+  by_ask (asks.Mount name digest source) =
+      by_test (P (asks.Mount name digest source)) (holds s source digest) _ _
+      (λ held. each.mounts name digest source held)
+      (λ _. of_opening (asks.Mount name digest source) name (each.unmounted name digest source))
+  by_ask (asks.Single name asked body) =
+      let no = each.refusals (asks.Single name asked body) in
+      by_size (P (asks.Single name asked body)) no s.limits.max_blob 0 body _ (λ _.
+      by_digest (P (asks.Single name asked body)) no asked body (λ d. Stores name d body) (λ digest e own.
+      subst (λ a. P (asks.Single name a body) (Stores name digest body)) (sym e) (each.stores name digest body own)))
+  by_ask (asks.Chunk name at range body) = of_session name at (Sends range body) (awake s now at) refl
+  by_ask (asks.Status name at) = of_session name at AsksOffset (awake s now at) refl
+  by_ask (asks.Close name at range asked body) =
+      of_session name at (Closes range asked body) (awake s now at) refl
 
-  pub outcome_sound : (ask : Ask) (secret : List ℕ) → IsOutcome s ask secret now (outcome s ask secret now)
-  outcome_sound asks.Base secret = tt
-  outcome_sound (asks.Refused refusal) secret = tt
-  outcome_sound (asks.Has name digest head) secret =
-      by_test (IsOutcome s (asks.Has name digest head) secret now) (holds s name digest) _ _
-      (λ held. sound_blob name digest head secret (map.get s.blobs digest) refl held)
-      (λ _. tt)
-  outcome_sound (asks.Opening name) secret = sound_opening (asks.Opening name) name secret refl
-  outcome_sound (asks.Mount name digest source) secret =
-      by_test (IsOutcome s (asks.Mount name digest source) secret now) (holds s source digest) _ _
-      (λ held. record { source = source; asked = refl; held = held })
-      (λ _. sound_opening (asks.Mount name digest source) name secret refl)
-  outcome_sound (asks.Single name asked body) secret =
-      let P : Outcome → Type 0 = IsOutcome s (asks.Single name asked body) secret now in
-      by_size P (λ _. tt) s.limits.max_blob 0 body _ (λ _.
-      by_digest P (λ _. tt) asked body (λ d. Stores name d body) (λ digest e own.
-      record { asked = ap (λ a. asks.Single name a body) e; own_digest = own }))
-  outcome_sound (asks.Chunk name at range body) secret =
-      let ask : Ask = asks.Chunk name at range body in
-      sound_session ask secret name at (Sends range body) (awake s now at) refl (λ found.
-      by_body (IsOutcome s ask secret now) (λ _. tt) s.limits.max_blob name at
-      (length found.session.received) range body _
-      (sound_misplaced ask name at range refl found)
-      (λ fits. record {
+-- ---- what each outcome says
+
+-- a reply of which nothing more is said
+plain : (s : State) (now : ℕ) (ask : Ask) (answer : Answer) → answer_view answer ≡ nothing_done
+    → ((digest : Digest) (size : ℕ) (bytes : Option (List ℕ)) → answer ≢ answers.Blob digest size bytes)
+    → ((name at : List ℕ) (next : ℕ) → answer ≢ answers.Misplaced name at next) → IsReply s now ask answer
+plain s now ask answer nothing no_blob in_place =
+    record {
+      begins_none = ap (λ v. v.begun) nothing;
+      took_none = ap (λ v. v.took) nothing;
+      stored_none = ap (λ v. v.pair) nothing;
+      has_memory = ap (λ v. v.no_memory) nothing;
+      blob = λ digest size bytes is. absurd (no_blob digest size bytes is);
+      misplaced = λ name at next is. absurd (in_place name at next is);
+    }
+
+begins_soundly : (s : State) (ask : Ask) (name secret : List ℕ) (now : ℕ) → AsksToBegin name ask → HasRoom s now
+    → IsBegun s ask secret now name (reference (s.issued + 1) secret)
+begins_soundly s ask name secret now asked has =
+    record { asked = asked; is_new = refl; numbers_left = has.numbers_left; room = has.room }
+
+aim_of_act : (name at : List ℕ) (act : Act) → aim_of (session_ask name at act) ≡ aim_by name at act
+aim_of_act name at (Sends range body) = refl
+aim_of_act name at AsksOffset = refl
+aim_of_act name at (Closes range digest body) = refl
+
+blob_soundly : (s : State) (name : List ℕ) (digest : Digest) (head : Bool) (blob : List ℕ) → holds s name digest ≡ true
+    → map.get s.blobs digest ≡ Some blob → (d : Digest) (size : ℕ) (bytes : Option (List ℕ))
+    → answers.Blob digest (length blob) (if head then None else Some blob) ≡ answers.Blob d size bytes
+    → IsBlob s (asks.Has name digest head) d size bytes
+blob_soundly s name digest head blob held is d size bytes same =
+    let digests : digest ≡ d = cc in
+    let sizes : length blob ≡ size = cc in
+    let contents : (if head then None else Some blob) ≡ bytes = cc in
+    record {
+      name = name;
+      head = head;
+      blob = blob;
+      asked = ap (λ x. asks.Has name x head) digests;
+      held = ap (holds s name) (sym digests) ∙ held;
+      is_stored = ap (map.get s.blobs) (sym digests) ∙ is;
+      is_size = sym sizes;
+      is_bytes = sym contents;
+    }
+
+misplaced_soundly : (s : State) (now : ℕ) (ask : Ask) (name at : List ℕ) (next : ℕ)
+    → IsMisplaced s now ask name at next → (n a : List ℕ) (x : ℕ)
+    → answers.Misplaced name at next ≡ answers.Misplaced n a x → IsMisplaced s now ask n a x
+misplaced_soundly s now ask name at next is n a x same =
+    let names : name ≡ n = cc in
+    let places : at ≡ a = cc in
+    let nexts : next ≡ x = cc in
+    subst (λ q. IsMisplaced s now ask n a q) nexts
+    (subst (λ q. IsMisplaced s now ask n q next) places (subst (λ q. IsMisplaced s now ask q at next) names is))
+
+sound_each : (s : State) (secret : List ℕ) (now : ℕ)
+    → HoldsOfEach s secret now (λ ask o. IsOutcome s ask secret now o)
+sound_each s secret now =
+    record {
+      refusals = λ ask refusal. plain s now ask (answers.Refused refusal) refl (λ d n b e. cc) (λ n a x e. cc);
+      base = plain s now asks.Base answers.Base refl (λ d n b e. cc) (λ n a x e. cc);
+      blobs = λ name digest head blob held is. record {
+        begins_none = refl;
+        took_none = refl;
+        stored_none = refl;
+        has_memory = refl;
+        blob = λ d size bytes same. blob_soundly s name digest head blob held is d size bytes same;
+        misplaced = λ n a x same. absurd (let no : ⊥ = cc in no);
+      };
+      openings = λ name has. begins_soundly s (asks.Opening name) name secret now refl has;
+      unmounted = λ name digest source has. begins_soundly s (asks.Mount name digest source) name secret now refl has;
+      mounts = λ name digest source held. record { source = source; asked = refl; held = held };
+      stores = λ name digest body own. record { asked = refl; own_digest = own };
+      standing =
+          λ name at found. plain s now (asks.Status name at) (answers.Standing name at (length found.session.received))
+          refl (λ d n b e. cc) (λ n a x e. cc);
+      misses = λ name at act found first aims missed. record {
+        begins_none = refl;
+        took_none = refl;
+        stored_none = refl;
+        has_memory = refl;
+        blob = λ d size bytes same. absurd (let no : ⊥ = cc in no);
+        misplaced =
+            λ n a next same. misplaced_soundly s now (session_ask name at act) name at (length found.session.received)
+            (record {
+              found = found;
+              first = first;
+              aimed = aim_of_act name at act ∙ aims;
+              is_next = refl;
+              missed = missed;
+            })
+            n a next same;
+      };
+      takes = λ name at range body found fits. record {
         found = found;
         range = range;
         body = body;
         asked = refl;
         grown = refl;
         small = simp length-append fits;
-      }))
-  outcome_sound (asks.Status name at) secret =
-      sound_session (asks.Status name at) secret name at AsksOffset (awake s now at) refl (λ _. tt)
-  outcome_sound (asks.Close name at range asked body) secret =
-      let ask : Ask = asks.Close name at range asked body in
-      let P : Outcome → Type 0 = IsOutcome s ask secret now in
-      sound_session ask secret name at (Closes range asked body) (awake s now at) refl (λ found.
-      by_body P (λ _. tt) s.limits.max_blob name at (length found.session.received) range body _
-      (sound_misplaced ask name at range refl found)
-      (λ _. by_digest P (λ _. tt) asked (found.session.received ++ body)
-      (λ d. Commits name at d (found.session.received ++ body)) (λ digest e own.
-      record {
+      };
+      commits = λ name at range digest body found own. record {
         found = found;
         range = range;
         body = body;
-        asked = ap (λ a. asks.Close name at range a body) e;
+        asked = refl;
         grown = refl;
         own_digest = own;
-      })))
+      };
+    }
+
+pub outcome_sound : (s : State) (now : ℕ) (ask : Ask) (secret : List ℕ)
+    → IsOutcome s ask secret now (outcome s ask secret now)
+outcome_sound s now ask secret =
+    by_ask s secret now (λ a o. IsOutcome s a secret now o) (sound_each s secret now) ask

@@ -6,7 +6,6 @@ use Rattle.std.specs.FinMap as map
 use Rattle.upload_names.specs.Digest.{Digest}
 use Rattle.upload_service.specs.declared.ask.Ask.{Ask}
 use Rattle.upload_service.specs.declared.ask.Ask.TheVariants as asks
-use Rattle.upload_service.specs.declared.answer.Answer.{Answer}
 use Rattle.upload_service.specs.declared.answer.Answer.TheVariants as answers
 use Rattle.upload_service.specs.Machine.{same_digest, State, Outcome, Replies, Begins, Takes, Commits, Stores, Mounts}
 use Rattle.upload_service.specs.Machine.{answer_of, state_after, holds, outcome}
@@ -15,9 +14,10 @@ use Rattle.upload_service.specs.Machine.{Turn, IsLawful}
 use Rattle.upload_service.proofs.Claims.{StoreIsWhatWasStored, BlobIsWhatWasStored}
 use Rattle.upload_service.specs.Run.{Exchange, Run}
 use Rattle.upload_service.specs.Session.{carries, accepted_of, joined, received}
-use Rattle.upload_service.specs.Stored.{Stored, stored_by, stored_from, last_under, notes}
+use Rattle.upload_service.specs.UploadView.{upload_view}
+use Rattle.upload_service.specs.Stored.{Stored, stored_as, stored_by, stored_from, last_under, is_pair, notes}
 use Rattle.upload_service.proofs.Tables.{same_itself, blob-insert, contains-insert}
-use Rattle.upload_service.proofs.Steps.{IsReply, IsBlob, IsCommit, IsOutcome, outcome_sound}
+use Rattle.upload_service.proofs.Steps.{IsBlob, IsCommit, IsOutcome, outcome_sound}
 use Rattle.upload_service.proofs.Alone.{numbered_if_lawful}
 use Rattle.upload_service.proofs.Chunks.{append_none, gave, gave_own, received-push, open_is_received}
 
@@ -47,16 +47,6 @@ commit_blob start front before x name at digest blob lawful run f e =
     ∙ sym (received-push start front x at ∙ ap (λ c. received start front at ++ joined c) g
     ∙ ap (λ b. received start front at ++ b) (append_none f.body))
 
-reply_not_stored : (s : State) (now : ℕ) (ask : Ask) (answer : Answer) → IsReply s now ask answer
-    → (start : State) (upto : List Exchange) → stored_by start upto ask answer ≡ []
-reply_not_stored s now ask (answers.Stored name digest) f start upto = absurd f
-reply_not_stored s now ask other f start upto = refl
-
-reply_not_noted : (s : State) (now : ℕ) (ask : Ask) (answer : Answer) → IsReply s now ask answer
-    → (name : List ℕ) (digest : Digest) → notes name digest answer ≡ false
-reply_not_noted s now ask (answers.Stored n d) f name digest = absurd f
-reply_not_noted s now ask other f name digest = refl
-
 blobs_after : (start : State) (front : List Exchange) (s : State) (x : Exchange) (o : Outcome) → IsLawful start
     → Run start front s → IsOutcome s x.ask x.secret x.now o → x.answer ≡ answer_of o → (d : Digest)
     → map.get (state_after s x.now o).blobs d
@@ -64,7 +54,8 @@ blobs_after : (start : State) (front : List Exchange) (s : State) (x : Exchange)
 unfolding Turn
 blobs_after start front s x (Replies answer) lawful run f e d =
     sym (ap (λ xs. last_under d xs (map.get s.blobs d))
-    (ap (stored_by start (front ++ x ∷ []) x.ask) e ∙ reply_not_stored s x.now x.ask answer f start (front ++ x ∷ [])))
+    (ap (stored_by start (front ++ x ∷ []) x.ask) e
+    ∙ ap (stored_as start (front ++ x ∷ []) (upload_view x.ask)) f.stored_none))
 blobs_after start front s x (Begins n to) lawful run f e d =
     sym (ap (λ a. last_under d (stored_by start (front ++ x ∷ []) x.ask a) (map.get s.blobs d)) e)
 blobs_after start front s x (Takes n to got) lawful run f e d =
@@ -85,7 +76,7 @@ pairs_after : (s : State) (x : Exchange) (o : Outcome) → IsOutcome s x.ask x.s
     → holds (state_after s x.now o) name digest ≡ (notes name digest x.answer || holds s name digest)
 pairs_after s x (Replies answer) f e name digest =
     sym
-    (ap (λ b. b || holds s name digest) (ap (notes name digest) e ∙ reply_not_noted s x.now x.ask answer f name digest))
+    (ap (λ b. b || holds s name digest) (ap (notes name digest) e ∙ ap (is_pair (name, digest)) f.stored_none))
 pairs_after s x (Begins n to) f e name digest = sym (ap (λ a. notes name digest a || holds s name digest) e)
 pairs_after s x (Takes n to got) f e name digest = sym (ap (λ a. notes name digest a || holds s name digest) e)
 pairs_after s x (Commits n to d blob) f e name digest =
@@ -154,7 +145,7 @@ store_is_what_was_stored start xs end lawful run =
 blob_fact : (s : State) (ask : Ask) (secret : List ℕ) (now : ℕ) (o : Outcome) (digest : Digest)
     (size : ℕ) (bytes : Option (List ℕ)) → IsOutcome s ask secret now o → answer_of o ≡ answers.Blob digest size bytes
     → IsBlob s ask digest size bytes
-blob_fact s ask secret now (Replies answer) digest size bytes f e = subst (IsReply s now ask) e f
+blob_fact s ask secret now (Replies answer) digest size bytes f e = f.blob digest size bytes e
 blob_fact s ask secret now (Begins n to) digest size bytes f e = cc
 blob_fact s ask secret now (Takes n to got) digest size bytes f e = cc
 blob_fact s ask secret now (Commits n to d blob) digest size bytes f e = cc

@@ -7,21 +7,21 @@ use Rattle.upload_names.specs.Reference.{reference, number_of}
 use Rattle.upload_service.specs.declared.limits.Limits.{Limits}
 use Rattle.upload_service.specs.declared.answer.Refusal.TheVariants as refusals
 use Rattle.upload_service.specs.declared.ask.Ask.{Ask}
-use Rattle.upload_service.specs.declared.answer.Answer.{Answer}
 use Rattle.upload_service.specs.declared.answer.Answer.TheVariants as answers
 use Rattle.upload_service.specs.UploadView.{Act, OfSession, upload_view, on_session, opened_under}
 use Rattle.upload_service.specs.Machine.{is_idle, unless_idle, swept, Session, State, Outcome, Replies, Begins, Takes}
 use Rattle.upload_service.specs.Machine.{Commits, Stores, Mounts, answer_of, state_after, refused, at_session}
 use Rattle.upload_service.specs.Machine.{last_number, outcome}
-use Rattle.upload_service.specs.Session.{carries, begins}
+use Rattle.upload_service.specs.Session.{carries, is_same, begins}
 use Rattle.upload_service.specs.Alone.{Life, Unborn, Open, Gone, life_after, alone_outcome, first_answer, first_life}
 use Rattle.upload_service.specs.Alone.{alone_answer, alone_after}
 use Rattle.upload_service.proofs.Tables.{eq_from_same}
 use Rattle.std.proofs.lemmas.Nat.{from_be_bytes-to_be_bytes_4}
 use Rattle.upload_service.proofs.Tables.{one_or_two, get-insert_same, get-insert_other, get-remove_same}
 use Rattle.upload_service.proofs.Tables.{get-remove_other, ne_from_same}
-use Rattle.upload_service.proofs.UploadView.{outcome_of_view, carried}
-use Rattle.upload_service.proofs.Steps.{IsReply, IsOutcome, AsksToBegin, outcome_sound, None≢Some, idle_is_none}
+use Rattle.upload_service.proofs.UploadView.{carried}
+use Rattle.upload_service.proofs.Steps.{IsOutcome, AsksToBegin, outcome_of_view, outcome_sound, None≢Some}
+use Rattle.upload_service.proofs.Steps.{idle_is_none}
 use Rattle.upload_service.proofs.Sweeps.{kept_or_left, was_there, idle_later, idle_from}
 
 pub number_of-reference : (n : ℕ) (secret : List ℕ) → n < 2 ^ 32 → number_of (reference n secret) ≡ n
@@ -230,11 +230,6 @@ pub own_by_reference : (s : State) (ask : Ask) (secret : List ℕ) (from now : �
 own_by_reference s ask secret from now at life h later c fits =
     let to = carried at ask c in own_carried s ask secret from now to.name at to.act life h later to.view c fits
 
-reply_begins_none : (s : State) (now : ℕ) (ask : Ask) (at : List ℕ) (answer : Answer) → IsReply s now ask answer
-    → begins at answer ≡ true → ⊥
-reply_begins_none s now ask at (answers.Begun name new) f b = f
-reply_begins_none s now ask at other f b = true≢false (sym b)
-
 begun_alone : (s : State) (ask : Ask) (now : ℕ) (name at new : List ℕ) → at ≡ new → AsksToBegin name ask
     → Own s ask now (Begins name new) at Unborn
 begun_alone s ask now name at new is a =
@@ -250,7 +245,7 @@ pub own_by_opening : (s : State) (ask : Ask) (secret : List ℕ) (from now : ℕ
     → IsOutcome s ask secret now o → (at : List ℕ) (life : Life) → IsNumbered s → begins at (answer_of o) ≡ true
     → Fits s from at life → Own s ask now o at life
 own_by_opening s ask secret from now (Replies answer) f at life h b fits =
-    absurd (reply_begins_none s now ask at answer f b)
+    absurd (true≢false (sym b ∙ ap (is_same at) f.begins_none))
 own_by_opening s ask secret from now (Begins name new) f at Unborn h b fits =
     begun_alone s ask now name at new (eq_from_same at new b) f.asked
 own_by_opening s ask secret from now (Begins name new) f at (Open session) h b (inl fits) =

@@ -4,10 +4,9 @@ use Rattle.std.specs.Prelude.{if◌then◌else◌}
 use Rattle.std.proofs.lemmas.Bool.{true≢false}
 use Rattle.upload_service.specs.declared.answer.Refusal.TheVariants as refusals
 use Rattle.upload_service.specs.declared.ask.Ask.{Ask}
-use Rattle.upload_service.specs.declared.ask.Ask.TheVariants as asks
 use Rattle.upload_service.specs.UploadView.{Act, UploadView, OfSession, Opens, WholeBlob, Unrelated, upload_view}
 use Rattle.upload_service.specs.UploadView.{on_session}
-use Rattle.upload_service.specs.Machine.{same, awake, Session, State, Outcome, refused, in_session, at_session, outcome}
+use Rattle.upload_service.specs.Machine.{same, Session, refused, in_session, at_session}
 use Rattle.upload_service.specs.Session.{carries}
 use Rattle.upload_service.proofs.Tables.{eq_from_same, same_from_eq}
 
@@ -18,19 +17,6 @@ on_each P (OfSession name at act) none said p q = q name at act
 on_each P (Opens name) none said p q = p
 on_each P (WholeBlob body) none said p q = p
 on_each P Unrelated none said p q = p
-
-abbrev session_outcome : State → ℕ → UploadView → Outcome
-session_outcome s now v =
-    on_session v (refused refusals.NoUpload) (λ name at act. at_session s.limits.max_blob (awake s now at) name at act)
-
--- the machine has a request to a session meet that session
-pub outcome_of_view : (s : State) (ask : Ask) (secret : List ℕ) (now : ℕ) (name at : List ℕ) (act : Act)
-    → upload_view ask ≡ OfSession name at act
-    → outcome s ask secret now ≡ at_session s.limits.max_blob (awake s now at) name at act
-outcome_of_view s (asks.Chunk n to range body) secret now name at act e = ap (session_outcome s now) e
-outcome_of_view s (asks.Status n to) secret now name at act e = ap (session_outcome s now) e
-outcome_of_view s (asks.Close n to range digest body) secret now name at act e = ap (session_outcome s now) e
-outcome_of_view s other secret now name at act e = cc
 
 -- a session that is there, under the name that is asked for
 pub named : (max_blob : ℕ) (o : Option Session) (session : Session) (name at : List ℕ) (act : Act) → o ≡ Some session

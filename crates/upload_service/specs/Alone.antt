@@ -7,7 +7,7 @@ use Rattle.upload_service.specs.declared.answer.Refusal.TheVariants as refusals
 use Rattle.upload_service.specs.declared.ask.Ask.{Ask}
 use Rattle.upload_service.specs.declared.answer.Answer.{Answer}
 use Rattle.upload_service.specs.declared.answer.Answer.TheVariants as answers
-use Rattle.upload_service.specs.UploadView.{upload_view, on_session, opened_under}
+use Rattle.upload_service.specs.UploadView.{upload_view, on_session, opened_under, answer_view}
 use Rattle.upload_service.specs.Machine.{unless_idle, Session, State, Outcome, Replies, Begins, Takes, Commits, Stores}
 use Rattle.upload_service.specs.Machine.{Mounts, answer_of, refused, at_session}
 use Rattle.upload_service.specs.Run.{Exchange}
@@ -73,8 +73,7 @@ alone max_blob max_idle at life ((ask, now) ∷ asked) =
     ∷ alone max_blob max_idle at (alone_after max_blob max_idle life ask now) asked
 
 abbrev pub lacks_memory : Answer → Bool
-lacks_memory answers.NoMemory = true
-lacks_memory other = false
+lacks_memory answer = (answer_view answer).no_memory
 
 -- what one session was told, refusals for memory left out
 abbrev pub told : List Exchange → List ℕ → List Exchange

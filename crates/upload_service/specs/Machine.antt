@@ -1,6 +1,6 @@
 -- The upload service as a machine over plain data: the open sessions, the stored blobs, and which repository
 -- has which blob. A name, a reference and a body are lists of bytes; moments are in seconds.
-use Rattle.std.specs.Prelude.{◌≡◌, ℕ, ◌+◌, ◌-◌, ◌<◌, ◌≤◌, ◌^◌, ◌==◌, ◌||◌, nat_lt, nat_le, not, Bool, true, false, List}
+use Rattle.std.specs.Prelude.{◌≡◌, ℕ, ◌+◌, ◌-◌, ◌<◌, ◌≤◌, ◌^◌, ◌==◌, ◌||◌, nat_lt, nat_le, not, Bool, true, List}
 use Rattle.std.specs.Prelude.{[], ◌++◌, length, Option, Some, None, is_some, IsSome, IsTrue, ◌⊎◌, if◌then◌else◌}
 use Rattle.std.specs.declared.cmp.Ordering.{Ordering}
 use Rattle.std.specs.Ordering.{nat_cmp, eq_by_cmp, ordering_then}
@@ -18,7 +18,7 @@ use Rattle.upload_service.specs.declared.answer.Refusal.{Refusal}
 use Rattle.upload_service.specs.declared.answer.Refusal.TheVariants as refusals
 use Rattle.upload_service.specs.declared.ask.Ask.{Ask}
 use Rattle.upload_service.specs.declared.ask.Ask.TheVariants as asks
-use Rattle.upload_service.specs.UploadView.{Act, Sends, AsksOffset, Closes}
+use Rattle.upload_service.specs.UploadView.{Act, Sends, AsksOffset, Closes, answer_view}
 use Rattle.upload_service.specs.declared.answer.Answer.{Answer}
 use Rattle.upload_service.specs.declared.answer.Answer.TheVariants as answers
 
@@ -208,8 +208,7 @@ outcome s (asks.Close name at range digest body) secret now =
 
 -- where out of memory may be answered: at a change, and where the bytes of a blob are handed out
 abbrev pub hands_out : Answer → Bool
-hands_out (answers.Blob digest size (Some bytes)) = true
-hands_out other = false
+hands_out answer = is_some (answer_view answer).bytes
 
 abbrev pub may_lack_memory : Outcome → Bool
 may_lack_memory (Replies answer) = hands_out answer

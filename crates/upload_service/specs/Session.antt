@@ -1,12 +1,11 @@
 -- What one session is in a run: its exchanges, the chunks it took, what it has received, and when it is closed.
 use Rattle.std.specs.List.{list_any}
-use Rattle.std.specs.Prelude.{ℕ, ◌+◌, ◌||◌, ◌&&◌, nat_lt, Bool, true, false, List, [], ◌∷◌, ◌++◌, filter, flat_map}
-use Rattle.std.specs.Prelude.{Option, Some, None, if◌then◌else◌}
+use Rattle.std.specs.Prelude.{ℕ, ◌+◌, ◌||◌, ◌&&◌, nat_lt, Bool, false, List, [], ◌∷◌, ◌++◌, filter, flat_map}
+use Rattle.std.specs.Prelude.{Option, Some, None, is_some, if◌then◌else◌}
 use Rattle.std.specs.FinMap as map
 use Rattle.upload_service.specs.declared.ask.Ask.{Ask}
 use Rattle.upload_service.specs.declared.answer.Answer.{Answer}
-use Rattle.upload_service.specs.declared.answer.Answer.TheVariants as answers
-use Rattle.upload_service.specs.UploadView.{Act, Sends, AsksOffset, Closes, upload_view, on_session}
+use Rattle.upload_service.specs.UploadView.{Act, Sends, AsksOffset, Closes, upload_view, on_session, answer_view}
 use Rattle.upload_service.specs.Machine.{same, Session, State}
 use Rattle.upload_service.specs.Run.{Exchange}
 
@@ -14,10 +13,14 @@ use Rattle.upload_service.specs.Run.{Exchange}
 abbrev pub carries : List ℕ → Ask → Bool
 carries at ask = on_session (upload_view ask) false (λ name to act. same at to)
 
+-- there is one, and it is this
+abbrev pub is_same : List ℕ → Option (List ℕ) → Bool
+is_same at None = false
+is_same at (Some to) = same at to
+
 -- the answer begins a session of this reference
 abbrev pub begins : List ℕ → Answer → Bool
-begins at (answers.Begun name new) = same at new
-begins at other = false
+begins at answer = is_same at (answer_view answer).begun
 
 -- the exchanges of one session, in their order
 abbrev pub is_part : List ℕ → Exchange → Bool
@@ -27,12 +30,10 @@ abbrev pub part : List Exchange → List ℕ → List Exchange
 part xs at = filter (is_part at) xs
 
 abbrev pub is_taken : Answer → Bool
-is_taken (answers.Taken name at next) = true
-is_taken other = false
+is_taken answer = (answer_view answer).took
 
 abbrev pub is_stored : Answer → Bool
-is_stored (answers.Stored name digest) = true
-is_stored other = false
+is_stored answer = is_some (answer_view answer).pair
 
 -- the body that a session takes: a chunk answered Taken, or a close answered Stored
 abbrev pub accepted_by : Act → Answer → List (List ℕ)

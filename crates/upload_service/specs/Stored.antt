@@ -5,9 +5,8 @@ use Rattle.std.specs.FinMap as map
 use Rattle.upload_names.specs.Digest.{Digest}
 use Rattle.upload_service.specs.declared.ask.Ask.{Ask}
 use Rattle.upload_service.specs.declared.answer.Answer.{Answer}
-use Rattle.upload_service.specs.declared.answer.Answer.TheVariants as answers
 use Rattle.upload_service.specs.UploadView.{Act, Sends, AsksOffset, Closes, UploadView, OfSession, Opens, WholeBlob}
-use Rattle.upload_service.specs.UploadView.{Unrelated, upload_view}
+use Rattle.upload_service.specs.UploadView.{Unrelated, upload_view, answer_view}
 use Rattle.upload_service.specs.Machine.{same_digest, State, holds, pair_cmp}
 use Rattle.std.specs.Ordering.{eq_by_cmp}
 use Rattle.upload_service.specs.Run.{Exchange}
@@ -33,9 +32,13 @@ blob_of start upto name digest (Opens n) = []
 blob_of start upto name digest (WholeBlob body) = record { name = name; digest = digest; blob = body } ∷ []
 blob_of start upto name digest Unrelated = []
 
+-- what a request stored, if it was answered that this repository has this blob
+abbrev pub stored_as : State → List Exchange → UploadView → Option (List ℕ × Digest) → List Stored
+stored_as start upto view None = []
+stored_as start upto view (Some (name, digest)) = blob_of start upto name digest view
+
 abbrev pub stored_by : State → List Exchange → Ask → Answer → List Stored
-stored_by start upto ask (answers.Stored name digest) = blob_of start upto name digest (upload_view ask)
-stored_by start upto ask other = []
+stored_by start upto ask answer = stored_as start upto (upload_view ask) (answer_view answer).pair
 
 abbrev pub stored_from : State → List Exchange → List Exchange → List Stored
 stored_from start front [] = []
@@ -51,10 +54,14 @@ abbrev pub last_under : Digest → List Stored → Option (List ℕ) → Option 
 last_under digest [] had = had
 last_under digest (x ∷ xs) had = last_under digest xs (if same_digest digest x.digest then Some x.blob else had)
 
+-- there is one, and it is this
+abbrev pub is_pair : List ℕ × Digest → Option (List ℕ × Digest) → Bool
+is_pair pair None = false
+is_pair pair (Some got) = eq_by_cmp pair_cmp pair got
+
 -- the repository was told that it has the blob
 abbrev pub notes : List ℕ → Digest → Answer → Bool
-notes name digest (answers.Stored n d) = eq_by_cmp pair_cmp (name, digest) (n, d)
-notes name digest other = false
+notes name digest answer = is_pair (name, digest) (answer_view answer).pair
 
 -- What is stored after a run: under each digest the last blob that was stored there, else what was there at the start;
 -- and the pairs are those of the start and those that were answered Stored.

@@ -1,9 +1,12 @@
--- What a request asks of an upload: the list of all requests by which the definitions tell what concerns a session.
-use Rattle.std.specs.Prelude.{ℕ, List, Option, Some, None}
+-- What a request asks of an upload, and what an answer says was done: the two lists of all requests and of all answers
+-- by which the definitions tell what concerns a session and the store.
+use Rattle.std.specs.Prelude.{ℕ, Bool, true, false, List, Option, Some, None}
 use Rattle.upload_names.specs.Digest.{Digest}
 use Rattle.upload_service.specs.declared.ask.Extent.{Extent}
 use Rattle.upload_service.specs.declared.ask.Ask.{Ask}
 use Rattle.upload_service.specs.declared.ask.Ask.TheVariants as asks
+use Rattle.upload_service.specs.declared.answer.Answer.{Answer}
+use Rattle.upload_service.specs.declared.answer.Answer.TheVariants as answers
 
 -- what a request asks of the session that it names
 pub data Act : Type 0 where
@@ -42,3 +45,25 @@ opened_under (OfSession name at act) = None
 opened_under (Opens name) = Some name
 opened_under (WholeBlob body) = None
 opened_under Unrelated = None
+
+-- what an answer says was done
+pub record AnswerView : Type 0 where
+  pub begun : Option (List ℕ)  -- a session of this reference was begun
+  pub took : Bool  -- the session took the chunk
+  pub pair : Option (List ℕ × Digest)  -- the repository of this name got the blob of this digest
+  pub bytes : Option (List ℕ)  -- these bytes of a blob were handed out
+  pub no_memory : Bool  -- nothing, since memory was out
+
+abbrev pub nothing_done : AnswerView
+nothing_done = record { begun = None; took = false; pair = None; bytes = None; no_memory = false }
+
+abbrev pub answer_view : Answer → AnswerView
+answer_view answers.Base = nothing_done
+answer_view (answers.Blob digest size bytes) = record nothing_done { bytes = bytes }
+answer_view (answers.Begun name at) = record nothing_done { begun = Some at }
+answer_view (answers.Stored name digest) = record nothing_done { pair = Some (name, digest) }
+answer_view (answers.Taken name at next) = record nothing_done { took = true }
+answer_view (answers.Standing name at next) = nothing_done
+answer_view (answers.Misplaced name at next) = nothing_done
+answer_view (answers.Refused refusal) = nothing_done
+answer_view answers.NoMemory = record nothing_done { no_memory = true }
