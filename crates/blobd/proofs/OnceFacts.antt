@@ -5,7 +5,7 @@ use Rattle.upload_service.specs.Run.{NeverBefore}
 use Rattle.upload_service.specs.Headline.{HeadlineHolds}
 use Rattle.upload_service.specs.declared.limits.Limits.{Limits}
 use Rattle.http_wire.specs.States.{SourceState, SinkState}
-use Rattle.upload_wire.specs.Conversation.{Exchange, IsConversation}
+use Rattle.upload_wire.specs.Conversation.{WireExchange, IsConversation}
 use Rattle.upload_wire.specs.ConnectionRuns.{answered, service_exchanges, ConversationsRunTheService}
 use Rattle.upload_wire.specs.ServiceTurns.{StepsService}
 use Rattle.upload_wire.specs.declared.connection.ConnEnd.{ConnEnd}
@@ -21,7 +21,7 @@ with_first_desk first left before after end limits desk new is_limits is_desk ta
     (subst (λ l. IsConversation StepsService l.max_body first left desk new before after end) is_limits talk)
 
 -- the clock stands at 0
-never_falls : (xs : List Exchange) → NeverBefore 0 (service_exchanges first_desk xs)
+never_falls : (xs : List WireExchange) → NeverBefore 0 (service_exchanges first_desk xs)
 never_falls [] = tt
 never_falls (x ∷ xs) = (lit≤ tt, never_falls xs)
 

@@ -12,7 +12,7 @@ use Rattle.std.proofs.lemmas.Str.{IsUtf8-from_ascii}
 use Rattle.std.proofs.lemmas.Str.Ascii.{IsAscii-from_all}
 use Rattle.upload_names.specs.Digest.{Digest, IsDigest, digest_text}
 use Rattle.upload_texts.proofs.PlainTexts.{IsTarget-plain, ascii_bytes, digest_plain}
-use Rattle.blobd.specs.Pushed.{is_word, shown}
+use Rattle.blobd.specs.Pushed.{is_word, shown_code}
 
 -- the text of a digest
 pub digest_utf8 : (digest : Digest) → IsDigest digest → IsUtf8 (digest_text digest)
@@ -42,5 +42,5 @@ pub word_visible : (text : List ℕ) → is_word text ≡ true → list_all is_a
 word_visible text h = grind arith
 
 -- a code that is a word is printed as it is
-pub shown_word : (code : List ℕ) → is_word code ≡ true → code ≡ shown (Some code)
+pub shown_word : (code : List ℕ) → is_word code ≡ true → code ≡ shown_code (Some code)
 shown_word code h = sym (ap (λ b. cond b code (codes "-")) h)

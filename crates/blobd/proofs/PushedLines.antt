@@ -14,7 +14,7 @@ use Rattle.upload_client.specs.declared.heard.Heard.{Heard}
 use Rattle.upload_client.specs.TransportText.{WireState}
 use Rattle.upload_push.specs.Dialed.{AsksDialed}
 use Rattle.upload_push.specs.Looking.{is_found}
-use Rattle.upload_push.specs.Slices.{Push, Exchange, IsPush, IsEnd, Leads, log_of, push_of, push_under, after_all}
+use Rattle.upload_push.specs.Slices.{Push, Attempt, IsPush, IsEnd, Leads, log_of, push_of, push_under, after_all}
 use Rattle.upload_push.specs.declared.pusher.Outcome.{Outcome}
 use Rattle.upload_push.specs.declared.pusher.Outcome.TheVariants.{Already}
 use Rattle.upload_push.specs.declared.pushing.PushFault.{PushFault}
@@ -24,7 +24,7 @@ use Rattle.upload_push.specs.declared.pusher.Phase.TheVariants.{Opening, Done, G
 use Rattle.upload_push.specs.declared.pusher.Why.TheVariants.{OutOfTries}
 use Rattle.upload_push.proofs.Sound.{unheard_waits}
 use Rattle.blobd.specs.Status.{IsPrinted, line}
-use Rattle.blobd.specs.Pushed.{IsLookedLine, IsPushed, IsSent, IsEndLine, IsTold, Look, why_text}
+use Rattle.blobd.specs.Pushed.{IsLookedLine, IsPushed, IsSent, IsEndLine, PrintsPush, Look, why_text}
 
 -- what an ask says of the host and of the connection that is kept
 abbrev pub KeepsDialing : {S : Type 0} → (S → Ask → Option Heard → S → Type 0) → (S → List ℕ)
@@ -34,7 +34,7 @@ KeepsDialing {S} asked host wire = (s : S) (ask : Ask) (heard : Option Heard) (t
 
 -- over a whole push the asks went over its connections
 dialed : {S : Type 0} (asked : S → Ask → Option Heard → S → Type 0) (host : S → List ℕ) (wire : S → Option WireState)
-    → KeepsDialing asked host wire → (at : List ℕ) (old : S) → host old ≡ at → (log : List Exchange) (new : S)
+    → KeepsDialing asked host wire → (at : List ℕ) (old : S) → host old ≡ at → (log : List Attempt) (new : S)
     → Leads asked old log new → Leads (AsksDialed at) (wire old) log (wire new) × (host new ≡ at)
 dialed asked host wire keeps at old same [] new leads = (ap wire leads, ap host leads ∙ same)
 dialed asked host wire keeps at old same (e ∷ log) new leads =
@@ -95,10 +95,10 @@ same_push at host own name file chunk digest end same_host same its_digest h =
 
 -- a push to which nothing was said is told as out of tries
 untold : (digest : Digest) (phase : Phase) (status : ℕ) (text : List ℕ)
-    → (phase ≡ Opening) ⊎ (phase ≡ GaveUp OutOfTries) → IsTold digest phase status text
+    → (phase ≡ Opening) ⊎ (phase ≡ GaveUp OutOfTries) → PrintsPush digest phase status text
     → (status ≡ 1) × (text ≡ why_text OutOfTries)
-untold digest phase status text (inl is) told = absurd (subst (λ (p : Phase). IsTold digest p status text) is told)
-untold digest phase status text (inr is) told = subst (λ (p : Phase). IsTold digest p status text) is told
+untold digest phase status text (inl is) told = absurd (subst (λ (p : Phase). PrintsPush digest p status text) is told)
+untold digest phase status text (inr is) told = subst (λ (p : Phase). PrintsPush digest p status text) is told
 
 -- the line of a blob that was found
 found_line : (host : List ℕ) (p : Push) (before after : Option (List ℕ)) (result : ℕ) (look : Look host p.name p.digest)
@@ -112,11 +112,11 @@ found_line host p before after result look is (inl (zero, printed)) =
 lined : (host : List ℕ) (p : Push) (end : Result Outcome PushFault) (phase : Phase)
     (text : List ℕ) (before after : Option (List ℕ)) (result : ℕ) → (look : Look host p.name p.digest)
     → is_found look.heard ≡ false → ((last : Option WireState) × IsPush (AsksDialed host) p look.kept last end)
-    → ((q : Phase) → IsEnd q end → q ≡ phase) → IsTold p.digest phase result text → Appends before after (line text)
+    → ((q : Phase) → IsEnd q end → q ≡ phase) → PrintsPush p.digest phase result text → Appends before after (line text)
     → IsLookedLine host p before after result ⊎ (result ≡ 3)
 lined host p end phase text before after result look missing (last, push) at told printed =
-    let at_the_end : IsTold p.digest (after_all p push.heard).phase result text =
-    subst (λ q. IsTold p.digest q result text) (sym (at _ push.ends)) told in
+    let at_the_end : PrintsPush p.digest (after_all p push.heard).phase result text =
+    subst (λ q. PrintsPush p.digest q result text) (sym (at _ push.ends)) told in
     inl (
       look,
       inr (record {

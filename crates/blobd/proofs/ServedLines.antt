@@ -15,7 +15,7 @@ use Rattle.blobd.proofs.LoggedLines.{TellsLog, logged}
 use Rattle.blobd.specs.LogTold.{LogState, new_log}
 use Rattle.blobd.specs.Once.{program_limits}
 use Rattle.blobd.specs.Serving.{HasServed}
-use Rattle.blobd.specs.Status.{IsPrinted, IsServed, line}
+use Rattle.blobd.specs.Status.{IsPrinted, ServingEnds, line}
 
 -- how workers were started: so many, whose logs are new
 pub record AreStarted {C S G : Type 0} (number : ℕ) (wanted : Bool)
@@ -66,7 +66,7 @@ has_served m tells number count wanted start moments workers service moments_lef
 
 pub served : (did : Type 0) → did → (before between after : Option (List ℕ)) (addr : SocketAddr) (listening result : ℕ)
     → listening ≡ 0 → IsPrinted (Some (codes "listening " ++ socket_text addr)) before between 0 listening
-    → IsPrinted (Some (codes "served")) between after 0 result → IsServed did before after result
+    → IsPrinted (Some (codes "served")) between after 0 result → ServingEnds did before after result
 served did done before between after addr listening result is_done first (inr fault) = inr fault
 served did done before between after addr listening result is_done (inl (is, printed)) (inl (zero, last)) =
     inl (

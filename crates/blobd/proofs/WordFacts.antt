@@ -3,10 +3,10 @@ use Rattle.std.proofs.Common.{◌≡◌, ℕ, List, length, Some, None, inl, inr
 use Rattle.std.specs.Borrow.{Bor}
 use Rattle.blobd.specs.declared.words.Command.{Command}
 use Rattle.blobd.specs.declared.words.Command.TheVariants.{Once, Serve, Push, Help, Version}
-use Rattle.blobd.specs.Size.{IsSize}
+use Rattle.blobd.specs.Size.{WritesSize}
 use Rattle.blobd.specs.Words.{Makes, word_at}
 
-pub no_size : (words : List (Bor (List ℕ))) → length words ≡ 5 → ((size : ℕ) → ¬ (IsSize (word_at words 4) size))
+pub no_size : (words : List (Bor (List ℕ))) → length words ≡ 5 → ((size : ℕ) → ¬ (WritesSize (word_at words 4) size))
     → (command : Command) → ¬ (Makes words command)
 no_size words five none Once h = let one = h.0 in omega (arith, one, five)
 no_size words five none (Serve addr None) h = let two = h.2 in omega (arith, two, five)

@@ -32,8 +32,8 @@ ShowsLine (Some line) head = Shows line.method.now line.target.now head
 
 -- the line of the head that was told last and of a reply with this status and this size was handed on, whatever time
 -- had passed, and nothing else
-abbrev pub HasLine : LogState → ℕ → ℕ → LogState → Type 0
-HasLine old status size new =
+abbrev pub HandsOnLine : LogState → ℕ → ℕ → LogState → Type 0
+HandsOnLine old status size new =
     (millis : ℕ)
     × (new ≡ record {
       head = old.head;
@@ -51,7 +51,7 @@ abbrev pub LogTold : LogState → Event → LogState → Type 0
 LogTold old (Head method target) new =
     (head : List ℕ) × Shows method target head × (new ≡ record { head = head; handed = old.handed; lost = old.lost })
 LogTold old Unreadable new = new ≡ record { head = no_head; handed = old.handed; lost = old.lost }
-LogTold old (Replied status size) new = HasLine old status size new ⊎ HasLost old new
+LogTold old (Replied status size) new = HandsOnLine old status size new ⊎ HasLost old new
 
 -- ---- a log, if one is wanted
 

@@ -30,9 +30,9 @@ abbrev pub is_word : List ℕ → Bool
 is_word text = nat_lt 0 (length text) && list_all is_ascii_graphic text
 
 -- an error code as it is printed: itself where it is a word, and else a hyphen
-abbrev pub shown : Option (List ℕ) → List ℕ
-shown None = codes "-"
-shown (Some code) = if is_word code then code else codes "-"
+abbrev pub shown_code : Option (List ℕ) → List ℕ
+shown_code None = codes "-"
+shown_code (Some code) = if is_word code then code else codes "-"
 
 -- the word for how a push ended well
 abbrev pub outcome_word : Outcome → List ℕ
@@ -41,17 +41,17 @@ outcome_word Already = codes "already"
 
 -- what is printed of why a push was given up
 abbrev pub why_text : Why → List ℕ
-why_text (Refused status code) = codes "refused: " ++ (decimal status ++ (codes " " ++ shown code))
+why_text (Refused status code) = codes "refused: " ++ (decimal status ++ (codes " " ++ shown_code code))
 why_text BadServer = codes "refused: bad server"
 why_text OutOfTries = codes "refused: out of tries"
 
 -- what is printed of a push of this digest that ended in this phase, and the exit status: 0 where it ended well, 1
 -- where it was given up
-abbrev pub IsTold : Digest → Phase → ℕ → List ℕ → Type 0
-IsTold digest (Done outcome) status text =
+abbrev pub PrintsPush : Digest → Phase → ℕ → List ℕ → Type 0
+PrintsPush digest (Done outcome) status text =
     (status ≡ 0) × (text ≡ outcome_word outcome ++ (codes " " ++ digest_text digest))
-IsTold digest (GaveUp why) status text = (status ≡ 1) × (text ≡ why_text why)
-IsTold digest other status text = ⊥
+PrintsPush digest (GaveUp why) status text = (status ≡ 1) × (text ≡ why_text why)
+PrintsPush digest other status text = ⊥
 
 -- The line of this end of a push was printed and nothing else, with its status; or the status is that of a fault.
 abbrev pub IsEndLine : Digest → Result Outcome PushFault → Option (List ℕ) → Option (List ℕ) → ℕ → Type 0
@@ -98,7 +98,7 @@ pub record IsPushLine {host : List ℕ} (p : Push) (look : Look host p.name p.di
   -- where nothing was heard, as where no connection could be made, the line tells no status: it says that the tries are
   -- used up
   pub unheard : AreUnheard heard → (status ≡ 1) × (text ≡ why_text OutOfTries)
-  pub told : IsTold p.digest (after_all p heard).phase status text
+  pub told : PrintsPush p.digest (after_all p heard).phase status text
   pub printed : Appends before after (line text)
 
 -- A push to this host looked first, and the line of the blob that was found or of the push's end was printed.

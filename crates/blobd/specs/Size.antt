@@ -24,8 +24,8 @@ abbrev pub IsNumber : List ℕ → ℕ → Type 0
 IsNumber digits number = IsNumeral 10 digits × (digits_value 10 digits ≡ number) × (number < 2 ^ 64)
 
 -- decimal digits and a unit, which write a size from 1 to 2,147,483,648 bytes
-abbrev pub IsSize : List ℕ → ℕ → Type 0
-IsSize word size =
+abbrev pub WritesSize : List ℕ → ℕ → Type 0
+WritesSize word size =
     IsNumeral 10 (digits_of word) × (digits_value 10 (digits_of word) * unit_of word ≡ size) × (1 ≤ size)
     × (size ≤ 2147483648)
 

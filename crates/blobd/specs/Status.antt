@@ -19,6 +19,6 @@ served_lines addr = line (codes "listening " ++ socket_text addr) ++ line (codes
 
 -- a server is done, this is what it did, and these two lines were printed and nothing else; or the status is that of a
 -- fault
-abbrev pub IsServed : Type 0 → Option (List ℕ) → Option (List ℕ) → ℕ → Type 0
-IsServed did before after status =
+abbrev pub ServingEnds : Type 0 → Option (List ℕ) → Option (List ℕ) → ℕ → Type 0
+ServingEnds did before after status =
     ((status ≡ 0) × did × ((addr : SocketAddr) × Appends before after (served_lines addr))) ⊎ (status ≡ 3)

@@ -6,7 +6,7 @@ use Rattle.std.specs.Str.Parse.{IsNumeral, digits_value}
 use Rattle.std.specs.Net.Grammar.{IsSocketText}
 use Rattle.blobd.specs.declared.words.Command.{Command}
 use Rattle.blobd.specs.declared.words.Command.TheVariants.{Once, Serve, Push, Help, Version}
-use Rattle.blobd.specs.Size.{IsSize}
+use Rattle.blobd.specs.Size.{WritesSize}
 
 -- the word is one or more decimal digits, which write the number; it is from 1 to `most`
 abbrev pub IsCount : ℕ → List ℕ → ℕ → Type 0
@@ -25,7 +25,7 @@ AreServeWords words (Some count) = (length words ≡ 3) × IsCount 1000000 (word
 -- its size.
 abbrev pub AreChunkWords : List (Bor (List ℕ)) → ℕ → Type 0
 AreChunkWords words chunk =
-    ((length words ≡ 4) × (chunk ≡ 16777216)) ⊎ ((length words ≡ 5) × IsSize (word_at words 4) chunk)
+    ((length words ≡ 4) × (chunk ≡ 16777216)) ⊎ ((length words ≡ 5) × WritesSize (word_at words 4) chunk)
 
 -- the words make the command
 abbrev pub Makes : List (Bor (List ℕ)) → Command → Type 0

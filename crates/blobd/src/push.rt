@@ -4,7 +4,7 @@ ghost use Rattle.upload_names.specs.Digest.{content_digest, digest_text};
 ghost use Rattle.upload_names.specs.declared.digest.Algorithm.{Algorithm};
 ghost use Rattle.upload_push.specs.Slices.{push_under};
 ghost use Rattle.blobd.specs.Status.{IsPrinted};
-ghost use Rattle.blobd.specs.Pushed.{IsEndLine, IsPushed, IsSent, outcome_word, shown, why_text};
+ghost use Rattle.blobd.specs.Pushed.{IsEndLine, IsPushed, IsSent, outcome_word, shown_code, why_text};
 
 use crate::bar::Bar;
 use crate::dialer::{Dialer, is_word};
@@ -28,7 +28,7 @@ const PIECE: usize = 1_048_576;
 /// The code as it is printed: `-` where there is none, where it is empty, or where it isn't visible ASCII, since a
 /// server could else write more lines than one.
 fn printable(code: &Option<Bytes>) -> &str
-    ensures { result.now ≡ shown code.now }
+    ensures { result.now ≡ shown_code code.now }
 {
     match code {
         Some(code) if is_word(code.as_slice()) => { str::from_utf8(code.as_slice()).unwrap_or("-") }

@@ -3,7 +3,7 @@ ghost use Rattle.std.specs.Prelude.{◌≡◌, ◌<◌, ◌≤◌, true, [], All
 ghost use Rattle.upload_intake.specs.Working.{means};
 ghost use Rattle.blobd.specs.LogTold.{log_state, new_log, no_head};
 ghost use Rattle.blobd.specs.Serving.{HasServed};
-ghost use Rattle.blobd.specs.Status.{IsServed};
+ghost use Rattle.blobd.specs.Status.{ServingEnds};
 
 use crate::accept::{Accepted, Terms};
 use crate::closing::Closer;
@@ -252,7 +252,7 @@ where
     R: Threads + Wait + Sync + AllocGlobal + Clock + RandomSource + Eprint + Copy + Send + 'static,
     W: Write,
     requires { 0 < terms.workers }
-    ensures { IsServed (HasServed
+    ensures { ServingEnds (HasServed
         (means ⟦<Accepted<'a, R> as Conns>⟧.gives ⟦<Reader<'a, R> as ByteSource>⟧.state
         ⟦<Writer<'a, R> as ByteSink>⟧.state
         ⟦<SystemSecrets as Secrets>⟧.draws ⟦<NoGate as Gate>⟧.watches

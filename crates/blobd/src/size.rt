@@ -1,7 +1,7 @@
 //! Sizes as they are written on the command line.
 ghost use Rattle.std.specs.Prelude.{◌≡◌, ℕ, MatchOption};
 ghost use Rattle.std.specs.Str.Parse.{IsNumeral, digits_value};
-ghost use Rattle.blobd.specs.Size.{IsNumber, IsSize, digits_of, is_slow, unit_of};
+ghost use Rattle.blobd.specs.Size.{IsNumber, WritesSize, digits_of, is_slow, unit_of};
 
 use std::str;
 
@@ -54,7 +54,7 @@ fn read_number(digits: &[u8]) -> Option<u64>
 /// The size of a chunk that a word writes: decimal digits, and behind them `K`, `M` or `G` if it isn't in bytes; from 1
 /// to 2,147,483,648 bytes.
 pub fn read_size(word: &str) -> Option<u64>
-    ensures { MatchOption result ((size : ℕ) → ¬ (IsSize word.now size)) (IsSize word.now) }
+    ensures { MatchOption result ((size : ℕ) → ¬ (WritesSize word.now size)) (WritesSize word.now) }
 {
     let (digits, unit) = split_unit(word.as_bytes());
     let number = read_number(digits)?;

@@ -18,14 +18,14 @@ use Rattle.upload_client.specs.declared.heard.Heard.{Heard}
 use Rattle.upload_intake.specs.Log.{Step}
 use Rattle.upload_push.specs.Promise.{IsStored}
 use Rattle.upload_push.specs.Runs.{IsHeardOf}
-use Rattle.upload_push.specs.Slices.{Push, Exchange, EndsWith, HeardStatus, IsClose, IsSound, IsSoundAsk}
+use Rattle.upload_push.specs.Slices.{Push, Attempt, LastIsAnswered, HeardStatus, IsClose, IsSound, IsSoundAsk}
 use Rattle.upload_push.proofs.Turns.{None≢Some, same_inside}
 use Rattle.end_to_end.specs.Marks.{heard, Marked}
 use Rattle.end_to_end.proofs.Placing.{IsLast}
 
 -- ---- the step of the close
 
-close_is : (p : Push) (log : List Exchange) (ask : Ask) → IsSoundAsk p log ask → IsClose ask
+close_is : (p : Push) (log : List Attempt) (ask : Ask) → IsSoundAsk p log ask → IsClose ask
     → (upload : List ℕ) × (ask ≡ asks.Close p.name upload Absent (Some p.digest) [])
 close_is p log (asks.Close name at range digest body) sound close =
     (at, λ i. asks.Close (sound.0 i) at (sound.2.no_range i) (sound.2.own_digest i) (sound.2.no_body i))
@@ -42,7 +42,7 @@ pub record IsClosedBy (p : Push) (front : List Marked) : Type 0 where
   pub asked : ask ≡ asks.Close p.name upload Absent (Some p.digest) []
   pub is_created : what.status ≡ 201
 
-pub closed_by : (p : Push) (log : List Exchange) (front : List Marked) → IsSound p log → EndsWith IsClose 201 log
+pub closed_by : (p : Push) (log : List Attempt) (front : List Marked) → IsSound p log → LastIsAnswered IsClose 201 log
     → IsLast log front → IsClosedBy p front
 closed_by p [] front sound ends last = absurd ends
 closed_by p (e ∷ log) front sound ends last =

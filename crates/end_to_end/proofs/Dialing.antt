@@ -7,9 +7,9 @@ use Rattle.upload_service.specs.declared.ask.Ask.{Ask}
 use Rattle.upload_client.specs.TransportText.{WireState, AsksOverWire, stays_open}
 use Rattle.upload_intake.specs.Working.{Means}
 use Rattle.upload_push.specs.Dialed.{AsksDialed, Connects, kept_or}
-use Rattle.upload_push.specs.Slices.{Exchange, Leads}
+use Rattle.upload_push.specs.Slices.{Attempt, Leads}
 use Rattle.upload_push.proofs.Turns.{same_inside}
-use Rattle.wire_laws.specs.Joined.{Asked, AsksInTurn, IsNoGet}
+use Rattle.wire_laws.specs.Joined.{TransportCall, AsksInTurn, IsNoGet}
 use Rattle.wire_laws.specs.WrittenExchanges.{MayBeAsked}
 use Rattle.end_to_end.specs.Network.{Connection, IsAskOf}
 use Rattle.end_to_end.specs.Dialing.{Leg, over, unmet, asked_in, asked_by, IsLegTo, DialedPushesHaveConnections}
@@ -18,38 +18,38 @@ use Rattle.end_to_end.proofs.Seating.{all_both}
 
 -- ---- one more ask over a connection
 
-abbrev asked_of : Exchange → Asked
+abbrev asked_of : Attempt → TransportCall
 asked_of e = record { ask = e.ask; heard = e.heard }
 
-in_turn_too : (made : WireState) (xs : List Asked) (left : WireState) (x : Asked) (new : WireState)
+in_turn_too : (made : WireState) (xs : List TransportCall) (left : WireState) (x : TransportCall) (new : WireState)
     → AsksInTurn made xs left → AsksOverWire left x.ask x.heard new → AsksInTurn made (xs ++ x ∷ []) new
 in_turn_too made [] left x new turn asks = (new, subst (λ w. AsksOverWire w x.ask x.heard new) turn asks, refl)
 in_turn_too made (y ∷ ys) left x new turn asks = (turn.0, turn.1, in_turn_too turn.0 ys left x new turn.2 asks)
 
 -- ---- requests of a list, and of a longer one
 
-ask_of_newest : (e : Exchange) (log : List Exchange) → IsAskOf (e ∷ log) e.ask
+ask_of_newest : (e : Attempt) (log : List Attempt) → IsAskOf (e ∷ log) e.ask
 ask_of_newest e log = record { later = []; at = e; earlier = log; split = refl; same = refl }
 
-ask_of_longer : (e : Exchange) (log : List Exchange) (ask : Ask) → IsAskOf log ask → IsAskOf (e ∷ log) ask
+ask_of_longer : (e : Attempt) (log : List Attempt) (ask : Ask) → IsAskOf log ask → IsAskOf (e ∷ log) ask
 ask_of_longer e log ask is =
     record { later = e ∷ is.later; at = is.at; earlier = is.earlier; split = ap (λ l. e ∷ l) is.split; same = is.same }
 
-asks_of_longer : (e : Exchange) (log : List Exchange) (xs : List Asked) → AllByRecursion (λ x. IsAskOf log x.ask) xs
-    → AllByRecursion (λ x. IsAskOf (e ∷ log) x.ask) xs
+asks_of_longer : (e : Attempt) (log : List Attempt) (xs : List TransportCall)
+    → AllByRecursion (λ x. IsAskOf log x.ask) xs → AllByRecursion (λ x. IsAskOf (e ∷ log) x.ask) xs
 asks_of_longer e log [] all = tt
 asks_of_longer e log (x ∷ xs) all = (ask_of_longer e log x.ask all.0, asks_of_longer e log xs all.1)
 
 -- ---- connections behind some asks
 
-module _ (host : List ℕ) (earlier : List Exchange) where
-  leg_of_longer : (e : Exchange) (log : List Exchange) (leg : Leg) → IsLegTo host earlier log leg
+module _ (host : List ℕ) (earlier : List Attempt) where
+  leg_of_longer : (e : Attempt) (log : List Attempt) (leg : Leg) → IsLegTo host earlier log leg
       → IsLegTo host earlier (e ∷ log) leg
   leg_of_longer e log (over c) is =
       record { host_is = is.host_is; own = asks_of_longer e log c.asks is.own; before_it = is.before_it }
   leg_of_longer e log (unmet ask) is = tt
 
-  legs_of_longer : (e : Exchange) (log : List Exchange) (legs : List Leg)
+  legs_of_longer : (e : Attempt) (log : List Attempt) (legs : List Leg)
       → AllByRecursion (IsLegTo host earlier log) legs → AllByRecursion (IsLegTo host earlier (e ∷ log)) legs
   legs_of_longer e log [] all = tt
   legs_of_longer e log (leg ∷ legs) all = (leg_of_longer e log leg all.0, legs_of_longer e log legs all.1)
@@ -61,7 +61,7 @@ module _ (host : List ℕ) (earlier : List Exchange) where
   IsKept (Some wire) (over c ∷ legs) = c.left ≡ wire
   IsKept (Some wire) (unmet ask ∷ legs) = ⊥
 
-  record Connected (log : List Exchange) (kept : Option WireState) : Type 0 where
+  record Connected (log : List Attempt) (kept : Option WireState) : Type 0 where
     legs : List Leg
     all : asked_in legs ≡ asked_by log
     each : AllByRecursion (IsLegTo host earlier log) legs
@@ -73,7 +73,7 @@ module _ (host : List ℕ) (earlier : List Exchange) where
   kept_newest c legs false = tt
 
   -- an ask over a connection that was made for it
-  over_new : (e : Exchange) (log : List Exchange) (wire new : WireState) (kept behind : Option WireState)
+  over_new : (e : Attempt) (log : List Attempt) (wire new : WireState) (kept behind : Option WireState)
       → Connected log kept → Connects host None (Some wire) → AsksOverWire wire e.ask e.heard new
       → behind ≡ kept_or None new → Connected (e ∷ log) behind
   over_new e log wire new kept behind at made asks is =
@@ -99,13 +99,13 @@ module _ (host : List ℕ) (earlier : List Exchange) where
       }
 
   -- an ask over the connection that was kept
-  over_kept : (e : Exchange) (log : List Exchange) (wire new : WireState) (behind : Option WireState) (legs : List Leg)
+  over_kept : (e : Attempt) (log : List Attempt) (wire new : WireState) (behind : Option WireState) (legs : List Leg)
       → asked_in legs ≡ asked_by log → AllByRecursion (IsLegTo host earlier log) legs → IsKept (Some wire) legs
       → AsksOverWire wire e.ask e.heard new → behind ≡ kept_or None new → Connected (e ∷ log) behind
   over_kept e log wire new behind [] all each newest asks is = absurd newest
   over_kept e log wire new behind (unmet ask ∷ legs) all each newest asks is = absurd newest
   over_kept e log wire new behind (over c ∷ legs) all each newest asks is =
-      let x : Asked = asked_of e in
+      let x : TransportCall = asked_of e in
       let longer : AsksInTurn c.made ((c.before ++ c.asks) ++ x ∷ []) new =
       in_turn_too c.made (c.before ++ c.asks) c.left x new c.turn
       (subst (λ w. AsksOverWire w e.ask e.heard new) (sym newest) asks) in
@@ -134,7 +134,7 @@ module _ (host : List ℕ) (earlier : List Exchange) where
       }
 
   -- an ask for which there was no connection
-  over_none : (e : Exchange) (log : List Exchange) (kept behind : Option WireState) → Connected log kept
+  over_none : (e : Attempt) (log : List Attempt) (kept behind : Option WireState) → Connected log kept
       → e.heard ≡ None → behind ≡ None → Connected (e ∷ log) behind
   over_none e log kept behind at none is = record {
     legs = unmet e.ask ∷ at.legs;
@@ -143,7 +143,7 @@ module _ (host : List ℕ) (earlier : List Exchange) where
     newest = subst (λ k. IsKept k (unmet e.ask ∷ at.legs)) (sym is) tt;
   }
 
-  over_one : (e : Exchange) (log : List Exchange) (wire new : WireState) (kept behind : Option WireState)
+  over_one : (e : Attempt) (log : List Attempt) (wire new : WireState) (kept behind : Option WireState)
       → Connected log kept → Connects host kept (Some wire) → AsksOverWire wire e.ask e.heard new
       → behind ≡ kept_or None new → Connected (e ∷ log) behind
   over_one e log wire new None behind at made asks is = over_new e log wire new None behind at made asks is
@@ -151,12 +151,12 @@ module _ (host : List ℕ) (earlier : List Exchange) where
       over_kept e log wire new behind at.legs at.all at.each
       (subst (λ v. IsKept (Some v) at.legs) (sym (same_inside same)) at.newest) asks is
 
-  one_more : (e : Exchange) (log : List Exchange) (kept behind : Option WireState) → Connected log kept
+  one_more : (e : Attempt) (log : List Attempt) (kept behind : Option WireState) → Connected log kept
       → AsksDialed host kept e.ask e.heard behind → Connected (e ∷ log) behind
   one_more e log kept behind at (inl asks) = over_one e log asks.0 asks.1 kept behind at asks.2 asks.3 asks.4
   one_more e log kept behind at (inr none) = over_none e log kept behind at none.1 none.2
 
-  connected : (first kept : Option WireState) (log : List Exchange) → Connected [] first
+  connected : (first kept : Option WireState) (log : List Attempt) → Connected [] first
       → Leads (AsksDialed host) first log kept → Connected log kept
   connected first kept [] at leads = subst (Connected []) (sym leads) at
   connected first kept (e ∷ log) at leads = one_more e log leads.0 kept (connected first leads.0 log at leads.1) leads.2
@@ -220,18 +220,18 @@ have_connections host earlier log kept last first leads =
 
 -- ---- connections that a network carried
 
-no_get_at : (later : List Exchange) (e : Exchange) (earlier : List Exchange)
-    → AllByRecursion (λ (d : Exchange). IsNoGet d.ask) (later ++ e ∷ earlier) → IsNoGet e.ask
+no_get_at : (later : List Attempt) (e : Attempt) (earlier : List Attempt)
+    → AllByRecursion (λ (d : Attempt). IsNoGet d.ask) (later ++ e ∷ earlier) → IsNoGet e.ask
 no_get_at [] e earlier all = all.0
 no_get_at (d ∷ later) e earlier all = no_get_at later e earlier all.1
 
-no_get_of : (log : List Exchange) (ask : Ask) → AllByRecursion (λ (e : Exchange). IsNoGet e.ask) log
+no_get_of : (log : List Attempt) (ask : Ask) → AllByRecursion (λ (e : Attempt). IsNoGet e.ask) log
     → IsAskOf log ask → IsNoGet ask
 no_get_of log ask all is =
     subst IsNoGet is.same
-    (no_get_at is.later is.at is.earlier (subst (AllByRecursion (λ (e : Exchange). IsNoGet e.ask)) is.split all))
+    (no_get_at is.later is.at is.earlier (subst (AllByRecursion (λ (e : Attempt). IsNoGet e.ask)) is.split all))
 
-no_gets_of : (log : List Exchange) (xs : List Asked) → AllByRecursion (λ (e : Exchange). IsNoGet e.ask) log
+no_gets_of : (log : List Attempt) (xs : List TransportCall) → AllByRecursion (λ (e : Attempt). IsNoGet e.ask) log
     → AllByRecursion (λ x. IsAskOf log x.ask) xs → AllByRecursion (λ x. IsNoGet x.ask) xs
 no_gets_of log [] all are = tt
 no_gets_of log (x ∷ xs) all are = (no_get_of log x.ask all are.0, no_gets_of log xs all are.1)

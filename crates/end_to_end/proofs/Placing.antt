@@ -16,11 +16,12 @@ use Rattle.upload_client.specs.declared.heard.Heard.{Heard}
 use Rattle.upload_intake.specs.Log.{Step}
 use Rattle.upload_push.specs.Promise.{Avoids}
 use Rattle.upload_push.specs.Runs.{AskedInRun, IsHeardOf, IsRequestOf, IsHarmless, AreHarmless, IsQuietRun}
-use Rattle.upload_push.specs.Slices.{Push, Exchange, IsSoundAsk, Leads, heard_offset, heard_place, place_after}
+use Rattle.upload_push.specs.Slices.{Push, Attempt, IsSoundAsk, Leads, heard_offset, heard_place, place_after}
 use Rattle.upload_push.proofs.Turns.{None≢Some, same_inside}
 use Rattle.upload_push.proofs.Uploads.{part_of_next}
 use Rattle.upload_service.proofs.Tables.{one_or_two, same_from_ne}
-use Rattle.end_to_end.specs.Marks.{other, heard, unheard, Marked, exchanges_in, told, heard_in, heard_by, Agrees}
+use Rattle.end_to_end.specs.Marks.{other, heard, unheard, Marked, exchanges_in, asked_and_told, heard_in, heard_by}
+use Rattle.end_to_end.specs.Marks.{Agrees}
 use Rattle.end_to_end.specs.Marks.{IsFair, AreApart, HasSecret}
 
 -- ---- late requests of the push
@@ -34,7 +35,7 @@ by_reference p at ask to is own =
     ]
 
 -- a request of a push that carries this reference asks of that upload
-pub own_harmless : (p : Push) (place : Option (List ℕ)) (log : List Exchange) (ask : Ask) → IsSoundAsk p log ask
+pub own_harmless : (p : Push) (place : Option (List ℕ)) (log : List Attempt) (ask : Ask) → IsSoundAsk p log ask
     → IsHarmless p place ask
 own_harmless p None log ask sound = tt
 own_harmless p (Some at) log (asks.Opening name) sound = inl refl
@@ -78,15 +79,15 @@ place_behind name place [] ys = refl
 place_behind name place ((ask, what) ∷ xs) ys = place_behind name (place_after name (Some what) place) xs ys
 
 place_told : (name : List ℕ) (place : Option (List ℕ)) (ask : Ask) (told_it : Option Heard)
-    → place_from name place (told ask told_it) ≡ place_after name told_it place
+    → place_from name place (asked_and_told ask told_it) ≡ place_after name told_it place
 place_told name place ask None = refl
 place_told name place ask (Some what) = refl
 
-place_is : (name : List ℕ) (log : List Exchange) → place_from name None (heard_by log) ≡ heard_place name log
+place_is : (name : List ℕ) (log : List Attempt) → place_from name None (heard_by log) ≡ heard_place name log
 place_is name [] = refl
 place_is name (e ∷ log) =
-    place_behind name None (heard_by log) (told e.ask e.heard)
-    ∙ ap (λ place. place_from name place (told e.ask e.heard)) (place_is name log)
+    place_behind name None (heard_by log) (asked_and_told e.ask e.heard)
+    ∙ ap (λ place. place_from name place (asked_and_told e.ask e.heard)) (place_is name log)
     ∙ place_told name (heard_place name log) e.ask e.heard
 
 apart_behind : (name : List ℕ) (place : Option (List ℕ)) (xs ys : List Marked) → AreApart name place (xs ++ ys)
@@ -227,12 +228,12 @@ pub record HeardLast (front : List Marked) (ask : Ask) (what : Heard) : Type 0 w
   pub split : front ≡ earlier ++ (step, heard ask what) ∷ []
 
 -- if the reply to the newest request was heard, the steps end with that request
-abbrev pub IsLast : List Exchange → List Marked → Type 0
+abbrev pub IsLast : List Attempt → List Marked → Type 0
 IsLast [] front = Unit {0}
 IsLast (e ∷ log) front = (what : Heard) → e.heard ≡ Some what → HeardLast front e.ask what
 
 -- the push up to these requests, and the steps behind the last one that was heard
-pub record Placed (p : Push) (start : State) (log : List Exchange) (ms : List Marked) (end : State) : Type 0 where
+pub record Placed (p : Push) (start : State) (log : List Attempt) (ms : List Marked) (end : State) : Type 0 where
   pub front : List Marked
   pub back : List Marked
   pub split : ms ≡ front ++ back
@@ -263,13 +264,14 @@ module _ (p : Push) (start : State) where
   }
 
   -- a request of which nothing was heard
-  place_unheard : (e : Exchange) (log : List Exchange) (ms : List Marked) (end : State) → e.heard ≡ None
+  place_unheard : (e : Attempt) (log : List Attempt) (ms : List Marked) (end : State) → e.heard ≡ None
       → Placed p start log ms end → Placed p start (e ∷ log) ms end
   place_unheard e log ms end none l = record {
     front = l.front;
     back = l.back;
     split = l.split;
-    heard_before = l.heard_before ∙ sym (append-nil (heard_by log)) ∙ ap (λ h. heard_by log ++ told e.ask h) (sym none);
+    heard_before =
+        l.heard_before ∙ sym (append-nil (heard_by log)) ∙ ap (λ h. heard_by log ++ asked_and_told e.ask h) (sym none);
     last = λ what is. absurd (None≢Some (sym none ∙ is));
     none_behind = l.none_behind;
     mid = l.mid;
@@ -280,7 +282,7 @@ module _ (p : Push) (start : State) where
   }
 
   -- one that was heard
-  place_heard : (e : Exchange) (log : List Exchange) (what : Heard) (before : List Marked) (step : Step)
+  place_heard : (e : Attempt) (log : List Attempt) (what : Heard) (before : List Marked) (step : Step)
       (back : List Marked) (mid next end : State) → e.heard ≡ Some what → heard_in before ≡ heard_by log
       → heard_in back ≡ [] → AreApart p.name None (before ++ (step, heard e.ask what) ∷ back)
       → (l : Placed p start log before mid) → AllByRecursion Agrees l.back
@@ -302,7 +304,7 @@ module _ (p : Push) (start : State) where
         split = sym (append_assoc before (m ∷ []) back);
         heard_before =
             heard_both before (m ∷ []) ∙ ap (λ l. l ++ (e.ask, what) ∷ []) heard_first
-            ∙ ap (λ h. heard_by log ++ told e.ask h) (sym is);
+            ∙ ap (λ h. heard_by log ++ asked_and_told e.ask h) (sym is);
         last = λ heard_what heard_is. record {
           earlier = before;
           step = step;
@@ -350,7 +352,7 @@ module _ (p : Push) (start : State) where
           (sym (map-append (λ (m : Marked). m.0.exchange) ms ((step, heard e.ask what) ∷ [])))
           (join_runs start (exchanges_in ms) (step.exchange ∷ []) mid next first (next, t, refl))
 
-  pub placed : (log : List Exchange) (ms : List Marked) (end : State) → Run start (exchanges_in ms) end
+  pub placed : (log : List Attempt) (ms : List Marked) (end : State) → Run start (exchanges_in ms) end
       → heard_in ms ≡ heard_by log → AllByRecursion Agrees ms → AllByRecursion (IsFair p) ms → AreApart p.name None ms
       → AllByRecursion HasSecret ms → Placed p start log ms end
   placed [] ms end run order agree fair apart secrets = place_none ms end run order
@@ -358,10 +360,11 @@ module _ (p : Push) (start : State) where
       elim e.heard as (λ h. e.heard ≡ h → Placed p start (e ∷ log) ms end) [
         | None ↦ λ is.
             let same : heard_by (e ∷ log) ≡ heard_by log =
-            ap (λ h. heard_by log ++ told e.ask h) is ∙ append-nil (heard_by log) in
+            ap (λ h. heard_by log ++ asked_and_told e.ask h) is ∙ append-nil (heard_by log) in
             place_unheard e log ms end is (placed log ms end run (order ∙ same) agree fair apart secrets)
         | Some what ↦ λ is.
-            let last = last_heard ms (heard_by log) e.ask what (order ∙ ap (λ h. heard_by log ++ told e.ask h) is) in
+            let last =
+            last_heard ms (heard_by log) e.ask what (order ∙ ap (λ h. heard_by log ++ asked_and_told e.ask h) is) in
             let m : Marked = (last.step, heard e.ask what) in
             let whole : Run start (exchanges_in last.front ++ m.0.exchange ∷ exchanges_in last.back) end =
             subst (λ xs. Run start xs end) (map-append (λ (n : Marked). n.0.exchange) last.front (m ∷ last.back))

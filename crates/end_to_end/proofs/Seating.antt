@@ -11,7 +11,7 @@ use Rattle.upload_service.specs.declared.ask.Ask.{Ask}
 use Rattle.upload_service.specs.declared.ask.Ask.TheVariants as asked
 use Rattle.upload_service.specs.declared.answer.Answer.{Answer}
 use Rattle.http_wire.specs.States.{SourceState, SinkState}
-use Rattle.upload_wire.specs.Conversation.{Moves, Exchange, EndsWith, stand}
+use Rattle.upload_wire.specs.Conversation.{Moves, WireExchange, EndsWith, stand}
 use Rattle.upload_wire.specs.ConnectionRuns.{unanswered_last}
 use Rattle.upload_wire.specs.declared.connection.ConnEnd.{ConnEnd}
 use Rattle.upload_wire.specs.declared.connection.ConnEnd.TheVariants.{Clean, AfterClose, AfterBad, TooMany, DeskGone}
@@ -28,7 +28,7 @@ use Rattle.upload_intake.proofs.Working.{behind}
 use Rattle.upload_push.specs.Runs.{IsHeardOf}
 use Rattle.upload_push.specs.Slices.{Push, IsSound, IsSoundAsk}
 use Rattle.upload_push.specs.Slices as push
-use Rattle.wire_laws.specs.Joined.{Asked, IsAudible, IsNoGet, IsOneOf, Says, AreUnanswered, AreJoined}
+use Rattle.wire_laws.specs.Joined.{TransportCall, IsAudible, IsNoGet, IsOneOf, AnswerSays, AreUnanswered, AreJoined}
 use Rattle.wire_laws.specs.WrittenAsks.{HasLawfulParts, written_style}
 use Rattle.wire_laws.specs.WrittenExchanges.{HasSize, MayBeAsked}
 use Rattle.wire_laws.specs.WrittenReplies.{FitsMethod}
@@ -45,13 +45,13 @@ use Rattle.end_to_end.specs.Network.{marks_of}
 abbrev pub Item : Type 0
 Item = Ask × Option Answer
 
-abbrev pub answered_item : Exchange → Item
+abbrev pub answered_item : WireExchange → Item
 answered_item y = (y.ask, Some y.answer)
 
 abbrev pub unanswered_item : Ask → Item
 unanswered_item u = (u, None)
 
-abbrev pub items : List Exchange → List Ask → List Item
+abbrev pub items : List WireExchange → List Ask → List Item
 items ys us = map answered_item ys ++ map unanswered_item us
 
 -- a mark fits a request
@@ -78,35 +78,36 @@ unanswered_fits : (u ask : Ask) (told : Option Heard) → u ≡ ask → told ≡
 unanswered_fits u ask None is none = is
 unanswered_fits u ask (Some what) is none = absurd (cc none)
 
-answered_fits : (ask : Ask) (answer : Answer) (asked : Ask) (told : Option Heard) → ask ≡ asked → Says answer told
+answered_fits : (ask : Ask) (answer : Answer) (asked : Ask) (told : Option Heard) → ask ≡ asked → AnswerSays answer told
     → Fits (ask, Some answer) (mark_of asked told)
 answered_fits ask answer asked None is says = is
 answered_fits ask answer asked (Some what) is says = (is, says)
 
 -- the mark of an ask, or that of no request of the push
-abbrev MarksOne : Asked → Mark → Type 0
+abbrev MarksOne : TransportCall → Mark → Type 0
 MarksOne x k = (k ≡ other) ⊎ (k ≡ mark_of x.ask x.heard)
 
-abbrev MarksAll : List Asked → List Mark → Type 0
+abbrev MarksAll : List TransportCall → List Mark → Type 0
 MarksAll [] [] = ⊤
 MarksAll (x ∷ xs) (k ∷ ks) = MarksOne x k × MarksAll xs ks
 MarksAll [] (k ∷ ks) = ⊥
 MarksAll (x ∷ xs) [] = ⊥
 
-own_marked : (asks : List Asked) → MarksAll asks (map (λ (x : Asked). mark_of x.ask x.heard) asks)
+own_marked : (asks : List TransportCall) → MarksAll asks (map (λ (x : TransportCall). mark_of x.ask x.heard) asks)
 own_marked [] = tt
 own_marked (x ∷ asks) = (inr refl, own_marked asks)
 
-all_marked : (before asks : List Asked)
-    → MarksAll (before ++ asks) (map (λ (x : Asked). other) before ++ map (λ (x : Asked). mark_of x.ask x.heard) asks)
+all_marked : (before asks : List TransportCall)
+    → MarksAll (before ++ asks)
+    (map (λ (x : TransportCall). other) before ++ map (λ (x : TransportCall). mark_of x.ask x.heard) asks)
 all_marked [] asks = own_marked asks
 all_marked (x ∷ before) asks = (inl refl, all_marked before asks)
 
-marked_fits : (i : Item) (x : Asked) (k : Mark) → MarksOne x k → Fits i (mark_of x.ask x.heard) → Fits i k
+marked_fits : (i : Item) (x : TransportCall) (k : Mark) → MarksOne x k → Fits i (mark_of x.ask x.heard) → Fits i k
 marked_fits i x k (inl is) fits = subst (Fits i) (sym is) tt
 marked_fits i x k (inr is) fits = subst (Fits i) (sym is) fits
 
-unanswered_fit : (xs : List Asked) (ks : List Mark) (us : List Ask) → MarksAll xs ks → AreUnanswered xs us
+unanswered_fit : (xs : List TransportCall) (ks : List Mark) (us : List Ask) → MarksAll xs ks → AreUnanswered xs us
     → AllFit (map unanswered_item us) (unanswered_marks ks us)
 unanswered_fit xs ks [] marked joined = tt
 unanswered_fit [] ks (u ∷ us) marked joined = absurd joined
@@ -116,7 +117,7 @@ unanswered_fit (x ∷ xs) (k ∷ ks) (u ∷ us) marked joined = (
   unanswered_fit xs ks us marked.1 joined.2,
 )
 
-joined_fit : (xs : List Asked) (ks : List Mark) (ys : List Exchange) (us : List Ask) → MarksAll xs ks
+joined_fit : (xs : List TransportCall) (ks : List Mark) (ys : List WireExchange) (us : List Ask) → MarksAll xs ks
     → AreJoined xs ys us → AllFit (items ys us) (marks_on ks ys us)
 joined_fit xs ks [] us marked joined = unanswered_fit xs ks us marked joined
 joined_fit [] ks (y ∷ ys) us marked joined = absurd joined
@@ -130,7 +131,7 @@ others_unanswered_fit : (us : List Ask) → AllFit (map unanswered_item us) (una
 others_unanswered_fit [] = tt
 others_unanswered_fit (u ∷ us) = (tt, others_unanswered_fit us)
 
-others_fit : (ys : List Exchange) (us : List Ask) → AllFit (items ys us) (marks_on [] ys us)
+others_fit : (ys : List WireExchange) (us : List Ask) → AllFit (items ys us) (marks_on [] ys us)
 others_fit [] us = others_unanswered_fit us
 others_fit (y ∷ ys) us = (tt, others_fit ys us)
 
@@ -145,9 +146,9 @@ own_mark : (p : Push) (ask : Ask) (told : Option Heard) → IsOwn p ask → IsOw
 own_mark p ask None own = own
 own_mark p ask (Some what) own = own
 
-own_asked : (p : Push) (before asks : List Asked) → AllByRecursion (λ x. IsOwn p x.ask) asks
+own_asked : (p : Push) (before asks : List TransportCall) → AllByRecursion (λ x. IsOwn p x.ask) asks
     → AllByRecursion (IsOwnMark p)
-    (map (λ (x : Asked). other) before ++ map (λ (x : Asked). mark_of x.ask x.heard) asks)
+    (map (λ (x : TransportCall). other) before ++ map (λ (x : TransportCall). mark_of x.ask x.heard) asks)
 own_asked p [] [] own = tt
 own_asked p [] (x ∷ asks) own = (own_mark p x.ask x.heard own.0, own_asked p [] asks own.1)
 own_asked p (x ∷ before) asks own = (tt, own_asked p before asks own)
@@ -158,14 +159,14 @@ own_unanswered p ks [] own = tt
 own_unanswered p [] (u ∷ us) own = (tt, own_unanswered p [] us tt)
 own_unanswered p (k ∷ ks) (u ∷ us) own = (own.0, own_unanswered p ks us own.1)
 
-own_marks : (p : Push) (ks : List Mark) (ys : List Exchange) (us : List Ask) → AllByRecursion (IsOwnMark p) ks
+own_marks : (p : Push) (ks : List Mark) (ys : List WireExchange) (us : List Ask) → AllByRecursion (IsOwnMark p) ks
     → AllByRecursion (IsOwnMark p) (marks_on ks ys us)
 own_marks p ks [] us own = own_unanswered p ks us own
 own_marks p [] (y ∷ ys) us own = (tt, own_marks p [] ys us tt)
 own_marks p (k ∷ ks) (y ∷ ys) us own = (own.0, own_marks p ks ys us own.1)
 
 -- a push asks for no blob by a GET
-sound_no_get : (p : Push) (log : List push.Exchange) (ask : Ask) → IsSoundAsk p log ask → IsNoGet ask
+sound_no_get : (p : Push) (log : List push.Attempt) (ask : Ask) → IsSoundAsk p log ask → IsNoGet ask
 sound_no_get p log (asked.Opening name) sound = tt
 sound_no_get p log (asked.Has name digest true) sound = tt
 sound_no_get p log (asked.Has name digest false) sound = let is = sound.2 in absurd (cc)
@@ -178,23 +179,24 @@ sound_no_get p log (asked.Mount name digest source) sound = tt
 sound_no_get p log (asked.Refused refusal) sound = tt
 
 -- a request of a push is sound behind those before it
-sound_behind : (p : Push) (later earlier : List push.Exchange) (e : push.Exchange) → IsSound p (later ++ e ∷ earlier)
+sound_behind : (p : Push) (later earlier : List push.Attempt) (e : push.Attempt) → IsSound p (later ++ e ∷ earlier)
     → IsSoundAsk p earlier e.ask
 sound_behind p [] earlier e sound = sound.0
 sound_behind p (x ∷ later) earlier e sound = sound_behind p later earlier e sound.1
 
-own_ask : (p : Push) (log : List push.Exchange) (ask : Ask) → IsSound p log → IsAskOf log ask → IsOwn p ask
+own_ask : (p : Push) (log : List push.Attempt) (ask : Ask) → IsSound p log → IsAskOf log ask → IsOwn p ask
 own_ask p log ask sound is = (
   is.earlier,
   subst (IsSoundAsk p is.earlier) is.same (sound_behind p is.later is.earlier is.at (subst (IsSound p) is.split sound)),
 )
 
-own_asks : (p : Push) (log : List push.Exchange) (xs : List Asked) → IsSound p log
+own_asks : (p : Push) (log : List push.Attempt) (xs : List TransportCall) → IsSound p log
     → AllByRecursion (λ x. IsAskOf log x.ask) xs → AllByRecursion (λ x. IsOwn p x.ask) xs
 own_asks p log [] sound all = tt
 own_asks p log (x ∷ xs) sound all = (own_ask p log x.ask sound all.0, own_asks p log xs sound all.1)
 
-no_gets : (p : Push) (xs : List Asked) → AllByRecursion (λ x. IsOwn p x.ask) xs → AllByRecursion (λ x. IsNoGet x.ask) xs
+no_gets : (p : Push) (xs : List TransportCall) → AllByRecursion (λ x. IsOwn p x.ask) xs
+    → AllByRecursion (λ x. IsNoGet x.ask) xs
 no_gets p [] own = tt
 no_gets p (x ∷ xs) own = (sound_no_get p own.0.0 x.ask own.0.1, no_gets p xs own.1)
 
@@ -229,7 +231,7 @@ record IsKnown (ask : Ask) : Type 0 where
   parts : HasLawfulParts ask
   no_get : IsNoGet ask
 
-answer_audible : (y : Exchange) → IsAnswered y.ask y.answer → IsKnown y.ask
+answer_audible : (y : WireExchange) → IsAnswered y.ask y.answer → IsKnown y.ask
     → y.style ≡ written_style y.ask → IsAudible y
 answer_audible y is known style_is =
     let fits =
@@ -240,17 +242,18 @@ answer_audible y is known style_is =
       short = short_answers is.state is.secret is.now y.ask y.answer is.after known.no_get is.turn;
     }
 
-known_of : (max : ℕ) (host : List ℕ) (xs : List Asked) (ask : Ask) → AllByRecursion (λ x. MayBeAsked max x.ask host) xs
-    → AllByRecursion (λ x. IsNoGet x.ask) xs → IsOneOf xs ask → IsKnown ask
+known_of : (max : ℕ) (host : List ℕ) (xs : List TransportCall) (ask : Ask)
+    → AllByRecursion (λ x. MayBeAsked max x.ask host) xs → AllByRecursion (λ x. IsNoGet x.ask) xs
+    → IsOneOf xs ask → IsKnown ask
 known_of max host [] ask may none one = absurd one
 known_of max host (x ∷ xs) ask may none (inl is) =
     subst IsKnown (sym is) (record { parts = may.0.parts; no_get = none.0 })
 known_of max host (x ∷ xs) ask may none (inr one) = known_of max host xs ask may.1 none.1 one
 
-abbrev pub AreAnswered : List Exchange → Type 0
-AreAnswered ys = AllByRecursion (λ (y : Exchange). IsAnswered y.ask y.answer) ys
+abbrev pub AreAnswered : List WireExchange → Type 0
+AreAnswered ys = AllByRecursion (λ (y : WireExchange). IsAnswered y.ask y.answer) ys
 
-all_audible : (max : ℕ) (host : List ℕ) (xs : List Asked) (ys : List Exchange)
+all_audible : (max : ℕ) (host : List ℕ) (xs : List TransportCall) (ys : List WireExchange)
     → AllByRecursion (λ x. MayBeAsked max x.ask host) xs → AllByRecursion (λ x. IsNoGet x.ask) xs → AreAnswered ys
     → AllByRecursion (λ y. IsOneOf xs y.ask → y.style ≡ written_style y.ask → IsAudible y) ys
 all_audible max host xs [] may none is = tt
@@ -282,7 +285,7 @@ module _ {C In Out S G O : Type 0} (m : Means C In Out S G O) (max : ℕ) where
       → flat_map items_on ts ≡ items (all_answered m max ts) (all_unanswered m max ts)
   items_are conns desk new [] s = refl
   items_are conns desk new (t ∷ ts) s =
-      let ans : List Exchange = answered_on m max t in
+      let ans : List WireExchange = answered_on m max t in
       let una : List Ask = unanswered_on m max t in
       ⊎_elim
       (λ (x : (t.end ≡ DeskGone) × ((ts ≡ []) × (new ≡ t.new))).
@@ -319,12 +322,12 @@ module _ {C In Out S G O : Type 0} (m : Means C In Out S G O) (max : ℕ) where
         (behind t.end ((ts ≡ []) × (new ≡ t.new)) (Serves m max s.0 t.new ts new) s.3),
   )
 
-  module _ (p : Push) (log : List push.Exchange) (sound : IsSound p log) where
+  module _ (p : Push) (log : List push.Attempt) (sound : IsSound p log) where
     one_fits : (w : Whose m max log) → IsWhose m max log w → IsUnused w.0 → AreAnswered (answered_on m max w.0)
         → AllFit (items_on w.0) (marks_of m max log w)
     one_fits (t, None) is new answered = others_fit (answered_on m max t) (unanswered_on m max t)
     one_fits (t, Some c) is new answered =
-        let all : List Asked = c.before ++ c.asks in
+        let all : List TransportCall = c.before ++ c.asks in
         let none : AllByRecursion (λ x. IsNoGet x.ask) all =
         all_both (λ x. IsNoGet x.ask) c.before c.asks is.no_gets
         (no_gets p c.asks (own_asks p log c.asks sound is.own)) in
@@ -352,9 +355,9 @@ module _ {C In Out S G O : Type 0} (m : Means C In Out S G O) (max : ℕ) where
     all_fit (w ∷ ws) each new answered =
         both_fit (items_on w.0) (flat_map items_on (map (λ (v : Whose m max log). v.0) ws)) (marks_of m max log w)
         (flat_map (marks_of m max log) ws)
-        (one_fits w each.0 new.0 (all_first (λ (y : Exchange). IsAnswered y.ask y.answer) (answered_on m max w.0)
+        (one_fits w each.0 new.0 (all_first (λ (y : WireExchange). IsAnswered y.ask y.answer) (answered_on m max w.0)
         (all_answered m max (map (λ (v : Whose m max log). v.0) ws)) answered))
-        (all_fit ws each.1 new.1 (all_second (λ (y : Exchange). IsAnswered y.ask y.answer) (answered_on m max w.0)
+        (all_fit ws each.1 new.1 (all_second (λ (y : WireExchange). IsAnswered y.ask y.answer) (answered_on m max w.0)
         (all_answered m max (map (λ (v : Whose m max log). v.0) ws)) answered))
 
     pub all_own : (ws : List (Whose m max log)) → AllByRecursion (IsWhose m max log) ws
@@ -409,7 +412,7 @@ lost_asks (n ∷ ms) (s ∷ ss) is =
     let rest : map asked_and_answered (steps_in ms) ≡ map asked_and_answered ss = cc in
     λ i. (ap (λ (x : Ask × Answer). x.0) pairs) i ∷ (lost_asks ms ss rest) i
 
-pub seat_agrees : (ms : List Marked) (ys : List Exchange) (us : List Ask) (lost : List Step) (more : List Mark)
+pub seat_agrees : (ms : List Marked) (ys : List WireExchange) (us : List Ask) (lost : List Step) (more : List Mark)
     → map asked_and_answered (steps_in ms) ≡ map read_and_replied ys ++ map asked_and_answered lost
     → (asks lost ≡ []) ⊎ (asks lost ≡ us) → AllFit (items ys us) (marks_in ms ++ more) → AllByRecursion Agrees ms
 seat_agrees ms [] us lost more is sent fit =
@@ -430,7 +433,7 @@ seat_owns p [] own = tt
 seat_owns p (n ∷ ms) own = (own.0, seat_owns p ms own.1)
 
 -- the answered requests of a seat are steps of it
-pub steps_answered : (ss : List Step) (ys : List Exchange) (lost : List Step)
+pub steps_answered : (ss : List Step) (ys : List WireExchange) (lost : List Step)
     → map asked_and_answered ss ≡ map read_and_replied ys ++ map asked_and_answered lost
     → AllByRecursion (λ (s : Step). IsAnswered s.exchange.ask s.exchange.answer) ss → AreAnswered ys
 steps_answered ss [] lost is all = tt

@@ -144,7 +144,7 @@ none_yet = record { conns = 0; clean = 0 }
 
 module _ {C In Out S G O M : Type 0} (m : Means C In Out S G O) (tells : M → ℕ → M → Type 0) (given : Given M C S G O)
     (left : Left M) (pool : IsServedPool m tells given left)
-    (p : Push) (log : List push.Exchange) (sound : IsSound p log) (account : IsAccount m tells given left pool p log)
+    (p : Push) (log : List push.Attempt) (sound : IsSound p log) (account : IsAccount m tells given left pool p log)
     (laws : Laws) (lawful : IsLawful given.service)
     (limits : AreLawful given.service.limits) where
   abbrev max : ℕ

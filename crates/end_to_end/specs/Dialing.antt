@@ -5,8 +5,8 @@ use Rattle.upload_service.specs.declared.ask.Ask.{Ask}
 use Rattle.upload_client.specs.TransportText.{WireState}
 use Rattle.upload_intake.specs.Working.{Means, Talk}
 use Rattle.upload_push.specs.Dialed.{AsksDialed}
-use Rattle.upload_push.specs.Slices.{Exchange, Leads}
-use Rattle.wire_laws.specs.Joined.{Asked, Carries, IsNoGet}
+use Rattle.upload_push.specs.Slices.{Attempt, Leads}
+use Rattle.wire_laws.specs.Joined.{TransportCall, Transmits, IsNoGet}
 use Rattle.wire_laws.specs.WrittenExchanges.{MayBeAsked}
 use Rattle.end_to_end.specs.Network.{Connection, IsAskOf, IsCarried}
 
@@ -15,33 +15,33 @@ pub data Leg : Type 0 where
   over : Connection → Leg
   unmet : Ask → Leg
 
-abbrev pub asked_on : Leg → List Asked
+abbrev pub asked_on : Leg → List TransportCall
 asked_on (over c) = c.asks
 asked_on (unmet ask) = record { ask = ask; heard = None } ∷ []
 
 -- what a push asked on these legs, the newest of which is the first, in the order in which it asked
-abbrev pub asked_in : List Leg → List Asked
+abbrev pub asked_in : List Leg → List TransportCall
 asked_in [] = []
 asked_in (leg ∷ legs) = asked_in legs ++ asked_on leg
 
 -- the same of what it asked and heard
-abbrev pub asked_by : List Exchange → List Asked
+abbrev pub asked_by : List Attempt → List TransportCall
 asked_by [] = []
 asked_by (e ∷ log) = asked_by log ++ record { ask = e.ask; heard = e.heard } ∷ []
 
 -- A connection to the host. It carried requests of the push, and before them some that came before the push.
-pub record IsMadeFor (host : List ℕ) (earlier log : List Exchange) (c : Connection) : Type 0 where
+pub record IsMadeFor (host : List ℕ) (earlier log : List Attempt) (c : Connection) : Type 0 where
   pub host_is : c.made.host ≡ host
   pub own : AllByRecursion (λ x. IsAskOf log x.ask) c.asks
   pub before_it : AllByRecursion (λ x. IsAskOf earlier x.ask) c.before
 
-abbrev pub IsLegTo : List ℕ → List Exchange → List Exchange → Leg → Type 0
+abbrev pub IsLegTo : List ℕ → List Attempt → List Attempt → Leg → Type 0
 IsLegTo host earlier log (over c) = IsMadeFor host earlier log c
 IsLegTo host earlier log (unmet ask) = ⊤
 
 -- All that a push asked and heard stands on these connections, each ask once, in the order in which it asked. To an ask
 -- that met no connection nothing was heard.
-pub record HasConnections (host : List ℕ) (earlier log : List Exchange) : Type 0 where
+pub record HasConnections (host : List ℕ) (earlier log : List Attempt) : Type 0 where
   pub legs : List Leg
   pub all : asked_in legs ≡ asked_by log
   pub each : AllByRecursion (IsLegTo host earlier log) legs
@@ -50,7 +50,7 @@ pub record HasConnections (host : List ℕ) (earlier log : List Exchange) : Type
 -- push has such connections.
 abbrev pub DialedPushesHaveConnections : Type 0
 DialedPushesHaveConnections =
-    (host : List ℕ) (earlier log : List Exchange) (kept last : Option WireState)
+    (host : List ℕ) (earlier log : List Attempt) (kept last : Option WireState)
     → Leads (AsksDialed host) None earlier kept → Leads (AsksDialed host) kept log last
     → HasConnections host earlier log
 
@@ -58,7 +58,7 @@ DialedPushesHaveConnections =
 -- law from end to end speaks. What was asked before the push gets no blob's bytes.
 abbrev pub DialedConnectionsAreCarried : {C In Out S G O : Type 0} → Means C In Out S G O → Type 0
 DialedConnectionsAreCarried m =
-    (max_body : ℕ) (host : List ℕ) (earlier log : List Exchange) (c : Connection) → IsMadeFor host earlier log c
-    → AllByRecursion (λ (e : Exchange). IsNoGet e.ask) earlier
-    → (t : Talk m max_body) → Carries c.left (m.reads t.reader_left) (m.writes t.writer_left)
+    (max_body : ℕ) (host : List ℕ) (earlier log : List Attempt) (c : Connection) → IsMadeFor host earlier log c
+    → AllByRecursion (λ (e : Attempt). IsNoGet e.ask) earlier
+    → (t : Talk m max_body) → Transmits c.left (m.reads t.reader_left) (m.writes t.writer_left)
     → AllByRecursion (λ x. MayBeAsked max_body x.ask host) (c.before ++ c.asks) → IsCarried m max_body log t c

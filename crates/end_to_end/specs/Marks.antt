@@ -6,7 +6,7 @@ use Rattle.upload_client.specs.declared.heard.Heard.{Heard}
 use Rattle.upload_intake.specs.Log.{Step}
 use Rattle.upload_push.specs.Promise.{Avoids}
 use Rattle.upload_push.specs.Runs.{IsHeardOf}
-use Rattle.upload_push.specs.Slices.{Push, Exchange, IsSoundAsk, place_after}
+use Rattle.upload_push.specs.Slices.{Push, Attempt, IsSoundAsk, place_after}
 use Rattle.upload_push.specs.World.{IsSecret}
 
 -- a request of another client, or one of a push of which this was heard, or of which nothing was
@@ -31,9 +31,9 @@ exchanges_in ms = map (λ (m : Marked). m.0.exchange) ms
 
 -- ---- order
 
-abbrev pub told : Ask → Option Heard → List (Ask × Heard)
-told ask None = []
-told ask (Some what) = (ask, what) ∷ []
+abbrev pub asked_and_told : Ask → Option Heard → List (Ask × Heard)
+asked_and_told ask None = []
+asked_and_told ask (Some what) = (ask, what) ∷ []
 
 -- what was heard of these steps, in their order
 abbrev pub heard_in : List Marked → List (Ask × Heard)
@@ -43,9 +43,9 @@ heard_in ((step, heard ask what) ∷ ms) = (ask, what) ∷ heard_in ms
 heard_in ((step, unheard ask) ∷ ms) = heard_in ms
 
 -- what a push heard, in the order in which it asked; a push's list has the newest first
-abbrev pub heard_by : List Exchange → List (Ask × Heard)
+abbrev pub heard_by : List Attempt → List (Ask × Heard)
 heard_by [] = []
-heard_by (e ∷ log) = heard_by log ++ told e.ask e.heard
+heard_by (e ∷ log) = heard_by log ++ asked_and_told e.ask e.heard
 
 -- ---- what a mark says of its step
 
@@ -56,7 +56,7 @@ Agrees (step, unheard ask) = step.exchange.ask ≡ ask
 
 -- the request is sound behind some of the requests of a push
 abbrev pub IsOwn : Push → Ask → Type 0
-IsOwn p ask = (log : List Exchange) × IsSoundAsk p log ask
+IsOwn p ask = (log : List Attempt) × IsSoundAsk p log ask
 
 -- one that is said to be the push's is one of its requests
 abbrev pub IsFair : Push → Marked → Type 0

@@ -8,7 +8,7 @@ use Rattle.upload_service.specs.declared.answer.Answer.TheVariants as answers
 use Rattle.upload_service.specs.declared.ask.Ask.{Ask}
 use Rattle.upload_service.specs.declared.ask.Ask.TheVariants as asks
 use Rattle.upload_service.specs.declared.ask.Extent.TheVariants.{Absent}
-use Rattle.upload_wire.specs.Conversation.{Exchange}
+use Rattle.upload_wire.specs.Conversation.{WireExchange}
 use Rattle.upload_client.specs.TransportText.{WireState}
 use Rattle.upload_client.specs.declared.heard.Heard.{Heard}
 use Rattle.upload_intake.specs.Log.{Step, exchanges_of}
@@ -22,7 +22,7 @@ use Rattle.upload_push.specs.Slices.{Push}
 use Rattle.upload_push.specs.Slices as push
 use Rattle.upload_push.specs.declared.pusher.Outcome.TheVariants.{Pushed, Already}
 use Rattle.upload_push.specs.declared.pusher.Phase.TheVariants.{Done}
-use Rattle.wire_laws.specs.Joined.{Asked, AsksInTurn, IsNew, IsNoGet, Carries}
+use Rattle.wire_laws.specs.Joined.{TransportCall, AsksInTurn, IsUntouched, IsNoGet, Transmits}
 use Rattle.wire_laws.specs.WrittenExchanges.{HasSize, MayBeAsked}
 use Rattle.end_to_end.specs.Marks.{Mark, other, mark_of, Marked, steps_in, heard_in, heard_by, AreApart, HasSecret}
 
@@ -30,17 +30,17 @@ use Rattle.end_to_end.specs.Marks.{Mark, other, mark_of, Marked, steps_in, heard
 -- the push its client may have asked something else over it, as whether the repository has the blob.
 pub record Connection : Type 0 where
   pub made : WireState
-  pub before : List Asked
-  pub asks : List Asked
+  pub before : List TransportCall
+  pub asks : List TransportCall
   pub left : WireState
-  pub is_new : IsNew made
+  pub is_new : IsUntouched made
   pub turn : AsksInTurn made (before ++ asks) left
 
 -- ---- the marks of one conversation
 
 -- the marks of what was asked over a connection: what was asked before the push's requests is no request of the push
 abbrev pub marks_asked : Connection → List Mark
-marks_asked c = map (λ (x : Asked). other) c.before ++ map (λ (x : Asked). mark_of x.ask x.heard) c.asks
+marks_asked c = map (λ (x : TransportCall). other) c.before ++ map (λ (x : TransportCall). mark_of x.ask x.heard) c.asks
 
 abbrev pub unanswered_marks : List Mark → List Ask → List Mark
 unanswered_marks ks [] = []
@@ -48,27 +48,27 @@ unanswered_marks [] (u ∷ us) = other ∷ unanswered_marks [] us
 unanswered_marks (k ∷ ks) (u ∷ us) = k ∷ unanswered_marks ks us
 
 -- of the requests that a worker answered, and of the one that it didn't, each has the mark of the ask at its place
-abbrev pub marks_on : List Mark → List Exchange → List Ask → List Mark
+abbrev pub marks_on : List Mark → List WireExchange → List Ask → List Mark
 marks_on ks [] us = unanswered_marks ks us
 marks_on [] (y ∷ ys) us = other ∷ marks_on [] ys us
 marks_on (k ∷ ks) (y ∷ ys) us = k ∷ marks_on ks ys us
 
 -- one of the requests of a push
-pub record IsAskOf (log : List push.Exchange) (ask : Ask) : Type 0 where
-  pub later : List push.Exchange
-  pub at : push.Exchange
-  pub earlier : List push.Exchange
+pub record IsAskOf (log : List push.Attempt) (ask : Ask) : Type 0 where
+  pub later : List push.Attempt
+  pub at : push.Attempt
+  pub earlier : List push.Attempt
   pub split : log ≡ later ++ at ∷ earlier
   pub same : at.ask ≡ ask
 
 abbrev pub at_seat : ℕ → List Marked → List Marked
 at_seat seat ms = filter (λ (m : Marked). seat == m.0.seat) ms
 
-module _ {C In Out S G O : Type 0} (m : Means C In Out S G O) (max_body : ℕ) (log : List push.Exchange) where
+module _ {C In Out S G O : Type 0} (m : Means C In Out S G O) (max_body : ℕ) (log : List push.Attempt) where
   -- The connection of the push is this one of a worker: what either end read is a prefix of what the other wrote. It
   -- carried requests of the push, and before them some that get no blob's bytes. Each of them may be asked.
   pub record IsCarried (t : Talk m max_body) (c : Connection) : Type 0 where
-    pub carries : Carries c.left (m.reads t.reader_left) (m.writes t.writer_left)
+    pub carries : Transmits c.left (m.reads t.reader_left) (m.writes t.writer_left)
     pub may : AllByRecursion (λ x. MayBeAsked max_body x.ask c.made.host) (c.before ++ c.asks)
     pub own : AllByRecursion (λ x. IsAskOf log x.ask) c.asks
     pub no_gets : AllByRecursion (λ x. IsNoGet x.ask) c.before
@@ -96,7 +96,7 @@ module _ {C In Out S G O : Type 0} (m : Means C In Out S G O) (max_body : ℕ) (
 
 module _ {C In Out S G O M : Type 0} (m : Means C In Out S G O) (tells : M → ℕ → M → Type 0) (given : Given M C S G O)
     (left : Left M) (pool : IsServedPool m tells given left)
-    (p : Push) (log : List push.Exchange) where
+    (p : Push) (log : List push.Attempt) where
   -- An account of the network between a push and a pool: whose request each step served.
   pub record IsAccount : Type 0 where
     pub marked : List Marked

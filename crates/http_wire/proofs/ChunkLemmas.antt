@@ -5,7 +5,7 @@ use Rattle.std.proofs.lemmas.List.Elements.{All-head, All-tail, All-cons, All-ap
 use Rattle.std.proofs.lemmas.Grind.{flat_map-append}
 use Rattle.std.specs.Str.Parse.{digits_value}
 use Rattle.http_wire.specs.Body.{IsSize, Chunk, print_chunk, IsChunk, IsZero, chunks_text, chunks_data, IsChunked}
-use Rattle.http_wire.specs.Body.{NeverChunked, IsFrontOfChunked, IsOver}
+use Rattle.http_wire.specs.Body.{NeverChunked, IsFrontOfChunked, ExceedsLimit}
 use Rattle.http_wire.specs.Inner.SizeLines.{NeverLine}
 use Rattle.http_wire.proofs.LineLemmas.{stops_at}
 
@@ -142,12 +142,12 @@ front_after (c ∷ chunks) text each front =
 
 -- a chunk that fits is no part of what takes the sum over the limit
 over_first : (max : ℕ) (c : Chunk) (t : List ℕ) → IsChunk c → length c.data_bytes ≤ max
-    → IsOver max (print_chunk c ++ t) → IsOver (max - length c.data_bytes) t
+    → ExceedsLimit max (print_chunk c ++ t) → ExceedsLimit (max - length c.data_bytes) t
 over_first max c t is fits h = first h.chunks h.digits h.rest h.each h.size (sym (chunk_flat c t) ∙ h.cut) h.over
   where
     first : (chunks : List Chunk) (digits rest : List ℕ) → All IsChunk chunks → IsSize digits
         → c.digits ++ (13 ∷ 10 ∷ (c.data_bytes ++ (13 ∷ 10 ∷ t))) ≡ chunks_text chunks ++ (digits ++ (13 ∷ 10 ∷ rest))
-        → max < length (chunks_data chunks) + digits_value 16 digits → IsOver (max - length c.data_bytes) t
+        → max < length (chunks_data chunks) + digits_value 16 digits → ExceedsLimit (max - length c.data_bytes) t
     first [] digits rest each size cut over =
         let s = lines_same c.digits digits (c.data_bytes ++ (13 ∷ 10 ∷ t)) rest is.size size cut in
         let value = ap (digits_value 16) s.0 in
@@ -177,10 +177,10 @@ over_first max c t is fits h = first h.chunks h.digits h.rest h.each h.size (sym
 
 -- behind chunks that keep the limit, the room that is left decides
 pub under_after : (max : ℕ) (chunks : List Chunk) (text : List ℕ) → All IsChunk chunks
-    → length (chunks_data chunks) ≤ max → ¬ (IsOver (max - length (chunks_data chunks)) text)
-    → ¬ (IsOver max (chunks_text chunks ++ text))
+    → length (chunks_data chunks) ≤ max → ¬ (ExceedsLimit (max - length (chunks_data chunks)) text)
+    → ¬ (ExceedsLimit max (chunks_text chunks ++ text))
 under_after max [] text each fits under over =
-    let same : max ≡ max - 0 = omega arith in under (subst (λ n. IsOver n text) same over)
+    let same : max ≡ max - 0 = omega arith in under (subst (λ n. ExceedsLimit n text) same over)
 under_after max (c ∷ chunks) text each fits under over =
     let is : IsChunk c = All-head IsChunk c chunks each in
     let len = length-append c.data_bytes (chunks_data chunks) in
@@ -189,13 +189,13 @@ under_after max (c ∷ chunks) text each fits under over =
     ≡ max - length (c.data_bytes ++ chunks_data chunks) =
     omega (arith, len) in
     under_after (max - length c.data_bytes) chunks text (All-tail IsChunk c chunks each) (omega (arith, fits, len))
-    (subst (λ n. ¬ (IsOver n text)) (sym left) under)
+    (subst (λ n. ¬ (ExceedsLimit n text)) (sym left) under)
     (over_first max c (chunks_text chunks ++ text) is one
-    (subst (IsOver max) (append_assoc (print_chunk c) (chunks_text chunks) text) over))
+    (subst (ExceedsLimit max) (append_assoc (print_chunk c) (chunks_text chunks) text) over))
 
 pub over_after : (max : ℕ) (chunks : List Chunk) (text : List ℕ) → All IsChunk chunks
-    → length (chunks_data chunks) ≤ max → IsOver (max - length (chunks_data chunks)) text
-    → IsOver max (chunks_text chunks ++ text)
+    → length (chunks_data chunks) ≤ max → ExceedsLimit (max - length (chunks_data chunks)) text
+    → ExceedsLimit max (chunks_text chunks ++ text)
 over_after max chunks text each fits h =
     let over = h.over in
     let data_joined = ap length (flat_map-append (λ c. c.data_bytes) chunks h.chunks) in
@@ -212,7 +212,7 @@ over_after max chunks text each fits h =
     }
 
 -- a text that is over has a size line
-pub over_has_line : (max : ℕ) (text : List ℕ) → IsOver max text
+pub over_has_line : (max : ℕ) (text : List ℕ) → ExceedsLimit max text
     → (digits : List ℕ) × (rest : List ℕ) × IsSize digits × (text ≡ digits ++ (13 ∷ 10 ∷ rest))
 over_has_line max text h = first h.chunks h.each h.cut
   where
@@ -229,7 +229,7 @@ over_has_line max text h = first h.chunks h.each h.cut
 
 -- inside a chunk that fits nothing is over
 pub under_inside : (max : ℕ) (digits d : List ℕ) → IsSize digits → digits_value 16 digits ≤ max
-    → length d < digits_value 16 digits + 2 → ¬ (IsOver max (digits ++ (13 ∷ 10 ∷ d)))
+    → length d < digits_value 16 digits + 2 → ¬ (ExceedsLimit max (digits ++ (13 ∷ 10 ∷ d)))
 under_inside max digits d size fits short h = first h.chunks h.each h.cut h.over
   where
     first : (chunks : List Chunk) → All IsChunk chunks

@@ -6,7 +6,7 @@ use Rattle.std.proofs.lemmas.Bool.{cases_lt}
 use Rattle.std.proofs.lemmas.List.Sums.{AllPass-from_list_all}
 use Rattle.std.specs.Str.Parse.{digits_value}
 use Rattle.std.specs.Char.{is_ascii_hexdigit}
-use Rattle.http_wire.specs.Body.{IsSize, Chunk, IsChunk, IsChunked, IsFrontOfChunked, IsOver}
+use Rattle.http_wire.specs.Body.{IsSize, Chunk, IsChunk, IsChunked, IsFrontOfChunked, ExceedsLimit}
 use Rattle.http_wire.specs.Inner.SizeLines.{StandsAt}
 use Rattle.http_wire.specs.declared.chunked.LineState.{LineState}
 use Rattle.http_wire.specs.declared.chunked.LineState.TheVariants.{Digits, Ended}
@@ -117,7 +117,7 @@ front_line (b ∷ front) (Digits count value) h =
 front_line front (Ended value) h = subst IsFrontOfChunked (sym h.cut) (front_cr h.digits h.size)
 
 -- a line that stands has no size line in it
-pub under_line : (max : ℕ) (front : List ℕ) (state : LineState) → StandsAt front state → ¬ (IsOver max front)
+pub under_line : (max : ℕ) (front : List ℕ) (state : LineState) → StandsAt front state → ¬ (ExceedsLimit max front)
 under_line max front (Digits count value) h over =
     let l = over_has_line max front over in
     let few = digits_le front l.0 [] (10 ∷ l.1) h.hex (append-nil front ∙ l.3) in

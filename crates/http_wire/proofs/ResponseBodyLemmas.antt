@@ -4,7 +4,7 @@ use Rattle.std.specs.Prelude.{Result, Ok, Err}
 use Rattle.http_wire.specs.States.{SourceState}
 use Rattle.http_wire.specs.Reading.{HasEnded}
 use Rattle.http_wire.specs.Inner.BodyReading.{Moved, MovedNone, MovedAll, ReadsBytes, body_state}
-use Rattle.http_wire.specs.Inner.ResponseBodyFinding.{FindsBody, end_of}
+use Rattle.http_wire.specs.Inner.ResponseBodyFinding.{FindsResponseBody, end_of}
 use Rattle.http_wire.specs.declared.responses.framing.ResponseFraming.{ResponseFraming}
 use Rattle.http_wire.specs.declared.responses.framing.ResponseFraming.TheVariants.{Length, ToEnd}
 use Rattle.http_wire.specs.declared.responses.body.ResponseBodyEnd.TheVariants.{Whole, TooLarge}
@@ -20,7 +20,7 @@ body_is before bytes after none e = e ∙ ap (λ t. t ++ bytes) none
 
 pub body_whole : (old new : SourceState) (held before rest after : List ℕ) (n : ℕ) → before ≡ []
     → Moved (body_state old held before) (body_state new rest after) n
-    → FindsBody (Length n) held old after rest new (Ok Whole)
+    → FindsResponseBody (Length n) held old after rest new (Ok Whole)
 body_whole old new held before rest after n none m =
     let same = body_is before m.bytes after none m.joined in
     record {
@@ -31,26 +31,26 @@ body_whole old new held before rest after n none m =
 
 body_cut : (old new : SourceState) (held before rest after : List ℕ) (n : ℕ)
     → MovedAll (body_state old held before) (body_state new rest after) n → HasEnded new
-    → FindsBody (Length n) held old after rest new (Err Fault.Truncated)
+    → FindsResponseBody (Length n) held old after rest new (Err Fault.Truncated)
 body_cut old new held before rest after n m end =
     let s = stops (body_state old held before) (body_state new rest after) n m in
     record { text = s.text; gave = s.gave; found = (s.short, end) }
 
 body_unread : (old new : SourceState) (held before rest after : List ℕ) (n : ℕ)
     → MovedAll (body_state old held before) (body_state new rest after) n
-    → FindsBody (Length n) held old after rest new (Err Fault.Read)
+    → FindsResponseBody (Length n) held old after rest new (Err Fault.Read)
 body_unread old new held before rest after n m =
     let s = stops (body_state old held before) (body_state new rest after) n m in
     record { text = s.text; gave = s.gave; found = s.short }
 
 body_unmoved : (framing : ResponseFraming) (old new : SourceState) (held rest after : List ℕ) → MovedNone old held new
-    → FindsBody framing held old after rest new (Err Fault.NoMemory)
+    → FindsResponseBody framing held old after rest new (Err Fault.NoMemory)
 body_unmoved framing old new held rest after m = record { text = m.text; gave = m.gave; found = tt }
 
 -- a body of a said length that didn't come whole
 pub length_fault : (old new : SourceState) (held before rest after : List ℕ) (n : ℕ) (e : BodyFault)
     → ReadsBytes (body_state old held before) (body_state new rest after) n (Err e)
-    → FindsBody (Length n) held old after rest new (Err e)
+    → FindsResponseBody (Length n) held old after rest new (Err e)
 length_fault old new held before rest after n Fault.Truncated m = body_cut old new held before rest after n m.0 m.1
 length_fault old new held before rest after n Fault.Read m = body_unread old new held before rest after n m
 length_fault old new held before rest after n Fault.NoMemory m = body_unmoved (Length n) old new held rest after m
@@ -58,14 +58,14 @@ length_fault old new held before rest after n Fault.NoMemory m = body_unmoved (L
 -- a body up to the end
 pub long_body : (old new : SourceState) (held before rest after : List ℕ) (most : ℕ)
     → Moved (body_state old held before) (body_state new rest after) (most + 1)
-    → FindsBody (ToEnd most) held old after rest new (Ok TooLarge)
+    → FindsResponseBody (ToEnd most) held old after rest new (Ok TooLarge)
 long_body old new held before rest after most m =
     let counted = m.counted in
     record { text = m.bytes ++ rest; gave = m.gave; found = omega (arith, counted, length-append m.bytes rest) }
 
 ended_body : (old new : SourceState) (held before rest after : List ℕ) (most : ℕ) → before ≡ []
     → MovedAll (body_state old held before) (body_state new rest after) (most + 1) → HasEnded new
-    → FindsBody (ToEnd most) held old after rest new (Ok Whole)
+    → FindsResponseBody (ToEnd most) held old after rest new (Ok Whole)
 ended_body old new held before rest after most none m end =
     let same = body_is before m.bytes.bytes after none m.bytes.joined in
     let lengths = ap length same in
@@ -79,14 +79,14 @@ ended_body old new held before rest after most none m end =
 
 open_body : (old new : SourceState) (held before rest after : List ℕ) (most : ℕ)
     → MovedAll (body_state old held before) (body_state new rest after) (most + 1)
-    → FindsBody (ToEnd most) held old after rest new (Err Fault.Read)
+    → FindsResponseBody (ToEnd most) held old after rest new (Err Fault.Read)
 open_body old new held before rest after most m =
     let s = stops (body_state old held before) (body_state new rest after) (most + 1) m in
     let short = s.short in record { text = s.text; gave = s.gave; found = omega (arith, short) }
 
 pub end_found : (old new : SourceState) (held before rest after : List ℕ) (most : ℕ) (e : BodyFault) → before ≡ []
     → ReadsBytes (body_state old held before) (body_state new rest after) (most + 1) (Err e)
-    → FindsBody (ToEnd most) held old after rest new (end_of e)
+    → FindsResponseBody (ToEnd most) held old after rest new (end_of e)
 end_found old new held before rest after most Fault.Truncated none m =
     ended_body old new held before rest after most none m.0 m.1
 end_found old new held before rest after most Fault.Read none m = open_body old new held before rest after most m

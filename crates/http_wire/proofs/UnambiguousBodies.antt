@@ -6,7 +6,7 @@ use Rattle.std.proofs.lemmas.Bool.{cases_lt}
 use Rattle.std.proofs.lemmas.List.Elements.{All-head, All-tail}
 use Rattle.std.specs.Str.Parse.{digits_value}
 use Rattle.http_wire.specs.Body.{IsSize, Chunk, print_chunk, IsChunk, IsZero, chunks_text, chunks_data, IsChunked}
-use Rattle.http_wire.specs.Body.{IsFrontOfChunked, IsOver, IsBroken, IsBadBody, IsCutBody}
+use Rattle.http_wire.specs.Body.{IsFrontOfChunked, ExceedsLimit, IsBroken, IsBadBody, IsCutBody}
 use Rattle.http_wire.specs.Unambiguous.{BodyParse, whole, refused, cut, IsReadAs, BodiesAreUnambiguous}
 use Rattle.http_wire.specs.declared.framing.Framing.TheVariants.{Length, Chunked}
 use Rattle.http_wire.specs.declared.fault.Bad.{Bad}
@@ -148,7 +148,7 @@ within_limit max have (c ∷ cs) (d ∷ ds) zs digits a rest each other last siz
     (omega (arith, fits, length-append c.data_bytes (chunks_data cs)))
     (omega (arith, over, lengths, length-append d.data_bytes (chunks_data ds)))
 
-whole_not_over : (max : ℕ) (t body a : List ℕ) → IsChunked t body → length body ≤ max → IsOver max (t ++ a) → ⊥
+whole_not_over : (max : ℕ) (t body a : List ℕ) → IsChunked t body → length body ≤ max → ExceedsLimit max (t ++ a) → ⊥
 whole_not_over max t body a x fits y =
     let over = y.over in
     let joined = ap length x.joined in
@@ -193,7 +193,7 @@ over_is_front : (ds : List Chunk) (digits : List ℕ) → All IsChunk ds → IsS
 over_is_front ds digits each size =
     front_after ds (digits ++ (13 ∷ 10 ∷ [])) each (front_data digits [] size (omega arith))
 
-over_not_broken : (max : ℕ) (text : List ℕ) → IsOver max text → IsBroken max text → ⊥
+over_not_broken : (max : ℕ) (text : List ℕ) → ExceedsLimit max text → IsBroken max text → ⊥
 over_not_broken max text x y = by (cases_lt (length y.before) (length line))
   where
     line : List ℕ

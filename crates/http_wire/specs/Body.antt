@@ -117,7 +117,7 @@ pub record IsFrontOfChunked (text : List ℕ) : Type 0 where
   pub chunked : IsChunked (text ++ more) body
 
 -- behind some chunks stands a whole size line that takes the sum over the limit
-pub record IsOver (max_body : ℕ) (text : List ℕ) : Type 0 where
+pub record ExceedsLimit (max_body : ℕ) (text : List ℕ) : Type 0 where
   pub chunks : List Chunk
   pub digits : List ℕ
   pub rest : List ℕ
@@ -132,7 +132,7 @@ pub record IsBroken (max_body : ℕ) (text : List ℕ) : Type 0 where
   pub byte : ℕ
   pub rest : List ℕ
   pub cut : text ≡ before ++ byte ∷ rest
-  pub under : ¬ (IsOver max_body before)
+  pub under : ¬ (ExceedsLimit max_body before)
   pub front : IsFrontOfChunked before
   pub never : NeverChunked (before ++ byte ∷ [])
 
@@ -147,9 +147,9 @@ IsBodyText (Chunked most) text body = IsChunked text body × (length body ≤ mo
 abbrev pub IsBadBody : Framing → List ℕ → Bad → Type 0
 IsBadBody (Length n) text bad = ⊥
 IsBadBody (Chunked most) text bad =
-    ((bad ≡ bads.TooLarge) × IsOver most text) ⊎ ((bad ≡ bads.Chunks) × IsBroken most text)
+    ((bad ≡ bads.TooLarge) × ExceedsLimit most text) ⊎ ((bad ≡ bads.Chunks) × IsBroken most text)
 
 -- the text ends inside a body of that framing
 abbrev pub IsCutBody : Framing → List ℕ → Type 0
 IsCutBody (Length n) text = length text < n
-IsCutBody (Chunked most) text = IsFrontOfChunked text × ¬ (IsOver most text)
+IsCutBody (Chunked most) text = IsFrontOfChunked text × ¬ (ExceedsLimit most text)

@@ -5,11 +5,11 @@ use Rattle.http_wire.specs.declared.fault.WireFault.TheVariants.{Truncated, Read
 use Rattle.http_wire.specs.declared.fault.Bad.{Bad}
 use Rattle.http_wire.specs.declared.fault.Bad.TheVariants.{Head, LongHead, Length, TooLarge, Coding, Chunks}
 
-abbrev pub fault_text : WireFault → List ℕ
-fault_text Truncated = codes "the input ended inside a message"
-fault_text Read = codes "a read failed"
-fault_text NoMemory = codes "no memory for a message"
-fault_text Ended = codes "the reading had ended"
+abbrev pub wire_fault_text : WireFault → List ℕ
+wire_fault_text Truncated = codes "the input ended inside a message"
+wire_fault_text Read = codes "a read failed"
+wire_fault_text NoMemory = codes "no memory for a message"
+wire_fault_text Ended = codes "the reading had ended"
 
 abbrev pub bad_text : Bad → List ℕ
 bad_text Head = codes "no head of a message"

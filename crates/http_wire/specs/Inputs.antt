@@ -6,7 +6,7 @@ use Rattle.http_wire.specs.Reading.{Costs}
 use Rattle.http_wire.specs.declared.input.Input.{Input}
 
 -- it is over this source, behind what this buffer holds
-pub record IsOver {S : Type 0} (source : MutBor S) (buffer : MutBor (List ℕ)) (input : Input S) : Type 0 where
+pub record IsInputOver {S : Type 0} (source : MutBor S) (buffer : MutBor (List ℕ)) (input : Input S) : Type 0 where
   pub same_source : input.source.ghost_name ≡ source.ghost_name
   pub same_buffer : input.buffer.ghost_name ≡ buffer.ghost_name
   pub source_is : input.source.now ≡ source.now

@@ -16,10 +16,10 @@ pub enum InputFault {
 
 impl fmt::Display for InputFault {
     ghost use Rattle.std.specs.Prelude.{Some};
-    ghost use Rattle.http_wire.specs.FaultTexts.{fault_text};
+    ghost use Rattle.http_wire.specs.FaultTexts.{wire_fault_text};
     ghost use Rattle.http_wire.specs.Faults.{wire_of_input};
 
-    ghost output = { λ fault. Some (fault_text (wire_of_input fault)) };
+    ghost output = { λ fault. Some (wire_fault_text (wire_of_input fault)) };
 
     fn fmt<W: fmt::Write>(&self, f: &mut fmt::Formatter<W>) -> fmt::Result {
         match self {
@@ -55,10 +55,10 @@ pub enum BodyFault {
 
 impl fmt::Display for BodyFault {
     ghost use Rattle.std.specs.Prelude.{Some};
-    ghost use Rattle.http_wire.specs.FaultTexts.{fault_text};
+    ghost use Rattle.http_wire.specs.FaultTexts.{wire_fault_text};
     ghost use Rattle.http_wire.specs.Faults.{wire_of_body};
 
-    ghost output = { λ fault. Some (fault_text (wire_of_body fault)) };
+    ghost output = { λ fault. Some (wire_fault_text (wire_of_body fault)) };
 
     fn fmt<W: fmt::Write>(&self, f: &mut fmt::Formatter<W>) -> fmt::Result {
         match self {
@@ -122,9 +122,9 @@ pub enum WireFault {
 
 impl fmt::Display for WireFault {
     ghost use Rattle.std.specs.Prelude.{Some};
-    ghost use Rattle.http_wire.specs.FaultTexts.{fault_text};
+    ghost use Rattle.http_wire.specs.FaultTexts.{wire_fault_text};
 
-    ghost output = { λ fault. Some (fault_text fault) };
+    ghost output = { λ fault. Some (wire_fault_text fault) };
 
     fn fmt<W: fmt::Write>(&self, f: &mut fmt::Formatter<W>) -> fmt::Result {
         match self {

@@ -1,7 +1,7 @@
 //! What is read: a source, behind what a buffer holds of it.
 ghost use Rattle.std.specs.Prelude.{◌≡◌, ◌<◌, ◌≤◌, length, drop, get_or, IfOk, IfSome, IfNone, OnErr, IsErr};
 ghost use Rattle.http_wire.specs.Reading.{Gave, HasEnded};
-ghost use Rattle.http_wire.specs.Inputs.{IsOver, StaysOver, ReadsAtMost};
+ghost use Rattle.http_wire.specs.Inputs.{IsInputOver, StaysOver, ReadsAtMost};
 
 use crate::buffer::{CAPACITY, ReadBuffer};
 use crate::bytes::{ByteSource, Failed};
@@ -16,7 +16,7 @@ pub struct Input<'a, S> {
 impl<'a, S: ByteSource> Input<'a, S> {
     /// What the buffer holds, and behind it what the source gives.
     pub fn new(source: &'a mut S, buffer: &'a mut ReadBuffer) -> Input<'a, S>
-        ensures { IsOver source.entry buffer.entry result }
+        ensures { IsInputOver source.entry buffer.entry result }
     {
         Input { source, buffer }
     }

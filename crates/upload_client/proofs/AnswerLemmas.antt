@@ -12,11 +12,11 @@ use Rattle.http_wire.specs.Fronts.{HasNone, IsUnfinished, ReadsHead, responses}
 use Rattle.http_wire.proofs.HeadLemmas.{none_at_start}
 use Rattle.http_wire.proofs.HeadLaws.{response_ends}
 use Rattle.upload_client.specs.AnswerText.{max_answer, ReadsFramed, IsWhole, FindsAnswer, ReadsAnswer}
-use Rattle.http_wire.specs.ResponseBody.{framing_of, keeps_on}
+use Rattle.http_wire.specs.ResponseBody.{response_framing_of, keeps_on}
 use Rattle.http_wire.specs.Fields.{head_fields}
 use Rattle.http_wire.specs.Inner.HeadSpans.{response_spans}
 use Rattle.http_wire.specs.Inner.HeadReading.{FindsHead, IsHeadAtFront, fields_of}
-use Rattle.http_wire.specs.Inner.ResponseBodyFinding.{FindsBody, FindsBodyIn}
+use Rattle.http_wire.specs.Inner.ResponseBodyFinding.{FindsResponseBody, FindsBodyIn}
 use Rattle.upload_client.specs.Inner.AnswerReading.{FindsReply, Says, heard_of_input, heard_of_body, heard_of_framing}
 use Rattle.upload_client.specs.Inner.AnswerReading.{heard_of_said}
 use Rattle.http_wire.specs.declared.responses.parsed.ParsedResponse.{ParsedResponse}
@@ -90,19 +90,20 @@ head_kept text more p f =
 -- the framing of the head at the front
 framed : (h : Bool) (text : List ℕ) (p : ParsedResponse) (r : Result ResponseFraming FramingFault)
     (f : IsHeadAtFront response_spans text p)
-    → framing_of max_answer h p.spans.code (fields_of response_spans (take p.spans.len text) p) ≡ r
+    → response_framing_of max_answer h p.spans.code (fields_of response_spans (take p.spans.len text) p) ≡ r
     → ReadsFramed h text r (the_head f) (drop p.spans.len text)
 framed h text p r f e = record {
   reads = head_reads text p f;
-  framed = ap (framing_of max_answer h (status_code (the_head f))) (sym (fields_same text p f))
-      ∙ ap (λ s. framing_of max_answer h s (fields_of response_spans (take p.spans.len text) p)) (sym f.head.1.1.code)
+  framed = ap (response_framing_of max_answer h (status_code (the_head f))) (sym (fields_same text p f))
+      ∙ ap (λ s. response_framing_of max_answer h s (fields_of response_spans (take p.spans.len text) p))
+      (sym f.head.1.1.code)
       ∙ e;
 }
 
 -- a refused framing
 unframed : (h : Bool) (text rest : List ℕ) (new : SourceState) (keep : Bool) (p : ParsedResponse) (e : FramingFault)
     → IsHeadAtFront response_spans text p
-    → framing_of max_answer h p.spans.code (fields_of response_spans (take p.spans.len text) p) ≡ Err e
+    → response_framing_of max_answer h p.spans.code (fields_of response_spans (take p.spans.len text) p) ≡ Err e
     → FindsAnswer h text rest new (Err (heard_of_framing e)) keep
 unframed h text rest new keep p Framing.Unreadable f e =
     inr (inl (record {
@@ -175,7 +176,8 @@ says_found h text rest new head body (Err Said.NoMemory) keep whole says keeps =
 
 module _ (h : Bool) (held rest body : List ℕ) (old new : SourceState) (keep : Bool) (p : ParsedResponse)
     (framing : ResponseFraming) (f : IsHeadAtFront response_spans held p)
-    (is : Ok framing ≡ framing_of max_answer h p.spans.code (fields_of response_spans (take p.spans.len held) p)) where
+    (is : Ok framing
+    ≡ response_framing_of max_answer h p.spans.code (fields_of response_spans (take p.spans.len held) p)) where
   same_front : (given : List ℕ) → take p.spans.len (held ++ given) ≡ take p.spans.len held
   same_front given = take-append-le p.spans.len held given f.in_range
 
@@ -185,11 +187,12 @@ module _ (h : Bool) (held rest body : List ℕ) (old new : SourceState) (keep : 
       let behind : drop p.spans.len (held ++ given) ≡ after =
       drop-append-le p.spans.len held given f.in_range ∙ sym e in
       let at =
-      ap (λ t. framing_of max_answer h p.spans.code (fields_of response_spans t p)) (same_front given) ∙ sym is in
+      ap (λ t. response_framing_of max_answer h p.spans.code (fields_of response_spans t p)) (same_front given)
+      ∙ sym is in
       subst (ReadsFramed h (held ++ given) (Ok framing) (the_head (head_kept held given p f))) behind
       (framed h (held ++ given) p (Ok framing) (head_kept held given p f) at)
 
-  pub body_fault_found : (e : BodyFault) → FindsBody framing (drop p.spans.len held) old body rest new (Err e)
+  pub body_fault_found : (e : BodyFault) → FindsResponseBody framing (drop p.spans.len held) old body rest new (Err e)
       → ReadsAnswer h held old rest new (Err (heard_of_body e)) keep
   body_fault_found e b = record {
     given = b.gave.given;
@@ -199,7 +202,7 @@ module _ (h : Bool) (held rest body : List ℕ) (old new : SourceState) (keep : 
         (framed_on b.gave.given b.text b.gave.joined) b.found;
   }
 
-  pub long_body_found : FindsBody framing (drop p.spans.len held) old body rest new (Ok TooLarge)
+  pub long_body_found : FindsResponseBody framing (drop p.spans.len held) old body rest new (Ok TooLarge)
       → ReadsAnswer h held old rest new (Err Fault.TooLarge) keep
   long_body_found b = record {
     given = b.gave.given;
@@ -210,7 +213,7 @@ module _ (h : Bool) (held rest body : List ℕ) (old new : SourceState) (keep : 
   }
 
   pub reply_found : (r : Result Heard SaidFault)
-      → FindsBody framing (drop p.spans.len held) old body rest new (Ok Whole)
+      → FindsResponseBody framing (drop p.spans.len held) old body rest new (Ok Whole)
       → Says p.spans.code (fields_of response_spans (take p.spans.len held) p) body r
       → keep ≡ keeps_on p.spans.version (fields_of response_spans (take p.spans.len held) p) framing
       → ReadsAnswer h held old rest new (heard_by r) keep
@@ -242,15 +245,17 @@ module _ (h : Bool) (held rest body : List ℕ) (old new : SourceState) (keep : 
 
 -- where the framing of the sliced head is that of the head at the front
 framing_at : (h : Bool) (held slice : List ℕ) (p : ParsedResponse) (r : Result ResponseFraming FramingFault)
-    → slice ≡ held → r ≡ framing_of max_answer h p.spans.code (fields_of response_spans (take p.spans.len slice) p)
-    → r ≡ framing_of max_answer h p.spans.code (fields_of response_spans (take p.spans.len held) p)
+    → slice ≡ held
+    → r ≡ response_framing_of max_answer h p.spans.code (fields_of response_spans (take p.spans.len slice) p)
+    → r ≡ response_framing_of max_answer h p.spans.code (fields_of response_spans (take p.spans.len held) p)
 framing_at h held slice p r slice_is is =
-    subst (λ t. r ≡ framing_of max_answer h p.spans.code (fields_of response_spans (take p.spans.len t) p)) slice_is is
+    subst (λ t. r ≡ response_framing_of max_answer h p.spans.code (fields_of response_spans (take p.spans.len t) p))
+    slice_is is
 
 -- a refused framing of the head
 pub framing_refused : (h : Bool) (held slice rest : List ℕ)
     (known : SourceState) (p : ParsedResponse) (e : FramingFault) → IsHeadAtFront response_spans held p → slice ≡ held
-    → Err e ≡ framing_of max_answer h p.spans.code (fields_of response_spans (take p.spans.len slice) p)
+    → Err e ≡ response_framing_of max_answer h p.spans.code (fields_of response_spans (take p.spans.len slice) p)
     → FindsReply h held known rest known (Err (heard_of_framing e))
 framing_refused h held slice rest known p e f slice_is is = λ keep.
     found_at_once h held rest known (Err (heard_of_framing e)) keep
@@ -259,30 +264,30 @@ framing_refused h held slice rest known p e f slice_is is = λ keep.
 -- a fault of the body behind the head
 pub fault_behind : (h : Bool) (held slice front body rest : List ℕ) (old new : SourceState) (p : ParsedResponse)
     (framing : ResponseFraming) (e : BodyFault) → IsHeadAtFront response_spans held p → slice ≡ held
-    → Ok framing ≡ framing_of max_answer h p.spans.code (fields_of response_spans (take p.spans.len slice) p)
-    → front ≡ drop p.spans.len held → FindsBody framing front old body rest new (Err e)
+    → Ok framing ≡ response_framing_of max_answer h p.spans.code (fields_of response_spans (take p.spans.len slice) p)
+    → front ≡ drop p.spans.len held → FindsResponseBody framing front old body rest new (Err e)
     → FindsReply h held old rest new (Err (heard_of_body e))
 fault_behind h held slice front body rest old new p framing e f slice_is is front_is b = λ keep.
     body_fault_found h held rest body old new keep p framing f (framing_at h held slice p (Ok framing) slice_is is) e
-    (subst (λ t. FindsBody framing t old body rest new (Err e)) front_is b)
+    (subst (λ t. FindsResponseBody framing t old body rest new (Err e)) front_is b)
 
 -- a body that goes on behind the limit
 pub long_behind : (h : Bool) (held slice front body rest : List ℕ) (old new : SourceState) (p : ParsedResponse)
     (framing : ResponseFraming) → IsHeadAtFront response_spans held p → slice ≡ held
-    → Ok framing ≡ framing_of max_answer h p.spans.code (fields_of response_spans (take p.spans.len slice) p)
-    → front ≡ drop p.spans.len held → FindsBody framing front old body rest new (Ok TooLarge)
+    → Ok framing ≡ response_framing_of max_answer h p.spans.code (fields_of response_spans (take p.spans.len slice) p)
+    → front ≡ drop p.spans.len held → FindsResponseBody framing front old body rest new (Ok TooLarge)
     → FindsReply h held old rest new (Err Fault.TooLarge)
 long_behind h held slice front body rest old new p framing f slice_is is front_is b = λ keep.
     long_body_found h held rest body old new keep p framing f (framing_at h held slice p (Ok framing) slice_is is)
-    (subst (λ t. FindsBody framing t old body rest new (Ok TooLarge)) front_is b)
+    (subst (λ t. FindsResponseBody framing t old body rest new (Ok TooLarge)) front_is b)
 
 -- a body behind the head
 pub reply_behind : (h : Bool) (held slice front body seen rest : List ℕ) (old new : SourceState) (keep : Bool)
     (p : ParsedResponse) (framing : ResponseFraming)
     (r : Result Heard SaidFault)
     → IsHeadAtFront response_spans held p → slice ≡ held
-    → Ok framing ≡ framing_of max_answer h p.spans.code (fields_of response_spans (take p.spans.len slice) p)
-    → front ≡ drop p.spans.len held → FindsBody framing front old body rest new (Ok Whole) → seen ≡ body
+    → Ok framing ≡ response_framing_of max_answer h p.spans.code (fields_of response_spans (take p.spans.len slice) p)
+    → front ≡ drop p.spans.len held → FindsResponseBody framing front old body rest new (Ok Whole) → seen ≡ body
     → Says p.spans.code (fields_of response_spans (take p.spans.len slice) p) seen r
     → keep ≡ keeps_on p.spans.version (fields_of response_spans (take p.spans.len slice) p) framing
     → ReadsAnswer h held old rest new (heard_by r) keep
@@ -290,7 +295,7 @@ reply_behind h held slice front body seen rest old new keep p framing r f slice_
     let at_slice =
     subst (λ t. Says p.spans.code (fields_of response_spans (take p.spans.len t) p) seen r) slice_is says in
     reply_found h held rest body old new keep p framing f (framing_at h held slice p (Ok framing) slice_is is) r
-    (subst (λ t. FindsBody framing t old body rest new (Ok Whole)) front_is b)
+    (subst (λ t. FindsResponseBody framing t old body rest new (Ok Whole)) front_is b)
     (subst (λ t. Says p.spans.code (fields_of response_spans (take p.spans.len held) p) t r) seen_is at_slice)
     (subst (λ t. keep ≡ keeps_on p.spans.version (fields_of response_spans (take p.spans.len t) p) framing) slice_is
     keeps)
@@ -298,8 +303,8 @@ reply_behind h held slice front body seen rest old new keep p framing r f slice_
 -- what a reply says that isn't heard, whether or not the connection stays
 pub unheard_behind : (h : Bool) (held slice front body seen rest : List ℕ) (old new : SourceState) (p : ParsedResponse)
     (framing : ResponseFraming) (e : SaidFault) → IsHeadAtFront response_spans held p → slice ≡ held
-    → Ok framing ≡ framing_of max_answer h p.spans.code (fields_of response_spans (take p.spans.len slice) p)
-    → front ≡ drop p.spans.len held → FindsBody framing front old body rest new (Ok Whole) → seen ≡ body
+    → Ok framing ≡ response_framing_of max_answer h p.spans.code (fields_of response_spans (take p.spans.len slice) p)
+    → front ≡ drop p.spans.len held → FindsResponseBody framing front old body rest new (Ok Whole) → seen ≡ body
     → Says p.spans.code (fields_of response_spans (take p.spans.len slice) p) seen (Err e)
     → FindsReply h held old rest new (Err (heard_of_said e))
 unheard_behind h held slice front body seen rest old new p framing e f slice_is is front_is b seen_is says =

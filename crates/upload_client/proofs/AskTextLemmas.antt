@@ -11,7 +11,7 @@ use Rattle.upload_service.specs.declared.ask.Ask.TheVariants.{Single, Mount, Chu
 use Rattle.upload_service.specs.declared.ask.Extent.{Extent}
 use Rattle.upload_service.specs.declared.ask.Extent.TheVariants.{Given}
 use Rattle.upload_client.specs.AskText.{message_of, request_line, query_text, digest_or_nothing, digest_query}
-use Rattle.upload_client.specs.AskText.{section_text, range_fields, body_fields, ask_text, host_text}
+use Rattle.upload_client.specs.AskText.{section_text, content_range_fields, ask_body_fields, ask_text, host_text}
 use Rattle.http_wire.specs.HeadText.{print_field}
 
 pub single_line : (name : List ℕ) (digest : Option Digest) (body : List ℕ)
@@ -44,12 +44,12 @@ close_line before name at range digest body text e = rw e (simp append_assoc)
 
 pub range_text_is : (before : List ℕ) (range : Span) (first last : ℕ) → first ≡ range.first → last ≡ range.last
     → ((((before ++ codes "Content-Range: ") ++ decimal first) ++ codes "-") ++ decimal last) ++ codes "\r\n"
-    ≡ before ++ flat_map print_field (range_fields (Given range))
+    ≡ before ++ flat_map print_field (content_range_fields (Given range))
 range_text_is before range first last e f = rw (e, f) (simp append_assoc)
 
 pub upload_section : (before : List ℕ) (range : Extent) (body : List ℕ)
-    → (before ++ flat_map print_field (range_fields range)) ++ section_text (body_fields body)
-    ≡ before ++ section_text (range_fields range ++ body_fields body)
+    → (before ++ flat_map print_field (content_range_fields range)) ++ section_text (ask_body_fields body)
+    ≡ before ++ section_text (content_range_fields range ++ ask_body_fields body)
 upload_section before range body = simp (append_assoc, flat_map-append)
 
 pub whole_text : (ask : Ask) (host body : List ℕ) → body ≡ (message_of ask).body
@@ -59,10 +59,10 @@ whole_text ask host body e = rw e (simp append_assoc)
 
 pub whole_chunk : (name at : List ℕ) (range : Extent) (body host text : List ℕ) → text ≡ reference_text at
     → (([] ++ (codes "PATCH" ++ (codes " /v2/" ++ (name ++ (codes "/blobs/uploads/" ++ text))))) ++ host_text host)
-    ++ section_text (range_fields range ++ body_fields body) ++ body
+    ++ section_text (content_range_fields range ++ ask_body_fields body) ++ body
     ≡ ask_text (Chunk name at range body) host
 whole_chunk name at range body host text e =
     ap (λ (line : List ℕ). (([] ++ line) ++ host_text host)
-    ++ section_text (range_fields range ++ body_fields body) ++ body)
+    ++ section_text (content_range_fields range ++ ask_body_fields body) ++ body)
     (chunk_line name at range body text e)
     ∙ whole_text (Chunk name at range body) host body refl

@@ -9,10 +9,11 @@ use Rattle.http_wire.specs.Fields.{Fields, head_fields}
 use Rattle.http_wire.specs.Unambiguous.{HeadParse, head, long, unfinished, BeginsWith}
 use Rattle.http_wire.proofs.ChunkLemmas.{same_front}
 use Rattle.http_wire.proofs.UnambiguousHeads.{responses_unambiguous}
-use Rattle.http_wire.specs.ResponseBody.{IsBody, framing_of, keeps_on}
+use Rattle.http_wire.specs.ResponseBody.{IsBody, response_framing_of, keeps_on}
 use Rattle.upload_client.specs.AnswerText.{max_answer, IsPlaceOf, location, IsHeard, IsMisplaced, IsWhole}
 use Rattle.upload_client.specs.AnswerText.{HasFramingFault}
-use Rattle.upload_client.specs.UnambiguousReplies.{ReplyParse, heard, refused, unreadable, too_large, cut, ParsesAs}
+use Rattle.upload_client.specs.UnambiguousReplies.{ReplyParse, heard, refused, unreadable, too_large, cut}
+use Rattle.upload_client.specs.UnambiguousReplies.{ParsesAsReply}
 use Rattle.upload_client.specs.UnambiguousReplies.{RepliesAreUnambiguous}
 use Rattle.http_wire.specs.declared.responses.framing.ResponseFraming.{ResponseFraming}
 use Rattle.http_wire.specs.declared.responses.framing.ResponseFraming.TheVariants.{Length, ToEnd}
@@ -87,7 +88,7 @@ FromFraming h (Err fault) behind p =
 
 abbrev FromHead : Bool → HeadParse responses → ReplyParse → Type 0
 FromHead head_only (head h behind) p =
-    FromFraming h (framing_of max_answer head_only (status_code h) (head_fields h.fields)) behind p
+    FromFraming h (response_framing_of max_answer head_only (status_code h) (head_fields h.fields)) behind p
 FromHead head_only long p = p ≡ too_large
 FromHead head_only unfinished p = p ≡ cut
 
@@ -132,7 +133,7 @@ from_framing h (Err fault) behind p q x y = from_fault fault p q x y
 from_head : (head_only : Bool) (front : HeadParse responses) (p q : ReplyParse) → FromHead head_only front p
     → FromHead head_only front q → p ≡ q
 from_head head_only (head h behind) p q x y =
-    from_framing h (framing_of max_answer head_only (status_code h) (head_fields h.fields)) behind p q x y
+    from_framing h (response_framing_of max_answer head_only (status_code h) (head_fields h.fields)) behind p q x y
 from_head head_only long p q x y = x ∙ sym y
 from_head head_only unfinished p q x y = x ∙ sym y
 
@@ -174,7 +175,7 @@ parsed_fault head_only text fault p x why = record {
   from = subst (λ r. FromFraming x.head r x.rest p) (sym x.framed.framed) why;
 }
 
-parsed : (head_only : Bool) (text : List ℕ) (new : SourceState) (p : ReplyParse) → ParsesAs head_only text new p
+parsed : (head_only : Bool) (text : List ℕ) (new : SourceState) (p : ReplyParse) → ParsesAsReply head_only text new p
     → p ≢ refused → Parsed head_only text p
 parsed head_only text new (heard what keep rest) x other =
     parsed_whole head_only text rest new x.head x.body (heard what keep rest) x.whole
@@ -200,7 +201,7 @@ parsed head_only text new cut (inr x) other = record {
 }
 
 one_reply : (head_only : Bool) (text : List ℕ) (new : SourceState) (p q : ReplyParse)
-    → ParsesAs head_only text new p → ParsesAs head_only text new q → p ≢ refused → q ≢ refused → p ≡ q
+    → ParsesAsReply head_only text new p → ParsesAsReply head_only text new q → p ≢ refused → q ≢ refused → p ≡ q
 one_reply head_only text new p q x y other another =
     let a = parsed head_only text new p x other in
     let b = parsed head_only text new q y another in

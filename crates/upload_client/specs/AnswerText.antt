@@ -12,7 +12,7 @@ use Rattle.upload_names.specs.ByteRange.{Span, range_of}
 use Rattle.http_wire.specs.States.{SourceState}
 use Rattle.http_wire.specs.Reading.{Gives, HasEnded}
 use Rattle.http_wire.specs.Fields.{Fields, first_of, values_of, head_fields}
-use Rattle.http_wire.specs.ResponseBody.{IsBody, framing_of, keeps_on}
+use Rattle.http_wire.specs.ResponseBody.{IsBody, response_framing_of, keeps_on}
 use Rattle.http_wire.specs.Fronts.{IsRefused, IsTooLong, IsUnfinished, ReadsHead, responses}
 use Rattle.http_wire.specs.declared.responses.framing.ResponseFraming.{ResponseFraming}
 use Rattle.http_wire.specs.declared.responses.framing.ResponseFraming.TheVariants.{Length, ToEnd}
@@ -81,7 +81,7 @@ pub record ReadsFramed
     (head : ResponseHead) (rest : List ℕ)
     : Type 0 where
   pub reads : ReadsHead responses text head rest
-  pub framed : framing_of max_answer head_only (status_code head) (head_fields head.fields) ≡ framing
+  pub framed : response_framing_of max_answer head_only (status_code head) (head_fields head.fields) ≡ framing
 
 -- a whole reply and then rest
 pub record IsWhole (head_only : Bool) (text rest : List ℕ) (new : SourceState) (head : ResponseHead)
@@ -121,7 +121,7 @@ pub record HasLongBody (head_only : Bool) (text : List ℕ) : Type 0 where
   pub long : most < length rest
 
 -- the text ends inside a body
-pub record HasCutBody (head_only : Bool) (text : List ℕ) : Type 0 where
+pub record HasCutReplyBody (head_only : Bool) (text : List ℕ) : Type 0 where
   pub head : ResponseHead
   pub rest : List ℕ
   pub size : ℕ
@@ -137,8 +137,9 @@ pub record HasOpenBody (head_only : Bool) (text : List ℕ) : Type 0 where
   pub small : length rest ≤ most
 
 -- the text holds no whole reply: it has no head yet, or ends inside a body
-abbrev pub HoldsNone : Bool → List ℕ → Type 0
-HoldsNone head_only text = IsUnfinished responses text ⊎ (HasCutBody head_only text ⊎ HasOpenBody head_only text)
+abbrev pub HoldsNoReply : Bool → List ℕ → Type 0
+HoldsNoReply head_only text =
+    IsUnfinished responses text ⊎ (HasCutReplyBody head_only text ⊎ HasOpenBody head_only text)
 
 -- What was found in the text, where the reader holds rest and the source is left as new. Behind a fault nothing is said
 -- of whether the connection stays.
@@ -150,8 +151,8 @@ FindsAnswer head_only text rest new (Err Fault.Unreadable) keep =
 FindsAnswer head_only text rest new (Err Fault.TooLarge) keep =
     IsTooLong responses text ⊎ (HasFramingFault head_only text Framing.TooLarge ⊎ HasLongBody head_only text)
 FindsAnswer head_only text rest new (Err Fault.Truncated) keep =
-    HasEnded new × (IsUnfinished responses text ⊎ HasCutBody head_only text)
-FindsAnswer head_only text rest new (Err Fault.Read) keep = HoldsNone head_only text
+    HasEnded new × (IsUnfinished responses text ⊎ HasCutReplyBody head_only text)
+FindsAnswer head_only text rest new (Err Fault.Read) keep = HoldsNoReply head_only text
 FindsAnswer head_only text rest new (Err Fault.NoMemory) keep = ⊤
 FindsAnswer head_only text rest new (Err Fault.Ended) keep = ⊥
 

@@ -50,18 +50,18 @@ abbrev pub print_message : Message → List ℕ → List ℕ
 print_message m host = request_line m ++ (host_text host ++ (section_text m.fields ++ m.body))
 
 -- the fields of a body
-abbrev pub body_fields : List ℕ → List HeadField
-body_fields body = (codes "Content-Type", codes "application/octet-stream") ∷ length_field (length body) ∷ []
+abbrev pub ask_body_fields : List ℕ → List HeadField
+ask_body_fields body = (codes "Content-Type", codes "application/octet-stream") ∷ length_field (length body) ∷ []
 
 -- <first>-<last>
 abbrev pub range_text : Span → List ℕ
 range_text range = decimal range.first ++ (codes "-" ++ decimal range.last)
 
 -- Content-Range, where a range is given
-abbrev pub range_fields : Extent → List HeadField
-range_fields Absent = []
-range_fields Bad = []
-range_fields (Given range) = (codes "Content-Range", range_text range) ∷ []
+abbrev pub content_range_fields : Extent → List HeadField
+content_range_fields Absent = []
+content_range_fields Bad = []
+content_range_fields (Given range) = (codes "Content-Range", range_text range) ∷ []
 
 -- the text of a digest, or nothing
 abbrev pub digest_or_nothing : Option Digest → List ℕ
@@ -100,7 +100,7 @@ message_of (Single name digest body) = record {
   method = codes "POST";
   path = upload_path name [];
   query = Some (codes "digest=" ++ digest_or_nothing digest);
-  fields = body_fields body;
+  fields = ask_body_fields body;
   body = body;
 }
 message_of (Mount name digest source) =
@@ -109,7 +109,7 @@ message_of (Chunk name at range body) = record {
   method = codes "PATCH";
   path = upload_path name (reference_text at);
   query = None;
-  fields = range_fields range ++ body_fields body;
+  fields = content_range_fields range ++ ask_body_fields body;
   body = body;
 }
 message_of (Status name at) = bare_message (codes "GET") (upload_path name (reference_text at))
@@ -117,7 +117,7 @@ message_of (Close name at range digest body) = record {
   method = codes "PUT";
   path = upload_path name (reference_text at);
   query = digest_query digest;
-  fields = range_fields range ++ body_fields body;
+  fields = content_range_fields range ++ ask_body_fields body;
   body = body;
 }
 message_of (Refused refusal) = bare_message [] []

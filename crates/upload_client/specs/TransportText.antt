@@ -22,9 +22,9 @@ pub record WireState : Type 0 where
   pub broken : Bool
 
 -- a transport that isn't broken has a reader that goes on
-abbrev pub GoesOn : Bool → AnswerReaderState → Type 0
-GoesOn true reader = Unit {0}
-GoesOn false reader = reader.ended ≡ false
+abbrev pub ReaderGoesOn : Bool → AnswerReaderState → Type 0
+ReaderGoesOn true reader = Unit {0}
+ReaderGoesOn false reader = reader.ended ≡ false
 
 -- Whether more can be asked: no fault broke the transport, the reply that was heard last keeps the connection, and the
 -- reader holds no byte behind it. One that it holds came before the next request was written, and is no reply to that

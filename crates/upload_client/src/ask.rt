@@ -2,9 +2,9 @@
 ghost use Rattle.std.specs.Prelude.{◌≡◌, ◌++◌, List, ℕ, IsTrue, OnOk, Some, codes, flat_map};
 ghost use Rattle.http_wire.specs.Writing.{Wrote};
 ghost use Rattle.http_wire.specs.Inner.Gathering.{Puts};
-ghost use Rattle.upload_client.specs.AskText.{CanBeWritten, IsAbsentOrGiven, ask_of_chunk, ask_text, body_fields};
+ghost use Rattle.upload_client.specs.AskText.{CanBeWritten, IsAbsentOrGiven, ask_of_chunk, ask_text, ask_body_fields};
 ghost use Rattle.upload_client.specs.AskText.{digest_or_nothing, digest_query, host_text, is_host, look_method};
-ghost use Rattle.upload_client.specs.AskText.{message_of, query_text, range_fields, request_line, section_text};
+ghost use Rattle.upload_client.specs.AskText.{message_of, query_text, content_range_fields, request_line, section_text};
 ghost use Rattle.http_wire.specs.HeadText.{print_field};
 
 use crate::transport::LentChunk;
@@ -267,7 +267,7 @@ fn put_upload_section<W: ByteSink>(head: &mut Gather, writer: &mut W, range: &Ex
     requires { IsAbsentOrGiven range.now }
     ensures { Puts (W.state writer.old) head.old
         (W.state writer.new) head.new
-        (section_text (range_fields range.now ++ body_fields body.now)) }
+        (section_text (content_range_fields range.now ++ ask_body_fields body.now)) }
 {
     put_range_field(head, writer, range);
     put_body_fields(head, writer, body)
@@ -277,7 +277,7 @@ fn put_upload_section<W: ByteSink>(head: &mut Gather, writer: &mut W, range: &Ex
 fn put_range_field<W: ByteSink>(head: &mut Gather, writer: &mut W, range: &Extent)
     requires { IsAbsentOrGiven range.now }
     ensures { Puts (W.state writer.old) head.old
-        (W.state writer.new) head.new (flat_map print_field (range_fields range.now)) }
+        (W.state writer.new) head.new (flat_map print_field (content_range_fields range.now)) }
 {
     match range {
         Extent::Given(range) => {
@@ -295,7 +295,7 @@ fn put_range_field<W: ByteSink>(head: &mut Gather, writer: &mut W, range: &Exten
 /// Puts the fields of a body, and the empty line.
 fn put_body_fields<W: ByteSink>(head: &mut Gather, writer: &mut W, body: &[u8])
     ensures { Puts (W.state writer.old) head.old (W.state writer.new) head.new
-        (section_text (body_fields body.now)) }
+        (section_text (ask_body_fields body.now)) }
 {
     head.put(
         writer,

@@ -31,7 +31,7 @@ pub struct WireTransport<S: ByteSource, W: ByteSink> {
 impl<S: ByteSource, W: ByteSink> Model for WireTransport<S, W> {
     ghost use Rattle.std.specs.Prelude.{IsTrue};
     ghost use Rattle.upload_client.specs.AskText.{is_host};
-    ghost use Rattle.upload_client.specs.TransportText.{GoesOn, WireState};
+    ghost use Rattle.upload_client.specs.TransportText.{ReaderGoesOn, WireState};
 
     ghost Value = { WireState };
 
@@ -42,7 +42,7 @@ impl<S: ByteSource, W: ByteSink> Model for WireTransport<S, W> {
       broken = t.broken;
     } };
 
-    ghost invariant = { λ t. IsTrue (is_host t.host) × GoesOn t.broken t.reader };
+    ghost invariant = { λ t. IsTrue (is_host t.host) × ReaderGoesOn t.broken t.reader };
 }
 
 impl<S: ByteSource, W: ByteSink> WireTransport<S, W> {

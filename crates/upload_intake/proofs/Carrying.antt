@@ -9,7 +9,7 @@ use Rattle.upload_intake.specs.Seats.{SeatState, IsFresh}
 use Rattle.upload_intake.specs.Settled.{Heard}
 use Rattle.upload_intake.specs.SeatConversations.{Adds, asks_of, answers_of, asks_in}
 use Rattle.upload_intake.specs.ServedPool.{of_seat, asked_and_answered, read_and_replied, asks, Carries}
-use Rattle.upload_wire.specs.Conversation.{Exchange}
+use Rattle.upload_wire.specs.Conversation.{WireExchange}
 
 -- the jobs of a seat's steps ask what the steps ask
 by_side : (b : Bool) (s : Step) (jobs : List TakenJob) (steps : List Step)
@@ -25,7 +25,7 @@ asks_of_jobs seat (s ∷ ss) =
     (asks_of_jobs seat ss)
 
 -- steps that ask what these exchanges ask, and then more, and are answered as they are, and then more
-record Matches (steps : List Step) (xs : List Exchange) (us : List Ask) : Type 0 where
+record Matches (steps : List Step) (xs : List WireExchange) (us : List Ask) : Type 0 where
   unheard : List Step
   in_order : map asked_and_answered steps ≡ map read_and_replied xs ++ map asked_and_answered unheard
   lost : asks unheard ≡ us
@@ -39,8 +39,9 @@ heads x y xs ys e = cc
 tails : {A : Type 0} (x y : A) (xs ys : List A) → x ∷ xs ≡ y ∷ ys → xs ≡ ys
 tails x y xs ys e = cc
 
-matched : (steps : List Step) (xs : List Exchange) (us : List Ask) (vs : List Answer) → asks steps ≡ asks_of xs ++ us
-    → map (λ (s : Step). s.exchange.answer) steps ≡ answers_of xs ++ vs → Matches steps xs us
+matched : (steps : List Step) (xs : List WireExchange) (us : List Ask) (vs : List Answer)
+    → asks steps ≡ asks_of xs ++ us → map (λ (s : Step). s.exchange.answer) steps ≡ answers_of xs ++ vs
+    → Matches steps xs us
 matched steps [] us vs p q = record { unheard = steps; in_order = refl; lost = p }
 matched [] (x ∷ xs) us vs p q = absurd (never_empty x.ask (asks_of xs ++ us) p)
 matched (s ∷ ss) (x ∷ xs) us vs p q =
@@ -52,8 +53,9 @@ matched (s ∷ ss) (x ∷ xs) us vs p q =
     (tails s.exchange.answer x.answer rest (answers_of xs ++ vs) q) in
     record { unheard = more.unheard; in_order = λ i. (ask i, answer i) ∷ more.in_order i; lost = more.lost }
 
-pub carries : (seat : ℕ) (steps : List Step) (old new : SeatState) (xs : List Exchange) (us : List Ask) → IsFresh old
-    → Adds old new xs us → jobs_of seat (taken_by steps) ≡ new.sent → Heard seat steps new → Carries seat steps xs us
+pub carries : (seat : ℕ) (steps : List Step) (old new : SeatState) (xs : List WireExchange) (us : List Ask)
+    → IsFresh old → Adds old new xs us → jobs_of seat (taken_by steps) ≡ new.sent → Heard seat steps new
+    → Carries seat steps xs us
 carries seat steps old new xs us fresh a sent heard =
     let jobs : new.sent ≡ a.jobs = a.sent ∙ ap (λ l. l ++ a.jobs) fresh.sent in
     let asked : asks (of_seat seat steps) ≡ asks_in a.jobs = sym (asks_of_jobs seat steps) ∙ ap asks_in (sent ∙ jobs) in

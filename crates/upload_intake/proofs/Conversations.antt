@@ -16,7 +16,7 @@ use Rattle.upload_wire.specs.declared.connection.ConnEnd.TheVariants.{Clean, Aft
 use Rattle.upload_wire.specs.declared.connection.ConnEnd.TheVariants.{Fault}
 use Rattle.upload_wire.specs.declared.connection.ConnFault.TheVariants as Conn
 use Rattle.http_wire.specs.States.{SourceState, SinkState}
-use Rattle.upload_wire.specs.Conversation.{Moves, Exchange, Answers, EndsWith, IsConversation, stand}
+use Rattle.upload_wire.specs.Conversation.{Moves, WireExchange, Answers, EndsWith, IsConversation, stand}
 
 module _ {D : Type 0} (step : Moves D) (Keeps : D → D → Type 0) (same : (d : D) → Keeps d d)
     (joined : (a b c : D) → Keeps a b → Keeps b c → Keeps a c)
@@ -24,7 +24,7 @@ module _ {D : Type 0} (step : Moves D) (Keeps : D → D → Type 0) (same : (d :
   unmoved : (at new : D) → new ≡ at → Keeps at new
   unmoved at new e = subst (λ d. Keeps at d) (sym e) (same at)
 
-  by_answers : (xs : List Exchange) (old at : D) → Answers step old xs at → Keeps old at
+  by_answers : (xs : List WireExchange) (old at : D) → Answers step old xs at → Keeps old at
   by_answers [] old at e = unmoved old at (sym e)
   by_answers (x ∷ xs) old at a = joined old a.0 at (each old x.ask (Some x.answer) a.0 a.1) (by_answers xs a.0 at a.2)
 

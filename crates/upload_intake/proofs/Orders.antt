@@ -9,7 +9,7 @@ use Rattle.upload_service.specs.Run.{Run}
 use Rattle.upload_intake.specs.Log.{Step, exchanges_of}
 use Rattle.upload_intake.specs.ServedPool.{Carries, of_seat, asked_and_answered, read_and_replied, asks}
 use Rattle.upload_intake.specs.Determined.{taken, HaveMemory, ServedOrdersAreDetermined}
-use Rattle.upload_wire.specs.Conversation.{Exchange}
+use Rattle.upload_wire.specs.Conversation.{WireExchange}
 
 same_turn : (old : State) (o : Outcome) (now : ℕ) (a b : Answer) (new other : State) → Comes old now o a new
     → Comes old now o b other → a ≢ NoMemory → b ≢ NoMemory → (a ≡ b) × (new ≡ other)
@@ -56,7 +56,7 @@ none_of [] e = refl
 none_of (s ∷ ss) e = absurd (let l = ap length e in omega (arith, l))
 
 -- all steps of a side are what was read and replied there
-whole : (seat : ℕ) (steps : List Step) (xs : List Exchange) → Carries seat steps xs []
+whole : (seat : ℕ) (steps : List Step) (xs : List WireExchange) → Carries seat steps xs []
     → map asked_and_answered (of_seat seat steps) ≡ map read_and_replied xs
 whole seat steps xs c =
     let none : c.unheard ≡ [] = none_of c.unheard (⊎_elim (λ e. e) (λ e. e) c.lost) in

@@ -11,7 +11,7 @@ use Rattle.upload_intake.specs.SeatConversations.{asks_of, answers_of, asks_in, 
 use Rattle.upload_intake.specs.SeatConversations.{ConversationsFillTheSeat}
 use Rattle.upload_wire.specs.ConnectionRuns.{answered_last, unanswered_last, answered, unanswered}
 use Rattle.http_wire.specs.States.{SourceState, SinkState}
-use Rattle.upload_wire.specs.Conversation.{Moves, Exchange, Answers, EndsWith, IsConversation, stand}
+use Rattle.upload_wire.specs.Conversation.{Moves, WireExchange, Answers, EndsWith, IsConversation, stand}
 use Rattle.upload_wire.specs.declared.connection.ConnEnd.{ConnEnd}
 use Rattle.upload_wire.specs.declared.connection.ConnEnd.TheVariants.{Clean, AfterClose, AfterBad, TooMany, DeskGone}
 use Rattle.upload_wire.specs.declared.connection.ConnEnd.TheVariants.{Fault}
@@ -27,7 +27,7 @@ adds_none old new e = record {
   heard = ap (λ s. s.heard) e ∙ sym (append-nil old.heard);
 }
 
-adds_one : (old new : SeatState) (x : Exchange) (secret : List ℕ) → Asks old x.ask secret (Ok x.answer) new
+adds_one : (old new : SeatState) (x : WireExchange) (secret : List ℕ) → Asks old x.ask secret (Ok x.answer) new
     → Adds old new (x ∷ []) []
 adds_one old new x secret a = record {
   jobs = (x.ask, secret) ∷ [];
@@ -57,7 +57,7 @@ adds_gone old new ask secret NoAnswer a = record {
   heard = ap (λ s. s.heard) a.1 ∙ sym (append-nil old.heard);
 }
 
-pub adds_twice : (a b c : SeatState) (xs ys : List Exchange) (us : List Ask) → Adds a b xs [] → Adds b c ys us
+pub adds_twice : (a b c : SeatState) (xs ys : List WireExchange) (us : List Ask) → Adds a b xs [] → Adds b c ys us
     → Adds a c (xs ++ ys) us
 adds_twice a b c xs ys us f g =
     let none : f.unsent ≡ [] = ⊎_elim (λ e. e) (λ e. e) f.given_back in
@@ -68,21 +68,21 @@ adds_twice a b c xs ys us f g =
       unsent = g.unsent;
       sent = g.sent ∙ ap (λ l. l ++ g.jobs) f.sent ∙ append_assoc a.sent f.jobs g.jobs;
       asks =
-          ap (λ l. l ++ us) (map-append (λ (x : Exchange). x.ask) xs ys) ∙ append_assoc (asks_of xs) (asks_of ys) us
+          ap (λ l. l ++ us) (map-append (λ (x : WireExchange). x.ask) xs ys) ∙ append_assoc (asks_of xs) (asks_of ys) us
           ∙ (λ i. first i ++ g.asks i)
           ∙ sym (append_assoc (asks_in f.jobs) (asks_in g.jobs) g.unsent)
           ∙ ap (λ l. l ++ g.unsent) (sym (map-append (λ (j : Job). j.0) f.jobs g.jobs));
       given_back = g.given_back;
       heard =
           g.heard ∙ ap (λ l. l ++ answers_of ys) f.heard ∙ append_assoc a.heard (answers_of xs) (answers_of ys)
-          ∙ ap (λ l. a.heard ++ l) (sym (map-append (λ (x : Exchange). x.answer) xs ys));
+          ∙ ap (λ l. a.heard ++ l) (sym (map-append (λ (x : WireExchange). x.answer) xs ys));
     }
 
 module _ {D S : Type 0} (draws : S → List ℕ → S → Type 0) (seat : D → SeatState) (secrets : D → S) where
   abbrev steps : Moves D
   steps = SeatSteps {D = D} {S = S} draws seat secrets
 
-  by_answers : (xs : List Exchange) (old at : D) → Answers steps old xs at → Adds (seat old) (seat at) xs []
+  by_answers : (xs : List WireExchange) (old at : D) → Answers steps old xs at → Adds (seat old) (seat at) xs []
   by_answers [] old at e = adds_none (seat old) (seat at) (ap seat (sym e))
   by_answers (x ∷ xs) old at a =
       adds_twice (seat old) (seat a.0) (seat at) (x ∷ []) xs [] (adds_one (seat old) (seat a.0) x a.1.0 a.1.2)

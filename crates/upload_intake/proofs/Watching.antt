@@ -6,14 +6,14 @@ use Rattle.upload_service.specs.declared.answer.Answer.{Answer}
 use Rattle.upload_intake.specs.Notices.{Watching}
 use Rattle.upload_intake.specs.Watched.{WatchesOne, WatchesEach, WatchesLast}
 use Rattle.http_wire.specs.States.{SourceState, SinkState}
-use Rattle.upload_wire.specs.Conversation.{Moves, Exchange, Answers, EndsWith, IsConversation, stand}
+use Rattle.upload_wire.specs.Conversation.{Moves, WireExchange, Answers, EndsWith, IsConversation, stand}
 use Rattle.upload_wire.specs.ConnectionRuns.{answered_last, unanswered_last, answered, unanswered}
 use Rattle.upload_wire.specs.declared.connection.ConnEnd.{ConnEnd}
 use Rattle.upload_wire.specs.declared.connection.ConnEnd.TheVariants.{Clean, AfterClose, AfterBad, TooMany, DeskGone}
 use Rattle.upload_wire.specs.declared.connection.ConnEnd.TheVariants.{Fault}
 use Rattle.upload_wire.specs.declared.connection.ConnFault.TheVariants as Conn
 
-pub each_twice : {G : Type 0} (watches : Watching G) (a b c : G) (t u v : ℕ) (xs ys : List Exchange)
+pub each_twice : {G : Type 0} (watches : Watching G) (a b c : G) (t u v : ℕ) (xs ys : List WireExchange)
     → WatchesEach watches a t xs b u → WatchesEach watches b u ys c v → WatchesEach watches a t (xs ++ ys) c v
 each_twice watches a b c t u v [] ys p q =
     subst (λ (x : _ × ℕ). WatchesEach watches x.0 x.1 ys c v) (λ i. (p.0 i, p.1 i)) q
@@ -23,16 +23,16 @@ module _ {G D : Type 0} (watches : Watching G) (step : Moves D) (gate : D → G)
     (each : (old : D) (ask : Ask) (answer : Option Answer) (new : D) → step old ask answer new
     → WatchesOne watches (gate old) (turn old) ask answer (gate new) (turn new)) where
   -- from one desk to another by these exchanges
-  abbrev Along : D → List Exchange → D → Type 0
+  abbrev Along : D → List WireExchange → D → Type 0
   Along old xs new = WatchesEach watches (gate old) (turn old) xs (gate new) (turn new)
 
   unmoved : (at new : D) → new ≡ at → Along at [] new
   unmoved at new e = (ap gate e, ap turn e)
 
-  one : (x : Exchange) (at new : D) → step at x.ask (Some x.answer) new → Along at (x ∷ []) new
+  one : (x : WireExchange) (at new : D) → step at x.ask (Some x.answer) new → Along at (x ∷ []) new
   one x at new moved = (gate new, turn new, each at x.ask (Some x.answer) new moved, (refl, refl))
 
-  by_answers : (xs : List Exchange) (old at : D) → Answers step old xs at → Along old xs at
+  by_answers : (xs : List WireExchange) (old at : D) → Answers step old xs at → Along old xs at
   by_answers [] old at e = unmoved old at (sym e)
   by_answers (x ∷ xs) old at a = (gate a.0, turn a.0, each old x.ask (Some x.answer) a.0 a.1, by_answers xs a.0 at a.2)
 
@@ -61,7 +61,7 @@ module _ {G D : Type 0} (watches : Watching G) (step : Moves D) (gate : D → G)
       (by_end max_body (length c.exchanges) c.at new c.rest left c.mid after end c.ended there)
 
   -- what is told where the desk was gone
-  abbrev pub Lost : D → List Exchange → List Ask → D → Type 0
+  abbrev pub Lost : D → List WireExchange → List Ask → D → Type 0
   Lost old xs asks new =
       (mid : G) × (now : ℕ) × WatchesEach watches (gate old) (turn old) xs mid now
       × WatchesLast watches mid now asks (gate new)

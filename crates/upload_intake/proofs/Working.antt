@@ -18,7 +18,7 @@ use Rattle.upload_intake.proofs.Conversations.{GatedSteps}
 use Rattle.upload_intake.proofs.SeatConversations.{adds_none, adds_twice, fills}
 use Rattle.upload_intake.proofs.Watching.{each_twice, watched_on, watched_lost}
 use Rattle.http_wire.specs.States.{SourceState, SinkState}
-use Rattle.upload_wire.specs.Conversation.{Moves, Exchange, Answers, EndsWith, IsConversation, stand}
+use Rattle.upload_wire.specs.Conversation.{Moves, WireExchange, Answers, EndsWith, IsConversation, stand}
 use Rattle.upload_wire.specs.Events.{Event, Hears}
 use Rattle.upload_wire.specs.Told.{TellsEnd, IsTold, rules, sides}
 use Rattle.upload_wire.proofs.ToldLemmas.{hears_more}
@@ -33,7 +33,7 @@ use Rattle.upload_wire.specs.declared.connection.ConnFault.TheVariants as Conn
 module _ {D E : Type 0} (step : Moves D) (seen : Moves E) (see : D → E)
     (each : (old : D) (ask : Ask) (answer : Option Answer) (new : D) → step old ask answer new
     → seen (see old) ask answer (see new)) where
-  see_answers : (xs : List Exchange) (old at : D) → Answers step old xs at → Answers seen (see old) xs (see at)
+  see_answers : (xs : List WireExchange) (old at : D) → Answers step old xs at → Answers seen (see old) xs (see at)
   see_answers [] old at a = ap see a
   see_answers (x ∷ xs) old at a = (see a.0, each old x.ask (Some x.answer) a.0 a.1, see_answers xs a.0 at a.2)
 
@@ -281,7 +281,7 @@ module _ {C In Out S G O : Type 0} (m : Means C In Out S G O) (max_body : ℕ) w
       Adds desk.0 new.0 (all_answered m max_body (t ∷ us)) (all_unanswered m max_body (t ∷ us))) (sym x.1.0)
       (subst (λ (d : SeatState × S).
       Adds desk.0 d.0 (answered_on m max_body t ++ []) (unanswered_on m max_body t ++ [])) (sym x.1.1)
-      (subst (λ (l : List Exchange). Adds desk.0 t.new.0 l (unanswered_on m max_body t ++ []))
+      (subst (λ (l : List WireExchange). Adds desk.0 t.new.0 l (unanswered_on m max_body t ++ []))
       (sym (append-nil (answered_on m max_body t)))
       (subst (λ (l : List Ask). Adds desk.0 t.new.0 (answered_on m max_body t) l)
       (sym (append-nil (unanswered_on m max_body t))) first))))

@@ -7,7 +7,7 @@ use Rattle.upload_service.specs.Machine.{State}
 use Rattle.upload_intake.specs.Log.{Step, exchanges_of}
 use Rattle.upload_intake.specs.Served.{IsServed}
 use Rattle.upload_intake.specs.ServedPool.{Carries, read_and_replied}
-use Rattle.upload_wire.specs.Conversation.{Exchange}
+use Rattle.upload_wire.specs.Conversation.{WireExchange}
 
 -- a step but for its answer: from which seat the job came, what it asked, with which secret, and at which moment it was
 -- served
@@ -25,5 +25,5 @@ pub record ServedOrdersAreDetermined : Type 0 where
   pub by_order : (start one two : State) (steps others : List Step)
       → IsServed start (exchanges_of steps) one → IsServed start (exchanges_of others) two
       → map taken steps ≡ map taken others → HaveMemory steps → HaveMemory others → (steps ≡ others) × (one ≡ two)
-  pub by_steps : (seat : ℕ) (steps : List Step) (xs ys : List Exchange)
+  pub by_steps : (seat : ℕ) (steps : List Step) (xs ys : List WireExchange)
       → Carries seat steps xs [] → Carries seat steps ys [] → map read_and_replied xs ≡ map read_and_replied ys

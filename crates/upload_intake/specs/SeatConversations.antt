@@ -6,21 +6,21 @@ use Rattle.upload_intake.specs.Log.{Job}
 use Rattle.upload_intake.specs.Seats.{SeatState}
 use Rattle.upload_intake.specs.SeatMoves.{AsksWithDrawn}
 use Rattle.http_wire.specs.States.{SourceState, SinkState}
-use Rattle.upload_wire.specs.Conversation.{Moves, Exchange, IsConversation}
+use Rattle.upload_wire.specs.Conversation.{Moves, WireExchange, IsConversation}
 use Rattle.upload_wire.specs.ConnectionRuns.{answered, unanswered}
 use Rattle.upload_wire.specs.declared.connection.ConnEnd.{ConnEnd}
 
-abbrev pub asks_of : List Exchange → List Ask
-asks_of xs = map (λ (x : Exchange). x.ask) xs
+abbrev pub asks_of : List WireExchange → List Ask
+asks_of xs = map (λ (x : WireExchange). x.ask) xs
 
-abbrev pub answers_of : List Exchange → List Answer
-answers_of xs = map (λ (x : Exchange). x.answer) xs
+abbrev pub answers_of : List WireExchange → List Answer
+answers_of xs = map (λ (x : WireExchange). x.answer) xs
 
 abbrev pub asks_in : List Job → List Ask
 asks_in jobs = map (λ (j : Job). j.0) jobs
 
 -- The asks, in order, were sent, but for one that was given back unsent; and the answers, in order, were heard.
-pub record Adds (old new : SeatState) (answered : List Exchange) (unanswered : List Ask) : Type 0 where
+pub record Adds (old new : SeatState) (answered : List WireExchange) (unanswered : List Ask) : Type 0 where
   pub jobs : List Job
   pub unsent : List Ask
   pub sent : new.sent ≡ old.sent ++ jobs

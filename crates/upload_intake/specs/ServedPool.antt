@@ -16,7 +16,7 @@ use Rattle.upload_intake.specs.Seats.{SeatState, IsFresh}
 use Rattle.upload_intake.specs.Served.{IsServed}
 use Rattle.upload_intake.specs.Told.{Told}
 use Rattle.upload_intake.specs.Working.{Means, IsWorked, all_answered, all_unanswered}
-use Rattle.upload_wire.specs.Conversation.{Exchange}
+use Rattle.upload_wire.specs.Conversation.{WireExchange}
 
 -- the steps of one seat, and what was asked and answered by a step, and by an exchange of a conversation
 abbrev pub of_seat : ℕ → List Step → List Step
@@ -25,7 +25,7 @@ of_seat seat steps = filter (λ (s : Step). seat == s.seat) steps
 abbrev pub asked_and_answered : Step → Ask × Answer
 asked_and_answered s = (s.exchange.ask, s.exchange.answer)
 
-abbrev pub read_and_replied : Exchange → Ask × Answer
+abbrev pub read_and_replied : WireExchange → Ask × Answer
 read_and_replied x = (x.ask, x.answer)
 
 abbrev pub asks : List Step → List Ask
@@ -33,7 +33,7 @@ asks steps = map (λ (s : Step). s.exchange.ask) steps
 
 -- One seat's steps are the exchanges of its conversations, in order, each once; and behind them at most the request at
 -- which the desk was gone, where that one was sent: nobody heard its answer.
-pub record Carries (seat : ℕ) (steps : List Step) (answered : List Exchange) (unanswered : List Ask) : Type 0 where
+pub record Carries (seat : ℕ) (steps : List Step) (answered : List WireExchange) (unanswered : List Ask) : Type 0 where
   pub unheard : List Step
   pub in_order : map asked_and_answered (of_seat seat steps)
       ≡ map read_and_replied answered ++ map asked_and_answered unheard

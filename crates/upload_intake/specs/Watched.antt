@@ -5,7 +5,7 @@ use Rattle.upload_service.specs.declared.answer.Answer.{Answer}
 use Rattle.upload_intake.specs.Notices.{Watching}
 use Rattle.upload_intake.specs.Notices.Notice.{Asking, Answered}
 use Rattle.upload_intake.specs.Settled.{count_limit}
-use Rattle.upload_wire.specs.Conversation.{Exchange}
+use Rattle.upload_wire.specs.Conversation.{WireExchange}
 
 -- the turn behind this one; the last stays
 abbrev pub next_turn : ℕ → ℕ
@@ -19,7 +19,7 @@ module _ {G : Type 0} (watches : Watching G) where
   WatchesOne old turn ask None new next = (next ≡ next_turn turn) × watches old next (Asking ask) new
 
   -- each of these requests, in order
-  abbrev pub WatchesEach : G → ℕ → List Exchange → G → ℕ → Type 0
+  abbrev pub WatchesEach : G → ℕ → List WireExchange → G → ℕ → Type 0
   WatchesEach old turn [] new next = (new ≡ old) × (next ≡ turn)
   WatchesEach old turn (x ∷ xs) new next =
       (mid : G) × (now : ℕ) × WatchesOne old turn x.ask (Some x.answer) mid now × WatchesEach mid now xs new next
@@ -31,7 +31,7 @@ module _ {G : Type 0} (watches : Watching G) where
 
   -- The gate was told of each of these requests, at the turns 1, 2, 3 and so on, and of each answer; and at last of the
   -- one that got none.
-  pub record IsWatched (gate : G) (answered : List Exchange) (unanswered : List Ask) : Type 0 where
+  pub record IsWatched (gate : G) (answered : List WireExchange) (unanswered : List Ask) : Type 0 where
     pub behind : G
     pub turn : ℕ
     pub left : G

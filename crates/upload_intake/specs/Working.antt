@@ -8,7 +8,7 @@ use Rattle.upload_intake.specs.Settled.{count_limit}
 use Rattle.upload_intake.specs.Notices.{Watching}
 use Rattle.upload_intake.specs.Watched.{IsWatched}
 use Rattle.http_wire.specs.States.{SourceState, SinkState}
-use Rattle.upload_wire.specs.Conversation.{Moves, Exchange, IsConversation, stand}
+use Rattle.upload_wire.specs.Conversation.{Moves, WireExchange, IsConversation, stand}
 use Rattle.upload_wire.specs.Events.{Event, Telling, Hears}
 use Rattle.upload_wire.specs.Told.{TellsEach, TellsEnd}
 use Rattle.upload_wire.specs.ConnectionRuns.{answered, unanswered}
@@ -64,7 +64,7 @@ module _ {C In Out S G O : Type 0} (m : Means C In Out S G O) (max_body : ℕ) w
         (m.reads reader) (m.reads reader_left) old new (m.writes writer) (m.writes writer_left) end
 
   -- what was asked and answered on these connections, in order; and the request at which the desk was gone
-  abbrev pub answered_on : Talk → List Exchange
+  abbrev pub answered_on : Talk → List WireExchange
   answered_on t =
       answered steps max_body (m.reads t.reader) (m.reads t.reader_left) t.old t.new (m.writes t.writer)
       (m.writes t.writer_left) t.end
@@ -76,7 +76,7 @@ module _ {C In Out S G O : Type 0} (m : Means C In Out S G O) (max_body : ℕ) w
       (m.writes t.writer_left) t.end
       t.conversation
 
-  abbrev pub all_answered : List Talk → List Exchange
+  abbrev pub all_answered : List Talk → List WireExchange
   all_answered ts = flat_map answered_on ts
 
   abbrev pub all_unanswered : List Talk → List Ask

@@ -10,6 +10,6 @@ Holds (runs.Sha256 hash) bytes = Holds256 hash bytes
 Holds (runs.Sha512 hash) bytes = Holds512 hash bytes
 
 -- a hash that is carried holds these bytes
-abbrev pub Carries : Option Running → List ℕ → Type 0
-Carries None bytes = ⊤
-Carries (Some running) bytes = Holds running bytes
+abbrev pub HoldsIfCarried : Option Running → List ℕ → Type 0
+HoldsIfCarried None bytes = ⊤
+HoldsIfCarried (Some running) bytes = Holds running bytes

@@ -1,6 +1,6 @@
 //! What a body is read into.
 ghost use Rattle.std.specs.Prelude.{◌≡◌, ◌≤◌, ◌++◌, [], length, OnOk, OnErr};
-ghost use Rattle.upload_names.specs.Running.{Carries};
+ghost use Rattle.upload_names.specs.Running.{HoldsIfCarried};
 ghost use Rattle.upload_names.specs.Hashing.{StandsFor};
 
 use crate::bytes::{Bytes, Running, hash_of_none, take_in};
@@ -118,7 +118,7 @@ fn hash_of_all<P: HashPlace>(
 ) -> Option<Running>
     requires front { StandsFor hash count bytes.now }
     requires within { count ≤ length bytes.now }
-    ensures { Carries result bytes.now }
+    ensures { HoldsIfCarried result bytes.now }
 {
     let Some(hash) = hash else {
         return None;

@@ -1,7 +1,7 @@
 //! Bodies and texts.
 ghost use Rattle.std.specs.Prelude.{◌≡◌, ◌++◌, [], List, ℕ, length, IfSome, OnOk, OnErr};
 ghost use Rattle.sha2.specs.Hashers.{Holds256, Holds512};
-ghost use Rattle.upload_names.specs.Running.{Holds, Carries};
+ghost use Rattle.upload_names.specs.Running.{Holds, HoldsIfCarried};
 
 use crate::digest::Algorithm;
 use sha2::{Digest, Sha256, Sha512};
@@ -49,11 +49,11 @@ impl Model for Bytes {
 
     ghost Value = { List ℕ };
 
-    ghost use Rattle.upload_names.specs.Running.{Carries};
+    ghost use Rattle.upload_names.specs.Running.{HoldsIfCarried};
 
     ghost view = { λ a. a.bytes.items };
 
-    ghost invariant = { λ a. Carries a.running a.bytes.items };
+    ghost invariant = { λ a. HoldsIfCarried a.running a.bytes.items };
 }
 
 impl Bytes {
@@ -69,7 +69,7 @@ impl Bytes {
 
     /// The bytes of a vector, which is moved and not copied, and their hash where there is one.
     pub(crate) fn carrying(bytes: Vec<u8>, running: Option<Running>) -> Bytes
-        requires { Carries running bytes.items }
+        requires { HoldsIfCarried running bytes.items }
         ensures { result ≡ bytes.items }
     {
         Bytes { bytes, running }

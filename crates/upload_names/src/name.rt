@@ -29,9 +29,9 @@ pub enum NameFault {
 }
 
 impl fmt::Display for NameFault {
-    ghost use Rattle.upload_names.specs.NameFaults.{fault_text};
+    ghost use Rattle.upload_names.specs.NameFaults.{name_fault_text};
 
-    ghost output = { λ fault. Some (fault_text fault) };
+    ghost output = { λ fault. Some (name_fault_text fault) };
 
     fn fmt<W: fmt::Write>(&self, f: &mut fmt::Formatter<W>) -> fmt::Result {
         match self {

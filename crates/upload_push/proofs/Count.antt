@@ -5,10 +5,11 @@ use Rattle.std.proofs.Math.Nat.{div-mul-le_self}
 use Rattle.std.proofs.lemmas.Nat.{le-div, div_below}
 use Rattle.std.proofs.lemmas.Bool.{eqb-false, ltb-true, leb-true, leb-false}
 use Rattle.upload_push.proofs.Cases.{cond_case}
-use Rattle.upload_push.specs.Steps.{Plan, Stand, IsLawfulPlan, IsWithin, turn, answered, unheard, retry, send_from}
-use Rattle.upload_push.specs.Steps.{opened, taken, place_of, chunk_end, count_to, ask_at}
+use Rattle.upload_push.specs.Steps.{Plan, Stand, IsLawfulPlan, IsWithin, turn, phase_answered, unheard, retry}
+use Rattle.upload_push.specs.Steps.{send_from}
+use Rattle.upload_push.specs.Steps.{opened, chunk_confirmed, place_of, chunk_end, count_to, ask_at}
 use Rattle.upload_push.specs.Slices.{Push, IsLawfulPush, chunks, most_asks, after_all, log_of, logged, plan_of}
-use Rattle.upload_push.specs.Slices.{Exchange}
+use Rattle.upload_push.specs.Slices.{Attempt}
 use Rattle.upload_push.proofs.AsksLeft.{most_in_try, left_in_try, asks_left}
 use Rattle.upload_client.specs.declared.heard.Heard.{Heard}
 use Rattle.upload_push.specs.declared.pusher.PushAsk.{PushAsk}
@@ -118,7 +119,7 @@ opened_left p (Some at) lawful =
 opened_left p None lawful = omega arith
 
 pub taken_left : (p : Plan) (offset : ℕ) (place : Option (List ℕ)) (upto : Option ℕ) → IsLawfulPlan p → offset < p.size
-    → left_in_try p (taken (chunk_end p offset) place upto) ≤ chunks (p.size - offset) p.chunk
+    → left_in_try p (chunk_confirmed (chunk_end p offset) place upto) ≤ chunks (p.size - offset) p.chunk
 taken_left p offset (Some at) (Some last) lawful lt =
     let fewer = chunks_next p.size offset p.chunk lawful.chunk_least lt in
     cond_case (λ phase. left_in_try p phase ≤ chunks (p.size - offset) p.chunk) (last + 1 == chunk_end p offset) _ _
@@ -128,7 +129,7 @@ taken_left p offset None upto lawful lt = omega arith
 taken_left p offset (Some at) None lawful lt = omega arith
 
 pub answered_falls : (p : Plan) (s : Stand) (phase : Phase) (h : Heard) → s.phase ≡ phase → IsLawfulPlan p
-    → IsWithin p.size phase → Falls p s phase (answered p s phase h)
+    → IsWithin p.size phase → Falls p s phase (phase_answered p s phase h)
 unfolding Falls
 answered_falls p s Opening h is lawful within =
     let left = opened_left p (place_of p.name h) lawful in
@@ -196,7 +197,7 @@ opened_within p (Some at) = omega arith
 opened_within p None = tt
 
 pub taken_within : (p : Plan) (offset : ℕ) (place : Option (List ℕ)) (upto : Option ℕ)
-    → IsWithin p.size (taken (chunk_end p offset) place upto)
+    → IsWithin p.size (chunk_confirmed (chunk_end p offset) place upto)
 taken_within p offset (Some at) (Some last) =
     cond_case (λ phase. IsWithin p.size phase) (last + 1 == chunk_end p offset) _ _ (λ is. omega arith) (λ not. tt)
 taken_within p offset None upto = tt
@@ -213,7 +214,7 @@ unheard_within p s (Done outcome) is within = subst (IsWithin p.size) (sym is) w
 unheard_within p s (GaveUp why) is within = subst (IsWithin p.size) (sym is) within
 
 pub answered_within : (p : Plan) (s : Stand) (phase : Phase) (h : Heard) → s.phase ≡ phase → IsWithin p.size phase
-    → Stays p (answered p s phase h)
+    → Stays p (phase_answered p s phase h)
 unfolding Stays
 answered_within p s Opening h is within =
     cond_case (Stays p) (h.status == 202) _ _ (λ is. opened_within p (place_of p.name h)) (λ not. tt)
@@ -246,7 +247,7 @@ pub all_within : (p : Push) (heard : List (Option Heard)) → IsWithin (length p
 all_within p [] = tt
 all_within p (h ∷ earlier) = turn_within (plan_of p) (after_all p earlier) h (all_within p earlier)
 
-pub length-logged : (p : Push) (ask : Option PushAsk) (h : Option Heard) (log : List Exchange)
+pub length-logged : (p : Push) (ask : Option PushAsk) (h : Option Heard) (log : List Attempt)
     → length (logged p ask h log) ≡ length log + asked ask
 length-logged p None h log = omega arith
 length-logged p (Some ask) h log = omega arith

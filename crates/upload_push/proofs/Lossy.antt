@@ -11,7 +11,7 @@ use Rattle.upload_push.specs.Looking.{is_found, LookPromise}
 use Rattle.upload_push.specs.Promise.{Avoids, AvoidAll, others_in_front, events_left, events_after, IsQuiet}
 use Rattle.upload_push.specs.Promise.{PushPromise}
 use Rattle.upload_push.specs.Runs.{AskedInRun, IsHeardOf, IsHarmless, AreHarmless, IsQuietRun}
-use Rattle.upload_push.specs.Slices.{Push, Exchange, IsHead, HeardStatus, Leads, IsPush, heard_place, log_of}
+use Rattle.upload_push.specs.Slices.{Push, Attempt, IsHead, HeardStatus, Leads, IsPush, heard_place, log_of}
 use Rattle.upload_push.specs.World.{World, world_with, world_later, Reaches, AskedBy, Asked, IsSecret}
 use Rattle.upload_push.specs.declared.world.Event.{Event}
 use Rattle.upload_push.specs.declared.world.Event.TheVariants.{Delivered, ReplyLost, NotDelivered, Other, Passes}
@@ -108,11 +108,11 @@ quiet_before p place w [] ask heard new is_secret asked avoid = tt
 
 -- ---- the requests of a push
 
-record StaysAll (old : World) (log : List Exchange) (new : World) : Type 0 where
+record StaysAll (old : World) (log : List Attempt) (new : World) : Type 0 where
   secret : new.secret ≡ old.secret
   left : new.events ≡ events_after old.events log
 
-stays_all : (old new : World) (log : List Exchange) → Leads Asked old log new → StaysAll old log new
+stays_all : (old new : World) (log : List Attempt) → Leads Asked old log new → StaysAll old log new
 stays_all old new [] leads =
     record { secret = ap (λ (w : World). w.secret) leads; left = ap (λ (w : World). w.events) leads }
 stays_all old new (e ∷ log) leads =
@@ -123,11 +123,11 @@ stays_all old new (e ∷ log) leads =
       left = here.left ∙ ap (λ (es : List Event). events_left es) so_far.left;
     }
 
-secret_after : (old mid : World) (log : List Exchange) → IsSecret old.secret → Leads Asked old log mid
+secret_after : (old mid : World) (log : List Attempt) → IsSecret old.secret → Leads Asked old log mid
     → IsSecret mid.secret
 secret_after old mid log is_secret leads = subst IsSecret (sym (stays_all old mid log leads).secret) is_secret
 
-leads_in_run : (old new : World) (log : List Exchange) → IsSecret old.secret → Leads Asked old log new
+leads_in_run : (old new : World) (log : List Attempt) → IsSecret old.secret → Leads Asked old log new
     → Leads AskedInRun old.service log new.service
 leads_in_run old new [] is_secret leads = ap (λ (w : World). w.service) leads
 leads_in_run old new (e ∷ log) is_secret leads = (
@@ -136,7 +136,7 @@ leads_in_run old new (e ∷ log) is_secret leads = (
   in_run leads.0 leads.0.events e.ask e.heard new (secret_after old leads.0 log is_secret leads.1) leads.2,
 )
 
-quiet_in_run : (p : Push) (old new : World) (log : List Exchange)
+quiet_in_run : (p : Push) (old new : World) (log : List Attempt)
     (is_secret : IsSecret old.secret) (leads : Leads Asked old log new) → IsQuiet p.name old.events log
     → IsQuietRun p log old.service new.service (leads_in_run old new log is_secret leads)
 unfolding leads_in_run
@@ -173,7 +173,7 @@ found_status (Some h) found = grind arith
 -- what a look for the blob is worth
 pub look_worth : Laws → LookPromise
 look_worth laws p old new first lawful asked =
-    let log : List Exchange = record { ask = asks.Has p.name p.digest true; heard = first } ∷ [] in
+    let log : List Attempt = record { ask = asks.Has p.name p.digest true; heard = first } ∷ [] in
     let leads : Leads Asked old log new = (old, refl, asked) in
     let inside = leads_in_run old new log lawful.secret leads in
     let after = lawful_after laws old.service new.service log lawful.service inside in (

@@ -1,6 +1,6 @@
 -- Where no event is another client's request, the premise on other clients holds.
 use Rattle.std.proofs.Common.{ℕ, List, [], ◌∷◌, Option}
-use Rattle.upload_push.specs.Slices.{Exchange, heard_place}
+use Rattle.upload_push.specs.Slices.{Attempt, heard_place}
 use Rattle.upload_push.specs.Promise.{AreOwn, AloneIsQuiet, AvoidAll, events_left, events_after, others_in_front}
 use Rattle.upload_push.specs.declared.world.Event.{Event}
 use Rattle.upload_push.specs.declared.world.Event.TheVariants.{Delivered, ReplyLost, NotDelivered, Other, Passes}
@@ -13,7 +13,7 @@ own_left (Delivered ∷ events) own = own
 own_left (ReplyLost ∷ events) own = own
 own_left (NotDelivered ∷ events) own = own
 
-own_after : (events : List Event) (log : List Exchange) → AreOwn events → AreOwn (events_after events log)
+own_after : (events : List Event) (log : List Attempt) → AreOwn events → AreOwn (events_after events log)
 own_after events [] own = own
 own_after events (e ∷ log) own = own_left (events_after events log) (own_after events log own)
 

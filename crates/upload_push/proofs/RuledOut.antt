@@ -7,7 +7,7 @@ use Rattle.upload_names.specs.Digest.{Digest}
 use Rattle.upload_service.specs.declared.ask.Extent.{Extent}
 use Rattle.upload_service.specs.declared.ask.Extent.TheVariants.{Absent, Bad, Given}
 use Rattle.upload_service.specs.declared.ask.Ask.TheVariants.{Chunk, Close}
-use Rattle.upload_push.specs.Slices.{Push, Exchange, IsSound, IsSoundAsk, log_of}
+use Rattle.upload_push.specs.Slices.{Push, Attempt, IsSound, IsSoundAsk, log_of}
 use Rattle.upload_push.specs.World.{World}
 use Rattle.upload_push.specs.Promise.{IsQuiet, IsWorth}
 use Rattle.upload_push.specs.RuledOut.{exchange, PushesRuleOut}
@@ -16,7 +16,7 @@ use Rattle.upload_push.specs.declared.pusher.Outcome.TheVariants.{Pushed}
 use Rattle.upload_push.proofs.Turns.{same_inside}
 
 -- the close says that all was heard of, and the chunk that something was left
-hasty_ask : (p : Push) (log : List Exchange) (name at body : List ℕ)
+hasty_ask : (p : Push) (log : List Attempt) (name at body : List ℕ)
     (range : Extent) (its_name its_at its_body : List ℕ) (its_range : Extent) (digest : Option Digest)
     → IsSoundAsk p (exchange (Chunk name at range body) None ∷ log) (Close its_name its_at its_range digest its_body)
     → IsSoundAsk p log (Chunk name at range body) → ⊥
@@ -29,7 +29,7 @@ hasty_ask p log name at body (Given range) its_name its_at its_body its_range di
 hasty_ask p log name at body Absent its_name its_at its_body its_range digest close chunk = absurd chunk.2
 hasty_ask p log name at body Bad its_name its_at its_body its_range digest close chunk = absurd chunk.2
 
-hasty : (p : Push) (log : List Exchange) (name at body : List ℕ) (range : Extent) (its_name its_at its_body : List ℕ)
+hasty : (p : Push) (log : List Attempt) (name at body : List ℕ) (range : Extent) (its_name its_at its_body : List ℕ)
     (its_range : Extent) (digest : Option Digest) (heard : Option Heard) → IsSound p
     (exchange (Close its_name its_at its_range digest its_body) heard ∷ exchange (Chunk name at range body) None ∷ log)
     → ⊥

@@ -4,10 +4,13 @@ use Rattle.std.proofs.Common.{◌∷◌, length, Option, Some, None, refl, arith
 use Rattle.std.proofs.lemmas.Bool.{eqb-true, ne_eqb, ltb-true, ltb-false}
 use Rattle.upload_push.proofs.Cases.{cond_case, cond_case_both, cond_yes, cond_no}
 use Rattle.upload_push.proofs.Count.{all_within}
-use Rattle.upload_push.specs.Steps.{Plan, Stand, IsOver, IsWithin, turn, turn_at, answered, unheard, retry, send_from}
-use Rattle.upload_push.specs.Steps.{opened, taken, place_of, refused, to_phase, chunk_end, count_to, ask_at}
-use Rattle.upload_push.specs.Slices.{Push, IsLawfulPush, Exchange, after_all, log_of, logged, plan_of, request}
-use Rattle.upload_push.specs.Slices.{heard_offset, heard_place, place_after, IsSound, EndsWith, EndsRefused, AreUnheard}
+use Rattle.upload_push.specs.Steps.{Plan, Stand, IsOver, IsWithin, turn, turn_at, phase_answered, unheard, retry}
+use Rattle.upload_push.specs.Steps.{send_from}
+use Rattle.upload_push.specs.Steps.{opened, chunk_confirmed, place_of, refused_by, to_phase, chunk_end, count_to}
+use Rattle.upload_push.specs.Steps.{ask_at}
+use Rattle.upload_push.specs.Slices.{Push, IsLawfulPush, Attempt, after_all, log_of, logged, plan_of, request}
+use Rattle.upload_push.specs.Slices.{heard_offset, heard_place, place_after, IsSound, LastIsAnswered, EndsRefused}
+use Rattle.upload_push.specs.Slices.{AreUnheard}
 use Rattle.upload_push.specs.Slices.{IsClose, IsHead}
 use Rattle.upload_client.specs.declared.heard.Heard.{Heard}
 use Rattle.upload_push.specs.declared.pusher.PushAsk.{PushAsk}
@@ -18,51 +21,51 @@ use Rattle.upload_push.specs.declared.pusher.Phase.{Phase}
 use Rattle.upload_push.specs.declared.pusher.Phase.TheVariants.{Opening, Sending, Asking, Looking, Done, GaveUp}
 
 -- what a phase says of the log
-abbrev pub Tracks : Push → List Exchange → Phase → Type 0
+abbrev pub Tracks : Push → List Attempt → Phase → Type 0
 Tracks p log Opening = Unit {0}
 Tracks p log (Sending at offset) = (heard_place p.name log ≡ Some at) × (heard_offset log ≡ offset)
 Tracks p log (Asking at) = heard_place p.name log ≡ Some at
 Tracks p log Looking = Unit {0}
-Tracks p log (Done Pushed) = EndsWith IsClose 201 log
-Tracks p log (Done Already) = EndsWith IsHead 200 log
+Tracks p log (Done Pushed) = LastIsAnswered IsClose 201 log
+Tracks p log (Done Already) = LastIsAnswered IsHead 200 log
 Tracks p log (GaveUp (Refused status code)) = EndsRefused status code log
 Tracks p log (GaveUp BadServer) = Unit {0}
 Tracks p log (GaveUp OutOfTries) = Unit {0}
 
 -- the log as a record of its newest exchange
-abbrev pub grown : Push → PushAsk → Option Heard → List Exchange → List Exchange
+abbrev pub grown : Push → PushAsk → Option Heard → List Attempt → List Attempt
 grown p ask heard log = record { ask = request p ask; heard = heard } ∷ log
 
-pub Follows : Push → List Exchange → Stand → Type 0
+pub Follows : Push → List Attempt → Stand → Type 0
 Follows p log s = Tracks p log s.phase
 
-pub retry_follows : (p : Push) (log : List Exchange) (s : Stand) (phase : Phase) → Tracks p log phase
+pub retry_follows : (p : Push) (log : List Attempt) (s : Stand) (phase : Phase) → Tracks p log phase
     → Follows p log (retry s phase)
 unfolding Follows
 retry_follows p log s phase tracks = cond_case (Follows p log) (s.tries == 0) _ _ (λ is. tt) (λ not. tracks)
 
-pub send_from_follows : (p : Push) (log : List Exchange) (at : List ℕ) (offset : ℕ)
+pub send_from_follows : (p : Push) (log : List Attempt) (at : List ℕ) (offset : ℕ)
     → heard_place p.name log ≡ Some at → heard_offset log ≡ offset → Tracks p log (send_from (plan_of p) at offset)
 send_from_follows p log at offset place is =
     cond_case (Tracks p log) (nat_le offset (length p.file)) _ _ (λ le. (place, is)) (λ gt. tt)
 
-pub opened_follows : (p : Push) (log : List Exchange) (place : Option (List ℕ))
+pub opened_follows : (p : Push) (log : List Attempt) (place : Option (List ℕ))
     → heard_place p.name log ≡ place → heard_offset log ≡ 0 → Tracks p log (opened place)
 opened_follows p log (Some at) is none = (is, none)
 opened_follows p log None is none = tt
 
-pub taken_follows : (p : Push) (log : List Exchange) (end : ℕ) (place : Option (List ℕ)) (upto : Option ℕ)
-    → heard_place p.name log ≡ place → heard_offset log ≡ count_to upto → Tracks p log (taken end place upto)
+pub taken_follows : (p : Push) (log : List Attempt) (end : ℕ) (place : Option (List ℕ)) (upto : Option ℕ)
+    → heard_place p.name log ≡ place → heard_offset log ≡ count_to upto → Tracks p log (chunk_confirmed end place upto)
 taken_follows p log end (Some at) (Some last) is upto =
     cond_case (Tracks p log) (last + 1 == end) _ _ (λ same. (is, upto ∙ eqb-true (last + 1) end same)) (λ not. tt)
 taken_follows p log end None upto is to = tt
 taken_follows p log end (Some at) None is to = tt
 
 -- what follows from one more exchange
-pub Next : Push → List Exchange → Option Heard → Option PushAsk → Stand → Type 0
+pub Next : Push → List Attempt → Option Heard → Option PushAsk → Stand → Type 0
 Next p log heard ask s = Tracks p (logged p ask heard log) s.phase
 
-pub unheard_next : (p : Push) (log : List Exchange) (s : Stand) (phase : Phase) (heard : Option Heard) → s.phase ≡ phase
+pub unheard_next : (p : Push) (log : List Attempt) (s : Stand) (phase : Phase) (heard : Option Heard) → s.phase ≡ phase
     → Tracks p log phase → (place_after p.name heard (heard_place p.name log) ≡ heard_place p.name log)
     → Next p log heard (ask_at (plan_of p) phase) (unheard s phase)
 unfolding Next Follows
@@ -82,12 +85,12 @@ unheard_next p log s (GaveUp why) heard is tracks same = subst (Tracks p log) (s
 pub other : (status one two : ℕ) → (status == one) ≡ true → (one ≡ two → ⊥) → (status == two) ≡ false
 other status one two is differ = ne_eqb status two (λ e. differ (sym (eqb-true status one is) ∙ e))
 
-pub chunk_next : (p : Push) (log : List Exchange) (s : Stand) (at : List ℕ) (offset : ℕ) (h : Heard)
+pub chunk_next : (p : Push) (log : List Attempt) (s : Stand) (at : List ℕ) (offset : ℕ) (h : Heard)
     → Tracks p log (Sending at offset)
     → Next p log (Some h) (Some (asks.Chunk at (record { first = offset; last = chunk_end (plan_of p) offset - 1 })))
-    (if h.status == 202 then to_phase s (taken (chunk_end (plan_of p) offset) (place_of p.name h) h.upto)
+    (if h.status == 202 then to_phase s (chunk_confirmed (chunk_end (plan_of p) offset) (place_of p.name h) h.upto)
     else if h.status == 416 then retry s (send_from (plan_of p) at (count_to h.upto))
-    else to_phase s (refused h))
+    else to_phase s (refused_by h))
 unfolding Next Follows
 chunk_next p log s at offset h tracks =
     let chunk = asks.Chunk at (record { first = offset; last = chunk_end (plan_of p) offset - 1 }) in
@@ -100,8 +103,8 @@ chunk_next p log s at offset h tracks =
     (send_from_follows p now at (count_to h.upto) (cond_no _ _ not ∙ tracks.0) (cond_no _ _ not ∙ cond_yes _ _ ok)))
     (λ not. (refl, refl)))
 
-pub answered_next : (p : Push) (log : List Exchange) (s : Stand) (phase : Phase) (h : Heard) → s.phase ≡ phase
-    → Tracks p log phase → Next p log (Some h) (ask_at (plan_of p) phase) (answered (plan_of p) s phase h)
+pub answered_next : (p : Push) (log : List Attempt) (s : Stand) (phase : Phase) (h : Heard) → s.phase ≡ phase
+    → Tracks p log phase → Next p log (Some h) (ask_at (plan_of p) phase) (phase_answered (plan_of p) s phase h)
 unfolding Next Follows
 answered_next p log s Opening h is tracks =
     cond_case (Next p log (Some h) (Some asks.Opening)) (h.status == 202) _ _
@@ -126,7 +129,7 @@ answered_next p log s Looking h is tracks =
 answered_next p log s (Done outcome) h is tracks = subst (Tracks p log) (sym is) tracks
 answered_next p log s (GaveUp why) h is tracks = subst (Tracks p log) (sym is) tracks
 
-pub turn_next : (p : Push) (log : List Exchange) (s : Stand) (heard : Option Heard) → Tracks p log s.phase
+pub turn_next : (p : Push) (log : List Attempt) (s : Stand) (heard : Option Heard) → Tracks p log s.phase
     → Tracks p (logged p (ask_at (plan_of p) s.phase) heard log) (turn (plan_of p) s heard).phase
 unfolding Next
 turn_next p log s None tracks = unheard_next p log s s.phase None refl tracks refl
@@ -141,7 +144,7 @@ pub all_tracks : (p : Push) (heard : List (Option Heard)) → Tracks p (log_of p
 all_tracks p [] = tt
 all_tracks p (h ∷ earlier) = turn_next p (log_of p earlier) (after_all p earlier) h (all_tracks p earlier)
 
-pub sound_next : (p : Push) (log : List Exchange) (phase : Phase) (heard : Option Heard) → IsLawfulPush p
+pub sound_next : (p : Push) (log : List Attempt) (phase : Phase) (heard : Option Heard) → IsLawfulPush p
     → IsWithin (length p.file) phase → Tracks p log phase → IsSound p log
     → IsSound p (logged p (ask_at (plan_of p) phase) heard log)
 sound_next p log Opening heard lawful within tracks sound = (refl, sound)
@@ -179,11 +182,11 @@ all_sound p (h ∷ earlier) lawful =
     (all_sound p earlier lawful)
 
 pub pushed_last : (p : Push) (heard : List (Option Heard)) → (after_all p heard).phase ≡ Done Pushed
-    → EndsWith IsClose 201 (log_of p heard)
+    → LastIsAnswered IsClose 201 (log_of p heard)
 pushed_last p heard is = subst (Tracks p (log_of p heard)) is (all_tracks p heard)
 
 pub already_last : (p : Push) (heard : List (Option Heard)) → (after_all p heard).phase ≡ Done Already
-    → EndsWith IsHead 200 (log_of p heard)
+    → LastIsAnswered IsHead 200 (log_of p heard)
 already_last p heard is = subst (Tracks p (log_of p heard)) is (all_tracks p heard)
 
 pub refused_last : (p : Push) (heard : List (Option Heard)) (status : ℕ) (code : Option (List ℕ))

@@ -2,7 +2,7 @@
 use Rattle.std.proofs.Common.{◌≡◌, ℕ, ◌<◌, List, [], ◌∷◌, length, Option, Some, refl, arith, ap, subst, sym, ◌∙◌}
 use Rattle.std.specs.Prelude.{Result}
 use Rattle.upload_push.proofs.Count.{Falls, turn_falls, all_within, lawful_plan, asked}
-use Rattle.upload_push.specs.Steps.{Plan, PushState, turn, ask_at, after, IsStepAt, IsStepOf, IsAskWithin}
+use Rattle.upload_push.specs.Steps.{Plan, PushState, turn, ask_at, standing_at, IsStepAt, IsStepOf, IsAskWithin}
 use Rattle.upload_push.specs.Slices.{Push, IsLawfulPush, after_all, log_of, logged, plan_of, request, request_of, Leads}
 use Rattle.upload_push.specs.Slices.{IsPush, IsEnd}
 use Rattle.upload_push.proofs.AsksLeft.{asks_left}
@@ -96,27 +96,27 @@ ask_now p s heard ask is step =
 -- one request more
 pub moved : {S : Type 0} (asks : S → Ask → Option Heard → S → Type 0) (p : Push) (old mid new : S) (s next : PushState)
     (ask : PushAsk) (h : Option Heard) → IsUnderway asks p old mid s → IsStepOf s (steps.Ask ask)
-    → asks mid (request p ask) h new → next ≡ after s (turn s.plan s.stand h) → IsUnderway asks p old new next
+    → asks mid (request p ask) h new → next ≡ standing_at s (turn s.plan s.stand h) → IsUnderway asks p old new next
 moved asks p old mid new s next ask h so_far step asked_it is =
     let now = ask_now p s so_far.heard ask so_far.stands step in
     record {
       heard = h ∷ so_far.heard;
       leads = subst (λ (a : Option PushAsk). Leads asks old (logged p a h (log_of p so_far.heard)) new) (sym now)
           (mid, so_far.leads, asked_it);
-      stands = is ∙ ap (λ (t : PushState). after t (turn t.plan t.stand h)) so_far.stands;
+      stands = is ∙ ap (λ (t : PushState). standing_at t (turn t.plan t.stand h)) so_far.stands;
     }
 
 -- fewer requests are left
 pub fewer : {S : Type 0} (asks : S → Ask → Option Heard → S → Type 0) (p : Push) (old mid : S) (s next : PushState)
     (ask : PushAsk) (h : Option Heard) → IsLawfulPush p → IsUnderway asks p old mid s → IsStepOf s (steps.Ask ask)
-    → next ≡ after s (turn s.plan s.stand h) → asks_left next.plan next.stand < asks_left s.plan s.stand
+    → next ≡ standing_at s (turn s.plan s.stand h) → asks_left next.plan next.stand < asks_left s.plan s.stand
 unfolding Falls
 fewer asks p old mid s next ask h lawful so_far step is =
     let now = ask_now p s so_far.heard ask so_far.stands step in
     let here = after_all p so_far.heard in
     let falls = turn_falls (plan_of p) here h (lawful_plan p lawful) (all_within p so_far.heard) in
     let one : asked (ask_at (plan_of p) here.phase) ≡ 1 = ap asked now in
-    let next_is = is ∙ ap (λ (t : PushState). after t (turn t.plan t.stand h)) so_far.stands in
+    let next_is = is ∙ ap (λ (t : PushState). standing_at t (turn t.plan t.stand h)) so_far.stands in
     let left_next = ap (λ (t : PushState). asks_left t.plan t.stand) next_is in
     let left_here = ap (λ (t : PushState). asks_left t.plan t.stand) so_far.stands in
     omega (arith, falls, one, left_next, left_here)

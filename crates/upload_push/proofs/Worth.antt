@@ -14,8 +14,8 @@ use Rattle.upload_service.specs.Run.{Run}
 use Rattle.upload_service.specs.UploadView.{Sends, AsksOffset, Closes, UploadView, OfSession, Opens, WholeBlob}
 use Rattle.upload_service.specs.UploadView.{Unrelated, upload_view}
 use Rattle.upload_client.specs.Heard.{reply_heard}
-use Rattle.upload_push.specs.Slices.{Push, Exchange, after_all, log_of, heard_offset, heard_place, offset_by}
-use Rattle.upload_push.specs.Slices.{offset_after, place_after, IsSound, IsSoundAsk, EndsWith, IsClose, IsHead}
+use Rattle.upload_push.specs.Slices.{Push, Attempt, after_all, log_of, heard_offset, heard_place, offset_by}
+use Rattle.upload_push.specs.Slices.{offset_after, place_after, IsSound, IsSoundAsk, LastIsAnswered, IsClose, IsHead}
 use Rattle.upload_push.specs.Slices.{HeardStatus, Leads, IsEnd}
 use Rattle.upload_push.specs.World.{IsSecret}
 use Rattle.upload_push.specs.Promise.{IsStored}
@@ -50,7 +50,7 @@ whole_close p s secret now at range digest body answer new no_range own_digest n
     (subst (λ (d : Option Digest). T (asks.Close p.name at Absent d body)) own_digest
     (subst (λ (x : Extent). T (asks.Close p.name at x digest body)) no_range turn))
 
-sound_close : (p : Push) (log : List Exchange) (s : State) (secret : List ℕ) (now : ℕ)
+sound_close : (p : Push) (log : List Attempt) (s : State) (secret : List ℕ) (now : ℕ)
     (name at : List ℕ) (range : Extent) (digest : Option Digest) (body : List ℕ) (answer : Answer) (new : State)
     → IsSoundAsk p log (asks.Close name at range digest body)
     → Turn s (asks.Close name at range digest body) secret now answer new
@@ -113,7 +113,7 @@ run_keeps laws p old (x ∷ xs) new place offset lawful harmless up run =
 -- ---- its own requests
 
 -- one request of a push, by what it asks
-own_keeps : Laws → (p : Push) (log : List Exchange) (s : State) (secret : List ℕ)
+own_keeps : Laws → (p : Push) (log : List Attempt) (s : State) (secret : List ℕ)
     (now : ℕ) (ask : Ask) (answer : Answer) (new : State) → IsSecret secret → IsLawful s → IsSoundAsk p log ask
     → IsUpload p.file s (heard_place p.name log) (heard_offset log) → Turn s ask secret now answer new
     → IsKept p ask (heard_place p.name log) (heard_offset log) answer new
@@ -192,7 +192,7 @@ came_kept p s ask heard new place offset up comes kept =
     ]
 
 -- the service after the requests of a push, and where the next one meets it
-pub lawful_after : Laws → (old new : State) (log : List Exchange) → IsLawful old
+pub lawful_after : Laws → (old new : State) (log : List Attempt) → IsLawful old
     → Leads AskedInRun old log new → IsLawful new
 lawful_after laws old new [] lawful leads = subst IsLawful (sym leads) lawful
 lawful_after laws old new (e ∷ log) lawful leads =
@@ -200,14 +200,14 @@ lawful_after laws old new (e ∷ log) lawful leads =
     (lawful_run laws leads.0 leads.2.before leads.2.met (lawful_after laws old leads.0 log lawful leads.1) leads.2.run)
     leads.2.comes
 
-lawful_met : Laws → (old mid new : State) (e : Exchange) (log : List Exchange) → IsLawful old
+lawful_met : Laws → (old mid new : State) (e : Attempt) (log : List Attempt) → IsLawful old
     → Leads AskedInRun old log mid → (asked : AskedInRun mid e.ask e.heard new) → IsLawful asked.met
 lawful_met laws old mid new e log lawful leads asked =
     lawful_run laws mid asked.before asked.met (lawful_after laws old mid log lawful leads) asked.run
 
 -- the upload after the requests of a push, and the one that the next meets, under the premise on what is served between
 -- them
-uploads : Laws → (p : Push) (old new : State) (log : List Exchange) → IsLawful old → IsSound p log
+uploads : Laws → (p : Push) (old new : State) (log : List Attempt) → IsLawful old → IsSound p log
     → (leads : Leads AskedInRun old log new) → IsQuietRun p log old new leads
     → IsUpload p.file new (heard_place p.name log) (heard_offset log)
 uploads laws p old new [] lawful sound leads quiet = tt
@@ -233,7 +233,7 @@ told_status answer h status reaches is =
     ]
 
 -- a close that is answered 201, beside any clients
-closed_pair : (p : Push) (log : List Exchange) (s : State) (ask : Ask) (heard : Option Heard) (new : State)
+closed_pair : (p : Push) (log : List Attempt) (s : State) (ask : Ask) (heard : Option Heard) (new : State)
     → IsSoundAsk p log ask → IsClose ask → HeardStatus heard 201 → ComesTo s ask heard new
     → IsTrue (holds new p.name p.digest)
 closed_pair p log s (asks.Close name at range digest body) (Some h) new sound close status comes =
@@ -247,7 +247,7 @@ closed_pair p log s ask None new sound close status comes = absurd status
 closed_pair p log s other (Some h) new sound close status comes = absurd close
 
 -- a close that is answered 201, of the push's own upload
-closed_file : (p : Push) (log : List Exchange) (s : State) (ask : Ask) (heard : Option Heard) (new : State)
+closed_file : (p : Push) (log : List Attempt) (s : State) (ask : Ask) (heard : Option Heard) (new : State)
     → IsSoundAsk p log ask → IsUpload p.file s (heard_place p.name log) (heard_offset log) → IsClose ask
     → HeardStatus heard 201 → ComesTo s ask heard new → IsStored p new
 closed_file p log s (asks.Close name at range digest body) (Some h) new sound up close status comes =
@@ -263,7 +263,7 @@ closed_file p log s ask None new sound up close status comes = absurd status
 closed_file p log s other (Some h) new sound up close status comes = absurd close
 
 -- a look for the blob that is answered 200
-pub looked_pair : (p : Push) (log : List Exchange) (s : State) (ask : Ask) (heard : Option Heard) (new : State)
+pub looked_pair : (p : Push) (log : List Attempt) (s : State) (ask : Ask) (heard : Option Heard) (new : State)
     → IsSoundAsk p log ask → IsHead ask → HeardStatus heard 200 → ComesTo s ask heard new
     → IsTrue (holds new p.name p.digest)
 looked_pair p log s (asks.Has name digest head) (Some h) new sound is_head status comes =
@@ -281,9 +281,9 @@ looked_pair p log s ask None new sound is_head status comes = absurd status
 looked_pair p log s other (Some h) new sound is_head status comes = absurd is_head
 
 -- the requests of a push that end with such a close, or such a look
-file_at_end : Laws → (p : Push) (old new : State) (log : List Exchange) → IsLawful old
-    → IsSound p log → (leads : Leads AskedInRun old log new) → IsQuietRun p log old new leads → EndsWith IsClose 201 log
-    → IsStored p new
+file_at_end : Laws → (p : Push) (old new : State) (log : List Attempt) → IsLawful old
+    → IsSound p log → (leads : Leads AskedInRun old log new) → IsQuietRun p log old new leads
+    → LastIsAnswered IsClose 201 log → IsStored p new
 file_at_end laws p old new [] lawful sound leads quiet ends = absurd ends
 file_at_end laws p old new (e ∷ log) lawful sound leads quiet ends =
     let asked = leads.2 in
@@ -293,11 +293,11 @@ file_at_end laws p old new (e ∷ log) lawful sound leads quiet ends =
     (uploads laws p old leads.0 log lawful sound.1 leads.1 quiet.1) asked.run in
     closed_file p log asked.met e.ask e.heard new sound.0 met ends.0 ends.1 asked.comes
 
-pub pair_at_end : (p : Push) (old new : State) (log : List Exchange) (P : Ask → Type 0) (status : ℕ)
-    → ((before : List Exchange) (s : State) (ask : Ask) (heard : Option Heard) (t : State)
+pub pair_at_end : (p : Push) (old new : State) (log : List Attempt) (P : Ask → Type 0) (status : ℕ)
+    → ((before : List Attempt) (s : State) (ask : Ask) (heard : Option Heard) (t : State)
     → IsSoundAsk p before ask → P ask → HeardStatus heard status → ComesTo s ask heard t
     → IsTrue (holds t p.name p.digest))
-    → IsSound p log → Leads AskedInRun old log new → EndsWith P status log → IsTrue (holds new p.name p.digest)
+    → IsSound p log → Leads AskedInRun old log new → LastIsAnswered P status log → IsTrue (holds new p.name p.digest)
 pair_at_end p old new [] P status last sound leads ends = absurd ends
 pair_at_end p old new (e ∷ log) P status last sound leads ends =
     last log leads.2.met e.ask e.heard new sound.0 ends.0 ends.1 leads.2.comes

@@ -5,7 +5,7 @@ use Rattle.upload_names.specs.Digest.{HasDigest}
 use Rattle.upload_service.specs.Machine.{State, holds}
 use Rattle.upload_service.specs.Session.{carries}
 use Rattle.upload_service.specs.declared.ask.Ask.{Ask}
-use Rattle.upload_push.specs.Slices.{Push, IsLawfulPush, Exchange, heard_place, log_of, IsPush}
+use Rattle.upload_push.specs.Slices.{Push, IsLawfulPush, Attempt, heard_place, log_of, IsPush}
 use Rattle.upload_push.specs.World.{World, Asked, IsLawfulWorld}
 use Rattle.upload_client.specs.declared.heard.Heard.{Heard}
 use Rattle.upload_push.specs.declared.pusher.Outcome.{Outcome}
@@ -28,7 +28,7 @@ events_left (event ∷ events) = events
 events_left [] = []
 
 -- the events that are left after the requests of a push
-abbrev pub events_after : List Event → List Exchange → List Event
+abbrev pub events_after : List Event → List Attempt → List Event
 events_after events [] = events
 events_after events (e ∷ log) = events_left (events_after events log)
 
@@ -43,7 +43,7 @@ AvoidAll place (ask ∷ asks) = Avoids place ask × AvoidAll place asks
 
 -- The premise on other clients: from the opening on whose reply the pusher heard, no other client's request carries the
 -- reference that the pusher has heard by then.
-abbrev pub IsQuiet : List ℕ → List Event → List Exchange → Type 0
+abbrev pub IsQuiet : List ℕ → List Event → List Attempt → Type 0
 IsQuiet name events [] = Unit {0}
 IsQuiet name events (e ∷ log) =
     AvoidAll (heard_place name log) (others_in_front (events_after events log)) × IsQuiet name events log
@@ -56,7 +56,7 @@ AreOwn (event ∷ events) = AreOwn events
 
 -- where there is no other client, the premise holds
 abbrev pub AloneIsQuiet : Type 0
-AloneIsQuiet = (name : List ℕ) (events : List Event) (log : List Exchange) → AreOwn events → IsQuiet name events log
+AloneIsQuiet = (name : List ℕ) (events : List Event) (log : List Attempt) → AreOwn events → IsQuiet name events log
 
 -- exactly the file stands under the digest, and the repository has it
 pub record IsStored (p : Push) (s : State) : Type 0 where

@@ -16,7 +16,7 @@ use Rattle.upload_service.specs.declared.answer.Answer.{Answer}
 use Rattle.upload_client.specs.Heard.{reply_heard}
 use Rattle.upload_client.specs.declared.heard.Heard.{Heard}
 use Rattle.upload_push.specs.Promise.{Avoids, IsStored, IsThere}
-use Rattle.upload_push.specs.Slices.{Push, IsLawfulPush, Exchange, IsGiven, Leads, IsPush, heard_place, log_of}
+use Rattle.upload_push.specs.Slices.{Push, IsLawfulPush, Attempt, IsGiven, Leads, IsPush, heard_place, log_of}
 use Rattle.upload_push.specs.World.{IsSecret}
 use Rattle.upload_push.specs.declared.pusher.Outcome.{Outcome}
 use Rattle.upload_push.specs.declared.pusher.Outcome.TheVariants.{Pushed, Already}
@@ -84,7 +84,7 @@ AreHarmless p place (x ∷ xs) = IsHarmless p place x.ask × AreHarmless p place
 
 -- The premise on what is served between the requests of a push: from the opening on whose reply the push heard, it
 -- doesn't carry the reference that was heard by then, unless it is a late request of the push itself.
-abbrev pub IsQuietRun : (p : Push) (log : List Exchange) (old new : State) → Leads AskedInRun old log new → Type 0
+abbrev pub IsQuietRun : (p : Push) (log : List Attempt) (old new : State) → Leads AskedInRun old log new → Type 0
 IsQuietRun p [] old new leads = ⊤
 IsQuietRun p (e ∷ log) old new leads =
     AreHarmless p (heard_place p.name log) leads.2.before × IsQuietRun p log old leads.0 leads.1

@@ -45,7 +45,7 @@ pub record IsLawfulPush (p : Push) : Type 0 where
   pub chunk_most : p.chunk ≤ 2 ^ 31
 
 -- one request and what was heard
-pub record Exchange : Type 0 where
+pub record Attempt : Type 0 where
   pub ask : Ask
   pub heard : Option Heard
 
@@ -65,7 +65,7 @@ abbrev pub request : Push → PushAsk → Ask
 request p ask = request_of p.name p.digest p.file ask
 
 -- the list with one more exchange, if something was asked
-abbrev pub logged : Push → Option PushAsk → Option Heard → List Exchange → List Exchange
+abbrev pub logged : Push → Option PushAsk → Option Heard → List Attempt → List Attempt
 logged p None heard log = log
 logged p (Some ask) heard log = record { ask = request p ask; heard = heard } ∷ log
 
@@ -75,7 +75,7 @@ after_all p [] = record { phase = phases.Opening; tries = p.tries }
 after_all p (heard ∷ earlier) = turn (plan_of p) (after_all p earlier) heard
 
 -- what it has asked and heard by then
-abbrev pub log_of : Push → List (Option Heard) → List Exchange
+abbrev pub log_of : Push → List (Option Heard) → List Attempt
 log_of p [] = []
 log_of p (heard ∷ earlier) = logged p (ask_at (plan_of p) (after_all p earlier).phase) heard (log_of p earlier)
 
@@ -97,7 +97,7 @@ abbrev pub offset_after : Ask → Option Heard → ℕ → ℕ
 offset_after ask None offset = offset
 offset_after ask (Some h) offset = offset_by (upload_view ask) h offset
 
-abbrev pub heard_offset : List Exchange → ℕ
+abbrev pub heard_offset : List Attempt → ℕ
 heard_offset [] = 0
 heard_offset (e ∷ log) = offset_after e.ask e.heard (heard_offset log)
 
@@ -106,7 +106,7 @@ abbrev pub place_after : List ℕ → Option Heard → Option (List ℕ) → Opt
 place_after name None place = place
 place_after name (Some h) place = if h.status == 202 then place_of name h else place
 
-abbrev pub heard_place : List ℕ → List Exchange → Option (List ℕ)
+abbrev pub heard_place : List ℕ → List Attempt → Option (List ℕ)
 heard_place name [] = None
 heard_place name (e ∷ log) = place_after name e.heard (heard_place name log)
 
@@ -130,7 +130,7 @@ pub record IsWholeClose (p : Push) (offset : ℕ) (range : Extent) (digest : Opt
   pub all : offset ≡ length p.file
 
 -- a request that is sound after this list
-abbrev pub IsSoundAsk : Push → List Exchange → Ask → Type 0
+abbrev pub IsSoundAsk : Push → List Attempt → Ask → Type 0
 IsSoundAsk p log (Opening name) = name ≡ p.name
 IsSoundAsk p log (Chunk name at range body) =
     (name ≡ p.name) × (heard_place p.name log ≡ Some at) × IsGiven range (λ r. IsNextChunk p (heard_offset log) r body)
@@ -141,7 +141,7 @@ IsSoundAsk p log (Has name digest head) = (name ≡ p.name) × (digest ≡ p.dig
 IsSoundAsk p log other = ⊥
 
 -- The push is sound: each request is sound after those before it.
-abbrev pub IsSound : Push → List Exchange → Type 0
+abbrev pub IsSound : Push → List Attempt → Type 0
 IsSound p [] = Unit {0}
 IsSound p (e ∷ log) = IsSoundAsk p log e.ask × IsSound p log
 
@@ -151,9 +151,9 @@ HeardStatus None status = ⊥
 HeardStatus (Some h) status = h.status ≡ status
 
 -- the last exchange is a request of this kind that was answered with this status
-abbrev pub EndsWith : (Ask → Type 0) → ℕ → List Exchange → Type 0
-EndsWith P status [] = ⊥
-EndsWith P status (e ∷ log) = P e.ask × HeardStatus e.heard status
+abbrev pub LastIsAnswered : (Ask → Type 0) → ℕ → List Attempt → Type 0
+LastIsAnswered P status [] = ⊥
+LastIsAnswered P status (e ∷ log) = P e.ask × HeardStatus e.heard status
 
 -- a reply with this status and this code was heard
 abbrev pub IsHeardAs : Option Heard → ℕ → Option (List ℕ) → Type 0
@@ -161,7 +161,7 @@ IsHeardAs None status code = ⊥
 IsHeardAs (Some h) status code = (h.status ≡ status) × (h.code ≡ code)
 
 -- the last exchange heard such a reply
-abbrev pub EndsRefused : ℕ → Option (List ℕ) → List Exchange → Type 0
+abbrev pub EndsRefused : ℕ → Option (List ℕ) → List Attempt → Type 0
 EndsRefused status code [] = ⊥
 EndsRefused status code (e ∷ log) = IsHeardAs e.heard status code
 
@@ -186,7 +186,7 @@ abbrev pub most_asks : Push → ℕ
 most_asks p = (p.tries + 1) * (chunks (length p.file) p.chunk + 2)
 
 -- a transport goes from one state to another by these requests and what was heard to each, the newest first
-abbrev pub Leads : {S : Type 0} → (S → Ask → Option Heard → S → Type 0) → S → List Exchange → S → Type 0
+abbrev pub Leads : {S : Type 0} → (S → Ask → Option Heard → S → Type 0) → S → List Attempt → S → Type 0
 Leads {S} asked old [] new = new ≡ old
 Leads {S} asked old (e ∷ log) new = (mid : S) × Leads asked old log mid × asked mid e.ask e.heard new
 

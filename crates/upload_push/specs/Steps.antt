@@ -30,8 +30,8 @@ pub record PushState : Type 0 where
   pub stand : Stand
 
 -- the same push, standing there
-abbrev pub after : PushState → Stand → PushState
-after s stand = record { plan = s.plan; stand = stand }
+abbrev pub standing_at : PushState → Stand → PushState
+standing_at s stand = record { plan = s.plan; stand = stand }
 
 -- at most 2^40 bytes, in chunks of 1 to 2^31 bytes
 pub record IsLawfulPlan (p : Plan) : Type 0 where
@@ -67,8 +67,8 @@ retry s phase =
 abbrev pub send_from : Plan → List ℕ → ℕ → Phase
 send_from p at offset = if nat_le offset p.size then Sending at offset else GaveUp BadServer
 
-abbrev pub refused : Heard → Phase
-refused h = GaveUp (Refused h.status h.code)
+abbrev pub refused_by : Heard → Phase
+refused_by h = GaveUp (Refused h.status h.code)
 
 -- nothing was heard, or 503: a try is taken; what became of a chunk or of a close is asked first
 abbrev pub unheard : Stand → Phase → Stand
@@ -88,36 +88,37 @@ opened (Some at) = Sending at 0
 opened None = GaveUp BadServer
 
 -- a chunk up to `end` was taken, if the reply says so
-abbrev pub taken : ℕ → Option (List ℕ) → Option ℕ → Phase
-taken end (Some at) (Some last) = if last + 1 == end then Sending at end else GaveUp BadServer
-taken end _ _ = GaveUp BadServer
+abbrev pub chunk_confirmed : ℕ → Option (List ℕ) → Option ℕ → Phase
+chunk_confirmed end (Some at) (Some last) = if last + 1 == end then Sending at end else GaveUp BadServer
+chunk_confirmed end _ _ = GaveUp BadServer
 
 -- a reply to a chunk
 abbrev pub chunk_answered : Plan → Stand → List ℕ → ℕ → Heard → Stand
 chunk_answered p s at offset h =
-    if h.status == 202 then to_phase s (taken (chunk_end p offset) (place_of p.name h) h.upto)
+    if h.status == 202 then to_phase s (chunk_confirmed (chunk_end p offset) (place_of p.name h) h.upto)
     else if h.status == 416 then retry s (send_from p at (count_to h.upto))
-    else to_phase s (refused h)
+    else to_phase s (refused_by h)
 
 abbrev pub close_answered : Stand → Heard → Stand
-close_answered s h = if h.status == 201 then to_phase s (Done Pushed) else to_phase s (refused h)
+close_answered s h = if h.status == 201 then to_phase s (Done Pushed) else to_phase s (refused_by h)
 
 -- another reply than 503
-abbrev pub answered : Plan → Stand → Phase → Heard → Stand
-answered p s Opening h =
-    if h.status == 202 then to_phase s (opened (place_of p.name h)) else to_phase s (refused h)
-answered p s (Sending at offset) h = if nat_lt offset p.size then chunk_answered p s at offset h else close_answered s h
-answered p s (Asking at) h =
+abbrev pub phase_answered : Plan → Stand → Phase → Heard → Stand
+phase_answered p s Opening h =
+    if h.status == 202 then to_phase s (opened (place_of p.name h)) else to_phase s (refused_by h)
+phase_answered p s (Sending at offset) h =
+    if nat_lt offset p.size then chunk_answered p s at offset h else close_answered s h
+phase_answered p s (Asking at) h =
     if h.status == 204 then to_phase s (send_from p at (count_to h.upto))
     else if h.status == 404 then to_phase s Looking
-    else to_phase s (refused h)
-answered p s Looking h = if h.status == 200 then to_phase s (Done Already) else to_phase s (refused h)
-answered p s (Done outcome) h = s
-answered p s (GaveUp why) h = s
+    else to_phase s (refused_by h)
+phase_answered p s Looking h = if h.status == 200 then to_phase s (Done Already) else to_phase s (refused_by h)
+phase_answered p s (Done outcome) h = s
+phase_answered p s (GaveUp why) h = s
 
 abbrev pub turn_at : Plan → Stand → Phase → Option Heard → Stand
 turn_at p s phase None = unheard s phase
-turn_at p s phase (Some h) = if h.status == 503 then unheard s phase else answered p s phase h
+turn_at p s phase (Some h) = if h.status == 503 then unheard s phase else phase_answered p s phase h
 
 -- where a push stands after what was heard
 abbrev pub turn : Plan → Stand → Option Heard → Stand

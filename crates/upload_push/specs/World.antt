@@ -22,11 +22,11 @@ abbrev pub world_of : State → List ℕ → ℕ → List Event → World
 world_of service secret now events = record { service = service; secret = secret; now = now; events = events }
 
 -- the last moment, at which time stands still
-abbrev pub last_moment : ℕ
-last_moment = 2 ^ 64 - 1
+abbrev pub end_of_time : ℕ
+end_of_time = 2 ^ 64 - 1
 
 abbrev pub moment_after : ℕ → ℕ → ℕ
-moment_after now seconds = min (now + seconds) last_moment
+moment_after now seconds = min (now + seconds) end_of_time
 
 -- the same world, with this service and these events to come
 abbrev pub world_with : World → State → List Event → World

@@ -6,7 +6,7 @@ ghost use Rattle.upload_push.specs.Promise.{PushPromise, AloneIsQuiet};
 ghost use Rattle.upload_push.specs.Runs.{PushPromiseInRuns};
 ghost use Rattle.upload_push.specs.RuledOut.{PushesRuleOut};
 ghost use Rattle.upload_push.specs.Steps.{Plan, Stand, turn, IsOver};
-ghost use Rattle.upload_push.specs.Slices.{Push, IsLawfulPush, IsSound, IsClose, IsHead, EndsWith, EndsRefused};
+ghost use Rattle.upload_push.specs.Slices.{Push, IsLawfulPush, IsSound, IsClose, IsHead, LastIsAnswered, EndsRefused};
 ghost use Rattle.upload_push.specs.Slices.{AreUnheard, after_all, log_of, most_asks};
 
 use crate::pusher::{Outcome, Phase, Why};
@@ -22,10 +22,10 @@ pub fn every_push()
         → IsSound p (log_of p heard) }
     ensures pushed { (p : Push) (heard : List (Option Heard))
         → (after_all p heard).phase ≡ Phase.Done Outcome.Pushed
-        → EndsWith IsClose 201 (log_of p heard) }
+        → LastIsAnswered IsClose 201 (log_of p heard) }
     ensures already { (p : Push) (heard : List (Option Heard))
         → (after_all p heard).phase ≡ Phase.Done Outcome.Already
-        → EndsWith IsHead 200 (log_of p heard) }
+        → LastIsAnswered IsHead 200 (log_of p heard) }
     ensures refused { (p : Push) (heard : List (Option Heard)) (status : ℕ) (code : Option (List ℕ))
         → (after_all p heard).phase ≡ Phase.GaveUp (Why.Refused status code)
         → EndsRefused status code (log_of p heard) }

@@ -1,7 +1,8 @@
 //! The steps of a push, by the table in `specs/Steps.antt`: what is asked next, and where what was heard leads.
 ghost use Rattle.std.specs.Prelude.{IfOk, ◌≡◌, ◌≤◌, ◌<◌, ◌^◌, ◌==◌, if◌then◌else◌};
-ghost use Rattle.upload_push.specs.Steps.{after, IsWithin, IsStepOf, IsStepWithin, turn, retry, unheard, answered};
-ghost use Rattle.upload_push.specs.Steps.{chunk_answered, close_answered, refused, place_of, send_from, count_to};
+ghost use Rattle.upload_push.specs.Steps.{standing_at, IsWithin, IsStepOf, IsStepWithin, turn, retry, unheard};
+ghost use Rattle.upload_push.specs.Steps.{phase_answered};
+ghost use Rattle.upload_push.specs.Steps.{chunk_answered, close_answered, refused_by, place_of, send_from, count_to};
 ghost use Rattle.upload_push.specs.Steps.{to_phase};
 
 use std::alloc::{AllocError, Global};
@@ -168,7 +169,7 @@ impl Pusher {
 
     /// Takes what was heard to the last ask, or None where nothing was. After the push has ended nothing changes.
     pub fn heard(&mut self, heard: Option<Heard>)
-        ensures { self.new ≡ after self.old (turn self.old.plan self.old.stand heard) }
+        ensures { self.new ≡ standing_at self.old (turn self.old.plan self.old.stand heard) }
     {
         match heard {
             None => self.unheard(),
@@ -185,7 +186,7 @@ impl Pusher {
     /// Takes a try and goes on to a phase; with none left the push is given up.
     fn retry(&mut self, phase: Phase)
         requires { IsWithin self.old.plan.size phase }
-        ensures { self.new ≡ after self.old (retry self.old.stand phase) }
+        ensures { self.new ≡ standing_at self.old (retry self.old.stand phase) }
     {
         if self.tries == 0 {
             self.phase = Phase::GaveUp(Why::OutOfTries);
@@ -197,7 +198,7 @@ impl Pusher {
 
     /// Takes a try where nothing was heard: what became of a chunk or of a close is asked first.
     fn unheard(&mut self)
-        ensures { self.new ≡ after self.old (unheard self.old.stand self.old.stand.phase) }
+        ensures { self.new ≡ standing_at self.old (unheard self.old.stand self.old.stand.phase) }
     {
         match &self.phase {
             Phase::Opening => self.retry(Phase::Opening),
@@ -217,7 +218,8 @@ impl Pusher {
     /// Takes a reply other than 503.
     fn answered(&mut self, reply: Heard)
         ensures { self.new
-            ≡ after self.old (answered self.old.plan self.old.stand self.old.stand.phase reply) }
+            ≡ standing_at self.old
+            (phase_answered self.old.plan self.old.stand self.old.stand.phase reply) }
     {
         match &self.phase {
             Phase::Opening => self.opening_answered(reply),
@@ -241,7 +243,7 @@ impl Pusher {
 
     /// Gives up at a reply that leads no further.
     fn refuse(&mut self, reply: Heard)
-        ensures { self.new ≡ after self.old (to_phase self.old.stand (refused reply)) }
+        ensures { self.new ≡ standing_at self.old (to_phase self.old.stand (refused_by reply)) }
     {
         self.phase = Phase::GaveUp(Why::Refused(reply.status, reply.code));
     }
@@ -259,7 +261,8 @@ impl Pusher {
     /// Takes a reply to the opening.
     fn opening_answered(&mut self, reply: Heard)
         ensures { self.new
-            ≡ after self.old (answered self.old.plan self.old.stand Phase.Opening reply) }
+            ≡ standing_at self.old
+            (phase_answered self.old.plan self.old.stand Phase.Opening reply) }
     {
         if reply.status == 202 {
             self.phase = match self.place_of(&reply) {
@@ -296,7 +299,7 @@ impl Pusher {
     fn chunk_answered(&mut self, at: UploadRef, offset: u64, reply: Heard)
         requires { offset < self.old.plan.size }
         ensures { self.new
-            ≡ after self.old (chunk_answered self.old.plan self.old.stand at offset reply) }
+            ≡ standing_at self.old (chunk_answered self.old.plan self.old.stand at offset reply) }
     {
         if reply.status == 202 {
             let end = (offset + self.chunk).min(self.length);
@@ -320,7 +323,7 @@ impl Pusher {
 
     /// Takes a reply to the close.
     fn close_answered(&mut self, reply: Heard)
-        ensures { self.new ≡ after self.old (close_answered self.old.stand reply) }
+        ensures { self.new ≡ standing_at self.old (close_answered self.old.stand reply) }
     {
         if reply.status == 201 {
             self.phase = Phase::Done(Outcome::Pushed);
@@ -332,7 +335,8 @@ impl Pusher {
     /// Takes a reply to how much has arrived.
     fn status_answered(&mut self, at: UploadRef, reply: Heard)
         ensures { self.new
-            ≡ after self.old (answered self.old.plan self.old.stand (Phase.Asking at) reply) }
+            ≡ standing_at self.old
+            (phase_answered self.old.plan self.old.stand (Phase.Asking at) reply) }
     {
         if reply.status == 204 {
             self.phase = self.send_from(at, reply.upto);
@@ -346,7 +350,8 @@ impl Pusher {
     /// Takes a reply to whether the blob is there.
     fn head_answered(&mut self, reply: Heard)
         ensures { self.new
-            ≡ after self.old (answered self.old.plan self.old.stand Phase.Looking reply) }
+            ≡ standing_at self.old
+            (phase_answered self.old.plan self.old.stand Phase.Looking reply) }
     {
         if reply.status == 200 {
             self.phase = Phase::Done(Outcome::Already);

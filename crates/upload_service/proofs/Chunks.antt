@@ -16,7 +16,7 @@ use Rattle.std.proofs.lemmas.List.Elements.{filter-append}
 use Rattle.upload_service.specs.Machine.{Turn}
 use Rattle.upload_service.specs.Run.{Exchange, Run}
 use Rattle.upload_service.specs.Session.{carries, begins, is_part, part, is_taken, is_stored, accepted_by, accepted_of}
-use Rattle.upload_service.specs.Session.{accepted, taken, joined, bytes_of, received}
+use Rattle.upload_service.specs.Session.{accepted, taken_chunks, joined_chunks, bytes_of, received}
 use Rattle.upload_service.proofs.Tables.{one_or_two, get-insert_same, get-insert_other, get-remove_same}
 use Rattle.upload_service.proofs.Tables.{get-remove_other, same_from_eq, same_from_ne}
 use Rattle.upload_service.proofs.UploadView.{on_each}
@@ -31,10 +31,11 @@ append_none xs = append-nil xs
 abbrev pub gave : List ℕ → Exchange → List (List ℕ)
 gave at x = cond (is_part at x) (accepted x) []
 
-pub taken-cons : (x : Exchange) (xs : List Exchange) (at : List ℕ) → taken (x ∷ xs) at ≡ gave at x ++ taken xs at
+pub taken-cons : (x : Exchange) (xs : List Exchange) (at : List ℕ)
+    → taken_chunks (x ∷ xs) at ≡ gave at x ++ taken_chunks xs at
 taken-cons x xs at =
     elim (is_part at x) as (λ b. flat_map accepted (cond b (x ∷ part xs at) (part xs at))
-    ≡ cond b (accepted x) [] ++ taken xs at) [ true ↦ refl | false ↦ refl ]
+    ≡ cond b (accepted x) [] ++ taken_chunks xs at) [ true ↦ refl | false ↦ refl ]
 
 flat_map-append : {A B : Type 0} (f : A → List B) (xs ys : List A)
     → flat_map f (xs ++ ys) ≡ flat_map f xs ++ flat_map f ys
@@ -42,28 +43,32 @@ flat_map-append f [] ys = refl
 flat_map-append f (x ∷ xs) ys =
     ap (λ zs. f x ++ zs) (flat_map-append f xs ys) ∙ sym (append_assoc (f x) (flat_map f xs) (flat_map f ys))
 
-pub taken-append : (xs ys : List Exchange) (at : List ℕ) → taken (xs ++ ys) at ≡ taken xs at ++ taken ys at
+pub taken-append : (xs ys : List Exchange) (at : List ℕ)
+    → taken_chunks (xs ++ ys) at ≡ taken_chunks xs at ++ taken_chunks ys at
 taken-append xs ys at =
     ap (flat_map accepted) (filter-append (is_part at) xs ys) ∙ flat_map-append accepted (part xs at) (part ys at)
 
-joined-append : (xs ys : List (List ℕ)) → joined (xs ++ ys) ≡ joined xs ++ joined ys
+joined-append : (xs ys : List (List ℕ)) → joined_chunks (xs ++ ys) ≡ joined_chunks xs ++ joined_chunks ys
 joined-append xs ys = flat_map-append (λ chunk. chunk) xs ys
 
 pub received-cons : (s : State) (x : Exchange) (xs : List Exchange) (at : List ℕ)
-    → received s (x ∷ xs) at ≡ (bytes_of (map.get s.sessions at) ++ joined (gave at x)) ++ joined (taken xs at)
+    → received s (x ∷ xs) at
+    ≡ (bytes_of (map.get s.sessions at) ++ joined_chunks (gave at x)) ++ joined_chunks (taken_chunks xs at)
 received-cons s x xs at =
-    ap (λ c. bytes_of (map.get s.sessions at) ++ joined c) (taken-cons x xs at)
-    ∙ ap (λ b. bytes_of (map.get s.sessions at) ++ b) (joined-append (gave at x) (taken xs at))
-    ∙ sym (append_assoc (bytes_of (map.get s.sessions at)) (joined (gave at x)) (joined (taken xs at)))
+    ap (λ c. bytes_of (map.get s.sessions at) ++ joined_chunks c) (taken-cons x xs at)
+    ∙ ap (λ b. bytes_of (map.get s.sessions at) ++ b) (joined-append (gave at x) (taken_chunks xs at))
+    ∙ sym
+    (append_assoc (bytes_of (map.get s.sessions at)) (joined_chunks (gave at x)) (joined_chunks (taken_chunks xs at)))
 
 pub received-push : (s : State) (xs : List Exchange) (x : Exchange) (at : List ℕ)
-    → received s (xs ++ x ∷ []) at ≡ received s xs at ++ joined (gave at x)
+    → received s (xs ++ x ∷ []) at ≡ received s xs at ++ joined_chunks (gave at x)
 received-push s xs x at =
-    ap (λ c. bytes_of (map.get s.sessions at) ++ joined c)
-    (taken-append xs (x ∷ []) at ∙ ap (λ c. taken xs at ++ c) (taken-cons x [] at))
-    ∙ ap (λ b. bytes_of (map.get s.sessions at) ++ b) (joined-append (taken xs at) (gave at x ++ [])
-    ∙ ap (λ b. joined (taken xs at) ++ b) (joined-append (gave at x) [] ∙ append_none _))
-    ∙ sym (append_assoc (bytes_of (map.get s.sessions at)) (joined (taken xs at)) (joined (gave at x)))
+    ap (λ c. bytes_of (map.get s.sessions at) ++ joined_chunks c)
+    (taken-append xs (x ∷ []) at ∙ ap (λ c. taken_chunks xs at ++ c) (taken-cons x [] at))
+    ∙ ap (λ b. bytes_of (map.get s.sessions at) ++ b) (joined-append (taken_chunks xs at) (gave at x ++ [])
+    ∙ ap (λ b. joined_chunks (taken_chunks xs at) ++ b) (joined-append (gave at x) [] ∙ append_none _))
+    ∙ sym
+    (append_assoc (bytes_of (map.get s.sessions at)) (joined_chunks (taken_chunks xs at)) (joined_chunks (gave at x)))
 
 -- what is answered otherwise gives nothing
 not_accepted_by : (act : Act) (answer : Answer) → is_taken answer ≡ false → is_stored answer ≡ false
@@ -88,11 +93,12 @@ gave_own x at c = ap (λ q. cond (q || begins at x.answer) (accepted x) []) c
 
 -- What is said of an open session after a turn: its bytes grew by what the exchange gave it, or it is gone.
 abbrev Grew : State → State → List ℕ → Exchange → Type 0
-Grew s t at x = bytes_of (map.get t.sessions at) ≡ bytes_of (map.get s.sessions at) ++ joined (gave at x)
+Grew s t at x = bytes_of (map.get t.sessions at) ≡ bytes_of (map.get s.sessions at) ++ joined_chunks (gave at x)
 
 kept : (s t : State) (at : List ℕ) (x : Exchange) → map.get t.sessions at ≡ map.get s.sessions at
     → gave at x ≡ [] → Grew s t at x
-kept s t at x e g = ap bytes_of e ∙ sym (ap (λ c. bytes_of (map.get s.sessions at) ++ joined c) g ∙ append_none _)
+kept s t at x e g =
+    ap bytes_of e ∙ sym (ap (λ c. bytes_of (map.get s.sessions at) ++ joined_chunks c) g ∙ append_none _)
 
 -- a reference whose number isn't issued has nothing
 nothing_yet : (s : State) (at : List ℕ) (o : Option Session) → map.get s.sessions at ≡ o
@@ -112,7 +118,7 @@ grows s x (Begins name new) f h e at =
     elim (one_or_two at new) [
       | inl same ↦
           inr (ap bytes_of (ap (map.get t.sessions) same ∙ get-insert_same (swept s x.now) new _)
-          ∙ sym (ap (λ c. bytes_of (map.get s.sessions at) ++ joined c) g ∙ append_none _
+          ∙ sym (ap (λ c. bytes_of (map.get s.sessions at) ++ joined_chunks c) g ∙ append_none _
           ∙ nothing_yet s at (map.get s.sessions at) refl
           (λ session o. not_new s x.secret at new f.is_new f.numbers_left (h at session o) same)))
       | inr other ↦
@@ -132,7 +138,8 @@ grows s x (Takes name to got) f h e at =
           inr (ap bytes_of
           (ap (map.get (state_after s x.now (Takes name to got)).sessions) same ∙ get-insert_same s.sessions to _)
           ∙ f.grown
-          ∙ sym (ap (λ c. bytes_of (map.get s.sessions at) ++ joined c) g ∙ ap (λ b. bytes_of (map.get s.sessions at)
+          ∙ sym
+          (ap (λ c. bytes_of (map.get s.sessions at) ++ joined_chunks c) g ∙ ap (λ b. bytes_of (map.get s.sessions at)
           ++ b) (append_none f.body) ∙ ap (λ o. bytes_of o ++ f.body) (ap (map.get s.sessions) same ∙ f.found.is_open)))
       | inr other ↦
           inr (kept s (state_after s x.now (Takes name to got)) at x (get-insert_other s.sessions to _ at other)
@@ -223,5 +230,5 @@ open_is_received (x ∷ xs) s t at session (mid, turn, rest) h is =
     open_is_received xs mid t at session rest (numbered_turn s x mid turn h) is
     ∙ elim (grew_turn s x mid at turn h) as (λ _. received mid xs at ≡ received s (x ∷ xs) at) [
       | inl gone ↦ absurd (None≢Some (sym (gone_run xs mid t at rest gone).0 ∙ is))
-      | inr grew ↦ ap (λ b. b ++ joined (taken xs at)) grew ∙ sym (received-cons s x xs at)
+      | inr grew ↦ ap (λ b. b ++ joined_chunks (taken_chunks xs at)) grew ∙ sym (received-cons s x xs at)
     ]

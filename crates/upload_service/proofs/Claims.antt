@@ -8,7 +8,7 @@ use Rattle.upload_service.specs.declared.ask.Ask.TheVariants as asks
 use Rattle.upload_service.specs.declared.answer.Answer.TheVariants as answers
 use Rattle.upload_service.specs.Machine.{State, Turn, IsLawful}
 use Rattle.upload_service.specs.Run.{Exchange, Run, NeverFall}
-use Rattle.upload_service.specs.Session.{carries, received, is_closed}
+use Rattle.upload_service.specs.Session.{carries, received, session_is_closed}
 use Rattle.upload_service.specs.Headline.{Aim, aim_of, IsAwake, IsCommitted}
 use Rattle.upload_service.specs.Stored.{IsHandedOut, IsStoreAfter, stored, last_under}
 use Rattle.upload_service.specs.Alone.{IsToldAsAlone}
@@ -48,7 +48,7 @@ abbrev pub ClosedTakesNothing : Type 0
 ClosedTakesNothing =
     (start : State) (front : List Exchange) (before : State) (x : Exchange) (after : State)
     → Moment start front before x after
-    → (at : List ℕ) → IsTrue (is_closed start front at x.now) → IsTrue (carries at x.ask)
+    → (at : List ℕ) → IsTrue (session_is_closed start front at x.now) → IsTrue (carries at x.ask)
     → (x.answer ≡ answers.Refused refusals.NoUpload) × (after ≡ before)
 
 abbrev pub AnsweredAsAlone : Type 0

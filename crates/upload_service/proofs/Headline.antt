@@ -26,7 +26,7 @@ use Rattle.upload_service.specs.Machine.{Turn, IsLawful, may_lack_memory}
 use Rattle.upload_service.proofs.Claims.{CommitsItsChunks, MissedChunkChangesNothing, MisplacedOnlyThere}
 use Rattle.upload_service.proofs.Claims.{ClosedTakesNothing}
 use Rattle.upload_service.specs.Run.{Exchange, Run}
-use Rattle.upload_service.specs.Session.{carries, is_stored, accepted_of, joined, received, closed_by, closes_of}
+use Rattle.upload_service.specs.Session.{carries, is_stored, accepted_of, joined_chunks, received, closed_by, closes_of}
 use Rattle.upload_service.specs.Headline.{Aim, aim_by, aim_of, IsCommitted}
 use Rattle.upload_service.proofs.Tables.{get-remove_same, same_itself, blob-insert_same, contains-insert_same}
 use Rattle.upload_service.proofs.UploadView.{on_each, named as named_session, carried}
@@ -68,7 +68,7 @@ committed start front before x (Commits n to d blob) lawful run f e name at rang
     (ap (map.get before.sessions) (sym to_is) ∙ f.found.is_open) in
     let blob_is : blob ≡ received start (front ++ x ∷ []) at =
     f.grown ∙ (λ i. had i ++ body_is i)
-    ∙ sym (received-push start front x at ∙ ap (λ c. received start front at ++ joined c) g
+    ∙ sym (received-push start front x at ∙ ap (λ c. received start front at ++ joined_chunks c) g
     ∙ ap (λ b. received start front at ++ b) (append_none body)) in
     let new : State = state_after before x.now (Commits n to d blob) in
     let n'_is : n ≡ name' = cc in

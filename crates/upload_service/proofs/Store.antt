@@ -13,7 +13,7 @@ use Rattle.std.specs.List.{list_any}
 use Rattle.upload_service.specs.Machine.{Turn, IsLawful}
 use Rattle.upload_service.proofs.Claims.{StoreIsWhatWasStored, BlobIsWhatWasStored}
 use Rattle.upload_service.specs.Run.{Exchange, Run}
-use Rattle.upload_service.specs.Session.{carries, accepted_of, joined, received}
+use Rattle.upload_service.specs.Session.{carries, accepted_of, joined_chunks, received}
 use Rattle.upload_service.specs.UploadView.{upload_view}
 use Rattle.upload_service.specs.Stored.{Stored, stored_as, stored_by, stored_from, last_under, is_pair, notes}
 use Rattle.upload_service.proofs.Tables.{same_itself, blob-insert, contains-insert}
@@ -44,7 +44,7 @@ commit_blob start front before x name at digest blob lawful run f e =
     let had : f.found.session.received ≡ received start front at =
     open_is_received front start before at f.found.session run (numbered_if_lawful start lawful) f.found.is_open in
     f.grown ∙ ap (λ b. b ++ f.body) had
-    ∙ sym (received-push start front x at ∙ ap (λ c. received start front at ++ joined c) g
+    ∙ sym (received-push start front x at ∙ ap (λ c. received start front at ++ joined_chunks c) g
     ∙ ap (λ b. received start front at ++ b) (append_none f.body))
 
 blobs_after : (start : State) (front : List Exchange) (s : State) (x : Exchange) (o : Outcome) → IsLawful start

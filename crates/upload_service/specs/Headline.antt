@@ -12,7 +12,7 @@ use Rattle.upload_service.specs.declared.answer.Answer.TheVariants as answers
 use Rattle.upload_service.specs.UploadView.{Act, Sends, AsksOffset, Closes, upload_view, on_session}
 use Rattle.upload_service.specs.Machine.{is_idle, awake, Session, State, Turn, IsLawful, holds}
 use Rattle.upload_service.specs.Run.{Exchange, Run, NeverFall}
-use Rattle.upload_service.specs.Session.{carries, received, is_closed}
+use Rattle.upload_service.specs.Session.{carries, received, session_is_closed}
 use Rattle.upload_service.specs.Alone.{IsToldAsAlone}
 use Rattle.upload_service.specs.Stored.{stored, last_under, IsStoreAfter, IsHandedOut}
 
@@ -63,7 +63,7 @@ pub record IsOrderly (start : State) (front : List Exchange) (before : State) (x
       → (first : ℕ) × (aim_of x.ask ≡ Some (record { name = name; at = at; first = first }))
       × IsAwake before x.now name at × (next ≡ length (received start front at)) × (first ≢ next)
   -- a closed session takes nothing more, nor does one that this request finds idle
-  pub closed : (at : List ℕ) → IsTrue (is_closed start front at x.now) → IsTrue (carries at x.ask)
+  pub closed : (at : List ℕ) → IsTrue (session_is_closed start front at x.now) → IsTrue (carries at x.ask)
       → (x.answer ≡ answers.Refused refusals.NoUpload) × (after ≡ before)
   -- a blob that is handed out is the last that was stored there
   pub blob : (name : List ℕ) (digest : Digest) (head : Bool) (of : Digest) (size : ℕ) (bytes : Option (List ℕ))

@@ -48,11 +48,11 @@ abbrev pub accepted : Exchange → List (List ℕ)
 accepted x = accepted_of x.ask x.answer
 
 -- the chunks that the session took, in the order taken
-abbrev pub taken : List Exchange → List ℕ → List (List ℕ)
-taken xs at = flat_map accepted (part xs at)
+abbrev pub taken_chunks : List Exchange → List ℕ → List (List ℕ)
+taken_chunks xs at = flat_map accepted (part xs at)
 
-abbrev pub joined : List (List ℕ) → List ℕ
-joined chunks = flat_map (λ chunk. chunk) chunks
+abbrev pub joined_chunks : List (List ℕ) → List ℕ
+joined_chunks chunks = flat_map (λ chunk. chunk) chunks
 
 abbrev pub bytes_of : Option Session → List ℕ
 bytes_of None = []
@@ -60,7 +60,7 @@ bytes_of (Some session) = session.received
 
 -- what the session has received: what it had at the start, and then the chunks it took
 abbrev pub received : State → List Exchange → List ℕ → List ℕ
-received s xs at = bytes_of (map.get s.sessions at) ++ joined (taken xs at)
+received s xs at = bytes_of (map.get s.sessions at) ++ joined_chunks (taken_chunks xs at)
 
 -- the session was closed by this request
 abbrev pub closed_by : Act → Answer → Bool
@@ -91,7 +91,7 @@ is_lapsed max_idle at touched (x ∷ xs) now =
     is_late max_idle touched x.now || is_lapsed max_idle at (if touches at x then Some x.now else touched) xs now
 
 -- the session was closed, or fell idle, in these exchanges, or is idle at this moment behind them
-abbrev pub is_closed : State → List Exchange → List ℕ → ℕ → Bool
-is_closed start xs at now =
+abbrev pub session_is_closed : State → List Exchange → List ℕ → ℕ → Bool
+session_is_closed start xs at now =
     list_any (λ x. closes_of at x.ask x.answer) xs
     || is_lapsed start.limits.max_idle at (seen_of (map.get start.sessions at)) xs now

@@ -1,7 +1,7 @@
 //! A running hash by either algorithm.
 ghost use Rattle.std.specs.Prelude.{◌≡◌, ◌++◌, [], ℕ, List};
 ghost use Rattle.upload_names.specs.declared.digest.Algorithm.{Algorithm as By};
-ghost use Rattle.upload_service.specs.Kept.Parts.{joined};
+ghost use Rattle.upload_service.specs.Kept.Parts.{joined_parts};
 ghost use Rattle.upload_service.specs.Kept.Hashes.{HoldsBy};
 
 use crate::shared::Part;
@@ -45,7 +45,7 @@ impl EitherHash {
     /// Takes parts in.
     pub fn take_in(&mut self, parts: &[Part])
         ensures { (by : By) (before : List ℕ) → HoldsBy by self.old before
-            → HoldsBy by self.new (before ++ joined parts.now) }
+            → HoldsBy by self.new (before ++ joined_parts parts.now) }
     {
         match self {
             EitherHash::Sha256(hash) => take_in(hash, parts),
@@ -57,7 +57,7 @@ impl EitherHash {
 /// Has a hash take parts in.
 fn take_in<H: Digest>(hash: &mut H, parts: &[Part])
     ensures { (before : List ℕ) → H.holds hash.old before
-        → H.holds hash.new (before ++ joined parts.now) }
+        → H.holds hash.new (before ++ joined_parts parts.now) }
 {
     for part in parts {
         hash.update(part.as_slice());

@@ -4,7 +4,7 @@ ghost use Rattle.upload_names.specs.declared.digest.Algorithm.{Algorithm as By};
 ghost use Rattle.upload_service.specs.declared.either_hash.EitherHash.{EitherHash as HashOf};
 ghost use Rattle.upload_service.specs.declared.running.Running.TheVariants.{Here};
 ghost use Rattle.upload_service.specs.Kept.Hashes.{HoldsBy};
-ghost use Rattle.upload_service.specs.Kept.Parts.{joined};
+ghost use Rattle.upload_service.specs.Kept.Parts.{joined_parts};
 ghost use Rattle.upload_service.specs.Kept.Running.{HoldsPrefix};
 
 use crate::either_hash::EitherHash;
@@ -37,7 +37,7 @@ impl PrefixHash {
 
     /// A hash that holds all these segments.
     pub fn of_all(hash: EitherHash, settled: &[Part]) -> PrefixHash
-        ensures { (by : By) → HoldsBy by hash (joined settled.now)
+        ensures { (by : By) → HoldsBy by hash (joined_parts settled.now)
             → HoldsPrefix by settled.now result }
     {
         PrefixHash {
@@ -92,7 +92,7 @@ impl PrefixHash {
     /// a thread, all is hashed anew.
     pub fn of_settled(&mut self, algorithm: Algorithm, settled: &[Part]) -> EitherHash
         requires { HoldsPrefix algorithm settled.now self.old }
-        ensures hash { HoldsBy algorithm result (joined settled.now) }
+        ensures hash { HoldsBy algorithm result (joined_parts settled.now) }
         ensures prefix { HoldsPrefix algorithm settled.now self.new }
     {
         self.catch_up(settled);

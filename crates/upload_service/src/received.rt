@@ -3,7 +3,7 @@ ghost use Rattle.std.specs.Prelude.{◌≡◌, ◌↔◌, ◌+◌, ◌<◌, ◌^
 ghost use Rattle.sha2.specs.Sha256.{sha256};
 ghost use Rattle.sha2.specs.Sha512.{sha512};
 ghost use Rattle.upload_names.specs.Digest.{HasDigest};
-ghost use Rattle.upload_service.specs.Kept.Parts.{joined, whole};
+ghost use Rattle.upload_service.specs.Kept.Parts.{joined_parts, whole};
 
 use crate::either_hash::EitherHash;
 use crate::hash_end::HashEnd;
@@ -193,7 +193,7 @@ impl Received {
 
 /// The digest of the segments and a last body, by a hash that holds the segments that stay as they are.
 fn finish<H: Digest>(mut hash: H, segments: &Segments, body: &[u8]) -> H::Output
-    requires { H.holds hash (joined segments.now.settled) }
+    requires { H.holds hash (joined_parts segments.now.settled) }
     ensures { H.digest_of (whole segments.now ++ body.now) result }
 {
     hash.update(segments.tail());

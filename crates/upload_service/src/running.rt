@@ -1,9 +1,9 @@
 //! A running hash that takes parts in here, or in a thread of its own.
 ghost use Rattle.std.specs.Prelude.{◌≡◌, ◌++◌, [], ℕ, List, IfOk};
 ghost use Rattle.upload_names.specs.declared.digest.Algorithm.{Algorithm as By};
-ghost use Rattle.upload_service.specs.Kept.Parts.{joined};
+ghost use Rattle.upload_service.specs.Kept.Parts.{joined_parts};
 ghost use Rattle.upload_service.specs.Kept.Hashes.{HoldsBy};
-ghost use Rattle.upload_service.specs.Kept.Running.{Holds};
+ghost use Rattle.upload_service.specs.Kept.Running.{RunningHolds};
 
 use crate::either_hash::EitherHash;
 use crate::hash_end::HashEnd;
@@ -30,11 +30,11 @@ pub struct Behind {
 impl Promise<EitherHash> for Behind {
     ghost use Rattle.std.specs.Prelude.{List, ℕ, ◌++◌};
     ghost use Rattle.upload_names.specs.declared.digest.Algorithm.{Algorithm as By};
-    ghost use Rattle.upload_service.specs.Kept.Parts.{joined};
+    ghost use Rattle.upload_service.specs.Kept.Parts.{joined_parts};
     ghost use Rattle.upload_service.specs.Kept.Hashes.{HoldsBy};
 
     ghost kept_by = { λ p hash. (by : By) (before : List ℕ) → HoldsBy by p.before.value before
-        → HoldsBy by hash (before ++ joined p.parts.value.items) };
+        → HoldsBy by hash (before ++ joined_parts p.parts.value.items) };
 }
 
 /// A thread that hashes. One that nobody joins runs to its end, and lets go of its parts there.
@@ -54,7 +54,7 @@ pub enum Running {
 impl Running {
     /// A hash of nothing by this algorithm.
     pub fn new(algorithm: Algorithm) -> Running
-        ensures { Holds algorithm result [] }
+        ensures { RunningHolds algorithm result [] }
     {
         Running::Here(EitherHash::new(algorithm))
     }
@@ -77,7 +77,8 @@ impl Running {
 
     /// The hash, once its thread has ended.
     pub fn come_home<R: Threads>(self, rt: &R) -> EitherHash
-        ensures { (by : By) (bytes : List ℕ) → Holds by self bytes → HoldsBy by result bytes }
+        ensures { (by : By) (bytes : List ℕ) → RunningHolds by self bytes
+            → HoldsBy by result bytes }
     {
         match self {
             Running::Here(hash) => hash,
@@ -91,8 +92,8 @@ impl Running {
     /// Takes parts in, in a thread if that is worth it. What is taken in already is waited for. If there is no memory
     /// for a thread, or none can be made, the parts are taken in here.
     pub fn go_on<R: Threads>(self, rt: &R, alloc: Global, parts: &[Part]) -> Running
-        ensures { (by : By) (bytes : List ℕ) → Holds by self bytes
-            → Holds by result (bytes ++ joined parts.now) }
+        ensures { (by : By) (bytes : List ℕ) → RunningHolds by self bytes
+            → RunningHolds by result (bytes ++ joined_parts parts.now) }
     {
         let mut hash = self.come_home(rt);
         if size_of(parts) >= WORTH_A_THREAD {
@@ -128,7 +129,7 @@ fn share_all(alloc: Global, parts: &[Part]) -> Result<Vec<Part>, AllocError>
 /// Starts a thread that takes parts in.
 fn hash_beside<R: Threads>(rt: &R, alloc: Global, hash: EitherHash, parts: Vec<Part>) -> Running
     ensures { (by : By) (bytes : List ℕ) → HoldsBy by hash bytes
-        → Holds by result (bytes ++ joined parts.items) }
+        → RunningHolds by result (bytes ++ joined_parts parts.items) }
 {
     let Ok((end, told)) = ends(alloc) else {
         return Running::Here(with_parts(hash, parts));
@@ -154,7 +155,7 @@ fn ends(alloc: Global) -> Result<(HashEnd, HashEnd), AllocError> {
 /// What the thread does.
 fn hash_there(hash: EitherHash, parts: Vec<Part>, end: HashEnd) -> EitherHash
     ensures { (by : By) (before : List ℕ) → HoldsBy by hash before
-        → HoldsBy by result (before ++ joined parts.items) }
+        → HoldsBy by result (before ++ joined_parts parts.items) }
 {
     let hash = with_parts(hash, parts);
     end.tell();
@@ -164,7 +165,7 @@ fn hash_there(hash: EitherHash, parts: Vec<Part>, end: HashEnd) -> EitherHash
 /// The hash with these parts taken in. The parts are let go.
 fn with_parts(hash: EitherHash, parts: Vec<Part>) -> EitherHash
     ensures { (by : By) (before : List ℕ) → HoldsBy by hash before
-        → HoldsBy by result (before ++ joined parts.items) }
+        → HoldsBy by result (before ++ joined_parts parts.items) }
 {
     let mut hash = hash;
     hash.take_in(parts.as_slice());

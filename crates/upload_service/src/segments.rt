@@ -2,7 +2,7 @@
 //! into one segment, so that a session which is fed a byte at a time takes little more than its bytes.
 ghost use Rattle.std.specs.Prelude.{◌≡◌, ◌+◌, ◌<◌, ◌≤◌, ◌^◌, ◌++◌, ◌∷◌, [], ℕ, List, length, take, vec_len};
 ghost use Rattle.std.specs.Prelude.{vec_capacity, IfOk, OnOk, OnErr};
-ghost use Rattle.upload_service.specs.Kept.Parts.{joined, with_part, whole};
+ghost use Rattle.upload_service.specs.Kept.Parts.{joined_parts, with_part, whole};
 
 use crate::shared::Part;
 use std::alloc::{AllocError, Global};
@@ -134,8 +134,8 @@ fn roll_over(
     body: Bytes,
 ) -> Result<(), AllocError>
     requires { vec_len settled.old + 2 ≤ vec_capacity settled.old }
-    ensures more { OnOk result (joined settled.new.items ++ tail.new.items
-        ≡ joined settled.old.items ++ tail.old.items ++ body) }
+    ensures more { OnOk result (joined_parts settled.new.items ++ tail.new.items
+        ≡ joined_parts settled.old.items ++ tail.old.items ++ body) }
     ensures front { OnOk result
         (take (length settled.old.items) settled.new.items ≡ settled.old.items) }
     ensures longer { OnOk result (length settled.old.items ≤ length settled.new.items) }

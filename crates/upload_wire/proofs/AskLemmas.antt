@@ -13,7 +13,7 @@ use Rattle.upload_service.specs.declared.ask.Extent.{Extent}
 use Rattle.upload_wire.specs.declared.asks.HeadAsk.{HeadAsk}
 use Rattle.upload_wire.specs.declared.asks.Method.{Method}
 use Rattle.upload_wire.specs.declared.target.PathForm.{PathForm}
-use Rattle.upload_wire.specs.Target.{IsFormOf, named, method_of, ask_of_form, AsksAt, Asks}
+use Rattle.upload_wire.specs.Target.{IsFormOf, named, method_of, ask_of_form, AsksAt, HeadAsks}
 
 pub named_none : (text : List ℕ) → (IsName text → ⊥) → None ≡ named text
 named_none text differs =
@@ -37,7 +37,8 @@ copied_or (Some query) copied none result same is empty = ap (λ b. b.now) is �
 
 pub by_uri : (method target path query : List ℕ) (verb : Method) (range : Extent) (uri : Uri)
     (r : Result HeadAsk AllocError) → Spells target uri → path ≡ uri_path uri → verb ≡ method_of method
-    → query ≡ unwrap_or (uri_query uri) [] → IfOk r (AsksAt path verb query range) → IfOk r (Asks method target range)
+    → query ≡ unwrap_or (uri_query uri) [] → IfOk r (AsksAt path verb query range)
+    → IfOk r (HeadAsks method target range)
 by_uri method target path query verb range uri (Ok ask) spells same_path same_method same_query asks =
     inr (
       uri,

@@ -21,9 +21,11 @@ use Rattle.upload_wire.specs.ReplyText.{reply}
 use Rattle.http_wire.specs.States.{SourceState, SinkState}
 use Rattle.http_wire.specs.Reading.{Gives}
 use Rattle.http_wire.specs.Writing.{TookAll}
-use Rattle.upload_wire.specs.Conversation.{Moves, Exchange, IsKept, messages, replies, Answers, HandedOn, HandedOnEach}
-use Rattle.upload_wire.specs.Conversation.{Serves, AnswersNext, Standing, stand, EndsWith, ReadsFail, IsConversation}
-use Rattle.upload_wire.specs.Inner.ConversationSteps.{Replies, RefusedWith, GoesOn, Stops}
+use Rattle.upload_wire.specs.Conversation.{Moves, WireExchange, IsKept, messages, replies, Answers, HandedOn}
+use Rattle.upload_wire.specs.Conversation.{HandedOnEach}
+use Rattle.upload_wire.specs.Conversation.{AnswersEach, AnswersNext, Standing, stand, EndsWith, ReadsFail}
+use Rattle.upload_wire.specs.Conversation.{IsConversation}
+use Rattle.upload_wire.specs.Inner.ConversationSteps.{IsRepliedTo, RefusedWith, GoesOn, Stops}
 use Rattle.http_wire.proofs.GaveLemmas.{gives_none, gives_both}
 use Rattle.http_wire.proofs.WritingLemmas.{takes_none, took_both}
 
@@ -40,7 +42,7 @@ module _ {D : Type 0} (step : Moves D) (max count : ℕ) (held rest : List ℕ) 
     (at new : D) (mid : SinkState) (answer : Answer) (after : SinkState) where
   unfoldable pub one_more : (kept : List ℕ) (next : ℕ) → kept ≡ rest → next ≡ count + 1 → (r : Option ConnEnd)
       → ReadsNext max held first rest left (Ok (Request ask style)) → left.failed_reads ≡ first.failed_reads
-      → step at ask (Some answer) new → Replies count answer style mid after r → r ≡ None
+      → step at ask (Some answer) new → IsRepliedTo count answer style mid after r → r ≡ None
       → GoesOn step max (stand count held first at mid) (stand next kept left new after)
   one_more kept next stays one None n same answered a e = record {
     given = n.given;
@@ -57,7 +59,7 @@ module _ {D : Type 0} (step : Moves D) (max count : ℕ) (held rest : List ℕ) 
   one_more kept next stays one (Some x) n same answered a e = absurd (cc)
 
   -- the exchange that ended the connection
-  abbrev last_exchange : ReadsNext max held first rest left (Ok (Request ask style)) → Exchange
+  abbrev last_exchange : ReadsNext max held first rest left (Ok (Request ask style)) → WireExchange
   last_exchange n = record { message = n.found.message; ask = ask; style = style; answer = answer }
 
   pub answers_next : (n : ReadsNext max held first rest left (Ok (Request ask style))) → step at ask (Some answer) new
@@ -66,7 +68,8 @@ module _ {D : Type 0} (step : Moves D) (max count : ℕ) (held rest : List ℕ) 
 
   unfoldable pub one_last : (kept : List ℕ) (next : ℕ) (r : Option ConnEnd)
       → ReadsNext max held first rest left (Ok (Request ask style))
-      → left.failed_reads ≡ first.failed_reads → step at ask (Some answer) new → Replies count answer style mid after r
+      → left.failed_reads ≡ first.failed_reads → step at ask (Some answer) new
+      → IsRepliedTo count answer style mid after r
       → IfSome r (Stops step max (stand count held first at mid) (stand next kept left new after))
   one_last kept next None n same answered a = tt
   one_last kept next (Some Clean) n same answered a = absurd a
@@ -121,26 +124,27 @@ after_refusal step max old new rest why DeskGone n same unasked h = absurd h
 
 -- ---- many
 
-pub answers_more : {D : Type 0} (step : Moves D) (old mid new : D) (xs : List Exchange) (x : Exchange)
+pub answers_more : {D : Type 0} (step : Moves D) (old mid new : D) (xs : List WireExchange) (x : WireExchange)
     → Answers step old xs mid → step mid x.ask (Some x.answer) new → Answers step old (xs ++ x ∷ []) new
 answers_more step old mid new [] x h k = (new, subst (λ d. step d x.ask (Some x.answer) new) (sym h) k, refl)
 answers_more step old mid new (y ∷ xs) x h k = (h.0, h.1, answers_more step h.0 mid new xs x h.2 k)
 
-pub handed_on_more : (old mid new : SinkState) (xs : List Exchange) (x : Exchange) → HandedOnEach old xs mid
+pub handed_on_more : (old mid new : SinkState) (xs : List WireExchange) (x : WireExchange) → HandedOnEach old xs mid
     → HandedOn mid new (reply x.answer x.style) → HandedOnEach old (xs ++ x ∷ []) new
 handed_on_more old mid new [] x h k = (new, subst (λ s. HandedOn s new (reply x.answer x.style)) (sym h) k, refl)
 handed_on_more old mid new (y ∷ xs) x h k = (h.0, h.1, handed_on_more h.0 mid new xs x h.2 k)
 
-pub kept_more : (max : ℕ) (xs : List Exchange) (x : Exchange) → AllByRecursion (IsKept max) xs → IsKept max x
+pub kept_more : (max : ℕ) (xs : List WireExchange) (x : WireExchange) → AllByRecursion (IsKept max) xs → IsKept max x
     → AllByRecursion (IsKept max) (xs ++ x ∷ [])
 kept_more max [] x h k = (k, tt)
 kept_more max (y ∷ xs) x h k = (h.0, kept_more max xs x h.1 k)
 
-pub messages_more : (xs : List Exchange) (x : Exchange) → messages (xs ++ x ∷ []) ≡ messages xs ++ x.message
+pub messages_more : (xs : List WireExchange) (x : WireExchange) → messages (xs ++ x ∷ []) ≡ messages xs ++ x.message
 messages_more xs x =
     flat_map-append (λ x. x.message) xs (x ∷ []) ∙ ap (λ t. messages xs ++ t) (append-nil x.message)
 
-pub replies_more : (xs : List Exchange) (x : Exchange) → replies (xs ++ x ∷ []) ≡ replies xs ++ reply x.answer x.style
+pub replies_more : (xs : List WireExchange) (x : WireExchange)
+    → replies (xs ++ x ∷ []) ≡ replies xs ++ reply x.answer x.style
 replies_more xs x =
     flat_map-append (λ x. reply x.answer x.style) xs (x ∷ [])
     ∙ ap (λ t. replies xs ++ t) (append-nil (reply x.answer x.style))
@@ -150,9 +154,9 @@ pub record SoFar {D : Type 0} (step : Moves D) (max : ℕ) (begun now : Standing
   pub given : List ℕ
   pub gives : Gives begun.source now.source given
   pub unfailed : now.source.failed_reads ≡ begun.source.failed_reads
-  pub exchanges : List Exchange
+  pub exchanges : List WireExchange
   pub counted : length exchanges ≡ now.answered
-  pub served : Serves step max begun.desk now.desk given now.held begun.sink now.sink exchanges
+  pub served : AnswersEach step max begun.desk now.desk given now.held begun.sink now.sink exchanges
 
 unfoldable pub starts : {D : Type 0} (step : Moves D) (max : ℕ) (before : ℕ) (left : List ℕ)
     (source : SourceState) (desk : D) (sink : SinkState) (held : List ℕ) (answered : ℕ) → held ≡ [] → answered ≡ 0

@@ -21,12 +21,12 @@ use Rattle.upload_wire.specs.declared.connection.ConnFault.TheVariants as Conn
 use Rattle.upload_wire.specs.RequestText.{IsBad, IsRequest}
 use Rattle.http_wire.specs.States.{SourceState, SinkState}
 use Rattle.http_wire.specs.Writing.{TookAll}
-use Rattle.upload_wire.specs.Conversation.{Moves, Exchange, IsKept, IsRead, messages, replies, last_reply, Answers}
+use Rattle.upload_wire.specs.Conversation.{Moves, WireExchange, IsKept, IsRead, messages, replies, last_reply, Answers}
 use Rattle.upload_wire.specs.Conversation.{EndsWith, AnswersNext, FindsNoDesk, max_requests, stand}
 use Rattle.http_wire.specs.HeadText.{bad as bad_reply}
 use Rattle.upload_wire.specs.ConnectionRuns.{answered_last}
-use Rattle.upload_wire.specs.Unambiguous.{RequestParse, request, bad, cut, nothing, ParsesAs}
-use Rattle.upload_wire.specs.Determined.{Dialogue, all_answered, asked, IsUndecided, IsDecided, IsDeterministic}
+use Rattle.upload_wire.specs.Unambiguous.{RequestParse, request, bad, cut, nothing, ParsesAsRequest}
+use Rattle.upload_wire.specs.Determined.{Dialogue, answered_in_dialogue, asked, IsUndecided, IsDecided, IsDeterministic}
 use Rattle.upload_wire.specs.Determined.{HasMemory, AskTheSame, AreTheSame, ConversationsAreDetermined}
 use Rattle.http_wire.proofs.WritingLemmas.{took_both}
 use Rattle.upload_wire.proofs.ConversationLemmas.{took_none}
@@ -70,33 +70,33 @@ same_request max a b s t m n r q x y e =
     }
 
 -- what is parsed as something else is no request
-not_request : (max : ℕ) (rest : List ℕ) (p : RequestParse) (y : Exchange) (more : List ℕ) → ParsesAs max rest p
-    → p ≢ bad Head → ((ask : Ask) (style : Style) (r : List ℕ) → p ≢ request ask style r) → rest ≡ y.message ++ more
-    → IsKept max y → ⊥
+not_request : (max : ℕ) (rest : List ℕ) (p : RequestParse) (y : WireExchange) (more : List ℕ)
+    → ParsesAsRequest max rest p → p ≢ bad Head → ((ask : Ask) (style : Style) (r : List ℕ) → p ≢ request ask style r)
+    → rest ≡ y.message ++ more → IsKept max y → ⊥
 not_request max rest p y more x other never read kept =
     never y.ask y.style more
     (requests_are_unambiguous.one max rest p (request y.ask y.style more) x
     (record { message = y.message; cut = read; request = kept.0 })
     other (no_head y.ask y.style more))
 
-asked_same : (max : ℕ) (x y : Exchange) (r q : List ℕ) → IsRead max x → IsRead max y → x.message ++ r ≡ y.message ++ q
-    → (asked x ≡ asked y) × (r ≡ q)
+asked_same : (max : ℕ) (x y : WireExchange) (r q : List ℕ) → IsRead max x → IsRead max y
+    → x.message ++ r ≡ y.message ++ q → (asked x ≡ asked y) × (r ≡ q)
 asked_same max x y r q is other e =
     let s = same_request max x.ask y.ask x.style y.style x.message y.message r q is other e in
     (λ i. record { message = s.message i; ask = s.ask i; style = s.style i }, s.rest)
 
 -- the requests go on behind the first of them with one that keeps the connection
-record GoesOn (max : ℕ) (rest : List ℕ) (xs ys : List Exchange) : Type 0 where
-  front : List Exchange
-  next : Exchange
-  behind : List Exchange
+record GoesOn (max : ℕ) (rest : List ℕ) (xs ys : List WireExchange) : Type 0 where
+  front : List WireExchange
+  next : WireExchange
+  behind : List WireExchange
   more : List ℕ
   split : ys ≡ front ++ next ∷ behind
   same : map asked xs ≡ map asked front
   read : rest ≡ next.message ++ more
   kept : IsKept max next
 
-one_more : (max : ℕ) (rest : List ℕ) (x y : Exchange) (xs ys : List Exchange) → asked x ≡ asked y
+one_more : (max : ℕ) (rest : List ℕ) (x y : WireExchange) (xs ys : List WireExchange) → asked x ≡ asked y
     → GoesOn max rest xs ys → GoesOn max rest (x ∷ xs) (y ∷ ys)
 one_more max rest x y xs ys e g = record {
   front = y ∷ g.front;
@@ -110,17 +110,17 @@ one_more max rest x y xs ys e g = record {
 }
 
 -- two readings of the same bytes as requests in a row
-abbrev Compare : ℕ → List ℕ → List ℕ → List Exchange → List Exchange → Type 0
+abbrev Compare : ℕ → List ℕ → List ℕ → List WireExchange → List WireExchange → Type 0
 Compare max r q xs ys = ((map asked xs ≡ map asked ys) × (r ≡ q)) ⊎ (GoesOn max r xs ys ⊎ GoesOn max q ys xs)
 
-compare_more : (max : ℕ) (r q : List ℕ) (x y : Exchange) (xs ys : List Exchange) → asked x ≡ asked y
+compare_more : (max : ℕ) (r q : List ℕ) (x y : WireExchange) (xs ys : List WireExchange) → asked x ≡ asked y
     → Compare max r q xs ys → Compare max r q (x ∷ xs) (y ∷ ys)
 compare_more max r q x y xs ys e (inl s) = inl (λ i. e i ∷ s.0 i, s.1)
 compare_more max r q x y xs ys e (inr (inl g)) = inr (inl (one_more max r x y xs ys e g))
 compare_more max r q x y xs ys e (inr (inr g)) = inr (inr (one_more max q y x ys xs (sym e) g))
 
-begins : (max : ℕ) (r q : List ℕ) (y : Exchange) (ys : List Exchange) → r ≡ messages (y ∷ ys) ++ q → IsKept max y
-    → GoesOn max r [] (y ∷ ys)
+begins : (max : ℕ) (r q : List ℕ) (y : WireExchange) (ys : List WireExchange) → r ≡ messages (y ∷ ys) ++ q
+    → IsKept max y → GoesOn max r [] (y ∷ ys)
 begins max r q y ys e kept = record {
   front = [];
   next = y;
@@ -132,7 +132,7 @@ begins max r q y ys e kept = record {
   kept = kept;
 }
 
-compare : (max : ℕ) (r q : List ℕ) (xs ys : List Exchange) → AllByRecursion (IsKept max) xs
+compare : (max : ℕ) (r q : List ℕ) (xs ys : List WireExchange) → AllByRecursion (IsKept max) xs
     → AllByRecursion (IsKept max) ys → messages xs ++ r ≡ messages ys ++ q → Compare max r q xs ys
 compare max r q [] [] kept other e = inl (refl, e)
 compare max r q [] (y ∷ ys) kept other e = inr (inl (begins max r q y ys e other.0))
@@ -145,9 +145,10 @@ compare max r q (x ∷ xs) (y ∷ ys) kept other e =
 -- ---- ends
 
 -- what stands where a conversation ended behind so many requests, what was answered of it, and what was written
-abbrev LastOf : {D : Type 0} → Moves D → ℕ → List ℕ → D → D → ConnEnd → RequestParse → List Exchange → List ℕ → Type 0
+abbrev LastOf : {D : Type 0} → Moves D → ℕ → List ℕ → D → D → ConnEnd → RequestParse → List WireExchange
+    → List ℕ → Type 0
 LastOf step count rest at new end (request ask style more) xs text =
-    ((x : Exchange) × (xs ≡ x ∷ []) × (x.ask ≡ ask) × (x.style ≡ style) × (rest ≡ x.message ++ more)
+    ((x : WireExchange) × (xs ≡ x ∷ []) × (x.ask ≡ ask) × (x.style ≡ style) × (rest ≡ x.message ++ more)
     × step at x.ask (Some x.answer) new
     × (text ≡ last_reply count x))
     ⊎ ((xs ≡ []) × step at ask None new × (end ≡ DeskGone) × (text ≡ []))
@@ -156,9 +157,9 @@ LastOf step count rest at new end cut xs text = (xs ≡ []) × (new ≡ at) × (
 LastOf step count rest at new end nothing xs text = (xs ≡ []) × (new ≡ at) × (text ≡ [])
 
 record Ends {D : Type 0} (step : Moves D) (max count : ℕ) (rest : List ℕ) (at new : D) (mid after : SinkState)
-    (end : ConnEnd) (xs : List Exchange) : Type 0 where
+    (end : ConnEnd) (xs : List WireExchange) : Type 0 where
   parse : RequestParse
-  parses : ParsesAs max rest parse
+  parses : ParsesAsRequest max rest parse
   no_bad_head : parse ≢ bad Head
   text : List ℕ
   last : LastOf step count rest at new end parse xs text
@@ -205,7 +206,7 @@ module _ {D : Type 0} (step : Moves D) (max count : ℕ) (at new : D) (rest : Li
   ends_wire Wire.NoMemory e decided = absurd (decided tt)
   ends_wire Wire.Ended e decided = absurd e.0
 
-  ends_answered : (end : ConnEnd) (x : Exchange) → AnswersNext step max at new rest x
+  ends_answered : (end : ConnEnd) (x : WireExchange) → AnswersNext step max at new rest x
       → TookAll mid after (last_reply count x) → Ends step max count rest at new mid after end (x ∷ [])
   ends_answered end x a took = record {
     parse = request x.ask x.style a.more;
@@ -253,7 +254,7 @@ module _ {D : Type 0} (step : Moves D) (max count : ℕ) (at new : D) (rest : Li
   -- gone
   goes_on : (end : ConnEnd) → EndsWith step max (stand count rest left at mid) new after end
       → ¬ (IsUndecided max rest end) → count + 1 < max_requests
-      → (end ≡ DeskGone → FindsNoDesk step max at new rest → ⊥) → (y : Exchange) (more : List ℕ)
+      → (end ≡ DeskGone → FindsNoDesk step max at new rest → ⊥) → (y : WireExchange) (more : List ℕ)
       → rest ≡ y.message ++ more → IsKept max y → ⊥
   goes_on Clean e decided few there y more read kept =
       not_request max rest nothing y more e.0 (λ s. absurd (cc)) (λ a s r same. absurd (cc)) read kept
@@ -281,7 +282,7 @@ module _ {D : Type 0} (step : Moves D) (max count : ℕ) (at new : D) (rest : Li
 
 -- the same stands there, and what was asked of it is the same
 last_asked : {D : Type 0} (step : Moves D) (count count2 : ℕ) (rest : List ℕ) (at new at2 new2 : D) (end end2 : ConnEnd)
-    (p : RequestParse) (xs ys : List Exchange)
+    (p : RequestParse) (xs ys : List WireExchange)
     (text text2 : List ℕ) → end ≢ DeskGone → end2 ≢ DeskGone → LastOf step count rest at new end p xs text
     → LastOf step count2 rest at2 new2 end2 p ys text2
     → map asked xs ≡ map asked ys
@@ -308,18 +309,18 @@ last_asked step count count2 rest at new at2 new2 end end2 nothing xs ys text te
 -- ends at one rest have one parse
 same_parse : {D : Type 0} (step : Moves D) (max count count2 : ℕ) (rest rest2 : List ℕ) (at new at2 new2 : D)
     (mid after mid2 after2 : SinkState) (end end2 : ConnEnd)
-    (xs ys : List Exchange) → rest ≡ rest2 → (a : Ends step max count rest at new mid after end xs)
+    (xs ys : List WireExchange) → rest ≡ rest2 → (a : Ends step max count rest at new mid after end xs)
     (b : Ends step max count2 rest2 at2 new2 mid2 after2 end2 ys)
     → LastOf step count2 rest at2 new2 end2 a.parse ys b.text
 same_parse step max count count2 rest rest2 at new at2 new2 mid after mid2 after2 end end2 xs ys e a b =
     let same =
-    requests_are_unambiguous.one max rest b.parse a.parse (subst (λ r. ParsesAs max r b.parse) (sym e) b.parses)
+    requests_are_unambiguous.one max rest b.parse a.parse (subst (λ r. ParsesAsRequest max r b.parse) (sym e) b.parses)
     a.parses b.no_bad_head a.no_bad_head in
     subst (λ p. LastOf step count2 rest at2 new2 end2 p ys b.text) same
     (subst (λ r. LastOf step count2 r at2 new2 end2 b.parse ys b.text) (sym e) b.last)
 
 -- how many come before one that goes on
-few_before : (max : ℕ) (rest : List ℕ) (xs ys : List Exchange) → GoesOn max rest xs ys → length ys < max_requests
+few_before : (max : ℕ) (rest : List ℕ) (xs ys : List WireExchange) → GoesOn max rest xs ys → length ys < max_requests
     → length xs + 1 < max_requests
 few_before max rest xs ys g few =
     let total = ap length g.split in
@@ -337,7 +338,7 @@ module _ {D : Type 0} (step : Moves D) (max : ℕ) where
       ends step max (length d.is.exchanges) d.is.at d.new d.is.rest d.left d.is.mid d.after d.end d.is.ended decided
 
   -- of two with one rest, the end of the other at what this one found
-  the_other : (d e : Dialogue step max) → d.is.rest ≡ e.is.rest → {xs ys : List Exchange}
+  the_other : (d e : Dialogue step max) → d.is.rest ≡ e.is.rest → {xs ys : List WireExchange}
       → (a : Ends step max (length d.is.exchanges) d.is.rest d.is.at d.new d.is.mid d.after d.end xs)
       (b : Ends step max (length e.is.exchanges) e.is.rest e.is.at e.new e.is.mid e.after e.end ys)
       → LastOf step (length e.is.exchanges) d.is.rest e.is.at e.new e.end a.parse ys b.text
@@ -382,11 +383,11 @@ module _ {D : Type 0} (step : Moves D) (max : ℕ) where
 
 -- ---- what is answered
 
-memory_left : (xs ys : List Exchange) → HasMemory (xs ++ ys) → HasMemory xs
+memory_left : (xs ys : List WireExchange) → HasMemory (xs ++ ys) → HasMemory xs
 memory_left [] ys h = tt
 memory_left (x ∷ xs) ys h = (h.0, memory_left xs ys h.1)
 
-memory_right : (xs ys : List Exchange) → HasMemory (xs ++ ys) → HasMemory ys
+memory_right : (xs ys : List WireExchange) → HasMemory (xs ++ ys) → HasMemory ys
 memory_right [] ys h = h
 memory_right (x ∷ xs) ys h = memory_right xs ys h.1
 
@@ -398,7 +399,7 @@ none_is_enough e = some_not_none NoMemory (sym e)
 
 module _ {D : Type 0} (step : Moves D) (det : IsDeterministic step) where
   -- the same was asked of one state, so the same was answered
-  same_answers : (old old2 at at2 : D) (xs ys : List Exchange) → HasMemory xs → HasMemory ys → old ≡ old2
+  same_answers : (old old2 at at2 : D) (xs ys : List WireExchange) → HasMemory xs → HasMemory ys → old ≡ old2
       → map asked xs ≡ map asked ys → Answers step old xs at → Answers step old2 ys at2 → (xs ≡ ys) × (at ≡ at2)
   same_answers old old2 at at2 [] [] m n e same x y = (refl, sym x ∙ e ∙ y)
   same_answers old old2 at at2 [] (b ∷ ys) m n e same x y = absurd (let l = ap length same in omega (arith, l))
@@ -416,7 +417,8 @@ module _ {D : Type 0} (step : Moves D) (det : IsDeterministic step) where
         next.1,
       )
 
-  answers_split : (old at : D) (front behind : List Exchange) (y : Exchange) → Answers step old (front ++ y ∷ behind) at
+  answers_split : (old at : D) (front behind : List WireExchange) (y : WireExchange)
+      → Answers step old (front ++ y ∷ behind) at
       → (mid : D) × (next : D) × Answers step old front mid × step mid y.ask (Some y.answer) next
   answers_split old at [] behind y h = (old, h.0, refl, h.1)
   answers_split old at (x ∷ front) behind y h =
@@ -424,11 +426,11 @@ module _ {D : Type 0} (step : Moves D) (det : IsDeterministic step) where
       (more.0, more.1, (h.0, h.1, more.2), more.3)
 
   -- what was answered last, how that left the desk, and what was written of it
-  abbrev LastSame : D → D → List Exchange → List Exchange → List ℕ → List ℕ → Type 0
+  abbrev LastSame : D → D → List WireExchange → List WireExchange → List ℕ → List ℕ → Type 0
   LastSame new new2 xs ys text text2 = (xs ≡ ys) × (new ≡ new2) × (text ≡ text2)
 
   last_same : (count count2 : ℕ) (rest : List ℕ) (at new at2 new2 : D) (end end2 : ConnEnd) (p : RequestParse)
-      (xs ys : List Exchange) (text text2 : List ℕ) → HasMemory xs → HasMemory ys → count ≡ count2
+      (xs ys : List WireExchange) (text text2 : List ℕ) → HasMemory xs → HasMemory ys → count ≡ count2
       → at ≡ at2 → LastOf step count rest at new end p xs text → LastOf step count2 rest at2 new2 end2 p ys text2
       → LastSame new new2 xs ys text text2
   last_same count count2 rest at new at2 new2 end end2 (request ask style more) xs ys text text2 m n c e
@@ -488,8 +490,8 @@ module _ {D : Type 0} (step : Moves D) (det : IsDeterministic step) where
       some_not_none g.next.answer (sym once.0)
 
   are_the_same : (max : ℕ) (d e : Dialogue step max) → d.is.bytes ≡ e.is.bytes → IsDecided step max d
-      → IsDecided step max e → d.old ≡ e.old → HasMemory (all_answered step max d) → HasMemory (all_answered step max e)
-      → AreTheSame step max d e
+      → IsDecided step max e → d.old ≡ e.old → HasMemory (answered_in_dialogue step max d)
+      → HasMemory (answered_in_dialogue step max e) → AreTheSame step max d e
   are_the_same max d e same decided decided2 from m n = by (compared step max d e same)
     where
       m_served : HasMemory d.is.exchanges

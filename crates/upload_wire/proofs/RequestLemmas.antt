@@ -10,7 +10,7 @@ use Rattle.upload_service.specs.declared.ask.Extent.{Extent}
 use Rattle.http_wire.specs.Fronts.{ReadsHead, requests}
 use Rattle.http_wire.specs.Fields.{head_fields, values_of, keeps_connection}
 use Rattle.http_wire.specs.Body.{framing_of, head_framing}
-use Rattle.upload_wire.specs.Target.{Asks, AsksWhole, extent_of, head_range, with_body}
+use Rattle.upload_wire.specs.Target.{HeadAsks, AsksWhole, extent_of, head_range, with_body}
 use Rattle.http_wire.specs.Inner.HeadSpans.{request_spans}
 use Rattle.http_wire.specs.States.{SourceState}
 use Rattle.http_wire.specs.Reading.{Gave}
@@ -95,11 +95,11 @@ asks_same max text body p d f says =
     let front : List ℕ = take p.spans.len text in
     let range : extent_of (values_of (codes "content-range") (fields_of request_spans front p)) ≡ head_range h =
     ap (λ fields. extent_of (values_of (codes "content-range") fields)) (fields_same text p f) in
-    let by_range : Asks (span_bytes front p.spans.method) (span_bytes front p.spans.path) (head_range h) d.ask =
-    subst (λ r. Asks (span_bytes front p.spans.method) (span_bytes front p.spans.path) r d.ask) range says.asks in
-    let by_target : Asks (span_bytes front p.spans.method) h.target (head_range h) d.ask =
-    subst (λ t. Asks (span_bytes front p.spans.method) t (head_range h) d.ask) f.head.1.1.path by_range in
-    (d.ask, subst (λ m. Asks m h.target (head_range h) d.ask) f.head.1.1.method by_target, refl)
+    let by_range : HeadAsks (span_bytes front p.spans.method) (span_bytes front p.spans.path) (head_range h) d.ask =
+    subst (λ r. HeadAsks (span_bytes front p.spans.method) (span_bytes front p.spans.path) r d.ask) range says.asks in
+    let by_target : HeadAsks (span_bytes front p.spans.method) h.target (head_range h) d.ask =
+    subst (λ t. HeadAsks (span_bytes front p.spans.method) t (head_range h) d.ask) f.head.1.1.path by_range in
+    (d.ask, subst (λ m. HeadAsks m h.target (head_range h) d.ask) f.head.1.1.method by_target, refl)
 
 style_same : (max : ℕ) (text : List ℕ) (p : ParsedRequest) (d : Described) (f : IsHeadAtFront request_spans text p)
     → DescribesAll max (take p.spans.len text) p d → d.style ≡ style_of (the_head f)
@@ -243,16 +243,16 @@ reads_after max held text rest old mid new r gave next = record {
 pub described : (max : ℕ) (front : List ℕ) (p : ParsedRequest) (d : Described) (method target : List ℕ) (range : Extent)
     → method ≡ span_bytes front p.spans.method → target ≡ span_bytes front p.spans.path
     → range ≡ extent_of (values_of (codes "content-range") (fields_of request_spans front p))
-    → Asks method target range d.ask → d.style.head ≡ bytes_eq method (codes "HEAD")
+    → HeadAsks method target range d.ask → d.style.head ≡ bytes_eq method (codes "HEAD")
     → d.style.keep ≡ keeps_connection p.spans.version (fields_of request_spans front p)
     → Ok d.framing ≡ framing_of max p.spans.version (fields_of request_spans front p) → DescribesAll max front p d
 described max front p d method target range m t r asks is_head keeps framed = record {
   asks =
-      subst (λ x. Asks x (span_bytes front p.spans.path)
+      subst (λ x. HeadAsks x (span_bytes front p.spans.path)
       (extent_of (values_of (codes "content-range") (fields_of request_spans front p))) d.ask) m
       (subst
-      (λ x. Asks method x (extent_of (values_of (codes "content-range") (fields_of request_spans front p))) d.ask) t
-      (subst (λ x. Asks method target x d.ask) r asks));
+      (λ x. HeadAsks method x (extent_of (values_of (codes "content-range") (fields_of request_spans front p))) d.ask) t
+      (subst (λ x. HeadAsks method target x d.ask) r asks));
   is_head = is_head ∙ ap (λ x. bytes_eq x (codes "HEAD")) m;
   keeps = keeps;
   framed = sym framed;

@@ -10,7 +10,7 @@ use Rattle.upload_wire.specs.declared.connection.ConnEnd.TheVariants.{Fault}
 use Rattle.upload_wire.specs.declared.connection.ConnFault.TheVariants as Conn
 use Rattle.upload_wire.specs.declared.desk.ServiceDesk.{ServiceDesk}
 use Rattle.http_wire.specs.States.{SourceState, SinkState}
-use Rattle.upload_wire.specs.Conversation.{Exchange, Answers, EndsWith, IsConversation, stand}
+use Rattle.upload_wire.specs.Conversation.{WireExchange, Answers, EndsWith, IsConversation, stand}
 use Rattle.upload_wire.specs.ServiceTurns.{StepsService}
 use Rattle.upload_wire.specs.ConnectionRuns.{service_exchange, answered_last, answered, IsRunOfService}
 use Rattle.upload_wire.proofs.ConversationLemmas.{answers_more}
@@ -22,19 +22,19 @@ never_none : {A : Type 0} (said : A) → ◌≡◌ {A = Option A} None (Some sai
 never_none said same = cc
 
 -- what the steps of the desk come to
-record Ran (old new : ServiceDesk) (xs : List Exchange) : Type 0 where
+record Ran (old new : ServiceDesk) (xs : List WireExchange) : Type 0 where
   run : Run old.service (map (service_exchange old.secret old.now) xs) new.service
   same_secret : new.secret ≡ old.secret
   same_moment : new.now ≡ old.now
 
-with_secret : (from into : ServiceDesk) (xs : List Exchange) (new : ServiceDesk) → into.secret ≡ from.secret
+with_secret : (from into : ServiceDesk) (xs : List WireExchange) (new : ServiceDesk) → into.secret ≡ from.secret
     → into.now ≡ from.now → Run into.service (map (service_exchange into.secret into.now) xs) new.service
     → Run into.service (map (service_exchange from.secret from.now) xs) new.service
 with_secret from into xs new secret moment run =
     subst (λ m. Run into.service (map (service_exchange from.secret m) xs) new.service) moment
     (subst (λ s. Run into.service (map (service_exchange s into.now) xs) new.service) secret run)
 
-ran : (old new : ServiceDesk) (xs : List Exchange) → Answers StepsService old xs new → Ran old new xs
+ran : (old new : ServiceDesk) (xs : List WireExchange) → Answers StepsService old xs new → Ran old new xs
 ran old new [] same = record {
   run = ap (λ d. d.service) (sym same);
   same_secret = ap (λ d. d.secret) (sym same);
@@ -54,14 +54,14 @@ ran old new (x ∷ xs) h =
       same_moment = more.same_moment ∙ step.same_moment;
     }
 
-run_of : (old new : ServiceDesk) (xs : List Exchange) (end : ConnEnd) → (end ≡ DeskGone → ⊥)
+run_of : (old new : ServiceDesk) (xs : List WireExchange) (end : ConnEnd) → (end ≡ DeskGone → ⊥)
     → Answers StepsService old xs new → IsRunOfService old new xs end
 run_of old new xs end there answers =
     let all = ran old new xs answers in
     record { run = all.run; same_secret = all.same_secret; same_moment = all.same_moment; never_gone = there }
 
 module _ (max_body count : ℕ) (old at new : ServiceDesk) (rest : List ℕ) (left : SourceState) (mid after : SinkState)
-    (xs : List Exchange)
+    (xs : List WireExchange)
     (answers : Answers StepsService old xs at) where
   -- nothing more was asked
   none_more : (end : ConnEnd) → (end ≡ DeskGone → ⊥) → new ≡ at → IsRunOfService old new (xs ++ []) end
@@ -70,7 +70,7 @@ module _ (max_body count : ℕ) (old at new : ServiceDesk) (rest : List ℕ) (le
       (subst (λ ys. Answers StepsService old ys new) (sym (append-nil xs))
       (subst (λ d. Answers StepsService old xs d) (sym same) answers))
 
-  one_more : (end : ConnEnd) (x : Exchange) → (end ≡ DeskGone → ⊥) → StepsService at x.ask (Some x.answer) new
+  one_more : (end : ConnEnd) (x : WireExchange) → (end ≡ DeskGone → ⊥) → StepsService at x.ask (Some x.answer) new
       → IsRunOfService old new (xs ++ x ∷ []) end
   one_more end x there step =
       run_of old new (xs ++ x ∷ []) end there (answers_more StepsService old at new xs x answers step)

@@ -29,12 +29,12 @@ use Rattle.upload_wire.specs.declared.connection.ConnEnd.TheVariants.{Clean, Aft
 use Rattle.upload_wire.specs.declared.connection.ConnEnd.TheVariants.{Fault}
 use Rattle.upload_wire.specs.declared.connection.ConnFault.TheVariants as Conn
 use Rattle.upload_wire.specs.RequestText.{IsRequest, IsBad, ReadsNext, FindsNext}
-use Rattle.upload_wire.specs.Conversation.{Moves, Exchange, Standing, stand, ReadsFail, WireStops}
+use Rattle.upload_wire.specs.Conversation.{Moves, WireExchange, Standing, stand, ReadsFail, WireStops}
 use Rattle.upload_wire.specs.Phases.{most_reads}
 use Rattle.upload_wire.specs.Events.{Event, Head, Unreadable, Replied, Telling, Hears}
 use Rattle.upload_wire.specs.Told.{HasLine, TellsExchange, TellsEach, TellsRefusal, TellsCut, TellsEnd, event_of, rules}
-use Rattle.upload_wire.specs.Told.{Rules, sides, Ending, HasEnded, IsTold}
-use Rattle.upload_wire.specs.Inner.ConversationSteps.{Replies, RefusedWith}
+use Rattle.upload_wire.specs.Told.{Rules, sides, Ending, EndsAs, IsTold}
+use Rattle.upload_wire.specs.Inner.ConversationSteps.{IsRepliedTo, RefusedWith}
 use Rattle.upload_wire.specs.Inner.ToldSteps.{listening, TellsNext, ReadsTold, Observed, observed, GoesOnTold}
 use Rattle.upload_wire.specs.Inner.ToldSteps.{StopsTold}
 use Rattle.upload_wire.proofs.RequestLemmas.{head_fault_next, reads_after}
@@ -173,7 +173,7 @@ module _ {D O : Type 0} (step : Moves D) (telling : Telling O) (max count : ℕ)
     unfolding both
     heard_both = hears_more telling was heard is n.events (event_of answer style ∷ []) n.told (is, replied, refl)
 
-    abbrev the_exchange : Exchange
+    abbrev the_exchange : WireExchange
     the_exchange = record { message = n.next.found.message; ask = ask; style = style; answer = answer }
 
     tells_both : TellsExchange the_exchange both
@@ -188,7 +188,7 @@ module _ {D O : Type 0} (step : Moves D) (telling : Telling O) (max count : ℕ)
     }
 
     pub one_more_told : (kept : List ℕ) (next : ℕ) → kept ≡ rest → next ≡ count + 1 → (r : Option ConnEnd)
-        → Replies count answer style mid after r → r ≡ None → GoesOnTold (rules step telling
+        → IsRepliedTo count answer style mid after r → r ≡ None → GoesOnTold (rules step telling
         max) (observed (stand count held first at mid) was) (observed (stand next kept left new after) is)
     unfolding one_more
     one_more_told kept next stays one None a e = record {
@@ -201,7 +201,7 @@ module _ {D O : Type 0} (step : Moves D) (telling : Telling O) (max count : ℕ)
     }
     one_more_told kept next stays one (Some x) a e = absurd (cc)
 
-    pub one_last_told : (kept : List ℕ) (next : ℕ) (r : Option ConnEnd) → Replies count answer style mid after r
+    pub one_last_told : (kept : List ℕ) (next : ℕ) (r : Option ConnEnd) → IsRepliedTo count answer style mid after r
         → IfSome r (StopsTold (rules step telling max) (observed (stand count held first at mid) was)
         (observed (stand next kept left new after) is))
     unfolding one_last
@@ -348,7 +348,7 @@ module _ {D O : Type 0} (step : Moves D) (telling : Telling O) (max count : ℕ)
 
 -- ---- many
 
-each_more : (xs : List Exchange) (x : Exchange) (es fs : List Event) → TellsEach xs es → TellsExchange x fs
+each_more : (xs : List WireExchange) (x : WireExchange) (es fs : List Event) → TellsEach xs es → TellsExchange x fs
     → TellsEach (xs ++ x ∷ []) (es ++ fs)
 each_more [] x es fs h k = (fs, [], k, refl, ap (λ l. l ++ fs) h ∙ sym (append-nil fs))
 each_more (y ∷ xs) x es fs h k =
@@ -405,9 +405,9 @@ unfolding ends
 ends_told {D} {O} step telling max limit begun now last end same s stopped =
     let n = subst (λ k. StopsTold (rules step telling k) now last end) same stopped in
     let k : ℕ → Ending D = λ count. ending_at step max now.standing last.standing n.stops.given count in
-    let e : (e : HasEnded (k (length s.so_far.exchanges)) end)
+    let e : (e : EndsAs (k (length s.so_far.exchanges)) end)
     × TellsEnd (k (length s.so_far.exchanges)) end e n.events =
-    subst (λ count. (e : HasEnded (k count) end) × TellsEnd (k count) end e n.events) (sym s.so_far.counted)
+    subst (λ count. (e : EndsAs (k count) end) × TellsEnd (k count) end e n.events) (sym s.so_far.counted)
     (n.stops.ended, n.tells) in
     record {
       conversation = ends step max begun.standing now.standing last.standing end s.so_far n.stops e.0;

@@ -21,7 +21,8 @@ use Rattle.http_wire.proofs.UnambiguousHeads.{requests_unambiguous}
 use Rattle.http_wire.proofs.UnambiguousBodies.{bodies_unambiguous}
 use Rattle.upload_wire.specs.Target.{AsksWhole}
 use Rattle.upload_wire.specs.RequestText.{style_of, IsBad, IsTruncated, ReadsOne}
-use Rattle.upload_wire.specs.Unambiguous.{RequestParse, request, bad, cut, nothing, ParsesAs, RequestsAreUnambiguous}
+use Rattle.upload_wire.specs.Unambiguous.{RequestParse, request, bad, cut, nothing, ParsesAsRequest}
+use Rattle.upload_wire.specs.Unambiguous.{RequestsAreUnambiguous}
 use Rattle.upload_wire.specs.declared.request.Style.{Style}
 use Rattle.upload_wire.proofs.UnambiguousTargets.{asks_whole_unique}
 
@@ -160,7 +161,8 @@ parsed_cut max text (inr x) = record {
 nothing_begins : front.IsUnfinished requests []
 nothing_begins = record { short = omega arith; none = none_at_start requests request_ends }
 
-parsed : (max : ℕ) (text : List ℕ) (p : RequestParse) → ParsesAs max text p → p ≢ bad bads.Head → Parsed max text p
+parsed : (max : ℕ) (text : List ℕ) (p : RequestParse) → ParsesAsRequest max text p → p ≢ bad bads.Head
+    → Parsed max text p
 parsed max text (request ask style rest) x other =
     let h = x.request.head in
     let r = x.request in
@@ -179,7 +181,7 @@ parsed max text nothing x other = record {
   from = inr (refl, x);
 }
 
-one_request : (max : ℕ) (text : List ℕ) (p q : RequestParse) → ParsesAs max text p → ParsesAs max text q
+one_request : (max : ℕ) (text : List ℕ) (p q : RequestParse) → ParsesAsRequest max text p → ParsesAsRequest max text q
     → p ≢ bad bads.Head → q ≢ bad bads.Head → p ≡ q
 one_request max text p q x y other another =
     let a = parsed max text p x other in

@@ -10,7 +10,7 @@ use Rattle.upload_service.specs.declared.ask.Ask.{Ask}
 use Rattle.upload_service.specs.declared.ask.Extent.{Extent}
 use Rattle.http_wire.proofs.HeadLemmas.{snoc_inj}
 use Rattle.upload_wire.specs.Target.{HasNoSlash, IsFormOf, method_of, named, blob_ask, uploads_ask, upload_ask}
-use Rattle.upload_wire.specs.Target.{ask_of_form, AsksAt, Asks, AsksWhole, with_body}
+use Rattle.upload_wire.specs.Target.{ask_of_form, AsksAt, HeadAsks, AsksWhole, with_body}
 use Rattle.upload_texts.specs.Paths.{blob_path, upload_path}
 use Rattle.upload_names.specs.Reference.{reference_of}
 use Rattle.upload_wire.specs.declared.asks.Method.{Method}
@@ -156,7 +156,7 @@ asks_at_unique path method query range asked other x y =
     x.2 ∙ form_unique path x.0 y.0 method query range x.1 y.1 ∙ sym y.2
 
 asks_unique : (method target : List ℕ) (range : Extent) (asked other : HeadAsk)
-    → Asks method target range asked → Asks method target range other → asked ≡ other
+    → HeadAsks method target range asked → HeadAsks method target range other → asked ≡ other
 asks_unique method target range asked other (inl x) (inl y) = x.1 ∙ sym y.1
 asks_unique method target range asked other (inl x) (inr y) = absurd (x.0 _ _ _ y.1)
 asks_unique method target range asked other (inr x) (inl y) = absurd (y.0 _ _ _ x.1)

@@ -4,7 +4,7 @@ use Rattle.upload_service.specs.declared.ask.Ask.{Ask}
 use Rattle.upload_service.specs.Run.{Run}
 use Rattle.upload_service.specs.Run as service
 use Rattle.http_wire.specs.States.{SourceState, SinkState}
-use Rattle.upload_wire.specs.Conversation.{Moves, Exchange, Standing, stand, EndsWith, IsConversation}
+use Rattle.upload_wire.specs.Conversation.{Moves, WireExchange, Standing, stand, EndsWith, IsConversation}
 use Rattle.upload_wire.specs.ServiceTurns.{StepsService}
 use Rattle.upload_wire.specs.declared.connection.ConnEnd.{ConnEnd}
 use Rattle.upload_wire.specs.declared.connection.ConnEnd.TheVariants.{Clean, AfterClose, AfterBad, TooMany, DeskGone}
@@ -17,7 +17,7 @@ use mathlib.Core.Logic.{⊎_elim}
 
 module _ {D : Type 0} (step : Moves D) (max_body : ℕ) (s : Standing D) (new : D) (after : SinkState) where
   -- the exchange inside an end: the request behind all others, where it was answered
-  abbrev pub answered_last : (end : ConnEnd) → EndsWith step max_body s new after end → List Exchange
+  abbrev pub answered_last : (end : ConnEnd) → EndsWith step max_body s new after end → List WireExchange
   answered_last Clean e = []
   answered_last AfterClose e = e.0 ∷ []
   answered_last AfterBad e = []
@@ -40,7 +40,7 @@ module _ {D : Type 0} (step : Moves D) (max_body : ℕ) (first left : SourceStat
     (before after : SinkState) (end : ConnEnd)
     (c : IsConversation step max_body first left old new before after end) where
   -- all requests that the desk answered, in their order, and the one that it didn't
-  abbrev pub answered : List Exchange
+  abbrev pub answered : List WireExchange
   answered =
       c.exchanges
       ++ answered_last step max_body (stand (length c.exchanges) c.rest left c.at c.mid) new after end c.ended
@@ -51,15 +51,15 @@ module _ {D : Type 0} (step : Moves D) (max_body : ℕ) (first left : SourceStat
 -- ---- over a service
 
 -- an exchange of a connection as one of the service, with this secret and at this moment
-abbrev pub service_exchange : List ℕ → ℕ → Exchange → service.Exchange
+abbrev pub service_exchange : List ℕ → ℕ → WireExchange → service.Exchange
 service_exchange secret now x = record { ask = x.ask; secret = secret; now = now; answer = x.answer }
 
-abbrev pub service_exchanges : ServiceDesk → List Exchange → List service.Exchange
+abbrev pub service_exchanges : ServiceDesk → List WireExchange → List service.Exchange
 service_exchanges desk xs = map (service_exchange desk.secret desk.now) xs
 
 -- The requests that were answered took the service from old to new, by one turn for each, all with the desk's secret
 -- and at its moment, and the desk was not gone.
-pub record IsRunOfService (old new : ServiceDesk) (exchanges : List Exchange) (end : ConnEnd) : Type 0 where
+pub record IsRunOfService (old new : ServiceDesk) (exchanges : List WireExchange) (end : ConnEnd) : Type 0 where
   pub run : Run old.service (service_exchanges old exchanges) new.service
   pub same_secret : new.secret ≡ old.secret
   pub same_moment : new.now ≡ old.now

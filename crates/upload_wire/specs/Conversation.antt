@@ -6,7 +6,7 @@ use Rattle.std.specs.List.{AllByRecursion}
 use Rattle.upload_service.specs.declared.ask.Ask.{Ask}
 use Rattle.upload_service.specs.declared.answer.Answer.{Answer}
 use Rattle.http_wire.specs.Counts.{CountsUp}
-use Rattle.upload_wire.specs.RequestText.{IsRequest, IsBad, IsTruncated, HoldsNone}
+use Rattle.upload_wire.specs.RequestText.{IsRequest, IsBad, IsTruncated, HoldsNoRequest}
 use Rattle.http_wire.specs.HeadText.{bad}
 use Rattle.upload_wire.specs.ReplyText.{reply}
 use Rattle.http_wire.specs.States.{SourceState, SinkState}
@@ -32,29 +32,29 @@ Moves D = D → Ask → Option Answer → D → Type 0
 -- ---- exchanges
 
 -- a request as it was read, what it asks, how it wants its reply, and what it was answered
-pub record Exchange : Type 0 where
+pub record WireExchange : Type 0 where
   pub message : List ℕ
   pub ask : Ask
   pub style : Style
   pub answer : Answer
 
 -- the message is the request
-abbrev pub IsRead : ℕ → Exchange → Type 0
+abbrev pub IsRead : ℕ → WireExchange → Type 0
 IsRead max_body x = IsRequest max_body x.message x.ask x.style
 
 -- and it wants the connection to go on
-abbrev pub IsKept : ℕ → Exchange → Type 0
+abbrev pub IsKept : ℕ → WireExchange → Type 0
 IsKept max_body x = IsRead max_body x × (x.style.keep ≡ true)
 
 -- what was read, and what was written
-abbrev pub messages : List Exchange → List ℕ
+abbrev pub messages : List WireExchange → List ℕ
 messages xs = flat_map (λ x. x.message) xs
 
-abbrev pub replies : List Exchange → List ℕ
+abbrev pub replies : List WireExchange → List ℕ
 replies xs = flat_map (λ x. reply x.answer x.style) xs
 
 -- the desk gave these answers, one after another
-abbrev pub Answers : {D : Type 0} → Moves D → D → List Exchange → D → Type 0
+abbrev pub Answers : {D : Type 0} → Moves D → D → List WireExchange → D → Type 0
 Answers step old [] new = old ≡ new
 Answers {D} step old (x ∷ xs) new = (mid : D) × step old x.ask (Some x.answer) mid × Answers step mid xs new
 
@@ -64,16 +64,16 @@ pub record HandedOn (old new : SinkState) (text : List ℕ) : Type 0 where
   pub flushed : IsTrue new.flushed
 
 -- each reply was written whole and handed on before the next was begun
-abbrev pub HandedOnEach : SinkState → List Exchange → SinkState → Type 0
+abbrev pub HandedOnEach : SinkState → List WireExchange → SinkState → Type 0
 HandedOnEach before [] mid = before ≡ mid
 HandedOnEach before (x ∷ xs) mid =
     (next : SinkState) × HandedOn before next (reply x.answer x.style) × HandedOnEach next xs mid
 
 -- The bytes are these requests and then rest; each request wanted the connection to go on, was answered by the desk,
 -- and its reply was written whole and handed on.
-pub record Serves
+pub record AnswersEach
     {D : Type 0} (step : Moves D) (max_body : ℕ) (old at : D) (bytes rest : List ℕ) (before mid : SinkState)
-    (xs : List Exchange)
+    (xs : List WireExchange)
     : Type 0 where
   pub few : length xs < max_requests
   pub read : bytes ≡ messages xs ++ rest
@@ -101,12 +101,12 @@ stand answered held source desk sink =
 abbrev pub last_style : ℕ → Style → Style
 last_style count style = record { head = style.head; keep = style.keep && not (count + 1 == max_requests) }
 
-abbrev pub last_reply : ℕ → Exchange → List ℕ
+abbrev pub last_reply : ℕ → WireExchange → List ℕ
 last_reply count x = reply x.answer (last_style count x.style)
 
 -- rest begins with the request, and the desk answered it
 pub record AnswersNext {D : Type 0} (step : Moves D) (max_body : ℕ) (at new : D) (rest : List ℕ)
-    (x : Exchange) : Type 0 where
+    (x : WireExchange) : Type 0 where
   pub more : List ℕ
   pub read : rest ≡ x.message ++ more
   pub request : IsRead max_body x
@@ -128,35 +128,36 @@ pub record Refuses {D : Type 0} (max_body : ℕ) (at new : D) (rest : List ℕ) 
   pub unasked : new ≡ at
 
 -- the desk wasn't asked, and the sink stands as it stood
-pub record IsQuiet {D : Type 0} (at new : D) (mid after : SinkState) : Type 0 where
+pub record StandsStill {D : Type 0} (at new : D) (mid after : SinkState) : Type 0 where
   pub unasked : new ≡ at
   pub unwritten : after ≡ mid
 
 -- why the reader gave no request: what the bytes say of it, and what the source does
 abbrev pub WireStops : ℕ → List ℕ → SourceState → WireFault → Type 0
 WireStops max_body rest left Wire.Truncated = IsTruncated max_body rest × HasEnded left
-WireStops max_body rest left Wire.Read = HoldsNone max_body rest
+WireStops max_body rest left Wire.Read = HoldsNoRequest max_body rest
 WireStops max_body rest left Wire.NoMemory = ⊤
 WireStops max_body rest left Wire.Ended = ⊥
 
 -- How a conversation ends that stands so, where what it holds is all that was read and not answered: the desk's new
 -- state, and the sink's.
 abbrev pub EndsWith : {D : Type 0} → Moves D → ℕ → Standing D → D → SinkState → ConnEnd → Type 0
-EndsWith step max_body s new after Clean = (s.held ≡ []) × HasEnded s.source × IsQuiet s.desk new s.sink after
+EndsWith step max_body s new after Clean = (s.held ≡ []) × HasEnded s.source × StandsStill s.desk new s.sink after
 EndsWith step max_body s new after AfterClose =
-    (x : Exchange) × AnswersNext step max_body s.desk new s.held x × (x.style.keep ≡ false)
+    (x : WireExchange) × AnswersNext step max_body s.desk new s.held x × (x.style.keep ≡ false)
     × HandedOn s.sink after (last_reply s.answered x)
 EndsWith step max_body s new after AfterBad =
     (why : Bad) × Refuses max_body s.desk new s.held why × HandedOn s.sink after (bad why)
 EndsWith step max_body s new after TooMany =
-    (x : Exchange) × AnswersNext step max_body s.desk new s.held x × (x.style.keep ≡ true)
+    (x : WireExchange) × AnswersNext step max_body s.desk new s.held x × (x.style.keep ≡ true)
     × (s.answered + 1 ≡ max_requests)
     × HandedOn s.sink after (last_reply s.answered x)
 EndsWith step max_body s new after DeskGone = FindsNoDesk step max_body s.desk new s.held × (after ≡ s.sink)
 EndsWith step max_body s new after (Fault (Conn.Wire fault)) =
-    WireStops max_body s.held s.source fault × IsQuiet s.desk new s.sink after
+    WireStops max_body s.held s.source fault × StandsStill s.desk new s.sink after
 EndsWith step max_body s new after (Fault Conn.Write) =
-    ((x : Exchange) × AnswersNext step max_body s.desk new s.held x × TookFront s.sink after (last_reply s.answered x))
+    ((x : WireExchange) × AnswersNext step max_body s.desk new s.held x
+    × TookFront s.sink after (last_reply s.answered x))
     ⊎ ((why : Bad) × Refuses max_body s.desk new s.held why × TookFront s.sink after (bad why))
 
 -- a read failed where the end says so, and nowhere else
@@ -174,9 +175,9 @@ pub record IsConversation
   pub bytes : List ℕ
   pub gives : Gives first left bytes
   pub reads : ReadsFail end first.failed_reads left.failed_reads
-  pub exchanges : List Exchange
+  pub exchanges : List WireExchange
   pub rest : List ℕ
   pub at : D
   pub mid : SinkState
-  pub served : Serves step max_body old at bytes rest before mid exchanges
+  pub served : AnswersEach step max_body old at bytes rest before mid exchanges
   pub ended : EndsWith step max_body (stand (length exchanges) rest left at mid) new after end

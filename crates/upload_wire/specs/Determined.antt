@@ -9,7 +9,7 @@ use Rattle.http_wire.specs.Writing.{TookAll}
 use Rattle.http_wire.specs.declared.fault.Bad.TheVariants.{Head}
 use Rattle.http_wire.specs.declared.fault.WireFault.TheVariants as Wire
 use Rattle.upload_wire.specs.RequestText.{IsBad}
-use Rattle.upload_wire.specs.Conversation.{Moves, Exchange, IsConversation}
+use Rattle.upload_wire.specs.Conversation.{Moves, WireExchange, IsConversation}
 use Rattle.upload_wire.specs.ConnectionRuns.{answered}
 use Rattle.upload_wire.specs.declared.request.Style.{Style}
 use Rattle.upload_wire.specs.declared.connection.ConnEnd.{ConnEnd}
@@ -28,16 +28,17 @@ pub record Dialogue {D : Type 0} (step : Moves D) (max_body : ℕ) : Type 0 wher
   pub is : IsConversation step max_body first left old new before after end
 
 -- all requests that were answered, the one inside the end among them
-abbrev pub all_answered : {D : Type 0} (step : Moves D) (max_body : ℕ) → Dialogue step max_body → List Exchange
-all_answered step max_body d = answered step max_body d.first d.left d.old d.new d.before d.after d.end d.is
+abbrev pub answered_in_dialogue : {D : Type 0} (step : Moves D) (max_body : ℕ) → Dialogue step max_body
+    → List WireExchange
+answered_in_dialogue step max_body d = answered step max_body d.first d.left d.old d.new d.before d.after d.end d.is
 
 -- a request as it was read, what it asks, and how it wants its reply
-pub record Asked : Type 0 where
+pub record ReadRequest : Type 0 where
   pub message : List ℕ
   pub ask : Ask
   pub style : Style
 
-abbrev pub asked : Exchange → Asked
+abbrev pub asked : WireExchange → ReadRequest
 asked x = record { message = x.message; ask = x.ask; style = x.style }
 
 -- An end that the bytes don't decide: memory was wanting, a write failed, or the head that stands there may be refused.
@@ -58,17 +59,17 @@ IsDeterministic {D} step =
     → answer ≢ Some NoMemory → other ≢ Some NoMemory → (answer ≡ other) × (new ≡ another)
 
 -- no answer was out of memory
-abbrev pub HasMemory : List Exchange → Type 0
+abbrev pub HasMemory : List WireExchange → Type 0
 HasMemory xs = AllByRecursion (λ x. x.answer ≢ NoMemory) xs
 
 -- the same was asked, and the same is left
 pub record AskTheSame {D : Type 0} (step : Moves D) (max_body : ℕ) (d e : Dialogue step max_body) : Type 0 where
-  pub requests : map asked (all_answered step max_body d) ≡ map asked (all_answered step max_body e)
+  pub requests : map asked (answered_in_dialogue step max_body d) ≡ map asked (answered_in_dialogue step max_body e)
   pub rest : d.is.rest ≡ e.is.rest
 
 -- and it was answered the same, the same was written, and the desk is left the same
 pub record AreTheSame {D : Type 0} (step : Moves D) (max_body : ℕ) (d e : Dialogue step max_body) : Type 0 where
-  pub exchanges : all_answered step max_body d ≡ all_answered step max_body e
+  pub exchanges : answered_in_dialogue step max_body d ≡ answered_in_dialogue step max_body e
   pub rest : d.is.rest ≡ e.is.rest
   pub desk : d.new ≡ e.new
   pub written : List ℕ
@@ -82,5 +83,6 @@ pub record ConversationsAreDetermined {D : Type 0} (step : Moves D) : Type 0 whe
   pub by_bytes : (max_body : ℕ) (d e : Dialogue step max_body) → d.is.bytes ≡ e.is.bytes → IsDecided step max_body d
       → IsDecided step max_body e → d.end ≢ DeskGone → e.end ≢ DeskGone → AskTheSame step max_body d e
   pub by_desk : (max_body : ℕ) (d e : Dialogue step max_body) → d.is.bytes ≡ e.is.bytes → IsDecided step max_body d
-      → IsDecided step max_body e → IsDeterministic step → d.old ≡ e.old → HasMemory (all_answered step max_body d)
-      → HasMemory (all_answered step max_body e) → AreTheSame step max_body d e
+      → IsDecided step max_body e → IsDeterministic step → d.old ≡ e.old
+      → HasMemory (answered_in_dialogue step max_body d) → HasMemory (answered_in_dialogue step max_body e)
+      → AreTheSame step max_body d e

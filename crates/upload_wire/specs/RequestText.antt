@@ -73,8 +73,8 @@ abbrev pub IsTruncated : ℕ → List ℕ → Type 0
 IsTruncated max_body text = IsCutHead requests text ⊎ HasCutBody max_body text
 
 -- the text holds no request: it is empty, or ends inside one
-abbrev pub HoldsNone : ℕ → List ℕ → Type 0
-HoldsNone max_body text = (text ≡ []) ⊎ IsTruncated max_body text
+abbrev pub HoldsNoRequest : ℕ → List ℕ → Type 0
+HoldsNoRequest max_body text = (text ≡ []) ⊎ IsTruncated max_body text
 
 -- the text is a request, and then rest
 pub record ReadsOne (max_body : ℕ) (text rest : List ℕ) (ask : Ask) (style : Style) : Type 0 where
@@ -88,7 +88,7 @@ FindsNext max_body text rest new (Ok (Request ask style)) = ReadsOne max_body te
 FindsNext max_body text rest new (Ok Over) = (text ≡ []) × (rest ≡ []) × HasEnded new
 FindsNext max_body text rest new (Ok (nexts.Bad why)) = IsBad max_body text why
 FindsNext max_body text rest new (Err Fault.Truncated) = IsTruncated max_body text × HasEnded new
-FindsNext max_body text rest new (Err Fault.Read) = HoldsNone max_body text
+FindsNext max_body text rest new (Err Fault.Read) = HoldsNoRequest max_body text
 FindsNext max_body text rest new (Err Fault.NoMemory) = ⊤
 FindsNext max_body text rest new (Err Fault.Ended) = ⊥
 

@@ -62,25 +62,25 @@ abbrev pub named : List ℕ → Option (List ℕ)
 named text = if is_name text then Some text else None
 
 -- a refusal, whatever the body
-abbrev pub refused : Refusal → HeadAsk
-refused refusal = Ready (Refused refusal)
+abbrev pub refused_by_head : Refusal → HeadAsk
+refused_by_head refusal = Ready (Refused refusal)
 
 -- GET and HEAD of the base path
 abbrev pub base_ask : Method → HeadAsk
 base_ask Get = Ready Base
 base_ask Head = Ready Base
-base_ask method = refused (refusals.Method Form.Base)
+base_ask method = refused_by_head (refusals.Method Form.Base)
 
 -- GET and HEAD of a blob
 abbrev pub has_ask : List ℕ → Bool → Option Digest → HeadAsk
-has_ask name head None = refused refusals.BadDigest
+has_ask name head None = refused_by_head refusals.BadDigest
 has_ask name head (Some digest) = Ready (Has name digest head)
 
 abbrev pub blob_ask : Option (List ℕ) → List ℕ → Method → HeadAsk
-blob_ask None tail method = refused refusals.BadName
+blob_ask None tail method = refused_by_head refusals.BadName
 blob_ask (Some name) tail Get = has_ask name false (digest_of tail)
 blob_ask (Some name) tail Head = has_ask name true (digest_of tail)
-blob_ask (Some name) tail method = refused (refusals.Method Form.Blob)
+blob_ask (Some name) tail method = refused_by_head (refusals.Method Form.Blob)
 
 -- a mount needs its digest and its source, and is an opening without them
 abbrev pub mount_ask : List ℕ → Option Digest → Option (List ℕ) → HeadAsk
@@ -100,16 +100,16 @@ post_ask name query (Some mount) =
     mount_ask name (digest_of mount) (option_and_then named (parameter (codes "from") query))
 
 abbrev pub uploads_ask : Option (List ℕ) → Method → List ℕ → HeadAsk
-uploads_ask None method query = refused refusals.BadName
+uploads_ask None method query = refused_by_head refusals.BadName
 uploads_ask (Some name) Post query = post_ask name query (parameter (codes "mount") query)
-uploads_ask (Some name) method query = refused (refusals.Method Form.Uploads)
+uploads_ask (Some name) method query = refused_by_head (refusals.Method Form.Uploads)
 
 -- GET, HEAD, PATCH and PUT of an upload
 abbrev pub upload_ask : Option (List ℕ) → Option (List ℕ) → Method → List ℕ → Extent → HeadAsk
-upload_ask None at method query range = refused refusals.BadName
-upload_ask (Some name) at Post query range = refused (refusals.Method Form.Upload)
-upload_ask (Some name) at Other query range = refused (refusals.Method Form.Upload)
-upload_ask (Some name) None method query range = refused refusals.NoUpload
+upload_ask None at method query range = refused_by_head refusals.BadName
+upload_ask (Some name) at Post query range = refused_by_head (refusals.Method Form.Upload)
+upload_ask (Some name) at Other query range = refused_by_head (refusals.Method Form.Upload)
+upload_ask (Some name) None method query range = refused_by_head refusals.NoUpload
 upload_ask (Some name) (Some at) Get query range = Ready (Status name at)
 upload_ask (Some name) (Some at) Head query range = Ready (Status name at)
 upload_ask (Some name) (Some at) Patch query range = heads.Chunk name at range
@@ -123,7 +123,7 @@ ask_of_form (Path.Blob name tail) method query range = blob_ask (named name.now)
 ask_of_form (Path.Uploads name) method query range = uploads_ask (named name.now) method query
 ask_of_form (Path.Upload name tail) method query range =
     upload_ask (named name.now) (reference_of tail.now) method query range
-ask_of_form Path.NoForm method query range = refused refusals.NoForm
+ask_of_form Path.NoForm method query range = refused_by_head refusals.NoForm
 
 -- The ask with its body: an opening and a mount have none, and an ask that carries none drops it.
 abbrev pub with_body : HeadAsk → List ℕ → Ask
@@ -155,13 +155,13 @@ AsksAt path method query range asked =
     (form : PathForm) × IsFormOf path form × (asked ≡ ask_of_form form method query range)
 
 -- What a head asks, by the method, the target and the range. A target that spells no URI has no form.
-abbrev pub Asks : List ℕ → List ℕ → Extent → HeadAsk → Type 0
-Asks method target range asked =
-    (SpellsNone target × (asked ≡ refused refusals.NoForm))
+abbrev pub HeadAsks : List ℕ → List ℕ → Extent → HeadAsk → Type 0
+HeadAsks method target range asked =
+    (SpellsNone target × (asked ≡ refused_by_head refusals.NoForm))
     ⊎ ((uri : Uri) × Spells target uri
     × AsksAt (uri_path uri) (method_of method) (unwrap_or (uri_query uri) []) range asked)
 
 -- what a head and a body ask
 abbrev pub AsksWhole : RequestHead → List ℕ → Ask → Type 0
 AsksWhole head body ask =
-    (asked : HeadAsk) × Asks head.method head.target (head_range head) asked × (ask ≡ with_body asked body)
+    (asked : HeadAsk) × HeadAsks head.method head.target (head_range head) asked × (ask ≡ with_body asked body)

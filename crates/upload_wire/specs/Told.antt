@@ -12,7 +12,7 @@ use Rattle.upload_wire.specs.declared.request.Style.{Style}
 use Rattle.upload_wire.specs.Events.{Event, Head, Unreadable, Replied, Telling, Hears}
 use Rattle.upload_wire.specs.ReplySize.{body_size}
 use Rattle.upload_wire.specs.ReplyText.{reply_of}
-use Rattle.upload_wire.specs.Conversation.{Moves, Exchange, Standing, stand, EndsWith, IsConversation}
+use Rattle.upload_wire.specs.Conversation.{Moves, WireExchange, Standing, stand, EndsWith, IsConversation}
 use Rattle.upload_wire.specs.declared.connection.ConnEnd.{ConnEnd}
 use Rattle.upload_wire.specs.declared.connection.ConnEnd.TheVariants.{Clean, AfterClose, AfterBad, TooMany, DeskGone}
 use Rattle.upload_wire.specs.declared.connection.ConnEnd.TheVariants.{Fault}
@@ -47,14 +47,14 @@ abbrev pub event_of : Answer → Style → Event
 event_of answer style = Replied (status_number (reply_of answer).status) (if style.head then 0 else body_size answer)
 
 -- the head of the request, and then its reply
-pub record TellsExchange (x : Exchange) (events : List Event) : Type 0 where
+pub record TellsExchange (x : WireExchange) (events : List Event) : Type 0 where
   pub method : List ℕ
   pub target : List ℕ
   pub line : HasLine x.message method target
   pub events_are : events ≡ Head method target ∷ event_of x.answer x.style ∷ []
 
 -- each of these requests with its reply, in order
-abbrev pub TellsEach : List Exchange → List Event → Type 0
+abbrev pub TellsEach : List WireExchange → List Event → Type 0
 TellsEach [] events = events ≡ []
 TellsEach (x ∷ xs) events =
     (first : List Event) × (others : List Event) × TellsExchange x first × TellsEach xs others
@@ -80,12 +80,12 @@ pub record Ending (D : Type 0) : Type 1 where
   pub desk : D
   pub sink : SinkState
 
-abbrev pub HasEnded : {D : Type 0} → Ending D → ConnEnd → Type 0
-HasEnded k end = EndsWith k.moves k.max_body k.stood k.desk k.sink end
+abbrev pub EndsAs : {D : Type 0} → Ending D → ConnEnd → Type 0
+EndsAs k end = EndsWith k.moves k.max_body k.stood k.desk k.sink end
 
 -- what is told of an end: the request that was answered there, the one that was refused, or the head that nobody
 -- replied to
-abbrev pub TellsEnd : {D : Type 0} → (k : Ending D) (end : ConnEnd) → HasEnded k end → List Event → Type 0
+abbrev pub TellsEnd : {D : Type 0} → (k : Ending D) (end : ConnEnd) → EndsAs k end → List Event → Type 0
 TellsEnd k Clean e events = events ≡ []
 TellsEnd k AfterClose e events = TellsExchange e.0 events
 TellsEnd k AfterBad e events = TellsRefusal k.stood.held e.0 events

@@ -16,16 +16,16 @@ pub data RequestParse : Type 0 where
   nothing : RequestParse
 
 -- the text is read so
-abbrev pub ParsesAs : ℕ → List ℕ → RequestParse → Type 0
-ParsesAs max_body text (request ask style rest) = ReadsOne max_body text rest ask style
-ParsesAs max_body text (bad why) = IsBad max_body text why
-ParsesAs max_body text cut = IsTruncated max_body text
-ParsesAs max_body text nothing = text ≡ []
+abbrev pub ParsesAsRequest : ℕ → List ℕ → RequestParse → Type 0
+ParsesAsRequest max_body text (request ask style rest) = ReadsOne max_body text rest ask style
+ParsesAsRequest max_body text (bad why) = IsBad max_body text why
+ParsesAsRequest max_body text cut = IsTruncated max_body text
+ParsesAsRequest max_body text nothing = text ≡ []
 
 -- Under one limit a text is read in one way, but that its head may be refused too; and it is not where it begins with
 -- one of at most 66 lines.
 pub record RequestsAreUnambiguous : Type 0 where
-  pub one : (max_body : ℕ) (text : List ℕ) (parse other : RequestParse) → ParsesAs max_body text parse
-      → ParsesAs max_body text other → parse ≢ bad Head → other ≢ bad Head → parse ≡ other
+  pub one : (max_body : ℕ) (text : List ℕ) (parse other : RequestParse) → ParsesAsRequest max_body text parse
+      → ParsesAsRequest max_body text other → parse ≢ bad Head → other ≢ bad Head → parse ≡ other
   pub refused : (max_body : ℕ) (text : List ℕ) (head : RequestHead) (rest : List ℕ) → ReadsHead requests text head rest
       → IsBad max_body text Head → max_fields + 2 < line_feeds (print_request head)

@@ -4,7 +4,7 @@ ghost use Rattle.upload_names.specs.Digest.{digest_of};
 ghost use Rattle.upload_names.specs.Reference.{reference_of};
 ghost use Rattle.http_wire.specs.Query.{parameter};
 ghost use Rattle.upload_wire.specs.Target.{method_of, named, base_ask, blob_ask, mount_ask, uploads_ask, upload_ask};
-ghost use Rattle.upload_wire.specs.Target.{with_body, AsksAt, Asks};
+ghost use Rattle.upload_wire.specs.Target.{with_body, AsksAt, HeadAsks};
 
 use crate::target::{PathForm, form_of};
 use http_uri::{Uri, UriError};
@@ -229,7 +229,7 @@ pub fn ask_of(
     target: &[u8],
     range: Extent,
 ) -> Result<HeadAsk, AllocError>
-    ensures { IfOk result (Asks method.now target.now range) }
+    ensures { IfOk result (HeadAsks method.now target.now range) }
 {
     match Uri::from_bytes(alloc, target) {
         Ok(uri) => {

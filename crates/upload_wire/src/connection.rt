@@ -7,7 +7,7 @@ ghost use Rattle.upload_wire.specs.Conversation.{IsConversation, last_style};
 ghost use Rattle.upload_wire.specs.Events.{Replied};
 ghost use Rattle.upload_wire.specs.Phases.{most_reads};
 ghost use Rattle.upload_wire.specs.Told.{IsTold, event_of, rules, sides};
-ghost use Rattle.upload_wire.specs.Inner.ConversationSteps.{Replies, RefusedWith, standing};
+ghost use Rattle.upload_wire.specs.Inner.ConversationSteps.{IsRepliedTo, RefusedWith, standing};
 ghost use Rattle.upload_wire.specs.Inner.ToldSteps.{ReadsTold, GoesOnTold, StopsTold, listening, observed};
 
 use crate::desk::Desk;
@@ -221,7 +221,7 @@ impl ConnectionServer {
         answer: &Answer,
         style: Style,
     ) -> Option<ConnEnd>
-        ensures replies { Replies self.old.answered answer.now style (W.state writer.old)
+        ensures replies { IsRepliedTo self.old.answered answer.now style (W.state writer.old)
             (W.state writer.new) result }
         ensures counted { result ≡ None → self.new.answered ≡ self.old.answered + 1 }
         ensures held { self.new.held ≡ self.old.held }

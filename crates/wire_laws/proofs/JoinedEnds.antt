@@ -24,7 +24,7 @@ use Rattle.http_wire.specs.declared.fault.Bad.TheVariants.{Head}
 use Rattle.http_wire.specs.declared.responses.framing.ResponseFraming.{ResponseFraming}
 use Rattle.http_wire.specs.declared.responses.framing.ResponseFraming.TheVariants.{Length, ToEnd}
 use Rattle.http_wire.specs.declared.writing.WriteFault.{WriteFault}
-use Rattle.upload_wire.specs.Conversation.{Moves, Exchange, IsKept, IsRead, EndsWith, last_style, messages, replies}
+use Rattle.upload_wire.specs.Conversation.{Moves, WireExchange, IsKept, IsRead, EndsWith, last_style, messages, replies}
 use Rattle.upload_wire.specs.Conversation.{stand}
 use Rattle.upload_wire.specs.ConnectionRuns.{answered, answered_last, unanswered, unanswered_last}
 use Rattle.upload_wire.specs.ReplyText.{reply}
@@ -46,7 +46,8 @@ use Rattle.upload_client.specs.UnambiguousReplies.{heard, too_large}
 use Rattle.upload_client.specs.declared.heard.Heard.{Heard}
 use Rattle.upload_client.specs.declared.heard.HeardFault.{HeardFault}
 use Rattle.upload_client.specs.declared.heard.HeardFault.TheVariants as Reply
-use Rattle.wire_laws.specs.Joined.{Asked, AsksInTurn, IsPrefix, IsShort, IsAudible, IsOneOf, Says, AreUnanswered}
+use Rattle.wire_laws.specs.Joined.{TransportCall, AsksInTurn, IsPrefix, IsShort, IsAudible, IsOneOf, AnswerSays}
+use Rattle.wire_laws.specs.Joined.{AreUnanswered}
 use Rattle.wire_laws.specs.Joined.{AreJoined, ConnectionsAreJoined}
 use Rattle.wire_laws.specs.WrittenAsks.{written_style}
 use Rattle.wire_laws.specs.WrittenExchanges.{MayBeAsked}
@@ -100,7 +101,7 @@ no_empty_request max m ask style is none =
 
 -- an answered request, and whether its reply kept the connection
 abbrev Turn : Type 0
-Turn = Exchange × Bool
+Turn = WireExchange × Bool
 
 abbrev all_read : List Turn → List ℕ
 all_read ts = flat_map (λ (t : Turn). t.0.message) ts
@@ -112,7 +113,7 @@ abbrev all_replies : List Turn → List ℕ
 all_replies ts = flat_map reply_of ts
 
 -- an answer that can be heard if its ask is one of the client's
-abbrev MayBeHeard : (Ask → Type 0) → Exchange → Type 0
+abbrev MayBeHeard : (Ask → Type 0) → WireExchange → Type 0
 MayBeHeard known y = known y.ask → y.style ≡ written_style y.ask → IsAudible y
 
 abbrev AreRead : ℕ → List Turn → Type 0
@@ -376,7 +377,7 @@ one_grows true old new ask told x = exchange_grows old new ask told x
 one_grows false old new ask told x =
     grows_none old new (ap (λ w. w.writer) x.1) (ap (λ w. w.reader) x.1) (ap (λ w. w.host) x.1)
 
-all_grow : (old new : WireState) (xs : List Asked) → AsksInTurn old xs new → Grows old new
+all_grow : (old new : WireState) (xs : List TransportCall) → AsksInTurn old xs new → Grows old new
 all_grow old new [] turn =
     grows_none old new (ap (λ w. w.writer) turn) (ap (λ w. w.reader) turn) (ap (λ w. w.host) turn)
 all_grow old new (x ∷ xs) turn =
@@ -384,11 +385,11 @@ all_grow old new (x ∷ xs) turn =
     (all_grow turn.0 new xs turn.2)
 
 -- a transport over which no more can be asked: nothing is written, read or heard
-record StaysClosed (old new : WireState) (xs : List Asked) : Type 0 where
+record StaysClosed (old new : WireState) (xs : List TransportCall) : Type 0 where
   unheard : AllByRecursion (λ x. x.heard ≡ None) xs
   writer : new.writer ≡ old.writer
 
-stays_closed : (old new : WireState) (xs : List Asked) → stays_open old ≡ false → AsksInTurn old xs new
+stays_closed : (old new : WireState) (xs : List TransportCall) → stays_open old ≡ false → AsksInTurn old xs new
     → StaysClosed old new xs
 stays_closed old new [] closed turn = record { unheard = tt; writer = ap (λ w. w.writer) turn }
 stays_closed old new (x ∷ xs) closed turn =
@@ -436,7 +437,7 @@ unheard_one true old new ask told is asked none =
 unheard_one false old new ask told is asked none = asked.0
 
 -- where nothing more was read nothing more was heard
-silent : (xs : List Asked) (old new : WireState) (more : List ℕ) → AsksInTurn old xs new
+silent : (xs : List TransportCall) (old new : WireState) (more : List ℕ) → AsksInTurn old xs new
     → old.reader.source.given ≡ new.reader.source.given ++ more → AllByRecursion (λ x. x.heard ≡ None) xs
 silent [] old new more turn e = tt
 silent (x ∷ xs) old new more turn e =
@@ -492,7 +493,7 @@ ask_read (Err fault) max ask host message read style old new more later may is w
     }
 
 -- the style of a request decides how its reply is read
-reply_heard_in : (y : Exchange) (keep : Bool) (ask : Ask) → IsAudible y → y.style ≡ written_style ask
+reply_heard_in : (y : WireExchange) (keep : Bool) (ask : Ask) → IsAudible y → y.style ≡ written_style ask
     → (g behind more replied : List ℕ) (new : SourceState) (what : Heard) (goes_on : Bool)
     → TellsHeard (wants_head ask) g behind new what goes_on → g ++ more ≡ reply_of (y, keep) ++ replied
     → IsHeardAs y.answer what (behind ++ more) replied
@@ -502,17 +503,17 @@ reply_heard_in y keep ask audible style_is g behind more replied new what goes_o
     (e ∙ ap (λ s. reply y.answer (record { head = s.head; keep = keep }) ++ replied) style_is)
 
 refusal_says : (answer : Answer) (what : Heard) (refuses : Bool) (code : Option (List ℕ)) → what ≡ said answer code
-    → Says answer (if refuses then Some what else None)
+    → AnswerSays answer (if refuses then Some what else None)
 refusal_says answer what true code is = inr (code, ap Some is)
 refusal_says answer what false code is = inl refl
 
-module _ (y : Exchange) (keep : Bool) (ask : Ask) (audible : IsAudible y) (style_is : y.style ≡ written_style ask)
+module _ (y : WireExchange) (keep : Bool) (ask : Ask) (audible : IsAudible y) (style_is : y.style ≡ written_style ask)
     (old new : AnswerReaderState) (held : old.held ≡ []) (later replied : List ℕ) where
   abbrev Whole : List ℕ → Type 0
   Whole given = given ++ later ≡ reply_of (y, keep) ++ replied
 
   one_reply : (reply_read : Result Heard HeardFault) (r : ReadsReply (wants_head ask) old reply_read new)
-      → Whole r.read.given → Says y.answer (result_ok reply_read) × Says y.answer (refusal_in reply_read)
+      → Whole r.read.given → AnswerSays y.answer (result_ok reply_read) × AnswerSays y.answer (refusal_in reply_read)
       × (is_err reply_read ≡ false → new.held ++ later ≡ replied)
   one_reply (Ok what) r e =
       let text_is : old.held ++ r.read.given ≡ r.read.given = ap (λ t. t ++ r.read.given) held in
@@ -529,13 +530,13 @@ module _ (y : Exchange) (keep : Bool) (ask : Ask) (audible : IsAudible y) (style
   reply_says : (written : Result ⊤ WriteFault) (body : Bool) (told : Option Heard) (broken : Bool)
       (h : HearsBehind written body (wants_head ask) old told new broken)
       → Whole (read_front written body (wants_head ask) old new told broken h).0
-      → Says y.answer told × (broken ≡ false → new.held ++ later ≡ replied)
+      → AnswerSays y.answer told × (broken ≡ false → new.held ++ later ≡ replied)
   unfolding read_front
   reply_says (Ok u) body told broken h e =
-      let one = one_reply h.0 h.1 e in (subst (Says y.answer) (sym h.2) one.0, λ whole. one.2 (sym h.3 ∙ whole))
+      let one = one_reply h.0 h.1 e in (subst (AnswerSays y.answer) (sym h.2) one.0, λ whole. one.2 (sym h.3 ∙ whole))
   reply_says (Err fault) true told broken h e =
       let one = one_reply h.0 h.1 e in
-      (subst (Says y.answer) (sym h.2) one.1, λ whole. absurd (true≢false (sym h.3 ∙ whole)))
+      (subst (AnswerSays y.answer) (sym h.2) one.1, λ whole. absurd (true≢false (sym h.3 ∙ whole)))
   reply_says (Err fault) false told broken h e = (inl h.0, λ whole. absurd (true≢false (sym h.2 ∙ whole)))
 
 not_true : (b : Bool) → not b ≡ true → b ≡ false
@@ -555,7 +556,8 @@ err_breaks (Err fault) true head_only old new told broken h e = h.3
 err_breaks (Err fault) false head_only old new told broken h e = h.2
 
 -- what the worker read from here on begins what the client wrote
-next_text : (read : List ℕ) (x : Asked) (xs : List Asked) (old new : WireState) (turn : AsksInTurn old (x ∷ xs) new)
+next_text : (read : List ℕ) (x : TransportCall) (xs : List TransportCall) (old new : WireState)
+    (turn : AsksInTurn old (x ∷ xs) new)
     (exchanged : Exchanges old x.ask x.heard turn.0) (message behind : List ℕ)
     → read ≡ old.writer.taken ++ (message ++ behind) → (there : IsPrefix read new.writer.taken)
     → message ++ (behind ++ there.0) ≡ (wrote_front exchanged.written old.writer turn.0.writer (ask_text x.ask old.host)
@@ -573,7 +575,7 @@ next_text read x xs old new turn exchanged message behind read_is there =
     ∙ append_assoc old.writer.taken front.0 later.written)
 
 -- behind a write that failed nothing more is written
-next_ends : (x : Asked) (xs : List Asked) (old new : WireState) (turn : AsksInTurn old (x ∷ xs) new)
+next_ends : (x : TransportCall) (xs : List TransportCall) (old new : WireState) (turn : AsksInTurn old (x ∷ xs) new)
     (exchanged : Exchanges old x.ask x.heard turn.0) → is_err exchanged.written ≡ true
     → (all_grow turn.0 new xs turn.2).written ≡ []
 next_ends x xs old new turn exchanged failed =
@@ -608,7 +610,7 @@ module _ (max : ℕ) (known : Ask → Type 0) (host rest read written : List ℕ
       (sym (ap (λ s. s.taken) same) ∙ there.1 ∙ ap (λ t. t ++ there.0) is)
 
   -- the next request that the worker read is the next ask
-  next_read : (x : Asked) (xs : List Asked) (old new : WireState) (turn : AsksInTurn old (x ∷ xs) new)
+  next_read : (x : TransportCall) (xs : List TransportCall) (old new : WireState) (turn : AsksInTurn old (x ∷ xs) new)
       (exchanged : Exchanges old x.ask x.heard turn.0) → MayBeAsked max x.ask old.host
       → (message : List ℕ) (ask : Ask) (style : Style) (behind : List ℕ) → IsRequest max message ask style
       → read ≡ old.writer.taken ++ (message ++ behind) → IsPrefix read new.writer.taken
@@ -619,9 +621,9 @@ module _ (max : ℕ) (known : Ask → Type 0) (host rest read written : List ℕ
       (next_ends x xs old new turn exchanged) (next_text read x xs old new turn exchanged message behind read_is there)
 
   -- behind the answered requests
-  unanswered_joined : (vs : List Unanswered) → us ≡ vs → (xs : List Asked) (old new : WireState) → AsksInTurn old xs new
-      → old.host ≡ host → AllByRecursion (λ x. MayBeAsked max x.ask host) xs
-      → IsLeft [] old → IsPrefix read new.writer.taken → AllByRecursion (λ x. x.heard ≡ None) xs
+  unanswered_joined : (vs : List Unanswered) → us ≡ vs → (xs : List TransportCall) (old new : WireState)
+      → AsksInTurn old xs new → old.host ≡ host → AllByRecursion (λ x. MayBeAsked max x.ask host) xs → IsLeft [] old
+      → IsPrefix read new.writer.taken → AllByRecursion (λ x. x.heard ≡ None) xs
       → AreUnanswered xs (map (λ (u : Unanswered). u.ask) vs)
   unanswered_joined [] is xs old new turn host_is may left there unheard = unheard
   unanswered_joined (u ∷ w ∷ vs) is xs old new turn host_is may left there unheard =
@@ -647,7 +649,7 @@ module _ (max : ℕ) (known : Ask → Type 0) (host rest read written : List ℕ
             let both = sym is ∙ none in absurd (cc both)
       ] refl
 
-  joined : (xs : List Asked) (ts : List Turn) (old new : WireState) → AsksInTurn old xs new → old.host ≡ host
+  joined : (xs : List TransportCall) (ts : List Turn) (old new : WireState) → AsksInTurn old xs new → old.host ≡ host
       → AllByRecursion (λ x. MayBeAsked max x.ask host) xs → AllByRecursion (λ x. known x.ask) xs → AreRead max ts
       → AllByRecursion (λ (t : Turn). MayBeHeard known t.0) ts → IsLeft ts old
       → (stays_open old ≡ true → written ≡ old.reader.source.given ++ all_replies ts) → IsPrefix read new.writer.taken
@@ -767,7 +769,7 @@ module _ (max : ℕ) (host rest read : List ℕ) where
       (sym (ap (λ s. s.taken) same) ∙ there.1 ∙ ap (λ t. t ++ there.0) all
       ∙ append_assoc old.writer.taken rest there.0))
 
-  never_bad : (xs : List Asked) (ts : List Turn) (old new : WireState) → AsksInTurn old xs new → old.host ≡ host
+  never_bad : (xs : List TransportCall) (ts : List Turn) (old new : WireState) → AsksInTurn old xs new → old.host ≡ host
       → AllByRecursion (λ x. MayBeAsked max x.ask host) xs → AreRead max ts
       → read ≡ old.writer.taken ++ (all_read ts ++ rest) → IsPrefix read new.writer.taken → (why : Bad)
       → IsBad max rest why → ⊥
@@ -817,23 +819,23 @@ module _ (max : ℕ) (host rest read : List ℕ) where
 
 -- ---- a conversation
 
-abbrev kept_turns : List Exchange → List Turn
-kept_turns xs = map (λ (x : Exchange). (x, x.style.keep)) xs
+abbrev kept_turns : List WireExchange → List Turn
+kept_turns xs = map (λ (x : WireExchange). (x, x.style.keep)) xs
 
-kept_read : (xs : List Exchange) → all_read (kept_turns xs) ≡ messages xs
+kept_read : (xs : List WireExchange) → all_read (kept_turns xs) ≡ messages xs
 kept_read [] = refl
 kept_read (x ∷ xs) = ap (λ t. x.message ++ t) (kept_read xs)
 
-kept_replies : (xs : List Exchange) → all_replies (kept_turns xs) ≡ replies xs
+kept_replies : (xs : List WireExchange) → all_replies (kept_turns xs) ≡ replies xs
 kept_replies [] = refl
 kept_replies (x ∷ xs) = ap (λ t. reply x.answer x.style ++ t) (kept_replies xs)
 
-turns_answered : (xs : List Exchange) (ts : List Turn)
+turns_answered : (xs : List WireExchange) (ts : List Turn)
     → map (λ (t : Turn). t.0) (kept_turns xs ++ ts) ≡ xs ++ map (λ (t : Turn). t.0) ts
 turns_answered [] ts = refl
 turns_answered (x ∷ xs) ts = ap (λ l. x ∷ l) (turns_answered xs ts)
 
-turns_read : (max : ℕ) (xs : List Exchange) (ts : List Turn) → AllByRecursion (IsKept max) xs → AreRead max ts
+turns_read : (max : ℕ) (xs : List WireExchange) (ts : List Turn) → AllByRecursion (IsKept max) xs → AreRead max ts
     → AreRead max (kept_turns xs ++ ts)
 turns_read max [] ts kept read = read
 turns_read max (x ∷ xs) ts kept read = (kept.0.0, turns_read max xs ts kept.1 read)
@@ -844,7 +846,8 @@ turns_audible known [] audible = tt
 turns_audible known (t ∷ ts) audible = (audible.0, turns_audible known ts audible.1)
 
 -- how a conversation ends: at most one more request was answered, and at most one wasn't; of the replies this was lost
-record Ending (max : ℕ) (held : List ℕ) (sink after : SinkState) (ys : List Exchange) (asks : List Ask) : Type 0 where
+record Ending (max : ℕ) (held : List ℕ) (sink after : SinkState) (ys : List WireExchange)
+    (asks : List Ask) : Type 0 where
   ts : List Turn
   us : List Unanswered
   rest : List ℕ
@@ -872,7 +875,7 @@ no_more max held sink after same = record {
   asks_are = refl;
 }
 
-one_more : (max count : ℕ) (held : List ℕ) (sink after : SinkState) (x : Exchange) (more lost : List ℕ) → held
+one_more : (max count : ℕ) (held : List ℕ) (sink after : SinkState) (x : WireExchange) (more lost : List ℕ) → held
     ≡ x.message ++ more → IsRead max x → after.taken ++ lost ≡ sink.taken ++ reply x.answer (last_style count x.style)
     → Ending max held sink after (x ∷ []) []
 one_more max count held sink after x more lost held_is read replied = record {
@@ -923,12 +926,12 @@ ending step max count held source desk new sink after (Fault Conn.Write) (inl w)
     ∙ ap (λ t. sink.taken ++ t) (sym w.2.cut))
 ending step max count held source desk new sink after (Fault Conn.Write) (inr w) none = absurd (none w.0 w.1.bad)
 
-later_known : (x : Asked) (xs ys : List Asked) → AllByRecursion (λ y. IsOneOf xs y.ask) ys
+later_known : (x : TransportCall) (xs ys : List TransportCall) → AllByRecursion (λ y. IsOneOf xs y.ask) ys
     → AllByRecursion (λ y. IsOneOf (x ∷ xs) y.ask) ys
 later_known x xs [] all = tt
 later_known x xs (y ∷ ys) all = (inr all.0, later_known x xs ys all.1)
 
-all_known : (xs : List Asked) → AllByRecursion (λ x. IsOneOf xs x.ask) xs
+all_known : (xs : List TransportCall) → AllByRecursion (λ x. IsOneOf xs x.ask) xs
 all_known [] = tt
 all_known (x ∷ xs) = (inl refl, later_known x xs xs (all_known xs))
 

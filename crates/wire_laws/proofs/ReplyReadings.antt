@@ -2,7 +2,7 @@
 use Rattle.std.proofs.Common.{◌≡◌, ◌≢◌, ℕ, Bool, List, refl, ◌∙◌, sym, subst, Ok, Err}
 use Rattle.std.specs.Prelude.{Result, ⊤}
 use Rattle.httparse.specs.Grammar.{ResponseHead, status_code}
-use Rattle.http_wire.specs.ResponseBody.{framing_of}
+use Rattle.http_wire.specs.ResponseBody.{response_framing_of}
 use Rattle.http_wire.specs.Fields.{head_fields}
 use Rattle.http_wire.specs.Fronts.{responses}
 use Rattle.http_wire.specs.Unambiguous.{HeadParse, head, long, unfinished}
@@ -14,7 +14,7 @@ use Rattle.upload_client.specs.AnswerText.{HasOpenBody, ReadsFramed, max_answer}
 use Rattle.upload_client.specs.UnambiguousReplies.{ReplyParse, heard, refused, unreadable, too_large, cut}
 use Rattle.upload_client.specs.declared.heard.Heard.{Heard}
 use Rattle.upload_client.specs.declared.heard.HeardFault.TheVariants as Reply
-use Rattle.wire_laws.specs.WrittenReplies.{Gives}
+use Rattle.wire_laws.specs.WrittenReplies.{ReaderGives}
 
 abbrev pub Framed : Type 0
 Framed = Result ResponseFraming FramingFault
@@ -44,7 +44,7 @@ no_reading too_large h other large whole e = absurd (large e)
 no_reading cut h other large whole e = absurd h
 
 pub heard_gives : (parse : ReplyParse) → IsReading parse → (what : Heard) (keep : Bool) (left : List ℕ)
-    → heard what keep left ≡ parse → Gives parse left (Ok what) keep
+    → heard what keep left ≡ parse → ReaderGives parse left (Ok what) keep
 heard_gives (heard other goes_on rest) h what keep left e = (cc, cc, cc)
 heard_gives refused h what keep left e = absurd h
 heard_gives unreadable h what keep left e = absurd h
@@ -52,7 +52,7 @@ heard_gives too_large h what keep left e = absurd (cc e)
 heard_gives cut h what keep left e = absurd h
 
 pub large_gives : (parse : ReplyParse) (left : List ℕ) (keep : Bool) → too_large ≡ parse
-    → Gives parse left (Err Reply.TooLarge) keep
+    → ReaderGives parse left (Err Reply.TooLarge) keep
 large_gives (heard what goes_on rest) left keep e = absurd (cc e)
 large_gives refused left keep e = absurd (cc e)
 large_gives unreadable left keep e = absurd (cc e)
@@ -61,7 +61,8 @@ large_gives cut left keep e = absurd (cc e)
 
 -- how far the body goes behind what the text begins with
 abbrev FramedAs : Bool → Framed → HeadParse responses → Type 0
-FramedAs head_only r (head h behind) = framing_of max_answer head_only (status_code h) (head_fields h.fields) ≡ r
+FramedAs head_only r (head h behind) =
+    response_framing_of max_answer head_only (status_code h) (head_fields h.fields) ≡ r
 FramedAs head_only r long = ⊤
 FramedAs head_only r unfinished = ⊤
 

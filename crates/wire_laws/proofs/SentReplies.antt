@@ -6,7 +6,8 @@ use Rattle.httparse.specs.Grammar.{ResponseHead, status_code}
 use Rattle.http_wire.specs.Fields.{Fields, values_of, head_fields}
 use Rattle.http_wire.specs.HeadText.{status_number}
 use Rattle.http_wire.specs.Fronts.{IsRefused, responses}
-use Rattle.http_wire.specs.ResponseBody.{framing_by_length, framing_of, framing_without_coding, is_empty, keeps_on}
+use Rattle.http_wire.specs.ResponseBody.{response_framing_by_length, response_framing_of, framing_without_coding}
+use Rattle.http_wire.specs.ResponseBody.{has_no_body, keeps_on}
 use Rattle.http_wire.specs.States.{SourceState}
 use Rattle.http_wire.specs.declared.responses.framing.ResponseFraming.TheVariants.{Length, ToEnd}
 use Rattle.http_wire.specs.declared.responses.framing.FramingFault.TheVariants as Fault
@@ -14,12 +15,13 @@ use Rattle.http_wire.specs.declared.status.Status.{Status}
 use Rattle.http_wire.specs.declared.status.Status.TheVariants as statuses
 use Rattle.upload_client.specs.AnswerText.{FindsAnswer, HasOpenBody, IsHeard, HasFramingFault, IsPlaceOf, ReadsFramed}
 use Rattle.upload_client.specs.AnswerText.{TellsHeard, code_of, location, max_answer, range, upto_of}
-use Rattle.upload_client.specs.UnambiguousReplies.{ReplyParse, heard, refused, unreadable, too_large, cut, ParsesAs}
+use Rattle.upload_client.specs.UnambiguousReplies.{ReplyParse, heard, refused, unreadable, too_large, cut}
+use Rattle.upload_client.specs.UnambiguousReplies.{ParsesAsReply}
 use Rattle.upload_client.specs.declared.heard.Heard.{Heard}
 use Rattle.upload_client.specs.declared.heard.HeardFault.{HeardFault}
 use Rattle.upload_client.specs.declared.heard.HeardFault.TheVariants as Reply
 use Rattle.upload_client.proofs.UnambiguousReplies.{replies_unambiguous}
-use Rattle.wire_laws.specs.WrittenReplies.{Gives, IsReadOnlyAs}
+use Rattle.wire_laws.specs.WrittenReplies.{ReaderGives, IsReadOnlyAs}
 use Rattle.wire_laws.proofs.ReplyFields.{SaysAll}
 use Rattle.wire_laws.proofs.ReplyReadings.{Framed, IsReading, heard_gives, large_gives, no_open_body, no_reading}
 use Rattle.wire_laws.proofs.ReplyReadings.{not_refused}
@@ -60,16 +62,16 @@ text_of sent behind = head_text sent.status sent.fields ++ behind
 -- how far the body goes behind it
 abbrev pub framing_behind : Bool → Sent → Framed
 framing_behind head_only sent =
-    framing_by_length max_answer (is_empty head_only (status_number sent.status)) sent.lengths
+    response_framing_by_length max_answer (has_no_body head_only (status_number sent.status)) sent.lengths
 
 abbrev framed_by : Bool → ℕ → Fields → Framed
-framed_by head_only status fields = framing_of max_answer head_only status fields
+framed_by head_only status fields = response_framing_of max_answer head_only status fields
 
 framing_is : (head_only : Bool) (sent : Sent) (r : Framed) → framing_behind head_only sent ≡ r
     → framed_by head_only (status_code (head_sent sent)) (head_fields (head_sent sent).fields) ≡ r
 framing_is head_only sent r e =
-    let empty = is_empty head_only (status_number sent.status) in
-    let by_length : List (List ℕ) → Framed = framing_by_length max_answer empty in
+    let empty = has_no_body head_only (status_number sent.status) in
+    let by_length : List (List ℕ) → Framed = response_framing_by_length max_answer empty in
     let lengths = values_of (codes "content-length") sent.fields in
     let by_coding : List (List ℕ) → Framed = λ codings. framing_without_coding codings (by_length lengths) in
     ap (λ n. framed_by head_only n (head_fields (head_sent sent).fields)) (code_is sent.status sent.fields)
@@ -125,9 +127,10 @@ tells head_only sent body rest new what e h =
 
 module _ (head_only : Bool) (sent : Sent) (behind : List ℕ) (new : SourceState) (r : Framed) (parse : ReplyParse)
     (framing : framing_behind head_only sent ≡ r) (ends_first : (most : ℕ) → r ≢ Ok (ToEnd most))
-    (reading : IsReading parse) (reads : ParsesAs head_only (text_of sent behind) new parse) where
+    (reading : IsReading parse) (reads : ParsesAsReply head_only (text_of sent behind) new parse) where
   -- what is read in one way is read in no other
-  same : (other : ReplyParse) → other ≢ refused → ParsesAs head_only (text_of sent behind) new other → other ≡ parse
+  same : (other : ReplyParse) → other ≢ refused
+      → ParsesAsReply head_only (text_of sent behind) new other → other ≡ parse
   same other whole x =
       replies_unambiguous.one head_only (text_of sent behind) new other parse x reads whole (not_refused parse reading)
 
@@ -138,22 +141,22 @@ module _ (head_only : Bool) (sent : Sent) (behind : List ℕ) (new : SourceState
       let many = replies_unambiguous.refused_head (text_of sent behind) (head_sent sent) behind head x in
       omega (arith, many, few_lines sent.status sent.fields sent.says.written)
 
-  alone : (other : ReplyParse) → ParsesAs head_only (text_of sent behind) new other → other ≡ parse
+  alone : (other : ReplyParse) → ParsesAsReply head_only (text_of sent behind) new other → other ≡ parse
   alone (heard what goes_on left) x = same (heard what goes_on left) (λ e. absurd (cc e)) x
   alone refused x = absurd (lines x)
   alone unreadable x = same unreadable (λ e. absurd (cc e)) x
   alone too_large x = same too_large (λ e. absurd (cc e)) x
   alone cut x = same cut (λ e. absurd (cc e)) x
 
-  not_refused_text : {A : Type 0} → ParsesAs head_only (text_of sent behind) new refused → A
+  not_refused_text : {A : Type 0} → ParsesAsReply head_only (text_of sent behind) new refused → A
   not_refused_text x =
       no_reading parse reading refused (λ e. absurd (cc e)) (λ w k l e. absurd (cc e)) (alone refused x)
 
-  not_unreadable : {A : Type 0} → ParsesAs head_only (text_of sent behind) new unreadable → A
+  not_unreadable : {A : Type 0} → ParsesAsReply head_only (text_of sent behind) new unreadable → A
   not_unreadable x =
       no_reading parse reading unreadable (λ e. absurd (cc e)) (λ w k l e. absurd (cc e)) (alone unreadable x)
 
-  not_cut : {A : Type 0} → ParsesAs head_only (text_of sent behind) new cut → A
+  not_cut : {A : Type 0} → ParsesAsReply head_only (text_of sent behind) new cut → A
   not_cut x = no_reading parse reading cut (λ e. absurd (cc e)) (λ w k l e. absurd (cc e)) (alone cut x)
 
   not_open : {A : Type 0} → HasOpenBody head_only (text_of sent behind) → A
@@ -163,7 +166,7 @@ module _ (head_only : Bool) (sent : Sent) (behind : List ℕ) (new : SourceState
 
   gives : (left : List ℕ) (given : Result Heard HeardFault) (keep : Bool)
       → FindsAnswer head_only (text_of sent behind) left new given keep → given ≢ Err Reply.NoMemory
-      → Gives parse left given keep
+      → ReaderGives parse left given keep
   gives left (Ok what) keep x some = heard_gives parse reading what keep left (alone (heard what keep left) x)
   gives left (Err Reply.Unreadable) keep (inl x) some = not_refused_text x
   gives left (Err Reply.Unreadable) keep (inr (inl x)) some = not_unreadable (inl x)

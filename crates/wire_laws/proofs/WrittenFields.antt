@@ -19,7 +19,7 @@ use Rattle.http_wire.specs.Fields.{Fields, values_of, keeps_connection}
 use Rattle.http_wire.specs.Body.{framing_of, is_number, length_of}
 use Rattle.http_wire.specs.declared.framing.Framing.TheVariants.{Length}
 use Rattle.upload_wire.specs.Target.{extent_of, given_range}
-use Rattle.upload_client.specs.AskText.{is_host, range_text, range_fields, body_fields, IsAbsentOrGiven}
+use Rattle.upload_client.specs.AskText.{is_host, range_text, content_range_fields, ask_body_fields, IsAbsentOrGiven}
 use Rattle.http_wire.specs.HeadText.{length_field}
 use Rattle.wire_laws.specs.WrittenAsks.{HasSpan}
 use Rattle.upload_texts.proofs.PlainTexts.{AllPass-append, AllPass-cons, AllPass-nil, AllPass-weaker}
@@ -134,7 +134,7 @@ range_plain : (range : Span) → IsSpan range → IsPlainField (codes "Content-R
 unfolding is_token_byte
 range_plain range h = plain_field (codes "Content-Range") (range_text range) refl refl (range_graphic range h)
 
-body_plain : (body : List ℕ) → length body < 2 ^ 64 → All IsPlainField (body_fields body)
+body_plain : (body : List ℕ) → length body < 2 ^ 64 → All IsPlainField (ask_body_fields body)
 body_plain body small =
     let size = length_field (length body) in
     with_field (codes "Content-Type", codes "application/octet-stream") (size ∷ []) type_plain
@@ -168,12 +168,12 @@ post_read max_body host h = record {
 
 -- the type and the length of a body
 pub body_read : (max_body : ℕ) (host body : List ℕ) → is_host host ≡ true → length body ≤ max_body → max_body < 2 ^ 64
-    → AreRead max_body ((codes "Host", host) ∷ body_fields body) (length body) Absent
+    → AreRead max_body ((codes "Host", host) ∷ ask_body_fields body) (length body) Absent
 unfolding values_of
 body_read max_body host body h fits limit =
     let small : length body < 2 ^ 64 = omega arith in
     record {
-      plain = with_field (codes "Host", host) (body_fields body) (host_plain host h) (body_plain body small);
+      plain = with_field (codes "Host", host) (ask_body_fields body) (host_plain host h) (body_plain body small);
       few = omega arith;
       framed = rw (length_read max_body (length body) fits small) refl;
       keeps = refl;
@@ -183,7 +183,7 @@ body_read max_body host body h fits limit =
 -- a range where it is given, and the fields of a body
 pub upload_read : (max_body : ℕ) (host : List ℕ) (range : Extent) (body : List ℕ) → is_host host ≡ true
     → IsAbsentOrGiven range → HasSpan range → length body ≤ max_body → max_body < 2 ^ 64
-    → AreRead max_body ((codes "Host", host) ∷ (range_fields range ++ body_fields body)) (length body) range
+    → AreRead max_body ((codes "Host", host) ∷ (content_range_fields range ++ ask_body_fields body)) (length body) range
 unfolding values_of
 upload_read max_body host Absent body h r s fits limit = body_read max_body host body h fits limit
 upload_read max_body host Bad body h r s fits limit = absurd r
@@ -191,8 +191,8 @@ upload_read max_body host (Given range) body h r s fits limit =
     let small : length body < 2 ^ 64 = omega arith in
     let given : List ℕ × List ℕ = (codes "Content-Range", range_text range) in
     record {
-      plain = with_field (codes "Host", host) (given ∷ body_fields body) (host_plain host h)
-          (with_field given (body_fields body) (range_plain range s) (body_plain body small));
+      plain = with_field (codes "Host", host) (given ∷ ask_body_fields body) (host_plain host h)
+          (with_field given (ask_body_fields body) (range_plain range s) (body_plain body small));
       few = omega arith;
       framed = rw (length_read max_body (length body) fits small) refl;
       keeps = refl;

@@ -22,7 +22,7 @@ use Rattle.upload_service.specs.declared.answer.Refusal.{Refusal}
 use Rattle.upload_service.specs.declared.answer.Refusal.TheVariants as refusals
 use Rattle.http_wire.specs.Body.{is_number}
 use Rattle.http_wire.specs.HeadText.{closing_fields, status_number}
-use Rattle.http_wire.specs.ResponseBody.{framing_by_length, is_empty}
+use Rattle.http_wire.specs.ResponseBody.{response_framing_by_length, has_no_body}
 use Rattle.http_wire.specs.States.{SourceState}
 use Rattle.http_wire.specs.declared.responses.framing.ResponseFraming.TheVariants.{Length}
 use Rattle.http_wire.specs.declared.responses.framing.FramingFault.TheVariants as Fault
@@ -54,16 +54,16 @@ number_is n h =
     (rw (some, all_digits n h) refl, (decimal_is_IsNumeral n h).1)
 
 -- the reply to a HEAD, and one of a status without a body, end behind the head
-empty_framed : (n : ℕ) → n < 2 ^ 64 → framing_by_length max_answer true (decimal n ∷ []) ≡ Ok (Length 0)
+empty_framed : (n : ℕ) → n < 2 ^ 64 → response_framing_by_length max_answer true (decimal n ∷ []) ≡ Ok (Length 0)
 empty_framed n h = rw (number_is n h).0 refl
 
-whole_framed : (n : ℕ) → n ≤ max_answer → framing_by_length max_answer false (decimal n ∷ []) ≡ Ok (Length n)
+whole_framed : (n : ℕ) → n ≤ max_answer → response_framing_by_length max_answer false (decimal n ∷ []) ≡ Ok (Length n)
 whole_framed n h =
     let number = number_is n (omega (arith, h)) in
     rw (number.0, number.1, le-ltb max_answer n h) refl
 
 large_framed : (n : ℕ) → max_answer < n → n < 2 ^ 64
-    → framing_by_length max_answer false (decimal n ∷ []) ≡ Err Fault.TooLarge
+    → response_framing_by_length max_answer false (decimal n ∷ []) ≡ Err Fault.TooLarge
 large_framed n h small =
     let number = number_is n small in
     rw (number.0, number.1, lt-ltb max_answer n h) refl
@@ -114,16 +114,17 @@ record IsSaid (answer : Answer) : Type 0 where
   lengths : List (List ℕ)
   says : SaysFor answer lengths
   status_is : (reply_heard answer).status ≡ status_number (reply_of answer).status
-  empty : framing_by_length max_answer true lengths ≡ Ok (Length 0)
+  empty : response_framing_by_length max_answer true lengths ≡ Ok (Length 0)
 
 -- a reply whose body is read
 record IsWholeSaid (answer : Answer) : Type 0 where
   said : IsSaid answer
-  whole : framing_by_length max_answer (is_empty false (status_number (reply_of answer).status)) said.lengths
+  whole : response_framing_by_length max_answer
+      (has_no_body false (status_number (reply_of answer).status)) said.lengths
       ≡ Ok (Length (length (reply_of answer).body))
   code : (reply_heard answer).code ≡ code_of (reply_of answer).body
 
-refused_status : (refusal : Refusal) → is_empty false (status_number (refusal_status refusal)) ≡ false
+refused_status : (refusal : Refusal) → has_no_body false (status_number (refusal_status refusal)) ≡ false
 refused_status refusals.NoForm = refl
 refused_status refusals.BadName = refl
 refused_status (refusals.Method form) = refl
@@ -141,10 +142,10 @@ refused_status refusals.BadDigest = refl
 abbrev zero_length : List (List ℕ)
 zero_length = decimal 0 ∷ []
 
-zero_empty : framing_by_length max_answer true zero_length ≡ Ok (Length 0)
+zero_empty : response_framing_by_length max_answer true zero_length ≡ Ok (Length 0)
 zero_empty = empty_framed 0 (omega arith)
 
-zero_whole : framing_by_length max_answer false zero_length ≡ Ok (Length 0)
+zero_whole : response_framing_by_length max_answer false zero_length ≡ Ok (Length 0)
 zero_whole = whole_framed 0 (omega arith)
 
 -- the reply's status is the one that is heard, and it has a body
@@ -152,7 +153,7 @@ abbrev HasStatus : Answer → Type 0
 HasStatus answer = (reply_heard answer).status ≡ status_number (reply_of answer).status
 
 abbrev HasBody : Answer → Type 0
-HasBody answer = is_empty false (status_number (reply_of answer).status) ≡ false
+HasBody answer = has_no_body false (status_number (reply_of answer).status) ≡ false
 
 -- a reply that says a length of 0
 bare_said : (answer : Answer) → SaysFor answer zero_length → HasStatus answer → HasBody answer

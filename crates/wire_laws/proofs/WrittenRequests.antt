@@ -33,7 +33,7 @@ use Rattle.http_wire.specs.Query.{parameter}
 use Rattle.http_wire.specs.Fields.{Fields, values_of, keeps_connection, head_fields}
 use Rattle.http_wire.specs.Body.{framing_of}
 use Rattle.upload_wire.specs.RequestText.{IsRequest}
-use Rattle.upload_wire.specs.Target.{IsFormOf, ask_of_form, with_body, extent_of, method_of, Asks}
+use Rattle.upload_wire.specs.Target.{IsFormOf, ask_of_form, with_body, extent_of, method_of, HeadAsks}
 use Rattle.upload_texts.specs.Paths.{upload_path}
 use Rattle.upload_client.specs.AskText.{Message, message_of, print_message, target_of, query_text, is_host, look_method}
 use Rattle.upload_client.specs.AskText.{digest_query, digest_or_nothing, IsAbsentOrGiven, CanBeWritten, ask_text}
@@ -108,7 +108,7 @@ read_as {max_body} {m} {host} {range} {form} h short =
     let ranged : extent_of (values_of (codes "content-range") (head_fields (head_of m host).fields)) ≡ range =
     ap (λ f. extent_of (values_of (codes "content-range") f)) kept ∙ h.fields.range_is in
     let bare = ask_of_form form (method_of m.method) (unwrap_or m.query []) range in
-    let asks : Asks m.method (target_of m) range bare =
+    let asks : HeadAsks m.method (target_of m) range bare =
     inr (s.uri, s.spells, (form, rw s.path_is h.form_is, rw s.query_is refl)) in
     record {
       head = head_of m host;
@@ -118,7 +118,7 @@ read_as {max_body} {m} {host} {range} {form} h short =
       framed = ap (framing_of max_body 1) kept ∙ h.fields.framed;
       body = m.body;
       written = (refl, refl);
-      asks = (bare, subst (λ r. Asks m.method (target_of m) r bare) (sym ranged) asks, h.asks);
+      asks = (bare, subst (λ r. HeadAsks m.method (target_of m) r bare) (sym ranged) asks, h.asks);
       styled =
           ap (λ k. record { head = bytes_eq m.method (codes "HEAD"); keep = k })
           (sym (ap (keeps_connection 1) kept ∙ h.fields.keeps));

@@ -7,7 +7,7 @@ use Rattle.upload_service.specs.declared.answer.Answer.{Answer}
 use Rattle.upload_service.specs.declared.answer.Answer.TheVariants as answers
 use Rattle.http_wire.specs.States.{SourceState, SinkState}
 use Rattle.upload_wire.specs.ConnectionRuns.{answered, unanswered}
-use Rattle.upload_wire.specs.Conversation.{Moves, Exchange, IsConversation}
+use Rattle.upload_wire.specs.Conversation.{Moves, WireExchange, IsConversation}
 use Rattle.upload_wire.specs.declared.connection.ConnEnd.{ConnEnd}
 use Rattle.upload_client.specs.AnswerText.{max_answer}
 use Rattle.upload_client.specs.Heard.{reply_heard}
@@ -18,17 +18,17 @@ use Rattle.wire_laws.specs.WrittenExchanges.{MayBeAsked}
 use Rattle.wire_laws.specs.WrittenReplies.{FitsMethod, HasLawfulValues}
 
 -- an ask, and what was heard of it
-pub record Asked : Type 0 where
+pub record TransportCall : Type 0 where
   pub ask : Ask
   pub heard : Option Heard
 
 -- asks over one transport, one after the other
-abbrev pub AsksInTurn : WireState → List Asked → WireState → Type 0
+abbrev pub AsksInTurn : WireState → List TransportCall → WireState → Type 0
 AsksInTurn old [] new = new ≡ old
 AsksInTurn old (x ∷ xs) new = (mid : WireState) × AsksOverWire old x.ask x.heard mid × AsksInTurn mid xs new
 
 -- nothing was read over the transport, and nothing written
-pub record IsNew (wire : WireState) : Type 0 where
+pub record IsUntouched (wire : WireState) : Type 0 where
   pub given : wire.reader.source.given ≡ []
   pub taken : wire.writer.taken ≡ []
 
@@ -37,7 +37,7 @@ IsPrefix front text = (back : List ℕ) × (text ≡ front ++ back)
 
 -- The network between the two ends: the worker's reads gave a prefix of what the client's writes took, and the client's
 -- reads gave a prefix of what the worker's writes took. It may cut a connection in each direction, at any byte.
-pub record Carries (client : WireState) (source : SourceState) (sink : SinkState) : Type 0 where
+pub record Transmits (client : WireState) (source : SourceState) (sink : SinkState) : Type 0 where
   pub there : IsPrefix source.given client.writer.taken
   pub back : IsPrefix client.reader.source.given sink.taken
 
@@ -55,28 +55,28 @@ IsShort (answers.Refused refusal) = ⊤
 IsShort answers.NoMemory = ⊤
 
 -- the answer can be heard in the reply that is written
-pub record IsAudible (x : Exchange) : Type 0 where
+pub record IsAudible (x : WireExchange) : Type 0 where
   pub values : HasLawfulValues x.answer
   pub fits : FitsMethod x.answer x.style.head
   pub short : IsShort x.answer
 
 -- nothing was heard; or what the answer says, but perhaps for its error code, which the reply to a HEAD lacks
-abbrev pub Says : Answer → Option Heard → Type 0
-Says answer heard =
+abbrev pub AnswerSays : Answer → Option Heard → Type 0
+AnswerSays answer heard =
     (heard ≡ None) ⊎ ((code : Option (List ℕ)) × (heard ≡ Some (record (reply_heard answer) { code = code })))
 
 -- of these asks nothing was heard, and the first of them are these
-abbrev pub AreUnanswered : List Asked → List Ask → Type 0
+abbrev pub AreUnanswered : List TransportCall → List Ask → Type 0
 AreUnanswered xs [] = AllByRecursion (λ x. x.heard ≡ None) xs
 AreUnanswered [] (u ∷ us) = ⊥
 AreUnanswered (x ∷ xs) (u ∷ us) = (u ≡ x.ask) × (x.heard ≡ None) × AreUnanswered xs us
 
 -- Each request that was answered is what was asked at its place, and what was heard there is what the answer says. The
 -- one that was not answered is what was asked next. Of what was asked after the answered ones nothing was heard.
-abbrev pub AreJoined : List Asked → List Exchange → List Ask → Type 0
+abbrev pub AreJoined : List TransportCall → List WireExchange → List Ask → Type 0
 AreJoined xs [] us = AreUnanswered xs us
 AreJoined [] (y ∷ ys) us = ⊥
-AreJoined (x ∷ xs) (y ∷ ys) us = (y.ask ≡ x.ask) × Says y.answer x.heard × AreJoined xs ys us
+AreJoined (x ∷ xs) (y ∷ ys) us = (y.ask ≡ x.ask) × AnswerSays y.answer x.heard × AreJoined xs ys us
 
 -- no GET of a blob
 abbrev pub IsNoGet : Ask → Type 0
@@ -92,13 +92,13 @@ IsNoGet (asks.Close name at range digest body) = ⊤
 IsNoGet (asks.Refused refusal) = ⊤
 
 -- the ask is one of these
-abbrev pub IsOneOf : List Asked → Ask → Type 0
+abbrev pub IsOneOf : List TransportCall → Ask → Type 0
 IsOneOf [] ask = ⊥
 IsOneOf (x ∷ xs) ask = (ask ≡ x.ask) ⊎ IsOneOf xs ask
 
 -- The conversation began with nothing read and nothing written, and the answers to what the client asked can be heard.
-pub record CanBeJoined (xs : List Asked) (first : SourceState) (before : SinkState)
-    (answers : List Exchange) : Type 0 where
+pub record CanBeJoined (xs : List TransportCall) (first : SourceState) (before : SinkState)
+    (answers : List WireExchange) : Type 0 where
   pub given : first.given ≡ []
   pub taken : before.taken ≡ []
   pub audible : AllByRecursion (λ y. IsOneOf xs y.ask → y.style ≡ written_style y.ask → IsAudible y) answers
@@ -106,9 +106,9 @@ pub record CanBeJoined (xs : List Asked) (first : SourceState) (before : SinkSta
 abbrev pub ConnectionsAreJoined : {D : Type 0} → Moves D → Type 0
 ConnectionsAreJoined {D} step =
     (max_body : ℕ) (first left : SourceState) (old new : D) (before after : SinkState) (end : ConnEnd)
-    → (c : IsConversation step max_body first left old new before after end) (xs : List Asked)
+    → (c : IsConversation step max_body first left old new before after end) (xs : List TransportCall)
     → CanBeJoined xs first before (answered step max_body first left old new before after end c)
-    → (wire wire' : WireState) → IsNew wire → AsksInTurn wire xs wire'
-    → AllByRecursion (λ x. MayBeAsked max_body x.ask wire.host) xs → Carries wire' left after
+    → (wire wire' : WireState) → IsUntouched wire → AsksInTurn wire xs wire'
+    → AllByRecursion (λ x. MayBeAsked max_body x.ask wire.host) xs → Transmits wire' left after
     → AreJoined xs (answered step max_body first left old new before after end c)
     (unanswered step max_body first left old new before after end c)

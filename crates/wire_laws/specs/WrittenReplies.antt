@@ -12,7 +12,8 @@ use Rattle.upload_wire.specs.ReplyText.{reply}
 use Rattle.upload_wire.specs.declared.request.Style.{Style}
 use Rattle.upload_client.specs.AnswerText.{FindsAnswer, code_of, max_answer}
 use Rattle.upload_client.specs.Heard.{bare, reply_heard}
-use Rattle.upload_client.specs.UnambiguousReplies.{ReplyParse, heard, refused, unreadable, too_large, cut, ParsesAs}
+use Rattle.upload_client.specs.UnambiguousReplies.{ReplyParse, heard, refused, unreadable, too_large, cut}
+use Rattle.upload_client.specs.UnambiguousReplies.{ParsesAsReply}
 use Rattle.upload_client.specs.declared.heard.Heard.{Heard}
 use Rattle.upload_client.specs.declared.heard.HeardFault.{HeardFault}
 use Rattle.upload_client.specs.declared.heard.HeardFault.TheVariants as Reply
@@ -83,19 +84,19 @@ reply_read answer style rest =
 -- ---- the law
 
 -- what a reader of replies gives where the text is read so, unless memory was wanting; it holds `left` then
-abbrev pub Gives : ReplyParse → List ℕ → Result Heard HeardFault → Bool → Type 0
-Gives (heard what goes_on rest) left given keep = (given ≡ Ok what) × (left ≡ rest) × (keep ≡ goes_on)
-Gives refused left given keep = given ≡ Err Reply.Unreadable
-Gives unreadable left given keep = given ≡ Err Reply.Unreadable
-Gives too_large left given keep = given ≡ Err Reply.TooLarge
-Gives cut left given keep = (given ≡ Err Reply.Truncated) ⊎ (given ≡ Err Reply.Read)
+abbrev pub ReaderGives : ReplyParse → List ℕ → Result Heard HeardFault → Bool → Type 0
+ReaderGives (heard what goes_on rest) left given keep = (given ≡ Ok what) × (left ≡ rest) × (keep ≡ goes_on)
+ReaderGives refused left given keep = given ≡ Err Reply.Unreadable
+ReaderGives unreadable left given keep = given ≡ Err Reply.Unreadable
+ReaderGives too_large left given keep = given ≡ Err Reply.TooLarge
+ReaderGives cut left given keep = (given ≡ Err Reply.Truncated) ⊎ (given ≡ Err Reply.Read)
 
 -- the text is read so and in no other way, and a reader of it gives just that
 pub record IsReadOnlyAs (head_only : Bool) (text : List ℕ) (new : SourceState) (parse : ReplyParse) : Type 0 where
-  pub reads : ParsesAs head_only text new parse
-  pub alone : (other : ReplyParse) → ParsesAs head_only text new other → other ≡ parse
+  pub reads : ParsesAsReply head_only text new parse
+  pub alone : (other : ReplyParse) → ParsesAsReply head_only text new other → other ≡ parse
   pub gives : (left : List ℕ) (given : Result Heard HeardFault) (keep : Bool)
-      → FindsAnswer head_only text left new given keep → given ≢ Err Reply.NoMemory → Gives parse left given keep
+      → FindsAnswer head_only text left new given keep → given ≢ Err Reply.NoMemory → ReaderGives parse left given keep
 
 -- The reply to an answer is read as what the answer says, whatever follows it, and what follows stays.
 abbrev pub RepliesAreHeard : Type 0

@@ -29,7 +29,7 @@ FindsBodyIn (ToEnd most) text body rest new (Err Fault.Read) = length text ≤ m
 FindsBodyIn framing text body rest new (Err Fault.NoMemory) = ⊤
 
 -- some bytes were read, and this was found of a body in what was held and read
-pub record FindsBody
+pub record FindsResponseBody
     (framing : ResponseFraming) (held : List ℕ) (old : SourceState) (body rest : List ℕ) (new : SourceState)
     (r : Result ResponseBodyEnd BodyFault)
     : Type 0 where

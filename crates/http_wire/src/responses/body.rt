@@ -1,8 +1,8 @@
 //! The body of a response, read behind its head.
 ghost use Rattle.std.specs.Prelude.{◌≡◌, ◌+◌, ◌^◌, ◌≤◌, [], Err};
 ghost use Rattle.http_wire.specs.Inputs.{ReadsAtMost};
-ghost use Rattle.http_wire.specs.ResponseBody.{IsFraming, most_of};
-ghost use Rattle.http_wire.specs.Inner.ResponseBodyFinding.{FindsBody, end_of};
+ghost use Rattle.http_wire.specs.ResponseBody.{IsFraming, most_of_response};
+ghost use Rattle.http_wire.specs.Inner.ResponseBodyFinding.{FindsResponseBody, end_of};
 
 use super::framing::ResponseFraming;
 use crate::body::{BodyBuffer, read_bytes};
@@ -27,7 +27,7 @@ fn read_to_end<S: ByteSource, B: BodyBuffer>(
 ) -> Result<ResponseBodyEnd, BodyFault>
     requires small { most ≤ 2 ^ 31 }
     requires empty { B.bytes body.old ≡ [] }
-    ensures found { FindsBody (ResponseFraming.ToEnd most) input.old.buffer.now
+    ensures found { FindsResponseBody (ResponseFraming.ToEnd most) input.old.buffer.now
         (S.state input.old.source.now)
         (B.bytes body.new) input.new.buffer.now (S.state input.new.source.now) result }
     ensures costs { ReadsAtMost S.state (most + 1) (result ≡ Err BodyFault.Read)
@@ -58,10 +58,10 @@ pub fn read_response_body<S: ByteSource, B: BodyBuffer>(
 ) -> Result<ResponseBodyEnd, BodyFault>
     requires small { IsFraming (2 ^ 31) framing }
     requires empty { B.bytes body.old ≡ [] }
-    ensures found { FindsBody framing input.old.buffer.now (S.state input.old.source.now)
+    ensures found { FindsResponseBody framing input.old.buffer.now (S.state input.old.source.now)
         (B.bytes body.new)
         input.new.buffer.now (S.state input.new.source.now) result }
-    ensures costs { ReadsAtMost S.state (most_of framing + 1) (result ≡ Err BodyFault.Read)
+    ensures costs { ReadsAtMost S.state (most_of_response framing + 1) (result ≡ Err BodyFault.Read)
         input.old input.new }
 {
     match framing {

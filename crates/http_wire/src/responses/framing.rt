@@ -1,6 +1,6 @@
 //! How far the body of a response goes, and whether the connection stays behind it.
 ghost use Rattle.std.specs.Prelude.{◌≡◌, ◌∷◌, ◌^◌, ◌≤◌, [], IfOk};
-ghost use Rattle.http_wire.specs.ResponseBody.{IsFraming, framing_by_length, framing_of, keeps_on};
+ghost use Rattle.http_wire.specs.ResponseBody.{IsFraming, response_framing_by_length, response_framing_of, keeps_on};
 ghost use Rattle.http_wire.specs.Inner.HeadReading.{fields_of};
 ghost use Rattle.http_wire.specs.Inner.HeadSpans.{response_spans};
 
@@ -30,7 +30,7 @@ pub enum FramingFault {
 /// How far a body of a said length goes, where the response has one.
 fn sized(value: &[u8], max_body: u64, empty: bool) -> Result<ResponseFraming, FramingFault>
     requires { max_body ≤ 2 ^ 31 }
-    ensures framed { result ≡ framing_by_length max_body empty (value.now ∷ []) }
+    ensures framed { result ≡ response_framing_by_length max_body empty (value.now ∷ []) }
     ensures kept { IfOk result (IsFraming max_body) }
 {
     match length_of(value, max_body) {
@@ -57,7 +57,7 @@ pub fn response_framing(
 ) -> Result<ResponseFraming, FramingFault>
     requires limit { max_body ≤ 2 ^ 31 }
     requires head { response_spans.IsHeadOf head.now parsed.now }
-    ensures framed { result ≡ framing_of max_body to_head parsed.now.spans.code
+    ensures framed { result ≡ response_framing_of max_body to_head parsed.now.spans.code
         (fields_of response_spans head.now parsed.now) }
     ensures kept { IfOk result (IsFraming max_body) }
 {

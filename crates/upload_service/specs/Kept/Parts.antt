@@ -2,9 +2,9 @@
 use Rattle.std.specs.Prelude.{ℕ, List, [], ◌∷◌, ◌++◌}
 
 -- the bytes of all parts
-abbrev pub joined : List (List ℕ) → List ℕ
-joined [] = []
-joined (part ∷ parts) = part ++ joined parts
+abbrev pub joined_parts : List (List ℕ) → List ℕ
+joined_parts [] = []
+joined_parts (part ∷ parts) = part ++ joined_parts parts
 
 -- the parts with one more, but for an empty one
 abbrev pub with_part : List (List ℕ) → List ℕ → List (List ℕ)
@@ -18,4 +18,4 @@ pub record Parts : Type 0 where
 
 -- all their bytes
 abbrev pub whole : Parts → List ℕ
-whole parts = joined parts.settled ++ parts.tail
+whole parts = joined_parts parts.settled ++ parts.tail

@@ -7,7 +7,7 @@ use Rattle.upload_wire.specs.ReplyText.{reply}
 use Rattle.http_wire.specs.States.{SourceState, SinkState}
 use Rattle.http_wire.specs.Reading.{Gives}
 use Rattle.http_wire.specs.Writing.{TookFront}
-use Rattle.upload_wire.specs.Conversation.{Moves, Exchange, IsKept, HandedOn, Standing, stand, EndsWith, ReadsFail}
+use Rattle.upload_wire.specs.Conversation.{Moves, WireExchange, IsKept, HandedOn, Standing, stand, EndsWith, ReadsFail}
 use Rattle.upload_wire.specs.Conversation.{max_requests, last_style}
 use Rattle.upload_wire.specs.ServerState.{ServerState}
 use Rattle.upload_wire.specs.declared.request.Style.{Style}
@@ -17,18 +17,18 @@ use Rattle.upload_wire.specs.declared.connection.ConnEnd.TheVariants.{Fault}
 use Rattle.upload_wire.specs.declared.connection.ConnFault.TheVariants as Conn
 
 -- How a request behind `count` others was replied to; None where the connection goes on.
-abbrev pub Replies : ℕ → Answer → Style → SinkState → SinkState → Option ConnEnd → Type 0
-Replies count answer style mid after None =
+abbrev pub IsRepliedTo : ℕ → Answer → Style → SinkState → SinkState → Option ConnEnd → Type 0
+IsRepliedTo count answer style mid after None =
     HandedOn mid after (reply answer style) × (style.keep ≡ true) × (count + 1 < max_requests)
-Replies count answer style mid after (Some Clean) = ⊥
-Replies count answer style mid after (Some AfterClose) =
+IsRepliedTo count answer style mid after (Some Clean) = ⊥
+IsRepliedTo count answer style mid after (Some AfterClose) =
     HandedOn mid after (reply answer (last_style count style)) × (style.keep ≡ false)
-Replies count answer style mid after (Some AfterBad) = ⊥
-Replies count answer style mid after (Some TooMany) =
+IsRepliedTo count answer style mid after (Some AfterBad) = ⊥
+IsRepliedTo count answer style mid after (Some TooMany) =
     HandedOn mid after (reply answer (last_style count style)) × (style.keep ≡ true) × (count + 1 ≡ max_requests)
-Replies count answer style mid after (Some DeskGone) = ⊥
-Replies count answer style mid after (Some (Fault (Conn.Wire fault))) = ⊥
-Replies count answer style mid after (Some (Fault Conn.Write)) =
+IsRepliedTo count answer style mid after (Some DeskGone) = ⊥
+IsRepliedTo count answer style mid after (Some (Fault (Conn.Wire fault))) = ⊥
+IsRepliedTo count answer style mid after (Some (Fault Conn.Write)) =
     TookFront mid after (reply answer (last_style count style))
 
 -- How what is no request was replied to.
@@ -46,7 +46,7 @@ pub record GoesOn {D : Type 0} (step : Moves D) (max_body : ℕ) (old new : Stan
   pub given : List ℕ
   pub gives : Gives old.source new.source given
   pub unfailed : new.source.failed_reads ≡ old.source.failed_reads
-  pub exchange : Exchange
+  pub exchange : WireExchange
   pub read : old.held ++ given ≡ exchange.message ++ new.held
   pub kept : IsKept max_body exchange
   pub answered : step old.desk exchange.ask (Some exchange.answer) new.desk

@@ -6,7 +6,7 @@ use Rattle.http_wire.specs.States.{SourceState}
 use Rattle.http_wire.specs.Reading.{HasEnded}
 use Rattle.http_wire.specs.Fields.{values_of, keeps_connection}
 use Rattle.http_wire.specs.Body.{framing_of}
-use Rattle.upload_wire.specs.Target.{Asks, extent_of, with_body}
+use Rattle.upload_wire.specs.Target.{HeadAsks, extent_of, with_body}
 use Rattle.http_wire.specs.Inner.HeadReading.{fields_of}
 use Rattle.http_wire.specs.Inner.HeadSpans.{request_spans}
 use Rattle.http_wire.specs.Inner.BodyReading.{MovedNone}
@@ -25,7 +25,7 @@ use Rattle.upload_wire.specs.declared.request.Described.{Described}
 
 -- what the spans of a head ask, how they want the reply, and how they frame the body
 pub record DescribesAll (max_body : ℕ) (head : List ℕ) (p : ParsedRequest) (d : Described) : Type 0 where
-  pub asks : Asks (span_bytes head p.spans.method) (span_bytes head p.spans.path)
+  pub asks : HeadAsks (span_bytes head p.spans.method) (span_bytes head p.spans.path)
       (extent_of (values_of (codes "content-range") (fields_of request_spans head p))) d.ask
   pub is_head : d.style.head ≡ bytes_eq (span_bytes head p.spans.method) (codes "HEAD")
   pub keeps : d.style.keep ≡ keeps_connection p.spans.version (fields_of request_spans head p)

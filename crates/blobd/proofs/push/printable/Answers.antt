@@ -1,5 +1,5 @@
 use Rattle.std.proofs.Common.{◌≡◌, ℕ, List, true, sym, ap, ◌∙◌}
-use Rattle.blobd.specs.Pushed.{is_word, shown}
+use Rattle.blobd.specs.Pushed.{is_word, shown_code}
 use Rattle.blobd.proofs.PrintedTexts.{visible_utf8, word_visible, read_text, shown_word}
 use Rattle.blobd.proofs.push.printable.Goals as goal
 
@@ -13,4 +13,4 @@ returns-in-Some c =
     let read =
     read_text c.from_utf8.result (λ s. s.now) _ text _ (visible_utf8 text (word_visible text word))
     c.from_utf8.ensures.cases in
-    ap (λ s. s.now) c.unwrap_or.ensures ∙ read ∙ same ∙ shown_word code seen ∙ sym (ap shown c.in-Some.is)
+    ap (λ s. s.now) c.unwrap_or.ensures ∙ read ∙ same ∙ shown_word code seen ∙ sym (ap shown_code c.in-Some.is)

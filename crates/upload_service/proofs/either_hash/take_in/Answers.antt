@@ -1,7 +1,7 @@
 use Rattle.std.proofs.Common.{◌≡◌, ◌++◌, ◌+◌, List, ℕ, ap, sym, ◌∙◌, arith, take, length, subst}
 use Rattle.std.proofs.lemmas.List.{append-nil, append_assoc}
 use Rattle.std.proofs.Math.Seq.{take-length}
-use Rattle.upload_service.specs.Kept.Parts.{joined}
+use Rattle.upload_service.specs.Kept.Parts.{joined_parts}
 use Rattle.upload_service.proofs.Parts.{joined-take_next}
 use Rattle.upload_service.proofs.either_hash.take_in.Goals as goal
 
@@ -11,8 +11,9 @@ loop-part-init g c = λ before holds. subst (g.H.Digest.holds c.args.hash.now) (
 pub loop-part-preserved : goal.loop-part-preserved
 loop-part-preserved g c = λ before holds.
     let parts : List (List ℕ) = c.args.parts.now in
-    let front : List ℕ = joined (take c.loop-part.part-index parts) in
-    let next : (before ++ front) ++ c.as_slice.result.now ≡ before ++ joined (take (c.loop-part.part-index + 1) parts) =
+    let front : List ℕ = joined_parts (take c.loop-part.part-index parts) in
+    let next : (before ++ front) ++ c.as_slice.result.now
+    ≡ before ++ joined_parts (take (c.loop-part.part-index + 1) parts) =
     append_assoc before front c.as_slice.result.now
     ∙ ap (λ r. before ++ r)
     (ap (λ r. front ++ r) (c.as_slice.ensures ∙ c.part-item.is) ∙ sym (joined-take_next parts c.loop-part.part-index
@@ -25,5 +26,6 @@ returns g c = λ before holds.
     let parts : List (List ℕ) = c.args.parts.now in
     let end : c.loop-part.part-index ≡ length parts =
     omega (arith, c.loop-part-test.false, c.loop-part.auto.part-index-end) in
-    subst (λ r. g.H.Digest.holds c.loop-part.hash (before ++ joined r)) (ap (λ n. take n parts) end ∙ take-length parts)
+    subst (λ r. g.H.Digest.holds c.loop-part.hash (before ++ joined_parts r))
+    (ap (λ n. take n parts) end ∙ take-length parts)
     (c.loop-part.invariant before holds)

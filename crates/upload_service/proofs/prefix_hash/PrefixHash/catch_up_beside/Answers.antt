@@ -1,6 +1,6 @@
 use Rattle.std.proofs.Common.{List, ℕ, take, drop, length, ◌++◌, ◌-◌, sym, subst}
-use Rattle.upload_service.specs.Kept.Parts.{joined}
-use Rattle.upload_service.specs.Kept.Running.{Holds}
+use Rattle.upload_service.specs.Kept.Parts.{joined_parts}
+use Rattle.upload_service.specs.Kept.Running.{RunningHolds}
 use Rattle.upload_service.proofs.Prefixes.{holds_all}
 use Rattle.upload_service.proofs.prefix_hash.PrefixHash.catch_up_beside.Goals as goal
 
@@ -8,8 +8,10 @@ pub returns : goal.returns
 returns g c = λ by before.
     let settled : List (List ℕ) = c.args.settled.now in
     let held : ℕ = c.args.self.now.held in
-    let front : List ℕ = joined (take held settled) in
+    let front : List ℕ = joined_parts (take held settled) in
     holds_all by settled held c.go_on.result
-    (subst (λ (n : ℕ). Holds by c.go_on.result (front ++ joined (take (length settled - n) (drop n settled))))
+    (subst
+    (λ (n : ℕ). RunningHolds by c.go_on.result (front ++ joined_parts (take (length settled - n) (drop n settled))))
     c.take_running-running.ensures.held
-    (c.go_on.ensures by front (subst (λ r. Holds by r front) (sym c.take_running-running.ensures.taken) before.holds)))
+    (c.go_on.ensures by front
+    (subst (λ r. RunningHolds by r front) (sym c.take_running-running.ensures.taken) before.holds)))
