@@ -18,18 +18,13 @@ use Rattle.upload_client.specs.declared.heard.Heard.{Heard}
 use Rattle.upload_intake.specs.Log.{Step}
 use Rattle.upload_push.specs.Promise.{IsStored}
 use Rattle.upload_push.specs.Runs.{IsHeardOf}
-use Rattle.upload_push.specs.Slices.{Push, Attempt, LastIsAnswered, HeardStatus, IsClose, IsSound, IsSoundAsk}
+use Rattle.upload_push.specs.Slices.{Push, Attempt, LastIsAnswered, HeardStatus, IsClose, IsSound}
+use Rattle.upload_push.proofs.Requests.{own_close}
 use Rattle.upload_push.proofs.Turns.{None≢Some, same_inside}
 use Rattle.end_to_end.specs.Marks.{heard, Marked}
 use Rattle.end_to_end.proofs.Placing.{IsLast}
 
 -- ---- the step of the close
-
-close_is : (p : Push) (log : List Attempt) (ask : Ask) → IsSoundAsk p log ask → IsClose ask
-    → (upload : List ℕ) × (ask ≡ asks.Close p.name upload Absent (Some p.digest) [])
-close_is p log (asks.Close name at range digest body) sound close =
-    (at, λ i. asks.Close (sound.0 i) at (sound.2.no_range i) (sound.2.own_digest i) (sound.2.no_body i))
-close_is p log other sound close = absurd close
 
 -- the last of these steps is the close of a push, whose reply said 201
 pub record IsClosedBy (p : Push) (front : List Marked) : Type 0 where
@@ -50,15 +45,15 @@ closed_by p (e ∷ log) front sound ends last =
       | None ↦ λ is status. absurd status
       | Some what ↦ λ is status.
           let place = last what is in
-          let close = close_is p log e.ask sound.0 ends.0 in
+          let close = own_close p log e.ask sound.0 ends.0 in
           record {
             earlier = place.earlier;
             step = place.step;
             ask = e.ask;
             what = what;
             split = place.split;
-            upload = close.0;
-            asked = close.1;
+            upload = close.at;
+            asked = close.is;
             is_created = status;
           }
     ] refl ends.1

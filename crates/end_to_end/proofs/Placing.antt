@@ -11,7 +11,7 @@ use Rattle.upload_service.specs.Session.{carries}
 use Rattle.upload_service.specs.UploadView.{upload_view}
 use Rattle.upload_service.specs.declared.ask.Ask.{Ask}
 use Rattle.upload_service.specs.declared.ask.Ask.TheVariants as asks
-use Rattle.upload_service.specs.declared.ask.Extent.TheVariants.{Absent, Bad, Given}
+use Rattle.upload_service.specs.declared.ask.Extent.TheVariants.{Absent, Given}
 use Rattle.upload_client.specs.declared.heard.Heard.{Heard}
 use Rattle.upload_intake.specs.Log.{Step}
 use Rattle.upload_push.specs.Promise.{Avoids}
@@ -19,6 +19,7 @@ use Rattle.upload_push.specs.Runs.{AskedInRun, IsHeardOf, IsRequestOf, IsHarmles
 use Rattle.upload_push.specs.Slices.{Push, Attempt, IsSoundAsk, Leads, heard_offset, heard_place, place_after}
 use Rattle.upload_push.proofs.Turns.{None≢Some, same_inside}
 use Rattle.upload_push.proofs.Uploads.{part_of_next}
+use Rattle.upload_push.proofs.Requests.{by_sound}
 use Rattle.upload_service.proofs.Tables.{one_or_two, same_from_ne}
 use Rattle.end_to_end.specs.Marks.{other, heard, unheard, Marked, exchanges_in, asked_and_told, heard_in, heard_by}
 use Rattle.end_to_end.specs.Marks.{Agrees}
@@ -38,23 +39,22 @@ by_reference p at ask to is own =
 pub own_harmless : (p : Push) (place : Option (List ℕ)) (log : List Attempt) (ask : Ask) → IsSoundAsk p log ask
     → IsHarmless p place ask
 own_harmless p None log ask sound = tt
-own_harmless p (Some at) log (asks.Opening name) sound = inl refl
-own_harmless p (Some at) log (asks.Has name digest head) sound = inl refl
-own_harmless p (Some at) log (asks.Status name to) sound =
-    by_reference p at (asks.Status name to) to refl (λ is. (sound.0, is, tt))
-own_harmless p (Some at) log (asks.Chunk name to (Given range) body) sound =
-    by_reference p at (asks.Chunk name to (Given range) body) to refl
-    (λ is. (sound.0, is, part_of_next p (heard_offset log) range body sound.2))
-own_harmless p (Some at) log (asks.Chunk name to Absent body) sound = absurd sound.2
-own_harmless p (Some at) log (asks.Chunk name to Bad body) sound = absurd sound.2
-own_harmless p (Some at) log (asks.Close name to range digest body) sound =
-    by_reference p at (asks.Close name to range digest body) to refl
-    (λ is.
-    (sound.0, is, record { no_range = sound.2.no_range; own_digest = sound.2.own_digest; no_body = sound.2.no_body }))
-own_harmless p (Some at) log asks.Base sound = absurd sound
-own_harmless p (Some at) log (asks.Single name digest body) sound = absurd sound
-own_harmless p (Some at) log (asks.Mount name digest source) sound = absurd sound
-own_harmless p (Some at) log (asks.Refused refusal) sound = absurd sound
+own_harmless p (Some at) log ask sound =
+    by_sound p log (IsHarmless p (Some at))
+    (record {
+      opening = inl refl;
+      chunk =
+          λ to range body place next.
+          by_reference p at (asks.Chunk p.name to (Given range) body) to refl
+          (λ is. (refl, is, part_of_next p (heard_offset log) range body next));
+      status = λ to place. by_reference p at (asks.Status p.name to) to refl (λ is. (refl, is, tt));
+      close =
+          λ to place all.
+          by_reference p at (asks.Close p.name to Absent (Some p.digest) []) to refl
+          (λ is. (refl, is, record { no_range = refl; own_digest = refl; no_body = refl }));
+      head = inl refl;
+    })
+    ask sound
 
 harmless : (p : Push) (place : Option (List ℕ)) (ask : Ask) → Avoids place ask → IsHarmless p place ask
 harmless p None ask avoids = tt

@@ -8,7 +8,6 @@ use Rattle.std.proofs.lemmas.Bool.{eq-eqb}
 use Rattle.std.proofs.lemmas.List.{map-append}
 use Rattle.upload_service.specs.Machine.{State, AreLawful, IsLawful, Turn}
 use Rattle.upload_service.specs.declared.ask.Ask.{Ask}
-use Rattle.upload_service.specs.declared.ask.Ask.TheVariants as asked
 use Rattle.upload_service.specs.declared.answer.Answer.{Answer}
 use Rattle.http_wire.specs.States.{SourceState, SinkState}
 use Rattle.upload_wire.specs.Conversation.{Moves, WireExchange, EndsWith, stand}
@@ -28,6 +27,7 @@ use Rattle.upload_intake.proofs.Working.{behind}
 use Rattle.upload_push.specs.Runs.{IsHeardOf}
 use Rattle.upload_push.specs.Slices.{Push, IsSound, IsSoundAsk}
 use Rattle.upload_push.specs.Slices as push
+use Rattle.upload_push.proofs.Requests.{by_sound}
 use Rattle.wire_laws.specs.Joined.{TransportCall, IsAudible, IsNoGet, IsOneOf, AnswerSays, AreUnanswered, AreJoined}
 use Rattle.wire_laws.specs.WrittenAsks.{HasLawfulParts, written_style}
 use Rattle.wire_laws.specs.WrittenExchanges.{HasSize, MayBeAsked}
@@ -167,16 +167,16 @@ own_marks p (k ∷ ks) (y ∷ ys) us own = (own.0, own_marks p ks ys us own.1)
 
 -- a push asks for no blob by a GET
 sound_no_get : (p : Push) (log : List push.Attempt) (ask : Ask) → IsSoundAsk p log ask → IsNoGet ask
-sound_no_get p log (asked.Opening name) sound = tt
-sound_no_get p log (asked.Has name digest true) sound = tt
-sound_no_get p log (asked.Has name digest false) sound = let is = sound.2 in absurd (cc)
-sound_no_get p log (asked.Status name at) sound = tt
-sound_no_get p log (asked.Chunk name at range body) sound = tt
-sound_no_get p log (asked.Close name at range digest body) sound = tt
-sound_no_get p log asked.Base sound = tt
-sound_no_get p log (asked.Single name digest body) sound = tt
-sound_no_get p log (asked.Mount name digest source) sound = tt
-sound_no_get p log (asked.Refused refusal) sound = tt
+sound_no_get p log ask sound =
+    by_sound p log IsNoGet
+    (record {
+      opening = λ name digest is. cc;
+      chunk = λ at range body place next name digest is. cc;
+      status = λ at place name digest is. cc;
+      close = λ at place all name digest is. cc;
+      head = λ name digest is. cc;
+    })
+    ask sound
 
 -- a request of a push is sound behind those before it
 sound_behind : (p : Push) (later earlier : List push.Attempt) (e : push.Attempt) → IsSound p (later ++ e ∷ earlier)

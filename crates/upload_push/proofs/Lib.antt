@@ -8,6 +8,7 @@ pub mod References
 pub mod Turns
 pub mod Uploads
 pub mod Ends
+pub mod Requests
 pub mod Worth
 pub mod Lossy
 pub mod RuledOut

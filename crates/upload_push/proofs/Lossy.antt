@@ -179,5 +179,5 @@ look_worth laws p old new first lawful asked =
     let after = lawful_after laws old.service new.service log lawful.service inside in (
       record { service = after; secret = secret_after old new log lawful.secret leads },
       λ found. there_by_pair p new.service after (pair_at_end p old.service new.service log IsHead 200 (looked_pair p)
-          ((refl, refl, refl), tt) inside (refl, found_status first found)),
+          ((refl, refl, refl), tt) inside ((p.name, p.digest, refl), found_status first found)),
     )

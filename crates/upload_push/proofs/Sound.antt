@@ -12,6 +12,7 @@ use Rattle.upload_push.specs.Slices.{Push, IsLawfulPush, Attempt, after_all, log
 use Rattle.upload_push.specs.Slices.{heard_offset, heard_place, place_after, IsSound, LastIsAnswered, EndsRefused}
 use Rattle.upload_push.specs.Slices.{AreUnheard}
 use Rattle.upload_push.specs.Slices.{IsClose, IsHead}
+use Rattle.upload_service.specs.declared.ask.Extent.TheVariants.{Absent}
 use Rattle.upload_client.specs.declared.heard.Heard.{Heard}
 use Rattle.upload_push.specs.declared.pusher.PushAsk.{PushAsk}
 use Rattle.upload_push.specs.declared.pusher.PushAsk.TheVariants as asks
@@ -114,7 +115,7 @@ answered_next p log s (Sending at offset) h is tracks =
     cond_case_both (Next p log (Some h)) (nat_lt offset (length p.file)) _ _ _ _
     (λ lt. chunk_next p log s at offset h tracks)
     (λ ge. cond_case (Next p log (Some h) (Some (asks.Close at))) (h.status == 201) _ _
-    (λ ok. (tt, eqb-true h.status 201 ok))
+    (λ ok. ((p.name, at, Absent, Some p.digest, [], refl), eqb-true h.status 201 ok))
     (λ not. (refl, refl)))
 answered_next p log s (Asking at) h is tracks =
     cond_case (Next p log (Some h) (Some (asks.Status at))) (h.status == 204) _ _
@@ -124,7 +125,7 @@ answered_next p log s (Asking at) h is tracks =
     (λ not. (refl, refl)))
 answered_next p log s Looking h is tracks =
     cond_case (Next p log (Some h) (Some asks.Head)) (h.status == 200) _ _
-    (λ ok. (refl, eqb-true h.status 200 ok))
+    (λ ok. ((p.name, p.digest, refl), eqb-true h.status 200 ok))
     (λ not. (refl, refl))
 answered_next p log s (Done outcome) h is tracks = subst (Tracks p log) (sym is) tracks
 answered_next p log s (GaveUp why) h is tracks = subst (Tracks p log) (sym is) tracks

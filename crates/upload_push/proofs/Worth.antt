@@ -1,17 +1,15 @@
 -- The way of a push through a run of the service, and what its end is worth.
-use Rattle.std.proofs.Common.{refl, ◌≡◌, ℕ, inl, inr, Bool, List, [], ◌∷◌, Option, Some, None, ap, subst, sym, ◌∙◌}
+use Rattle.std.proofs.Common.{refl, ◌≡◌, ℕ, inl, inr, true, List, [], ◌∷◌, Option, Some, None, ap, subst, sym, ◌∙◌}
 use Rattle.std.specs.Prelude.{Result, Ok, IsTrue}
-use Rattle.upload_names.specs.Digest.{Digest}
 use Rattle.upload_service.specs.declared.ask.Ask.{Ask}
 use Rattle.upload_service.specs.declared.ask.Ask.TheVariants as asks
-use Rattle.upload_service.specs.declared.ask.Extent.{Extent}
 use Rattle.upload_service.specs.declared.ask.Extent.TheVariants.{Absent, Bad, Given}
 use Rattle.upload_service.specs.declared.answer.Answer.{Answer}
 use Rattle.upload_service.specs.Machine.{State, Turn, IsLawful, holds}
 use Rattle.upload_service.specs.Headline.{HeadlineHolds, OthersLeaveIt}
 use Rattle.upload_service.specs.Run as served
 use Rattle.upload_service.specs.Run.{Run}
-use Rattle.upload_service.specs.UploadView.{Sends, AsksOffset, Closes, UploadView, OfSession, Opens, WholeBlob}
+use Rattle.upload_service.specs.UploadView.{Act, Sends, AsksOffset, Closes, UploadView, OfSession, Opens, WholeBlob}
 use Rattle.upload_service.specs.UploadView.{Unrelated, upload_view}
 use Rattle.upload_client.specs.Heard.{reply_heard}
 use Rattle.upload_push.specs.Slices.{Push, Attempt, after_all, log_of, heard_offset, heard_place, offset_by}
@@ -19,8 +17,8 @@ use Rattle.upload_push.specs.Slices.{offset_after, place_after, IsSound, IsSound
 use Rattle.upload_push.specs.Slices.{HeardStatus, Leads, IsEnd}
 use Rattle.upload_push.specs.World.{IsSecret}
 use Rattle.upload_push.specs.Promise.{IsStored}
-use Rattle.upload_push.specs.Runs.{IsHeardOf, IsTurn, ComesTo, AskedInRun, IsRequestOf, IsHarmless, AreHarmless}
-use Rattle.upload_push.specs.Runs.{IsQuietRun, PushPromiseInRuns}
+use Rattle.upload_push.specs.Runs.{IsHeardOf, IsTurn, ComesTo, AskedInRun, IsActOf, IsRequestOf, IsHarmless}
+use Rattle.upload_push.specs.Runs.{AreHarmless, IsQuietRun, PushPromiseInRuns}
 use Rattle.upload_client.specs.declared.heard.Heard.{Heard}
 use Rattle.upload_push.specs.declared.pusher.Outcome.{Outcome}
 use Rattle.upload_push.specs.declared.pusher.Outcome.TheVariants.{Pushed, Already}
@@ -29,6 +27,8 @@ use Rattle.upload_push.specs.declared.pusher.Phase.TheVariants.{Done}
 use Rattle.upload_push.specs.declared.pushing.PushFault.{PushFault}
 use Rattle.upload_push.proofs.Sound.{all_sound, pushed_last, already_last}
 use Rattle.upload_push.proofs.Turns.{lawful_turn, None≢Some, same_inside}
+use Rattle.upload_service.proofs.Steps.{session_ask}
+use Rattle.upload_push.proofs.Requests.{by_sound, own_act, own_close, own_head, whole_close}
 use Rattle.upload_push.proofs.Uploads.{IsUpload, IsKept, PlacesReadBack, others_keep, part_of_next, chunk_keeps}
 use Rattle.upload_push.proofs.Uploads.{status_keeps, close_keeps, opening_keeps, has_keeps}
 use Rattle.upload_push.proofs.Ends.{there_by_pair, close_leaves_pair, close_leaves_file, head_finds_pair}
@@ -39,27 +39,6 @@ pub record Laws : Type 0 where
   pub others : OthersLeaveIt
   pub reads : PlacesReadBack
 
--- a close of the push, spelled out
-whole_close : (p : Push) (s : State) (secret : List ℕ) (now : ℕ) (at : List ℕ) (range : Extent) (digest : Option Digest)
-    (body : List ℕ) (answer : Answer) (new : State) → range ≡ Absent → digest ≡ Some p.digest → body ≡ []
-    → Turn s (asks.Close p.name at range digest body) secret now answer new
-    → Turn s (asks.Close p.name at Absent (Some p.digest) []) secret now answer new
-whole_close p s secret now at range digest body answer new no_range own_digest no_body turn =
-    let T : Ask → Type 0 = λ a. Turn s a secret now answer new in
-    subst (λ (b : List ℕ). T (asks.Close p.name at Absent (Some p.digest) b)) no_body
-    (subst (λ (d : Option Digest). T (asks.Close p.name at Absent d body)) own_digest
-    (subst (λ (x : Extent). T (asks.Close p.name at x digest body)) no_range turn))
-
-sound_close : (p : Push) (log : List Attempt) (s : State) (secret : List ℕ) (now : ℕ)
-    (name at : List ℕ) (range : Extent) (digest : Option Digest) (body : List ℕ) (answer : Answer) (new : State)
-    → IsSoundAsk p log (asks.Close name at range digest body)
-    → Turn s (asks.Close name at range digest body) secret now answer new
-    → Turn s (asks.Close p.name at Absent (Some p.digest) []) secret now answer new
-sound_close p log s secret now name at range digest body answer new sound turn =
-    let T : List ℕ → Type 0 = λ n. Turn s (asks.Close n at range digest body) secret now answer new in
-    whole_close p s secret now at range digest body answer new sound.2.no_range sound.2.own_digest sound.2.no_body
-    (subst T sound.0 turn)
-
 -- ---- what is served between its requests
 
 lawful_run : Laws → (old : State) (xs : List served.Exchange) (new : State) → IsLawful old
@@ -69,25 +48,27 @@ lawful_run laws old (x ∷ xs) new lawful run =
     lawful_run laws run.0 xs new (lawful_turn laws.headline old x.ask x.secret x.now x.answer run.0 lawful run.1) run.2
 
 -- a request of the push that comes late leaves its upload
+act_keeps : Laws → (p : Push) (s : State) (secret : List ℕ) (now : ℕ) (at : List ℕ) (offset : ℕ) (act : Act)
+    (answer : Answer) (new : State) → IsLawful s → IsActOf p act → IsUpload p.file s (Some at) offset
+    → Turn s (session_ask p.name at act) secret now answer new → IsUpload p.file new (Some at) offset
+act_keeps laws p s secret now at offset (Sends (Given range) body) answer new lawful own up turn =
+    (chunk_keeps laws.reads p s now secret at offset range body answer new own up turn).0
+act_keeps laws p s secret now at offset (Sends Absent body) answer new lawful own up turn = absurd own
+act_keeps laws p s secret now at offset (Sends Bad body) answer new lawful own up turn = absurd own
+act_keeps laws p s secret now at offset AsksOffset answer new lawful own up turn =
+    (status_keeps p s now secret at offset answer new up turn).0
+act_keeps laws p s secret now at offset (Closes range digest body) answer new lawful own up turn =
+    (close_keeps p s now secret at offset answer new lawful up
+    (subst (λ a. Turn s a secret now answer new)
+    (whole_close p at range digest body own.no_range own.own_digest own.no_body) turn)).0
+
 late_keeps : Laws → (p : Push) (s : State) (secret : List ℕ) (now : ℕ) (at : List ℕ) (offset : ℕ) (ask : Ask)
     (answer : Answer) (new : State) → IsLawful s → IsRequestOf p at (upload_view ask)
     → IsUpload p.file s (Some at) offset → Turn s ask secret now answer new → IsUpload p.file new (Some at) offset
-late_keeps laws p s secret now at offset (asks.Chunk name to (Given range) body) answer new lawful is up turn =
-    let T : List ℕ → List ℕ → Type 0 = λ n r. Turn s (asks.Chunk n r (Given range) body) secret now answer new in
-    (chunk_keeps laws.reads p s now secret at offset range body answer new is.2 up
-    (subst (λ (n : List ℕ). T n at) is.0 (subst (λ (r : List ℕ). T name r) is.1 turn))).0
-late_keeps laws p s secret now at offset (asks.Chunk name to Absent body) answer new lawful is up turn = absurd is.2
-late_keeps laws p s secret now at offset (asks.Chunk name to Bad body) answer new lawful is up turn = absurd is.2
-late_keeps laws p s secret now at offset (asks.Status name to) answer new lawful is up turn =
-    let T : List ℕ → List ℕ → Type 0 = λ n r. Turn s (asks.Status n r) secret now answer new in
-    (status_keeps p s now secret at offset answer new up
-    (subst (λ (n : List ℕ). T n at) is.0 (subst (λ (r : List ℕ). T name r) is.1 turn))).0
-late_keeps laws p s secret now at offset (asks.Close name to range digest body) answer new lawful is up turn =
-    let T : List ℕ → List ℕ → Type 0 = λ n r. Turn s (asks.Close n r range digest body) secret now answer new in
-    let mine = subst (λ (n : List ℕ). T n at) is.0 (subst (λ (r : List ℕ). T name r) is.1 turn) in
-    (close_keeps p s now secret at offset answer new lawful up
-    (whole_close p s secret now at range digest body answer new is.2.no_range is.2.own_digest is.2.no_body mine)).0
-late_keeps laws p s secret now at offset other answer new lawful is up turn = absurd is
+late_keeps laws p s secret now at offset ask answer new lawful is up turn =
+    let late = own_act p at ask is in
+    act_keeps laws p s secret now at offset late.act answer new lawful late.own up
+    (subst (λ a. Turn s a secret now answer new) late.is turn)
 
 -- so does what doesn't carry its reference
 harmless_keeps : Laws → (p : Push) (s : State) (x : served.Exchange) (new : State) (place : Option (List ℕ))
@@ -117,40 +98,30 @@ own_keeps : Laws → (p : Push) (log : List Attempt) (s : State) (secret : List 
     (now : ℕ) (ask : Ask) (answer : Answer) (new : State) → IsSecret secret → IsLawful s → IsSoundAsk p log ask
     → IsUpload p.file s (heard_place p.name log) (heard_offset log) → Turn s ask secret now answer new
     → IsKept p ask (heard_place p.name log) (heard_offset log) answer new
-own_keeps laws p log s secret now (asks.Opening name) answer new is_secret lawful sound up turn =
-    let K : List ℕ → Type 0 = λ n. Turn s (asks.Opening n) secret now answer new in
-    opening_keeps laws.reads laws.others p s now secret (heard_place p.name log) (heard_offset log) answer new is_secret
-    lawful up (subst K sound turn)
-own_keeps laws p log s secret now (asks.Chunk name at (Given range) body) answer new is_secret lawful sound up turn =
-    let K : List ℕ → Type 0 = λ n. Turn s (asks.Chunk n at (Given range) body) secret now answer new in
-    let U : Option (List ℕ) → Type 0 = λ x. IsUpload p.file s x (heard_offset log) in
-    let V : Option (List ℕ) → Type 0 =
-    λ x. IsKept p (asks.Chunk name at (Given range) body) x (heard_offset log) answer new in
-    subst V (sym sound.1)
-    (chunk_keeps laws.reads p s now secret at (heard_offset log) range body answer new
-    (part_of_next p (heard_offset log) range body sound.2) (subst U sound.1 up) (subst K sound.0 turn))
-own_keeps laws p log s secret now (asks.Chunk name at Absent body) answer new is_secret lawful sound up turn =
-    absurd sound.2
-own_keeps laws p log s secret now (asks.Chunk name at Bad body) answer new is_secret lawful sound up turn =
-    absurd sound.2
-own_keeps laws p log s secret now (asks.Status name at) answer new is_secret lawful sound up turn =
-    let K : List ℕ → Type 0 = λ n. Turn s (asks.Status n at) secret now answer new in
-    let U : Option (List ℕ) → Type 0 = λ x. IsUpload p.file s x (heard_offset log) in
-    let V : Option (List ℕ) → Type 0 = λ x. IsKept p (asks.Status name at) x (heard_offset log) answer new in
-    subst V (sym sound.1)
-    (status_keeps p s now secret at (heard_offset log) answer new (subst U sound.1 up) (subst K sound.0 turn))
-own_keeps laws p log s secret now (asks.Close name at range digest body) answer new is_secret lawful sound up turn =
-    let U : Option (List ℕ) → Type 0 = λ x. IsUpload p.file s x (heard_offset log) in
-    let V : Option (List ℕ) → Type 0 =
-    λ x. IsKept p (asks.Close name at range digest body) x (heard_offset log) answer new in
-    subst V (sym sound.1)
-    (close_keeps p s now secret at (heard_offset log) answer new lawful (subst U sound.1 up)
-    (sound_close p log s secret now name at range digest body answer new sound turn))
-own_keeps laws p log s secret now (asks.Has name digest head) answer new is_secret lawful sound up turn =
-    let K : List ℕ → Type 0 = λ n. Turn s (asks.Has n digest head) secret now answer new in
-    has_keeps p s now secret (heard_place p.name log) (heard_offset log) digest head answer new up
-    (subst K sound.0 turn)
-own_keeps laws p log s secret now other answer new is_secret lawful sound up turn = absurd sound
+own_keeps laws p log s secret now ask answer new is_secret lawful sound up turn =
+    let place = heard_place p.name log in
+    let offset = heard_offset log in
+    let U : Option (List ℕ) → Type 0 = λ x. IsUpload p.file s x offset in
+    let K : Ask → Option (List ℕ) → Type 0 = λ a x. IsKept p a x offset answer new in
+    by_sound p log (λ a. Turn s a secret now answer new → K a place)
+    (record {
+      opening = opening_keeps laws.reads laws.others p s now secret place offset answer new is_secret lawful up;
+      chunk =
+          λ at range body is next own.
+          subst (K (asks.Chunk p.name at (Given range) body)) (sym is)
+          (chunk_keeps laws.reads p s now secret at offset range body answer new (part_of_next p offset range body next)
+          (subst U is up) own);
+      status =
+          λ at is own.
+          subst (K (asks.Status p.name at)) (sym is)
+          (status_keeps p s now secret at offset answer new (subst U is up) own);
+      close =
+          λ at is all own.
+          subst (K (asks.Close p.name at Absent (Some p.digest) [])) (sym is)
+          (close_keeps p s now secret at offset answer new lawful (subst U is up) own);
+      head = has_keeps p s now secret place offset p.digest true answer new up;
+    })
+    ask sound turn
 
 -- ---- what its requests come to
 
@@ -236,49 +207,45 @@ told_status answer h status reaches is =
 closed_pair : (p : Push) (log : List Attempt) (s : State) (ask : Ask) (heard : Option Heard) (new : State)
     → IsSoundAsk p log ask → IsClose ask → HeardStatus heard 201 → ComesTo s ask heard new
     → IsTrue (holds new p.name p.digest)
-closed_pair p log s (asks.Close name at range digest body) (Some h) new sound close status comes =
+closed_pair p log s ask (Some h) new sound close status comes =
+    let own = own_close p log ask sound close in
     elim comes [
-      | inl t ↦ close_leaves_pair p s t.now t.secret at t.answer new
-          (sound_close p log s t.secret t.now name at range digest body t.answer new sound t.turn)
+      | inl t ↦ close_leaves_pair p s t.now t.secret own.at t.answer new
+          (subst (λ a. Turn s a t.secret t.now t.answer new) own.is t.turn)
           (told_status t.answer h 201 t.reaches status)
       | inr lost ↦ absurd (None≢Some (sym lost.1))
     ]
 closed_pair p log s ask None new sound close status comes = absurd status
-closed_pair p log s other (Some h) new sound close status comes = absurd close
 
 -- a close that is answered 201, of the push's own upload
 closed_file : (p : Push) (log : List Attempt) (s : State) (ask : Ask) (heard : Option Heard) (new : State)
     → IsSoundAsk p log ask → IsUpload p.file s (heard_place p.name log) (heard_offset log) → IsClose ask
     → HeardStatus heard 201 → ComesTo s ask heard new → IsStored p new
-closed_file p log s (asks.Close name at range digest body) (Some h) new sound up close status comes =
+closed_file p log s ask (Some h) new sound up close status comes =
     let U : Option (List ℕ) → Type 0 = λ x. IsUpload p.file s x (heard_offset log) in
+    let own = own_close p log ask sound close in
     elim comes [
       | inl t ↦
-          close_leaves_file p s t.now t.secret at (heard_offset log) t.answer new (subst U sound.1 up) sound.2.all
-          (sound_close p log s t.secret t.now name at range digest body t.answer new sound t.turn)
+          close_leaves_file p s t.now t.secret own.at (heard_offset log) t.answer new (subst U own.place up) own.all
+          (subst (λ a. Turn s a t.secret t.now t.answer new) own.is t.turn)
           (told_status t.answer h 201 t.reaches status)
       | inr lost ↦ absurd (None≢Some (sym lost.1))
     ]
 closed_file p log s ask None new sound up close status comes = absurd status
-closed_file p log s other (Some h) new sound up close status comes = absurd close
 
 -- a look for the blob that is answered 200
 pub looked_pair : (p : Push) (log : List Attempt) (s : State) (ask : Ask) (heard : Option Heard) (new : State)
     → IsSoundAsk p log ask → IsHead ask → HeardStatus heard 200 → ComesTo s ask heard new
     → IsTrue (holds new p.name p.digest)
-looked_pair p log s (asks.Has name digest head) (Some h) new sound is_head status comes =
+looked_pair p log s ask (Some h) new sound is_head status comes =
     elim comes [
       | inl t ↦
-          let T : Ask → Type 0 = λ a. Turn s a t.secret t.now t.answer new in
           head_finds_pair p s t.now t.secret t.answer new
-          (subst (λ (b : Bool). T (asks.Has p.name p.digest b)) sound.2
-          (subst (λ (d : Digest). T (asks.Has p.name d head)) sound.1
-          (subst (λ (n : List ℕ). T (asks.Has n digest head)) sound.0 t.turn)))
+          (subst (λ a. Turn s a t.secret t.now t.answer new) (own_head p log ask sound is_head) t.turn)
           (told_status t.answer h 200 t.reaches status)
       | inr lost ↦ absurd (None≢Some (sym lost.1))
     ]
 looked_pair p log s ask None new sound is_head status comes = absurd status
-looked_pair p log s other (Some h) new sound is_head status comes = absurd is_head
 
 -- the requests of a push that end with such a close, or such a look
 file_at_end : Laws → (p : Push) (old new : State) (log : List Attempt) → IsLawful old

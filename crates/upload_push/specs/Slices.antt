@@ -169,13 +169,15 @@ EndsRefused status code (e ∷ log) = IsHeardAs e.heard status code
 abbrev pub AreUnheard : List (Option Heard) → Type 0
 AreUnheard heard = AllByRecursion (λ (h : Option Heard). h ≡ None) heard
 
+-- a close, of whatever upload
 abbrev pub IsClose : Ask → Type 0
-IsClose (Close name at range digest body) = Unit {0}
-IsClose other = ⊥
+IsClose ask =
+    (name : List ℕ) × (at : List ℕ) × (range : Extent) × (digest : Option Digest) × (body : List ℕ)
+    × (ask ≡ Close name at range digest body)
 
+-- a HEAD of a blob, of whatever digest
 abbrev pub IsHead : Ask → Type 0
-IsHead (Has name digest head) = head ≡ true
-IsHead other = ⊥
+IsHead ask = (name : List ℕ) × (digest : Digest) × (ask ≡ Has name digest true)
 
 -- how many chunks of a size these bytes make
 abbrev pub chunks : ℕ → ℕ → ℕ

@@ -1,10 +1,11 @@
 -- A connection from both of its ends: what a client asked and heard over it is what a worker read and answered on it.
-use Rattle.std.specs.Prelude.{true, false, ◌≡◌, ℕ, ◌≤◌, ◌⊎◌, List, [], ◌∷◌, ◌++◌, length, Option, Some, None, ⊤}
+use Rattle.std.specs.Prelude.{false, ◌≡◌, ◌≢◌, ℕ, ◌≤◌, ◌⊎◌, List, [], ◌∷◌, ◌++◌, length, Option, Some, None, IfSome}
 use Rattle.std.specs.List.{AllByRecursion}
+use Rattle.upload_names.specs.Digest.{Digest}
+use Rattle.upload_service.specs.UploadView.{answer_view}
 use Rattle.upload_service.specs.declared.ask.Ask.{Ask}
 use Rattle.upload_service.specs.declared.ask.Ask.TheVariants as asks
 use Rattle.upload_service.specs.declared.answer.Answer.{Answer}
-use Rattle.upload_service.specs.declared.answer.Answer.TheVariants as answers
 use Rattle.http_wire.specs.States.{SourceState, SinkState}
 use Rattle.upload_wire.specs.ConnectionRuns.{answered, unanswered}
 use Rattle.upload_wire.specs.Conversation.{Moves, WireExchange, IsConversation}
@@ -43,16 +44,7 @@ pub record Transmits (client : WireState) (source : SourceState) (sink : SinkSta
 
 -- a blob that is handed out has no more bytes than a client reads of a reply
 abbrev pub IsShort : Answer → Type 0
-IsShort answers.Base = ⊤
-IsShort (answers.Blob digest size (Some content)) = length content ≤ max_answer
-IsShort (answers.Blob digest size None) = ⊤
-IsShort (answers.Begun name at) = ⊤
-IsShort (answers.Stored name digest) = ⊤
-IsShort (answers.Taken name at next) = ⊤
-IsShort (answers.Standing name at next) = ⊤
-IsShort (answers.Misplaced name at next) = ⊤
-IsShort (answers.Refused refusal) = ⊤
-IsShort answers.NoMemory = ⊤
+IsShort answer = IfSome (answer_view answer).bytes (λ content. length content ≤ max_answer)
 
 -- the answer can be heard in the reply that is written
 pub record IsAudible (x : WireExchange) : Type 0 where
@@ -80,16 +72,7 @@ AreJoined (x ∷ xs) (y ∷ ys) us = (y.ask ≡ x.ask) × AnswerSays y.answer x.
 
 -- no GET of a blob
 abbrev pub IsNoGet : Ask → Type 0
-IsNoGet asks.Base = ⊤
-IsNoGet (asks.Has name digest true) = ⊤
-IsNoGet (asks.Has name digest false) = ⊥
-IsNoGet (asks.Opening name) = ⊤
-IsNoGet (asks.Single name digest body) = ⊤
-IsNoGet (asks.Mount name digest source) = ⊤
-IsNoGet (asks.Chunk name at range body) = ⊤
-IsNoGet (asks.Status name at) = ⊤
-IsNoGet (asks.Close name at range digest body) = ⊤
-IsNoGet (asks.Refused refusal) = ⊤
+IsNoGet ask = (name : List ℕ) (digest : Digest) → ask ≢ asks.Has name digest false
 
 -- the ask is one of these
 abbrev pub IsOneOf : List TransportCall → Ask → Type 0
