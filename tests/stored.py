@@ -15,7 +15,7 @@ import model
 
 TOP = os.path.dirname(os.path.dirname(os.path.abspath(__file__)))
 FOLDER = os.path.join(TOP, "tests", "connections")
-ROWS = "crates/connection_tests/src/connections/stored.rt"
+ROWS = "crates/connection_tests/src/connections/stored/rows.rt"
 # The tests of disturbed streams make these themselves.
 LONGEST_HEADS = {"head-of-16384-bytes", "head-of-16385-bytes"}
 # Tests take these by name.
@@ -38,8 +38,15 @@ PIECES = re.compile(
     r"(?=\?(?:digest|mount)=)|(?<= )(?=HTTP/1)|(?<=,)(?=\\\"message)|(?=sha512:)|(?<=sha512:[0-9a-f]{64})"
 )
 
-# What comes before this in the file is written by hand.
-BEGIN = "/// How many connections there are.\n"
+HEAD = """\
+//! The connections of `tests/connections`, all but the two whose heads have 16 KiB, as `tests/stored.py` writes them.
+//! Each stands in a function of its own, since the prover writes out the constants that a body names.
+
+use super::Stored;
+use http_wire::WireFault;
+use upload_wire::{ConnEnd, ConnFault};
+
+"""
 
 
 def content(name):
@@ -95,7 +102,7 @@ def row(stem, sent):
         lines = "\n            (\n                {},\n                {},\n            ),"
         shown = "".join(lines.format(*pair) for pair in pairs) + ("\n        " if pairs else "")
     return f"""
-{"pub(super) " if stem in NAMED else ""}fn {function_name(stem)}() -> Stored<'static> {{
+{"pub(crate) " if stem in NAMED else ""}fn {function_name(stem)}() -> Stored<'static> {{
     Stored {{
         name: "{stem}",
         turns: &[{shown}],
@@ -110,10 +117,11 @@ def table(stems):
     """The function that gives a connection by its number."""
     arms = [f"        {number} => {function_name(stem)}(),\n" for number, stem in enumerate(stems[:-1])]
     return f"""\
-{BEGIN}pub(super) const COUNT: usize = {len(stems)};
+/// How many connections there are.
+pub(crate) const COUNT: usize = {len(stems)};
 
 /// The connection of a number below `COUNT`.
-pub(super) fn connection(number: usize) -> Stored<'static> {{
+pub(crate) fn connection(number: usize) -> Stored<'static> {{
     match number {{
 {"".join(arms)}        _ => {function_name(stems[-1])}(),
     }}
@@ -122,13 +130,9 @@ pub(super) fn connection(number: usize) -> Stored<'static> {{
 
 
 def rows():
-    """The text of the source file: its beginning as it is, and the rows."""
-    with open(os.path.join(TOP, ROWS), encoding="utf-8") as file:
-        beginning, begin, _ = file.read().partition(BEGIN)
-    if not begin:
-        sys.exit(f"{ROWS} has no line '{BEGIN.strip()}'")
+    """The text of the source file."""
     stored = [(stem, sent) for stem, sent, *_ in connections() if stem not in LONGEST_HEADS]
-    return beginning + table([stem for stem, _ in stored]) + "".join(row(stem, sent) for stem, sent in stored)
+    return HEAD + table([stem for stem, _ in stored]) + "".join(row(stem, sent) for stem, sent in stored)
 
 
 def unlike_the_model():
