@@ -394,6 +394,13 @@ def disturbed(_):
     return found
 
 
+def unlike_copies(paths):
+    """Assertions of tests that aren't the same in each crate. No library's function may take an `Abort`, so each crate
+    that takes them has the file."""
+    copies = [path for path in paths if re.fullmatch(r"crates/\w+/src/expect\.rt", path)]
+    return [f"{path} isn't {copies[0]}" for path in copies[1:] if text_of(path) != text_of(copies[0])]
+
+
 CHECKS = [
     ("no hole in a proof", holes),
     ("each definition and each lemma is named", unnamed),
@@ -411,6 +418,7 @@ CHECKS = [
     ("the version is said once", unversioned),
     ("the page on using the crates shows its programs as they are", unshown),
     ("the stored connections are what the tests of disturbed streams take", disturbed),
+    ("the assertions of tests are the same in each crate", unlike_copies),
 ]
 
 

@@ -5,8 +5,6 @@
 #[cfg(test)]
 mod connections;
 #[cfg(test)]
-mod content;
-#[cfg(test)]
 mod expect;
 #[cfg(test)]
 mod reads;

@@ -13,6 +13,7 @@ use std::sync::Wait;
 use std::test::*;
 use std::thread::{Promise, Threads};
 use std::{thread, vec};
+use test_content::content_of;
 use upload_intake::{Gone, Keeper, Moments, Seat, SeatEnd, Settled, lines, settle};
 use upload_names::{Algorithm, BlobDigest, ByteRange, Bytes, RepoName, UploadRef};
 use upload_service::{Answer, Ask, BlobBytes, Extent, Limits, Refusal, Service};
@@ -515,14 +516,6 @@ fn idle_sessions_over_lines(rt: HostRuntime) -> Result<(), Fail> {
     ];
     check(&rt, left.as_slice() == wanted.as_slice(), "what was heard");
     Ok(())
-}
-
-fn content_of(alloc: Global, length: u64) -> Result<Vec<u8>, AllocError> {
-    let mut content = Vec::new(alloc);
-    for place in 0..length {
-        content.push((place % 251) as u8)?;
-    }
-    Ok(content)
 }
 
 /// The bytes that the repository answers with, if it has a content under its digest.

@@ -5,6 +5,7 @@ use std::alloc::{AllocError, Global};
 use std::process::Abort;
 use std::test::Fail;
 use std::thread::Threads;
+use test_content::content_of;
 use upload_names::{Algorithm, BlobDigest, Bytes, BytesBuilder, HashPlace, InPlace, InThreads};
 
 /// By what a body may be hashed as it comes.
@@ -105,15 +106,6 @@ static SIZES: [usize; 6] = [
     2 * PART_ROOM,
     3 * PART_ROOM + 7,
 ];
-
-/// The bytes of a content of so many.
-fn content_of(alloc: Global, size: usize) -> Result<Vec<u8>, AllocError> {
-    let mut content = Vec::with_capacity(alloc, size)?;
-    for at in 0..size {
-        content.push((at % 251) as u8)?;
-    }
-    Ok(content)
-}
 
 /// The body that a content is read into at a place, in pieces of `step` bytes.
 fn read_at<P: HashPlace>(

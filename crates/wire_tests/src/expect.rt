@@ -1,5 +1,5 @@
 //! Assertions, each in a function of its own: the prover goes through all that an assertion's macro becomes, wherever
-//! it stands.
+//! it stands. Each crate of tests that takes them has this same file, since no library's function may take an `Abort`.
 
 use std::fmt::{Debug, Display};
 use std::process::Abort;

@@ -7,8 +7,6 @@ mod answers;
 #[cfg(test)]
 mod client;
 #[cfg(test)]
-mod content;
-#[cfg(test)]
 mod expect;
 #[cfg(test)]
 mod reading;

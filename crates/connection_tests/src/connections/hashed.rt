@@ -3,11 +3,11 @@
 ghost use Rattle.std.specs.Prelude.{◌<◌};
 
 use super::{LIMITS, served};
-use crate::content::content;
 use crate::expect::{holds, same};
 use std::alloc::Global;
 use std::process::Abort;
 use std::test::Fail;
+use test_content::content_of;
 use upload_names::{Algorithm, BlobDigest};
 use upload_wire::ConnEnd;
 
@@ -331,7 +331,7 @@ fn talk_of(
         wanted: Vec::new(alloc),
         ranged,
     };
-    let all = content(alloc, upload.content.size)?;
+    let all = content_of(alloc, upload.content.size)?;
     let close = opened(&mut talk, upload, &all)?;
     let (before, last) = all.split_at(close.before.min(all.len()));
     let (most, _) = all.split_at(all.len().saturating_sub(1));

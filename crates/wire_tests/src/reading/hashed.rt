@@ -3,12 +3,12 @@
 ghost use Rattle.std.specs.Prelude.{◌<◌};
 
 use super::{DIGEST, OPENING, UPLOAD};
-use crate::content::content;
 use crate::expect::same;
 use memory_ends::{MemorySink, MemorySource};
 use std::alloc::Global;
 use std::process::Abort;
 use std::test::Fail;
+use test_content::content_of;
 use upload_names::{Algorithm, Bytes};
 use upload_service::{Answer, Ask, Limits, Service};
 use upload_wire::{ConnEnd, Desk, Next, RequestReader, ServiceDesk, serve_connection};
@@ -126,7 +126,7 @@ fn request_of(alloc: Global, row: &Row) -> Result<Vec<u8>, Fail> {
         ),
     };
     text.extend_from_slice(field.as_bytes())?;
-    text.extend_from_slice(&content(alloc, size)?)?;
+    text.extend_from_slice(&content_of(alloc, size)?)?;
     text.extend_from_slice(end.as_bytes())?;
     Ok(text)
 }

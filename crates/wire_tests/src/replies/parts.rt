@@ -4,13 +4,13 @@ ghost use Rattle.std.specs.Prelude.{◌<◌};
 
 use super::{KEPT, counted};
 use crate::answers::lib_a;
-use crate::content::content;
 use crate::expect::{holds, same, same_bytes};
 use http_wire::{ByteSink, Failed, Transcript};
 use memory_ends::MemorySink;
 use std::alloc::{AllocError, Global};
 use std::process::Abort;
 use std::test::Fail;
+use test_content::content_of;
 use upload_names::{BlobDigest, Bytes, UploadRef};
 use upload_service::{Answer, Ask, Extent, Limits, Service};
 use upload_wire::write_reply;
@@ -106,7 +106,7 @@ fn fetch(rt: &impl Abort, alloc: Global, chunks: &[usize], last: usize) -> Resul
     for count in chunks {
         size = size.saturating_add(*count);
     }
-    let bytes = content(alloc, size)?;
+    let bytes = content_of(alloc, size)?;
     let mut service = uploaded(rt, alloc, chunks, &bytes)?;
     let get = Ask::Has {
         name: lib_a(alloc)?,
