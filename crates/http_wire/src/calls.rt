@@ -1,10 +1,10 @@
-//! A count, for proofs alone.
+//! A count that only proofs read. It takes no memory, and its methods do nothing at run time.
 ghost use Rattle.std.specs.Prelude.{◌≡◌, ◌+◌};
 
 use crate::history::History;
 use std::marker::Model;
 
-/// How often something was called. A clause reads it as a number.
+/// A clause reads it as a number.
 #[derive(Drop)]
 pub struct Calls {
     made: History<()>,

@@ -1,4 +1,4 @@
-//! What happened so far, for proofs alone. It takes no memory.
+//! A history that only proofs read. It takes no memory, and its methods do nothing at run time.
 ghost use Rattle.std.specs.Prelude.{◌≡◌, List, [], ◌∷◌, ◌++◌};
 
 use std::marker::Model;
@@ -7,6 +7,7 @@ use std::snapshot::Snapshot;
 /// A history of items. A clause reads it as their list, the first in front.
 #[derive(Drop)]
 pub struct History<T> {
+    // The history before the last item, and that item.
     last: Snapshot<Option<(Snapshot<History<T>>, Snapshot<T>)>>,
 }
 
@@ -43,7 +44,7 @@ impl<T> History<T> {
         }
     }
 
-    /// These items.
+    /// These items. Of the loop nothing is left at run time.
     pub fn of(items: &[T]) -> History<T>
         ensures { result ≡ items.now }
     {

@@ -1,4 +1,4 @@
-//! A history of bytes, for proofs alone.
+//! A history of bytes that only proofs read. It takes no memory, and its methods do nothing at run time.
 ghost use Rattle.std.specs.Prelude.{◌≡◌, [], ◌++◌, false, ◌==◌, length};
 
 use crate::history::History;
@@ -19,7 +19,10 @@ impl Model for Transcript {
 
     ghost Value = { TranscriptState };
 
-    ghost view = { λ t. record { bytes = flat_map (λ piece. piece) t.pieces; ended = t.ended.value } };
+    ghost view = { λ t. record {
+      bytes = flat_map (λ piece. piece) t.pieces;
+      ended = t.ended.value;
+    } };
 }
 
 impl Transcript {

@@ -9,6 +9,5 @@ pub mod SeatConversations
 pub mod SeatMoves
 pub mod Settling
 pub mod Transcripts
-pub mod Walks
 pub mod Watching
 pub mod Working

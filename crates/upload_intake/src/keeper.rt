@@ -4,10 +4,11 @@ ghost use Rattle.upload_intake.specs.Kept.{AreDone};
 
 use crate::ends::TakeEnd;
 use crate::line::Item;
-use crate::log::{Entry, Log};
+use crate::log::Entry;
 use crate::message::Message;
 use crate::moments::Moments;
 use crate::reply::ReplyLine;
+use http_wire::History;
 use std::marker::Model;
 use std::snapshot::Snapshot;
 use std::sync::Wait;
@@ -25,7 +26,7 @@ pub struct Keeper {
     jobs: TakeEnd<Message>,
     lines: Vec<ReplyLine>,
     start: Snapshot<Service>,
-    log: Log<Entry>,
+    log: History<Entry>,
 }
 
 impl Model for Keeper {
@@ -49,10 +50,10 @@ impl Model for Keeper {
       replies = map replies_on k.lines.items;
       start = k.start.value;
       service = k.service;
-      log = steps_of k.log.items;
+      log = steps_of k.log;
     } };
 
-    ghost invariant = { λ k. IsKeeping k.start.value k.service k.now k.count (steps_of k.log.items)
+    ghost invariant = { λ k. IsKeeping k.start.value k.service k.now k.count (steps_of k.log)
         (known k.jobs.pass) k.lines.items };
 }
 
@@ -65,7 +66,7 @@ pub struct Served {
     pub(crate) jobs: TakeEnd<Message>,
     pub(crate) lines: Vec<ReplyLine>,
     pub(crate) start: Snapshot<Service>,
-    pub(crate) log: Log<Entry>,
+    pub(crate) log: History<Entry>,
 }
 
 impl Model for Served {
@@ -89,10 +90,10 @@ impl Model for Served {
       replies = map replies_on k.lines.items;
       start = k.start.value;
       service = k.service;
-      log = steps_of k.log.items;
+      log = steps_of k.log;
     } };
 
-    ghost invariant = { λ k. IsKeeping k.start.value k.service k.now k.count (steps_of k.log.items)
+    ghost invariant = { λ k. IsKeeping k.start.value k.service k.now k.count (steps_of k.log)
         (known k.jobs.pass) k.lines.items
         × AreDone k.lines.items };
 }
@@ -154,7 +155,7 @@ impl Keeper {
             jobs,
             lines,
             start,
-            log: Log::new(),
+            log: History::none(),
         }
     }
 

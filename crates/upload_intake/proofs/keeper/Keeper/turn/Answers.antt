@@ -13,7 +13,7 @@ invariant_of-self-in-Job g c =
     served_seat _ _ _ _ _ _ _ _ c.self.invariant _ c.in-Some.ensures.taken _ _ _ _ _ _ c.in-Job.is
     (omega arith) c.step_joining-answer.ensures.turn c.saturating_add-self-inside.ensures
     _ _ c.index_mut.ensures.value c.reply.ensures.sent c.reply.ensures.done _ refl _
-    (logged _ _ _ _ c.and-self-inside.ensures
+    (logged _ _ _ _ c.and.ensures
     (λ i. record {
       seat = c.in-Some.item.seat;
       exchange = record {
@@ -56,7 +56,7 @@ returns-in-Finish-clause-same g c = record {
 
 pub returns-in-Job-clause-grows : goal.returns-in-Job-clause-grows
 returns-in-Job-clause-grows g c =
-    let grown = logged _ _ _ _ c.and-self-inside.ensures
+    let grown = logged _ _ _ _ c.and.ensures
     (λ i. record {
       seat = c.in-Some.item.seat;
       exchange = record {
