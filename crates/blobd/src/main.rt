@@ -14,7 +14,6 @@ mod bar;
 mod closing;
 mod connection;
 mod dialer;
-mod handed;
 mod help;
 mod limits;
 mod log_lines;
