@@ -8,13 +8,13 @@ use crate::uploads::{
 };
 use std::io;
 use std::time::Instant;
-use upload_names::{BlobDigest, Bytes, UploadRef};
+use upload_names::{BlobDigest, Body, UploadRef};
 use upload_service::Service;
 
 const MIB: usize = 1024 * 1024;
 
 /// The hash of the bodies, and the microseconds that it took.
-fn time_hash(rt: &HostRuntime, bodies: &[Bytes]) -> io::Result<([u8; 32], u64)> {
+fn time_hash(rt: &HostRuntime, bodies: &[Body]) -> io::Result<([u8; 32], u64)> {
     let start = Instant::now(rt)?;
     let hash = hash_of(bodies);
     Ok((hash, micros_since(rt, start)?))
@@ -24,7 +24,7 @@ fn time_hash(rt: &HostRuntime, bodies: &[Bytes]) -> io::Result<([u8; 32], u64)> 
 fn time_upload(
     rt: &HostRuntime,
     service: &mut Service,
-    bodies: Vec<Bytes>,
+    bodies: Vec<Body>,
     digest: BlobDigest,
 ) -> io::Result<(u64, bool)> {
     let start = Instant::now(rt)?;

@@ -3,7 +3,7 @@
 use sha2::{Digest, Sha256};
 use std::alloc::Global;
 use std::io;
-use upload_names::{BlobDigest, Bytes, NameFault, RepoName, UploadRef};
+use upload_names::{BlobDigest, Body, NameFault, RepoName, UploadRef};
 use upload_service::{Answer, Ask, Extent, Limits, Service};
 
 /// The error where the service answers what it must not.
@@ -29,14 +29,14 @@ fn repository(alloc: Global) -> io::Result<RepoName> {
 }
 
 /// A body of `size` bytes, each of them `byte`.
-pub(crate) fn body_of(alloc: Global, size: usize, byte: u8) -> io::Result<Bytes> {
+pub(crate) fn body_of(alloc: Global, size: usize, byte: u8) -> io::Result<Body> {
     let mut bytes = Vec::with_capacity(alloc, size)?;
     bytes.resize(size, byte)?;
-    Ok(Bytes::of(bytes))
+    Ok(Body::of(alloc, bytes))
 }
 
 /// `count` bodies of one size.
-pub(crate) fn bodies_of(alloc: Global, count: u32, size: usize) -> io::Result<Vec<Bytes>> {
+pub(crate) fn bodies_of(alloc: Global, count: u32, size: usize) -> io::Result<Vec<Body>> {
     let mut bodies = Vec::with_capacity(alloc, count as usize)?;
     for i in 0..count {
         bodies.push(body_of(alloc, size, (i % 251) as u8)?)?;
@@ -45,10 +45,10 @@ pub(crate) fn bodies_of(alloc: Global, count: u32, size: usize) -> io::Result<Ve
 }
 
 /// The SHA-256 of the bodies, one behind another.
-pub(crate) fn hash_of(bodies: &[Bytes]) -> [u8; 32] {
+pub(crate) fn hash_of(bodies: &[Body]) -> [u8; 32] {
     let mut hasher = Sha256::new();
     for body in bodies {
-        hasher.update(body.as_slice());
+        body.hash_into(&mut hasher);
     }
     hasher.finalize()
 }
@@ -75,7 +75,7 @@ pub(crate) fn send(
     service: &mut Service,
     alloc: Global,
     at: UploadRef,
-    body: Bytes,
+    body: Body,
 ) -> io::Result<()> {
     let chunk = Ask::Chunk {
         name: repository(alloc)?,
@@ -104,7 +104,7 @@ pub(crate) fn close(
         at,
         range: Extent::Absent,
         digest: Some(digest),
-        body: Bytes::of(Vec::new(alloc)),
+        body: Body::of(alloc, Vec::new(alloc)),
     };
     match service.step(close, [0; 12], 0) {
         Answer::Stored { .. } => Ok(true),
@@ -117,7 +117,7 @@ pub(crate) fn close(
 pub(crate) fn fill(
     service: &mut Service,
     alloc: Global,
-    bodies: Vec<Bytes>,
+    bodies: Vec<Body>,
 ) -> io::Result<UploadRef> {
     let at = open(service, alloc)?;
     for body in bodies {
@@ -131,6 +131,6 @@ pub(crate) fn upload_number(service: &mut Service, alloc: Global, number: u32) -
     let bytes = number.to_be_bytes();
     let digest = BlobDigest::of_sha256(&bytes);
     let at = open(service, alloc)?;
-    send(service, alloc, at, Bytes::of(bytes.to_vec(alloc)?))?;
+    send(service, alloc, at, Body::of(alloc, bytes.to_vec(alloc)?))?;
     close(service, alloc, at, digest)
 }

@@ -8,7 +8,7 @@ ghost use Rattle.embed_service.specs.AtOnce.{at_once};
 
 use std::alloc::{AllocError, Global};
 use std::io::{self, ErrorKind};
-use upload_names::{BlobDigest, Bytes, RepoName};
+use upload_names::{BlobDigest, Body, RepoName};
 use upload_service::{Answer, Ask, Limits, Service};
 
 /// 1 MiB a blob and a body, 16 open sessions, an hour without a chunk.
@@ -38,7 +38,11 @@ fn main(rt: HostRuntime) -> io::Result<()> {
     let digest = BlobDigest::of_sha256(text);
     let (name, head) = (repository.copy(alloc)?, false);
     let get = Ask::Has { name, digest, head };
-    let (name, digest, body) = (repository, Some(digest), Bytes::of(text.to_vec(alloc)?));
+    let (name, digest, body) = (
+        repository,
+        Some(digest),
+        Body::of(alloc, text.to_vec(alloc)?),
+    );
     let post = Ask::Single { name, digest, body };
     let mut service = Service::new(alloc, LIMITS);
     let answers = serve(&mut service, alloc, vec![in alloc; post, get]?)?;
@@ -48,9 +52,9 @@ fn main(rt: HostRuntime) -> io::Result<()> {
             ..
         } = answer
         {
-            let mut bytes = Bytes::begin(alloc, None);
+            let mut bytes = Vec::new(alloc);
             for part in blob.parts() {
-                bytes.extend(part.as_slice())?;
+                bytes.extend_from_slice(part.as_slice())?;
             }
             println!(rt; "{}", BlobDigest::of_sha256(bytes.as_slice()))?;
         }

@@ -15,7 +15,7 @@ use std::thread::{Promise, Threads};
 use std::{thread, vec};
 use test_content::content_of;
 use upload_intake::{Gone, Keeper, Moments, Seat, SeatEnd, Settled, lines, settle};
-use upload_names::{Algorithm, BlobDigest, ByteRange, Bytes, RepoName, UploadRef};
+use upload_names::{Algorithm, BlobDigest, Body, ByteRange, RepoName, UploadRef};
 use upload_service::{Answer, Ask, BlobBytes, Extent, Limits, Refusal, Service};
 
 /// What a thread asks from its seat, and what it does with the answers.
@@ -240,7 +240,7 @@ impl Session {
             name,
             at,
             range: Extent::Given(ByteRange::read(range.as_bytes())?),
-            body: Bytes::of(body),
+            body: Body::of(self.alloc, body),
         })
     }
 }
@@ -263,7 +263,7 @@ impl Script for Session {
             at,
             range: Extent::Absent,
             digest: Some(BlobDigest::of(self.algorithm, &self.content)),
-            body: Bytes::of(Vec::new(self.alloc)),
+            body: Body::of(self.alloc, Vec::new(self.alloc)),
         })
     }
 
@@ -480,7 +480,7 @@ fn a_close(alloc: Global) -> Result<Ask, Fail> {
         at: UploadRef::make(1, [0; 12]),
         range: Extent::Absent,
         digest: Some(BlobDigest::of_sha256(b"")),
-        body: Bytes::of(Vec::new(alloc)),
+        body: Body::of(alloc, Vec::new(alloc)),
     })
 }
 

@@ -6,7 +6,9 @@ use std::process::Abort;
 use std::test::Fail;
 use std::thread::Threads;
 use test_content::content_of;
-use upload_names::{Algorithm, BlobDigest, Bytes, BytesBuilder, HashPlace, InPlace, InThreads};
+use upload_names::{
+    Algorithm, BlobDigest, Body, BodyBuilder, Bytes, HashPlace, InPlace, InThreads,
+};
 
 /// By what a body may be hashed as it comes.
 static HASHES: [Option<Algorithm>; 3] = [None, Some(Algorithm::Sha256), Some(Algorithm::Sha512)];
@@ -19,30 +21,39 @@ static PIECES: [(&[&[u8]], &[u8], [&[u8]; 2]); 4] = [
     (&[b"a", b"", b"bc"], b"abc", [ABC_256, ABC_512]),
 ];
 
-/// A body that is extended by the pieces in turn.
-fn body_of(
-    alloc: Global,
-    hashed: Option<Algorithm>,
-    pieces: &[&[u8]],
-) -> Result<Bytes, AllocError> {
-    let mut body = Bytes::begin(alloc, hashed);
+/// A body that the pieces are put into in turn.
+fn body_of(alloc: Global, hashed: Option<Algorithm>, pieces: &[&[u8]]) -> Result<Body, AllocError> {
+    let mut body = BodyBuilder::new(alloc, hashed);
     for piece in pieces.iter() {
-        extend(&mut body, piece)?;
+        extend(&mut body, &InPlace, piece)?;
     }
-    Ok(body)
+    Ok(body.finish(&InPlace))
 }
 
 /// Extends a body. One growth may be refused.
-fn extend(body: &mut Bytes, piece: &[u8]) -> Result<(), AllocError> {
-    match body.extend(piece) {
-        Err(AllocError) => body.extend(piece),
+fn extend<P: HashPlace>(body: &mut BodyBuilder, place: &P, piece: &[u8]) -> Result<(), AllocError> {
+    match body.extend(place, piece) {
+        Err(AllocError) => body.extend(place, piece),
         Ok(()) => Ok(()),
     }
 }
 
+/// Whether a body's pieces are this content, one after another.
+fn holds(body: &Body, content: &[u8]) -> bool {
+    let pieces = body.pieces();
+    let mut left = content;
+    for part in pieces.parts.iter() {
+        match left.strip_prefix(part.as_slice()) {
+            Some(behind) => left = behind,
+            None => return false,
+        }
+    }
+    left == pieces.last.as_slice()
+}
+
 /// Whether a body is this content, and has its digests.
-fn is_content(body: &Bytes, content: &[u8], digests: &[&[u8]; 2]) -> bool {
-    body.as_slice() == content
+fn is_content(body: &Body, content: &[u8], digests: &[&[u8]; 2]) -> bool {
+    holds(body, content)
         && body.len() == content.len()
         && BlobDigest::of_body(Algorithm::Sha256, body)
             .text()
@@ -55,7 +66,7 @@ fn is_content(body: &Bytes, content: &[u8], digests: &[&[u8]; 2]) -> bool {
 }
 
 /// Whether a body carries the hash that was asked for, and no other.
-fn carries(body: &Bytes, hashed: Option<Algorithm>) -> bool {
+fn carries(body: &Body, hashed: Option<Algorithm>) -> bool {
     body.sha256().is_some() == (hashed == Some(Algorithm::Sha256))
         && body.sha512().is_some() == (hashed == Some(Algorithm::Sha512))
 }
@@ -69,13 +80,15 @@ fn check_pieces(
     content: &[u8],
     digests: &[&[u8]; 2],
 ) -> Result<(), AllocError> {
-    let mut body = body_of(alloc, hashed, pieces)?;
-    body.shrink_to_fit();
+    let body = body_of(alloc, hashed, pieces)?;
     assert!(rt; carries(&body, hashed), "{hashed:?}");
     assert!(rt; is_content(&body, content, digests), "{pieces:?}");
-    let vector = body.into_vec();
-    assert!(rt; vector.as_slice() == content, "{pieces:?}");
-    let again = Bytes::of(vector);
+    let text = Bytes::of(body.into_pieces().last);
+    assert!(rt;
+        text.as_slice() == content && text.len() == content.len(),
+        "{pieces:?}"
+    );
+    let again = Body::of(alloc, text.into_vec());
     assert!(rt;
         carries(&again, None) && is_content(&again, content, digests),
         "{pieces:?}"
@@ -94,18 +107,11 @@ fn a_refused_growth_leaves_a_body_and_its_hash(rt: HostRuntime) -> Result<(), Fa
     Ok(())
 }
 
-/// The bytes that are hashed at once as a body is read.
-const PART_ROOM: usize = 1_048_576;
+/// The bytes of a part of a body.
+const PART_SIZE: usize = 4_194_240;
 
-/// Sizes about the ends of parts, and of several parts.
-static SIZES: [usize; 6] = [
-    0,
-    PART_ROOM - 1,
-    PART_ROOM,
-    PART_ROOM + 1,
-    2 * PART_ROOM,
-    3 * PART_ROOM + 7,
-];
+/// Sizes about the end of a part, and one of several parts.
+static SIZES: [usize; 4] = [0, PART_SIZE, PART_SIZE + 1, 3 * PART_SIZE + 100];
 
 /// The body that a content is read into at a place, in pieces of `step` bytes.
 fn read_at<P: HashPlace>(
@@ -114,18 +120,18 @@ fn read_at<P: HashPlace>(
     hashed: Option<Algorithm>,
     content: &[u8],
     step: usize,
-) -> Result<Bytes, AllocError> {
-    let mut body = BytesBuilder::new(alloc, hashed);
+) -> Result<Body, AllocError> {
+    let mut body = BodyBuilder::new(alloc, hashed);
     for piece in content.chunks(step.max(1)) {
-        body.extend(place, piece)?;
+        extend(&mut body, place, piece)?;
     }
     Ok(body.finish(place))
 }
 
 /// Whether a body is the content, and carries its hash where it was asked for.
-fn is_hashed(body: &Bytes, hashed: Option<Algorithm>, content: &[u8]) -> bool {
+fn is_hashed(body: &Body, hashed: Option<Algorithm>, content: &[u8]) -> bool {
     carries(body, hashed)
-        && body.as_slice() == content
+        && holds(body, content)
         && BlobDigest::of_body(Algorithm::Sha256, body).same(&BlobDigest::of(
             Algorithm::Sha256,
             content,
@@ -142,22 +148,39 @@ fn a_body_is_hashed_across_its_parts(rt: HostRuntime) -> Result<(), Fail> {
     Ok(())
 }
 
+/// It holds whichever growth is refused: a body that is out of memory as a part comes whole is as before.
+#[test]
+fn a_refused_growth_leaves_a_body_at_the_end_of_a_part(rt: HostRuntime) -> Result<(), Fail> {
+    let alloc = rt.alloc();
+    let content = match content_of(alloc, PART_SIZE + 3) {
+        Ok(content) => content,
+        Err(AllocError) => content_of(alloc, PART_SIZE + 3)?,
+    };
+    check_body(&rt, alloc, content.as_slice(), PART_SIZE - 2)?;
+    Ok(())
+}
+
 /// Ends a test in which a body of some size isn't its content, or carries another hash.
 fn check_sizes<R: Threads + Abort>(rt: &R, alloc: Global) -> Result<(), AllocError> {
     for size in SIZES.iter() {
         let content = content_of(alloc, *size)?;
-        for hashed in HASHES.iter() {
-            let here = read_at(alloc, &InPlace, *hashed, content.as_slice(), 65_536)?;
-            assert!(rt;
-                is_hashed(&here, *hashed, content.as_slice()),
-                "{size} {hashed:?}"
-            );
-            let beside = read_at(alloc, &InThreads(rt), *hashed, content.as_slice(), 65_535)?;
-            assert!(rt;
-                is_hashed(&beside, *hashed, content.as_slice()),
-                "{size} {hashed:?}"
-            );
-        }
+        check_body(rt, alloc, content.as_slice(), 65_536)?;
+    }
+    Ok(())
+}
+
+/// Ends a test in which a body that is read in pieces of `step` bytes isn't the content, or carries another hash.
+fn check_body<R: Threads + Abort>(
+    rt: &R,
+    alloc: Global,
+    content: &[u8],
+    step: usize,
+) -> Result<(), AllocError> {
+    for hashed in HASHES.iter() {
+        let here = read_at(alloc, &InPlace, *hashed, content, step)?;
+        assert!(rt; is_hashed(&here, *hashed, content), "{hashed:?}");
+        let beside = read_at(alloc, &InThreads(rt), *hashed, content, step)?;
+        assert!(rt; is_hashed(&beside, *hashed, content), "{hashed:?}");
     }
     Ok(())
 }

@@ -13,7 +13,7 @@ use std::alloc::{AllocError, Global};
 use std::process::Abort;
 use std::test::Fail;
 use upload_client::{Heard, LentChunk, Transport};
-use upload_names::{Algorithm, BlobDigest, ByteRange, Bytes, RepoName, UploadRef};
+use upload_names::{Algorithm, BlobDigest, Body, ByteRange, Bytes, RepoName, UploadRef};
 use upload_push::{
     Event, LossyWorld, Outcome, PushAsk, PushFault, PushStep, Pusher, Why, has_blob, push,
     push_promise, push_with,
@@ -155,7 +155,7 @@ fn chunk_of_one(alloc: Global, number: u32, at: u64, byte: u8) -> Result<Ask, Fa
     requires { at ≤ 100 }
 {
     let name = name(alloc)?;
-    let body = Bytes::of(Vec::from_slice(alloc, &[byte])?);
+    let body = Body::of(alloc, Vec::from_slice(alloc, &[byte])?);
     let place = ByteRange {
         first: at,
         last: at,

@@ -2,7 +2,9 @@
 //! it is used.
 
 use std::alloc::{AllocError, Global};
-use upload_names::{Algorithm, BlobDigest, ByteRange, Bytes, NameFault, RepoName, UploadRef};
+use upload_names::{
+    Algorithm, BlobDigest, Body, BodyBuilder, ByteRange, InPlace, NameFault, RepoName, UploadRef,
+};
 use upload_service::{Answer, Ask, BlobBytes, Extent, Refusal};
 
 /// Why a request can't be made of a line.
@@ -134,10 +136,22 @@ pub type Hashed = Option<Algorithm>;
 pub static HASHES: [Hashed; 3] = [None, Some(Algorithm::Sha256), Some(Algorithm::Sha512)];
 
 /// A body that carries this hash.
-pub fn body_of(alloc: Global, hashed: Hashed, content: &[u8]) -> Result<Bytes, AllocError> {
-    let mut body = Bytes::begin(alloc, hashed);
-    body.extend(content)?;
-    Ok(body)
+pub fn body_of(alloc: Global, hashed: Hashed, content: &[u8]) -> Result<Body, AllocError> {
+    body_in_pieces(alloc, hashed, content, content.len())
+}
+
+/// A body that is put together of pieces of so many bytes.
+pub fn body_in_pieces(
+    alloc: Global,
+    hashed: Hashed,
+    content: &[u8],
+    size: usize,
+) -> Result<Body, AllocError> {
+    let mut body = BodyBuilder::new(alloc, hashed);
+    for piece in content.chunks(size.max(1)) {
+        body.extend(&InPlace, piece)?;
+    }
+    Ok(body.finish(&InPlace))
 }
 
 /// Whether the parts of a blob, one behind another, are this content.
@@ -192,7 +206,7 @@ pub fn ask_of(alloc: Global, hashed: Hashed, line: Line) -> Result<Ask, Unmade> 
     }
 }
 
-fn single(name: RepoName, digest: &[u8], body: Bytes) -> Result<Ask, Unmade> {
+fn single(name: RepoName, digest: &[u8], body: Body) -> Result<Ask, Unmade> {
     Ok(Ask::Single {
         name,
         digest: BlobDigest::read(digest),
@@ -200,7 +214,7 @@ fn single(name: RepoName, digest: &[u8], body: Bytes) -> Result<Ask, Unmade> {
     })
 }
 
-fn chunk(name: RepoName, at: At, place: Place, body: Bytes) -> Result<Ask, Unmade> {
+fn chunk(name: RepoName, at: At, place: Place, body: Body) -> Result<Ask, Unmade> {
     Ok(Ask::Chunk {
         name,
         at: reference(at),
@@ -209,7 +223,7 @@ fn chunk(name: RepoName, at: At, place: Place, body: Bytes) -> Result<Ask, Unmad
     })
 }
 
-fn close(name: RepoName, at: At, place: Place, digest: &[u8], body: Bytes) -> Result<Ask, Unmade> {
+fn close(name: RepoName, at: At, place: Place, digest: &[u8], body: Body) -> Result<Ask, Unmade> {
     Ok(Ask::Close {
         name,
         at: reference(at),

@@ -3,8 +3,8 @@
 ghost use Rattle.upload_service.specs.Machine.{AreLawful};
 
 use crate::asks::{
-    At, Hashed, Line, Place, Told, Unmade, Word, ask_of, body_of, is_content, name, reference, row,
-    under,
+    At, HASHES, Hashed, Line, Place, Told, Unmade, Word, ask_of, body_in_pieces, body_of,
+    is_content, name, reference, row, under,
 };
 use crate::model::{Model, alike};
 use crate::serving::{ABC, ABC_512, Job, NOTHING, answers_to, check, limits};
@@ -549,6 +549,74 @@ fn pieces_of_many_sizes_are_one_blob(rt: HostRuntime) -> Result<(), Fail> {
     let content = pattern(alloc, 900_000)?;
     for way in WAYS.iter() {
         upload_in_many_sizes(&rt, alloc, content.as_slice(), *way)?;
+    }
+    Ok(())
+}
+
+/// More than a part of a body, which is read in pieces of 64 KiB.
+const LARGE_SIZE: usize = 4_300_000;
+
+/// A content of so many bytes, no two blocks of which are alike.
+fn blocks(alloc: Global, size: usize) -> Result<Vec<u8>, AllocError> {
+    let mut content = vec![in alloc; 0u8; size]?;
+    for (number, block) in content.chunks_mut(65_536).enumerate() {
+        if let Some(first) = block.first_mut() {
+            *first = (number % 251) as u8;
+        }
+    }
+    Ok(content)
+}
+
+/// The answers to an upload of two bodies of several parts, and to a GET of it: whether the GET has both bodies.
+fn is_pulled_whole(alloc: Global, hashed: Hashed, content: &[u8]) -> Result<bool, Unmade> {
+    let digest = BlobDigest::of_sha256(content);
+    let (first, last) = content.split_at(content.len() / 2);
+    let at = reference(ONE);
+    let chunk = Ask::Chunk {
+        name: name(alloc, b"lib/a")?,
+        at,
+        range: Extent::Absent,
+        body: body_in_pieces(alloc, hashed, first, 65_536)?,
+    };
+    let close = Ask::Close {
+        name: name(alloc, b"lib/a")?,
+        at,
+        range: Extent::Absent,
+        digest: Some(digest),
+        body: body_in_pieces(alloc, hashed, last, 65_536)?,
+    };
+    let opening = Ask::Opening {
+        name: name(alloc, b"lib/a")?,
+    };
+    let get = Ask::Has {
+        name: name(alloc, b"lib/a")?,
+        digest,
+        head: false,
+    };
+    let mut service = Service::new(alloc, limits(2 * LARGE_SIZE as u64, 1, 10));
+    let mut pulled = false;
+    for ask in [opening, chunk, close, get] {
+        if let Answer::Blob {
+            size,
+            bytes: Some(bytes),
+            ..
+        } = service.step(ask, [0; 12], 0)
+        {
+            pulled = size == content.len() as u64 && is_content(&bytes, content);
+        }
+    }
+    Ok(pulled)
+}
+
+#[test]
+fn bodies_of_several_parts_are_one_blob(rt: HostRuntime) -> Result<(), Fail> {
+    let alloc = rt.alloc();
+    let content = blocks(alloc, 2 * LARGE_SIZE)?;
+    for hashed in HASHES.iter() {
+        assert!(rt;
+            is_pulled_whole(alloc, *hashed, content.as_slice())?,
+            "{hashed:?}"
+        );
     }
     Ok(())
 }

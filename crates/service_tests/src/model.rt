@@ -2,7 +2,7 @@
 //! digests that are computed anew.
 
 use std::alloc::{AllocError, Global};
-use upload_names::{BlobDigest, Bytes, RepoName, UploadRef};
+use upload_names::{BlobDigest, Body, Bytes, RepoName, UploadRef};
 use upload_service::{Answer, Ask, BlobBytes, Extent, Limits, Refusal};
 
 #[derive(Drop)]
@@ -61,7 +61,7 @@ impl Model {
             Ask::Refused(refusal) => Ok(Answer::Refused(*refusal)),
             Ask::Has { name, digest, head } => self.has(name, digest, *head),
             Ask::Opening { name } => self.opening(name, secret, now),
-            Ask::Single { name, digest, body } => self.single(name, *digest, body.as_slice()),
+            Ask::Single { name, digest, body } => self.single(name, *digest, slice_of(body)),
             Ask::Mount {
                 name,
                 digest,
@@ -78,7 +78,7 @@ impl Model {
                 at,
                 range,
                 body,
-            } => self.chunk(name, at, *range, body.as_slice(), now),
+            } => self.chunk(name, at, *range, slice_of(body), now),
             Ask::Status { name, at } => self.status(name, at, now),
             Ask::Close {
                 name,
@@ -86,7 +86,7 @@ impl Model {
                 range,
                 digest,
                 body,
-            } => self.close(name, at, *range, *digest, body.as_slice(), now),
+            } => self.close(name, at, *range, *digest, slice_of(body), now),
         }
     }
 
@@ -382,4 +382,9 @@ fn same_content(one: &BlobBytes, other: &BlobBytes) -> bool {
     let mine = one.parts().iter().flat_map(|part| part.as_slice());
     let theirs = other.parts().iter().flat_map(|part| part.as_slice());
     mine.eq(theirs)
+}
+
+/// The bytes of a body that came in one piece.
+fn slice_of(body: &Body) -> &[u8] {
+    body.pieces().last.as_slice()
 }

@@ -1,5 +1,6 @@
 //! Asks, written as requests.
-ghost use Rattle.std.specs.Prelude.{◌≡◌, ◌++◌, List, ℕ, IsTrue, OnOk, Some, codes, flat_map};
+ghost use Rattle.std.specs.Prelude.{◌≡◌, ◌==◌, ◌++◌, [], List, ℕ, length, IsTrue, IfSome, IfNone, OnOk, Some, codes};
+ghost use Rattle.std.specs.Prelude.{flat_map};
 ghost use Rattle.http_wire.specs.Writing.{Wrote};
 ghost use Rattle.http_wire.specs.Inner.Gathering.{Puts};
 ghost use Rattle.upload_client.specs.AskText.{CanBeWritten, IsAbsentOrGiven, ask_of_chunk, ask_text, ask_body_fields};
@@ -9,11 +10,12 @@ ghost use Rattle.http_wire.specs.HeadText.{print_field};
 
 use crate::transport::LentChunk;
 use http_wire::{ByteSink, Gather, WriteFault};
-use upload_names::{BlobDigest, RepoName};
+use upload_names::{BlobDigest, Body, RepoName};
 use upload_service::{Ask, Extent};
+use upload_texts::put_parts;
 
-/// Writes an ask as a request to the host, and flushes it. The head leaves in one write where it has
-/// at most 1,024 bytes, and the body from its own memory. `WriteFault` comes only where a write or the
+/// Writes an ask as a request to the host, and flushes it. The head leaves in one write if it has at most 1,024 bytes,
+/// with the body if that fits too, and a larger body from its own memory. `WriteFault` comes only where a write or the
 /// flush failed; what was written then is a front of the request. It takes no memory.
 ///
 /// The ask isn't `Refused`, its range isn't `Bad`, and the host has at least one byte, all of them
@@ -29,7 +31,8 @@ pub fn write_ask<W: ByteSink>(writer: &mut W, ask: &Ask, host: &[u8]) -> Result<
     put_request_line(&mut head, writer, ask);
     put_host(&mut head, writer, host);
     put_section(&mut head, writer, ask);
-    head.finish(writer, body_of(ask))
+    put_body(&mut head, writer, ask);
+    head.finish(writer, b"")
 }
 
 /// Writes the ask of a chunk as `write_ask` does, from the bytes that are lent.
@@ -53,19 +56,42 @@ pub(crate) fn write_chunk<W: ByteSink>(
     };
     put_target(&mut head, writer, b"PATCH", upload);
     put_host(&mut head, writer, host);
-    put_upload_section(&mut head, writer, &chunk.range, chunk.body);
+    put_upload_section(&mut head, writer, &chunk.range, chunk.body.len());
     head.finish(writer, chunk.body)
 }
 
-/// The bytes that follow the head.
-pub(crate) fn body_of(ask: &Ask) -> &[u8]
-    ensures { result.now ≡ (message_of ask.now).body }
+/// The body of an ask, if it has one.
+fn body_of(ask: &Ask) -> Option<&Body>
+    ensures some { IfSome result (λ body. body.now ≡ (message_of ask.now).body) }
+    ensures none { IfNone result ((message_of ask.now).body ≡ []) }
 {
     match ask {
-        Ask::Single { body, .. } => body.as_slice(),
-        Ask::Chunk { body, .. } => body.as_slice(),
-        Ask::Close { body, .. } => body.as_slice(),
-        _ => &[],
+        Ask::Single { body, .. } => Some(body),
+        Ask::Chunk { body, .. } => Some(body),
+        Ask::Close { body, .. } => Some(body),
+        _ => None,
+    }
+}
+
+/// Whether no bytes follow the head.
+pub(crate) fn is_bodiless(ask: &Ask) -> bool
+    ensures { result ≡ (length (message_of ask.now).body == 0) }
+{
+    match body_of(ask) {
+        Some(body) => body.len() == 0,
+        None => true,
+    }
+}
+
+/// Puts the bytes that follow the head.
+fn put_body<W: ByteSink>(head: &mut Gather, writer: &mut W, ask: &Ask)
+    ensures { Puts (W.state writer.old) head.old (W.state writer.new) head.new
+        (message_of ask.now).body }
+{
+    if let Some(body) = body_of(ask) {
+        let pieces = body.pieces();
+        put_parts(head, writer, pieces.parts.as_slice());
+        head.put(writer, pieces.last.as_slice());
     }
 }
 
@@ -251,26 +277,21 @@ fn put_section<W: ByteSink>(head: &mut Gather, writer: &mut W, ask: &Ask)
         Ask::Opening { .. } | Ask::Mount { .. } => {
             head.put(writer, b"Content-Length: 0\r\n\r\n")
         }
-        Ask::Single { body, .. } => put_body_fields(head, writer, body.as_slice()),
-        Ask::Chunk { range, body, .. } => {
-            put_upload_section(head, writer, range, body.as_slice())
-        }
-        Ask::Close { range, body, .. } => {
-            put_upload_section(head, writer, range, body.as_slice())
-        }
+        Ask::Single { body, .. } => put_body_fields(head, writer, body.len()),
+        Ask::Chunk { range, body, .. } => { put_upload_section(head, writer, range, body.len()) }
+        Ask::Close { range, body, .. } => { put_upload_section(head, writer, range, body.len()) }
         Ask::Refused(_) => unreachable!(),
     }
 }
 
-/// Puts the fields of a range and of a body, and the empty line.
-fn put_upload_section<W: ByteSink>(head: &mut Gather, writer: &mut W, range: &Extent, body: &[u8])
+/// Puts the fields of a range and of a body of so many bytes, and the empty line.
+fn put_upload_section<W: ByteSink>(head: &mut Gather, writer: &mut W, range: &Extent, len: usize)
     requires { IsAbsentOrGiven range.now }
-    ensures { Puts (W.state writer.old) head.old
-        (W.state writer.new) head.new
-        (section_text (content_range_fields range.now ++ ask_body_fields body.now)) }
+    ensures { (body : List ℕ) → len ≡ length body → Puts (W.state writer.old) head.old
+        (W.state writer.new) head.new (section_text (content_range_fields range.now ++ ask_body_fields body)) }
 {
     put_range_field(head, writer, range);
-    put_body_fields(head, writer, body)
+    put_body_fields(head, writer, len)
 }
 
 /// Puts the field of a range, where one is given.
@@ -292,15 +313,16 @@ fn put_range_field<W: ByteSink>(head: &mut Gather, writer: &mut W, range: &Exten
     }
 }
 
-/// Puts the fields of a body, and the empty line.
-fn put_body_fields<W: ByteSink>(head: &mut Gather, writer: &mut W, body: &[u8])
-    ensures { Puts (W.state writer.old) head.old (W.state writer.new) head.new
-        (section_text (ask_body_fields body.now)) }
+/// Puts the fields of a body of so many bytes, and the empty line.
+fn put_body_fields<W: ByteSink>(head: &mut Gather, writer: &mut W, len: usize)
+    ensures { (body : List ℕ) → len ≡ length body
+        → Puts (W.state writer.old) head.old (W.state writer.new) head.new
+        (section_text (ask_body_fields body)) }
 {
     head.put(
         writer,
         b"Content-Type: application/octet-stream\r\nContent-Length: ",
     );
-    head.put_number(writer, body.len() as u64);
+    head.put_number(writer, len as u64);
     head.put(writer, b"\r\n\r\n");
 }

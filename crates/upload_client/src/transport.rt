@@ -4,7 +4,7 @@ ghost use Rattle.upload_client.specs.AskText.{CanBeWritten, ask_of_chunk};
 
 use crate::heard::Heard;
 use std::alloc::{AllocError, Global};
-use upload_names::{Bytes, RepoName, UploadRef};
+use upload_names::{Body, RepoName, UploadRef};
 use upload_service::{Ask, Extent};
 
 /// A chunk of an upload, whose name and bytes are lent.
@@ -23,7 +23,7 @@ impl LentChunk<'_> {
         ensures { IfOk result (λ ask. ask ≡ ask_of_chunk self.now) }
     {
         let name = self.name.copy(alloc)?;
-        let body = Bytes::of(self.body.to_vec(alloc)?);
+        let body = Body::of(alloc, self.body.to_vec(alloc)?);
         Ok(Ask::Chunk {
             name,
             at: self.at,

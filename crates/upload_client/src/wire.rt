@@ -5,7 +5,7 @@ ghost use Rattle.upload_client.specs.AskText.{CanBeWritten, ask_of_chunk, is_hos
 ghost use Rattle.upload_client.specs.TransportText.{AsksOverWire, HearsBehind, is_refusal, refusal_in, stays_open};
 
 use crate::answer::AnswerReader;
-use crate::ask::{body_of, write_ask, write_chunk};
+use crate::ask::{is_bodiless, write_ask, write_chunk};
 use crate::heard::{Heard, HeardFault};
 use crate::transport::{LentChunk, Transport};
 use http_wire::{ByteSink, ByteSource, WriteFault};
@@ -150,7 +150,7 @@ impl<S: ByteSource, W: ByteSink> Transport for WireTransport<S, W> {
             return None;
         }
         let written = write_ask(&mut self.writer, &ask, self.host.as_slice());
-        self.hear(written, !body_of(&ask).is_empty(), wants_head(&ask))
+        self.hear(written, !is_bodiless(&ask), wants_head(&ask))
     }
 
     /// The same of a chunk, which is written from the bytes that are lent, so no memory is wanted for a copy.

@@ -12,8 +12,8 @@ use crate::seat::{Seat, SeatEnd};
 use crate::secrets::Secrets;
 use std::snapshot::Snapshot;
 use std::sync::Wait;
-use std::thread::Promise;
-use upload_names::InPlace;
+use std::thread::{Promise, Threads};
+use upload_names::InThreads;
 use upload_service::{Answer, Ask};
 use upload_wire::{ConnEnd, ConnectionServer, Desk, Observer};
 
@@ -113,7 +113,8 @@ impl<'a, R: Wait, S: Secrets, G: Gate> Desk for GatedDesk<'a, R, S, G> {
 }
 
 /// Serves a worker's connections one after the other, none behind one that ended `DeskGone`, and finishes its seat. One
-/// server serves them all, so that none is turned away for want of a buffer. The worker itself hashes what it reads.
+/// server serves them all, so that none is turned away for want of a buffer. A large body is hashed in threads, beside
+/// its reading.
 fn serve_seat<R, C, S, G, O>(
     rt: &R,
     seat: Seat,
@@ -121,7 +122,7 @@ fn serve_seat<R, C, S, G, O>(
     mut server: ConnectionServer,
 ) -> (SeatEnd, WorkerEnd)
 where
-    R: Wait,
+    R: Threads + Wait,
     C: Conns + Drop,
     S: Secrets + Drop,
     G: Gate + Drop,
@@ -142,7 +143,7 @@ where
         gate,
         turn: 0,
     };
-    let place = InPlace;
+    let place = InThreads(rt);
     let mut end = WorkerEnd { conns: 0, clean: 0 };
     for _ in rt.forever() {
         let Some((mut source, mut sink)) = conns.next_conn() else {
@@ -165,7 +166,7 @@ pub(crate) fn serve_station<R, C, S, G, O>(
     station: Station<C, S, G, O>,
 ) -> (SeatEnd, WorkerEnd)
 where
-    R: Wait,
+    R: Threads + Wait,
     C: Conns + Drop,
     S: Secrets + Drop,
     G: Gate + Drop,

@@ -7,4 +7,5 @@ pub mod Sum
 pub mod ByteRange
 pub mod Reference
 pub mod Running
+pub mod Body
 pub mod Hashing

@@ -8,7 +8,7 @@ use crate::pusher::{Outcome, PushAsk, PushStep, Pusher, Why};
 use std::alloc::{AllocError, Global};
 use std::fmt;
 use upload_client::{Heard, LentChunk, Transport};
-use upload_names::{Algorithm, BlobDigest, Bytes, RepoName};
+use upload_names::{Algorithm, BlobDigest, Body, RepoName};
 use upload_service::{Ask, Extent};
 
 /// Why a push has no outcome.
@@ -160,7 +160,7 @@ fn ask_once<T: Transport>(
                 at,
                 range: Extent::Absent,
                 digest: Some(digest),
-                body: Bytes::of(Vec::new(alloc)),
+                body: Body::of(alloc, Vec::new(alloc)),
             }))
         }
         PushAsk::Head => {

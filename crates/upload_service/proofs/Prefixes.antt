@@ -5,18 +5,17 @@ use Rattle.std.proofs.Math.Seq.{take-length}
 use Rattle.upload_names.specs.declared.digest.Algorithm.{Algorithm as By}
 use Rattle.upload_service.specs.declared.prefix_hash.PrefixHash.{PrefixHash}
 use Rattle.upload_service.specs.declared.running.Running.{Running}
-use Rattle.upload_service.specs.Kept.Parts.{Parts, joined_parts, whole}
+use Rattle.std.specs.List.{concat}
+use Rattle.upload_service.specs.Kept.Parts.{Parts, whole}
 use Rattle.upload_service.specs.Kept.Running.{RunningHolds, HoldsPrefix}
-use Rattle.upload_service.proofs.Parts.{joined-take_rest}
+use Rattle.upload_names.proofs.Parts.{concat-take_rest}
 
 -- it took in all behind those that it held
 pub holds_all : (by : By) (settled : List (List ℕ)) (held : ℕ) (new : Running)
-    → RunningHolds by new
-    (joined_parts (take held settled) ++ joined_parts (take (length settled - held) (drop held settled)))
+    → RunningHolds by new (concat (take held settled) ++ concat (take (length settled - held) (drop held settled)))
     → HoldsPrefix by settled (record { running = new; held = length settled })
 holds_all by settled held new rest = record {
-  holds =
-      subst (RunningHolds by new) (joined-take_rest held settled ∙ ap joined_parts (sym (take-length settled))) rest;
+  holds = subst (RunningHolds by new) (concat-take_rest held settled ∙ ap concat (sym (take-length settled))) rest;
   within = omega arith;
 }
 
@@ -28,14 +27,14 @@ holds_of_more by old new hash front longer h =
     ap (take hash.held) (sym front) ∙ take-take hash.held (length old) new h.within in
     let within = h.within in
     record {
-      holds = subst (λ (p : List (List ℕ)). RunningHolds by hash.running (joined_parts p)) same h.holds;
+      holds = subst (λ (p : List (List ℕ)). RunningHolds by hash.running (concat p)) same h.holds;
       within = omega (arith, within, longer);
     }
 
 -- the first body, if no segment is small, is all that stays as it is
 pub settled_first : (old new : Parts) (body : List ℕ) → length (whole old) ≡ 0 → whole new ≡ whole old ++ body
-    → length new.tail ≡ 0 → joined_parts new.settled ≡ body
+    → length new.tail ≡ 0 → concat new.settled ≡ body
 settled_first old new body none more no_tail =
-    sym (append-nil (joined_parts new.settled))
-    ∙ ap (λ t. joined_parts new.settled ++ t) (sym (nil_from_length new.tail no_tail))
+    sym (append-nil (concat new.settled))
+    ∙ ap (λ t. concat new.settled ++ t) (sym (nil_from_length new.tail no_tail))
     ∙ more ∙ ap (λ w. w ++ body) (nil_from_length (whole old) none)

@@ -1,7 +1,7 @@
 //! What a request asks.
 
 use crate::answer::Refusal;
-use upload_names::{BlobDigest, ByteRange, Bytes, RepoName, UploadRef};
+use upload_names::{BlobDigest, Body, ByteRange, RepoName, UploadRef};
 
 /// The Content-Range of a request for an upload.
 #[derive(Clone, Copy)]
@@ -34,7 +34,7 @@ pub enum Ask {
     Single {
         name: RepoName,
         digest: Option<BlobDigest>,
-        body: Bytes,
+        body: Body,
     },
     /// POST that mounts a blob of another repository.
     Mount {
@@ -47,7 +47,7 @@ pub enum Ask {
         name: RepoName,
         at: UploadRef,
         range: Extent,
-        body: Bytes,
+        body: Body,
     },
     /// GET of a session's offset.
     Status {
@@ -60,7 +60,7 @@ pub enum Ask {
         at: UploadRef,
         range: Extent,
         digest: Option<BlobDigest>,
-        body: Bytes,
+        body: Body,
     },
     /// A request that was refused before it came to the service.
     Refused(Refusal),

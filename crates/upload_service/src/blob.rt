@@ -1,21 +1,24 @@
 //! A stored blob: a small one by itself, a larger one in parts that can be shared.
 ghost use Rattle.std.specs.Prelude.{◌≡◌, ◌+◌, ◌<◌, ◌^◌, ◌++◌, [], ℕ, List, length, box_value, IfOk};
 ghost use Rattle.upload_service.specs.Kept.Parts.{whole};
+ghost use Rattle.upload_service.specs.Kept.Blobs.{body_in};
 
+use crate::running::size_of;
 use crate::segments::Segments;
-use crate::shared::{BlobBytes, Part};
+use crate::shared::BlobBytes;
 use std::alloc::{AllocError, Global};
 use std::marker::Model;
-use upload_names::Bytes;
+use upload_names::{Body, Bytes, Part, Pieces, share_into};
 
 /// The most bytes of a blob that is kept by itself, so that a GET copies them. An `Arc` round so few bytes would take a
 /// good part of what the blob takes in all.
 const SMALL_SIZE: usize = 4_096;
 
-/// What a session received, and the last body behind it.
+/// What a session received, and the last body behind it: its parts, and what came behind them.
 #[derive(Drop)]
 pub struct Several {
     pub before: Segments,
+    pub parts: Vec<Part>,
     pub last: Part,
 }
 
@@ -61,16 +64,18 @@ impl Blob {
 
     /// What was received and a last body, in a place where the last body is already. It takes no memory.
     pub fn of_parts(alloc: Global, mut segments: Segments, mut place: Box<Several>) -> Blob
-        requires { length (whole segments) + length (box_value place).last < 2 ^ 64 }
-        ensures { result ≡ whole segments ++ (box_value place).last }
+        requires { length (whole segments) + length (body_in (box_value place)) < 2 ^ 64 }
+        ensures { result ≡ whole segments ++ body_in (box_value place) }
     {
         segments.shrink();
-        if place.last.as_slice().is_empty() {
-            segments.hand_over(&mut place.last);
-        }
-        if segments.total() == 0 {
-            let several = Box::into_inner(place);
-            return Blob::of_part(alloc, several.last);
+        if place.parts.is_empty() {
+            if place.last.as_slice().is_empty() {
+                segments.hand_over(&mut place.last);
+            }
+            if segments.total() == 0 {
+                let several = Box::into_inner(place);
+                return Blob::of_part(alloc, several.last);
+            }
         }
         place.before = segments;
         Blob {
@@ -95,16 +100,36 @@ impl Blob {
     }
 
     /// A blob of one body, which is moved and not copied.
-    pub fn of(alloc: Global, body: Bytes) -> Result<Blob, AllocError>
+    pub fn of(alloc: Global, body: Body) -> Result<Blob, AllocError>
         ensures { IfOk result (λ blob. blob ≡ body) }
     {
-        if body.len() <= SMALL_SIZE {
+        let size = body.len();
+        let Pieces { parts, last } = body.into_pieces();
+        if parts.is_empty() && size <= SMALL_SIZE {
             return Ok(Blob {
-                shape: Shape::Small(body.into_vec()),
+                shape: Shape::Small(last),
             });
         }
-        match Part::of(alloc, body.into_vec()) {
-            Ok(part) => Ok(Blob::of_part(alloc, part)),
+        let Ok(last) = Part::of(alloc, last) else {
+            return Err(AllocError);
+        };
+        if parts.is_empty() {
+            return Ok(Blob {
+                shape: Shape::One(last),
+            });
+        }
+        let before = Segments::new(alloc);
+        match Box::new(
+            alloc,
+            Several {
+                before,
+                parts,
+                last,
+            },
+        ) {
+            Ok(place) => Ok(Blob {
+                shape: Shape::Several(place),
+            }),
             Err(_) => Err(AllocError),
         }
     }
@@ -116,7 +141,7 @@ impl Blob {
         match &self.shape {
             Shape::Small(bytes) => bytes.len() as u64,
             Shape::One(last) => last.as_slice().len() as u64,
-            Shape::Several(parts) => parts.before.total() + parts.last.as_slice().len() as u64,
+            Shape::Several(several) => len_of(several),
         }
     }
 
@@ -131,7 +156,7 @@ impl Blob {
                 BlobBytes::of(alloc, Bytes::of(copy))
             }
             Shape::One(last) => share_part(alloc, last),
-            Shape::Several(parts) => share_parts(alloc, &parts.before, &parts.last),
+            Shape::Several(several) => share_parts(alloc, several),
         }
     }
 }
@@ -146,19 +171,30 @@ fn share_part(alloc: Global, last: &Part) -> Result<BlobBytes, AllocError>
     Ok(BlobBytes::of_parts(parts))
 }
 
-/// The bytes of segments and a last part: all are shared but the last segment, which is copied.
-fn share_parts(alloc: Global, segments: &Segments, last: &Part) -> Result<BlobBytes, AllocError>
-    ensures { IfOk result (λ bytes. bytes ≡ whole segments.now ++ last.now) }
+/// How many bytes these are.
+fn len_of(several: &Several) -> u64
+    requires { length (whole several.now.before) + length (body_in several.now) < 2 ^ 64 }
+    ensures { result ≡ length (whole several.now.before) + length (body_in several.now) }
 {
-    let settled = segments.settled();
-    let mut parts = Vec::with_capacity(alloc, settled.len() + 2)?;
-    for part in settled {
-        parts.push(part.share()?)?;
-    }
-    let Ok(tail) = Part::of(alloc, Vec::from_slice(alloc, segments.tail())?) else {
+    several.before.total()
+        + size_of(several.parts.as_slice())
+        + several.last.as_slice().len() as u64
+}
+
+/// The bytes of segments and a last body: all are shared but the last segment, which is copied.
+fn share_parts(alloc: Global, several: &Several) -> Result<BlobBytes, AllocError>
+    ensures { IfOk result (λ bytes. bytes ≡ whole several.now.before ++ body_in several.now) }
+{
+    let settled = several.before.settled();
+    let behind = several.parts.as_slice();
+    let count = settled.len().saturating_add(behind.len()).saturating_add(2);
+    let mut parts = Vec::with_capacity(alloc, count)?;
+    share_into(&mut parts, settled)?;
+    let Ok(tail) = Part::of(alloc, Vec::from_slice(alloc, several.before.tail())?) else {
         return Err(AllocError);
     };
     parts.push(tail)?;
-    parts.push(last.share()?)?;
+    share_into(&mut parts, behind)?;
+    parts.push(several.last.share()?)?;
     Ok(BlobBytes::of_parts(parts))
 }

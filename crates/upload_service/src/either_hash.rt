@@ -1,12 +1,11 @@
 //! A running hash by either algorithm.
 ghost use Rattle.std.specs.Prelude.{◌≡◌, ◌++◌, [], ℕ, List};
 ghost use Rattle.upload_names.specs.declared.digest.Algorithm.{Algorithm as By};
-ghost use Rattle.upload_service.specs.Kept.Parts.{joined_parts};
+ghost use Rattle.std.specs.List.{concat};
 ghost use Rattle.upload_service.specs.Kept.Hashes.{HoldsBy};
 
-use crate::shared::Part;
 use sha2::{Digest, Sha256, Sha512};
-use upload_names::Algorithm;
+use upload_names::{Algorithm, Part, take_in};
 
 /// A running hash by either algorithm.
 #[derive(Drop)]
@@ -45,21 +44,11 @@ impl EitherHash {
     /// Takes parts in.
     pub fn take_in(&mut self, parts: &[Part])
         ensures { (by : By) (before : List ℕ) → HoldsBy by self.old before
-            → HoldsBy by self.new (before ++ joined_parts parts.now) }
+            → HoldsBy by self.new (before ++ concat parts.now) }
     {
         match self {
             EitherHash::Sha256(hash) => take_in(hash, parts),
             EitherHash::Sha512(hash) => take_in(hash, parts),
         }
-    }
-}
-
-/// Has a hash take parts in.
-fn take_in<H: Digest>(hash: &mut H, parts: &[Part])
-    ensures { (before : List ℕ) → H.holds hash.old before
-        → H.holds hash.new (before ++ joined_parts parts.now) }
-{
-    for part in parts {
-        hash.update(part.as_slice());
     }
 }

@@ -11,7 +11,7 @@ pub use laws::{
 };
 pub use limits::Limits;
 pub use service::Service;
-pub use shared::{BlobBytes, Part};
+pub use shared::BlobBytes;
 
 mod answer;
 mod ask;

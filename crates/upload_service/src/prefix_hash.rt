@@ -4,17 +4,16 @@ ghost use Rattle.upload_names.specs.declared.digest.Algorithm.{Algorithm as By};
 ghost use Rattle.upload_service.specs.declared.either_hash.EitherHash.{EitherHash as HashOf};
 ghost use Rattle.upload_service.specs.declared.running.Running.TheVariants.{Here};
 ghost use Rattle.upload_service.specs.Kept.Hashes.{HoldsBy};
-ghost use Rattle.upload_service.specs.Kept.Parts.{joined_parts};
+ghost use Rattle.std.specs.List.{concat};
 ghost use Rattle.upload_service.specs.Kept.Running.{HoldsPrefix};
 
 use crate::either_hash::EitherHash;
 use crate::hash_end::HashEnd;
 use crate::running::Running;
-use crate::shared::Part;
 use std::alloc::Global;
 use std::mem;
 use std::thread::Threads;
-use upload_names::Algorithm;
+use upload_names::{Algorithm, Part};
 
 /// A running hash, and how many of the segments that stay as they are it holds. Each call is given these segments, of
 /// which the hash holds a prefix before the call and after it.
@@ -37,7 +36,7 @@ impl PrefixHash {
 
     /// A hash that holds all these segments.
     pub fn of_all(hash: EitherHash, settled: &[Part]) -> PrefixHash
-        ensures { (by : By) → HoldsBy by hash (joined_parts settled.now)
+        ensures { (by : By) → HoldsBy by hash (concat settled.now)
             → HoldsPrefix by settled.now result }
     {
         PrefixHash {
@@ -92,7 +91,7 @@ impl PrefixHash {
     /// a thread, all is hashed anew.
     pub fn of_settled(&mut self, algorithm: Algorithm, settled: &[Part]) -> EitherHash
         requires { HoldsPrefix algorithm settled.now self.old }
-        ensures hash { HoldsBy algorithm result (joined_parts settled.now) }
+        ensures hash { HoldsBy algorithm result (concat settled.now) }
         ensures prefix { HoldsPrefix algorithm settled.now self.new }
     {
         self.catch_up(settled);

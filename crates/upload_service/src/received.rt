@@ -3,7 +3,8 @@ ghost use Rattle.std.specs.Prelude.{◌≡◌, ◌↔◌, ◌+◌, ◌<◌, ◌^
 ghost use Rattle.sha2.specs.Sha256.{sha256};
 ghost use Rattle.sha2.specs.Sha512.{sha512};
 ghost use Rattle.upload_names.specs.Digest.{HasDigest};
-ghost use Rattle.upload_service.specs.Kept.Parts.{joined_parts, whole};
+ghost use Rattle.std.specs.List.{concat};
+ghost use Rattle.upload_service.specs.Kept.Parts.{whole};
 
 use crate::either_hash::EitherHash;
 use crate::hash_end::HashEnd;
@@ -13,7 +14,7 @@ use sha2::Digest;
 use std::alloc::{AllocError, Global};
 use std::marker::Model;
 use std::thread::Threads;
-use upload_names::{Algorithm, BlobDigest, Bytes};
+use upload_names::{Algorithm, BlobDigest, Body};
 
 /// The bytes that a session received, and two hashes that each hold a prefix of them. `catch_up` and `catch_up_beside`
 /// have the SHA-256 take in what came since, so that a close has little left to hash. The SHA-512 catches up only when
@@ -62,7 +63,7 @@ impl Received {
 
     /// Takes a body in behind the others, and hashes nothing yet: of a first body it takes over the hash that the
     /// body carries. An `Err` changes nothing.
-    pub fn append(&mut self, body: Bytes) -> Result<(), AllocError>
+    pub fn append(&mut self, body: Body) -> Result<(), AllocError>
         requires { length self.old + length body < 2 ^ 64 }
         ensures ok { OnOk result (self.new ≡ self.old ++ body) }
         ensures err { OnErr result (self.new ≡ self.old) }
@@ -131,7 +132,7 @@ impl Received {
 
     /// Whether what was received and a last body have a digest, by the algorithm of that digest. The body is
     /// hashed into a copy, so nothing that is seen changes.
-    pub fn has_digest(&mut self, digest: &BlobDigest, body: &Bytes) -> bool
+    pub fn has_digest(&mut self, digest: &BlobDigest, body: &Body) -> bool
         ensures is { IsTrue result ↔ HasDigest (self.old ++ body.now) digest.now }
         ensures same { self.new ≡ self.old }
     {
@@ -150,7 +151,7 @@ impl Received {
     /// The SHA-256 of what was received and a last body. The hash takes in the segments that stay as they are; the
     /// last one, which is small, goes into a copy with the body. Where the body is all, and carries its hash, nothing
     /// is hashed again. If the hash is away in a thread, all is hashed anew.
-    fn sha256_with(&mut self, body: &Bytes) -> [u8; 32]
+    fn sha256_with(&mut self, body: &Body) -> [u8; 32]
         ensures digest { result ≡ sha256 (self.old ++ body.now) }
         ensures same { self.new ≡ self.old }
     {
@@ -161,13 +162,13 @@ impl Received {
         }
         let settled = self.segments.settled();
         match self.sha256.of_settled(Algorithm::Sha256, settled) {
-            EitherHash::Sha256(hash) => finish(hash, &self.segments, body.as_slice()),
+            EitherHash::Sha256(hash) => finish(hash, &self.segments, body),
             EitherHash::Sha512(_) => unreachable!(),
         }
     }
 
     /// The SHA-512 of the same, in the same way.
-    fn sha512_with(&mut self, body: &Bytes) -> [u8; 64]
+    fn sha512_with(&mut self, body: &Body) -> [u8; 64]
         ensures digest { result ≡ sha512 (self.old ++ body.now) }
         ensures same { self.new ≡ self.old }
     {
@@ -178,7 +179,7 @@ impl Received {
         }
         let settled = self.segments.settled();
         match self.sha512.of_settled(Algorithm::Sha512, settled) {
-            EitherHash::Sha512(hash) => finish(hash, &self.segments, body.as_slice()),
+            EitherHash::Sha512(hash) => finish(hash, &self.segments, body),
             EitherHash::Sha256(_) => unreachable!(),
         }
     }
@@ -192,11 +193,11 @@ impl Received {
 }
 
 /// The digest of the segments and a last body, by a hash that holds the segments that stay as they are.
-fn finish<H: Digest>(mut hash: H, segments: &Segments, body: &[u8]) -> H::Output
-    requires { H.holds hash (joined_parts segments.now.settled) }
+fn finish<H: Digest>(mut hash: H, segments: &Segments, body: &Body) -> H::Output
+    requires { H.holds hash (concat segments.now.settled) }
     ensures { H.digest_of (whole segments.now ++ body.now) result }
 {
     hash.update(segments.tail());
-    hash.update(body);
+    body.hash_into(&mut hash);
     hash.finalize()
 }

@@ -1,24 +1,23 @@
 //! A running hash that takes parts in here, or in a thread of its own.
-ghost use Rattle.std.specs.Prelude.{◌≡◌, ◌++◌, [], ℕ, List, IfOk};
+ghost use Rattle.std.specs.Prelude.{◌≡◌, ◌-◌, ◌^◌, ◌++◌, [], ℕ, List, length, min, IfOk, OnOk};
 ghost use Rattle.upload_names.specs.declared.digest.Algorithm.{Algorithm as By};
-ghost use Rattle.upload_service.specs.Kept.Parts.{joined_parts};
+ghost use Rattle.std.specs.List.{concat};
 ghost use Rattle.upload_service.specs.Kept.Hashes.{HoldsBy};
 ghost use Rattle.upload_service.specs.Kept.Running.{RunningHolds};
 
 use crate::either_hash::EitherHash;
 use crate::hash_end::HashEnd;
-use crate::shared::Part;
 use std::alloc::{AllocError, Global};
 use std::snapshot::Snapshot;
 use std::thread;
 use std::thread::{Promise, PromisedHandle, Threads};
-use upload_names::Algorithm;
+use upload_names::{Algorithm, Part, share_all};
 
 /// The stack of a thread that hashes, in bytes.
 const STACK: usize = 131_072;
 
 /// The fewest bytes that are worth a thread.
-const WORTH_A_THREAD: usize = 262_144;
+const WORTH_A_THREAD: u64 = 262_144;
 
 /// What a thread promises: its hash holds these parts behind what the hash held that it was given.
 #[derive(Drop)]
@@ -30,11 +29,11 @@ pub struct Behind {
 impl Promise<EitherHash> for Behind {
     ghost use Rattle.std.specs.Prelude.{List, ℕ, ◌++◌};
     ghost use Rattle.upload_names.specs.declared.digest.Algorithm.{Algorithm as By};
-    ghost use Rattle.upload_service.specs.Kept.Parts.{joined_parts};
+    ghost use Rattle.std.specs.List.{concat};
     ghost use Rattle.upload_service.specs.Kept.Hashes.{HoldsBy};
 
     ghost kept_by = { λ p hash. (by : By) (before : List ℕ) → HoldsBy by p.before.value before
-        → HoldsBy by hash (before ++ joined_parts p.parts.value.items) };
+        → HoldsBy by hash (before ++ concat p.parts.value.items) };
 }
 
 /// A thread that hashes. One that nobody joins runs to its end, and lets go of its parts there.
@@ -93,7 +92,7 @@ impl Running {
     /// for a thread, or none can be made, the parts are taken in here.
     pub fn go_on<R: Threads>(self, rt: &R, alloc: Global, parts: &[Part]) -> Running
         ensures { (by : By) (bytes : List ℕ) → RunningHolds by self bytes
-            → RunningHolds by result (bytes ++ joined_parts parts.now) }
+            → RunningHolds by result (bytes ++ concat parts.now) }
     {
         let mut hash = self.come_home(rt);
         if size_of(parts) >= WORTH_A_THREAD {
@@ -106,30 +105,21 @@ impl Running {
     }
 }
 
-/// How many bytes these parts have.
-fn size_of(parts: &[Part]) -> usize {
-    let mut size: usize = 0;
+/// How many bytes these parts have, or the greatest number there is if they have more.
+pub fn size_of(parts: &[Part]) -> u64
+    ensures { result ≡ min (length (concat parts.now)) (2 ^ 64 - 1) }
+{
+    let mut size: u64 = 0;
     for part in parts {
-        size = size.saturating_add(part.as_slice().len());
+        size = size.saturating_add(part.as_slice().len() as u64);
     }
     size
-}
-
-/// One more owner of each part.
-fn share_all(alloc: Global, parts: &[Part]) -> Result<Vec<Part>, AllocError>
-    ensures { IfOk result (λ shares. shares.items ≡ parts.now) }
-{
-    let mut shares = Vec::with_capacity(alloc, parts.len())?;
-    for part in parts {
-        shares.push(part.share()?)?;
-    }
-    Ok(shares)
 }
 
 /// Starts a thread that takes parts in.
 fn hash_beside<R: Threads>(rt: &R, alloc: Global, hash: EitherHash, parts: Vec<Part>) -> Running
     ensures { (by : By) (bytes : List ℕ) → HoldsBy by hash bytes
-        → RunningHolds by result (bytes ++ joined_parts parts.items) }
+        → RunningHolds by result (bytes ++ concat parts.items) }
 {
     let Ok((end, told)) = ends(alloc) else {
         return Running::Here(with_parts(hash, parts));
@@ -155,7 +145,7 @@ fn ends(alloc: Global) -> Result<(HashEnd, HashEnd), AllocError> {
 /// What the thread does.
 fn hash_there(hash: EitherHash, parts: Vec<Part>, end: HashEnd) -> EitherHash
     ensures { (by : By) (before : List ℕ) → HoldsBy by hash before
-        → HoldsBy by result (before ++ joined_parts parts.items) }
+        → HoldsBy by result (before ++ concat parts.items) }
 {
     let hash = with_parts(hash, parts);
     end.tell();
@@ -165,7 +155,7 @@ fn hash_there(hash: EitherHash, parts: Vec<Part>, end: HashEnd) -> EitherHash
 /// The hash with these parts taken in. The parts are let go.
 fn with_parts(hash: EitherHash, parts: Vec<Part>) -> EitherHash
     ensures { (by : By) (before : List ℕ) → HoldsBy by hash before
-        → HoldsBy by result (before ++ joined_parts parts.items) }
+        → HoldsBy by result (before ++ concat parts.items) }
 {
     let mut hash = hash;
     hash.take_in(parts.as_slice());

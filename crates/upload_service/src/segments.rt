@@ -2,13 +2,14 @@
 //! into one segment, so that a session which is fed a byte at a time takes little more than its bytes.
 ghost use Rattle.std.specs.Prelude.{◌≡◌, ◌+◌, ◌<◌, ◌≤◌, ◌^◌, ◌++◌, ◌∷◌, [], ℕ, List, length, take, vec_len};
 ghost use Rattle.std.specs.Prelude.{vec_capacity, IfOk, OnOk, OnErr};
-ghost use Rattle.upload_service.specs.Kept.Parts.{joined_parts, with_part, whole};
+ghost use Rattle.std.specs.List.{concat};
+ghost use Rattle.upload_names.specs.Body.{bytes_in};
+ghost use Rattle.upload_service.specs.Kept.Parts.{with_part, whole};
 
-use crate::shared::Part;
 use std::alloc::{AllocError, Global};
 use std::marker::Model;
 use std::mem;
-use upload_names::Bytes;
+use upload_names::{Body, Part, Pieces};
 
 /// The most bytes of a segment that small bodies are joined into.
 const JOINED_SIZE: usize = 65_536;
@@ -92,7 +93,7 @@ impl Segments {
     }
 
     /// Puts a body behind the others. An empty one adds no segment. An `Err` changes nothing.
-    pub fn append(&mut self, body: Bytes) -> Result<(), AllocError>
+    pub fn append(&mut self, body: Body) -> Result<(), AllocError>
         requires { length (whole self.old) + length body < 2 ^ 64 }
         ensures more { OnOk result (whole self.new ≡ whole self.old ++ body) }
         ensures front { OnOk result
@@ -100,58 +101,66 @@ impl Segments {
         ensures longer { OnOk result (length self.old.settled ≤ length self.new.settled) }
         ensures err { OnErr result (self.new ≡ self.old) }
     {
-        let size = body.as_slice().len();
-        if size > JOINED_SIZE || self.tail.len() > JOINED_SIZE - size {
-            self.settled.reserve(2)?;
-            roll_over(self.alloc, &mut self.settled, &mut self.tail, body)?;
+        let size = body.len();
+        let Pieces { parts, last } = body.into_pieces();
+        if parts.is_empty() && size <= JOINED_SIZE && self.tail.len() <= JOINED_SIZE - size {
+            join(&mut self.tail, last)?;
         } else {
-            join(&mut self.tail, body)?;
+            self.settled.reserve(parts.len().saturating_add(2))?;
+            roll_over(
+                self.alloc,
+                &mut self.settled,
+                &mut self.tail,
+                Pieces { parts, last },
+            )?;
         }
         self.total += size as u64;
         Ok(())
     }
 }
 
-/// Joins a body to the last segment, or moves it in where there is none.
-fn join(tail: &mut Vec<u8>, body: Bytes) -> Result<(), AllocError>
-    ensures ok { OnOk result (tail.new.items ≡ tail.old.items ++ body) }
+/// Joins a small body to the last segment, or moves it in if there is none.
+fn join(tail: &mut Vec<u8>, body: Vec<u8>) -> Result<(), AllocError>
+    ensures ok { OnOk result (tail.new.items ≡ tail.old.items ++ body.items) }
     ensures err { OnErr result (tail.new.items ≡ tail.old.items) }
 {
     if tail.is_empty() {
-        *tail = body.into_vec();
+        *tail = body;
         return Ok(());
     }
     tail.extend_from_slice(body.as_slice())?;
     Ok(())
 }
 
-/// Settles the last segment and moves a body in behind it: as the last segment where it is small. An `Err` changes
+/// Settles the last segment and moves a body in behind it: as the last segment if it is small. An `Err` changes
 /// nothing.
 fn roll_over(
     alloc: Global,
     settled: &mut Vec<Part>,
     tail: &mut Vec<u8>,
-    body: Bytes,
+    body: Pieces,
 ) -> Result<(), AllocError>
-    requires { vec_len settled.old + 2 ≤ vec_capacity settled.old }
-    ensures more { OnOk result (joined_parts settled.new.items ++ tail.new.items
-        ≡ joined_parts settled.old.items ++ tail.old.items ++ body) }
+    requires { vec_len settled.old + vec_len body.parts + 2 ≤ vec_capacity settled.old }
+    ensures more { OnOk result (concat settled.new.items ++ tail.new.items
+        ≡ concat settled.old.items ++ tail.old.items ++ bytes_in body) }
     ensures front { OnOk result
         (take (length settled.old.items) settled.new.items ≡ settled.old.items) }
     ensures longer { OnOk result (length settled.old.items ≤ length settled.new.items) }
     ensures err { OnErr result
         ((settled.new.items ≡ settled.old.items) × (tail.new.items ≡ tail.old.items)) }
 {
-    if body.as_slice().len() > JOINED_SIZE {
-        let Ok(part) = Part::of(alloc, body.into_vec()) else {
-            return Err(AllocError);
-        };
+    let Pieces { parts, last } = body;
+    if parts.is_empty() && last.len() <= JOINED_SIZE {
         settle_tail(alloc, settled, tail)?;
-        settle(settled, part);
-    } else {
-        settle_tail(alloc, settled, tail)?;
-        *tail = body.into_vec();
+        *tail = last;
+        return Ok(());
     }
+    let Ok(last) = Part::of(alloc, last) else {
+        return Err(AllocError);
+    };
+    settle_tail(alloc, settled, tail)?;
+    settle_all(settled, parts);
+    settle(settled, last);
     Ok(())
 }
 
@@ -190,5 +199,19 @@ fn settle(settled: &mut Vec<Part>, part: Part)
     match settled.push(part) {
         Ok(()) => {}
         Err(_) => unreachable!(),
+    }
+}
+
+/// Makes parts segments that stay as they are.
+fn settle_all(settled: &mut Vec<Part>, parts: Vec<Part>)
+    requires { vec_len settled.old + vec_len parts ≤ vec_capacity settled.old }
+    ensures items { settled.new.items ≡ settled.old.items ++ parts.items }
+    ensures room { vec_capacity settled.old ≤ vec_capacity settled.new }
+{
+    for part in parts {
+        match settled.push(part) {
+            Ok(()) => {}
+            Err(_) => unreachable!(),
+        }
     }
 }

@@ -172,7 +172,7 @@ impl Service {
         };
         let sessions = &self.tables.sessions;
         let session = sessions.find_awake(name, at, self.limits.max_idle, now)?;
-        let size = body.as_slice().len() as u64;
+        let size = body.len() as u64;
         let verdict = judge(self.limits.max_blob, session.received.len(), *range, size);
         match verdict {
             Verdict::Fits => Some((*at, digest.algorithm())),

@@ -13,7 +13,7 @@ use std::alloc::{AllocError, Global};
 use std::collections::BTreeMap;
 use std::marker::Model;
 use std::thread::Threads;
-use upload_names::{Algorithm, BlobDigest, Bytes, RepoName, UploadRef};
+use upload_names::{Algorithm, BlobDigest, Body, RepoName, UploadRef};
 
 /// A session that was opened and not yet closed.
 #[derive(Drop)]
@@ -142,7 +142,7 @@ impl Sessions {
     }
 
     /// Has an open session take a body in.
-    pub fn append(&mut self, at: &UploadRef, body: Bytes, now: u64) -> Result<(), AllocError>
+    pub fn append(&mut self, at: &UploadRef, body: Body, now: u64) -> Result<(), AllocError>
         requires open { IsSome (map.get self.old at.now) }
         requires fits { (session : Session) → map.get self.old at.now ≡ Some session
             → length session.received + length body < 2 ^ 64 }
@@ -216,7 +216,7 @@ impl Sessions {
 
     /// Whether what an open session received and a last body have a digest, by the algorithm of that digest.
     /// Nothing that is seen changes.
-    pub fn has_digest(&mut self, at: &UploadRef, digest: &BlobDigest, body: &Bytes) -> bool
+    pub fn has_digest(&mut self, at: &UploadRef, digest: &BlobDigest, body: &Body) -> bool
         requires { IsSome (map.get self.old at.now) }
         ensures is { (session : Session) → map.get self.old at.now ≡ Some session
             → (IsTrue result ↔ HasDigest (session.received ++ body.now) digest.now) }

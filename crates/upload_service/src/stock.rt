@@ -9,17 +9,17 @@ ghost use Rattle.std.specs.Map.{lookup};
 ghost use Rattle.upload_service.specs.Machine.{Session, same};
 ghost use Rattle.upload_service.specs.Kept.Stock.{blob_in, is_held, or_empty, digest_at};
 ghost use Rattle.upload_service.specs.Kept.Parts.{whole};
+ghost use Rattle.upload_service.specs.Kept.Blobs.{body_in};
 
 use crate::blob::{Blob, Several};
 use crate::holders::{Holders, Names};
 use crate::segments::Segments;
 use crate::sessions::Sessions;
-use crate::shared::Part;
 use std::alloc::{AllocError, Global};
 use std::collections::BTreeMap;
 use std::marker::Model;
 use std::sync::Arc;
-use upload_names::{Algorithm, BlobDigest, Bytes, RepoName, UploadRef};
+use upload_names::{Algorithm, BlobDigest, Body, Part, Pieces, RepoName, UploadRef};
 
 /// A stored blob and the repositories that have it.
 #[derive(Drop)]
@@ -137,7 +137,7 @@ impl Stock {
         name: &RepoName,
         at: &UploadRef,
         digest: BlobDigest,
-        body: Bytes,
+        body: Body,
     ) -> Result<(), AllocError>
         requires open { IsSome (map.get sessions.old at.now) }
         requires fits { (session : Session) → map.get sessions.old at.now ≡ Some session
@@ -150,11 +150,19 @@ impl Stock {
             (self.new.pairs ≡ set.insert self.old.pairs (name.now, digest)) }
         ensures err { OnErr result ((self.new ≡ self.old) × (sessions.new ≡ sessions.old)) }
     {
-        let Ok(last) = Part::of(self.alloc, body.into_vec()) else {
+        let Pieces { parts, last } = body.into_pieces();
+        let Ok(last) = Part::of(self.alloc, last) else {
             return Err(AllocError);
         };
         let before = Segments::new(self.alloc);
-        let Ok(place) = Box::new(self.alloc, Several { before, last }) else {
+        let Ok(place) = Box::new(
+            self.alloc,
+            Several {
+                before,
+                parts,
+                last,
+            },
+        ) else {
             return Err(AllocError);
         };
         let Ok(()) = self.hold(name, digest) else {
@@ -289,9 +297,9 @@ fn put_under<const N: usize>(items: &mut BTreeMap<[u8; N], Item>, key: &[u8; N],
 fn blob_of(alloc: Global, sessions: &mut Sessions, at: &UploadRef, place: Box<Several>) -> Blob
     requires open { IsSome (map.get sessions.old at.now) }
     requires fits { (session : Session) → map.get sessions.old at.now ≡ Some session
-        → length session.received + length (box_value place).last < 2 ^ 64 }
+        → length session.received + length (body_in (box_value place)) < 2 ^ 64 }
     ensures blob { (session : Session) → map.get sessions.old at.now ≡ Some session
-        → result ≡ session.received ++ (box_value place).last }
+        → result ≡ session.received ++ body_in (box_value place) }
     ensures closed { sessions.new ≡ map.remove sessions.old at.now }
 {
     let Some(session) = sessions.close(at) else {

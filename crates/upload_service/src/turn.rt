@@ -16,7 +16,7 @@ use crate::sessions::Sessions;
 use crate::slack::Slack;
 use crate::stock::Stock;
 use std::alloc::Global;
-use upload_names::{BlobDigest, Bytes, RepoName, UploadRef};
+use upload_names::{BlobDigest, Body, RepoName, UploadRef};
 
 /// All that a service keeps, but for its limits.
 #[derive(Drop)]
@@ -81,7 +81,7 @@ fn chunk(
     name: RepoName,
     at: UploadRef,
     range: Extent,
-    body: Bytes,
+    body: Body,
     now: u64,
 ) -> Answer
     ensures { Comes (state_of limits tables.old) now
@@ -94,7 +94,7 @@ fn chunk(
         return Answer::Refused(Refusal::NoUpload);
     };
     let next = session.received.len();
-    let size = body.as_slice().len() as u64;
+    let size = body.len() as u64;
     match judge(limits.max_blob, next, range, size) {
         Verdict::Misplaced => return Answer::Misplaced { name, at, next },
         Verdict::Refused(refusal) => return Answer::Refused(refusal),
@@ -118,7 +118,7 @@ fn close(
     at: UploadRef,
     range: Extent,
     digest: Option<BlobDigest>,
-    body: Bytes,
+    body: Body,
     now: u64,
 ) -> Answer
     ensures { Comes (state_of limits tables.old) now
@@ -131,7 +131,7 @@ fn close(
         return Answer::Refused(Refusal::NoUpload);
     };
     let next = session.received.len();
-    let size = body.as_slice().len() as u64;
+    let size = body.len() as u64;
     match judge(limits.max_blob, next, range, size) {
         Verdict::Misplaced => return Answer::Misplaced { name, at, next },
         Verdict::Refused(refusal) => return Answer::Refused(refusal),
@@ -152,7 +152,7 @@ fn commit(
     name: RepoName,
     at: UploadRef,
     digest: BlobDigest,
-    body: Bytes,
+    body: Body,
 ) -> Answer
     requires open { IsSome (map.get tables.old.sessions at) }
     requires fits { (session : Session) → map.get tables.old.sessions at ≡ Some session
@@ -252,13 +252,13 @@ fn single(
     tables: &mut Tables,
     name: RepoName,
     digest: Option<BlobDigest>,
-    body: Bytes,
+    body: Body,
 ) -> Answer
     ensures { (secret : List ℕ) (now : ℕ)
         → Turn (state_of limits tables.old) (Ask.Single name digest body) secret now result
         (state_of limits tables.new) }
 {
-    if body.as_slice().len() as u64 > limits.max_blob {
+    if body.len() as u64 > limits.max_blob {
         return Answer::Refused(Refusal::TooLarge);
     }
     let Some(digest) = digest else {

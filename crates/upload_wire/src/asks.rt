@@ -10,7 +10,7 @@ use crate::target::{PathForm, form_of};
 use http_uri::{Uri, UriError};
 use http_wire::{Framing, parameter};
 use std::alloc::{AllocError, Global};
-use upload_names::{Algorithm, BlobDigest, Bytes, NameFault, RepoName, UploadRef};
+use upload_names::{Algorithm, BlobDigest, Body, NameFault, RepoName, UploadRef};
 use upload_service::{Ask, Extent, Form, Refusal};
 
 /// The methods that requests of the service have.
@@ -247,13 +247,13 @@ pub fn ask_of(
 
 impl HeadAsk {
     /// The ask with its body. One that carries none drops it, and an opening and a mount refuse it.
-    pub fn with_body(self, body: Bytes) -> Ask
+    pub fn with_body(self, body: Body) -> Ask
         ensures { result ≡ with_body self body }
     {
         match self {
             HeadAsk::Ready(ask) => ask,
             HeadAsk::IfBodiless(ask) => {
-                if body.as_slice().is_empty() {
+                if body.len() == 0 {
                     ask
                 } else {
                     Ask::Refused(Refusal::HasBody)

@@ -1,25 +1,25 @@
-//! The body of a request, put into bytes as it is read.
+//! The body of a request, put into its parts as it is read.
 
 use http_wire::BodyBuffer;
 use std::alloc::AllocError;
-use upload_names::{BytesBuilder, HashPlace};
+use upload_names::{BodyBuilder, HashPlace};
 
 /// The body of a request, as far as it came, and where it is hashed.
 #[derive(Drop)]
-pub struct Body<'a, P: HashPlace> {
-    pub bytes: BytesBuilder,
+pub struct Incoming<'a, P: HashPlace> {
+    pub body: BodyBuilder,
     pub place: &'a P,
 }
 
-impl<'a, P: HashPlace> BodyBuffer for Body<'a, P> {
-    ghost bytes = { λ b. b.bytes };
+impl<'a, P: HashPlace> BodyBuffer for Incoming<'a, P> {
+    ghost bytes = { λ i. i.body };
 
     fn extend(&mut self, piece: &[u8]) -> Result<(), AllocError> {
-        self.bytes.extend(self.place, piece)?;
+        self.body.extend(self.place, piece)?;
         Ok(())
     }
 
     fn len(&self) -> usize {
-        self.bytes.len()
+        self.body.len()
     }
 }

@@ -1,6 +1,5 @@
 //! Replies (RFC 9112, section 4; OCI Distribution Specification 1.1, sections "Push" and "Error Codes").
 ghost use Rattle.std.specs.Prelude.{◌≡◌, IsTrue, OnOk};
-ghost use Rattle.std.specs.List.{concat};
 ghost use Rattle.http_wire.specs.Writing.{Wrote};
 ghost use Rattle.http_wire.specs.Inner.Gathering.{Puts};
 ghost use Rattle.http_wire.specs.HeadText.{status_number};
@@ -10,8 +9,8 @@ ghost use Rattle.upload_wire.specs.ReplyText.{reply, reply_of};
 use crate::request::Style;
 use head::put_reply_head;
 use http_wire::{ByteSink, Gather, WriteFault};
-use upload_service::{Answer, Part};
-use upload_texts::{ErrorCode, refusal_code};
+use upload_service::Answer;
+use upload_texts::{ErrorCode, put_parts, refusal_code};
 
 mod head;
 mod refusal;
@@ -54,15 +53,6 @@ fn put_body<W: ByteSink>(head: &mut Gather, writer: &mut W, answer: &Answer)
         }
         Answer::Refused(refusal) => { head.put(writer, refusal_code(*refusal).body().as_bytes()) }
         _ => {}
-    }
-}
-
-/// Puts the parts of a blob, one after another.
-fn put_parts<W: ByteSink>(head: &mut Gather, writer: &mut W, parts: &[Part])
-    ensures { Puts (W.state writer.old) head.old (W.state writer.new) head.new (concat parts.now) }
-{
-    for part in parts {
-        head.put(writer, part.as_slice());
     }
 }
 

@@ -9,13 +9,13 @@ ghost use Rattle.http_wire.specs.Inner.HeadSpans.{request_spans};
 ghost use Rattle.upload_wire.specs.Inner.RequestReading.{Describes, FindsRequest};
 
 use crate::asks::{HeadAsk, ask_of};
-use crate::body::Body;
+use crate::body::Incoming;
 use http_wire::{
     Bad, BodyEnd, ByteSource, Framing, Input, Occurrence, ParsedRequest, WireFault, field_named,
     framing_of, keeps_connection, read_body,
 };
 use std::alloc::Global;
-use upload_names::{ByteRange, BytesBuilder, HashPlace, UploadRef};
+use upload_names::{BodyBuilder, ByteRange, HashPlace, UploadRef};
 use upload_service::{Ask, Extent};
 
 /// How a request wants its reply.
@@ -116,16 +116,16 @@ pub(crate) fn read_request<S: ByteSource, P: HashPlace>(
         style,
         framing,
     } = described;
-    let mut body = Body {
-        bytes: BytesBuilder::new(alloc, ask.hash_wanted(framing, filled)),
+    let mut incoming = Incoming {
+        body: BodyBuilder::new(alloc, ask.hash_wanted(framing, filled)),
         place,
     };
-    match read_body(input, &mut body, framing)? {
+    match read_body(input, &mut incoming, framing)? {
         BodyEnd::Whole => {
             // It may stay as long as its blob does, so the room that it grew by in advance goes.
-            let Body { bytes, place } = body;
+            let Incoming { body, place } = incoming;
             Ok(Next::Request {
-                ask: ask.with_body(bytes.finish(place)),
+                ask: ask.with_body(body.finish(place)),
                 style,
             })
         }

@@ -15,7 +15,7 @@ use std::test::Fail;
 use upload_client::{
     AnswerReader, Heard, HeardFault, Transport, WireTransport, heard_of, read_place, write_ask,
 };
-use upload_names::{Algorithm, BlobDigest, ByteRange, Bytes, NameFault, RepoName, UploadRef};
+use upload_names::{Algorithm, BlobDigest, Body, ByteRange, Bytes, NameFault, RepoName, UploadRef};
 use upload_service::{Answer, Ask, BlobBytes, Extent, Form, Refusal};
 use upload_wire::{Style, write_reply};
 
@@ -503,6 +503,10 @@ fn bytes(alloc: Global, text: &[u8]) -> Result<Bytes, AllocError> {
     Ok(Bytes::of(text.to_vec(alloc)?))
 }
 
+fn body(alloc: Global, text: &[u8]) -> Result<Body, AllocError> {
+    Ok(Body::of(alloc, text.to_vec(alloc)?))
+}
+
 fn ask_of(alloc: Global, word: Word) -> Result<Ask, Fail>
     ensures { IfOk result (λ ask. CanBeWritten ask) }
 {
@@ -520,7 +524,7 @@ fn ask_of(alloc: Global, word: Word) -> Result<Ask, Fail>
         Word::Single => Ask::Single {
             name,
             digest: Some(digest),
-            body: bytes(alloc, b"abc")?,
+            body: body(alloc, b"abc")?,
         },
         Word::Mount => Ask::Mount {
             name,
@@ -531,7 +535,7 @@ fn ask_of(alloc: Global, word: Word) -> Result<Ask, Fail>
             name,
             at,
             range: Extent::Given(ByteRange { first: 0, last: 1 }),
-            body: bytes(alloc, b"ab")?,
+            body: body(alloc, b"ab")?,
         },
         Word::Status => Ask::Status { name, at },
         Word::Close => Ask::Close {
@@ -539,7 +543,7 @@ fn ask_of(alloc: Global, word: Word) -> Result<Ask, Fail>
             at,
             range: Extent::Absent,
             digest: Some(digest),
-            body: Bytes::of(Vec::new(alloc)),
+            body: Body::of(alloc, Vec::new(alloc)),
         },
     })
 }

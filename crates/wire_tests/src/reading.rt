@@ -43,7 +43,7 @@ fn ask_kind(ask: &Ask) -> Kind {
             name: _,
             digest: _,
             body,
-        } => Kind::Single(body.as_slice().len()),
+        } => Kind::Single(body.len()),
         Ask::Mount {
             name: _,
             digest: _,
@@ -54,7 +54,7 @@ fn ask_kind(ask: &Ask) -> Kind {
             at: _,
             range: _,
             body,
-        } => Kind::Chunk(body.as_slice().len()),
+        } => Kind::Chunk(body.len()),
         Ask::Status { name: _, at: _ } => Kind::Status,
         Ask::Close {
             name: _,
@@ -62,7 +62,7 @@ fn ask_kind(ask: &Ask) -> Kind {
             range: _,
             digest: _,
             body,
-        } => Kind::Close(body.as_slice().len()),
+        } => Kind::Close(body.len()),
         Ask::Refused(refusal) => Kind::Refused(*refusal),
     }
 }

@@ -5,7 +5,7 @@ use super::{End, check, chunk_of_one, is_as_promised, name, pushed, session};
 use std::alloc::Global;
 use std::process::Abort;
 use std::test::Fail;
-use upload_names::{BlobDigest, Bytes};
+use upload_names::{BlobDigest, Body};
 use upload_push::Event;
 use upload_service::{Ask, Extent};
 
@@ -56,7 +56,7 @@ fn any_other(alloc: Global, numbers: &mut Numbers) -> Result<Ask, Fail> {
             at: session(number),
             range: Extent::Absent,
             digest: Some(BlobDigest::of_sha256(b"")),
-            body: Bytes::of(Vec::new(alloc)),
+            body: Body::of(alloc, Vec::new(alloc)),
         },
     })
 }

@@ -9,7 +9,7 @@ use std::alloc::Global;
 use std::process::Abort;
 use std::test::Fail;
 use test_content::content_of;
-use upload_names::{Algorithm, Bytes};
+use upload_names::{Algorithm, Body};
 use upload_service::{Answer, Ask, Limits, Service};
 use upload_wire::{ConnEnd, Desk, Next, RequestReader, ServiceDesk, serve_connection};
 
@@ -142,7 +142,7 @@ fn hash_of(ask: &Ask) -> Option<Algorithm> {
 }
 
 /// By what a body is hashed.
-fn algorithm_of(body: &Bytes) -> Option<Algorithm> {
+fn algorithm_of(body: &Body) -> Option<Algorithm> {
     if body.sha256().is_some() {
         return SHA256;
     }

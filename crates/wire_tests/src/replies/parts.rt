@@ -11,7 +11,7 @@ use std::alloc::{AllocError, Global};
 use std::process::Abort;
 use std::test::Fail;
 use test_content::content_of;
-use upload_names::{BlobDigest, Bytes, UploadRef};
+use upload_names::{BlobDigest, Body, UploadRef};
 use upload_service::{Answer, Ask, Extent, Limits, Service};
 use upload_wire::write_reply;
 
@@ -40,10 +40,10 @@ static KEPT_IN_PARTS: [(&[usize], usize, u64); 10] = [
 ];
 
 /// Takes the first `count` bytes off, for a body.
-fn body_of(alloc: Global, left: &mut &[u8], count: usize) -> Result<Bytes, AllocError> {
+fn body_of(alloc: Global, left: &mut &[u8], count: usize) -> Result<Body, AllocError> {
     let (body, behind) = left.split_at(count.min(left.len()));
     *left = behind;
-    Ok(Bytes::of(body.to_vec(alloc)?))
+    Ok(Body::of(alloc, body.to_vec(alloc)?))
 }
 
 /// Uploads the bytes to a new service: these chunks, and the rest with the close.
@@ -73,7 +73,7 @@ fn uploaded(
         at,
         range: Extent::Absent,
         digest: Some(digest),
-        body: Bytes::of(bytes.to_vec(alloc)?),
+        body: Body::of(alloc, bytes.to_vec(alloc)?),
     };
     service.step(close, [0; 12], 0);
     Ok(service)

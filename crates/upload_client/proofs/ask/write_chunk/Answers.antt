@@ -13,8 +13,8 @@ returns-clause-wrote g c =
     subst (λ h. Gathered start start h []) (sym c.new-head.ensures)
     ([], record { takes = takes_none start; unfailed = refl }, refl) in
     let wrote =
-    c.finish.ensures.wrote start _
-    (c.put_upload_section.ensures start _ (c.put_host.ensures start _ (c.put_target.ensures start [] nothing))) in
+    c.finish.ensures.wrote start _ (c.put_upload_section.ensures c.args.chunk.now.body.now refl start _
+    (c.put_host.ensures start _ (c.put_target.ensures start [] nothing))) in
     subst (λ t. Wrote start new t c.finish.result)
     (whole_chunk c.args.chunk.now.name.now c.args.chunk.now.at c.args.chunk.now.range c.args.chunk.now.body.now
     c.args.host.now c.text-text.result c.text-text.ensures.text) wrote

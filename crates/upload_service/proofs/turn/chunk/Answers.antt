@@ -21,7 +21,7 @@ returns-in-Misplaced c =
     (chunk_turned_away c.args.limits.max_blob _ session c.args.name c.args.at c.args.range c.args.body
     c.len-next.result _
     c.in-Some.ensures.awake c.in-Some.ensures.named c.len-next.ensures
-    (c.in-Misplaced.ensures.verdict c.args.name c.args.at c.args.body (ap length (sym c.as_slice.ensures))))
+    (c.in-Misplaced.ensures.verdict c.args.name c.args.at c.args.body (sym c.len-size.ensures)))
     refl refl
 
 pub returns-in-Refused : goal.returns-in-Refused
@@ -31,7 +31,7 @@ returns-in-Refused c =
     (chunk_turned_away c.args.limits.max_blob _ session c.args.name c.args.at c.args.range c.args.body
     c.len-next.result _
     c.in-Some.ensures.awake c.in-Some.ensures.named c.len-next.ensures
-    (c.in-Refused.ensures.verdict c.args.name c.args.at c.args.body (ap length (sym c.as_slice.ensures))))
+    (c.in-Refused.ensures.verdict c.args.name c.args.at c.args.body (sym c.len-size.ensures)))
     refl refl
 
 pub append-requires-clause-open : goal.append-requires-clause-open
@@ -42,7 +42,7 @@ append-requires-clause-fits c = λ session e.
     let both : Some (session_of c.in-Some.session.now) ≡ Some session = sym c.in-Some.ensures.found ∙ e in
     let is : session_of c.in-Some.session.now ≡ session = cc in
     subst (λ (s : Session). length s.received + length c.args.body < 2 ^ 64) is
-    (subst (λ n. n < 2 ^ 64) (λ i. c.len-next.ensures i + length (c.as_slice.ensures i))
+    (subst (λ n. n < 2 ^ 64) (λ i. c.len-next.ensures i + c.len-size.ensures i)
     (omega (arith, c.in-Fits.ensures.small refl)))
 
 pub overflow_add-next : goal.overflow_add-next
@@ -51,12 +51,12 @@ overflow_add-next c = omega (arith, c.in-Fits.ensures.small refl)
 pub returns-in-Ok-append : goal.returns-in-Ok-append
 returns-in-Ok-append c =
     let session : Session = session_of c.in-Some.session.now in
-    let more : c.len-next.result + length c.as_slice.result.now ≡ length (session.received ++ c.args.body) =
-    (λ i. c.len-next.ensures i + length (c.as_slice.ensures i)) ∙ sym (length-append session.received c.args.body) in
+    let more : c.len-next.result + c.len-size.result ≡ length (session.received ++ c.args.body) =
+    (λ i. c.len-next.ensures i + c.len-size.ensures i) ∙ sym (length-append session.received c.args.body) in
     does _ _ _ (Takes c.args.name c.args.at (session.received ++ c.args.body)) _ _
     (chunk_fits c.args.limits.max_blob _ session c.args.name c.args.at c.args.range c.args.body c.len-next.result
     c.in-Some.ensures.awake c.in-Some.ensures.named c.len-next.ensures
-    (c.in-Fits.ensures.verdict c.args.name c.args.at c.args.body (ap length (sym c.as_slice.ensures))))
+    (c.in-Fits.ensures.verdict c.args.name c.args.at c.args.body (sym c.len-size.ensures)))
     (ap (answers.Taken c.args.name c.args.at) more)
     (ap (λ t. state_of c.args.limits (record c.args.tables.now { sessions = t }))
     (c.in-Ok-append.ensures.ok session c.in-Some.ensures.found
@@ -72,7 +72,7 @@ returns-in-Err c =
     lacks _ _ _ (Takes c.args.name c.args.at (session.received ++ c.args.body)) _ _
     (chunk_fits c.args.limits.max_blob _ session c.args.name c.args.at c.args.range c.args.body c.len-next.result
     c.in-Some.ensures.awake c.in-Some.ensures.named c.len-next.ensures
-    (c.in-Fits.ensures.verdict c.args.name c.args.at c.args.body (ap length (sym c.as_slice.ensures))))
+    (c.in-Fits.ensures.verdict c.args.name c.args.at c.args.body (sym c.len-size.ensures)))
     refl refl
     (ap (λ t. state_of c.args.limits (record c.args.tables.now { sessions = t })) c.in-Err.ensures.err)
 
@@ -82,5 +82,5 @@ returns-in_default-renew c =
     lacks _ _ _ (Takes c.args.name c.args.at (session.received ++ c.args.body)) _ _
     (chunk_fits c.args.limits.max_blob _ session c.args.name c.args.at c.args.range c.args.body c.len-next.result
     c.in-Some.ensures.awake c.in-Some.ensures.named c.len-next.ensures
-    (c.in-Fits.ensures.verdict c.args.name c.args.at c.args.body (ap length (sym c.as_slice.ensures))))
+    (c.in-Fits.ensures.verdict c.args.name c.args.at c.args.body (sym c.len-size.ensures)))
     refl refl refl

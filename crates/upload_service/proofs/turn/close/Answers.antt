@@ -23,7 +23,7 @@ returns-in-Misplaced c =
     (close_turned_away c.args.limits.max_blob _ session c.args.name c.args.at c.args.range c.args.digest c.args.body
     c.len-next.result _
     c.in-Some.ensures.awake c.in-Some.ensures.named c.len-next.ensures
-    (c.in-Misplaced.ensures.verdict c.args.name c.args.at c.args.body (ap length (sym c.as_slice.ensures))))
+    (c.in-Misplaced.ensures.verdict c.args.name c.args.at c.args.body (sym c.len-size.ensures)))
     refl refl
 
 pub returns-in-Refused : goal.returns-in-Refused
@@ -33,7 +33,7 @@ returns-in-Refused c =
     (close_turned_away c.args.limits.max_blob _ session c.args.name c.args.at c.args.range c.args.digest c.args.body
     c.len-next.result _
     c.in-Some.ensures.awake c.in-Some.ensures.named c.len-next.ensures
-    (c.in-Refused.ensures.verdict c.args.name c.args.at c.args.body (ap length (sym c.as_slice.ensures))))
+    (c.in-Refused.ensures.verdict c.args.name c.args.at c.args.body (sym c.len-size.ensures)))
     refl refl
 
 pub returns-in_default-digest : goal.returns-in_default-digest
@@ -43,7 +43,7 @@ returns-in_default-digest c =
     (close_fits c.args.limits.max_blob _ session c.args.name c.args.at c.args.range c.args.digest c.args.body
     c.len-next.result
     c.in-Some.ensures.awake c.in-Some.ensures.named c.len-next.ensures
-    (c.in-Fits.ensures.verdict c.args.name c.args.at c.args.body (ap length (sym c.as_slice.ensures)))
+    (c.in-Fits.ensures.verdict c.args.name c.args.at c.args.body (sym c.len-size.ensures))
     ∙ ap (λ d. checked d (session.received ++ c.args.body)
     (λ q. Commits c.args.name c.args.at q (session.received ++ c.args.body))) c.in_default-digest.is)
     refl refl
@@ -63,7 +63,7 @@ returns-then-not-has_digest c =
     (close_fits c.args.limits.max_blob _ session c.args.name c.args.at c.args.range c.args.digest c.args.body
     c.len-next.result
     c.in-Some.ensures.awake c.in-Some.ensures.named c.len-next.ensures
-    (c.in-Fits.ensures.verdict c.args.name c.args.at c.args.body (ap length (sym c.as_slice.ensures)))
+    (c.in-Fits.ensures.verdict c.args.name c.args.at c.args.body (sym c.len-size.ensures))
     ∙ ap (λ d. checked d (session.received ++ c.args.body) done) c.in-Some-digest.is
     ∙ mismatch c.in-Some-digest.digest (session.received ++ c.args.body) done other)
     refl
@@ -80,7 +80,7 @@ commit-requires-clause-fits c = λ session e.
     sym c.in-Some.ensures.found ∙ sym (ap (λ (m : Table Session). map.get m c.args.at) c.has_digest.ensures.same) ∙ e in
     let is : session_of c.in-Some.session.now ≡ session = cc in
     subst (λ (s : Session). length s.received + length c.args.body < 2 ^ 64) is
-    (subst (λ n. n < 2 ^ 64) (λ i. c.len-next.ensures i + length (c.as_slice.ensures i))
+    (subst (λ n. n < 2 ^ 64) (λ i. c.len-next.ensures i + c.len-size.ensures i)
     (omega (arith, c.in-Fits.ensures.small refl)))
 
 pub returns : goal.returns
@@ -94,7 +94,7 @@ returns c =
     (close_fits c.args.limits.max_blob _ session c.args.name c.args.at c.args.range c.args.digest c.args.body
     c.len-next.result
     c.in-Some.ensures.awake c.in-Some.ensures.named c.len-next.ensures
-    (c.in-Fits.ensures.verdict c.args.name c.args.at c.args.body (ap length (sym c.as_slice.ensures)))
+    (c.in-Fits.ensures.verdict c.args.name c.args.at c.args.body (sym c.len-size.ensures))
     ∙ ap (λ d. checked d (session.received ++ c.args.body) done) c.in-Some-digest.is
     ∙ match c.in-Some-digest.digest (session.received ++ c.args.body) done own)
     (subst (λ (m : Table Session). Comes (state_of c.args.limits (record c.args.tables.now { sessions = m })) c.args.now

@@ -11,7 +11,7 @@ pub returns-then-not-same : goal.returns-then-not-same
 unfolding Turn
 returns-then-not-same c = λ _ now.
     let fits : length c.args.body ≤ c.args.limits.max_blob =
-    subst (λ b. length b ≤ c.args.limits.max_blob) c.as_slice.ensures c.if-as_slice-limits.false in
+    subst (λ n. n ≤ c.args.limits.max_blob) c.len.ensures c.if-len-limits.false in
     let content : c.of_body-content.result ≡ content_digest c.in-Some.digest.algorithm c.args.body =
     c.of_body-content.ensures ∙ ap (λ a. content_digest a c.args.body) c.algorithm.ensures in
     let other : content_digest c.in-Some.digest.algorithm c.args.body ≢ c.in-Some.digest =
@@ -24,7 +24,7 @@ pub returns-in_default-store : goal.returns-in_default-store
 unfolding Turn
 returns-in_default-store c = λ _ now.
     let fits : length c.args.body ≤ c.args.limits.max_blob =
-    subst (λ b. length b ≤ c.args.limits.max_blob) c.as_slice.ensures c.if-as_slice-limits.false in
+    subst (λ n. n ≤ c.args.limits.max_blob) c.len.ensures c.if-len-limits.false in
     let content : c.of_body-content.result ≡ content_digest c.in-Some.digest.algorithm c.args.body =
     c.of_body-content.ensures ∙ ap (λ a. content_digest a c.args.body) c.algorithm.ensures in
     let own : content_digest c.in-Some.digest.algorithm c.args.body ≡ c.in-Some.digest =
@@ -44,7 +44,7 @@ pub returns : goal.returns
 unfolding Turn
 returns c = λ _ now.
     let fits : length c.args.body ≤ c.args.limits.max_blob =
-    subst (λ b. length b ≤ c.args.limits.max_blob) c.as_slice.ensures c.if-as_slice-limits.false in
+    subst (λ n. n ≤ c.args.limits.max_blob) c.len.ensures c.if-len-limits.false in
     let content : c.of_body-content.result ≡ content_digest c.in-Some.digest.algorithm c.args.body =
     c.of_body-content.ensures ∙ ap (λ a. content_digest a c.args.body) c.algorithm.ensures in
     let own : content_digest c.in-Some.digest.algorithm c.args.body ≡ c.in-Some.digest =
@@ -66,7 +66,7 @@ pub returns-in_default-of : goal.returns-in_default-of
 unfolding Turn
 returns-in_default-of c = λ _ now.
     let fits : length c.args.body ≤ c.args.limits.max_blob =
-    subst (λ b. length b ≤ c.args.limits.max_blob) c.as_slice.ensures c.if-as_slice-limits.false in
+    subst (λ n. n ≤ c.args.limits.max_blob) c.len.ensures c.if-len-limits.false in
     let content : c.of_body-content.result ≡ content_digest c.in-Some.digest.algorithm c.args.body =
     c.of_body-content.ensures ∙ ap (λ a. content_digest a c.args.body) c.algorithm.ensures in
     let own : content_digest c.in-Some.digest.algorithm c.args.body ≡ c.in-Some.digest =
@@ -79,7 +79,7 @@ pub returns-in_default-renew : goal.returns-in_default-renew
 unfolding Turn
 returns-in_default-renew c = λ _ now.
     let fits : length c.args.body ≤ c.args.limits.max_blob =
-    subst (λ b. length b ≤ c.args.limits.max_blob) c.as_slice.ensures c.if-as_slice-limits.false in
+    subst (λ n. n ≤ c.args.limits.max_blob) c.len.ensures c.if-len-limits.false in
     let content : c.of_body-content.result ≡ content_digest c.in-Some.digest.algorithm c.args.body =
     c.of_body-content.ensures ∙ ap (λ a. content_digest a c.args.body) c.algorithm.ensures in
     let own : content_digest c.in-Some.digest.algorithm c.args.body ≡ c.in-Some.digest =

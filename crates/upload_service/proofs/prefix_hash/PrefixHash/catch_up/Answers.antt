@@ -1,6 +1,6 @@
 use Rattle.std.proofs.Common.{List, ℕ, take, subst}
 use Rattle.upload_service.specs.declared.running.Running.TheVariants.{Here}
-use Rattle.upload_service.specs.Kept.Parts.{joined_parts}
+use Rattle.std.specs.List.{concat}
 use Rattle.upload_service.specs.Kept.Running.{RunningHolds}
 use Rattle.upload_service.proofs.Prefixes.{holds_all}
 use Rattle.upload_service.proofs.prefix_hash.PrefixHash.catch_up.Goals as goal
@@ -10,5 +10,5 @@ returns-in-Here-clause-prefix c = λ by before.
     let settled : List (List ℕ) = c.args.settled.now in
     let held : ℕ = c.args.self.now.held in
     holds_all by settled held (Here c.take_in.new.self)
-    (c.take_in.ensures by (joined_parts (take held settled))
-    (subst (λ r. RunningHolds by r (joined_parts (take held settled))) c.in-Here.is before.holds))
+    (c.take_in.ensures by (concat (take held settled))
+    (subst (λ r. RunningHolds by r (concat (take held settled))) c.in-Here.is before.holds))

@@ -1,7 +1,8 @@
 use Rattle.std.proofs.Common.{◌≡◌, List, ℕ, length, rules, sym, subst, ap, ◌∙◌}
 use Rattle.upload_names.specs.declared.digest.Algorithm.TheVariants.{Sha256, Sha512}
 use Rattle.sha2.specs.Hashers.{Holds256}
-use Rattle.upload_service.specs.Kept.Parts.{joined_parts, whole}
+use Rattle.std.specs.List.{concat}
+use Rattle.upload_service.specs.Kept.Parts.{whole}
 use Rattle.upload_service.specs.Kept.Running.{HoldsPrefix}
 use Rattle.upload_service.proofs.Prefixes.{holds_of_more, settled_first}
 use Rattle.upload_service.proofs.received.Received.append.Goals as goal
@@ -12,8 +13,8 @@ invariant_of-self-then-is_empty c =
     let no_tail : length c.append.new.self.tail ≡ 0 = search rules in
     let all =
     settled_first c.self.inside.segments c.append.new.self c.args.body none c.in_ok-append.ensures.more no_tail in
-    let holds : Holds256 c.in-Some.hash (joined_parts c.settled.result.now) =
-    subst (Holds256 c.in-Some.hash) (sym (ap joined_parts c.settled.ensures ∙ all)) c.in-Some.ensures in
+    let holds : Holds256 c.in-Some.hash (concat c.settled.result.now) =
+    subst (Holds256 c.in-Some.hash) (sym (ap concat c.settled.ensures ∙ all)) c.in-Some.ensures in
     record {
       sha256 =
           subst (λ (p : List (List ℕ)). HoldsPrefix Sha256 p c.of_all.result) c.settled.ensures

@@ -3,6 +3,8 @@ use Rattle.std.specs.Prelude.{is_some}
 use Rattle.std.specs.FinMap as map
 use Rattle.std.specs.FinMap.{FinMap}
 use Rattle.upload_names.specs.Digest.{digest_cmp}
+use Rattle.std.specs.List.{concat}
+use Rattle.upload_service.specs.Kept.Blobs.{body_in}
 use Rattle.upload_service.proofs.Tables.{blob-insert_same}
 use Rattle.upload_service.proofs.Stocked.{put_again}
 use Rattle.upload_service.proofs.stock.Stock.commit.Goals as goal
@@ -19,5 +21,5 @@ returns-clause-blobs c = λ session e.
     c.in-Ok-hold.ensures.blobs
     ∙ put_again c.args.self.now.blobs c.args.digest _ c.blob_of-blob.result
     ∙ ap (map.insert c.args.self.now.blobs c.args.digest) (c.blob_of-blob.ensures.blob session e
-    ∙ ap (λ l. session.received ++ l)
-    (ap (λ s. s.last) c.in-Ok-new.ensures.ok ∙ c.in-Ok.ensures.ok ∙ c.into_vec.ensures))
+    ∙ ap (λ l. session.received ++ l) (ap body_in c.in-Ok-new.ensures.ok
+    ∙ ap (λ l. concat c.into_pieces-parts.result.parts.items ++ l) c.in-Ok.ensures.ok ∙ c.into_pieces-parts.ensures))
