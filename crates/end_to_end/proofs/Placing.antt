@@ -20,7 +20,7 @@ use Rattle.upload_push.specs.Slices.{Push, Attempt, IsSoundAsk, Leads, heard_off
 use Rattle.upload_push.proofs.Turns.{None≢Some, same_inside}
 use Rattle.upload_push.proofs.Uploads.{part_of_next}
 use Rattle.upload_push.proofs.Requests.{by_sound}
-use Rattle.upload_service.proofs.Tables.{one_or_two, same_from_ne}
+use Rattle.upload_service.proofs.Keeping.Tables.{one_or_two, same_from_ne}
 use Rattle.end_to_end.specs.Marks.{other, heard, unheard, Marked, exchanges_in, asked_and_told, heard_in, heard_by}
 use Rattle.end_to_end.specs.Marks.{Agrees}
 use Rattle.end_to_end.specs.Marks.{IsFair, AreApart, HasSecret}

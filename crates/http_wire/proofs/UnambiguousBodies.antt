@@ -10,8 +10,8 @@ use Rattle.http_wire.specs.Body.{IsFrontOfChunked, ExceedsLimit, IsBroken, IsBad
 use Rattle.http_wire.specs.Unambiguous.{BodyParse, whole, refused, cut, IsReadAs, BodiesAreUnambiguous}
 use Rattle.http_wire.specs.declared.framing.Framing.TheVariants.{Length, Chunked}
 use Rattle.http_wire.specs.declared.fault.Bad.{Bad}
-use Rattle.http_wire.proofs.ChunkLemmas.{lines_same, same_front, chunk_flat, front_after}
-use Rattle.http_wire.proofs.FrontLemmas.{front_data}
+use Rattle.http_wire.proofs.Bodies.ChunkLemmas.{lines_same, same_front, chunk_flat, front_after}
+use Rattle.http_wire.proofs.Heads.FrontLemmas.{front_data}
 use Rattle.http_wire.proofs.UnambiguousHeads.{longer_front}
 
 -- ---- chunked texts

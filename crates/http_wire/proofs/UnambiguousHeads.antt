@@ -7,8 +7,8 @@ use Rattle.httparse.proofs.GrammarLemmas.{request_unique, response_unique}
 use Rattle.http_wire.specs.Fronts.{Words, requests, responses, Reads, ReadsHead, MayBeRefused, IsRefused, IsTooLong}
 use Rattle.http_wire.specs.Fronts.{IsUnfinished, line_feeds, max_fields}
 use Rattle.http_wire.specs.Unambiguous.{HeadParse, head, long, unfinished, BeginsWith, HeadsAreUnambiguous}
-use Rattle.http_wire.proofs.HeadLemmas.{snoc_cases, snoc_inj, line_feeds-append, EndsInLineFeed}
-use Rattle.http_wire.proofs.HeadLaws.{request_ends, response_ends}
+use Rattle.http_wire.proofs.Heads.HeadLemmas.{snoc_cases, snoc_inj, line_feeds-append, EndsInLineFeed}
+use Rattle.http_wire.proofs.Heads.HeadLaws.{request_ends, response_ends}
 
 -- the longer of two fronts goes on behind the shorter
 pub longer_front : (a b c d : List ℕ) → a ++ b ≡ c ++ d → length a ≤ length c

@@ -9,8 +9,8 @@ use Rattle.httparse.specs.Spans.{header_bytes, name_and_value}
 use Rattle.http_wire.specs.States.{SourceState}
 use Rattle.http_wire.specs.Reading.{Gave, HasEnded}
 use Rattle.http_wire.specs.Fronts.{HasNone, IsUnfinished, ReadsHead, responses}
-use Rattle.http_wire.proofs.HeadLemmas.{none_at_start}
-use Rattle.http_wire.proofs.HeadLaws.{response_ends}
+use Rattle.http_wire.proofs.Heads.HeadLemmas.{none_at_start}
+use Rattle.http_wire.proofs.Heads.HeadLaws.{response_ends}
 use Rattle.upload_client.specs.AnswerText.{max_answer, ReadsFramed, IsWhole, FindsAnswer, ReadsAnswer}
 use Rattle.http_wire.specs.ResponseBody.{response_framing_of, keeps_on}
 use Rattle.http_wire.specs.Fields.{head_fields}

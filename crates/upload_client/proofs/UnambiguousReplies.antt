@@ -7,7 +7,7 @@ use Rattle.http_wire.specs.Fronts.{responses}
 use Rattle.http_wire.specs.States.{SourceState}
 use Rattle.http_wire.specs.Fields.{Fields, head_fields}
 use Rattle.http_wire.specs.Unambiguous.{HeadParse, head, long, unfinished, BeginsWith}
-use Rattle.http_wire.proofs.ChunkLemmas.{same_front}
+use Rattle.http_wire.proofs.Bodies.ChunkLemmas.{same_front}
 use Rattle.http_wire.proofs.UnambiguousHeads.{responses_unambiguous}
 use Rattle.http_wire.specs.ResponseBody.{IsBody, response_framing_of, keeps_on}
 use Rattle.upload_client.specs.AnswerText.{max_answer, IsPlaceOf, location, IsHeard, IsMisplaced, IsWhole}

@@ -288,7 +288,8 @@ fn put_section<W: ByteSink>(head: &mut Gather, writer: &mut W, ask: &Ask)
 fn put_upload_section<W: ByteSink>(head: &mut Gather, writer: &mut W, range: &Extent, len: usize)
     requires { IsAbsentOrGiven range.now }
     ensures { (body : List ℕ) → len ≡ length body → Puts (W.state writer.old) head.old
-        (W.state writer.new) head.new (section_text (content_range_fields range.now ++ ask_body_fields body)) }
+        (W.state writer.new) head.new
+        (section_text (content_range_fields range.now ++ ask_body_fields body)) }
 {
     put_range_field(head, writer, range);
     put_body_fields(head, writer, len)

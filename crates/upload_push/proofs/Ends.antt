@@ -17,7 +17,7 @@ use Rattle.upload_client.specs.Heard.{reply_heard}
 use Rattle.upload_push.specs.Slices.{Push}
 use Rattle.upload_push.specs.Promise.{IsStored, IsThere}
 use Rattle.upload_push.proofs.Cases.{cond_case}
-use Rattle.upload_service.proofs.Tables.{blob-insert_same, contains-insert_same}
+use Rattle.upload_service.proofs.Keeping.Tables.{blob-insert_same, contains-insert_same}
 use Rattle.upload_push.proofs.Turns.{size_case, session_case, turn_case}
 use Rattle.upload_push.proofs.Uploads.{IsUpload, found_front}
 

@@ -31,7 +31,7 @@ use Rattle.upload_push.specs.Promise.{Avoids}
 use Rattle.upload_service.proofs.Turns.{IsGone}
 use Rattle.upload_service.proofs.Chunks.{gone_turn}
 use Rattle.upload_push.proofs.Cases.{cond_case}
-use Rattle.upload_service.proofs.Tables.{get-insert_same, get-remove_same}
+use Rattle.upload_service.proofs.Keeping.Tables.{get-insert_same, get-remove_same}
 use Rattle.upload_push.proofs.References.{IsReference, reference_is}
 use Rattle.upload_push.proofs.Turns.{None≢Some, same_inside, size_case, body_case, session_case, turn_case, issued_turn}
 use Rattle.upload_push.proofs.Turns.{opening_case}

@@ -16,9 +16,9 @@ use Rattle.std.proofs.lemmas.List.Elements.{filter-append}
 use Rattle.upload_service.specs.Machine.{Turn}
 use Rattle.upload_service.specs.Run.{Exchange, Run}
 use Rattle.upload_service.specs.Session.{carries, begins, is_part, part, is_taken, is_stored, accepted_by, accepted_of}
-use Rattle.upload_service.specs.Session.{accepted, taken_chunks, joined_chunks, bytes_of, received}
-use Rattle.upload_service.proofs.Tables.{one_or_two, get-insert_same, get-insert_other, get-remove_same}
-use Rattle.upload_service.proofs.Tables.{get-remove_other, same_from_eq, same_from_ne}
+use Rattle.upload_service.specs.Session.{accepted, taken, joined_chunks, bytes_of, received}
+use Rattle.upload_service.proofs.Keeping.Tables.{one_or_two, get-insert_same, get-insert_other, get-remove_same}
+use Rattle.upload_service.proofs.Keeping.Tables.{get-remove_other, same_from_eq, same_from_ne}
 use Rattle.upload_service.proofs.UploadView.{on_each}
 use Rattle.upload_service.proofs.Steps.{IsOutcome, outcome_sound, None≢Some}
 use Rattle.upload_service.proofs.Sweeps.{kept_or_left, none_there}
@@ -32,10 +32,10 @@ abbrev pub gave : List ℕ → Exchange → List (List ℕ)
 gave at x = cond (is_part at x) (accepted x) []
 
 pub taken-cons : (x : Exchange) (xs : List Exchange) (at : List ℕ)
-    → taken_chunks (x ∷ xs) at ≡ gave at x ++ taken_chunks xs at
+    → taken (x ∷ xs) at ≡ gave at x ++ taken xs at
 taken-cons x xs at =
     elim (is_part at x) as (λ b. flat_map accepted (cond b (x ∷ part xs at) (part xs at))
-    ≡ cond b (accepted x) [] ++ taken_chunks xs at) [ true ↦ refl | false ↦ refl ]
+    ≡ cond b (accepted x) [] ++ taken xs at) [ true ↦ refl | false ↦ refl ]
 
 flat_map-append : {A B : Type 0} (f : A → List B) (xs ys : List A)
     → flat_map f (xs ++ ys) ≡ flat_map f xs ++ flat_map f ys
@@ -44,7 +44,7 @@ flat_map-append f (x ∷ xs) ys =
     ap (λ zs. f x ++ zs) (flat_map-append f xs ys) ∙ sym (append_assoc (f x) (flat_map f xs) (flat_map f ys))
 
 pub taken-append : (xs ys : List Exchange) (at : List ℕ)
-    → taken_chunks (xs ++ ys) at ≡ taken_chunks xs at ++ taken_chunks ys at
+    → taken (xs ++ ys) at ≡ taken xs at ++ taken ys at
 taken-append xs ys at =
     ap (flat_map accepted) (filter-append (is_part at) xs ys) ∙ flat_map-append accepted (part xs at) (part ys at)
 
@@ -53,22 +53,22 @@ joined-append xs ys = flat_map-append (λ chunk. chunk) xs ys
 
 pub received-cons : (s : State) (x : Exchange) (xs : List Exchange) (at : List ℕ)
     → received s (x ∷ xs) at
-    ≡ (bytes_of (map.get s.sessions at) ++ joined_chunks (gave at x)) ++ joined_chunks (taken_chunks xs at)
+    ≡ (bytes_of (map.get s.sessions at) ++ joined_chunks (gave at x)) ++ joined_chunks (taken xs at)
 received-cons s x xs at =
     ap (λ c. bytes_of (map.get s.sessions at) ++ joined_chunks c) (taken-cons x xs at)
-    ∙ ap (λ b. bytes_of (map.get s.sessions at) ++ b) (joined-append (gave at x) (taken_chunks xs at))
+    ∙ ap (λ b. bytes_of (map.get s.sessions at) ++ b) (joined-append (gave at x) (taken xs at))
     ∙ sym
-    (append_assoc (bytes_of (map.get s.sessions at)) (joined_chunks (gave at x)) (joined_chunks (taken_chunks xs at)))
+    (append_assoc (bytes_of (map.get s.sessions at)) (joined_chunks (gave at x)) (joined_chunks (taken xs at)))
 
 pub received-push : (s : State) (xs : List Exchange) (x : Exchange) (at : List ℕ)
     → received s (xs ++ x ∷ []) at ≡ received s xs at ++ joined_chunks (gave at x)
 received-push s xs x at =
     ap (λ c. bytes_of (map.get s.sessions at) ++ joined_chunks c)
-    (taken-append xs (x ∷ []) at ∙ ap (λ c. taken_chunks xs at ++ c) (taken-cons x [] at))
-    ∙ ap (λ b. bytes_of (map.get s.sessions at) ++ b) (joined-append (taken_chunks xs at) (gave at x ++ [])
-    ∙ ap (λ b. joined_chunks (taken_chunks xs at) ++ b) (joined-append (gave at x) [] ∙ append_none _))
+    (taken-append xs (x ∷ []) at ∙ ap (λ c. taken xs at ++ c) (taken-cons x [] at))
+    ∙ ap (λ b. bytes_of (map.get s.sessions at) ++ b) (joined-append (taken xs at) (gave at x ++ [])
+    ∙ ap (λ b. joined_chunks (taken xs at) ++ b) (joined-append (gave at x) [] ∙ append_none _))
     ∙ sym
-    (append_assoc (bytes_of (map.get s.sessions at)) (joined_chunks (taken_chunks xs at)) (joined_chunks (gave at x)))
+    (append_assoc (bytes_of (map.get s.sessions at)) (joined_chunks (taken xs at)) (joined_chunks (gave at x)))
 
 -- what is answered otherwise gives nothing
 not_accepted_by : (act : Act) (answer : Answer) → is_taken answer ≡ false → is_stored answer ≡ false
@@ -230,5 +230,5 @@ open_is_received (x ∷ xs) s t at session (mid, turn, rest) h is =
     open_is_received xs mid t at session rest (numbered_turn s x mid turn h) is
     ∙ elim (grew_turn s x mid at turn h) as (λ _. received mid xs at ≡ received s (x ∷ xs) at) [
       | inl gone ↦ absurd (None≢Some (sym (gone_run xs mid t at rest gone).0 ∙ is))
-      | inr grew ↦ ap (λ b. b ++ joined_chunks (taken_chunks xs at)) grew ∙ sym (received-cons s x xs at)
+      | inr grew ↦ ap (λ b. b ++ joined_chunks (taken xs at)) grew ∙ sym (received-cons s x xs at)
     ]

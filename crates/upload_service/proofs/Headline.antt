@@ -18,7 +18,7 @@ use Rattle.upload_service.specs.UploadView.{on_session, answer_view}
 use Rattle.upload_service.specs.Machine.{same, unless_idle, awake, Session, State, Outcome, Replies, Begins, Takes}
 use Rattle.upload_service.specs.Machine.{Commits, Stores, Mounts, answer_of, state_after, refused, size_fault}
 use Rattle.upload_service.specs.Machine.{body_fault, unless_fault, at_session, holds, outcome}
-use Rattle.upload_service.proofs.Tables.{eq_from_same}
+use Rattle.upload_service.proofs.Keeping.Tables.{eq_from_same}
 use Rattle.std.specs.Prelude.{◌&&◌}
 use Rattle.std.specs.List.{list_any}
 use Rattle.std.proofs.lemmas.Bool.{eqb-true, false_from_ne_true}
@@ -28,7 +28,7 @@ use Rattle.upload_service.proofs.Claims.{ClosedTakesNothing}
 use Rattle.upload_service.specs.Run.{Exchange, Run}
 use Rattle.upload_service.specs.Session.{carries, is_stored, accepted_of, joined_chunks, received, closed_by, closes_of}
 use Rattle.upload_service.specs.Headline.{Aim, aim_by, aim_of, IsCommitted}
-use Rattle.upload_service.proofs.Tables.{get-remove_same, same_itself, blob-insert_same, contains-insert_same}
+use Rattle.upload_service.proofs.Keeping.Tables.{get-remove_same, same_itself, blob-insert_same, contains-insert_same}
 use Rattle.upload_service.proofs.UploadView.{on_each, named as named_session, carried}
 use Rattle.upload_service.proofs.Steps.{IsMisplaced, IsOutcome, outcome_of_view, outcome_sound, awake_is_open}
 use Rattle.upload_service.proofs.Steps.{None≢Some}

@@ -12,8 +12,8 @@ use Rattle.upload_service.specs.Machine.{Begins, Takes, Commits, Stores, Mounts,
 use Rattle.upload_service.specs.Run.{Exchange, Run, NeverBefore}
 use Rattle.upload_service.specs.Session.{carries, is_same, begins, is_taken, touches, seen_of, is_late, is_lapsed}
 use Rattle.upload_service.specs.Headline.{OthersLeaveIt}
-use Rattle.upload_service.proofs.Tables.{one_or_two, get-insert_same, get-insert_other, get-remove_same}
-use Rattle.upload_service.proofs.Tables.{get-remove_other, same_from_eq, same_from_ne, ne_from_same}
+use Rattle.upload_service.proofs.Keeping.Tables.{one_or_two, get-insert_same, get-insert_other, get-remove_same}
+use Rattle.upload_service.proofs.Keeping.Tables.{get-remove_other, same_from_eq, same_from_ne, ne_from_same}
 use Rattle.upload_service.proofs.Steps.{IsOutcome, outcome_sound, None≢Some}
 use Rattle.upload_service.proofs.Sweeps.{kept_or_left, was_there, idle_later}
 use Rattle.upload_service.proofs.Turns.{IsNumbered, new_number, not_new}

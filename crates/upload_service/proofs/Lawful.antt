@@ -18,9 +18,9 @@ use Rattle.std.specs.FinMap.{len-insert, len-remove, contains_key}
 use Rattle.std.specs.Cmp.Lexicographic.{nat_list_cmp_total}
 use Rattle.upload_service.specs.Machine.{Turn, IsLawful, pair_cmp}
 use Rattle.upload_service.proofs.Claims.{StaysLawful}
-use Rattle.upload_service.proofs.Tables.{one_or_two, one_or_two_digests, blob-insert_same, blob-insert_other}
-use Rattle.upload_service.proofs.Tables.{get-insert_same, get-insert_other, get-remove_same, get-remove_other}
-use Rattle.upload_service.proofs.Tables.{contains-insert, pair_from_same}
+use Rattle.upload_service.proofs.Keeping.Tables.{one_or_two, one_or_two_digests, blob-insert_same, blob-insert_other}
+use Rattle.upload_service.proofs.Keeping.Tables.{get-insert_same, get-insert_other, get-remove_same, get-remove_other}
+use Rattle.upload_service.proofs.Keeping.Tables.{contains-insert, pair_from_same}
 use Rattle.upload_service.proofs.Steps.{IsOutcome, outcome_sound, by_test, None≢Some}
 use Rattle.upload_service.proofs.Sweeps.{was_there, swept_has_room}
 use Rattle.upload_service.proofs.Turns.{number_of-reference}

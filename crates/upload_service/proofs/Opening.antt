@@ -13,7 +13,7 @@ use Rattle.upload_service.specs.declared.answer.Refusal.TheVariants as refusals
 use Rattle.upload_service.specs.Machine.{Session, Table, State, Begins, refused, is_idle, unless_idle, awake_of}
 use Rattle.upload_service.specs.Machine.{all_awake, last_number, opening}
 use Rattle.upload_service.specs.FullTable.{OpeningsMeetTheTable}
-use Rattle.upload_service.proofs.Tables.{same_itself, one_or_two, get-remove_same, get-remove_other}
+use Rattle.upload_service.proofs.Keeping.Tables.{same_itself, one_or_two, get-remove_same, get-remove_other}
 use Rattle.upload_service.proofs.Steps.{None≢Some}
 use Rattle.upload_service.proofs.Sweeps.{get-awake_of}
 

@@ -20,7 +20,7 @@ use Rattle.std.specs.FinSet as set
 use Rattle.std.specs.Ordering.{nat_cmp}
 use Rattle.std.specs.Cmp.Lexicographic.{slice_cmp}
 use Rattle.upload_service.specs.Machine.{Comes, IsLawful, may_lack_memory, empty_state, pair_cmp}
-use Rattle.upload_service.proofs.Tables.{same_from_ne, same_digest_from_eq, same_digest_from_ne}
+use Rattle.upload_service.proofs.Keeping.Tables.{same_from_ne, same_digest_from_eq, same_digest_from_ne}
 
 pub does : (s : State) (now : ℕ) (o p : Outcome) (answer : Answer) (t : State) → o ≡ p → answer ≡ answer_of p
     → t ≡ state_after s now p → Comes s now o answer t

@@ -22,7 +22,7 @@ use Rattle.upload_service.specs.Machine.{Outcome, Replies, Begins, Takes, Commit
 use Rattle.upload_service.specs.Machine.{body_fault, unless_fault, checked, in_session, at_session, last_number}
 use Rattle.upload_service.specs.Machine.{opening, blob_reply, holds, outcome}
 use Rattle.upload_service.specs.Headline.{aim_of, aim_at, aim_by}
-use Rattle.upload_service.proofs.Tables.{eq_from_same, eq_from_same_digest}
+use Rattle.upload_service.proofs.Keeping.Tables.{eq_from_same, eq_from_same_digest}
 
 -- the session that a request names: open and not idle, and under that name
 pub record Found (s : State) (now : ℕ) (name at : List ℕ) : Type 0 where

@@ -16,7 +16,7 @@ use Rattle.upload_service.specs.Run.{Exchange, Run}
 use Rattle.upload_service.specs.Session.{carries, accepted_of, joined_chunks, received}
 use Rattle.upload_service.specs.UploadView.{upload_view}
 use Rattle.upload_service.specs.Stored.{Stored, stored_as, stored_by, stored_from, last_under, is_pair, notes}
-use Rattle.upload_service.proofs.Tables.{same_itself, blob-insert, contains-insert}
+use Rattle.upload_service.proofs.Keeping.Tables.{same_itself, blob-insert, contains-insert}
 use Rattle.upload_service.proofs.Steps.{IsBlob, IsCommit, IsOutcome, outcome_sound}
 use Rattle.upload_service.proofs.Alone.{numbered_if_lawful}
 use Rattle.upload_service.proofs.Chunks.{append_none, gave, gave_own, received-push, open_is_received}

@@ -15,10 +15,10 @@ use Rattle.upload_service.specs.Machine.{last_number, outcome}
 use Rattle.upload_service.specs.Session.{carries, is_same, begins}
 use Rattle.upload_service.specs.Alone.{Life, Unborn, Open, Gone, life_after, alone_outcome, first_answer, first_life}
 use Rattle.upload_service.specs.Alone.{alone_answer, alone_after}
-use Rattle.upload_service.proofs.Tables.{eq_from_same}
+use Rattle.upload_service.proofs.Keeping.Tables.{eq_from_same}
 use Rattle.std.proofs.lemmas.Nat.{from_be_bytes-to_be_bytes_4}
-use Rattle.upload_service.proofs.Tables.{one_or_two, get-insert_same, get-insert_other, get-remove_same}
-use Rattle.upload_service.proofs.Tables.{get-remove_other, ne_from_same}
+use Rattle.upload_service.proofs.Keeping.Tables.{one_or_two, get-insert_same, get-insert_other, get-remove_same}
+use Rattle.upload_service.proofs.Keeping.Tables.{get-remove_other, ne_from_same}
 use Rattle.upload_service.proofs.UploadView.{carried}
 use Rattle.upload_service.proofs.Steps.{IsOutcome, AsksToBegin, outcome_of_view, outcome_sound, None≢Some}
 use Rattle.upload_service.proofs.Steps.{idle_is_none}

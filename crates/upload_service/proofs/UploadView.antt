@@ -8,7 +8,7 @@ use Rattle.upload_service.specs.UploadView.{Act, UploadView, OfSession, Opens, W
 use Rattle.upload_service.specs.UploadView.{on_session}
 use Rattle.upload_service.specs.Machine.{same, Session, refused, in_session, at_session}
 use Rattle.upload_service.specs.Session.{carries}
-use Rattle.upload_service.proofs.Tables.{eq_from_same, same_from_eq}
+use Rattle.upload_service.proofs.Keeping.Tables.{eq_from_same, same_from_eq}
 
 -- what holds of none, and of whatever is said of a request to a session, holds of what is said of each request
 pub on_each : {A : Type 0} (P : A → Type 0) (v : UploadView) (none : A) (said : List ℕ → List ℕ → Act → A) → P none

@@ -48,8 +48,8 @@ abbrev pub accepted : Exchange → List (List ℕ)
 accepted x = accepted_of x.ask x.answer
 
 -- the chunks that the session took, in the order taken
-abbrev pub taken_chunks : List Exchange → List ℕ → List (List ℕ)
-taken_chunks xs at = flat_map accepted (part xs at)
+abbrev pub taken : List Exchange → List ℕ → List (List ℕ)
+taken xs at = flat_map accepted (part xs at)
 
 abbrev pub joined_chunks : List (List ℕ) → List ℕ
 joined_chunks chunks = flat_map (λ chunk. chunk) chunks
@@ -60,7 +60,7 @@ bytes_of (Some session) = session.received
 
 -- what the session has received: what it had at the start, and then the chunks it took
 abbrev pub received : State → List Exchange → List ℕ → List ℕ
-received s xs at = bytes_of (map.get s.sessions at) ++ joined_chunks (taken_chunks xs at)
+received s xs at = bytes_of (map.get s.sessions at) ++ joined_chunks (taken xs at)
 
 -- the session was closed by this request
 abbrev pub closed_by : Act → Answer → Bool

@@ -5,7 +5,7 @@ use Rattle.std.proofs.lemmas.List.{take-append-drop}
 use Rattle.std.proofs.Math.Seq.{take-append_seam, drop-append_seam}
 use Rattle.std.specs.Borrow.{Bor}
 use Rattle.std.proofs.lemmas.Slice.Eq.{bytes_eq-Decides}
-use Rattle.http_wire.proofs.FieldLemmas.{not_both}
+use Rattle.http_wire.proofs.Heads.FieldLemmas.{not_both}
 use Rattle.std.proofs.Common.{true, false}
 use Rattle.std.specs.Prelude.{Option, Some, None, MatchOption, bytes_eq}
 use Rattle.upload_wire.specs.declared.target.PathForm.TheVariants.{NoForm}

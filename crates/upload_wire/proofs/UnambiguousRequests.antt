@@ -15,8 +15,8 @@ use Rattle.http_wire.specs.declared.framing.Framing.{Framing}
 use Rattle.http_wire.specs.declared.framing.Framing.TheVariants.{Length, Chunked}
 use Rattle.http_wire.specs.declared.fault.Bad.{Bad}
 use Rattle.http_wire.specs.declared.fault.Bad.TheVariants as bads
-use Rattle.http_wire.proofs.HeadLemmas.{none_at_start}
-use Rattle.http_wire.proofs.HeadLaws.{request_ends}
+use Rattle.http_wire.proofs.Heads.HeadLemmas.{none_at_start}
+use Rattle.http_wire.proofs.Heads.HeadLaws.{request_ends}
 use Rattle.http_wire.proofs.UnambiguousHeads.{requests_unambiguous}
 use Rattle.http_wire.proofs.UnambiguousBodies.{bodies_unambiguous}
 use Rattle.upload_wire.specs.Target.{AsksWhole}

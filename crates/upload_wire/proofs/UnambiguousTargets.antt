@@ -8,7 +8,7 @@ use Rattle.http_uri.specs.Uri.{uri_path, uri_query}
 use Rattle.upload_texts.proofs.UriTexts.{path_unique, query_unique}
 use Rattle.upload_service.specs.declared.ask.Ask.{Ask}
 use Rattle.upload_service.specs.declared.ask.Extent.{Extent}
-use Rattle.http_wire.proofs.HeadLemmas.{snoc_inj}
+use Rattle.http_wire.proofs.Heads.HeadLemmas.{snoc_inj}
 use Rattle.upload_wire.specs.Target.{HasNoSlash, IsFormOf, method_of, named, blob_ask, uploads_ask, upload_ask}
 use Rattle.upload_wire.specs.Target.{ask_of_form, AsksAt, HeadAsks, AsksWhole, with_body}
 use Rattle.upload_texts.specs.Paths.{blob_path, upload_path}

@@ -12,7 +12,7 @@ use Rattle.httparse.specs.Ascii.{line_feed}
 use Rattle.httparse.specs.Grammar.{RequestHead, print_request, print_response}
 use Rattle.http_wire.specs.Fronts.{ReadsHead, requests}
 use Rattle.http_wire.specs.declared.fault.Bad.{Bad}
-use Rattle.http_wire.proofs.HeadLaws.{request_ends, response_ends}
+use Rattle.http_wire.proofs.Heads.HeadLaws.{request_ends, response_ends}
 use Rattle.upload_service.specs.declared.ask.Ask.{Ask}
 use Rattle.upload_service.specs.declared.answer.Answer.{Answer}
 use Rattle.upload_service.specs.declared.answer.Answer.TheVariants.{Base, Blob, Begun, Stored, Taken, Standing}

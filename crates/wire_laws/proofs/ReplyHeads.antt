@@ -15,7 +15,7 @@ use Rattle.http_wire.specs.Fields.{Fields, head_fields}
 use Rattle.http_wire.specs.HeadText.{print_field, status_line, status_number, status_text}
 use Rattle.http_wire.specs.declared.status.Status.{Status}
 use Rattle.http_wire.specs.declared.status.Status.TheVariants as statuses
-use Rattle.http_wire.proofs.HeadLemmas.{line_feeds-append}
+use Rattle.http_wire.proofs.Heads.HeadLemmas.{line_feeds-append}
 use Rattle.upload_texts.proofs.PlainTexts.{lacks}
 use Rattle.wire_laws.proofs.WrittenHeads.{IsPlainField, field_of, field_valid, fields_printed, values_kept}
 

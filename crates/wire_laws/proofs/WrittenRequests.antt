@@ -28,7 +28,7 @@ use Rattle.upload_wire.specs.declared.target.PathForm.TheVariants as Path
 use Rattle.http_wire.specs.declared.framing.Framing.TheVariants.{Length}
 use Rattle.http_wire.specs.Fronts.{max_fields, max_head, line_feeds, ReadsHead, requests}
 use Rattle.http_wire.specs.HeadText.{print_field}
-use Rattle.http_wire.proofs.HeadLemmas.{line_feeds-append}
+use Rattle.http_wire.proofs.Heads.HeadLemmas.{line_feeds-append}
 use Rattle.http_wire.specs.Query.{parameter}
 use Rattle.http_wire.specs.Fields.{Fields, values_of, keeps_connection, head_fields}
 use Rattle.http_wire.specs.Body.{framing_of}

@@ -3,7 +3,7 @@ use Rattle.std.specs.Prelude.{Err}
 use Rattle.std.proofs.lemmas.Result.{err_from_is_err_and}
 use Rattle.http_wire.specs.Inner.BodyReading.{Moved, ReadsBytes, body_state}
 use Rattle.http_wire.specs.Inner.BodyFinding.{TakesBody, FindsBody}
-use Rattle.http_wire.proofs.ChunkReadLemmas.{length_whole, length_fault}
+use Rattle.http_wire.proofs.Bodies.ChunkReadLemmas.{length_whole, length_fault}
 use Rattle.http_wire.proofs.body.read_body.Goals as goal
 
 pub returns-in_ok-read_bytes-in-Length-clause-found : goal.returns-in_ok-read_bytes-in-Length-clause-found

@@ -1,7 +1,7 @@
 use Rattle.std.proofs.Common.{◌≡◌, ◌-◌, ◌+◌, arith, refl, subst, ◌∙◌}
 use Rattle.std.proofs.lemmas.Result.{err_from_is_err_and}
 use Rattle.http_wire.specs.Inner.BodyReading.{Moved, body_state}
-use Rattle.http_wire.proofs.MovedLemmas.{moved_no_more, moved_both, bytes_fault}
+use Rattle.http_wire.proofs.Bodies.MovedLemmas.{moved_no_more, moved_both, bytes_fault}
 use Rattle.http_wire.proofs.body.read_bytes.Goals as goal
 
 pub loop-left-init : goal.loop-left-init

@@ -1,5 +1,5 @@
 use Rattle.std.proofs.lemmas.Result.{err_from_is_err_and}
-use Rattle.http_wire.proofs.MovedLemmas.{nothing_came}
+use Rattle.http_wire.proofs.Bodies.MovedLemmas.{nothing_came}
 use Rattle.http_wire.proofs.body.read_part.Goals as goal
 
 pub returns-in_err-byte-clause-found : goal.returns-in_err-byte-clause-found

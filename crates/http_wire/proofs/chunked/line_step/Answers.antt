@@ -1,6 +1,6 @@
 use Rattle.std.proofs.Common.{sym, subst, ◌++◌, ◌∷◌, [], arith, ◌<◌, ◌+◌, ◌*◌}
 use Rattle.http_wire.specs.Inner.SizeLines.{StandsAt, AreDigits}
-use Rattle.http_wire.proofs.LineLemmas.{never_cr, never_ninth, never_other, one_digit}
+use Rattle.http_wire.proofs.Bodies.LineLemmas.{never_cr, never_ninth, never_other, one_digit}
 use Rattle.http_wire.proofs.chunked.line_step.Goals as goal
 
 pub returns-else-byte-eq10 : goal.returns-else-byte-eq10

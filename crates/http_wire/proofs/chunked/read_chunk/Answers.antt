@@ -2,8 +2,8 @@ use Rattle.std.proofs.Common.{◌<◌, arith, subst}
 use Rattle.std.specs.Prelude.{Ok}
 use Rattle.std.proofs.lemmas.Result.{err_from_is_err_and}
 use Rattle.http_wire.specs.Inner.ChunkReading.{FindsLine, FindsEnd}
-use Rattle.http_wire.proofs.ChunkReadLemmas.{chunk_line_broken, chunk_line_fault, chunk_over, chunk_data_fault}
-use Rattle.http_wire.proofs.ChunkReadLemmas.{chunk_end_broken, chunk_end_fault, chunk_taken, chunk_last}
+use Rattle.http_wire.proofs.Bodies.ChunkReadLemmas.{chunk_line_broken, chunk_line_fault, chunk_over, chunk_data_fault}
+use Rattle.http_wire.proofs.Bodies.ChunkReadLemmas.{chunk_end_broken, chunk_end_fault, chunk_taken, chunk_last}
 use Rattle.http_wire.proofs.chunked.read_chunk.Goals as goal
 
 pub returns-in_default-clause-found : goal.returns-in_default-clause-found

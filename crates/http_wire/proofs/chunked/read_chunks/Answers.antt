@@ -4,7 +4,7 @@ use Rattle.std.proofs.lemmas.Result.{err_from_is_err_and}
 use Rattle.http_wire.specs.Inner.ChunkReading.{FindsChunk, TakesChunk}
 use Rattle.http_wire.specs.Inner.ChunksRead.{AreTaken}
 use Rattle.http_wire.specs.Inner.BodyReading.{body_state}
-use Rattle.http_wire.proofs.ChunkReadLemmas.{taken_nothing, taken_more, body_whole, body_refused, body_fault}
+use Rattle.http_wire.proofs.Bodies.ChunkReadLemmas.{taken_nothing, taken_more, body_whole, body_refused, body_fault}
 use Rattle.http_wire.proofs.chunked.read_chunks.Goals as goal
 
 ok-not-err : {A B : Type 0} (a : A) (b : B) → Ok a ≡ Err b → ⊥

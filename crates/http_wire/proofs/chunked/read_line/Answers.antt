@@ -2,7 +2,7 @@ use Rattle.std.proofs.Common.{◌∙◌, sym, subst, arith, take}
 use Rattle.std.proofs.lemmas.Result.{err_from_is_err_and}
 use Rattle.http_wire.specs.Inner.SizeLines.{StandsAt}
 use Rattle.http_wire.proofs.GaveLemmas.{gave_both}
-use Rattle.http_wire.proofs.LineReadLemmas.{bounded, front_stands, front_next, line_taken, line_broken, line_cut}
+use Rattle.http_wire.proofs.Bodies.LineReadLemmas.{bounded, front_stands, front_next, line_taken, line_broken, line_cut}
 use Rattle.http_wire.proofs.chunked.read_line.Goals as goal
 
 pub line_step-requires : goal.line_step-requires

@@ -2,7 +2,8 @@ use Rattle.std.proofs.Common.{◌≡◌, ◌∙◌, sym, ap, arith, refl, ◌++�
 use Rattle.std.proofs.lemmas.List.{take-append-drop}
 use Rattle.std.proofs.lemmas.Result.{err_from_is_err_and}
 use Rattle.http_wire.proofs.GaveLemmas.{gave_as, gave_both}
-use Rattle.http_wire.proofs.LineReadLemmas.{front_kept, front_next, never_first, never_second, end_broken, end_cut}
+use Rattle.http_wire.proofs.Bodies.LineReadLemmas.{front_kept, front_next, never_first, never_second, end_broken}
+use Rattle.http_wire.proofs.Bodies.LineReadLemmas.{end_cut}
 use Rattle.http_wire.proofs.chunked.read_line_end.Goals as goal
 
 pub returns-then-first-ne13-clause-found : goal.returns-then-first-ne13-clause-found

@@ -2,7 +2,7 @@ use Rattle.std.proofs.Common.{◌≡◌, ◌∙◌, sym, ap, true, false}
 use Rattle.std.specs.Prelude.{codes, ◌||◌}
 use Rattle.httparse.specs.Spans.{header_bytes}
 use Rattle.http_wire.specs.Fields.{same_word, lists_close}
-use Rattle.http_wire.proofs.FieldLemmas.{close-same, close-differs, or-false}
+use Rattle.http_wire.proofs.Heads.FieldLemmas.{close-same, close-differs, or-false}
 use Rattle.http_wire.proofs.fields.closes_after.Goals as goal
 
 pub returns-then-found : goal.returns-then-found

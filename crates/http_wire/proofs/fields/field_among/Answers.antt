@@ -2,7 +2,7 @@ use Rattle.std.proofs.Common.{refl, subst, sym, map, take}
 use Rattle.httparse.specs.Spans.{header_bytes}
 use Rattle.http_wire.specs.Fields.{values_of}
 use Rattle.http_wire.specs.Inner.FieldReading.{IsOccurrence}
-use Rattle.http_wire.proofs.FieldLemmas.{map_take-next}
+use Rattle.http_wire.proofs.Heads.FieldLemmas.{map_take-next}
 use Rattle.http_wire.proofs.fields.field_among.Goals as goal
 
 pub loop-header-init : goal.loop-header-init

@@ -3,7 +3,7 @@ use Rattle.std.specs.Prelude.{codes}
 use Rattle.std.specs.List.{list_any}
 use Rattle.httparse.specs.Spans.{header_bytes}
 use Rattle.http_wire.specs.Fields.{values_of, lists_close}
-use Rattle.http_wire.proofs.FieldLemmas.{map_take-next}
+use Rattle.http_wire.proofs.Heads.FieldLemmas.{map_take-next}
 use Rattle.http_wire.proofs.fields.lists_close.Goals as goal
 
 pub loop-header-init : goal.loop-header-init

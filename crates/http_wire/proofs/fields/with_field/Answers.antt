@@ -2,7 +2,7 @@ use Rattle.std.proofs.Common.{◌≡◌, ◌∙◌, sym, ap, subst, ◌++◌, �
 use Rattle.httparse.specs.Spans.{header_bytes}
 use Rattle.http_wire.specs.Fields.{same_word, values_of}
 use Rattle.http_wire.specs.Inner.FieldReading.{IsOccurrence}
-use Rattle.http_wire.proofs.FieldLemmas.{values_of-same, values_of-differs}
+use Rattle.http_wire.proofs.Heads.FieldLemmas.{values_of-same, values_of-differs}
 use Rattle.http_wire.proofs.fields.with_field.Goals as goal
 
 pub returns-then-is_same_word : goal.returns-then-is_same_word

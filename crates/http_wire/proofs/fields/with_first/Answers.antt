@@ -2,7 +2,7 @@ use Rattle.std.proofs.Common.{◌≡◌, ◌∙◌, sym, ap, true, false}
 use Rattle.std.specs.Prelude.{Some, None}
 use Rattle.httparse.specs.Spans.{header_bytes}
 use Rattle.http_wire.specs.Fields.{same_word}
-use Rattle.http_wire.proofs.FirstFieldLemmas.{first-match, first-other, first-kept}
+use Rattle.http_wire.proofs.Heads.FirstFieldLemmas.{first-match, first-other, first-kept}
 use Rattle.http_wire.proofs.fields.with_first.Goals as goal
 
 pub returns-then-is_same_word : goal.returns-then-is_same_word

@@ -4,8 +4,9 @@ use Rattle.std.specs.List.{list_all}
 use Rattle.std.specs.Char.{is_ascii_digit}
 use Rattle.std.specs.Str.Parse.{digits_value}
 use Rattle.std.specs.Prelude.{Ok}
-use Rattle.http_wire.proofs.FieldLemmas.{length_of-empty, length_of-other, length_of-over, length_of-ok, value-next}
-use Rattle.http_wire.proofs.FieldLemmas.{take_to_end, some_length, digits-next, digit-minus}
+use Rattle.http_wire.proofs.Heads.FieldLemmas.{length_of-empty, length_of-other, length_of-over, length_of-ok}
+use Rattle.http_wire.proofs.Heads.FieldLemmas.{value-next}
+use Rattle.http_wire.proofs.Heads.FieldLemmas.{take_to_end, some_length, digits-next, digit-minus}
 use Rattle.http_wire.proofs.framing.length_of.Goals as goal
 use Rattle.http_wire.proofs.framing.length_of.Goals.{then-total-max_body, else-total-max_body}
 

@@ -1,4 +1,4 @@
-use Rattle.http_wire.proofs.HeadLemmas.{none_at_next, judged_at, given_up}
+use Rattle.http_wire.proofs.Heads.HeadLemmas.{none_at_next, judged_at, given_up}
 use Rattle.http_wire.proofs.head.judge_at.Goals as goal
 
 pub returns-then-text-at-ne10 : goal.returns-then-text-at-ne10

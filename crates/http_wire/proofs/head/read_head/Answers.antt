@@ -1,6 +1,6 @@
 use Rattle.std.proofs.Common.{◌≡◌, arith, refl, subst, take}
 use Rattle.http_wire.specs.Fronts.{HasNone}
-use Rattle.http_wire.proofs.HeadLemmas.{none_at_start, too_long}
+use Rattle.http_wire.proofs.Heads.HeadLemmas.{none_at_start, too_long}
 use Rattle.http_wire.proofs.GaveLemmas.{gave_none, gave_both}
 use Rattle.http_wire.proofs.head.read_head.Goals as goal
 

@@ -3,7 +3,7 @@ use Rattle.std.proofs.lemmas.List.{append-nil}
 use Rattle.http_wire.specs.HeadText.{bad_status, status_line}
 use Rattle.http_wire.specs.Writing.{Wrote}
 use Rattle.http_wire.proofs.GatherLemmas.{gathered_none}
-use Rattle.http_wire.proofs.HeadTextLemmas.{bad_text}
+use Rattle.http_wire.proofs.Heads.HeadTextLemmas.{bad_text}
 use Rattle.http_wire.proofs.refusal.write_bad.Goals as goal
 
 pub returns-clause-wrote : goal.returns-clause-wrote

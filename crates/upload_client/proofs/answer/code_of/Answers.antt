@@ -1,6 +1,6 @@
 use Rattle.std.proofs.Common.{sym, ◌∙◌, ap}
 use Rattle.std.specs.Prelude.{Some}
-use Rattle.http_wire.proofs.FieldLemmas.{not_both}
+use Rattle.http_wire.proofs.Heads.FieldLemmas.{not_both}
 use Rattle.upload_client.proofs.CodeLemmas.{code_none, code_some}
 use Rattle.upload_client.proofs.answer.code_of.Goals as goal
 

@@ -2,7 +2,7 @@ use Rattle.std.proofs.Common.{inl}
 use Rattle.std.proofs.lemmas.Result.{err_from_is_err_and}
 use Rattle.upload_client.specs.declared.heard.HeardFault.TheVariants as Fault
 use Rattle.upload_client.proofs.AnswerLemmas.{finds_after, found_after, head_fault, head_over}
-use Rattle.http_wire.proofs.HeadLaws.{response_laws}
+use Rattle.http_wire.proofs.Heads.HeadLaws.{response_laws}
 use Rattle.upload_client.proofs.answer.read_answer.Goals as goal
 
 pub read_head-requires : goal.read_head-requires

@@ -1,6 +1,6 @@
 use Rattle.std.proofs.Common.{◌≡◌, ◌++◌, ◌∷◌, [], List, ℕ, ap, ◌∙◌}
 use Rattle.std.specs.List.{concat}
-use Rattle.upload_service.proofs.Parts.{concat-segments}
+use Rattle.upload_service.proofs.Keeping.Parts.{concat-segments}
 use Rattle.upload_service.proofs.blob.share_parts.Goals as goal
 
 pub returns : goal.returns

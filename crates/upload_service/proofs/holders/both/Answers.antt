@@ -3,7 +3,7 @@ use Rattle.std.specs.Prelude.{◌||◌}
 use Rattle.std.specs.Arc.{arc_value}
 use Rattle.std.specs.List.{list_any}
 use Rattle.upload_service.specs.Machine.{same}
-use Rattle.upload_service.proofs.Holding.{name_more}
+use Rattle.upload_service.proofs.Keeping.Holding.{name_more}
 use Rattle.upload_service.proofs.holders.both.Goals as goal
 
 pub returns-in-Ok : goal.returns-in-Ok

@@ -3,7 +3,7 @@ use Rattle.std.proofs.lemmas.List.{append-nil, append_assoc, nil_from_length}
 use Rattle.std.proofs.lemmas.Bool.{eqb-true}
 use Rattle.std.proofs.lemmas.List.Folds.{concat-append}
 use Rattle.std.specs.List.{concat}
-use Rattle.upload_service.proofs.Parts.{concat-with_part}
+use Rattle.upload_service.proofs.Keeping.Parts.{concat-with_part}
 use Rattle.upload_service.proofs.segments.roll_over.Goals as goal
 
 pub returns-then-len-le-JOINED_SIZE-clause-more : goal.returns-then-len-le-JOINED_SIZE-clause-more

@@ -6,7 +6,7 @@ use Rattle.std.specs.Map.{lookup}
 use Rattle.std.proofs.lemmas.Result.{on_ok_weaker, on_err_weaker}
 use Rattle.upload_service.specs.Machine.{same}
 use Rattle.upload_service.specs.declared.stock.Item.{Item}
-use Rattle.upload_service.proofs.Stocked.{blob_kept, held_more, item_kept}
+use Rattle.upload_service.proofs.Keeping.Stocked.{blob_kept, held_more, item_kept}
 use Rattle.upload_service.proofs.stock.hold_under.Goals as goal
 
 pub returns-in-Some-clause-blobs : goal.returns-in-Some-clause-blobs

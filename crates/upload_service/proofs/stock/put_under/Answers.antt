@@ -1,7 +1,7 @@
 use Rattle.std.proofs.Common.{Some, sym, ap, refl}
 use Rattle.std.specs.Prelude.{is_some}
 use Rattle.upload_service.specs.declared.stock.Item.{Item}
-use Rattle.upload_service.proofs.Stocked.{blob_written, held_kept}
+use Rattle.upload_service.proofs.Keeping.Stocked.{blob_written, held_kept}
 use Rattle.upload_service.proofs.stock.put_under.Goals as goal
 
 pub returns-clause-blobs : goal.returns-clause-blobs

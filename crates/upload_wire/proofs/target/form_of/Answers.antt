@@ -1,5 +1,5 @@
 use Rattle.upload_wire.proofs.TargetLemmas.{no_form_with, no_form_without}
-use Rattle.http_wire.proofs.FieldLemmas.{some_length}
+use Rattle.http_wire.proofs.Heads.FieldLemmas.{some_length}
 use Rattle.upload_wire.proofs.target.form_of.Goals as goal
 
 pub returns-in_default-cut_last : goal.returns-in_default-cut_last

@@ -2,7 +2,7 @@ use Rattle.std.proofs.Common.{◌≡◌, ◌+◌, ◌-◌, [], ◌∷◌, length
 use Rattle.std.proofs.lemmas.List.{take_rest}
 use Rattle.http_wire.specs.Fields.{elements}
 use Rattle.http_wire.specs.Inner.FieldReading.{elements_of_rest, elements_left}
-use Rattle.http_wire.proofs.ElementLemmas.{elements_at, elements_whole}
+use Rattle.http_wire.proofs.Heads.ElementLemmas.{elements_at, elements_whole}
 use Rattle.http_wire.proofs.elements.ElementsIterator.next.Goals.{After-trim, After-trim-in-None}
 use Rattle.http_wire.proofs.elements.ElementsIterator.next.Goals as goal
 

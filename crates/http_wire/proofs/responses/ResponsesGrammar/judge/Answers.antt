@@ -1,8 +1,8 @@
 use Rattle.std.proofs.Common.{ap}
 use Rattle.std.specs.Prelude.{Err}
 use Rattle.http_wire.specs.Fronts.{responses}
-use Rattle.http_wire.proofs.HeadLemmas.{refused_by_error}
-use Rattle.http_wire.proofs.HeadLaws.{response_lines}
+use Rattle.http_wire.proofs.Heads.HeadLemmas.{refused_by_error}
+use Rattle.http_wire.proofs.Heads.HeadLaws.{response_lines}
 use Rattle.http_wire.proofs.responses.ResponsesGrammar.judge.Goals as goal
 
 pub returns-in-Err : goal.returns-in-Err

@@ -1,5 +1,5 @@
 use Rattle.std.proofs.lemmas.Result.{err_from_is_err_and}
-use Rattle.http_wire.proofs.ResponseBodyLemmas.{body_whole, length_fault}
+use Rattle.http_wire.proofs.Bodies.ResponseBodyLemmas.{body_whole, length_fault}
 use Rattle.http_wire.proofs.responses.body.read_response_body.Goals as goal
 
 pub returns-in_ok-read_bytes-in-Length-clause-found : goal.returns-in_ok-read_bytes-in-Length-clause-found

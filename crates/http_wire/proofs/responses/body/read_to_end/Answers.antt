@@ -1,7 +1,7 @@
 use Rattle.std.proofs.Common.{◌∙◌, sym, ap}
 use Rattle.std.specs.Prelude.{Err}
 use Rattle.http_wire.specs.Inner.ResponseBodyFinding.{end_of}
-use Rattle.http_wire.proofs.ResponseBodyLemmas.{long_body, end_found, end_read, err_same}
+use Rattle.http_wire.proofs.Bodies.ResponseBodyLemmas.{long_body, end_found, end_read, err_same}
 use Rattle.http_wire.proofs.responses.body.read_to_end.Goals as goal
 
 pub returns-in-Ok-clause-found : goal.returns-in-Ok-clause-found

@@ -4,7 +4,7 @@ use Rattle.std.specs.Arc.{arc_value}
 use Rattle.std.specs.List.{list_any}
 use Rattle.upload_service.specs.Machine.{same}
 use Rattle.upload_service.specs.Kept.Holders.{names_in}
-use Rattle.upload_service.proofs.Holding.{known_one, name_more}
+use Rattle.upload_service.proofs.Keeping.Holding.{known_one, name_more}
 use Rattle.upload_service.proofs.holders.Holders.add.Goals as goal
 
 pub returns-then-has-clause-ok : goal.returns-then-has-clause-ok

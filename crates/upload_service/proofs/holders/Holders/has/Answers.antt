@@ -3,7 +3,7 @@ use Rattle.std.specs.Arc.{arc_value}
 use Rattle.std.specs.List.{list_any}
 use Rattle.upload_service.specs.Machine.{same}
 use Rattle.upload_service.specs.Kept.Holders.{names_in}
-use Rattle.upload_service.proofs.Holding.{only_one, by_value}
+use Rattle.upload_service.proofs.Keeping.Holding.{only_one, by_value}
 use Rattle.upload_service.proofs.holders.Holders.has.Goals as goal
 
 pub returns-in-One : goal.returns-in-One

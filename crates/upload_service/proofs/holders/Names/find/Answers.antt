@@ -2,7 +2,7 @@ use Rattle.std.proofs.Common.{ℕ, List, subst, false, ◌≡◌}
 use Rattle.std.specs.Prelude.{IfNone}
 use Rattle.std.specs.List.{list_any}
 use Rattle.upload_service.specs.Machine.{same}
-use Rattle.upload_service.proofs.Holding.{is_name, is_no_key}
+use Rattle.upload_service.proofs.Keeping.Holding.{is_name, is_no_key}
 use Rattle.upload_service.proofs.holders.Names.find.Goals as goal
 
 pub returns-clause-found : goal.returns-clause-found

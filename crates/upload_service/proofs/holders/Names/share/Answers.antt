@@ -3,7 +3,7 @@ use Rattle.std.specs.Prelude.{is_some, ◌||◌}
 use Rattle.std.specs.List.{list_any}
 use Rattle.std.proofs.lemmas.Result.{IfOk-weaker}
 use Rattle.upload_service.specs.Machine.{same}
-use Rattle.upload_service.proofs.Holding.{shared_more, any_key, still_key, new_key, one_key, known_one, always}
+use Rattle.upload_service.proofs.Keeping.Holding.{shared_more, any_key, still_key, new_key, one_key, known_one, always}
 use Rattle.upload_service.proofs.holders.Names.share.Goals as goal
 
 pub returns-in-Some-clause-shared : goal.returns-in-Some-clause-shared

@@ -2,7 +2,7 @@ use Rattle.std.proofs.Common.{List, ℕ, take, subst}
 use Rattle.upload_service.specs.declared.running.Running.TheVariants.{Here}
 use Rattle.std.specs.List.{concat}
 use Rattle.upload_service.specs.Kept.Running.{RunningHolds}
-use Rattle.upload_service.proofs.Prefixes.{holds_all}
+use Rattle.upload_service.proofs.Keeping.Prefixes.{holds_all}
 use Rattle.upload_service.proofs.prefix_hash.PrefixHash.catch_up.Goals as goal
 
 pub returns-in-Here-clause-prefix : goal.returns-in-Here-clause-prefix

@@ -1,7 +1,7 @@
 use Rattle.std.proofs.Common.{List, ℕ, take, drop, length, ◌++◌, ◌-◌, sym, subst}
 use Rattle.std.specs.List.{concat}
 use Rattle.upload_service.specs.Kept.Running.{RunningHolds}
-use Rattle.upload_service.proofs.Prefixes.{holds_all}
+use Rattle.upload_service.proofs.Keeping.Prefixes.{holds_all}
 use Rattle.upload_service.proofs.prefix_hash.PrefixHash.catch_up_beside.Goals as goal
 
 pub returns : goal.returns

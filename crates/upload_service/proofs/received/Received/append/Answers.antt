@@ -4,7 +4,7 @@ use Rattle.sha2.specs.Hashers.{Holds256}
 use Rattle.std.specs.List.{concat}
 use Rattle.upload_service.specs.Kept.Parts.{whole}
 use Rattle.upload_service.specs.Kept.Running.{HoldsPrefix}
-use Rattle.upload_service.proofs.Prefixes.{holds_of_more, settled_first}
+use Rattle.upload_service.proofs.Keeping.Prefixes.{holds_of_more, settled_first}
 use Rattle.upload_service.proofs.received.Received.append.Goals as goal
 
 pub invariant_of-self-then-is_empty : goal.invariant_of-self-then-is_empty

@@ -3,8 +3,8 @@ use Rattle.std.specs.Prelude.{is_some}
 use Rattle.std.specs.Cmp.Lexicographic.{nat_list_cmp_total}
 use Rattle.upload_service.specs.Kept.Entries.{session_of}
 use Rattle.upload_service.specs.declared.sessions.OpenSession.{OpenSession}
-use Rattle.upload_service.proofs.Kept.{kept-written}
-use Rattle.upload_service.proofs.Swept.{keys_exact}
+use Rattle.upload_service.proofs.Keeping.Kept.{kept-written}
+use Rattle.upload_service.proofs.Keeping.Swept.{keys_exact}
 use Rattle.upload_service.proofs.sessions.Sessions.catch_up_beside.Goals as goal
 
 pub returns : goal.returns

@@ -8,8 +8,8 @@ use Rattle.upload_names.specs.Digest.{HasDigest}
 use Rattle.upload_service.specs.Machine.{Table, Session}
 use Rattle.upload_service.specs.Kept.Entries.{session_of}
 use Rattle.upload_service.specs.declared.sessions.OpenSession.{OpenSession}
-use Rattle.upload_service.proofs.Kept.{kept-written, get-kept}
-use Rattle.upload_service.proofs.Swept.{keys_exact}
+use Rattle.upload_service.proofs.Keeping.Kept.{kept-written, get-kept}
+use Rattle.upload_service.proofs.Keeping.Swept.{keys_exact}
 use Rattle.upload_service.proofs.sessions.Sessions.has_digest.Goals as goal
 
 pub unreachable-requires : goal.unreachable-requires

@@ -5,7 +5,7 @@ use Rattle.std.proofs.lemmas.Bool.{lt-leb}
 use Rattle.std.proofs.lemmas.List.Filters.{length-filter_both}
 use Rattle.upload_service.specs.Machine.{Table, Session, awake_of}
 use Rattle.upload_service.specs.Kept.Entries.{is_kept}
-use Rattle.upload_service.proofs.Swept.{len_awake}
+use Rattle.upload_service.proofs.Keeping.Swept.{len_awake}
 use Rattle.upload_service.proofs.sessions.Sessions.is_full.Goals as goal
 
 pub returns-then-len-limits : goal.returns-then-len-limits

@@ -5,8 +5,8 @@ use Rattle.std.specs.FinMap.{FinMap}
 use Rattle.upload_names.specs.Digest.{digest_cmp}
 use Rattle.std.specs.List.{concat}
 use Rattle.upload_service.specs.Kept.Blobs.{body_in}
-use Rattle.upload_service.proofs.Tables.{blob-insert_same}
-use Rattle.upload_service.proofs.Stocked.{put_again}
+use Rattle.upload_service.proofs.Keeping.Tables.{blob-insert_same}
+use Rattle.upload_service.proofs.Keeping.Stocked.{put_again}
 use Rattle.upload_service.proofs.stock.Stock.commit.Goals as goal
 
 pub put-requires : goal.put-requires

@@ -5,8 +5,9 @@ use Rattle.std.specs.FinSet as set
 use Rattle.std.specs.Map.{lookup}
 use Rattle.upload_service.specs.Machine.{same}
 use Rattle.upload_service.specs.Kept.Stock.{is_held, digest_at, sha256_digest, sha512_digest, Stocked}
-use Rattle.upload_service.proofs.Stocked.{get_sha256, get_sha512, contains_sha256, contains_sha512, held_is_there}
-use Rattle.upload_service.proofs.Stocked.{not_known}
+use Rattle.upload_service.proofs.Keeping.Stocked.{get_sha256, get_sha512, contains_sha256, contains_sha512}
+use Rattle.upload_service.proofs.Keeping.Stocked.{held_is_there}
+use Rattle.upload_service.proofs.Keeping.Stocked.{not_known}
 use Rattle.upload_service.proofs.stock.Stock.contains.Goals as goal
 
 pub returns-in-Sha256-clause-is : goal.returns-in-Sha256-clause-is

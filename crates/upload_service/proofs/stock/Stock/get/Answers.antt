@@ -4,7 +4,7 @@ use Rattle.std.specs.FinMap as map
 use Rattle.std.specs.Map.{lookup}
 use Rattle.upload_service.specs.Machine.{same}
 use Rattle.upload_service.specs.Kept.Stock.{blob_in, digest_at, sha256_digest, sha512_digest}
-use Rattle.upload_service.proofs.Stocked.{get_sha256, get_sha512}
+use Rattle.upload_service.proofs.Keeping.Stocked.{get_sha256, get_sha512}
 use Rattle.upload_service.proofs.stock.Stock.get.Goals as goal
 
 pub returns-in-Sha256-clause-found : goal.returns-in-Sha256-clause-found

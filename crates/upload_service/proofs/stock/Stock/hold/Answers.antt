@@ -7,8 +7,9 @@ use Rattle.std.specs.Arc.{arc_value}
 use Rattle.std.proofs.lemmas.Result.{on_ok_weaker, on_err_weaker}
 use Rattle.upload_service.specs.Machine.{same}
 use Rattle.upload_service.specs.Kept.Stock.{blob_in, or_empty, Stocked}
-use Rattle.upload_service.proofs.Stocked.{get_sha256, get_sha512, kept_sha256, kept_sha512, blobs_sha256, blobs_sha512}
-use Rattle.upload_service.proofs.Stocked.{pairs_sha256, pairs_sha512, after_either, one_more_known, still_known}
+use Rattle.upload_service.proofs.Keeping.Stocked.{get_sha256, get_sha512, kept_sha256, kept_sha512, blobs_sha256}
+use Rattle.upload_service.proofs.Keeping.Stocked.{blobs_sha512}
+use Rattle.upload_service.proofs.Keeping.Stocked.{pairs_sha256, pairs_sha512, after_either, one_more_known, still_known}
 use Rattle.upload_service.proofs.stock.Stock.hold.Goals as goal
 
 pub returns-in-Sha256-clause-blobs : goal.returns-in-Sha256-clause-blobs

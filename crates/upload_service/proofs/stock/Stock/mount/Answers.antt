@@ -1,5 +1,5 @@
 use Rattle.std.proofs.Common.{◌∙◌}
-use Rattle.upload_service.proofs.Stocked.{put_back}
+use Rattle.upload_service.proofs.Keeping.Stocked.{put_back}
 use Rattle.upload_service.proofs.stock.Stock.mount.Goals as goal
 
 pub returns-clause-blobs : goal.returns-clause-blobs

@@ -4,8 +4,8 @@ use Rattle.std.specs.FinMap as map
 use Rattle.std.specs.Map.{lookup}
 use Rattle.upload_service.specs.Machine.{same}
 use Rattle.upload_service.specs.Kept.Stock.{blob_in}
-use Rattle.upload_service.proofs.Stocked.{get_sha256, get_sha512, blobs_sha256, blobs_sha512, same_pairs_sha256}
-use Rattle.upload_service.proofs.Stocked.{same_pairs_sha512, still_known}
+use Rattle.upload_service.proofs.Keeping.Stocked.{get_sha256, get_sha512, blobs_sha256, blobs_sha512, same_pairs_sha256}
+use Rattle.upload_service.proofs.Keeping.Stocked.{same_pairs_sha512, still_known}
 use Rattle.upload_service.proofs.stock.Stock.put.Goals as goal
 
 pub put_under-requires : goal.put_under-requires

@@ -4,8 +4,8 @@ use Rattle.std.specs.FinMap as map
 use Rattle.std.specs.FinMap.{FinMap}
 use Rattle.std.proofs.Common.{ℕ, List}
 use Rattle.upload_names.specs.Digest.{digest_cmp}
-use Rattle.upload_service.proofs.Tables.{blob-insert_same}
-use Rattle.upload_service.proofs.Stocked.{put_again}
+use Rattle.upload_service.proofs.Keeping.Tables.{blob-insert_same}
+use Rattle.upload_service.proofs.Keeping.Stocked.{put_again}
 use Rattle.upload_service.proofs.stock.Stock.store.Goals as goal
 
 pub put-requires : goal.put-requires

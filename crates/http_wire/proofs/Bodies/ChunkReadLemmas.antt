@@ -23,11 +23,11 @@ use Rattle.http_wire.specs.declared.fault.InputFault.{InputFault}
 use Rattle.http_wire.specs.declared.fault.InputFault.TheVariants as Input
 use Rattle.http_wire.specs.declared.fault.BodyFault.{BodyFault}
 use Rattle.http_wire.specs.declared.fault.BodyFault.TheVariants as Fault
-use Rattle.http_wire.proofs.MovedLemmas.{StopsBefore, stops}
+use Rattle.http_wire.proofs.Bodies.MovedLemmas.{StopsBefore, stops}
 use Rattle.http_wire.proofs.GaveLemmas.{gave_none, gave_as, gave_after}
-use Rattle.http_wire.proofs.ChunkLemmas.{never_from_line, never_after, front_after, under_after, over_after}
-use Rattle.http_wire.proofs.ChunkLemmas.{under_inside, never_end, empty_of}
-use Rattle.http_wire.proofs.FrontLemmas.{front_line, front_data, front_data_end, under_line}
+use Rattle.http_wire.proofs.Bodies.ChunkLemmas.{never_from_line, never_after, front_after, under_after, over_after}
+use Rattle.http_wire.proofs.Bodies.ChunkLemmas.{under_inside, never_end, empty_of}
+use Rattle.http_wire.proofs.Heads.FrontLemmas.{front_line, front_data, front_data_end, under_line}
 
 -- ---- one chunk
 

@@ -16,7 +16,7 @@ use Rattle.http_wire.specs.Inner.SizeLines.{StandsAt, IsLine, IsBounded, NeverLi
 use Rattle.http_wire.specs.Inner.ChunkReading.{TakesLine, BreaksLine, CutsLine, NeverEnd, BreaksEnd, CutsEnd}
 use Rattle.http_wire.specs.declared.chunked.LineState.{LineState}
 use Rattle.http_wire.specs.declared.chunked.LineState.TheVariants.{Digits, Ended}
-use Rattle.http_wire.proofs.LineLemmas.{IsHex}
+use Rattle.http_wire.proofs.Bodies.LineLemmas.{IsHex}
 use Rattle.http_wire.proofs.GaveLemmas.{gave_as}
 
 hex_small : (b : ℕ) → is_ascii_hexdigit b ≡ true → digit_value b < 16

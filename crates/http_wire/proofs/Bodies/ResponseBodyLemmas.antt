@@ -10,7 +10,7 @@ use Rattle.http_wire.specs.declared.responses.framing.ResponseFraming.TheVariant
 use Rattle.http_wire.specs.declared.responses.body.ResponseBodyEnd.TheVariants.{Whole, TooLarge}
 use Rattle.http_wire.specs.declared.fault.BodyFault.{BodyFault}
 use Rattle.http_wire.specs.declared.fault.BodyFault.TheVariants as Fault
-use Rattle.http_wire.proofs.MovedLemmas.{stops}
+use Rattle.http_wire.proofs.Bodies.MovedLemmas.{stops}
 
 pub err_same : {A E : Type 0} (e f : E) → ◌≡◌ {A = Result A E} (Err e) (Err f) → e ≡ f
 err_same e f h = cc

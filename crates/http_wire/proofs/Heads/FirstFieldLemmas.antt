@@ -3,7 +3,7 @@ use Rattle.std.proofs.Common.{◌≡◌, ℕ, true, false, List, [], ◌∷◌, 
 use Rattle.std.specs.Prelude.{Option, Some, None}
 use Rattle.std.proofs.lemmas.Bool.{cases_Bool}
 use Rattle.http_wire.specs.Fields.{Fields, first_of, values_of, same_word}
-use Rattle.http_wire.proofs.FieldLemmas.{values_of-same, values_of-differs}
+use Rattle.http_wire.proofs.Heads.FieldLemmas.{values_of-same, values_of-differs}
 
 pub first-none : (values : List (List ℕ)) (value : List ℕ) → None ≡ first_of values
     → first_of (values ++ value ∷ []) ≡ Some value

@@ -15,8 +15,8 @@ use Rattle.upload_service.specs.Kept.Holders.{AreShared}
 use Rattle.std.specs.Cmp.Lexicographic.{slice_cmp, nat_list_cmp_total}
 use Rattle.std.proofs.lemmas.Bool.{false_from_ne_true}
 use Rattle.upload_service.specs.Machine.{same}
-use Rattle.upload_service.proofs.Kept.{tied_flips}
-use Rattle.upload_service.proofs.Tables.{same_from_eq, same_from_ne, one_or_two}
+use Rattle.upload_service.proofs.Keeping.Kept.{tied_flips}
+use Rattle.upload_service.proofs.Keeping.Tables.{same_from_eq, same_from_ne, one_or_two}
 
 -- a test for equality is the look-up among one
 pub only_one : (b : Bool) (only name : List ℕ) → IsTrue b ↔ (only ≡ name) → b ≡ list_any (same name) (only ∷ [])

@@ -9,7 +9,8 @@ use Rattle.httparse.specs.Grammar.{print_section, print_request, print_response}
 use Rattle.http_wire.specs.Fronts.{Words, requests, responses, line_feeds}
 use Rattle.http_wire.specs.Inner.HeadReading.{AreLawful}
 use Rattle.http_wire.specs.Inner.HeadSpans.{request_spans, response_spans}
-use Rattle.http_wire.proofs.HeadLemmas.{line_feeds-append, line_feeds-end, line_feeds-fields, EndsInLineFeed, HasLines}
+use Rattle.http_wire.proofs.Heads.HeadLemmas.{line_feeds-append, line_feeds-end, line_feeds-fields, EndsInLineFeed}
+use Rattle.http_wire.proofs.Heads.HeadLemmas.{HasLines}
 
 -- the head is a line, its end, and a section of its fields
 record IsSectioned (w : Words) (h : w.Head) : Type 0 where

@@ -10,8 +10,8 @@ use Rattle.http_wire.specs.Body.{IsSize, Chunk, IsChunk, IsChunked, IsFrontOfChu
 use Rattle.http_wire.specs.Inner.SizeLines.{StandsAt}
 use Rattle.http_wire.specs.declared.chunked.LineState.{LineState}
 use Rattle.http_wire.specs.declared.chunked.LineState.TheVariants.{Digits, Ended}
-use Rattle.http_wire.proofs.ChunkLemmas.{chunk_more, chunk_flat, empty_of, over_has_line}
-use Rattle.http_wire.proofs.LineLemmas.{digits_le, stops_at}
+use Rattle.http_wire.proofs.Bodies.ChunkLemmas.{chunk_more, chunk_flat, empty_of, over_has_line}
+use Rattle.http_wire.proofs.Bodies.LineLemmas.{digits_le, stops_at}
 
 -- so many times `a`
 padding : ℕ → List ℕ

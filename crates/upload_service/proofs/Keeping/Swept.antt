@@ -18,7 +18,7 @@ use Rattle.upload_service.specs.declared.limits.Limits.{Limits}
 use Rattle.upload_service.specs.declared.sessions.OpenSession.{OpenSession}
 use Rattle.upload_service.specs.Machine.{Session, Table, same, is_idle, unless_idle, awake_of, swept_of}
 use Rattle.upload_service.specs.Kept.Entries.{kept_as, session_of, is_kept}
-use Rattle.upload_service.proofs.Kept.{get-kept, len_distinct, len-kept}
+use Rattle.upload_service.proofs.Keeping.Kept.{get-kept, len_distinct, len-kept}
 use Rattle.upload_service.proofs.Sweeps.{get-awake_of}
 
 abbrev pub bytes_cmp : List ℕ → List ℕ → Ordering

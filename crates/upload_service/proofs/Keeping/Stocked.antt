@@ -20,9 +20,10 @@ use Rattle.upload_service.specs.declared.stock.Item.{Item}
 use Rattle.upload_service.specs.Machine.{same, same_digest, pair_cmp}
 use Rattle.upload_service.specs.Kept.Stock.{blob_in, is_held, or_empty, rows, noted, pairs_of, stocked, sha256_digest}
 use Rattle.upload_service.specs.Kept.Stock.{sha512_digest, AreKnown}
-use Rattle.upload_service.proofs.Kept.{get-kept}
-use Rattle.upload_service.proofs.Tables.{same_from_eq, same_from_ne, one_or_two, digests_total, digests_exact}
-use Rattle.upload_service.proofs.Tables.{pairs_total, pairs_exact, contains-insert, eq_from_same_digest, blob-insert}
+use Rattle.upload_service.proofs.Keeping.Kept.{get-kept}
+use Rattle.upload_service.proofs.Keeping.Tables.{same_from_eq, same_from_ne, one_or_two, digests_total, digests_exact}
+use Rattle.upload_service.proofs.Keeping.Tables.{pairs_total, pairs_exact, contains-insert, eq_from_same_digest}
+use Rattle.upload_service.proofs.Keeping.Tables.{blob-insert}
 
 abbrev Items : Type 0
 Items = List (List ℕ × Item)

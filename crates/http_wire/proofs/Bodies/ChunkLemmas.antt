@@ -7,7 +7,7 @@ use Rattle.std.specs.Str.Parse.{digits_value}
 use Rattle.http_wire.specs.Body.{IsSize, Chunk, print_chunk, IsChunk, IsZero, chunks_text, chunks_data, IsChunked}
 use Rattle.http_wire.specs.Body.{NeverChunked, IsFrontOfChunked, ExceedsLimit}
 use Rattle.http_wire.specs.Inner.SizeLines.{NeverLine}
-use Rattle.http_wire.proofs.LineLemmas.{stops_at}
+use Rattle.http_wire.proofs.Bodies.LineLemmas.{stops_at}
 
 -- the same size line, and then the same bytes
 pub lines_same : (ds es r q : List ℕ) → IsSize ds → IsSize es → ds ++ (13 ∷ 10 ∷ r) ≡ es ++ (13 ∷ 10 ∷ q)

@@ -1,0 +1,6 @@
+pub mod MovedLemmas
+pub mod ResponseBodyLemmas
+pub mod LineLemmas
+pub mod ChunkLemmas
+pub mod LineReadLemmas
+pub mod ChunkReadLemmas

@@ -1,0 +1,7 @@
+pub mod HeadTextLemmas
+pub mod HeadLemmas
+pub mod HeadLaws
+pub mod ElementLemmas
+pub mod FieldLemmas
+pub mod FirstFieldLemmas
+pub mod FrontLemmas

@@ -1,0 +1,8 @@
+pub mod Tables
+pub mod Parts
+pub mod Prefixes
+pub mod Kept
+pub mod Swept
+pub mod Lookups
+pub mod Stocked
+pub mod Holding
