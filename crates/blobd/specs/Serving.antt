@@ -1,34 +1,38 @@
 -- What `blobd serve` did if it says that it served.
-use Rattle.std.specs.Prelude.{◌≡◌, ℕ, ◌<◌, Bool, List, length, All, Option}
+use Rattle.std.specs.Prelude.{◌≡◌, ℕ, ◌<◌, length, get_or, All, Option}
 use Rattle.std.specs.List.{AllByRecursion}
-use Rattle.upload_service.specs.Machine.{State, empty_state}
-use Rattle.upload_intake.specs.declared.work.Worker.{Worker}
+use Rattle.upload_service.specs.Machine.{empty_state}
 use Rattle.upload_intake.specs.declared.work.WorkerEnd.{WorkerEnd}
-use Rattle.upload_intake.specs.ServedPool.{IsServedPool}
+use Rattle.upload_intake.specs.ServedPool.{Given, Left, IsServedPool}
 use Rattle.upload_intake.specs.Transcripts.{TellsAll}
-use Rattle.upload_intake.specs.Working.{Means}
+use Rattle.upload_intake.specs.Working.{Lending, Means, Lent}
 use Rattle.blobd.specs.LogTold.{LogState, IsLogged}
 use Rattle.blobd.specs.Once.{program_limits}
+use Rattle.blobd.specs.declared.accept.Terms.{Terms}
 
--- So many workers served their connections as one new service in one order, from how they were started to what is left;
--- and each of them took so many connections. All that the reads of a connection gave is what its conversation read, and
--- all that its writes took is what its conversation wrote. If requests are to be logged, each worker's log began empty,
--- and handed on the lines of what it was told of these connections; if not, it handed on nothing.
-pub record HasServed {C In Out S G M : Type 0} (m : Means C In Out S G (Option LogState)) (tells : M → ℕ → M → Type 0)
-    (number count : ℕ) (logged : Bool) : Type 0 where
-  pub moments : M
-  pub workers : List (Worker C S G (Option LogState))
-  pub service : State
-  pub moments_left : M
-  pub ends : List WorkerEnd
-  pub numbered : length workers ≡ number
-  pub took : All (λ (end : WorkerEnd). end.conns ≡ count) ends
-  pub pool : IsServedPool m tells
-      (record { service = empty_state program_limits 0; moments = moments; workers = workers })
-      (record { service = service; moments = moments_left; ends = ends })
-  pub told : (seat : ℕ) (worker : Worker C S G (Option LogState)) (end : WorkerEnd) (within : seat < length workers)
-      → AllByRecursion (TellsAll m (empty_state program_limits 0).limits.max_body)
-      (pool.parts seat worker end within).worked.talks
-  pub lines : (seat : ℕ) (worker : Worker C S G (Option LogState)) (end : WorkerEnd) (within : seat < length workers)
-      → IsLogged logged (pool.parts seat worker end within).worked.events
-      (pool.parts seat worker end within).worked.observer_left
+-- a worker of a server, whose observer is a log
+abbrev pub Logger : Lending → Type 0 → Type 0 → Type 0
+Logger L S G = Lent L S G (Option LogState)
+
+-- So many workers served their connections as one new service in one order, from how they were started to what they
+-- handed back; and each of them took so many connections. All that the reads of a connection gave is what its
+-- conversation read, and all that its writes took is what its conversation wrote. If requests are to be logged, each
+-- worker's log began empty, and the log that is handed back had handed on the lines of what it was told of these
+-- connections; if not, it had handed on nothing.
+pub record HasServedFrom {L : Lending} {S G M : Type 0} (m : Means L S G (Option LogState)) (tells : M → ℕ → M → Type 0)
+    (terms : Terms) (given : Given M (Logger L S G)) (left : Left M (Logger L S G)) : Type 0 where
+  pub new : given.service ≡ empty_state program_limits 0
+  pub numbered : length given.workers ≡ terms.workers
+  pub took : All (λ (end : WorkerEnd). end.conns ≡ terms.count) left.ends
+  pub pool : IsServedPool m tells given left
+  pub told : (seat : ℕ) (worker : Logger L S G) (end : WorkerEnd) (within : seat < length given.workers)
+      → AllByRecursion (TellsAll m given.service.limits.max_body) (pool.parts seat worker end within).worked.talks
+  pub lines : (seat : ℕ) (worker : Logger L S G) (end : WorkerEnd) (within : seat < length given.workers)
+      → IsLogged terms.logged (pool.parts seat worker end within).worked.events
+      (get_or left.workers seat worker).observer
+
+-- a server did that, with some clock and some workers, which end with the program
+abbrev pub HasServed : {L : Lending} {S G M : Type 0} → Means L S G (Option LogState) → (M → ℕ → M → Type 0) → Terms
+    → Type 0
+HasServed {L} {S} {G} {M} m tells terms =
+    (given : Given M (Logger L S G)) × (left : Left M (Logger L S G)) × HasServedFrom m tells terms given left

@@ -1,5 +1,5 @@
 //! The connections of a worker, as a listener accepts them.
-ghost use Rattle.std.specs.Prelude.{◌≡◌, ◌+◌, IfOk, IfSome};
+ghost use Rattle.std.specs.Prelude.{◌≡◌, ◌+◌, None, IfOk, IfSome};
 ghost use Rattle.blobd.specs.Halves.{AreUnused};
 
 use crate::closing::Closing;
@@ -44,9 +44,9 @@ pub struct Accepted<'a, R> {
     demand: Demand,
     /// Whether the connection that is served was written to since it was read from.
     turn: Turn,
-    /// The connection that is served, or that waits for its halves. It is closed when the next one is asked for.
+    /// The connection that is served.
     stream: Option<TcpStream>,
-    /// Where it is closed then.
+    /// Where it is closed when its halves are given back.
     closing: Closing,
     /// Where notices go if there is a log.
     lines: Option<LogLines>,
@@ -127,13 +127,14 @@ impl<'a, R: Clock + Eprint + Wait> Accepted<'a, R> {
         Err(io::Error::from(ErrorKind::TimedOut))
     }
 
-    /// The halves of the next connection that can be served, which is kept. One that waits for its halves waits on
-    /// while the system lacks descriptors for them.
+    /// The halves of the next connection that can be served, which is kept. One for whose halves the system lacks
+    /// descriptors waits until there are some.
     fn accept(&mut self) -> io::Result<(Reader<'a, R>, Writer<'a, R>)>
         ensures { IfOk result (λ halves. AreUnused halves.0 halves.1) }
     {
+        let mut waiting: Option<TcpStream> = None;
         for _ in 0..u64::MAX {
-            let stream = match self.stream.take() {
+            let stream = match waiting.take() {
                 Some(stream) => stream,
                 None => self.next_stream()?,
             };
@@ -144,7 +145,7 @@ impl<'a, R: Clock + Eprint + Wait> Accepted<'a, R> {
                 }
                 Err(error) => {
                     if step_after(&error) == Step::Wait {
-                        self.stream = Some(stream);
+                        waiting = Some(stream);
                         self.wait(&error);
                     }
                 }
@@ -164,12 +165,12 @@ impl<'a, R: Clock + Eprint + Wait + Sync> Conns for Accepted<'a, R> {
     ghost gives = { λ old given new. IfSome given (λ halves.
         (new.left + 1 ≡ old.left) × AreUnused halves.0 halves.1) };
 
-    /// Closes the connection before, and waits for the next one. None where as many as were asked for are served, or
-    /// where one couldn't be taken, which is told on standard error.
+    // The connection isn't kept, and as many are left as before.
+    ghost takes_back = { λ old halves new. (new.stream ≡ None) × (new.left ≡ old.left) };
+
+    /// Waits for the next connection. None where as many as were asked for are served, or where one couldn't be taken,
+    /// which is told on standard error.
     fn next_conn(&mut self) -> Option<(Reader<'a, R>, Writer<'a, R>)> {
-        if let Some(stream) = self.stream.take() {
-            self.closing.close(self.rt, stream);
-        }
         let left = self.left.checked_sub(1)?;
         let accepted = self.accept();
         self.left = left;
@@ -179,6 +180,15 @@ impl<'a, R: Clock + Eprint + Wait + Sync> Conns for Accepted<'a, R> {
                 self.tell("takes no more connections", &error);
                 None
             }
+        }
+    }
+
+    /// Closes the connection that was served.
+    fn take_back(&mut self, source: Reader<'a, R>, sink: Writer<'a, R>) {
+        drop(source);
+        drop(sink);
+        if let Some(stream) = self.stream.take() {
+            self.closing.close(self.rt, stream);
         }
     }
 }

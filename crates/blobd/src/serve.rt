@@ -1,6 +1,6 @@
 //! `blobd serve`: a listener, and the workers that take connections from it.
 ghost use Rattle.std.specs.Prelude.{◌≡◌, ◌<◌, ◌≤◌, true, [], All, None, IfOk, OnOk, is_some, vec_len, vec_capacity};
-ghost use Rattle.upload_intake.specs.Working.{means};
+ghost use Rattle.upload_intake.specs.Working.{lending, means};
 ghost use Rattle.blobd.specs.LogTold.{log_state, new_log, no_head};
 ghost use Rattle.blobd.specs.Serving.{HasServed};
 ghost use Rattle.blobd.specs.Status.{ServingEnds};
@@ -219,11 +219,12 @@ where
     requires number { vec_len workers ≡ terms.workers }
     requires logs { All (λ worker. worker.observer ≡ new_log terms.logged) workers.items }
     ensures { IfOk result (λ done. done ≡ true → HasServed
-        (means ⟦<Accepted<'a, R> as Conns>⟧.gives ⟦<Reader<'a, R> as ByteSource>⟧.state
-        ⟦<Writer<'a, R> as ByteSink>⟧.state
+        (means
+        (lending ⟦<Accepted<'a, R> as Conns>⟧.gives ⟦<Accepted<'a, R> as Conns>⟧.takes_back
+        ⟦<Reader<'a, R> as ByteSource>⟧.state ⟦<Writer<'a, R> as ByteSink>⟧.state)
         ⟦<SystemSecrets as Secrets>⟧.draws ⟦<NoGate as Gate>⟧.watches
         ⟦<RequestLog<'a, R> as Observer>⟧.told)
-        ⟦<SinceStart<'a, R> as Moments>⟧.tells terms.workers terms.count terms.logged) }
+        ⟦<SinceStart<'a, R> as Moments>⟧.tells terms) }
 {
     let moments = SinceStart {
         rt,
@@ -253,11 +254,13 @@ where
     W: Write,
     requires { 0 < terms.workers }
     ensures { ServingEnds (HasServed
-        (means ⟦<Accepted<'a, R> as Conns>⟧.gives ⟦<Reader<'a, R> as ByteSource>⟧.state
-        ⟦<Writer<'a, R> as ByteSink>⟧.state
+        (means
+        (lending ⟦<Accepted<'a, R> as Conns>⟧.gives ⟦<Accepted<'a, R> as Conns>⟧.takes_back
+        ⟦<Reader<'a, R> as ByteSource>⟧.state
+        ⟦<Writer<'a, R> as ByteSink>⟧.state)
         ⟦<SystemSecrets as Secrets>⟧.draws ⟦<NoGate as Gate>⟧.watches
         ⟦<RequestLog<'a, R> as Observer>⟧.told)
-        ⟦<SinceStart<'a, R> as Moments>⟧.tells terms.workers terms.count terms.logged)
+        ⟦<SinceStart<'a, R> as Moments>⟧.tells terms)
         (W.contents out.old) (W.contents out.new) result }
 {
     let Ok(addr) = listener.local_addr() else {

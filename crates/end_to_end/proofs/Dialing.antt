@@ -5,7 +5,7 @@ use Rattle.std.specs.Prelude.{⊤, if◌then◌else◌}
 use Rattle.std.specs.List.{AllByRecursion}
 use Rattle.upload_service.specs.declared.ask.Ask.{Ask}
 use Rattle.upload_client.specs.TransportText.{WireState, AsksOverWire, stays_open}
-use Rattle.upload_intake.specs.Working.{Means}
+use Rattle.upload_intake.specs.Working.{Lending, Means}
 use Rattle.upload_push.specs.Dialed.{AsksDialed, Connects, kept_or}
 use Rattle.upload_push.specs.Slices.{Attempt, Leads}
 use Rattle.upload_push.proofs.Turns.{same_inside}
@@ -236,7 +236,7 @@ no_gets_of : (log : List Attempt) (xs : List TransportCall) → AllByRecursion (
 no_gets_of log [] all are = tt
 no_gets_of log (x ∷ xs) all are = (no_get_of log x.ask all are.0, no_gets_of log xs all are.1)
 
-pub are_carried : {C In Out S G O : Type 0} (m : Means C In Out S G O) → DialedConnectionsAreCarried m
+pub are_carried : {L : Lending} {S G O : Type 0} (m : Means L S G O) → DialedConnectionsAreCarried m
 are_carried m max_body host earlier log c made none t carries may = record {
   carries = carries;
   may = subst (λ h. AllByRecursion (λ x. MayBeAsked max_body x.ask h) (c.before ++ c.asks)) (sym made.host_is) may;

@@ -21,8 +21,8 @@ use Rattle.upload_intake.specs.Log.{Step}
 use Rattle.upload_intake.specs.Seats.{SeatState}
 use Rattle.upload_intake.specs.ServedPool.{of_seat, asked_and_answered, read_and_replied, asks}
 use Rattle.upload_intake.specs.Transcripts.{GivesUnused}
-use Rattle.upload_intake.specs.Working.{Means, Talk, Serves, steps, answered_on, unanswered_on, all_answered}
-use Rattle.upload_intake.specs.Working.{all_unanswered}
+use Rattle.upload_intake.specs.Working.{Lending, Means, Talk, Serves, IsLast, steps, answered_on, unanswered_on}
+use Rattle.upload_intake.specs.Working.{all_answered, all_unanswered}
 use Rattle.upload_intake.proofs.Working.{behind}
 use Rattle.upload_push.specs.Runs.{IsHeardOf}
 use Rattle.upload_push.specs.Slices.{Push, IsSound, IsSoundAsk}
@@ -276,50 +276,52 @@ module _ {D : Type 0} (step : Moves D) (max count : ℕ) (at new : D) (rest : Li
   all_heard (Fault (Conn.Wire fault)) e there = refl
   all_heard (Fault Conn.Write) e there = refl
 
-module _ {C In Out S G O : Type 0} (m : Means C In Out S G O) (max : ℕ) where
+module _ {L : Lending} {S G O : Type 0} (m : Means L S G O) (max : ℕ) where
   abbrev pub items_on : Talk m max → List Item
   items_on t = items (answered_on m max t) (unanswered_on m max t)
 
   -- but for the last conversation, each request was answered
-  pub items_are : (conns : C) (desk new : SeatState × S) (ts : List (Talk m max)) → Serves m max conns desk ts new
+  pub items_are : (conns left : L.Conns) (desk new : SeatState × S) (ts : List (Talk m max))
+      → Serves m max conns desk ts left new
       → flat_map items_on ts ≡ items (all_answered m max ts) (all_unanswered m max ts)
-  items_are conns desk new [] s = refl
-  items_are conns desk new (t ∷ ts) s =
+  items_are conns left desk new [] s = refl
+  items_are conns left desk new (t ∷ ts) s =
       let ans : List WireExchange = answered_on m max t in
       let una : List Ask = unanswered_on m max t in
       ⊎_elim
-      (λ (x : (t.end ≡ DeskGone) × ((ts ≡ []) × (new ≡ t.new))).
+      (λ (x : (t.end ≡ DeskGone) × IsLast m max s.1 t ts left new).
       subst (λ (us : List (Talk m max)). flat_map items_on (t ∷ us)
       ≡ items (all_answered m max (t ∷ us)) (all_unanswered m max (t ∷ us))) (sym x.1.0)
       (append-nil (items ans una) ∙ ap (λ l. items l una) (sym (append-nil ans))
       ∙ ap (λ l. items (ans ++ []) l) (sym (append-nil una))))
-      (λ (x : (t.end ≡ DeskGone → ⊥) × Serves m max s.0 t.new ts new).
+      (λ (x : (t.end ≡ DeskGone → ⊥) × Serves m max s.1 t.new ts left new).
       let none : una ≡ [] =
       all_heard (steps m max) max (length t.conversation.exchanges) t.conversation.at t.new t.conversation.rest
-      (m.reads t.reader_left) t.conversation.mid (m.writes t.writer_left) t.end t.conversation.ended x.0 in
+      (L.reads t.reader_left) t.conversation.mid (L.writes t.writer_left) t.end t.conversation.ended x.0 in
       ap (λ l. items ans l ++ flat_map items_on ts) none
       ∙ ap (λ l. l ++ flat_map items_on ts) (append-nil (map answered_item ans))
-      ∙ ap (λ l. map answered_item ans ++ l) (items_are s.0 t.new new ts x.1)
+      ∙ ap (λ l. map answered_item ans ++ l) (items_are s.1 left t.new new ts x.1)
       ∙ sym (append_assoc (map answered_item ans) (map answered_item (all_answered m max ts))
       (map unanswered_item (all_unanswered m max ts)))
       ∙ ap (λ l. l ++ map unanswered_item (all_unanswered m max ts))
       (sym (map-append answered_item ans (all_answered m max ts)))
       ∙ ap (λ l. items (ans ++ all_answered m max ts) (l ++ all_unanswered m max ts)) (sym none))
-      (behind t.end ((ts ≡ []) × (new ≡ t.new)) (Serves m max s.0 t.new ts new) s.3)
+      (behind t.end (IsLast m max s.1 t ts left new) (Serves m max s.1 t.new ts left new) s.5)
 
   -- on the connection nothing was read and nothing written when it was given
   abbrev pub IsUnused : Talk m max → Type 0
-  IsUnused t = ((m.reads t.reader).given ≡ []) × ((m.writes t.writer).taken ≡ [])
+  IsUnused t = ((L.reads t.reader).given ≡ []) × ((L.writes t.writer).taken ≡ [])
 
-  pub all_unused : GivesUnused m → (conns : C) (desk new : SeatState × S) (ts : List (Talk m max))
-      → Serves m max conns desk ts new → AllByRecursion IsUnused ts
-  all_unused unused conns desk new [] s = tt
-  all_unused unused conns desk new (t ∷ ts) s = (
-    unused conns s.0 t.reader t.writer s.1,
+  pub all_unused : GivesUnused L → (conns left : L.Conns) (desk new : SeatState × S) (ts : List (Talk m max))
+      → Serves m max conns desk ts left new → AllByRecursion IsUnused ts
+  all_unused unused conns left desk new [] s = tt
+  all_unused unused conns left desk new (t ∷ ts) s = (
+    unused conns s.0 t.reader t.writer s.2,
     ⊎_elim
-        (λ (x : (t.end ≡ DeskGone) × ((ts ≡ []) × (new ≡ t.new))). subst (AllByRecursion IsUnused) (sym x.1.0) tt)
-        (λ (x : (t.end ≡ DeskGone → ⊥) × Serves m max s.0 t.new ts new). all_unused unused s.0 t.new new ts x.1)
-        (behind t.end ((ts ≡ []) × (new ≡ t.new)) (Serves m max s.0 t.new ts new) s.3),
+        (λ (x : (t.end ≡ DeskGone) × IsLast m max s.1 t ts left new). subst (AllByRecursion IsUnused) (sym x.1.0) tt)
+        (λ (x : (t.end ≡ DeskGone → ⊥) × Serves m max s.1 t.new ts left new).
+        all_unused unused s.1 left t.new new ts x.1)
+        (behind t.end (IsLast m max s.1 t ts left new) (Serves m max s.1 t.new ts left new) s.5),
   )
 
   module _ (p : Push) (log : List push.Attempt) (sound : IsSound p log) where
@@ -332,8 +334,8 @@ module _ {C In Out S G O : Type 0} (m : Means C In Out S G O) (max : ℕ) where
         all_both (λ x. IsNoGet x.ask) c.before c.asks is.no_gets
         (no_gets p c.asks (own_asks p log c.asks sound is.own)) in
         joined_fit all (marks_asked c) (answered_on m max t) (unanswered_on m max t) (all_marked c.before c.asks)
-        (connections_joined (steps m max) max (m.reads t.reader) (m.reads t.reader_left) t.old t.new (m.writes t.writer)
-        (m.writes t.writer_left) t.end t.conversation all
+        (connections_joined (steps m max) max (L.reads t.reader) (L.reads t.reader_left) t.old t.new (L.writes t.writer)
+        (L.writes t.writer_left) t.end t.conversation all
         (record {
           given = new.0;
           taken = new.1;

@@ -14,8 +14,7 @@ use Rattle.upload_service.specs.Session.{received}
 use Rattle.upload_service.proofs.Keeping.Tables.{contains-insert}
 use Rattle.upload_intake.specs.Log.{Step, exchanges_of}
 use Rattle.upload_intake.specs.ServedPool.{Given, Left, HasPart, IsServedPool, asked_and_answered, of_seat}
-use Rattle.upload_intake.specs.Working.{Means, all_answered, all_unanswered}
-use Rattle.upload_intake.specs.declared.work.Worker.{Worker}
+use Rattle.upload_intake.specs.Working.{Lending, Means, Lent, all_answered, all_unanswered}
 use Rattle.upload_intake.specs.declared.work.WorkerEnd.{WorkerEnd}
 use Rattle.upload_client.specs.declared.heard.Heard.{Heard}
 use Rattle.upload_push.specs.Promise.{IsThere}
@@ -135,15 +134,15 @@ exchanges_are (m ∷ ms) = ap (λ l. m.0.exchange ∷ l) (exchanges_are ms)
 
 -- ---- the whole
 
-some_worker : {C S G O : Type 0} (ws : List (Worker C S G O)) (seat : ℕ) → seat < length ws → Worker C S G O
+some_worker : {W : Type 0} (ws : List W) (seat : ℕ) → seat < length ws → W
 some_worker [] seat within = absurd (omega (arith, within))
 some_worker (w ∷ ws) seat within = w
 
 none_yet : WorkerEnd
 none_yet = record { conns = 0; clean = 0 }
 
-module _ {C In Out S G O M : Type 0} (m : Means C In Out S G O) (tells : M → ℕ → M → Type 0) (given : Given M C S G O)
-    (left : Left M) (pool : IsServedPool m tells given left)
+module _ {L : Lending} {S G O M : Type 0} (m : Means L S G O) (tells : M → ℕ → M → Type 0)
+    (given : Given M (Lent L S G O)) (left : Left M (Lent L S G O)) (pool : IsServedPool m tells given left)
     (p : Push) (log : List push.Attempt) (sound : IsSound p log) (account : IsAccount m tells given left pool p log)
     (laws : Laws) (lawful : IsLawful given.service)
     (limits : AreLawful given.service.limits) where
@@ -163,8 +162,12 @@ module _ {C In Out S G O M : Type 0} (m : Means C In Out S G O) (tells : M → �
       → AllByRecursion Agrees (at_seat seat account.marked)
       × AllByRecursion (λ (n : Marked). IsOwnMark p n.1) (at_seat seat account.marked)
   seat_is seat within =
-      let worker : Worker C S G O = some_worker given.workers seat within in
-      let part : HasPart m max seat pool.steps (get_or given.workers seat worker, get_or left.ends seat none_yet) =
+      let worker : Lent L S G O = some_worker given.workers seat within in
+      let part : HasPart m max seat pool.steps (record {
+        lent = get_or given.workers seat worker;
+        back = get_or left.workers seat worker;
+        end = get_or left.ends seat none_yet;
+      }) =
       pool.parts seat worker none_yet within in
       let told = account.seats seat worker none_yet within in
       let ms : List Marked = at_seat seat account.marked in
@@ -174,7 +177,7 @@ module _ {C In Out S G O M : Type 0} (m : Means C In Out S G O) (tells : M → �
       part.carried.unheard in_order
       (all_kept (λ (x : Step). IsAnswered x.exchange.ask x.exchange.answer) (λ (x : Step). seat == x.seat)
       (steps_in account.marked) all_answered_steps) in
-      let unused = all_unused m max account.unused _ _ _ part.worked.talks part.worked.served in
+      let unused = all_unused m max account.unused _ _ _ _ part.worked.talks part.worked.served in
       let fit0 =
       all_fit m max p log sound told.whose told.each
       (subst (AllByRecursion (IsUnused m max)) (sym told.talks_are) unused)
@@ -184,7 +187,7 @@ module _ {C In Out S G O M : Type 0} (m : Means C In Out S G O) (tells : M → �
       told.talks_are fit0 in
       let fit2 =
       subst (λ is. AllFit is (flat_map (marks_of m max log) told.whose))
-      (items_are m max _ _ _ part.worked.talks part.worked.served) fit1 in
+      (items_are m max _ _ _ _ part.worked.talks part.worked.served) fit1 in
       let fit : AllFit (items (all_answered m max part.worked.talks) (all_unanswered m max part.worked.talks))
       (marks_in ms ++ told.unserved) =
       subst (λ ks. AllFit (items (all_answered m max part.worked.talks) (all_unanswered m max part.worked.talks)) ks)
@@ -214,8 +217,8 @@ module _ {C In Out S G O M : Type 0} (m : Means C In Out S G O) (tells : M → �
       placed p given.service log account.marked left.service run account.order agree (all_fair p account.marked own)
       account.apart account.secrets
 
-module _ {C In Out S G O M : Type 0} (m : Means C In Out S G O) (tells : M → ℕ → M → Type 0) (laws : Laws)
-    (given : Given M C S G O) (left : Left M) (pool : IsServedPool m tells given left)
+module _ {L : Lending} {S G O M : Type 0} (m : Means L S G O) (tells : M → ℕ → M → Type 0) (laws : Laws)
+    (given : Given M (Lent L S G O)) (left : Left M (Lent L S G O)) (pool : IsServedPool m tells given left)
     (p : Push) (told : List (Option Heard)) (lawful : IsLawful given.service) (limits : AreLawful given.service.limits)
     (lawful_push : IsLawfulPush p)
     (account : IsAccount m tells given left pool p (log_of p told)) where
@@ -316,7 +319,7 @@ module _ {C In Out S G O M : Type 0} (m : Means C In Out S G O) (tells : M → �
         there = there found.pair;
       }
 
-pub pushes_served : {C In Out S G O M : Type 0} (m : Means C In Out S G O) (tells : M → ℕ → M → Type 0) → Laws
+pub pushes_served : {L : Lending} {S G O M : Type 0} (m : Means L S G O) (tells : M → ℕ → M → Type 0) → Laws
     → PushesAreServed m tells
 pushes_served m tells laws = record {
   pushed =

@@ -3,7 +3,7 @@ use Rattle.std.specs.Prelude.{◌≡◌, ℕ, List, [], ◌∷◌, ◌++◌, Opt
 use Rattle.std.specs.List.{AllByRecursion}
 use Rattle.upload_service.specs.declared.ask.Ask.{Ask}
 use Rattle.upload_client.specs.TransportText.{WireState}
-use Rattle.upload_intake.specs.Working.{Means, Talk}
+use Rattle.upload_intake.specs.Working.{Lending, Means, Talk}
 use Rattle.upload_push.specs.Dialed.{AsksDialed}
 use Rattle.upload_push.specs.Slices.{Attempt, Leads}
 use Rattle.wire_laws.specs.Joined.{TransportCall, Transmits, IsNoGet}
@@ -56,9 +56,9 @@ DialedPushesHaveConnections =
 
 -- If the network made such a connection one of a worker's, and each request on it may be asked, it is one of which the
 -- law from end to end speaks. What was asked before the push gets no blob's bytes.
-abbrev pub DialedConnectionsAreCarried : {C In Out S G O : Type 0} → Means C In Out S G O → Type 0
-DialedConnectionsAreCarried m =
+abbrev pub DialedConnectionsAreCarried : {L : Lending} {S G O : Type 0} → Means L S G O → Type 0
+DialedConnectionsAreCarried {L} m =
     (max_body : ℕ) (host : List ℕ) (earlier log : List Attempt) (c : Connection) → IsMadeFor host earlier log c
     → AllByRecursion (λ (e : Attempt). IsNoGet e.ask) earlier
-    → (t : Talk m max_body) → Transmits c.left (m.reads t.reader_left) (m.writes t.writer_left)
+    → (t : Talk m max_body) → Transmits c.left (L.reads t.reader_left) (L.writes t.writer_left)
     → AllByRecursion (λ x. MayBeAsked max_body x.ask host) (c.before ++ c.asks) → IsCarried m max_body log t c

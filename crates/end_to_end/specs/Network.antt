@@ -14,8 +14,7 @@ use Rattle.upload_client.specs.declared.heard.Heard.{Heard}
 use Rattle.upload_intake.specs.Log.{Step, exchanges_of}
 use Rattle.upload_intake.specs.ServedPool.{Given, Left, IsServedPool}
 use Rattle.upload_intake.specs.Transcripts.{GivesUnused}
-use Rattle.upload_intake.specs.Working.{Means, Talk, answered_on, unanswered_on}
-use Rattle.upload_intake.specs.declared.work.Worker.{Worker}
+use Rattle.upload_intake.specs.Working.{Lending, Means, Lent, Talk, answered_on, unanswered_on}
 use Rattle.upload_intake.specs.declared.work.WorkerEnd.{WorkerEnd}
 use Rattle.upload_push.specs.Promise.{IsStored, IsThere}
 use Rattle.upload_push.specs.Slices.{Push}
@@ -64,11 +63,11 @@ pub record IsAskOf (log : List push.Attempt) (ask : Ask) : Type 0 where
 abbrev pub at_seat : ℕ → List Marked → List Marked
 at_seat seat ms = filter (λ (m : Marked). seat == m.0.seat) ms
 
-module _ {C In Out S G O : Type 0} (m : Means C In Out S G O) (max_body : ℕ) (log : List push.Attempt) where
+module _ {L : Lending} {S G O : Type 0} (m : Means L S G O) (max_body : ℕ) (log : List push.Attempt) where
   -- The connection of the push is this one of a worker: what either end read is a prefix of what the other wrote. It
   -- carried requests of the push, and before them some that get no blob's bytes. Each of them may be asked.
   pub record IsCarried (t : Talk m max_body) (c : Connection) : Type 0 where
-    pub carries : Transmits c.left (m.reads t.reader_left) (m.writes t.writer_left)
+    pub carries : Transmits c.left (L.reads t.reader_left) (L.writes t.writer_left)
     pub may : AllByRecursion (λ x. MayBeAsked max_body x.ask c.made.host) (c.before ++ c.asks)
     pub own : AllByRecursion (λ x. IsAskOf log x.ask) c.asks
     pub no_gets : AllByRecursion (λ x. IsNoGet x.ask) c.before
@@ -94,19 +93,19 @@ module _ {C In Out S G O : Type 0} (m : Means C In Out S G O) (max_body : ℕ) (
     pub unserved : List Mark
     pub marks : flat_map marks_of whose ≡ map (λ (n : Marked). n.1) ms ++ unserved
 
-module _ {C In Out S G O M : Type 0} (m : Means C In Out S G O) (tells : M → ℕ → M → Type 0) (given : Given M C S G O)
-    (left : Left M) (pool : IsServedPool m tells given left)
+module _ {L : Lending} {S G O M : Type 0} (m : Means L S G O) (tells : M → ℕ → M → Type 0)
+    (given : Given M (Lent L S G O)) (left : Left M (Lent L S G O)) (pool : IsServedPool m tells given left)
     (p : Push) (log : List push.Attempt) where
   -- An account of the network between a push and a pool: whose request each step served.
   pub record IsAccount : Type 0 where
     pub marked : List Marked
     pub all : steps_in marked ≡ pool.steps
     -- workers are given connections on which nothing was read and nothing written
-    pub unused : GivesUnused m
+    pub unused : GivesUnused L
     -- as their types have it, a secret has twelve bytes, and the size of a blob is a u64
     pub secrets : AllByRecursion HasSecret marked
     pub sizes : AllByRecursion (λ (n : Marked). HasSize n.0.exchange.answer) marked
-    pub seats : (seat : ℕ) (worker : Worker C S G O) (end : WorkerEnd) (within : seat < length given.workers)
+    pub seats : (seat : ℕ) (worker : Lent L S G O) (end : WorkerEnd) (within : seat < length given.workers)
         → IsMarkedBy m given.service.limits.max_body log (pool.parts seat worker end within).worked.talks
         (at_seat seat marked)
     -- what the push heard was served in the order in which it asked
@@ -146,13 +145,15 @@ pub record IsFoundThere (p : Push) (start : State) (steps : List Step) (end : St
 -- connections to them. Then in the one order in which the pool served all requests, if the push ended Pushed, the step
 -- of its close committed what its upload had received, which is exactly the file, under its digest and its name; and if
 -- it ended Already, the repository had the digest at some step.
-pub record PushesAreServed {C In Out S G O M : Type 0} (m : Means C In Out S G O)
+pub record PushesAreServed {L : Lending} {S G O M : Type 0} (m : Means L S G O)
     (tells : M → ℕ → M → Type 0) : Type 0 where
-  pub pushed : (given : Given M C S G O) (left : Left M) (pool : IsServedPool m tells given left) (p : Push)
+  pub pushed : (given : Given M (Lent L S G O)) (left : Left M (Lent L S G O))
+      (pool : IsServedPool m tells given left) (p : Push)
       (told : List (Option Heard)) → IsLawful given.service → AreLawful given.service.limits → push.IsLawfulPush p
       → (push.after_all p told).phase ≡ Done Pushed → IsAccount m tells given left pool p (push.log_of p told)
       → IsLeftThere p given.service pool.steps left.service
-  pub already : (given : Given M C S G O) (left : Left M) (pool : IsServedPool m tells given left) (p : Push)
+  pub already : (given : Given M (Lent L S G O)) (left : Left M (Lent L S G O))
+      (pool : IsServedPool m tells given left) (p : Push)
       (told : List (Option Heard)) → IsLawful given.service → AreLawful given.service.limits → push.IsLawfulPush p
       → (push.after_all p told).phase ≡ Done Already → IsAccount m tells given left pool p (push.log_of p told)
       → IsFoundThere p given.service pool.steps left.service

@@ -1,7 +1,7 @@
 //! The laws, as functions that do nothing and whose contracts are the laws.
 ghost use Rattle.end_to_end.specs.Dialing.{DialedConnectionsAreCarried, DialedPushesHaveConnections};
 ghost use Rattle.end_to_end.specs.Network.{PushesAreServed};
-ghost use Rattle.upload_intake.specs.Working.{means};
+ghost use Rattle.upload_intake.specs.Working.{lending, means};
 
 use upload_client::written_places_are_read;
 use upload_intake::{Conns, Gate, Moments, Secrets};
@@ -21,7 +21,8 @@ use upload_wire::Observer;
 /// the push heard was served in the order in which it asked; and that no other client's request carried the reference
 /// that the push had heard by then.
 pub fn pushes_are_served<M: Moments, C: Conns, S: Secrets, G: Gate, O: Observer>()
-    ensures { PushesAreServed (means C.gives C.In.state C.Out.state S.draws G.watches O.told)
+    ensures { PushesAreServed
+        (means (lending C.gives C.takes_back C.In.state C.Out.state) S.draws G.watches O.told)
         M.tells }
 {
     headline_holds();
@@ -40,5 +41,5 @@ pub fn pushes_are_served<M: Moments, C: Conns, S: Secrets, G: Gate, O: Observer>
 pub fn dialed_pushes_have_connections<C: Conns, S: Secrets, G: Gate, O: Observer>()
     ensures connections { DialedPushesHaveConnections }
     ensures carried { DialedConnectionsAreCarried
-        (means C.gives C.In.state C.Out.state S.draws G.watches O.told) }
+        (means (lending C.gives C.takes_back C.In.state C.Out.state) S.draws G.watches O.told) }
 {}

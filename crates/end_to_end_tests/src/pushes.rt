@@ -162,7 +162,7 @@ fn served_at_once<'n, R>(
     right: Dialer<'n, R>,
 ) -> (
     (Option<Ended>, Option<Ended>),
-    Result<Pool<Still>, ServeFault>,
+    Result<Pool<Still, PoolWorker<'n, R>>, ServeFault>,
 )
 where
     R: Threads + Wait + Sync,
@@ -183,7 +183,7 @@ where
                 { looked_and_pushed(alloc, right, NAMES[1]) },
             )
         },
-        move || -> Result<Pool<Still>, ServeFault>
+        move || -> Result<Pool<Still, PoolWorker<'n, R>>, ServeFault>
             requires { IsSync R.row × (0 < vec_len workers) }
         { serve_workers(rt, alloc, Service::new(alloc, LIMITS), workers, Still) },
     )
@@ -210,14 +210,15 @@ where
     let left = Dialer::new(rt, alloc, &network, listener.clone()?, 0, courses);
     let right = Dialer::new(rt, alloc, &network, listener, 1, Vec::new(alloc));
     let ((left, right), pool) = served_at_once(rt, alloc, workers, left, right);
-    let pool = pool?;
+    // The workers are done with the network.
+    let Pool { service, .. } = pool?;
     drop(hall);
     Ok(Recorded {
         left: left.ok_or("no memory for the left push")?,
         right: right.ok_or("no memory for the right push")?,
         records: network.into_records(),
         served: log.into_served(),
-        service: pool.service,
+        service,
     })
 }
 

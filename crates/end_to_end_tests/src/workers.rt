@@ -89,11 +89,15 @@ impl<'n, R: Wait + Sync> Conns for Incoming<'n, R> {
         (conn.0.given.bytes ≡ []) × (conn.0.reads ≡ 0) × (conn.1.taken.bytes ≡ [])
         × (conn.1.writes ≡ 0)) };
 
+    ghost takes_back = { λ old conn new. new ≡ old };
+
     fn next_conn(&mut self) -> Option<(Source<'n, R>, Sink<'n, R>)> {
         let arrival = self.arrivals.recv(self.rt).ok()?;
         self.serving.store(arrival.number as u64, Ordering::SeqCst);
         Some(accepted(self.rt, self.network, arrival))
     }
+
+    fn take_back(&mut self, _source: Source<'n, R>, _sink: Sink<'n, R>) {}
 }
 
 /// Notes each request of a worker.

@@ -119,6 +119,8 @@ impl Conns for Texts {
         (conn.0.given.bytes ≡ []) × (conn.0.reads ≡ 0) × (conn.1.taken.bytes ≡ [])
         × (conn.1.writes ≡ 0)) };
 
+    ghost takes_back = { λ old conn new. new ≡ old };
+
     fn next_conn(&mut self) -> Option<(Text, Nowhere)> {
         let text = self.texts.next()?;
         let source = Text {
@@ -128,6 +130,8 @@ impl Conns for Texts {
         };
         Some((source, Nowhere::new()))
     }
+
+    fn take_back(&mut self, _source: Text, _sink: Nowhere) {}
 }
 
 /// Raises a flag before the first request, waits for two, and raises one after the first answer.
@@ -272,13 +276,15 @@ fn texts_of_both(
     Ok((left, right))
 }
 
+type MeetingWorker<'a> = Worker<Texts, ZeroSecrets, Meeting<'a>, NoObserver>;
+
 /// Serves the connections of a left and a right worker who meet at these gates.
 fn meet<'a, R: Threads + Wait + Sync>(
     rt: &R,
     alloc: Global,
     texts: (Texts, Texts),
     gates: (Meeting<'a>, Meeting<'a>),
-) -> Result<Pair<Still>, ServeFault> {
+) -> Result<Pair<Still, MeetingWorker<'a>>, ServeFault> {
     let left = Worker {
         conns: texts.0,
         secrets: ZeroSecrets,

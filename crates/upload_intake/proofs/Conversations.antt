@@ -9,7 +9,7 @@ use Rattle.upload_intake.specs.Seats.{SeatState, Asks, IsSameSeat}
 use Rattle.upload_intake.specs.SeatMoves.{AsksWithDrawn}
 use Rattle.upload_intake.specs.Desks.{seat_of, secrets_of}
 use Rattle.upload_intake.specs.Notices.{Watching}
-use Rattle.upload_intake.specs.Watched.{WatchesOne}
+use Rattle.upload_intake.specs.Watched.{GateAt, WatchesOne}
 use Rattle.upload_intake.specs.declared.work.GatedDesk.{GatedDesk}
 use Rattle.upload_wire.specs.declared.connection.ConnEnd.{ConnEnd}
 use Rattle.upload_wire.specs.declared.connection.ConnEnd.TheVariants.{Clean, AfterClose, AfterBad, TooMany, DeskGone}
@@ -55,11 +55,10 @@ asks_same old ask secret (Err (NotSent back)) new a =
 asks_same old ask secret (Err NoAnswer) new a =
     record { jobs = ap (λ s. s.jobs) a.1; replies = ap (λ s. s.replies) a.1; seat = ap (λ s. s.seat) a.1 }
 
-pub drawn_same : {S : Type 0} (draws : S → List ℕ → S → Type 0) (old : SeatState) (secrets : S) (ask : Ask)
-    (answer : Option Answer) (new : SeatState) (left : S) → AsksWithDrawn draws old secrets ask answer new left
-    → IsSameSeat old new
-drawn_same draws old secrets ask (Some answer) new left a = asks_same old ask a.0 (Ok answer) new a.2
-drawn_same draws old secrets ask None new left a = asks_same old ask a.0 (Err a.1) new a.3
+pub drawn_same : {S : Type 0} (draws : S → List ℕ → S → Type 0) (old : SeatState × S) (ask : Ask)
+    (answer : Option Answer) (new : SeatState × S) → AsksWithDrawn draws old ask answer new → IsSameSeat old.0 new.0
+drawn_same draws old ask (Some answer) new a = asks_same old.0 ask a.0 (Ok answer) new.0 a.2
+drawn_same draws old ask None new a = asks_same old.0 ask a.0 (Err a.1) new.0 a.3
 
 pub same_seat : (seat : SeatState) → IsSameSeat seat seat
 same_seat seat = record { jobs = refl; replies = refl; seat = refl }
@@ -67,11 +66,15 @@ same_seat seat = record { jobs = refl; replies = refl; seat = refl }
 pub same_seat_twice : (a b c : SeatState) → IsSameSeat a b → IsSameSeat b c → IsSameSeat a c
 same_seat_twice a b c p q = record { jobs = q.jobs ∙ p.jobs; replies = q.replies ∙ p.replies; seat = q.seat ∙ p.seat }
 
+-- the gate of a worker's desk, behind so many turns
+abbrev pub gate_at : {R S G : Type 0} → GatedDesk R S G → GateAt G
+gate_at d = record { gate = d.gate; turn = d.turn }
+
 -- how a worker's desk moves
 abbrev pub GatedSteps : {R S G : Type 0} → (S → List ℕ → S → Type 0) → Watching G → Moves (GatedDesk R S G)
 GatedSteps draws watches a ask answer b =
-    AsksWithDrawn draws (seat_of a.desk) (secrets_of a.desk) ask answer (seat_of b.desk) (secrets_of b.desk)
-    × WatchesOne watches a.gate a.turn ask answer b.gate b.turn
+    AsksWithDrawn draws (seat_of a.desk, secrets_of a.desk) ask answer (seat_of b.desk, secrets_of b.desk)
+    × WatchesOne watches (gate_at a) ask answer (gate_at b)
 
 -- it has the same seat behind a conversation
 pub gated_same : {R S G : Type 0} (draws : S → List ℕ → S → Type 0) (watches : Watching G) (max_body : ℕ)
@@ -83,6 +86,6 @@ gated_same {R} {S} {G} draws watches max_body first left old new before after en
     (λ a b. IsSameSeat (seat_of a.desk) (seat_of b.desk))
     (λ d. same_seat (seat_of d.desk))
     (λ x y z p q. same_seat_twice (seat_of x.desk) (seat_of y.desk) (seat_of z.desk) p q)
-    (λ a ask answer b m. drawn_same draws (seat_of a.desk) (secrets_of a.desk) ask answer (seat_of b.desk)
-    (secrets_of b.desk) m.0)
+    (λ a ask answer b m. drawn_same draws (seat_of a.desk, secrets_of a.desk) ask answer
+    (seat_of b.desk, secrets_of b.desk) m.0)
     max_body first left old new before after end c

@@ -3,7 +3,7 @@ use Rattle.std.proofs.Common.{◌≡◌, ℕ, List, [], ◌∷◌, ◌++◌, sym
 use Rattle.std.specs.Prelude.{Some}
 use Rattle.std.specs.List.{AllByRecursion}
 use Rattle.upload_intake.specs.Seats.{SeatState}
-use Rattle.upload_intake.specs.Working.{Means, Talk, Serves, steps}
+use Rattle.upload_intake.specs.Working.{Lending, Means, Talk, Serves, IsLast, steps}
 use Rattle.upload_intake.specs.Transcripts.{GivesUnused, TellsAll, TranscriptsTellConnections}
 use Rattle.upload_intake.proofs.Working.{behind}
 use Rattle.upload_wire.specs.declared.connection.ConnEnd.TheVariants.{DeskGone}
@@ -12,27 +12,29 @@ use Rattle.upload_wire.proofs.TranscriptLemmas.{conversations_told}
 whole_of : (had more all : List ℕ) → all ≡ had ++ more → had ≡ [] → all ≡ more
 whole_of had more all e none = e ∙ ap (λ t. t ++ more) none
 
-module _ {C In Out S G O : Type 0} (m : Means C In Out S G O) (max_body : ℕ) (unused : GivesUnused m) where
-  one_told : (conns mid : C) (t : Talk m max_body) → m.gives conns (Some (t.reader, t.writer)) mid
+module _ {L : Lending} {S G O : Type 0} (m : Means L S G O) (max_body : ℕ) (unused : GivesUnused L) where
+  one_told : (conns mid : L.Conns) (t : Talk m max_body) → L.gives conns (Some (t.reader, t.writer)) mid
       → TellsAll m max_body t
   one_told conns mid t given =
       let whole =
-      conversations_told (steps m max_body) max_body (m.reads t.reader) (m.reads t.reader_left) t.old t.new
-      (m.writes t.writer) (m.writes t.writer_left) t.end t.conversation in
+      conversations_told (steps m max_body) max_body (L.reads t.reader) (L.reads t.reader_left) t.old t.new
+      (L.writes t.writer) (L.writes t.writer_left) t.end t.conversation in
       let empty = unused conns mid t.reader t.writer given in
       record { read = whole_of _ _ _ whole.read empty.0; written = whole_of _ _ _ whole.written empty.1 }
 
-  all_told : (conns : C) (desk new : SeatState × S) (ts : List (Talk m max_body)) → Serves m max_body conns desk ts new
-      → AllByRecursion (TellsAll m max_body) ts
-  all_told conns desk new [] s = tt
-  all_told conns desk new (t ∷ ts) s = (
-    one_told conns s.0 t s.1,
+  all_told : (conns left : L.Conns) (desk new : SeatState × S) (ts : List (Talk m max_body))
+      → Serves m max_body conns desk ts left new → AllByRecursion (TellsAll m max_body) ts
+  all_told conns left desk new [] s = tt
+  all_told conns left desk new (t ∷ ts) s = (
+    one_told conns s.0 t s.2,
     ⊎_elim
-        (λ (x : (t.end ≡ DeskGone) × ((ts ≡ []) × (new ≡ t.new))).
+        (λ (x : (t.end ≡ DeskGone) × IsLast m max_body s.1 t ts left new).
         subst (AllByRecursion (TellsAll m max_body)) (sym x.1.0) tt)
-        (λ (x : (t.end ≡ DeskGone → ⊥) × Serves m max_body s.0 t.new ts new). all_told s.0 t.new new ts x.1)
-        (behind t.end ((ts ≡ []) × (new ≡ t.new)) (Serves m max_body s.0 t.new ts new) s.3),
+        (λ (x : (t.end ≡ DeskGone → ⊥) × Serves m max_body s.1 t.new ts left new).
+        all_told s.1 left t.new new ts x.1)
+        (behind t.end (IsLast m max_body s.1 t ts left new) (Serves m max_body s.1 t.new ts left new) s.5),
   )
 
-pub connections_told : {C In Out S G O : Type 0} (m : Means C In Out S G O) → TranscriptsTellConnections m
-connections_told m = λ unused max_body conns desk new talks s. all_told m max_body unused conns desk new talks s
+pub connections_told : {L : Lending} {S G O : Type 0} (m : Means L S G O) → TranscriptsTellConnections m
+connections_told m =
+    λ unused max_body conns left desk new talks s. all_told m max_body unused conns left desk new talks s

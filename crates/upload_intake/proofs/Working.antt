@@ -6,15 +6,17 @@ use Rattle.std.proofs.lemmas.List.Elements.{filter-append}
 use Rattle.upload_service.specs.declared.ask.Ask.{Ask}
 use Rattle.upload_service.specs.declared.answer.Answer.{Answer}
 use Rattle.upload_intake.specs.Seats.{SeatState}
-use Rattle.upload_intake.specs.Watched.{WatchesEach, WatchesLast}
+use Rattle.upload_intake.specs.Watched.{GateAt, WatchesEach, WatchesLast}
 use Rattle.upload_intake.specs.Desks.{seat_of, secrets_of}
 use Rattle.upload_intake.specs.declared.work.GatedDesk.{GatedDesk}
+use Rattle.upload_intake.specs.declared.work.WorkerEnd.{WorkerEnd}
 use Rattle.upload_intake.specs.Settled.{count_limit}
 use Rattle.upload_intake.specs.SeatConversations.{Adds}
-use Rattle.upload_intake.specs.Working.{Means, Behind, is_clean, is_gone, Serves, Talk, steps, answered_on}
-use Rattle.upload_intake.specs.Working.{unanswered_on, all_answered, all_unanswered, count_clean, TellsTalk, TellsTalks}
+use Rattle.upload_intake.specs.Working.{Lending, Means, Lent, Behind, is_clean, is_gone, Serves, IsLast, Talk, steps}
+use Rattle.upload_intake.specs.Working.{answered_on, unanswered_on, all_answered, all_unanswered, count_clean}
+use Rattle.upload_intake.specs.Working.{TellsTalk, TellsTalks}
 use Rattle.upload_intake.specs.Working.{IsWorked}
-use Rattle.upload_intake.proofs.Conversations.{GatedSteps}
+use Rattle.upload_intake.proofs.Conversations.{GatedSteps, gate_at}
 use Rattle.upload_intake.proofs.SeatConversations.{adds_none, adds_twice, fills}
 use Rattle.upload_intake.proofs.Watching.{each_twice, watched_on, watched_lost}
 use Rattle.http_wire.specs.States.{SourceState, SinkState}
@@ -216,87 +218,104 @@ module _ {D : Type 0} (step : Moves D) (max_body count : ℕ) (at new : D) (rest
 
 -- ---- the history
 
-module _ {C In Out S G O : Type 0} (m : Means C In Out S G O) (max_body : ℕ) where
+module _ {L : Lending} {S G O : Type 0} (m : Means L S G O) (max_body : ℕ) where
   -- what a worker has served where it goes on
-  abbrev pub SoFar : C → SeatState × S → List (Talk m max_body) → C → SeatState × S → Type 0
+  abbrev pub SoFar : L.Conns → SeatState × S → List (Talk m max_body) → L.Conns → SeatState × S → Type 0
   SoFar conns desk [] conns' desk' = (conns' ≡ conns) × (desk' ≡ desk)
   SoFar conns desk (t ∷ ts) conns' desk' =
-      (mid : C) × m.gives conns (Some (t.reader, t.writer)) mid × (t.old ≡ desk) × (t.end ≡ DeskGone → ⊥)
-      × SoFar mid t.new ts conns' desk'
+      (mid : L.Conns) × (back : L.Conns) × L.gives conns (Some (t.reader, t.writer)) mid
+      × L.takes_back mid (t.reader_left, t.writer_left) back × (t.old ≡ desk) × (t.end ≡ DeskGone → ⊥)
+      × SoFar back t.new ts conns' desk'
 
-  one_more : (conns : C) (desk : SeatState × S) (ts : List (Talk m max_body)) (conns' : C) (desk' : SeatState × S)
-      → SoFar conns desk ts conns' desk' → (t : Talk m max_body) (mid : C)
-      → m.gives conns' (Some (t.reader, t.writer)) mid → t.old ≡ desk' → (t.end ≡ DeskGone → ⊥)
-      → SoFar conns desk (ts ++ t ∷ []) mid t.new
-  one_more conns desk [] conns' desk' so t mid given stands there =
-      (mid, subst (λ c. m.gives c (Some (t.reader, t.writer)) mid) so.0 given, stands ∙ so.1, there, (refl, refl))
-  one_more conns desk (u ∷ us) conns' desk' so t mid given stands there =
-      (so.0, so.1, so.2, so.3, one_more so.0 u.new us conns' desk' so.4 t mid given stands there)
+  -- it was given a connection and gave it back
+  abbrev pub Passes : L.Conns → Talk m max_body → L.Conns → Type 0
+  Passes conns t back =
+      (mid : L.Conns) × L.gives conns (Some (t.reader, t.writer)) mid
+      × L.takes_back mid (t.reader_left, t.writer_left) back
 
-  none_came : (conns : C) (desk : SeatState × S) (ts : List (Talk m max_body)) (conns' : C) (desk' : SeatState × S)
-      → SoFar conns desk ts conns' desk' → (left : C) → m.gives conns' None left → Serves m max_body conns desk ts desk'
-  none_came conns desk [] conns' desk' so left given = (left, subst (λ c. m.gives c None left) so.0 given, so.1)
+  one_more : (conns : L.Conns) (desk : SeatState × S) (ts : List (Talk m max_body)) (conns' : L.Conns)
+      (desk' : SeatState × S) → SoFar conns desk ts conns' desk' → (t : Talk m max_body) (back : L.Conns)
+      → Passes conns' t back → t.old ≡ desk' → (t.end ≡ DeskGone → ⊥) → SoFar conns desk (ts ++ t ∷ []) back t.new
+  one_more conns desk [] conns' desk' so t back passed stands there =
+      let p : Passes conns t back = subst (λ c. Passes c t back) so.0 passed in
+      (p.0, back, p.1, p.2, stands ∙ so.1, there, (refl, refl))
+  one_more conns desk (u ∷ us) conns' desk' so t back passed stands there =
+      (so.0, so.1, so.2, so.3, so.4, so.5, one_more so.1 u.new us conns' desk' so.6 t back passed stands there)
+
+  none_came : (conns : L.Conns) (desk : SeatState × S) (ts : List (Talk m max_body)) (conns' : L.Conns)
+      (desk' : SeatState × S) → SoFar conns desk ts conns' desk' → (left : L.Conns) → L.gives conns' None left
+      → Serves m max_body conns desk ts left desk'
+  none_came conns desk [] conns' desk' so left given = (subst (λ c. L.gives c None left) so.0 given, so.1)
   none_came conns desk (u ∷ us) conns' desk' so left given = (
     so.0,
     so.1,
     so.2,
-    goes_on u.end ((us ≡ []) × (desk' ≡ u.new)) (Serves m max_body so.0 u.new us desk') so.3
-        (none_came so.0 u.new us conns' desk' so.4 left given),
+    so.3,
+    so.4,
+    goes_on u.end (IsLast m max_body so.1 u us left desk') (Serves m max_body so.1 u.new us left desk') so.5
+        (none_came so.1 u.new us conns' desk' so.6 left given),
   )
 
-  gone_at : (conns : C) (desk : SeatState × S) (ts : List (Talk m max_body)) (conns' : C) (desk' : SeatState × S)
-      → SoFar conns desk ts conns' desk' → (t : Talk m max_body) (mid : C)
-      → m.gives conns' (Some (t.reader, t.writer)) mid → t.old ≡ desk' → t.end ≡ DeskGone
-      → Serves m max_body conns desk (ts ++ t ∷ []) t.new
-  gone_at conns desk [] conns' desk' so t mid given stands gone = (
-    mid,
-    subst (λ c. m.gives c (Some (t.reader, t.writer)) mid) so.0 given,
-    stands ∙ so.1,
-    is_over t.end (([] ≡ []) × (t.new ≡ t.new)) (Serves m max_body mid t.new [] t.new) gone (refl, refl),
-  )
-  gone_at conns desk (u ∷ us) conns' desk' so t mid given stands gone = (
+  gone_at : (conns : L.Conns) (desk : SeatState × S) (ts : List (Talk m max_body)) (conns' : L.Conns)
+      (desk' : SeatState × S) → SoFar conns desk ts conns' desk' → (t : Talk m max_body) (back : L.Conns)
+      → Passes conns' t back → t.old ≡ desk' → t.end ≡ DeskGone
+      → Serves m max_body conns desk (ts ++ t ∷ []) back t.new
+  gone_at conns desk [] conns' desk' so t back passed stands gone =
+      let p : Passes conns t back = subst (λ c. Passes c t back) so.0 passed in (
+        p.0,
+        back,
+        p.1,
+        p.2,
+        stands ∙ so.1,
+        is_over t.end (IsLast m max_body back t [] back t.new) (Serves m max_body back t.new [] back t.new) gone
+            (refl, refl, refl),
+      )
+  gone_at conns desk (u ∷ us) conns' desk' so t back passed stands gone = (
     so.0,
     so.1,
     so.2,
-    goes_on u.end ((us ++ t ∷ [] ≡ []) × (t.new ≡ u.new)) (Serves m max_body so.0 u.new (us ++ t ∷ []) t.new) so.3
-        (gone_at so.0 u.new us conns' desk' so.4 t mid given stands gone),
+    so.3,
+    so.4,
+    goes_on u.end (IsLast m max_body so.1 u (us ++ t ∷ []) back t.new)
+        (Serves m max_body so.1 u.new (us ++ t ∷ []) back t.new) so.5
+        (gone_at so.1 u.new us conns' desk' so.6 t back passed stands gone),
   )
 
   -- all that was asked and answered was added to the seat
   fills_by : (t : Talk m max_body) → Adds t.old.0 t.new.0 (answered_on m max_body t) (unanswered_on m max_body t)
   fills_by t =
-      fills {D = SeatState × S} {S = S} m.draws (λ d. d.0) (λ d. d.1) max_body (m.reads t.reader)
-      (m.reads t.reader_left) t.old t.new (m.writes t.writer) (m.writes t.writer_left) t.end t.conversation
+      fills {D = SeatState × S} {S = S} m.draws (λ d. d.0) (λ d. d.1) max_body (L.reads t.reader)
+      (L.reads t.reader_left) t.old t.new (L.writes t.writer) (L.writes t.writer_left) t.end t.conversation
 
-  pub adds_all : (conns : C) (desk : SeatState × S) (ts : List (Talk m max_body)) (new : SeatState × S)
-      → Serves m max_body conns desk ts new
+  pub adds_all : (conns left : L.Conns) (desk : SeatState × S) (ts : List (Talk m max_body)) (new : SeatState × S)
+      → Serves m max_body conns desk ts left new
       → Adds desk.0 new.0 (all_answered m max_body ts) (all_unanswered m max_body ts)
-  adds_all conns desk [] new s = adds_none desk.0 new.0 (ap (λ d. d.0) s.2)
-  adds_all conns desk (t ∷ ts) new s =
+  adds_all conns left desk [] new s = adds_none desk.0 new.0 (ap (λ d. d.0) s.1)
+  adds_all conns left desk (t ∷ ts) new s =
       let first : Adds desk.0 t.new.0 (answered_on m max_body t) (unanswered_on m max_body t) =
-      subst (λ d. Adds d.0 t.new.0 (answered_on m max_body t) (unanswered_on m max_body t)) s.2 (fills_by t) in
+      subst (λ d. Adds d.0 t.new.0 (answered_on m max_body t) (unanswered_on m max_body t)) s.4 (fills_by t) in
       ⊎_elim
-      (λ (x : (t.end ≡ DeskGone) × ((ts ≡ []) × (new ≡ t.new))).
+      (λ (x : (t.end ≡ DeskGone) × IsLast m max_body s.1 t ts left new).
       subst (λ (us : List (Talk m max_body)).
       Adds desk.0 new.0 (all_answered m max_body (t ∷ us)) (all_unanswered m max_body (t ∷ us))) (sym x.1.0)
       (subst (λ (d : SeatState × S).
-      Adds desk.0 d.0 (answered_on m max_body t ++ []) (unanswered_on m max_body t ++ [])) (sym x.1.1)
+      Adds desk.0 d.0 (answered_on m max_body t ++ []) (unanswered_on m max_body t ++ [])) (sym x.1.2)
       (subst (λ (l : List WireExchange). Adds desk.0 t.new.0 l (unanswered_on m max_body t ++ []))
       (sym (append-nil (answered_on m max_body t)))
       (subst (λ (l : List Ask). Adds desk.0 t.new.0 (answered_on m max_body t) l)
       (sym (append-nil (unanswered_on m max_body t))) first))))
-      (λ (x : (t.end ≡ DeskGone → ⊥) × Serves m max_body s.0 t.new ts new).
+      (λ (x : (t.end ≡ DeskGone → ⊥) × Serves m max_body s.1 t.new ts left new).
       let heard : unanswered_on m max_body t ≡ [] =
       all_heard (steps m max_body) max_body (length t.conversation.exchanges) t.conversation.at t.new
-      t.conversation.rest (m.reads t.reader_left) t.conversation.mid (m.writes t.writer_left) t.end
+      t.conversation.rest (L.reads t.reader_left) t.conversation.mid (L.writes t.writer_left) t.end
       t.conversation.ended x.0 in
       subst (λ (l : List Ask). Adds desk.0 new.0 (all_answered m max_body (t ∷ ts)) (l ++ all_unanswered m max_body ts))
       (sym heard)
       (adds_twice desk.0 t.new.0 new.0 (answered_on m max_body t) (all_answered m max_body ts)
       (all_unanswered m max_body ts)
       (subst (λ (l : List Ask). Adds desk.0 t.new.0 (answered_on m max_body t) l) heard first)
-      (adds_all s.0 t.new ts new x.1)))
-      (behind t.end ((ts ≡ []) × (new ≡ t.new)) (Serves m max_body s.0 t.new ts new) s.3)
+      (adds_all s.1 left t.new ts new x.1)))
+      (behind t.end (IsLast m max_body s.1 t ts left new) (Serves m max_body s.1 t.new ts left new) s.5)
 
   -- ---- what the gate and the observer are told, and the counts
 
@@ -320,18 +339,42 @@ module _ {C In Out S G O : Type 0} (m : Means C In Out S G O) (max_body : ℕ) w
   tells_more (u ∷ us) t es fs h k =
       (h.0, h.1 ++ fs, h.2, tells_more us t h.1 fs h.3 k, ap (λ l. l ++ fs) h.4 ∙ append_assoc h.0 h.1 fs)
 
-  -- a worker that goes on, with its gate, its observer, the turns so far and its counts
-  pub record Working (conns : C) (desk : SeatState × S) (gate : G) (observer : O) (conns' : C) (desk' : SeatState × S)
-      (gate' : G) (observer' : O) (turn taken clean : ℕ) : Type 0 where
+  -- where a worker's loop stands: its connections, its seat with its secrets, its gate, its observer, and its counts
+  pub record Standing : Type 0 where
+    pub conns : L.Conns
+    pub desk : SeatState × S
+    pub gate : GateAt G
+    pub observer : O
+    pub end : WorkerEnd
+
+  -- what it was lent stands so behind that
+  abbrev pub back_at : Standing → Lent L S G O
+  back_at at = record { conns = at.conns; secrets = at.desk.1; gate = at.gate.gate; observer = at.observer }
+
+  abbrev pub standing : {R : Type 0} → L.Conns → GatedDesk R S G → O → WorkerEnd → Standing
+  standing conns d observer end = record {
+    conns = conns;
+    desk = (seat_of d.desk, secrets_of d.desk);
+    gate = gate_at d;
+    observer = observer;
+    end = end;
+  }
+
+  -- a worker that is done and stands there
+  abbrev pub Ended : Lent L S G O → SeatState → Standing → Type 0
+  Ended lent seat at = IsWorked m max_body lent seat (back_at at) at.desk.0 at.end
+
+  -- a worker that goes on from there
+  pub record Working (lent : Lent L S G O) (seat : SeatState) (at : Standing) : Type 0 where
     pub talks : List (Talk m max_body)
-    pub so_far : SoFar conns desk talks conns' desk'
-    pub watched : WatchesEach m.watches gate 0 (all_answered m max_body talks) gate' turn
+    pub so_far : SoFar lent.conns (seat, lent.secrets) talks at.conns at.desk
+    pub watched : WatchesEach m.watches (record { gate = lent.gate; turn = 0 }) (all_answered m max_body talks) at.gate
     pub none_lost : all_unanswered m max_body talks ≡ []
     pub events : List Event
     pub tells : TellsTalks m max_body talks events
-    pub heard : Hears m.told observer events observer'
-    pub counted : taken ≡ min (length talks) count_limit
-    pub clean_ones : clean ≡ min (count_clean m max_body talks) count_limit
+    pub heard : Hears m.told lent.observer events at.observer
+    pub counted : at.end.conns ≡ min (length talks) count_limit
+    pub clean_ones : at.end.clean ≡ min (count_clean m max_body talks) count_limit
 
   clean_step : (b : Bool) (t : Talk m max_body) → length (cond b (t ∷ []) []) ≡ cond b 1 0
   clean_step true t = refl
@@ -345,12 +388,20 @@ module _ {C In Out S G O : Type 0} (m : Means C In Out S G O) (max_body : ℕ) w
       (filter (λ (t : Talk m max_body). is_clean t.end) (t ∷ []))
       ∙ ap (λ n. count_clean m max_body ts + n) (clean_step (is_clean t.end) t)
 
-  pub begins : (conns : C) (desk : SeatState × S) (gate : G) (observer : O)
-      → Working conns desk gate observer conns desk gate observer 0 0 0
-  begins conns desk gate observer = record {
+  abbrev pub at_first : Lent L S G O → SeatState → Standing
+  at_first lent seat = record {
+    conns = lent.conns;
+    desk = (seat, lent.secrets);
+    gate = record { gate = lent.gate; turn = 0 };
+    observer = lent.observer;
+    end = record { conns = 0; clean = 0 };
+  }
+
+  pub begins : (lent : Lent L S G O) (seat : SeatState) → Working lent seat (at_first lent seat)
+  begins lent seat = record {
     talks = [];
     so_far = (refl, refl);
-    watched = (refl, refl);
+    watched = refl;
     none_lost = refl;
     events = [];
     tells = refl;
@@ -359,64 +410,65 @@ module _ {C In Out S G O : Type 0} (m : Means C In Out S G O) (max_body : ℕ) w
     clean_ones = refl;
   }
 
-  module _ (conns : C) (desk : SeatState × S) (gate : G) (observer : O) (conns' : C) (desk' : SeatState × S) (gate' : G)
-      (observer' : O) (turn taken clean : ℕ)
-      (w : Working conns desk gate observer conns' desk' gate' observer' turn taken clean) where
-    pub ends_at_none : (left : C) → m.gives conns' None left
-        → IsWorked m max_body conns desk.1 gate observer desk.0 desk'.0 taken clean
+  module _ (lent : Lent L S G O) (seat : SeatState) (at : Standing) (w : Working lent seat at) where
+    pub ends_at_none : (left : L.Conns) → L.gives at.conns None left
+        → Ended lent seat (record at { conns = left })
     ends_at_none left given = record {
       talks = w.talks;
-      secrets_left = desk'.1;
-      served = none_came conns desk w.talks conns' desk' w.so_far left given;
+      served = none_came lent.conns (seat, lent.secrets) w.talks at.conns at.desk w.so_far left given;
       watched = record {
-        behind = gate';
-        turn = turn;
-        left = gate';
+        behind = at.gate;
         each = w.watched;
-        last = subst (λ l. WatchesLast m.watches gate' turn l gate') (sym w.none_lost) refl;
+        last = subst (λ l. WatchesLast m.watches at.gate l at.gate.gate) (sym w.none_lost) refl;
       };
       events = w.events;
-      observer_left = observer';
       tells = w.tells;
       heard = w.heard;
       counted = w.counted;
       clean_ones = w.clean_ones;
     }
 
-    module _ (t : Talk m max_body) (mid : C) (new_gate : G) (new_observer : O) (more : List Event)
-        (tells : TellsTalk m max_body t more)
-        (hears : Hears m.told observer' more new_observer) (taken' clean' : ℕ)
-        (given : m.gives conns' (Some (t.reader, t.writer)) mid) (stands : t.old ≡ desk')
-        (conns_count : taken' ≡ min (taken + 1) count_limit)
-        (clean_count : clean' ≡ min (clean + cond (is_clean t.end) 1 0) count_limit) where
-      counted : taken' ≡ min (length (w.talks ++ t ∷ [])) count_limit
+    -- behind one connection more
+    module _ (t : Talk m max_body) (next : Standing) (more : List Event) (tells : TellsTalk m max_body t more)
+        (hears : Hears m.told at.observer more next.observer)
+        (passed : Passes at.conns t next.conns) (stands : t.old ≡ at.desk)
+        (left_so : next.desk ≡ t.new)
+        (conns_count : next.end.conns ≡ min (at.end.conns + 1) count_limit)
+        (clean_count : next.end.clean ≡ min (at.end.clean + cond (is_clean t.end) 1 0) count_limit) where
+      counted : next.end.conns ≡ min (length (w.talks ++ t ∷ [])) count_limit
       counted = let n = w.counted in let l = length-append w.talks (t ∷ []) in omega arith
 
-      clean_ones : clean' ≡ min (count_clean m max_body (w.talks ++ t ∷ [])) count_limit
+      clean_ones : next.end.clean ≡ min (count_clean m max_body (w.talks ++ t ∷ [])) count_limit
       clean_ones = let n = w.clean_ones in let l = count_more w.talks t in omega arith
 
       -- with what the gate was told on this connection
-      told_too : (at : G) (now : ℕ) → WatchesEach m.watches gate' turn (answered_on m max_body t) at now
-          → WatchesEach m.watches gate 0 (all_answered m max_body (w.talks ++ t ∷ [])) at now
-      told_too at now told =
-          subst (λ l. WatchesEach m.watches gate 0 l at now) (sym (answered_more w.talks t)) (each_twice m.watches gate
-          gate' at 0 turn now (all_answered m max_body w.talks) (answered_on m max_body t) w.watched told)
+      told_too : (gate : GateAt G) → WatchesEach m.watches at.gate (answered_on m max_body t) gate
+          → WatchesEach m.watches (record { gate = lent.gate; turn = 0 }) (all_answered m max_body (w.talks ++ t ∷ []))
+          gate
+      told_too gate told =
+          subst (λ l. WatchesEach m.watches (record { gate = lent.gate; turn = 0 }) l gate)
+          (sym (answered_more w.talks t))
+          (each_twice m.watches (record { gate = lent.gate; turn = 0 }) at.gate gate (all_answered m max_body w.talks)
+          (answered_on m max_body t) w.watched told)
 
       lost_too : all_unanswered m max_body (w.talks ++ t ∷ []) ≡ unanswered_on m max_body t
       lost_too = unanswered_more w.talks t ∙ ap (λ l. l ++ unanswered_on m max_body t) w.none_lost
 
-      heard_too : Hears m.told observer (w.events ++ more) new_observer
-      heard_too = hears_more m.told observer observer' new_observer w.events more w.heard hears
+      heard_too : Hears m.told lent.observer (w.events ++ more) next.observer
+      heard_too = hears_more m.told lent.observer at.observer next.observer w.events more w.heard hears
 
-      pub talked : (now : ℕ) → WatchesEach m.watches gate' turn (answered_on m max_body t) new_gate now
-          → (t.end ≡ DeskGone → ⊥) → Working conns desk gate observer mid t.new new_gate new_observer now taken' clean'
-      talked now told there = record {
+      pub talked : WatchesEach m.watches at.gate (answered_on m max_body t) next.gate → (t.end ≡ DeskGone → ⊥)
+          → Working lent seat next
+      talked told there = record {
         talks = w.talks ++ t ∷ [];
-        so_far = one_more conns desk w.talks conns' desk' w.so_far t mid given stands there;
-        watched = told_too new_gate now told;
+        so_far =
+            subst (SoFar lent.conns (seat, lent.secrets) (w.talks ++ t ∷ []) next.conns) (sym left_so)
+            (one_more lent.conns (seat, lent.secrets) w.talks at.conns at.desk w.so_far t next.conns passed stands
+            there);
+        watched = told_too next.gate told;
         none_lost =
             lost_too ∙ all_heard (steps m max_body) max_body (length t.conversation.exchanges) t.conversation.at t.new
-            t.conversation.rest (m.reads t.reader_left) t.conversation.mid (m.writes t.writer_left) t.end
+            t.conversation.rest (L.reads t.reader_left) t.conversation.mid (L.writes t.writer_left) t.end
             t.conversation.ended there;
         events = w.events ++ more;
         tells = tells_more w.talks t w.events more w.tells tells;
@@ -425,22 +477,20 @@ module _ {C In Out S G O : Type 0} (m : Means C In Out S G O) (max_body : ℕ) w
         clean_ones = clean_ones;
       }
 
-      pub ends_gone : (at : G) (now : ℕ) → WatchesEach m.watches gate' turn (answered_on m max_body t) at now
-          → WatchesLast m.watches at now (unanswered_on m max_body t) new_gate → t.end ≡ DeskGone
-          → IsWorked m max_body conns desk.1 gate observer desk.0 t.new.0 taken' clean'
-      ends_gone at now told last gone = record {
+      pub ends_gone : (gate : GateAt G) → WatchesEach m.watches at.gate (answered_on m max_body t) gate
+          → WatchesLast m.watches gate (unanswered_on m max_body t) next.gate.gate → t.end ≡ DeskGone
+          → Ended lent seat next
+      ends_gone gate told last gone = record {
         talks = w.talks ++ t ∷ [];
-        secrets_left = t.new.1;
-        served = gone_at conns desk w.talks conns' desk' w.so_far t mid given stands gone;
+        served =
+            subst (Serves m max_body lent.conns (seat, lent.secrets) (w.talks ++ t ∷ []) next.conns) (sym left_so)
+            (gone_at lent.conns (seat, lent.secrets) w.talks at.conns at.desk w.so_far t next.conns passed stands gone);
         watched = record {
-          behind = at;
-          turn = now;
-          left = new_gate;
-          each = told_too at now told;
-          last = subst (λ l. WatchesLast m.watches at now l new_gate) (sym lost_too) last;
+          behind = gate;
+          each = told_too gate told;
+          last = subst (λ l. WatchesLast m.watches gate l next.gate.gate) (sym lost_too) last;
         };
         events = w.events ++ more;
-        observer_left = new_observer;
         tells = tells_more w.talks t w.events more w.tells tells;
         heard = heard_too;
         counted = counted;
@@ -450,22 +500,22 @@ module _ {C In Out S G O : Type 0} (m : Means C In Out S G O) (max_body : ℕ) w
   -- ---- the same, seen from elsewhere
 
   -- a connection as it was served at the limit of this server
-  pub at_limit : {R : Type 0} (reader reader_left : In) (writer writer_left : Out) (old new : GatedDesk R S G)
+  pub at_limit : {R : Type 0} (reader reader_left : L.In) (writer writer_left : L.Out) (old new : GatedDesk R S G)
       (was is : O) (end : ConnEnd) (limit : ℕ) → limit ≡ max_body
       → IsTold (rules (GatedSteps {R = R} m.draws m.watches) m.told limit)
-      (sides (m.reads reader) old was (m.writes writer)) (sides (m.reads reader_left) new is (m.writes writer_left)) end
+      (sides (L.reads reader) old was (L.writes writer)) (sides (L.reads reader_left) new is (L.writes writer_left)) end
       → IsTold (rules (GatedSteps {R = R} m.draws m.watches) m.told max_body)
-      (sides (m.reads reader) old was (m.writes writer)) (sides (m.reads reader_left) new is (m.writes writer_left)) end
+      (sides (L.reads reader) old was (L.writes writer)) (sides (L.reads reader_left) new is (L.writes writer_left)) end
   at_limit {R} reader reader_left writer writer_left old new was is end limit same told =
-      subst (λ (n : ℕ). IsTold (rules (GatedSteps {R = R} m.draws m.watches) m.told n) (sides (m.reads reader) old was
-      (m.writes writer)) (sides (m.reads reader_left) new is (m.writes writer_left)) end) same told
+      subst (λ (n : ℕ). IsTold (rules (GatedSteps {R = R} m.draws m.watches) m.told n) (sides (L.reads reader) old was
+      (L.writes writer)) (sides (L.reads reader_left) new is (L.writes writer_left)) end) same told
 
-  module _ {R : Type 0} (reader reader_left : In) (writer writer_left : Out) (old new : GatedDesk R S G)
+  module _ {R : Type 0} (reader reader_left : L.In) (writer writer_left : L.Out) (old new : GatedDesk R S G)
       (was is : O) (end : ConnEnd)
-      (told : IsTold (rules (GatedSteps {R = R} m.draws m.watches) m.told max_body) (sides (m.reads reader) old was
-      (m.writes writer)) (sides (m.reads reader_left) new is (m.writes writer_left)) end) where
-    abbrev c : IsConversation (GatedSteps {R = R} m.draws m.watches) max_body (m.reads reader) (m.reads reader_left) old
-        new (m.writes writer) (m.writes writer_left) end
+      (told : IsTold (rules (GatedSteps {R = R} m.draws m.watches) m.told max_body) (sides (L.reads reader) old was
+      (L.writes writer)) (sides (L.reads reader_left) new is (L.writes writer_left)) end) where
+    abbrev c : IsConversation (GatedSteps {R = R} m.draws m.watches) max_body (L.reads reader) (L.reads reader_left) old
+        new (L.writes writer) (L.writes writer_left) end
     c = told.conversation
 
     abbrev see : GatedDesk R S G → SeatState × S
@@ -484,24 +534,24 @@ module _ {C In Out S G O : Type 0} (m : Means C In Out S G O) (max_body : ℕ) w
       conversation =
           seen_as {D = GatedDesk R S G} {E = SeatState × S} (GatedSteps {R = R} m.draws m.watches)
           (steps m max_body) see (λ a ask answer b moved. moved.0)
-          max_body (m.reads reader) (m.reads reader_left) old new (m.writes writer) (m.writes writer_left) end c;
+          max_body (L.reads reader) (L.reads reader_left) old new (L.writes writer) (L.writes writer_left) end c;
     }
 
     same_answered : answered_on m max_body talk_of ≡ answered (GatedSteps {R = R} m.draws m.watches) max_body
-        (m.reads reader) (m.reads reader_left) old new (m.writes writer) (m.writes writer_left) end c
+        (L.reads reader) (L.reads reader_left) old new (L.writes writer) (L.writes writer_left) end c
     unfolding seen_as
     same_answered =
         ap (λ l. c.exchanges ++ l) (see_answered {D = GatedDesk R S G} {E = SeatState × S}
         (GatedSteps {R = R} m.draws m.watches) (steps m max_body) see (λ a ask answer b moved. moved.0)
-        max_body (length c.exchanges) c.at new c.rest (m.reads reader_left) c.mid (m.writes writer_left) end c.ended)
+        max_body (length c.exchanges) c.at new c.rest (L.reads reader_left) c.mid (L.writes writer_left) end c.ended)
 
     same_unanswered : unanswered_on m max_body talk_of ≡ unanswered (GatedSteps {R = R} m.draws m.watches) max_body
-        (m.reads reader) (m.reads reader_left) old new (m.writes writer) (m.writes writer_left) end c
+        (L.reads reader) (L.reads reader_left) old new (L.writes writer) (L.writes writer_left) end c
     unfolding seen_as
     same_unanswered =
         see_unanswered {D = GatedDesk R S G} {E = SeatState × S} (GatedSteps {R = R} m.draws m.watches)
         (steps m max_body) see (λ a ask answer b moved. moved.0)
-        max_body (length c.exchanges) c.at new c.rest (m.reads reader_left) c.mid (m.writes writer_left) end c.ended
+        max_body (length c.exchanges) c.at new c.rest (L.reads reader_left) c.mid (L.writes writer_left) end c.ended
 
     -- what was told of it tells the talk
     pub tells_talk : TellsTalk m max_body talk_of (told.of_exchanges ++ told.of_end)
@@ -513,36 +563,28 @@ module _ {C In Out S G O : Type 0} (m : Means C In Out S G O) (max_body : ℕ) w
       last =
           see_tells {D = GatedDesk R S G} {E = SeatState × S} (GatedSteps {R = R} m.draws m.watches)
           (steps m max_body) see (λ a ask answer b moved. moved.0)
-          max_body (length c.exchanges) c.at new c.rest (m.reads reader_left) c.mid (m.writes writer_left) end c.ended
+          max_body (length c.exchanges) c.at new c.rest (L.reads reader_left) c.mid (L.writes writer_left) end c.ended
           told.of_end told.last;
       events_are = refl;
     }
 
     -- and the gate was told of it
     pub told_on : (end ≡ DeskGone → ⊥)
-        → WatchesEach m.watches old.gate old.turn (answered_on m max_body talk_of) new.gate new.turn
-    told_on there = subst (λ l. WatchesEach m.watches old.gate old.turn l new.gate new.turn) (sym same_answered)
-        (watched_on {D = GatedDesk R S G} m.watches (GatedSteps {R = R} m.draws m.watches) (λ d. d.gate) (λ d. d.turn)
+        → WatchesEach m.watches (gate_at old) (answered_on m max_body talk_of) (gate_at new)
+    told_on there = subst (λ l. WatchesEach m.watches (gate_at old) l (gate_at new)) (sym same_answered)
+        (watched_on {D = GatedDesk R S G} m.watches (GatedSteps {R = R} m.draws m.watches) (λ d. gate_at d)
         (λ a ask answer b moved. moved.1)
-        max_body (m.reads reader) (m.reads reader_left) old new (m.writes writer) (m.writes writer_left) end c there)
+        max_body (L.reads reader) (L.reads reader_left) old new (L.writes writer) (L.writes writer_left) end c there)
 
-    pub told_gone : end ≡ DeskGone → (at : G) × (now : ℕ) × WatchesEach m.watches old.gate old.turn (answered_on m
-        max_body talk_of) at now × WatchesLast m.watches at now (unanswered_on m max_body talk_of) new.gate
+    pub told_gone : end ≡ DeskGone → (gate : GateAt G)
+        × WatchesEach m.watches (gate_at old) (answered_on m max_body talk_of) gate
+        × WatchesLast m.watches gate (unanswered_on m max_body talk_of) new.gate
     told_gone gone =
         let l =
-        watched_lost {D = GatedDesk R S G} m.watches (GatedSteps {R = R} m.draws m.watches) (λ d. d.gate) (λ d. d.turn)
+        watched_lost {D = GatedDesk R S G} m.watches (GatedSteps {R = R} m.draws m.watches) (λ d. gate_at d)
         (λ a ask answer b moved. moved.1)
-        max_body (m.reads reader) (m.reads reader_left) old new (m.writes writer) (m.writes writer_left) end c gone in (
+        max_body (L.reads reader) (L.reads reader_left) old new (L.writes writer) (L.writes writer_left) end c gone in (
           l.0,
-          l.1,
-          subst (λ xs. WatchesEach m.watches old.gate old.turn xs l.0 l.1) (sym same_answered) l.2,
-          subst (λ us. WatchesLast m.watches l.0 l.1 us new.gate) (sym same_unanswered) l.3,
+          subst (λ xs. WatchesEach m.watches (gate_at old) xs l.0) (sym same_answered) l.1,
+          subst (λ us. WatchesLast m.watches l.0 us new.gate) (sym same_unanswered) l.2,
         )
-
-  pub worked_as : (conns : C) (secrets : S) (gate : G) (observer : O) (seat new new' : SeatState)
-      (taken taken' clean clean' : ℕ) → IsWorked m max_body conns secrets gate observer seat new taken clean
-      → new' ≡ new → taken' ≡ taken → clean' ≡ clean
-      → IsWorked m max_body conns secrets gate observer seat new' taken' clean'
-  worked_as conns secrets gate observer seat new new' taken taken' clean clean' w p q r =
-      subst (λ (x : SeatState × (ℕ × ℕ)). IsWorked m max_body conns secrets gate observer seat x.0 x.1.0 x.1.1)
-      (λ i. (sym p i, (sym q i, sym r i))) w

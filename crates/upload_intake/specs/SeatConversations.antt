@@ -30,7 +30,7 @@ pub record Adds (old new : SeatState) (answered : List WireExchange) (unanswered
 
 -- the moves of a desk over a seat
 abbrev pub SeatSteps : {D S : Type 0} → (S → List ℕ → S → Type 0) → (D → SeatState) → (D → S) → Moves D
-SeatSteps draws seat secrets a ask answer b = AsksWithDrawn draws (seat a) (secrets a) ask answer (seat b) (secrets b)
+SeatSteps draws seat secrets a ask answer b = AsksWithDrawn draws (seat a, secrets a) ask answer (seat b, secrets b)
 
 -- every conversation over a desk that is a seat with secrets adds its asks and its answers to the seat
 abbrev pub ConversationsFillTheSeat : {S : Type 0} → (S → List ℕ → S → Type 0) → Type 0

@@ -3,19 +3,19 @@
 -- nothing else was. In it stand each worker's requests, in the order in which it read them, each once, with the answers
 -- that it wrote. At moments that the clock told, and that don't fall, this order takes the service that was handed in
 -- to the one handed back, and the headline holds of it. Each worker's gate was told of its requests and their answers,
--- in the order in which it read them, and its observer of each head and of each reply on its connections.
+-- in the order in which it read them, and its observer of each head and of each reply on its connections. What each
+-- worker was lent is handed back as it became by that.
 use Rattle.std.specs.Prelude.{◌≡◌, ℕ, ◌<◌, ◌==◌, ◌⊎◌, List, [], ◌++◌, map, filter, length, get_or}
 use Rattle.std.specs.List.{AllByRecursion}
 use Rattle.upload_service.specs.declared.ask.Ask.{Ask}
 use Rattle.upload_service.specs.declared.answer.Answer.{Answer}
 use Rattle.upload_service.specs.Machine.{State}
-use Rattle.upload_intake.specs.declared.work.Worker.{Worker}
 use Rattle.upload_intake.specs.declared.work.WorkerEnd.{WorkerEnd}
 use Rattle.upload_intake.specs.Log.{Step, exchanges_of, taken_by, jobs_of}
 use Rattle.upload_intake.specs.Seats.{SeatState, IsFresh}
 use Rattle.upload_intake.specs.Served.{IsServed}
 use Rattle.upload_intake.specs.Told.{Told}
-use Rattle.upload_intake.specs.Working.{Means, IsWorked, all_answered, all_unanswered}
+use Rattle.upload_intake.specs.Working.{Lending, Means, Lent, IsWorked, all_answered, all_unanswered}
 use Rattle.upload_wire.specs.Conversation.{WireExchange}
 
 -- the steps of one seat, and what was asked and answered by a step, and by an exchange of a conversation
@@ -39,38 +39,47 @@ pub record Carries (seat : ℕ) (steps : List Step) (answered : List WireExchang
       ≡ map read_and_replied answered ++ map asked_and_answered unheard
   pub lost : (asks unheard ≡ []) ⊎ (asks unheard ≡ unanswered)
 
--- The part of the worker on a seat, from its connections, its secrets, its gate and its observer to its two counts:
--- what it served over a seat that had asked nothing, the steps that its conversations are, and the jobs among them with
--- the secrets that it drew.
-pub record HasPart {C In Out S G O : Type 0}
-    (m : Means C In Out S G O) (max_body : ℕ) (seat : ℕ) (steps : List Step)
-    (part : Worker C S G O × WorkerEnd) : Type 0 where
+-- a worker as it was handed in, as it was handed back, and its two counts
+pub record Part (L : Lending) (S G O : Type 0) : Type 0 where
+  pub lent : Lent L S G O
+  pub back : Lent L S G O
+  pub end : WorkerEnd
+
+-- The part of the worker on a seat: what it served over a seat that had asked nothing, the steps that its conversations
+-- are, and the jobs among them with the secrets that it drew.
+pub record HasPart {L : Lending} {S G O : Type 0} (m : Means L S G O) (max_body : ℕ) (seat : ℕ) (steps : List Step)
+    (part : Part L S G O) : Type 0 where
   pub old : SeatState
   pub new : SeatState
   pub fresh : IsFresh old
-  pub worked : IsWorked m max_body part.0.conns part.0.secrets part.0.gate part.0.observer old new
-      part.1.conns part.1.clean
+  pub worked : IsWorked m max_body part.lent old part.back new part.end
   pub carried : Carries seat steps (all_answered m max_body worked.talks) (all_unanswered m max_body worked.talks)
   pub sent : jobs_of seat (taken_by steps) ≡ new.sent
 
--- what is handed to a pool, and what it leaves: the workers and their ends are in the order of their seats
-pub record Given (M C S G O : Type 0) : Type 0 where
+-- what is handed to a pool, and what it hands back: the workers and their counts are in the order of their seats
+pub record Given (M W : Type 0) : Type 0 where
   pub service : State
   pub moments : M
-  pub workers : List (Worker C S G O)
+  pub workers : List W
 
-pub record Left (M : Type 0) : Type 0 where
+pub record Left (M W : Type 0) : Type 0 where
   pub service : State
   pub moments : M
+  pub workers : List W
   pub ends : List WorkerEnd
 
-pub record IsServedPool {C In Out S G O M : Type 0} (m : Means C In Out S G O) (tells : M → ℕ → M → Type 0)
-    (given : Given M C S G O) (left : Left M) : Type 0 where
+pub record IsServedPool {L : Lending} {S G O M : Type 0} (m : Means L S G O) (tells : M → ℕ → M → Type 0)
+    (given : Given M (Lent L S G O)) (left : Left M (Lent L S G O)) : Type 0 where
   pub steps : List Step
   -- no step is of another seat
   pub seated : AllByRecursion (λ (s : Step). s.seat < length given.workers) steps
+  pub all_back : length left.workers ≡ length given.workers
   pub counted : length left.ends ≡ length given.workers
-  pub parts : (seat : ℕ) (worker : Worker C S G O) (end : WorkerEnd) → seat < length given.workers
-      → HasPart m given.service.limits.max_body seat steps (get_or given.workers seat worker, get_or left.ends seat end)
+  pub parts : (seat : ℕ) (worker : Lent L S G O) (end : WorkerEnd) → seat < length given.workers
+      → HasPart m given.service.limits.max_body seat steps (record {
+        lent = get_or given.workers seat worker;
+        back = get_or left.workers seat worker;
+        end = get_or left.ends seat end;
+      })
   pub served : IsServed given.service (exchanges_of steps) left.service
   pub told : Told tells 0 given.moments (exchanges_of steps) left.moments

@@ -1,12 +1,13 @@
 -- The workers at their seats, and what their threads promise and leave.
 use Rattle.std.specs.Prelude.{◌≡◌, ◌<◌, ℕ, List, map, length, get_or}
 use Rattle.std.specs.declared.thread.PromisedHandle.{PromisedHandle}
+use Rattle.upload_intake.specs.declared.work.Leaving.{Leaving}
 use Rattle.upload_intake.specs.declared.work.Station.{Station}
 use Rattle.upload_intake.specs.declared.work.Work.{Work}
 use Rattle.upload_intake.specs.declared.work.Worker.{Worker}
 use Rattle.upload_intake.specs.declared.work.WorkerEnd.{WorkerEnd}
 use Rattle.upload_intake.specs.Seats.{SeatState, IsSameSeat}
-use Rattle.upload_intake.specs.Working.{Means, IsWorked}
+use Rattle.upload_intake.specs.Working.{Lending, Means, IsWorked}
 
 module _ {C S G O : Type 0} where
   abbrev pub seats_of : List (Station C S G O) → List SeatState
@@ -19,20 +20,28 @@ module _ {C S G O : Type 0} where
   limits_of stations = map (λ (s : Station C S G O). s.server.max_body) stations
 
   -- the stations of the threads that were started
-  abbrev pub promised : List (PromisedHandle (SeatState × WorkerEnd) (Work C S G O)) → List (Station C S G O)
-  promised handles =
-      map (λ (h : PromisedHandle (SeatState × WorkerEnd) (Work C S G O)). h.promise.station.value) handles
+  abbrev pub promised : List (PromisedHandle (Leaving C S G O) (Work C S G O)) → List (Station C S G O)
+  promised handles = map (λ (h : PromisedHandle (Leaving C S G O) (Work C S G O)). h.promise.station.value) handles
 
--- A worker served over its seat, which it left so, and counted so.
-pub record Works {C In Out S G O : Type 0} (m : Means C In Out S G O) (station : Station C S G O) (seat : SeatState)
-    (end : WorkerEnd) : Type 0 where
-  pub same : IsSameSeat station.seat seat
-  pub worked : IsWorked m station.server.max_body station.worker.conns station.worker.secrets station.worker.gate
-      station.worker.observer station.seat seat end.conns end.clean
+-- A worker served over its seat, and left it, what it was lent and its counts so.
+pub record Works {L : Lending} {S G O : Type 0} (m : Means L S G O) (station : Station L.Conns S G O)
+    (leaving : Leaving L.Conns S G O) : Type 0 where
+  pub same : IsSameSeat station.seat leaving.seat
+  pub worked : IsWorked m station.server.max_body station.worker station.seat leaving.worker leaving.seat leaving.end
+
+-- what the workers left, in the order of their seats
+pub record AllLeft (C S G O : Type 0) : Type 0 where
+  pub seats : List SeatState
+  pub workers : List (Worker C S G O)
+  pub ends : List WorkerEnd
 
 -- so did each worker, in order
-abbrev pub EachWorks : {C In Out S G O : Type 0} → Means C In Out S G O → List (Station C S G O) → List SeatState
-    → List WorkerEnd → Type 0
-EachWorks {C} {In} {Out} {S} {G} {O} m stations seats ends =
-    (k : ℕ) (station : Station C S G O) (seat : SeatState) (end : WorkerEnd) → k < length stations
-    → Works m (get_or stations k station) (get_or seats k seat) (get_or ends k end)
+abbrev pub EachWorks : {L : Lending} {S G O : Type 0} → Means L S G O → List (Station L.Conns S G O)
+    → AllLeft L.Conns S G O → Type 0
+EachWorks {L} {S} {G} {O} m stations left =
+    (k : ℕ) (station : Station L.Conns S G O) (d : Leaving L.Conns S G O) → k < length stations
+    → Works m (get_or stations k station) (record {
+      seat = get_or left.seats k d.seat;
+      worker = get_or left.workers k d.worker;
+      end = get_or left.ends k d.end;
+    })

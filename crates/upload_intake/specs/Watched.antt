@@ -11,29 +11,34 @@ use Rattle.upload_wire.specs.Conversation.{WireExchange}
 abbrev pub next_turn : ℕ → ℕ
 next_turn turn = min (turn + 1) count_limit
 
+-- a gate, and behind which turn it stands
+pub record GateAt (G : Type 0) : Type 0 where
+  pub gate : G
+  pub turn : ℕ
+
 module _ {G : Type 0} (watches : Watching G) where
-  -- One request, behind so many turns: the gate is told of it at the next turn, and of its answer where there is one.
-  abbrev pub WatchesOne : G → ℕ → Ask → Option Answer → G → ℕ → Type 0
-  WatchesOne old turn ask (Some answer) new next =
-      (next ≡ next_turn turn) × ((mid : G) × watches old next (Asking ask) mid × watches mid next (Answered answer) new)
-  WatchesOne old turn ask None new next = (next ≡ next_turn turn) × watches old next (Asking ask) new
+  -- One request: the gate is told of it at the next turn, and of its answer where there is one.
+  abbrev pub WatchesOne : GateAt G → Ask → Option Answer → GateAt G → Type 0
+  WatchesOne old ask (Some answer) new =
+      (new.turn ≡ next_turn old.turn)
+      × ((mid : G) × watches old.gate new.turn (Asking ask) mid × watches mid new.turn (Answered answer) new.gate)
+  WatchesOne old ask None new =
+      (new.turn ≡ next_turn old.turn) × watches old.gate new.turn (Asking ask) new.gate
 
   -- each of these requests, in order
-  abbrev pub WatchesEach : G → ℕ → List WireExchange → G → ℕ → Type 0
-  WatchesEach old turn [] new next = (new ≡ old) × (next ≡ turn)
-  WatchesEach old turn (x ∷ xs) new next =
-      (mid : G) × (now : ℕ) × WatchesOne old turn x.ask (Some x.answer) mid now × WatchesEach mid now xs new next
+  abbrev pub WatchesEach : GateAt G → List WireExchange → GateAt G → Type 0
+  WatchesEach old [] new = new ≡ old
+  WatchesEach old (x ∷ xs) new =
+      (mid : GateAt G) × WatchesOne old x.ask (Some x.answer) mid × WatchesEach mid xs new
 
   -- the request that got no answer, if there is one: it is the last
-  abbrev pub WatchesLast : G → ℕ → List Ask → G → Type 0
-  WatchesLast old turn [] new = new ≡ old
-  WatchesLast old turn (ask ∷ asks) new = (next : ℕ) × WatchesOne old turn ask None new next
+  abbrev pub WatchesLast : GateAt G → List Ask → G → Type 0
+  WatchesLast old [] new = new ≡ old.gate
+  WatchesLast old (ask ∷ asks) new = (next : ℕ) × WatchesOne old ask None (record { gate = new; turn = next })
 
   -- The gate was told of each of these requests, at the turns 1, 2, 3 and so on, and of each answer; and at last of the
-  -- one that got none.
-  pub record IsWatched (gate : G) (answered : List WireExchange) (unanswered : List Ask) : Type 0 where
-    pub behind : G
-    pub turn : ℕ
-    pub left : G
-    pub each : WatchesEach gate 0 answered behind turn
-    pub last : WatchesLast behind turn unanswered left
+  -- one that got none. So it became what is left.
+  pub record IsWatched (gate : G) (answered : List WireExchange) (unanswered : List Ask) (left : G) : Type 0 where
+    pub behind : GateAt G
+    pub each : WatchesEach (record { gate = gate; turn = 0 }) answered behind
+    pub last : WatchesLast behind unanswered left

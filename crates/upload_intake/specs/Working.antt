@@ -2,6 +2,8 @@
 use Rattle.std.specs.Prelude.{◌≡◌, ℕ, min, Bool, true, false, List, [], ◌∷◌, ◌++◌, length, filter, Option, Some, None}
 use Rattle.std.specs.List.{flat_map}
 use Rattle.upload_service.specs.declared.ask.Ask.{Ask}
+use Rattle.upload_intake.specs.declared.work.Worker.{Worker}
+use Rattle.upload_intake.specs.declared.work.WorkerEnd.{WorkerEnd}
 use Rattle.upload_intake.specs.Seats.{SeatState}
 use Rattle.upload_intake.specs.SeatConversations.{SeatSteps}
 use Rattle.upload_intake.specs.Settled.{count_limit}
@@ -15,20 +17,41 @@ use Rattle.upload_wire.specs.ConnectionRuns.{answered, unanswered}
 use Rattle.upload_wire.specs.declared.connection.ConnEnd.{ConnEnd}
 use Rattle.upload_wire.specs.declared.connection.ConnEnd.TheVariants.{Clean, AfterClose, DeskGone}
 
--- How a worker is given connections, what contracts see of a reader and of a writer, how secrets are drawn, how its
--- gate watches, and how its observer takes what it is told.
-pub record Means (C In Out S G O : Type 0) : Type 1 where
-  pub gives : C → Option (In × Out) → C → Type 0
+-- How a worker is given connections, how each is taken back behind its conversation, and what contracts see of a reader
+-- and of a writer.
+pub record Lending : Type 1 where
+  pub Conns : Type 0
+  pub In : Type 0
+  pub Out : Type 0
+  pub gives : Conns → Option (In × Out) → Conns → Type 0
+  pub takes_back : Conns → In × Out → Conns → Type 0
   pub reads : In → SourceState
   pub writes : Out → SinkState
+
+abbrev pub lending : {C In Out : Type 0} → (C → Option (In × Out) → C → Type 0) → (C → In × Out → C → Type 0)
+    → (In → SourceState) → (Out → SinkState) → Lending
+lending {C} {In} {Out} gives takes_back reads writes = record {
+  Conns = C;
+  In = In;
+  Out = Out;
+  gives = gives;
+  takes_back = takes_back;
+  reads = reads;
+  writes = writes;
+}
+
+-- The same, and how secrets are drawn, how a worker's gate watches, and how its observer takes what it is told.
+pub record Means (L : Lending) (S G O : Type 0) : Type 1 where
   pub draws : S → List ℕ → S → Type 0
   pub watches : Watching G
   pub told : Telling O
 
-abbrev pub means : {C In Out S G O : Type 0} → (C → Option (In × Out) → C → Type 0) → (In → SourceState)
-    → (Out → SinkState) → (S → List ℕ → S → Type 0) → Watching G → Telling O → Means C In Out S G O
-means gives reads writes draws watches told =
-    record { gives = gives; reads = reads; writes = writes; draws = draws; watches = watches; told = told }
+abbrev pub means : (L : Lending) {S G O : Type 0} → (S → List ℕ → S → Type 0) → Watching G → Telling O → Means L S G O
+means L draws watches told = record { draws = draws; watches = watches; told = told }
+
+-- what a worker is lent, as it has it before and behind its connections
+abbrev pub Lent : Lending → Type 0 → Type 0 → Type 0 → Type 0
+Lent L S G O = Worker L.Conns S G O
 
 -- the ends that a worker counts as clean
 abbrev pub is_clean : ConnEnd → Bool
@@ -45,7 +68,7 @@ abbrev pub Behind : ConnEnd → Type 0 → Type 0 → Type 0
 Behind DeskGone gone on = gone
 Behind other gone on = on
 
-module _ {C In Out S G O : Type 0} (m : Means C In Out S G O) (max_body : ℕ) where
+module _ {L : Lending} {S G O : Type 0} (m : Means L S G O) (max_body : ℕ) where
   -- how a worker's desk moves: its seat is asked with the secret drawn next
   abbrev pub steps : Moves (SeatState × S)
   steps = SeatSteps {D = SeatState × S} {S = S} m.draws (λ d. d.0) (λ d. d.1)
@@ -53,27 +76,27 @@ module _ {C In Out S G O : Type 0} (m : Means C In Out S G O) (max_body : ℕ) w
   -- A connection that was served: the reader and the writer as they were given and as they were left, the seat and the
   -- secrets before and behind it, and how it ended. What was read and written is a conversation over the seat.
   pub record Talk : Type 0 where
-    pub reader : In
-    pub writer : Out
-    pub reader_left : In
-    pub writer_left : Out
+    pub reader : L.In
+    pub writer : L.Out
+    pub reader_left : L.In
+    pub writer_left : L.Out
     pub old : SeatState × S
     pub new : SeatState × S
     pub end : ConnEnd
     pub conversation : IsConversation steps max_body
-        (m.reads reader) (m.reads reader_left) old new (m.writes writer) (m.writes writer_left) end
+        (L.reads reader) (L.reads reader_left) old new (L.writes writer) (L.writes writer_left) end
 
   -- what was asked and answered on these connections, in order; and the request at which the desk was gone
   abbrev pub answered_on : Talk → List WireExchange
   answered_on t =
-      answered steps max_body (m.reads t.reader) (m.reads t.reader_left) t.old t.new (m.writes t.writer)
-      (m.writes t.writer_left) t.end
+      answered steps max_body (L.reads t.reader) (L.reads t.reader_left) t.old t.new (L.writes t.writer)
+      (L.writes t.writer_left) t.end
       t.conversation
 
   abbrev pub unanswered_on : Talk → List Ask
   unanswered_on t =
-      unanswered steps max_body (m.reads t.reader) (m.reads t.reader_left) t.old t.new (m.writes t.writer)
-      (m.writes t.writer_left) t.end
+      unanswered steps max_body (L.reads t.reader) (L.reads t.reader_left) t.old t.new (L.writes t.writer)
+      (L.writes t.writer_left) t.end
       t.conversation
 
   abbrev pub all_answered : List Talk → List WireExchange
@@ -85,13 +108,20 @@ module _ {C In Out S G O : Type 0} (m : Means C In Out S G O) (max_body : ℕ) w
   abbrev pub count_clean : List Talk → ℕ
   count_clean ts = length (filter (λ t. is_clean t.end) ts)
 
-  -- From this seat on: no more comes; or the next connection that is given is served from where the seat stands, and so
-  -- on, but where the desk was gone: behind that connection none is taken.
-  abbrev pub Serves : C → SeatState × S → List Talk → SeatState × S → Type 0
-  Serves conns desk [] new = (left : C) × m.gives conns None left × (new ≡ desk)
-  Serves conns desk (t ∷ ts) new =
-      (mid : C) × m.gives conns (Some (t.reader, t.writer)) mid × (t.old ≡ desk)
-      × Behind t.end ((ts ≡ []) × (new ≡ t.new)) (Serves mid t.new ts new)
+  -- none is taken behind a connection; once it is taken back, the worker's connections, its seat and its secrets are
+  -- these
+  abbrev pub IsLast : L.Conns → Talk → List Talk → L.Conns → SeatState × S → Type 0
+  IsLast back t ts left new = (ts ≡ []) × (left ≡ back) × (new ≡ t.new)
+
+  -- From this seat on: no more comes; or the next connection that is given is served from where the seat stands, and
+  -- taken back as its conversation left it, and so on, but where the desk was gone: behind that connection none is
+  -- taken.
+  abbrev pub Serves : L.Conns → SeatState × S → List Talk → L.Conns → SeatState × S → Type 0
+  Serves conns desk [] left new = L.gives conns None left × (new ≡ desk)
+  Serves conns desk (t ∷ ts) left new =
+      (mid : L.Conns) × (back : L.Conns) × L.gives conns (Some (t.reader, t.writer)) mid
+      × L.takes_back mid (t.reader_left, t.writer_left) back × (t.old ≡ desk)
+      × Behind t.end (IsLast back t ts left new) (Serves back t.new ts left new)
 
   -- these events tell a connection: each of its requests with its reply, in order, and then its end
   pub record TellsTalk (t : Talk) (events : List Event) : Type 0 where
@@ -102,10 +132,10 @@ module _ {C In Out S G O : Type 0} (m : Means C In Out S G O) (max_body : ℕ) w
       moves = steps;
       max_body = max_body;
       stood =
-          stand (length t.conversation.exchanges) t.conversation.rest (m.reads t.reader_left) t.conversation.at
+          stand (length t.conversation.exchanges) t.conversation.rest (L.reads t.reader_left) t.conversation.at
           t.conversation.mid;
       desk = t.new;
-      sink = m.writes t.writer_left;
+      sink = L.writes t.writer_left;
     }) t.end t.conversation.ended of_end
     pub events_are : events ≡ of_exchanges ++ of_end
 
@@ -116,17 +146,15 @@ module _ {C In Out S G O : Type 0} (m : Means C In Out S G O) (max_body : ℕ) w
       (first : List Event) × (others : List Event) × TellsTalk t first × TellsTalks ts others
       × (events ≡ first ++ others)
 
-  -- What a worker did over its seat: what it served, what its gate and its observer were told of that, how many
-  -- connections it took, and how many of them ended clean.
-  pub record IsWorked (conns : C) (secrets : S) (gate : G) (observer : O) (seat new : SeatState)
-      (taken clean : ℕ) : Type 0 where
+  -- What a worker did over its seat, from what it was lent to what it hands back: what it served, what its gate and its
+  -- observer were told of that, how many connections it took, and how many of them ended clean.
+  pub record IsWorked (lent : Lent L S G O) (seat : SeatState) (back : Lent L S G O) (new : SeatState)
+      (end : WorkerEnd) : Type 0 where
     pub talks : List Talk
-    pub secrets_left : S
-    pub served : Serves conns (seat, secrets) talks (new, secrets_left)
-    pub watched : IsWatched m.watches gate (all_answered talks) (all_unanswered talks)
+    pub served : Serves lent.conns (seat, lent.secrets) talks back.conns (new, back.secrets)
+    pub watched : IsWatched m.watches lent.gate (all_answered talks) (all_unanswered talks) back.gate
     pub events : List Event
-    pub observer_left : O
     pub tells : TellsTalks talks events
-    pub heard : Hears m.told observer events observer_left
-    pub counted : taken ≡ min (length talks) count_limit
-    pub clean_ones : clean ≡ min (count_clean talks) count_limit
+    pub heard : Hears m.told lent.observer events back.observer
+    pub counted : end.conns ≡ min (length talks) count_limit
+    pub clean_ones : end.clean ≡ min (count_clean talks) count_limit

@@ -25,16 +25,17 @@ impl<'a, R: Wait, S: Secrets + Drop> SeatDesk<'a, R, S> {
         SeatDesk { rt, seat, secrets }
     }
 
-    /// Gives the seat back, so that it can be finished.
-    pub fn into_seat(self) -> Seat
-        ensures { result ≡ seat_of self.entry }
+    /// Gives the seat back, so that it can be finished, and the secrets.
+    pub fn into_parts(self) -> (Seat, S)
+        ensures seat { result.0 ≡ seat_of self.entry }
+        ensures secrets { result.1 ≡ secrets_of self.entry }
     {
         let SeatDesk {
             rt: _,
             seat,
-            secrets: _,
+            secrets,
         } = self;
-        seat
+        (seat, secrets)
     }
 }
 
@@ -42,7 +43,7 @@ impl<'a, R: Wait, S: Secrets> Desk for SeatDesk<'a, R, S> {
     ghost use Rattle.upload_intake.specs.SeatMoves.{AsksWithDrawn};
 
     ghost moves = { λ old ask answer new.
-        AsksWithDrawn S.draws old.seat old.secrets ask answer new.seat new.secrets };
+        AsksWithDrawn S.draws (old.seat, old.secrets) ask answer (new.seat, new.secrets) };
 
     fn ask(&mut self, ask: Ask) -> Option<Answer> {
         let secret = self.secrets.draw();

@@ -2,7 +2,7 @@
 ghost use Rattle.upload_intake.specs.Determined.{ServedOrdersAreDetermined};
 ghost use Rattle.upload_intake.specs.SeatConversations.{ConversationsFillTheSeat};
 ghost use Rattle.upload_intake.specs.Transcripts.{TranscriptsTellConnections};
-ghost use Rattle.upload_intake.specs.Working.{means};
+ghost use Rattle.upload_intake.specs.Working.{lending, means};
 
 use crate::conns::Conns;
 use crate::gate::Gate;
@@ -21,7 +21,7 @@ pub fn conversations_fill_the_seat<S: Secrets>()
 /// else.
 pub fn transcripts_tell_connections<C: Conns, S: Secrets, G: Gate, O: Observer>()
     ensures { TranscriptsTellConnections
-        (means C.gives C.In.state C.Out.state S.draws G.watches O.told) }
+        (means (lending C.gives C.takes_back C.In.state C.Out.state) S.draws G.watches O.told) }
 {}
 
 /// Two services that begin in the same state, and serve the same jobs of the same seats in the same order, with the

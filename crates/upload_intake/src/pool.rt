@@ -4,7 +4,7 @@ ghost use Rattle.std.specs.Thread.{IsSend, IsSync};
 ghost use Rattle.upload_service.specs.Machine.{IsLawful, AreLawful};
 ghost use Rattle.upload_intake.specs.Seats.{IsFresh};
 ghost use Rattle.upload_intake.specs.Served.{AreOfOneCall};
-ghost use Rattle.upload_intake.specs.Working.{means};
+ghost use Rattle.upload_intake.specs.Working.{lending, means};
 ghost use Rattle.upload_intake.specs.ServedPool.{IsServedPool};
 ghost use Rattle.upload_intake.specs.Stations.{seats_of, workers_of, limits_of, promised, EachWorks};
 
@@ -15,7 +15,7 @@ use crate::moments::Moments;
 use crate::seat::{Seat, SeatEnd};
 use crate::secrets::Secrets;
 use crate::settlement::{Settled, lines_of, settle_all};
-use crate::work::{Station, Work, Worker, WorkerEnd, serve_station};
+use crate::work::{Leaving, Station, Work, Worker, WorkerEnd, serve_station};
 use core::thread::Stack;
 use std::alloc::{AllocError, Global};
 use std::snapshot::Snapshot;
@@ -25,26 +25,33 @@ use std::{fmt, thread};
 use upload_service::{Limits, Service};
 use upload_wire::{ConnectionServer, Observer};
 
-/// What is left of a pool.
+/// What is left of a pool of workers `W`.
 #[derive(Drop)]
-pub struct Pool<M> {
+pub struct Pool<M, W> {
     /// The service as the last request left it.
     pub service: Service,
-    /// What each worker did, in the order in which they were handed in.
+    /// The workers, each with what it was lent as its last connection left that, in the order in which they were handed
+    /// in.
+    pub workers: Vec<W>,
+    /// What each of them did.
     pub ends: Vec<WorkerEnd>,
     /// The clock as the last request left it.
     pub moments: M,
 }
 
-/// What is left of a pair.
+/// What is left of a pair of workers `W`.
 #[derive(Drop)]
-pub struct Pair<M> {
+pub struct Pair<M, W> {
     /// The service as the last request left it.
     pub service: Service,
     /// What the left worker did.
     pub left: WorkerEnd,
     /// What the right one did.
     pub right: WorkerEnd,
+    /// The left worker, with what it was lent as its last connection left that.
+    pub left_worker: W,
+    /// The right one.
+    pub right_worker: W,
     /// The clock as the last request left it.
     pub moments: M,
 }
@@ -78,26 +85,34 @@ impl std::error::Error for ServeFault {}
 const STACK: usize = 524_288;
 
 /// A worker's thread, which promises what it leaves.
-type Started<C, S, G, O> = PromisedHandle<(SeatEnd, WorkerEnd), Work<C, S, G, O>>;
+type Started<C, S, G, O> = PromisedHandle<Leaving<C, S, G, O>, Work<C, S, G, O>>;
 
 /// What the workers left, in the order of their seats.
 #[derive(Drop)]
-struct Ends {
+struct Ends<C, S, G, O> {
     seats: Vec<SeatEnd>,
-    workers: Vec<WorkerEnd>,
+    workers: Vec<Worker<C, S, G, O>>,
+    ends: Vec<WorkerEnd>,
 }
 
-impl Ends {
+impl<C: Drop, S: Drop, G: Drop, O: Drop> Ends<C, S, G, O> {
     // Room for so many, and nothing yet.
-    fn with_capacity(alloc: Global, count: usize) -> Result<Ends, AllocError>
+    fn with_capacity(alloc: Global, count: usize) -> Result<Ends<C, S, G, O>, AllocError>
         ensures seats { IfOk result
             (λ ends. (ends.seats.items ≡ []) × (count ≤ vec_capacity ends.seats)) }
         ensures workers { IfOk result
             (λ ends. (ends.workers.items ≡ []) × (count ≤ vec_capacity ends.workers)) }
+        ensures ends { IfOk result
+            (λ ends. (ends.ends.items ≡ []) × (count ≤ vec_capacity ends.ends)) }
     {
         let seats = Vec::with_capacity(alloc, count)?;
         let workers = Vec::with_capacity(alloc, count)?;
-        Ok(Ends { seats, workers })
+        let ends = Vec::with_capacity(alloc, count)?;
+        Ok(Ends {
+            seats,
+            workers,
+            ends,
+        })
     }
 }
 
@@ -164,44 +179,59 @@ where
 }
 
 /// Joins each worker, in order. What they left goes where there is room for it.
-fn join_all<R, C, S, G, O>(rt: &R, started: Vec<Started<C, S, G, O>>, room: Ends) -> Ends
+fn join_all<R, C, S, G, O>(
+    rt: &R,
+    started: Vec<Started<C, S, G, O>>,
+    room: Ends<C, S, G, O>,
+) -> Ends<C, S, G, O>
 where
     R: Threads,
-    C: Conns,
-    S: Secrets,
-    G: Gate,
-    O: Observer,
+    C: Conns + Drop,
+    S: Secrets + Drop,
+    G: Gate + Drop,
+    O: Observer + Drop,
     requires seats { (room.seats.items ≡ []) × (vec_len started ≤ vec_capacity room.seats) }
     requires workers { (room.workers.items ≡ []) × (vec_len started ≤ vec_capacity room.workers) }
+    requires ends { (room.ends.items ≡ []) × (vec_len started ≤ vec_capacity room.ends) }
     ensures seats { vec_len result.seats ≡ vec_len started }
     ensures workers { vec_len result.workers ≡ vec_len started }
-    ensures each { EachWorks (means C.gives C.In.state C.Out.state S.draws G.watches O.told)
-        (promised started.items) result.seats.items result.workers.items }
+    ensures ends { vec_len result.ends ≡ vec_len started }
+    ensures each { EachWorks
+        (means (lending C.gives C.takes_back C.In.state C.Out.state) S.draws G.watches O.told)
+        (promised started.items)
+        (record {
+          seats = result.seats.items;
+          workers = result.workers.items;
+          ends = result.ends.items;
+        }) }
 {
     let mut ends = room;
     for worker in started {
-        let (seat, end) = worker.join(rt);
+        let Leaving { seat, worker, end } = worker.join(rt);
         ends.seats.push_reserved(seat);
-        ends.workers.push_reserved(end);
+        ends.workers.push_reserved(worker);
+        ends.ends.push_reserved(end);
     }
     ends
 }
 
 /// Serves the connections of all workers at once, each worker's one after the other until no more come. All workers are
 /// started before the keeper runs on this thread, and every thread is joined. `moments` is asked once for each request,
-/// and handed back. What a worker reads through is taken before, once for all its connections.
+/// and handed back, as is all that each worker was lent. What a worker reads through is taken before, once for all its
+/// connections.
 ///
 /// `NoMemory` comes where the workers' buffers or the lines found no memory: no worker was started. All memory that the
 /// pool itself needs is taken before the first one is, so that what was served isn't lost. `NoThread` comes where a
 /// worker couldn't be started, once those that were started have ended. They may wait for a connection: the first that
-/// asks something ends `DeskGone`, and its worker takes no more. After either the service and the clock are dropped.
+/// asks something ends `DeskGone`, and its worker takes no more. After either the service, the clock and the workers
+/// are dropped.
 pub fn serve_workers<R, M, C, S, G, O>(
     rt: &R,
     alloc: Global,
     service: Service,
     workers: Vec<Worker<C, S, G, O>>,
     moments: M,
-) -> Result<Pool<M>, ServeFault>
+) -> Result<Pool<M, Worker<C, S, G, O>>, ServeFault>
 where
     R: Threads + Wait + Sync,
     M: Moments + Drop,
@@ -211,9 +241,15 @@ where
     O: Observer + Send + Drop,
     requires { 0 < vec_len workers }
     ensures served { IfOk result (λ pool. IsServedPool
-        (means C.gives C.In.state C.Out.state S.draws G.watches O.told) M.tells
+        (means (lending C.gives C.takes_back C.In.state C.Out.state) S.draws G.watches O.told)
+        M.tells
         (record { service = service; moments = moments; workers = workers.items })
-        (record { service = pool.service; moments = pool.moments; ends = pool.ends.items })) }
+        (record {
+          service = pool.service;
+          moments = pool.moments;
+          workers = pool.workers.items;
+          ends = pool.ends.items;
+        })) }
     ensures lawful { IfOk result (λ pool. IsLawful pool.service) }
 {
     let Ok((keeper, stations)) = seated(alloc, service, workers) else {
@@ -222,7 +258,7 @@ where
     thread::scope(
         thread::scope_env(),
         rt,
-        |scope| -> Result<Pool<M>, ServeFault>
+        |scope| -> Result<Pool<M, Worker<C, S, G, O>>, ServeFault>
             requires of_one_call { AreOfOneCall keeper (seats_of stations.items) }
             requires seats { All IsFresh (seats_of stations.items) }
             requires servers { All (λ n. n ≡ keeper.start.limits.max_body)
@@ -231,7 +267,8 @@ where
             requires cross { IsSend C.row × IsSend S.row × IsSend G.row × IsSend O.row
                 × IsSend C.In.row × IsSend C.Out.row × IsSync R.row }
             ensures served { IfOk result (λ pool. IsServedPool
-                (means C.gives C.In.state C.Out.state S.draws G.watches O.told) M.tells
+                (means (lending C.gives C.takes_back C.In.state C.Out.state) S.draws
+                G.watches O.told) M.tells
                 (record {
                   service = keeper.start;
                   moments = moments;
@@ -240,6 +277,7 @@ where
                 (record {
                   service = pool.service;
                   moments = pool.moments;
+                  workers = pool.workers.items;
                   ends = pool.ends.items;
                 })) }
             ensures lawful { IfOk result (λ pool. IsLawful pool.service) }
@@ -269,7 +307,8 @@ where
             let Settled { service, .. } = settle_all(served, ends.seats);
             Ok(Pool {
                 service,
-                ends: ends.workers,
+                workers: ends.workers,
+                ends: ends.ends,
                 moments: clock,
             })
         },
@@ -294,7 +333,7 @@ pub fn serve_pair<R, M, C, S, G, O>(
     left: Worker<C, S, G, O>,
     right: Worker<C, S, G, O>,
     moments: M,
-) -> Result<Pair<M>, ServeFault>
+) -> Result<Pair<M, Worker<C, S, G, O>>, ServeFault>
 where
     R: Threads + Wait + Sync,
     M: Moments + Drop,
@@ -303,11 +342,13 @@ where
     G: Gate + Send + Drop,
     O: Observer + Send + Drop,
     ensures served { IfOk result (λ pair. IsServedPool
-        (means C.gives C.In.state C.Out.state S.draws G.watches O.told) M.tells
+        (means (lending C.gives C.takes_back C.In.state C.Out.state) S.draws G.watches O.told)
+        M.tells
         (record { service = service; moments = moments; workers = left ∷ right ∷ [] })
         (record {
           service = pair.service;
           moments = pair.moments;
+          workers = pair.left_worker ∷ pair.right_worker ∷ [];
           ends = pair.left ∷ pair.right ∷ [];
         })) }
     ensures lawful { IfOk result (λ pair. IsLawful pair.service) }
@@ -317,14 +358,21 @@ where
     };
     let Pool {
         service,
+        workers,
         ends,
         moments,
     } = serve_workers(rt, alloc, service, workers, moments)?;
+    let mut workers = workers.into_iter();
+    let (Some(left_worker), Some(right_worker)) = (workers.next(), workers.next()) else {
+        unreachable!()
+    };
     let (left, right) = (ends[0], ends[1]);
     Ok(Pair {
         service,
         left,
         right,
+        left_worker,
+        right_worker,
         moments,
     })
 }

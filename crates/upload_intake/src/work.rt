@@ -3,7 +3,7 @@ ghost use Rattle.std.specs.Prelude.{◌≡◌, ◌+◌, min, if◌then◌else◌
 ghost use Rattle.upload_intake.specs.Seats.{IsSameSeat};
 ghost use Rattle.upload_intake.specs.Settled.{count_limit};
 ghost use Rattle.upload_intake.specs.Stations.{Works};
-ghost use Rattle.upload_intake.specs.Working.{IsWorked, is_clean, is_gone, means};
+ghost use Rattle.upload_intake.specs.Working.{IsWorked, is_clean, is_gone, lending, means};
 
 use crate::conns::Conns;
 use crate::desk::SeatDesk;
@@ -71,18 +71,28 @@ pub(crate) struct Station<C, S, G, O> {
     pub(crate) server: ConnectionServer,
 }
 
+/// What a worker leaves.
+#[derive(Drop)]
+pub(crate) struct Leaving<C, S, G, O> {
+    /// Its seat, which asks no more.
+    pub(crate) seat: SeatEnd,
+    /// What it was lent.
+    pub(crate) worker: Worker<C, S, G, O>,
+    pub(crate) end: WorkerEnd,
+}
+
 /// What the thread of a worker promises of its station: the end comes of this seat, and over it these connections were
-/// served, with these secrets and by this server, and this gate and this observer were told of it.
+/// served, with these secrets and by this server, and this gate and this observer were told of it. All that the worker
+/// was lent is handed back as it became by that.
 #[derive(Drop)]
 pub(crate) struct Work<C, S, G, O> {
     pub(crate) station: Snapshot<Station<C, S, G, O>>,
 }
 
-impl<C: Conns, S: Secrets, G: Gate, O: Observer> Promise<(SeatEnd, WorkerEnd)>
-    for Work<C, S, G, O> {
-    ghost kept_by = { λ promise end.
-        Works (means C.gives C.In.state C.Out.state S.draws G.watches O.told)
-        promise.station.value end.0 end.1 };
+impl<C: Conns, S: Secrets, G: Gate, O: Observer> Promise<Leaving<C, S, G, O>> for Work<C, S, G, O> {
+    ghost kept_by = { λ promise leaving.
+        Works (means (lending C.gives C.takes_back C.In.state C.Out.state) S.draws G.watches O.told)
+        promise.station.value leaving };
 }
 
 // A seat's desk behind a gate, and how many requests were asked there.
@@ -99,9 +109,10 @@ impl<'a, R: Wait, S: Secrets, G: Gate> Desk for GatedDesk<'a, R, S, G> {
     ghost use Rattle.upload_intake.specs.Watched.{WatchesOne};
 
     ghost moves = { λ old ask answer new.
-        AsksWithDrawn S.draws (seat_of old.desk) (secrets_of old.desk) ask answer (seat_of new.desk)
-        (secrets_of new.desk)
-        × WatchesOne G.watches old.gate old.turn ask answer new.gate new.turn };
+        AsksWithDrawn S.draws (seat_of old.desk, secrets_of old.desk) ask answer
+        (seat_of new.desk, secrets_of new.desk)
+        × WatchesOne G.watches (record { gate = old.gate; turn = old.turn }) ask answer
+        (record { gate = new.gate; turn = new.turn }) };
 
     fn ask(&mut self, ask: Ask) -> Option<Answer> {
         self.turn = self.turn.saturating_add(1);
@@ -120,17 +131,17 @@ fn serve_seat<R, C, S, G, O>(
     seat: Seat,
     worker: Worker<C, S, G, O>,
     mut server: ConnectionServer,
-) -> (SeatEnd, WorkerEnd)
+) -> Leaving<C, S, G, O>
 where
     R: Threads + Wait,
     C: Conns + Drop,
     S: Secrets + Drop,
     G: Gate + Drop,
     O: Observer + Drop,
-    ensures seat { IsSameSeat seat result.0 }
-    ensures worked { IsWorked (means C.gives C.In.state C.Out.state S.draws G.watches O.told)
-        server.max_body worker.conns worker.secrets worker.gate worker.observer seat result.0
-        result.1.conns result.1.clean }
+    ensures seat { IsSameSeat seat result.seat }
+    ensures worked { IsWorked
+        (means (lending C.gives C.takes_back C.In.state C.Out.state) S.draws G.watches O.told)
+        server.max_body worker seat result.worker result.seat result.end }
 {
     let Worker {
         mut conns,
@@ -150,29 +161,41 @@ where
             break;
         };
         let ended = server.serve(&place, &mut source, &mut sink, &mut desk, &mut observer);
+        conns.take_back(source, sink);
         end.count(ended);
         // A desk that is gone stays gone: the next client would get no reply.
         if is_gone(ended) {
             break;
         }
     }
-    let GatedDesk { desk, .. } = desk;
-    (desk.into_seat().finish(rt), end)
+    let GatedDesk { desk, gate, .. } = desk;
+    let (seat, secrets) = desk.into_parts();
+    Leaving {
+        seat: seat.finish(rt),
+        worker: Worker {
+            conns,
+            secrets,
+            gate,
+            observer,
+        },
+        end,
+    }
 }
 
 /// The worker of a station serves its connections, and keeps the promise of its thread.
 pub(crate) fn serve_station<R, C, S, G, O>(
     rt: &R,
     station: Station<C, S, G, O>,
-) -> (SeatEnd, WorkerEnd)
+) -> Leaving<C, S, G, O>
 where
     R: Threads + Wait,
     C: Conns + Drop,
     S: Secrets + Drop,
     G: Gate + Drop,
     O: Observer + Drop,
-    ensures { Works (means C.gives C.In.state C.Out.state S.draws G.watches O.told) station
-        result.0 result.1 }
+    ensures { Works
+        (means (lending C.gives C.takes_back C.In.state C.Out.state) S.draws G.watches O.told)
+        station result }
 {
     let Station {
         seat,

@@ -54,7 +54,7 @@ fn served<R: Threads + Wait + Sync>(
     rt: &R,
     alloc: Global,
     workers: (TextWorker, TextWorker),
-) -> Result<Pair<Still>, ServeFault> {
+) -> Result<Pair<Still, TextWorker>, ServeFault> {
     let (left, right) = workers;
     serve_pair(rt, alloc, service(alloc), left, right, Still)
 }
@@ -69,7 +69,12 @@ fn name_for(alloc: Global, text: &[u8]) -> Result<RepoName, NameFault> {
 
 /// Each connection is served, and where it ends well its blob is held: one of its two requests had the memory. At least
 /// so many of the two end well.
-fn look(rt: &impl Abort, alloc: Global, pair: &Pair<Still>, least_clean: u64) -> Result<(), Fail> {
+fn look(
+    rt: &impl Abort,
+    alloc: Global,
+    pair: &Pair<Still, TextWorker>,
+    least_clean: u64,
+) -> Result<(), Fail> {
     let left = name_for(alloc, b"lib/a")?;
     let right = name_for(alloc, b"lib/b")?;
     let digest = BlobDigest::of_sha256(b"abc");

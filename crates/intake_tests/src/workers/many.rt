@@ -46,6 +46,8 @@ impl ByteSource for Short {
 #[derive(Drop)]
 struct Same {
     left: u64,
+    /// How many were given back, all that they had to read read.
+    back: u64,
 }
 
 impl Conns for Same {
@@ -58,6 +60,9 @@ impl Conns for Same {
         (conn.0.given.bytes ≡ []) × (conn.0.reads ≡ 0) × (conn.1.taken.bytes ≡ [])
         × (conn.1.writes ≡ 0)) };
 
+    // One more is back if all of its text was read.
+    ghost takes_back = { λ old conn new. new.left ≡ old.left };
+
     fn next_conn(&mut self) -> Option<(Short, Nowhere)> {
         self.left = self.left.checked_sub(1)?;
         let source = Short {
@@ -67,11 +72,20 @@ impl Conns for Same {
         };
         Some((source, Nowhere::new()))
     }
+
+    fn take_back(&mut self, source: Short, _sink: Nowhere) {
+        if source.left.is_empty() {
+            self.back = self.back.saturating_add(1);
+        }
+    }
 }
 
 fn worker(count: u64) -> Worker<Same, ZeroSecrets, NoGate, NoObserver> {
     Worker {
-        conns: Same { left: count },
+        conns: Same {
+            left: count,
+            back: 0,
+        },
         secrets: ZeroSecrets,
         gate: NoGate,
         observer: NoObserver,
@@ -94,5 +108,8 @@ fn very_many_connections_are_served(rt: HostRuntime) -> Result<(), Fail> {
         (pair.right.conns, pair.right.clean) == (FEW, FEW),
         "right",
     );
+    let (left, right) = (pair.left_worker.conns, pair.right_worker.conns);
+    check(&rt, (left.left, left.back) == (0, MANY), "left back");
+    check(&rt, (right.left, right.back) == (0, FEW), "right back");
     Ok(())
 }

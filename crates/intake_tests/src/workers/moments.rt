@@ -103,6 +103,8 @@ impl<'a> Conns for One<'a> {
         (conn.0.given.bytes ≡ []) × (conn.0.reads ≡ 0) × (conn.1.taken.bytes ≡ [])
         × (conn.1.writes ≡ 0)) };
 
+    ghost takes_back = { λ old conn new. new ≡ old };
+
     fn next_conn(&mut self) -> Option<(Text, Statuses<'a>)> {
         let text = self.text.take()?;
         let source = Text {
@@ -117,6 +119,8 @@ impl<'a> Conns for One<'a> {
         };
         Some((source, sink))
     }
+
+    fn take_back(&mut self, _source: Text, _sink: Statuses<'a>) {}
 }
 
 type OneWorker<'a> = Worker<One<'a>, ZeroSecrets, NoGate, NoObserver>;
@@ -137,13 +141,13 @@ const LIMITS: Limits = Limits {
     max_idle: 10,
 };
 
-fn served<R: Threads + Wait + Sync>(
+fn served<'a, R: Threads + Wait + Sync>(
     rt: &R,
     alloc: Global,
-    left: OneWorker<'_>,
-    right: OneWorker<'_>,
+    left: OneWorker<'a>,
+    right: OneWorker<'a>,
     moments: Told,
-) -> Result<Pair<Told>, ServeFault> {
+) -> Result<Pair<Told, OneWorker<'a>>, ServeFault> {
     let service = Service::new(alloc, LIMITS);
     serve_pair(rt, alloc, service, left, right, moments)
 }
@@ -162,6 +166,7 @@ where
     };
     let pair = served(rt, alloc, left, right, moments)?;
     check(rt, pair.left.clean == 1, "ended well");
+    check(rt, pair.left_worker.conns.text.is_none(), "handed back");
     Ok(seen.load(Ordering::SeqCst))
 }
 

@@ -89,8 +89,14 @@ fn workers<'a>(
 }
 
 /// Each worker took its three connections, of which two ended well, and its blob is held under its name.
-fn check_pool(rt: &impl Abort, alloc: Global, pool: &Pool<Still>, count: u64) -> Result<(), Fail> {
+fn check_pool(
+    rt: &impl Abort,
+    alloc: Global,
+    pool: &Pool<Still, TextWorker<'_>>,
+    count: u64,
+) -> Result<(), Fail> {
     check(rt, pool.ends.len() as u64 == count, "counted");
+    check(rt, pool.workers.len() as u64 == count, "handed back");
     let digest = BlobDigest::of_sha256(b"abc");
     for (number, end) in pool.ends.iter().enumerate() {
         check(rt, (end.conns, end.clean) == (3, 2), "served");

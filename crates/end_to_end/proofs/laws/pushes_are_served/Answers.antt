@@ -1,10 +1,11 @@
-use Rattle.upload_intake.specs.Working.{means}
+use Rattle.upload_intake.specs.Working.{lending, means}
 use Rattle.end_to_end.proofs.Serving.{pushes_served}
 use Rattle.end_to_end.proofs.laws.pushes_are_served.Goals as goal
 
 pub returns : goal.returns
 returns g c =
-    pushes_served (means g.C.Conns.gives g.C.In.ByteSource.state g.C.Out.ByteSink.state g.S.Secrets.draws
+    pushes_served (means (lending g.C.Conns.gives g.C.Conns.takes_back g.C.In.ByteSource.state g.C.Out.ByteSink.state)
+    g.S.Secrets.draws
     g.G.Gate.watches g.O.Observer.told) g.M.Moments.tells (record {
       headline = c.headline_holds.ensures;
       others = c.others_leave_a_session.ensures;

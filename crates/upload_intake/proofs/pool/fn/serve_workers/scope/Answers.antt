@@ -2,8 +2,8 @@ use Rattle.std.proofs.Common.{◌≡◌, ℕ, List, ap, ◌∙◌, sym, subst, l
 use Rattle.std.proofs.lemmas.List.{length-map}
 use Rattle.std.specs.Vec.Iter.{into_iter_items}
 use denote.Param.Send.{sendable}
-use Rattle.upload_intake.specs.Stations.{promised, EachWorks}
-use Rattle.upload_intake.specs.Working.{means}
+use Rattle.upload_intake.specs.Stations.{promised, AllLeft, EachWorks}
+use Rattle.upload_intake.specs.Working.{lending, means}
 use Rattle.upload_intake.proofs.Opening.{all_done}
 use Rattle.upload_intake.proofs.Pooling.{still_of_one_call, served_pool}
 use Rattle.upload_intake.proofs.pool.fn.serve_workers.scope.Goals as goal
@@ -24,7 +24,8 @@ spawn_scoped_with-requires-clause-runs g c κs within =
 pub settle_all-service-requires : goal.settle_all-service-requires
 settle_all-service-requires g c =
     let m =
-    means g.C.Conns.gives g.C.In.ByteSource.state g.C.Out.ByteSink.state g.S.Secrets.draws g.G.Gate.watches
+    means (lending g.C.Conns.gives g.C.Conns.takes_back g.C.In.ByteSource.state g.C.Out.ByteSink.state)
+    g.S.Secrets.draws g.G.Gate.watches
     g.O.Observer.told in
     let stations = c.captures.stations.items in
     let started = c.loop-station.started.items in
@@ -36,15 +37,18 @@ settle_all-service-requires g c =
     let count : length started ≡ length stations = sym (length-map started _) ∙ ap length all in
     let seats = c.join_all-ends.result.seats in
     let workers = c.join_all-ends.result.workers in
-    still_of_one_call m g.M.Moments.tells c.captures.keeper c.run-served.result stations seats.items workers.items
+    let ends = c.join_all-ends.result.ends in
+    let left : AllLeft _ _ _ _ = record { seats = seats.items; workers = workers.items; ends = ends.items } in
+    still_of_one_call m g.M.Moments.tells c.captures.keeper c.run-served.result stations left
     c.requires.of_one_call c.run-served.ensures.same
     (sym seats.ok.0 ∙ c.join_all-ends.ensures.seats ∙ c.loop-station.started.ok.0 ∙ count)
-    (subst (λ l. EachWorks m l seats.items workers.items) all c.join_all-ends.ensures.each)
+    (subst (λ l. EachWorks m l left) all c.join_all-ends.ensures.each)
 
 pub returns : goal.returns
 returns g c =
     let m =
-    means g.C.Conns.gives g.C.In.ByteSource.state g.C.Out.ByteSink.state g.S.Secrets.draws g.G.Gate.watches
+    means (lending g.C.Conns.gives g.C.Conns.takes_back g.C.In.ByteSource.state g.C.Out.ByteSink.state)
+    g.S.Secrets.draws g.G.Gate.watches
     g.O.Observer.told in
     let stations = c.captures.stations.items in
     let started = c.loop-station.started.items in
@@ -56,15 +60,18 @@ returns g c =
     let count : length started ≡ length stations = sym (length-map started _) ∙ ap length all in
     let seats = c.join_all-ends.result.seats in
     let workers = c.join_all-ends.result.workers in
+    let ends = c.join_all-ends.result.ends in
+    let left : AllLeft _ _ _ _ = record { seats = seats.items; workers = workers.items; ends = ends.items } in
     record {
       served =
-          served_pool m g.M.Moments.tells c.captures.keeper c.run-served.result stations seats.items workers.items
+          served_pool m g.M.Moments.tells c.captures.keeper c.run-served.result stations left
           c.captures.moments c.run-served.new.moments
           c.settle_all-service.result.service c.settle_all-service.result.log_length c.requires.fresh c.requires.seats
           c.requires.servers
           (sym seats.ok.0 ∙ c.join_all-ends.ensures.seats ∙ c.loop-station.started.ok.0 ∙ count)
           (sym workers.ok.0 ∙ c.join_all-ends.ensures.workers ∙ c.loop-station.started.ok.0 ∙ count)
-          (subst (λ l. EachWorks m l seats.items workers.items) all c.join_all-ends.ensures.each)
+          (sym ends.ok.0 ∙ c.join_all-ends.ensures.ends ∙ c.loop-station.started.ok.0 ∙ count)
+          (subst (λ l. EachWorks m l left) all c.join_all-ends.ensures.each)
           c.run-served.ensures.same c.run-served.ensures.grows c.settle_all-service.ensures.settled;
       lawful = c.settle_all-service.ensures.lawful;
     }
