@@ -6,9 +6,9 @@ use Rattle.std.specs.declared.net.socket_addr.SocketAddr.{SocketAddr}
 use Rattle.http_wire.proofs.WritingLemmas.{appends_both}
 use Rattle.upload_service.specs.Machine.{empty_state}
 use Rattle.upload_intake.specs.declared.work.WorkerEnd.{WorkerEnd}
-use Rattle.upload_intake.specs.ServedPool.{Given, Left, IsServedPool}
+use Rattle.upload_intake.specs.Pools.ServedPool.{Given, Left, IsServedPool}
 use Rattle.upload_intake.specs.Transcripts.{GivesUnused}
-use Rattle.upload_intake.specs.Working.{Lending, Means}
+use Rattle.upload_intake.specs.Pools.Working.{Lending, Means}
 use Rattle.upload_intake.proofs.Transcripts.{connections_told}
 use Rattle.blobd.proofs.LoggedLines.{TellsLog, logged}
 use Rattle.blobd.specs.LogTold.{LogState, new_log}

@@ -1,6 +1,6 @@
 -- The text of a line of the log of requests, and what becomes of it.
 use Rattle.std.specs.Prelude.{◌≡◌, ℕ, ◌+◌, min, List, [], ◌∷◌, ◌++◌, map, codes, decimal, string_bytes}
-use Rattle.upload_intake.specs.Settled.{count_limit}
+use Rattle.upload_intake.specs.Pools.Settled.{count_limit}
 use Rattle.blobd.specs.declared.log_lines.Line.{Line}
 use Rattle.blobd.specs.declared.log_lines.LogLines.{LogLines}
 

@@ -1,7 +1,7 @@
 -- What the log of requests does with what it is told.
 use Rattle.std.specs.Prelude.{◌≡◌, ℕ, ◌+◌, ◌⊎◌, min, Bool, true, false, List, [], ◌∷◌, ◌++◌, codes, Option, Some, None}
 use Rattle.std.specs.Prelude.{IsSomeAnd, if◌then◌else◌}
-use Rattle.upload_intake.specs.Settled.{count_limit}
+use Rattle.upload_intake.specs.Pools.Settled.{count_limit}
 use Rattle.upload_wire.specs.Events.{Event, Head, Unreadable, Replied}
 use Rattle.upload_wire.specs.declared.observer.RequestLine.{RequestLine}
 use Rattle.blobd.specs.LogLine.{line_text, lines_of}

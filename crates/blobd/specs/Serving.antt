@@ -3,9 +3,9 @@ use Rattle.std.specs.Prelude.{◌≡◌, ℕ, ◌<◌, length, get_or, All, Opti
 use Rattle.std.specs.List.{AllByRecursion}
 use Rattle.upload_service.specs.Machine.{empty_state}
 use Rattle.upload_intake.specs.declared.work.WorkerEnd.{WorkerEnd}
-use Rattle.upload_intake.specs.ServedPool.{Given, Left, IsServedPool}
+use Rattle.upload_intake.specs.Pools.ServedPool.{Given, Left, IsServedPool}
 use Rattle.upload_intake.specs.Transcripts.{TellsAll}
-use Rattle.upload_intake.specs.Working.{Lending, Means, Lent}
+use Rattle.upload_intake.specs.Pools.Working.{Lending, Means, Lent}
 use Rattle.blobd.specs.LogTold.{LogState, IsLogged}
 use Rattle.blobd.specs.Once.{program_limits}
 use Rattle.blobd.specs.declared.accept.Terms.{Terms}

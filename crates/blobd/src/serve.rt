@@ -1,6 +1,6 @@
 //! `blobd serve`: a listener, and the workers that take connections from it.
 ghost use Rattle.std.specs.Prelude.{◌≡◌, ◌<◌, ◌≤◌, true, [], All, None, IfOk, OnOk, is_some, vec_len, vec_capacity};
-ghost use Rattle.upload_intake.specs.Working.{lending, means};
+ghost use Rattle.upload_intake.specs.Pools.Working.{lending, means};
 ghost use Rattle.blobd.specs.LogTold.{log_state, new_log, no_head};
 ghost use Rattle.blobd.specs.Serving.{HasServed};
 ghost use Rattle.blobd.specs.Status.{ServingEnds};

@@ -5,7 +5,7 @@ use Rattle.std.specs.Prelude.{⊤, if◌then◌else◌}
 use Rattle.std.specs.List.{AllByRecursion}
 use Rattle.upload_service.specs.declared.ask.Ask.{Ask}
 use Rattle.upload_client.specs.TransportText.{WireState, AsksOverWire, stays_open}
-use Rattle.upload_intake.specs.Working.{Lending, Means}
+use Rattle.upload_intake.specs.Pools.Working.{Lending, Means}
 use Rattle.upload_push.specs.Dialed.{AsksDialed, Connects, kept_or}
 use Rattle.upload_push.specs.Slices.{Attempt, Leads}
 use Rattle.upload_push.proofs.Turns.{same_inside}

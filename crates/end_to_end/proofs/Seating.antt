@@ -19,10 +19,10 @@ use Rattle.upload_wire.specs.declared.connection.ConnFault.TheVariants as Conn
 use Rattle.upload_client.specs.declared.heard.Heard.{Heard}
 use Rattle.upload_intake.specs.Log.{Step}
 use Rattle.upload_intake.specs.Seats.{SeatState}
-use Rattle.upload_intake.specs.ServedPool.{of_seat, asked_and_answered, read_and_replied, asks}
+use Rattle.upload_intake.specs.Pools.ServedPool.{of_seat, asked_and_answered, read_and_replied, asks}
 use Rattle.upload_intake.specs.Transcripts.{GivesUnused}
-use Rattle.upload_intake.specs.Working.{Lending, Means, Talk, Serves, IsLast, steps, answered_on, unanswered_on}
-use Rattle.upload_intake.specs.Working.{all_answered, all_unanswered}
+use Rattle.upload_intake.specs.Pools.Working.{Lending, Means, Talk, Serves, IsLast, steps, answered_on, unanswered_on}
+use Rattle.upload_intake.specs.Pools.Working.{all_answered, all_unanswered}
 use Rattle.upload_intake.proofs.Working.{behind}
 use Rattle.upload_push.specs.Runs.{IsHeardOf}
 use Rattle.upload_push.specs.Slices.{Push, IsSound, IsSoundAsk}

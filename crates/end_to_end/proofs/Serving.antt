@@ -13,8 +13,8 @@ use Rattle.upload_service.specs.Headline.{Headline}
 use Rattle.upload_service.specs.Session.{received}
 use Rattle.upload_service.proofs.Keeping.Tables.{contains-insert}
 use Rattle.upload_intake.specs.Log.{Step, exchanges_of}
-use Rattle.upload_intake.specs.ServedPool.{Given, Left, HasPart, IsServedPool, asked_and_answered, of_seat}
-use Rattle.upload_intake.specs.Working.{Lending, Means, Lent, all_answered, all_unanswered}
+use Rattle.upload_intake.specs.Pools.ServedPool.{Given, Left, HasPart, IsServedPool, asked_and_answered, of_seat}
+use Rattle.upload_intake.specs.Pools.Working.{Lending, Means, Lent, all_answered, all_unanswered}
 use Rattle.upload_intake.specs.declared.work.WorkerEnd.{WorkerEnd}
 use Rattle.upload_client.specs.declared.heard.Heard.{Heard}
 use Rattle.upload_push.specs.Promise.{IsThere}

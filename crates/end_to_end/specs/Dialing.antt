@@ -3,7 +3,7 @@ use Rattle.std.specs.Prelude.{◌≡◌, ℕ, List, [], ◌∷◌, ◌++◌, Opt
 use Rattle.std.specs.List.{AllByRecursion}
 use Rattle.upload_service.specs.declared.ask.Ask.{Ask}
 use Rattle.upload_client.specs.TransportText.{WireState}
-use Rattle.upload_intake.specs.Working.{Lending, Means, Talk}
+use Rattle.upload_intake.specs.Pools.Working.{Lending, Means, Talk}
 use Rattle.upload_push.specs.Dialed.{AsksDialed}
 use Rattle.upload_push.specs.Slices.{Attempt, Leads}
 use Rattle.wire_laws.specs.Joined.{TransportCall, Transmits, IsNoGet}

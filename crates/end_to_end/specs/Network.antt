@@ -12,9 +12,9 @@ use Rattle.upload_wire.specs.Conversation.{WireExchange}
 use Rattle.upload_client.specs.TransportText.{WireState}
 use Rattle.upload_client.specs.declared.heard.Heard.{Heard}
 use Rattle.upload_intake.specs.Log.{Step, exchanges_of}
-use Rattle.upload_intake.specs.ServedPool.{Given, Left, IsServedPool}
+use Rattle.upload_intake.specs.Pools.ServedPool.{Given, Left, IsServedPool}
 use Rattle.upload_intake.specs.Transcripts.{GivesUnused}
-use Rattle.upload_intake.specs.Working.{Lending, Means, Lent, Talk, answered_on, unanswered_on}
+use Rattle.upload_intake.specs.Pools.Working.{Lending, Means, Lent, Talk, answered_on, unanswered_on}
 use Rattle.upload_intake.specs.declared.work.WorkerEnd.{WorkerEnd}
 use Rattle.upload_push.specs.Promise.{IsStored, IsThere}
 use Rattle.upload_push.specs.Slices.{Push}

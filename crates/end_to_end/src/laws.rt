@@ -1,7 +1,7 @@
 //! The laws, as functions that do nothing and whose contracts are the laws.
 ghost use Rattle.end_to_end.specs.Dialing.{DialedConnectionsAreCarried, DialedPushesHaveConnections};
 ghost use Rattle.end_to_end.specs.Network.{PushesAreServed};
-ghost use Rattle.upload_intake.specs.Working.{lending, means};
+ghost use Rattle.upload_intake.specs.Pools.Working.{lending, means};
 
 use upload_client::written_places_are_read;
 use upload_intake::{Conns, Gate, Moments, Secrets};

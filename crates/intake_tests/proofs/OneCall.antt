@@ -1,7 +1,7 @@
 -- The ends of two seats are of one call with the keeper that ran, as the seats were.
 use Rattle.std.proofs.Common.{◌≡◌, ℕ, zero, suc, ◌<◌, List, [], ◌∷◌, arith, length, get_or, sym, ap, ◌∙◌}
 use Rattle.upload_intake.specs.Seats.{SeatState, IsSameSeat}
-use Rattle.upload_intake.specs.Served.{KeeperState, IsSameKeeper, IsSeatOf, AreOfOneCall}
+use Rattle.upload_intake.specs.Pools.Served.{KeeperState, IsSameKeeper, IsSeatOf, AreOfOneCall}
 
 seat_of : (keeper behind : KeeperState) (k : ℕ) (seat end : SeatState) → IsSameKeeper keeper behind
     → IsSeatOf keeper k seat → IsSameSeat seat end → IsSeatOf behind k end

@@ -1,7 +1,7 @@
 //! Two seats asked from two threads. Each test ends by itself, and prints the same whatever the schedule.
 ghost use Rattle.std.specs.Prelude.{IfOk, [], ◌∷◌, ◌≡◌, ◌<◌, ◌≤◌, ◌^◌};
 ghost use Rattle.upload_intake.specs.Seats.{IsSameSeat};
-ghost use Rattle.upload_intake.specs.Served.{AreOfOneCall};
+ghost use Rattle.upload_intake.specs.Pools.Served.{AreOfOneCall};
 
 mod growths;
 

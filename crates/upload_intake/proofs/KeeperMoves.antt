@@ -21,10 +21,10 @@ use Rattle.upload_intake.specs.Line.{items_of, with_sent, with_taken, IsOfAnothe
 use Rattle.upload_intake.specs.Log.{TakenJob, Step, step_of, steps_of, exchanges_of, job_of, taken_by, answers_to}
 use Rattle.upload_intake.specs.Log.{last_moment}
 use Rattle.upload_intake.specs.declared.reply.ReplyLine.{ReplyLine}
-use Rattle.upload_intake.specs.Served.{KeeperState, IsSameKeeper, IsServed}
+use Rattle.upload_intake.specs.Pools.Served.{KeeperState, IsSameKeeper, IsServed}
 use Rattle.upload_intake.specs.Told.{Told, Grows}
 use Rattle.upload_intake.specs.declared.log.Entry.{Entry}
-use Rattle.upload_intake.specs.Settled.{count_limit}
+use Rattle.upload_intake.specs.Pools.Settled.{count_limit}
 use Rattle.upload_intake.specs.Kept.{taken_in, add_job, has_finish, Outlet, outlet_of, Replied, Replies, Keeps}
 use Rattle.upload_intake.specs.Kept.{KeepsSeat, Receives, TookFinish, AreOfSeats, IsKeeping}
 use Rattle.upload_intake.specs.Kept.Replies.{Sent, Closed}

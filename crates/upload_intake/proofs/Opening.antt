@@ -6,7 +6,7 @@ use Rattle.upload_service.specs.declared.answer.Answer.{Answer}
 use Rattle.upload_intake.specs.declared.message.Message.{Message}
 use Rattle.upload_intake.specs.Passes.{LineId}
 use Rattle.upload_intake.specs.Seats.{SeatState}
-use Rattle.upload_intake.specs.Served.{KeeperState, AreOfOneCall}
+use Rattle.upload_intake.specs.Pools.Served.{KeeperState, AreOfOneCall}
 
 -- a seat is on these lines, with this number
 pub record IsSeatOn (jobs : LineId Message) (replies : List (LineId Answer)) (number : ℕ)

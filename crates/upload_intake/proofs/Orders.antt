@@ -7,7 +7,7 @@ use Rattle.upload_service.specs.declared.answer.Answer.TheVariants.{NoMemory}
 use Rattle.upload_service.specs.Machine.{State, Outcome, Comes, outcome, Turn}
 use Rattle.upload_service.specs.Run.{Run}
 use Rattle.upload_intake.specs.Log.{Step, exchanges_of}
-use Rattle.upload_intake.specs.ServedPool.{Carries, of_seat, asked_and_answered, read_and_replied, asks}
+use Rattle.upload_intake.specs.Pools.ServedPool.{Carries, of_seat, asked_and_answered, read_and_replied, asks}
 use Rattle.upload_intake.specs.Determined.{taken, HaveMemory, ServedOrdersAreDetermined}
 use Rattle.upload_wire.specs.Conversation.{WireExchange}
 

@@ -14,10 +14,10 @@ use Rattle.upload_intake.specs.declared.message.Message.TheVariants as message
 use Rattle.upload_intake.specs.Line.{items_of, sent, joined, Waits}
 use Rattle.upload_intake.specs.declared.reply.ReplyLine.{ReplyLine}
 use Rattle.upload_intake.specs.Seats.{SeatState}
-use Rattle.upload_intake.specs.Settled.{IsSettled, IsSettledSeat, count_limit}
-use Rattle.upload_intake.specs.Settles.{Settles}
+use Rattle.upload_intake.specs.Pools.Settled.{IsSettled, IsSettledSeat, count_limit}
+use Rattle.upload_intake.specs.Pools.Settles.{Settles}
 use Rattle.upload_intake.specs.Replies.{replies_on}
-use Rattle.upload_intake.specs.Served.{KeeperState, IsServed, IsSeatOf, AreOfOneCall}
+use Rattle.upload_intake.specs.Pools.Served.{KeeperState, IsServed, IsSeatOf, AreOfOneCall}
 use Rattle.crossbeam_channel.specs.Claims.{view as known}
 use Rattle.upload_intake.specs.Log.{TakenJob, Step, exchanges_of, taken_by, jobs_of, answers_to}
 use Rattle.upload_intake.specs.Passes.{LineId, sender_view, taker_view, whats}

@@ -3,7 +3,7 @@ use Rattle.std.proofs.Common.{◌≡◌, ℕ, List, [], ◌∷◌, ◌++◌, sym
 use Rattle.std.specs.Prelude.{Some}
 use Rattle.std.specs.List.{AllByRecursion}
 use Rattle.upload_intake.specs.Seats.{SeatState}
-use Rattle.upload_intake.specs.Working.{Lending, Means, Talk, Serves, IsLast, steps}
+use Rattle.upload_intake.specs.Pools.Working.{Lending, Means, Talk, Serves, IsLast, steps}
 use Rattle.upload_intake.specs.Transcripts.{GivesUnused, TellsAll, TranscriptsTellConnections}
 use Rattle.upload_intake.proofs.Working.{behind}
 use Rattle.upload_wire.specs.declared.connection.ConnEnd.TheVariants.{DeskGone}

@@ -10,12 +10,13 @@ use Rattle.upload_intake.specs.Watched.{GateAt, WatchesEach, WatchesLast}
 use Rattle.upload_intake.specs.Desks.{seat_of, secrets_of}
 use Rattle.upload_intake.specs.declared.work.GatedDesk.{GatedDesk}
 use Rattle.upload_intake.specs.declared.work.WorkerEnd.{WorkerEnd}
-use Rattle.upload_intake.specs.Settled.{count_limit}
+use Rattle.upload_intake.specs.Pools.Settled.{count_limit}
 use Rattle.upload_intake.specs.SeatConversations.{Adds}
-use Rattle.upload_intake.specs.Working.{Lending, Means, Lent, Behind, is_clean, is_gone, Serves, IsLast, Talk, steps}
-use Rattle.upload_intake.specs.Working.{answered_on, unanswered_on, all_answered, all_unanswered, count_clean}
-use Rattle.upload_intake.specs.Working.{TellsTalk, TellsTalks}
-use Rattle.upload_intake.specs.Working.{IsWorked}
+use Rattle.upload_intake.specs.Pools.Working.{Lending, Means, Lent, Behind, is_clean, is_gone, Serves, IsLast, Talk}
+use Rattle.upload_intake.specs.Pools.Working.{steps}
+use Rattle.upload_intake.specs.Pools.Working.{answered_on, unanswered_on, all_answered, all_unanswered, count_clean}
+use Rattle.upload_intake.specs.Pools.Working.{TellsTalk, TellsTalks}
+use Rattle.upload_intake.specs.Pools.Working.{IsWorked}
 use Rattle.upload_intake.proofs.Conversations.{GatedSteps, gate_at}
 use Rattle.upload_intake.proofs.SeatConversations.{adds_none, adds_twice, fills}
 use Rattle.upload_intake.proofs.Watching.{each_twice, watched_on, watched_lost}

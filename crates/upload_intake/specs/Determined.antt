@@ -5,8 +5,8 @@ use Rattle.upload_service.specs.declared.ask.Ask.{Ask}
 use Rattle.upload_service.specs.declared.answer.Answer.TheVariants.{NoMemory}
 use Rattle.upload_service.specs.Machine.{State}
 use Rattle.upload_intake.specs.Log.{Step, exchanges_of}
-use Rattle.upload_intake.specs.Served.{IsServed}
-use Rattle.upload_intake.specs.ServedPool.{Carries, read_and_replied}
+use Rattle.upload_intake.specs.Pools.Served.{IsServed}
+use Rattle.upload_intake.specs.Pools.ServedPool.{Carries, read_and_replied}
 use Rattle.upload_wire.specs.Conversation.{WireExchange}
 
 -- a step but for its answer: from which seat the job came, what it asked, with which secret, and at which moment it was

@@ -13,7 +13,7 @@ use Rattle.crossbeam_channel.specs.Claims.{view}
 use Rattle.upload_intake.specs.Line.{items_of}
 use Rattle.upload_intake.specs.Log.{Job, TakenJob, Step, exchanges_of, taken_by, answers_to, last_moment}
 use Rattle.upload_intake.specs.Passes.{sender_view, taker_view, whats}
-use Rattle.upload_intake.specs.Settled.{count_limit}
+use Rattle.upload_intake.specs.Pools.Settled.{count_limit}
 
 -- the jobs among what lies on a line
 abbrev pub jobs_in : List Message → List Job

@@ -11,13 +11,8 @@ pub mod SeatConversations
 pub mod SeatMoves
 pub mod Seats
 pub mod Secrets
-pub mod Served
-pub mod ServedPool
-pub mod Settled
-pub mod Settles
-pub mod Stations
+pub mod Pools
 pub mod Told
 pub mod Transcripts
 pub mod Watched
-pub mod Working
 pub mod FaultTexts

@@ -2,7 +2,7 @@
 use Rattle.std.specs.Prelude.{◌≡◌, ℕ, max, List, [], ◌∷◌, ◌++◌}
 use Rattle.upload_service.specs.Run.{Exchange}
 use Rattle.upload_intake.specs.Log.{Step, exchanges_of, last_moment}
-use Rattle.upload_intake.specs.Served.{KeeperState}
+use Rattle.upload_intake.specs.Pools.Served.{KeeperState}
 
 -- The clock was asked once for each exchange, from old to new, and each is at the greater of what it told and the
 -- moment before.

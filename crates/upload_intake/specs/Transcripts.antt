@@ -2,7 +2,7 @@
 use Rattle.std.specs.Prelude.{◌≡◌, ℕ, List, [], Some}
 use Rattle.std.specs.List.{AllByRecursion}
 use Rattle.upload_intake.specs.Seats.{SeatState}
-use Rattle.upload_intake.specs.Working.{Lending, Means, Talk, Serves, steps}
+use Rattle.upload_intake.specs.Pools.Working.{Lending, Means, Talk, Serves, steps}
 use Rattle.upload_wire.specs.Transcripts.{all_read, all_written}
 
 -- connections are given on which nothing was read and nothing was written

@@ -37,7 +37,7 @@ impl Model for Keeper {
     ghost use Rattle.upload_service.specs.Codes.{state_code};
     ghost use Rattle.upload_intake.specs.Passes.{line_of};
     ghost use Rattle.upload_intake.specs.Replies.{replies_on};
-    ghost use Rattle.upload_intake.specs.Served.{KeeperState};
+    ghost use Rattle.upload_intake.specs.Pools.Served.{KeeperState};
     ghost use Rattle.upload_intake.specs.Log.{steps_of};
     ghost use Rattle.upload_intake.specs.Kept.{IsKeeping};
 
@@ -77,7 +77,7 @@ impl Model for Served {
     ghost use Rattle.upload_service.specs.Codes.{state_code};
     ghost use Rattle.upload_intake.specs.Passes.{line_of};
     ghost use Rattle.upload_intake.specs.Replies.{replies_on};
-    ghost use Rattle.upload_intake.specs.Served.{KeeperState};
+    ghost use Rattle.upload_intake.specs.Pools.Served.{KeeperState};
     ghost use Rattle.upload_intake.specs.Log.{steps_of};
     ghost use Rattle.upload_intake.specs.Kept.{IsKeeping, AreDone};
 
@@ -131,7 +131,7 @@ impl Keeper {
     ghost use Rattle.upload_service.specs.Machine.{IsLawful};
     ghost use Rattle.upload_intake.specs.Passes.{line_of, taker_view};
     ghost use Rattle.upload_intake.specs.Replies.{replies_on, BeginsReplies};
-    ghost use Rattle.upload_intake.specs.Served.{IsSameKeeper, Serves};
+    ghost use Rattle.upload_intake.specs.Pools.Served.{IsSameKeeper, Serves};
     ghost use Rattle.upload_intake.specs.Told.{Grows};
 
     pub(crate) fn new(service: Service, jobs: TakeEnd<Message>, lines: Vec<ReplyLine>) -> Keeper

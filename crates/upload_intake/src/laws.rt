@@ -2,7 +2,7 @@
 ghost use Rattle.upload_intake.specs.Determined.{ServedOrdersAreDetermined};
 ghost use Rattle.upload_intake.specs.SeatConversations.{ConversationsFillTheSeat};
 ghost use Rattle.upload_intake.specs.Transcripts.{TranscriptsTellConnections};
-ghost use Rattle.upload_intake.specs.Working.{lending, means};
+ghost use Rattle.upload_intake.specs.Pools.Working.{lending, means};
 
 use crate::conns::Conns;
 use crate::gate::Gate;

@@ -3,10 +3,10 @@ ghost use Rattle.std.specs.Prelude.{◌≡◌, ◌<◌, ◌≤◌, [], ◌∷◌
 ghost use Rattle.std.specs.Thread.{IsSend, IsSync};
 ghost use Rattle.upload_service.specs.Machine.{IsLawful, AreLawful};
 ghost use Rattle.upload_intake.specs.Seats.{IsFresh};
-ghost use Rattle.upload_intake.specs.Served.{AreOfOneCall};
-ghost use Rattle.upload_intake.specs.Working.{lending, means};
-ghost use Rattle.upload_intake.specs.ServedPool.{IsServedPool};
-ghost use Rattle.upload_intake.specs.Stations.{seats_of, workers_of, limits_of, promised, EachWorks};
+ghost use Rattle.upload_intake.specs.Pools.Served.{AreOfOneCall};
+ghost use Rattle.upload_intake.specs.Pools.Working.{lending, means};
+ghost use Rattle.upload_intake.specs.Pools.ServedPool.{IsServedPool};
+ghost use Rattle.upload_intake.specs.Pools.Stations.{seats_of, workers_of, limits_of, promised, EachWorks};
 
 use crate::conns::Conns;
 use crate::gate::Gate;

@@ -6,9 +6,9 @@ ghost use Rattle.upload_service.specs.Machine.{IsLawful};
 ghost use Rattle.upload_intake.specs.Passes.{line_of};
 ghost use Rattle.upload_intake.specs.Replies.{replies_on};
 ghost use Rattle.upload_intake.specs.Seats.{IsFresh};
-ghost use Rattle.upload_intake.specs.Served.{AreOfOneCall};
-ghost use Rattle.upload_intake.specs.Settled.{IsSettled};
-ghost use Rattle.upload_intake.specs.Settles.{Settles};
+ghost use Rattle.upload_intake.specs.Pools.Served.{AreOfOneCall};
+ghost use Rattle.upload_intake.specs.Pools.Settled.{IsSettled};
+ghost use Rattle.upload_intake.specs.Pools.Settles.{Settles};
 
 use crate::ends::{TakeEnd, next_sender, open_line, reply_line, settle_line};
 use crate::keeper::{Keeper, Served};

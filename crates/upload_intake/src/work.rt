@@ -1,9 +1,9 @@
 //! A worker, which serves connections one after the other over its seat.
 ghost use Rattle.std.specs.Prelude.{◌≡◌, ◌+◌, min, if◌then◌else◌};
 ghost use Rattle.upload_intake.specs.Seats.{IsSameSeat};
-ghost use Rattle.upload_intake.specs.Settled.{count_limit};
-ghost use Rattle.upload_intake.specs.Stations.{Works};
-ghost use Rattle.upload_intake.specs.Working.{IsWorked, is_clean, is_gone, lending, means};
+ghost use Rattle.upload_intake.specs.Pools.Settled.{count_limit};
+ghost use Rattle.upload_intake.specs.Pools.Stations.{Works};
+ghost use Rattle.upload_intake.specs.Pools.Working.{IsWorked, is_clean, is_gone, lending, means};
 
 use crate::conns::Conns;
 use crate::desk::SeatDesk;

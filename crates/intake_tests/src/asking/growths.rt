@@ -1,7 +1,7 @@
 //! Lines that are refused memory are not made, and with memory they carry what is asked as ever. The test holds
 //! whichever one growth is refused: `tests/growths.py` has each of them refused in turn.
 ghost use Rattle.std.specs.Prelude.{◌∷◌, [], IfOk};
-ghost use Rattle.upload_intake.specs.Served.{AreOfOneCall};
+ghost use Rattle.upload_intake.specs.Pools.Served.{AreOfOneCall};
 
 use super::{Script, Still, ask_both, service};
 use crate::checks::check;

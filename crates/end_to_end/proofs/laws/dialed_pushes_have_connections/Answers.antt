@@ -1,4 +1,4 @@
-use Rattle.upload_intake.specs.Working.{lending, means}
+use Rattle.upload_intake.specs.Pools.Working.{lending, means}
 use Rattle.end_to_end.proofs.Dialing.{are_carried, have_connections}
 use Rattle.end_to_end.proofs.laws.dialed_pushes_have_connections.Goals as goal
 

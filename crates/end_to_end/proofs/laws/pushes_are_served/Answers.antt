@@ -1,4 +1,4 @@
-use Rattle.upload_intake.specs.Working.{lending, means}
+use Rattle.upload_intake.specs.Pools.Working.{lending, means}
 use Rattle.end_to_end.proofs.Serving.{pushes_served}
 use Rattle.end_to_end.proofs.laws.pushes_are_served.Goals as goal
 

@@ -1,7 +1,7 @@
 use Rattle.std.specs.Prelude.{◌≡◌, ◌+◌, ◌≤◌, ◌++◌, ℕ, List, length, vec_len, vec_capacity}
 use Rattle.std.specs.Vec.Iter.{into_iter_items, into_iter_len}
-use Rattle.upload_intake.specs.Stations.{promised, EachWorks}
-use Rattle.upload_intake.specs.Working.{lending, means}
+use Rattle.upload_intake.specs.Pools.Stations.{promised, EachWorks}
+use Rattle.upload_intake.specs.Pools.Working.{lending, means}
 use Rattle.upload_intake.proofs.pool.join_all.Given as goal
 
 abbrev pub invariant-loop-worker : goal.invariant-loop-worker

@@ -1,8 +1,8 @@
 use Rattle.std.proofs.Common.{◌≡◌, ℕ, ap, ◌∙◌, sym, subst}
 use Rattle.std.specs.Prelude.{All}
 use Rattle.upload_intake.specs.Seats.{IsFresh}
-use Rattle.upload_intake.specs.Served.{AreOfOneCall}
-use Rattle.upload_intake.specs.Stations.{limits_of}
+use Rattle.upload_intake.specs.Pools.Served.{AreOfOneCall}
+use Rattle.upload_intake.specs.Pools.Stations.{limits_of}
 use Rattle.upload_intake.proofs.pool.seated.Goals as goal
 
 pub returns-clause-of_one_call : goal.returns-clause-of_one_call

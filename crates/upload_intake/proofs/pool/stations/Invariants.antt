@@ -1,6 +1,6 @@
 use Rattle.std.specs.Prelude.{◌≡◌, ◌++◌, All, length}
 use Rattle.std.specs.Vec.Iter.{into_iter_items}
-use Rattle.upload_intake.specs.Stations.{seats_of, workers_of, limits_of}
+use Rattle.upload_intake.specs.Pools.Stations.{seats_of, workers_of, limits_of}
 use Rattle.upload_intake.proofs.pool.stations.Given as goal
 
 abbrev pub invariant-loop-worker : goal.invariant-loop-worker

@@ -6,7 +6,7 @@ use Rattle.upload_intake.specs.Passes.{line_of}
 use Rattle.upload_intake.specs.Replies.{replies_on, BeginsReplies}
 use Rattle.upload_intake.specs.declared.reply.ReplyLine.{ReplyLine}
 use Rattle.upload_intake.specs.Seats.{SeatState, IsFresh}
-use Rattle.upload_intake.specs.Served.{KeeperState}
+use Rattle.upload_intake.specs.Pools.Served.{KeeperState}
 use Rattle.upload_intake.proofs.Opening.{AreSeatsOn, each_push, one_seat_more, of_one_call}
 use Rattle.upload_intake.proofs.settlement.lines_of.Goals as goal
 

@@ -4,8 +4,8 @@ use Rattle.crossbeam_channel.specs.Ends.{receives_on}
 use Rattle.std.specs.Vec.Iter.{into_iter_items}
 use Rattle.upload_intake.specs.Passes.{line_of}
 use Rattle.upload_intake.specs.Seats.{SeatState}
-use Rattle.upload_intake.specs.Served.{KeeperState}
-use Rattle.upload_intake.specs.Settled.{IsSettledSeat}
+use Rattle.upload_intake.specs.Pools.Served.{KeeperState}
+use Rattle.upload_intake.specs.Pools.Settled.{IsSettledSeat}
 use Rattle.upload_intake.proofs.Opening.{each_push}
 use Rattle.upload_intake.proofs.Settling.{next_seat, its_line, next_settled, all_settled}
 use Rattle.upload_intake.proofs.settlement.settle.Goals as goal

@@ -6,8 +6,8 @@ use Rattle.std.specs.Vec.Iter.{into_iter_items}
 use Rattle.upload_intake.specs.Passes.{line_of}
 use Rattle.upload_intake.specs.declared.reply.ReplyLine.{ReplyLine}
 use Rattle.upload_intake.specs.Seats.{SeatState}
-use Rattle.upload_intake.specs.Served.{KeeperState, IsSeatOf}
-use Rattle.upload_intake.specs.Settled.{IsSettledSeat}
+use Rattle.upload_intake.specs.Pools.Served.{KeeperState, IsSeatOf}
+use Rattle.upload_intake.specs.Pools.Settled.{IsSettledSeat}
 use Rattle.upload_intake.proofs.Opening.{all_done, each_push, step_on}
 use Rattle.upload_intake.proofs.Settling.{next_seat, its_line, next_settled, all_settled}
 use Rattle.upload_intake.proofs.settlement.settle_all.Goals as goal

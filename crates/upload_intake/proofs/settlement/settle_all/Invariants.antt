@@ -5,7 +5,7 @@ use Rattle.crossbeam_channel.specs.Ends.{receives_on}
 use Rattle.upload_intake.specs.Passes.{line_of}
 use Rattle.upload_intake.specs.declared.reply.ReplyLine.{ReplyLine}
 use Rattle.upload_intake.specs.Seats.{SeatState}
-use Rattle.upload_intake.specs.Settled.{IsSettledSeat}
+use Rattle.upload_intake.specs.Pools.Settled.{IsSettledSeat}
 use Rattle.upload_intake.proofs.settlement.settle_all.Given as goal
 
 abbrev pub invariant-loop-end : goal.invariant-loop-end

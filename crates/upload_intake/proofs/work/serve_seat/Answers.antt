@@ -1,7 +1,7 @@
 use Rattle.std.proofs.Common.{◌≡◌, refl, sym, ap, ◌∙◌, subst, rules, true≢false}
 use Rattle.upload_intake.specs.Desks.{seat_of, secrets_of}
 use Rattle.upload_intake.specs.Seats.{SeatState, IsSameSeat}
-use Rattle.upload_intake.specs.Working.{lending, means}
+use Rattle.upload_intake.specs.Pools.Working.{lending, means}
 use Rattle.upload_intake.proofs.Conversations.{same_seat, gated_same, same_seat_twice}
 use Rattle.upload_intake.proofs.Working.{Working, Ended, standing, at_first, begins, talked, ends_at_none, ends_gone}
 use Rattle.upload_intake.proofs.Working.{at_limit, talk_of, tells_talk, told_on, told_gone, not_gone, gone_is}

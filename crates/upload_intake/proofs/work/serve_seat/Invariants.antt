@@ -1,7 +1,7 @@
 use Rattle.std.proofs.Common.{◌≡◌}
 use Rattle.upload_intake.specs.Seats.{IsSameSeat}
 use Rattle.upload_intake.specs.Desks.{seat_of}
-use Rattle.upload_intake.specs.Working.{lending, means}
+use Rattle.upload_intake.specs.Pools.Working.{lending, means}
 use Rattle.upload_intake.proofs.Working.{Working, standing}
 use Rattle.upload_intake.proofs.work.serve_seat.Given as goal
 

@@ -1,5 +1,5 @@
 use Rattle.std.proofs.Common.{refl, sym, subst}
-use Rattle.upload_intake.specs.Served.{KeeperState, IsSameKeeper}
+use Rattle.upload_intake.specs.Pools.Served.{KeeperState, IsSameKeeper}
 use Rattle.upload_intake.specs.Told.{Grows}
 use Rattle.upload_intake.proofs.KeeperMoves.{grows_none, grows_twice, same_keeper_twice}
 use Rattle.upload_intake.proofs.keeper.Keeper.run.Goals as goal

@@ -1,4 +1,4 @@
-use Rattle.upload_intake.specs.Served.{IsSameKeeper}
+use Rattle.upload_intake.specs.Pools.Served.{IsSameKeeper}
 use Rattle.upload_intake.specs.Told.{Grows}
 use Rattle.upload_intake.proofs.keeper.Keeper.run.Given as goal
 

@@ -5,7 +5,7 @@ use Rattle.upload_intake.proofs.KeeperMoves.{served_seat, wish_taken, finished_s
 use Rattle.upload_intake.specs.Log.{exchanges_of, last_moment}
 use Rattle.upload_intake.specs.Passes.{line_of}
 use Rattle.upload_intake.specs.Replies.{replies_on}
-use Rattle.upload_intake.specs.Served.{KeeperState}
+use Rattle.upload_intake.specs.Pools.Served.{KeeperState}
 use Rattle.upload_intake.proofs.keeper.Keeper.turn.Goals as goal
 
 pub invariant_of-self-in-Job : goal.invariant_of-self-in-Job

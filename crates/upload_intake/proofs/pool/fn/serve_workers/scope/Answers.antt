@@ -2,8 +2,8 @@ use Rattle.std.proofs.Common.{◌≡◌, ℕ, List, ap, ◌∙◌, sym, subst, l
 use Rattle.std.proofs.lemmas.List.{length-map}
 use Rattle.std.specs.Vec.Iter.{into_iter_items}
 use denote.Param.Send.{sendable}
-use Rattle.upload_intake.specs.Stations.{promised, AllLeft, EachWorks}
-use Rattle.upload_intake.specs.Working.{lending, means}
+use Rattle.upload_intake.specs.Pools.Stations.{promised, AllLeft, EachWorks}
+use Rattle.upload_intake.specs.Pools.Working.{lending, means}
 use Rattle.upload_intake.proofs.Opening.{all_done}
 use Rattle.upload_intake.proofs.Pooling.{still_of_one_call, served_pool}
 use Rattle.upload_intake.proofs.pool.fn.serve_workers.scope.Goals as goal

@@ -1,6 +1,6 @@
 use Rattle.std.specs.Prelude.{◌≡◌, ◌+◌, ◌≤◌, ◌++◌, vec_len, vec_capacity}
 use Rattle.std.specs.Vec.Iter.{into_iter_items, into_iter_len}
-use Rattle.upload_intake.specs.Stations.{promised}
+use Rattle.upload_intake.specs.Pools.Stations.{promised}
 use Rattle.upload_intake.proofs.pool.fn.serve_workers.scope.Given as goal
 
 abbrev pub invariant-loop-station : goal.invariant-loop-station

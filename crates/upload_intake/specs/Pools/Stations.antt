@@ -7,7 +7,7 @@ use Rattle.upload_intake.specs.declared.work.Work.{Work}
 use Rattle.upload_intake.specs.declared.work.Worker.{Worker}
 use Rattle.upload_intake.specs.declared.work.WorkerEnd.{WorkerEnd}
 use Rattle.upload_intake.specs.Seats.{SeatState, IsSameSeat}
-use Rattle.upload_intake.specs.Working.{Lending, Means, IsWorked}
+use Rattle.upload_intake.specs.Pools.Working.{Lending, Means, IsWorked}
 
 module _ {C S G O : Type 0} where
   abbrev pub seats_of : List (Station C S G O) → List SeatState

@@ -6,7 +6,7 @@ use Rattle.upload_service.specs.declared.answer.Answer.{Answer}
 use Rattle.upload_service.specs.Machine.{State}
 use Rattle.upload_intake.specs.Log.{Step, exchanges_of, taken_by, jobs_of, answers_to}
 use Rattle.upload_intake.specs.Seats.{SeatState}
-use Rattle.upload_intake.specs.Served.{KeeperState, IsServed}
+use Rattle.upload_intake.specs.Pools.Served.{KeeperState, IsServed}
 
 -- the last value of a count, which stays there
 abbrev pub count_limit : ℕ

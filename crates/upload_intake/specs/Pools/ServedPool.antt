@@ -13,9 +13,9 @@ use Rattle.upload_service.specs.Machine.{State}
 use Rattle.upload_intake.specs.declared.work.WorkerEnd.{WorkerEnd}
 use Rattle.upload_intake.specs.Log.{Step, exchanges_of, taken_by, jobs_of}
 use Rattle.upload_intake.specs.Seats.{SeatState, IsFresh}
-use Rattle.upload_intake.specs.Served.{IsServed}
+use Rattle.upload_intake.specs.Pools.Served.{IsServed}
 use Rattle.upload_intake.specs.Told.{Told}
-use Rattle.upload_intake.specs.Working.{Lending, Means, Lent, IsWorked, all_answered, all_unanswered}
+use Rattle.upload_intake.specs.Pools.Working.{Lending, Means, Lent, IsWorked, all_answered, all_unanswered}
 use Rattle.upload_wire.specs.Conversation.{WireExchange}
 
 -- the steps of one seat, and what was asked and answered by a step, and by an exchange of a conversation

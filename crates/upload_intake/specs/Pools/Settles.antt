@@ -7,7 +7,7 @@ use Rattle.upload_intake.specs.declared.reply.ReplyLine.{ReplyLine}
 use Rattle.upload_intake.specs.Kept.{IsKeeping, AreDone}
 use Rattle.upload_intake.specs.Log.{Step}
 use Rattle.upload_intake.specs.Seats.{SeatState}
-use Rattle.upload_intake.specs.Settled.{IsSettledSeat}
+use Rattle.upload_intake.specs.Pools.Settled.{IsSettledSeat}
 
 -- the keeper's pass of the jobs took what this one did, and this is its line to the seat
 abbrev pub Settles : LineView Message → ReplyLine → SeatState → Type 0
