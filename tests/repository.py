@@ -52,6 +52,7 @@ SHOWN = re.compile(r"crates/embed_\w+/(src/\w+\.rt|specs/(?!Lib\.)\w+\.antt)")
 
 # Functions that no edit can turn: their types leave no other body that compiles.
 NO_OTHER_BODY = {
+    "blobd": {"Handed::none"},
     "http_wire": {"History::none", "ToWrite::into_inner"},
     "upload_names": {"Body::pieces"},
     "upload_wire": {"ServiceDesk::into_service"},

@@ -1,7 +1,6 @@
 -- The text of a line of the log of requests, and what becomes of it.
-use Rattle.std.specs.Prelude.{◌≡◌, ℕ, ◌+◌, min, List, [], ◌∷◌, ◌++◌, map, codes, decimal, string_bytes}
+use Rattle.std.specs.Prelude.{◌≡◌, ℕ, ◌+◌, min, List, [], ◌∷◌, ◌++◌, codes, decimal}
 use Rattle.upload_intake.specs.Pools.Settled.{count_limit}
-use Rattle.blobd.specs.declared.log_lines.Line.{Line}
 use Rattle.blobd.specs.declared.log_lines.LogLines.{LogLines}
 
 -- what is shown of a head, the status, the bytes of the reply's body, and the milliseconds from the head to the end of
@@ -11,13 +10,9 @@ line_text head status size millis =
     head
     ++ (codes " " ++ (decimal status ++ (codes " " ++ (decimal size ++ (codes " " ++ (decimal millis ++ codes "ms"))))))
 
--- of each line how many were lost right before it, and its text
-abbrev pub lines_of : List Line → List (ℕ × List ℕ)
-lines_of lines = map (λ (line : Line). (line.lost, string_bytes line.text)) lines
-
 -- this line was handed on, and nothing else, with how many were lost before it; none is lost since
 abbrev pub HandsOn : LogLines → List ℕ → LogLines → Type 0
-HandsOn old text new = (new.lost ≡ 0) × (lines_of new.handed ≡ lines_of old.handed ++ (old.lost, text) ∷ [])
+HandsOn old text new = (new.lost ≡ 0) × (new.handed.lines ≡ old.handed.lines ++ (old.lost, text) ∷ [])
 
 -- nothing was handed on, and one more line is lost
 abbrev pub Loses : LogLines → LogLines → Type 0

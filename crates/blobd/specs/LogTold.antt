@@ -4,7 +4,7 @@ use Rattle.std.specs.Prelude.{IsSomeAnd, if◌then◌else◌}
 use Rattle.upload_intake.specs.Pools.Settled.{count_limit}
 use Rattle.upload_wire.specs.Events.{Event, Head, Unreadable, Replied}
 use Rattle.upload_wire.specs.declared.observer.RequestLine.{RequestLine}
-use Rattle.blobd.specs.LogLine.{line_text, lines_of}
+use Rattle.blobd.specs.LogLine.{line_text}
 use Rattle.blobd.specs.Shown.{shown_request}
 use Rattle.blobd.specs.declared.log_lines.LogLines.{LogLines}
 
@@ -57,7 +57,7 @@ LogTold old (Replied status size) new = HandsOnLine old status size new ⊎ HasL
 
 abbrev pub log_state : List ℕ → Option LogLines → Option LogState
 log_state head None = None
-log_state head (Some lines) = Some (record { head = head; handed = lines_of lines.handed; lost = lines.lost })
+log_state head (Some lines) = Some (record { head = head; handed = lines.handed.lines; lost = lines.lost })
 
 -- where there is none, none comes of what is told
 abbrev pub RequestLogTold : Option LogState → Event → Option LogState → Type 0

@@ -2,8 +2,8 @@
 ghost use Rattle.std.specs.Prelude.{◌≡◌, ◌⊎◌, [], IfOk, string_bytes};
 ghost use Rattle.blobd.specs.LogLine.{HandsOn, Loses};
 
+use crate::handed::{Handed, Line};
 use crossbeam_channel::{Receiver, Sender, bounded};
-use http_wire::History;
 use std::alloc::{AllocError, Global};
 use std::io::Eprint;
 use std::rt::Clock;
@@ -18,19 +18,12 @@ const MOST_WAITING: usize = 1_024;
 /// How long the end of a log waits for its last lines to be written, in seconds.
 const PATIENCE_SECONDS: u64 = 2;
 
-/// A line, and how many were lost right before it.
-#[derive(Drop)]
-pub struct Line {
-    pub lost: u64,
-    pub text: String,
-}
-
 /// Where the lines of one worker go.
 #[derive(Drop)]
 pub struct LogLines {
     lines: Sender<Line>,
     /// Those that were handed on.
-    handed: History<Line>,
+    handed: Handed,
     /// How many were lost since the last one that wasn't.
     lost: u64,
 }
@@ -90,11 +83,11 @@ impl Log {
 
     /// A place for the lines of a worker, of which none is lost yet. An error is out of memory.
     pub fn lines(&self) -> Result<LogLines, AllocError>
-        ensures { IfOk result (λ lines. (lines.lost ≡ 0) × (lines.handed ≡ [])) }
+        ensures { IfOk result (λ lines. (lines.lost ≡ 0) × (lines.handed.lines ≡ [])) }
     {
         Ok(LogLines {
             lines: self.lines.clone()?,
-            handed: History::none(),
+            handed: Handed::none(),
             lost: 0,
         })
     }

@@ -14,6 +14,7 @@ mod bar;
 mod closing;
 mod connection;
 mod dialer;
+mod handed;
 mod help;
 mod limits;
 mod log_lines;

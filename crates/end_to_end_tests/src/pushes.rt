@@ -160,10 +160,7 @@ fn served_at_once<'n, R>(
     workers: Vec<PoolWorker<'n, R>>,
     left: Dialer<'n, R>,
     right: Dialer<'n, R>,
-) -> (
-    (Option<Ended>, Option<Ended>),
-    Result<Pool<Still, PoolWorker<'n, R>>, ServeFault>,
-)
+) -> ((Option<Ended>, Option<Ended>), Result<Service, ServeFault>)
 where
     R: Threads + Wait + Sync,
     requires { 0 < vec_len workers }
@@ -183,9 +180,18 @@ where
                 { looked_and_pushed(alloc, right, NAMES[1]) },
             )
         },
-        move || -> Result<Pool<Still, PoolWorker<'n, R>>, ServeFault>
+        move || -> Result<Service, ServeFault>
             requires { IsSync R.row × (0 < vec_len workers) }
-        { serve_workers(rt, alloc, Service::new(alloc, LIMITS), workers, Still) },
+        {
+            let Pool { service, .. } = serve_workers(
+                rt,
+                alloc,
+                Service::new(alloc, LIMITS),
+                workers,
+                Still,
+            )?;
+            Ok(service)
+        },
     )
 }
 
@@ -209,9 +215,8 @@ where
     let courses = courses.to_vec(alloc)?;
     let left = Dialer::new(rt, alloc, &network, listener.clone()?, 0, courses);
     let right = Dialer::new(rt, alloc, &network, listener, 1, Vec::new(alloc));
-    let ((left, right), pool) = served_at_once(rt, alloc, workers, left, right);
-    // The workers are done with the network.
-    let Pool { service, .. } = pool?;
+    let ((left, right), service) = served_at_once(rt, alloc, workers, left, right);
+    let service = service?;
     drop(hall);
     Ok(Recorded {
         left: left.ok_or("no memory for the left push")?,
