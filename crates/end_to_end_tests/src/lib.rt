@@ -13,4 +13,6 @@ mod pushes;
 #[cfg(test)]
 mod said;
 #[cfg(test)]
+mod transcript;
+#[cfg(test)]
 mod workers;

@@ -2,8 +2,9 @@
 //! connection records what it read and what it wrote.
 ghost use Rattle.std.specs.Prelude.{◌≡◌, [], true, None};
 
+use crate::transcript::Transcript;
 use crossbeam_channel::{Receiver, Sender, unbounded};
-use http_wire::{ByteSink, ByteSource, Failed, Transcript};
+use http_wire::{ByteSink, ByteSource, Failed};
 use std::alloc::{AllocError, Global};
 use std::sync::{Mutex, Wait};
 use std::vec;
