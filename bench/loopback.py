@@ -3,18 +3,19 @@
 
     loopback.py PROGRAM [--json FILE] [--mib SIZE] [--waiting-mib SIZE] [--small-pages] [--only WORD]
 
-Each figure is the best of five. Each upload, and each row of openings, has a server of its own. An upload and a push
-are compared with `sha256sum` on the same bytes, timed before each repetition; a pull with the same bytes over a bare
-connection, sent in the same way; two at once with one alone. Waiting is that of a thousand small requests beside a
-large body. The server of these rows has two workers.
+Each figure is the best of five repetitions, in which the servers take turns. Each upload, and each row of openings, has
+a server of its own. An upload and a push are compared with `sha256sum` on the same bytes, timed before each repetition;
+a pull with the same bytes over a bare connection, sent in the same way; two at once with one alone. Waiting is that of
+a thousand small requests beside a large body. The server of these rows has two workers.
 
 A server with sixteen workers has four uploads at once, and waiting beside clients that send a byte of a head now and
 then. One with 64 workers has as many clients of small requests; compared with the one with two, it shows what memory an
 idle worker takes.
 
-If Debian's `docker-registry` is installed, it has the same rows but the last, with its files in memory too. The server
-runs as `make serve` runs it, with the huge pages that the system gives on request; with --small-pages it doesn't ask
-for them. With --only WORD there are only the rows whose name has WORD.
+If Debian's `docker-registry` is installed, it has the same rows but the last, with its files in memory too, and of the
+small requests only those of one connection and of 64: each other row would take it minutes. The server runs as `make
+serve` runs it, with the huge pages that the system gives on request; with --small-pages it doesn't ask for them. With
+--only WORD there are only the rows whose name has WORD.
 
 The client writes whole requests from memory to a raw socket, and still takes longer over a small request than the
 server does. So small requests are also counted by the seconds of processor time that the server spent, its own and the
@@ -28,6 +29,7 @@ import contextlib
 import ctypes
 import functools
 import hashlib
+import itertools
 import json
 import mmap
 import multiprocessing
@@ -329,6 +331,10 @@ def moved_bare(blob, room):
     return taken
 
 
+# Each `.._row` is a generator. It yields behind each repetition, so that several servers are measured in turn, and it
+# returns the figures.
+
+
 def upload_row(server, blob, chunk):
     """An upload, each run with a new server."""
     wall, processor, plain, peaks = [], [], [], []
@@ -339,6 +345,7 @@ def upload_row(server, blob, chunk):
             wall.append(seconds(lambda: upload(connection, "lib/a", blob, chunk)))
             processor.append(server.processor() - before)
             peaks.append(server.peak())
+        yield
     return {**beside_hashing(blob, wall, processor, plain), "peak_bytes_a_byte": max(peaks) / blob.size}
 
 
@@ -354,6 +361,7 @@ def pull_row(server, blob):
             before = server.processor()
             wall.append(seconds(lambda: pull(connection, "lib/a", blob, room)))
             processor.append(server.processor() - before)
+            yield
         peak = server.peak()
     return {
         "bytes_a_second": blob.size / min(wall),
@@ -379,6 +387,7 @@ def uploads_at_once_row(server, blob, chunk, count):
             connections = [open_ones.enter_context(server.connect()) for _ in range(count)]
             at_once.append(seconds_of_both([work(each, f"lib/a{number}") for number, each in enumerate(connections)]))
             peaks.append(server.peak())
+        yield
     return of_one_alone(blob, count, alone, at_once, peaks)
 
 
@@ -404,6 +413,7 @@ def pulls_at_once_row(server, blob, count):
         for _ in range(RUNS):
             alone.append(seconds(works[0]))
             at_once.append(seconds_of_both(works))
+            yield
         peak = server.peak()
     return of_one_alone(blob, count, alone, at_once, [peak])
 
@@ -449,6 +459,7 @@ def waiting_row(server, blob, pulled):
                 lambda: upload(connection, "lib/a", blob, blob.size)
             )
             runs.append(longest_waits(server, work))
+        yield
     return of_waits(runs)
 
 
@@ -487,6 +498,7 @@ def dripping_row(server, count):
                 wanted(connection.ask("GET", "/v2/"), 200)
                 connection.socket.sendall(connection.head("GET", "/v2/", X="").removesuffix(b"\r\n\r\n"))
             runs.append(longest_waits(server, lambda: drip(connections)))
+        yield
     return of_waits(runs)
 
 
@@ -501,6 +513,7 @@ def idle_row(two, many, are_used):
                 if are_used:
                     use_each_worker(server)
                 taken.append(server.resident())
+        yield
     of_two, of_many = min(resident[two]), min(resident[many])
     return {
         "workers": many.workers,
@@ -531,6 +544,7 @@ def push_row(server, blob, chunk):
             wall.append(taken)
             client.append(used)
             peaks.append(peak)
+        yield
     figures = beside_hashing(blob, wall, processor, plain)
     return {**figures, "client_seconds": min(client), "client_peak_bytes_a_byte": max(peaks) / blob.size}
 
@@ -592,6 +606,7 @@ def small_row(server, method, target, status, fields, count, at_once, together):
             answered, taken, used = run_clients(server, method, target, status, fields, count, at_once, together)
             wall.append(taken)
             processor.append(used)
+        yield
     return {
         "requests": answered,
         "requests_a_second": answered / min(wall),
@@ -600,7 +615,7 @@ def small_row(server, method, target, status, fields, count, at_once, together):
 
 
 def server_rows(server, blob, large):
-    """Every row that a server with two workers has: its kind, what is asked, and what measures it."""
+    """The rows of large bodies, of a server with two workers: each one's kind, what is asked, and what measures it."""
     for what, chunk in (("one body", blob.size), *((f"chunks of {size} MiB", size * MIB) for size in (16, 4, 1))):
         yield "upload", f"upload in {what}", functools.partial(upload_row, server, blob, chunk)
     yield "pull", "pull", functools.partial(pull_row, server, blob)
@@ -611,7 +626,6 @@ def server_rows(server, blob, large):
         yield "waiting", f"beside {what} of {large.size // MIB} MiB", functools.partial(
             waiting_row, server, large, pulled
         )
-    yield from small_rows(server)
 
 
 SMALL = {
@@ -665,6 +679,7 @@ def pushes_at_once_row(server, blob, chunk, count):
         with server:
             at_once.append(seconds_of_both([work(f"lib/a{number}") for number in range(count)]))
             peaks.append(server.peak())
+        yield
     return of_one_alone(blob, count, alone, at_once, peaks)
 
 
@@ -796,6 +811,7 @@ def planned(settings, blob, large, folder):
     )
     rows = [
         (blobd, server_rows(blobd, blob, large)),
+        (blobd, small_rows(blobd)),
         (with_log, small_rows(with_log)),
         (blobd, push_rows(blobd, blob)),
         (many, many_rows(many, blob)),
@@ -806,7 +822,12 @@ def planned(settings, blob, large, folder):
         registry = DockerRegistry(folder)
         rows += [
             (registry, of_it)
-            for of_it in (server_rows(registry, blob, large), many_rows(registry, blob), crowd_rows(registry))
+            for of_it in (
+                server_rows(registry, blob, large),
+                itertools.islice(small_rows(registry), 1),
+                many_rows(registry, blob),
+                crowd_rows(registry),
+            )
         ]
     else:
         print("skipped: docker-registry, which isn't installed", flush=True)
@@ -814,10 +835,18 @@ def planned(settings, blob, large, folder):
 
 
 def measure(rows):
-    for server, kind, what, row in rows:
-        figures = row()
-        print(f"measured: {server.name}: {what}", file=sys.stderr, flush=True)
-        yield {"kind": kind, "what": what, "server": server.name, **figures}
+    """The figures of all rows. The servers that have a row of one name are measured in turn, one repetition of each
+    after another: what slows the machine for a while slows them all."""
+    for what in dict.fromkeys(what for _, _, what, _ in rows):
+        going = {(server.name, kind): row() for server, kind, name, row in rows if name == what}
+        while going:
+            for (name, kind), repetitions in list(going.items()):
+                try:
+                    next(repetitions)
+                except StopIteration as over:
+                    del going[name, kind]
+                    print(f"measured: {name}: {what}", file=sys.stderr, flush=True)
+                    yield {"kind": kind, "what": what, "server": name, **over.value}
 
 
 def main():
