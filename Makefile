@@ -22,8 +22,9 @@ BUILT = $(firstword $(wildcard $(PROGRAM) $(EVERY)))
 CRATES = upload_names upload_service http_wire upload_texts upload_wire upload_client upload_intake upload_push blobd
 SOURCES := crates.txt $(shell find $(foreach crate,$(CRATES),$(foreach part,src specs proofs,crates/$(crate)/$(part))) -type f 2>/dev/null)
 
-# Bodies and blobs are long lists of bytes. If glibc asks the system for huge pages, fresh memory costs them a third.
-HUGE_PAGES = GLIBC_TUNABLES=glibc.malloc.hugetlb=1
+# Bodies and blobs are long lists of bytes. If glibc asks the system for huge pages, fresh memory costs them a third, and if
+# it has each block of 1 MiB and more from the system, chunks leave no gaps between them.
+MALLOC = GLIBC_TUNABLES=glibc.malloc.hugetlb=1:glibc.malloc.mmap_threshold=1048576
 
 .PHONY: help try once serve run upload registry build native image dist test edits wrong-bodies check format figures fuzz soak long large growths bench
 # A build that fails leaves no program behind that looks newer than its sources.
@@ -65,7 +66,7 @@ once: $(EVERY)
 	@python3 tools/conversation.py $(EVERY) once
 
 serve: counted $(PROGRAM)
-	@BLOBD_WORKERS=$(WORKERS) $(HUGE_PAGES) $(PROGRAM) serve $(ADDR) $(COUNT)
+	@BLOBD_WORKERS=$(WORKERS) $(MALLOC) $(PROGRAM) serve $(ADDR) $(COUNT)
 
 # A COUNT that the program would refuse is refused before anything is built.
 .PHONY: counted
@@ -76,7 +77,7 @@ counted:
 	esac
 
 run: built
-	@$(HUGE_PAGES) $(BUILT) $(ARGS)
+	@$(MALLOC) $(BUILT) $(ARGS)
 
 upload: built
 	@$(BUILT) push $(ADDR) lib/demo '$(FILE)' 1048576

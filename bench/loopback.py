@@ -14,7 +14,7 @@ idle worker takes.
 
 If Debian's `docker-registry` is installed, it has the same rows but the last, with its files in memory too, and of the
 small requests only those of one connection and of 64: each other row would take it minutes. The server runs as `make
-serve` runs it, with the huge pages that the system gives on request; with --small-pages it doesn't ask for them. With
+serve` runs it, with huge pages and large blocks from the system; with --small-pages as glibc does by itself. With
 --only WORD there are only the rows whose name has WORD.
 
 The client writes whole requests from memory to a raw socket, and still takes longer over a small request than the
@@ -797,7 +797,7 @@ def read_words():
         default=1024,
         help="the size in MiB of the blob beside which others wait",
     )
-    words.add_argument("--small-pages", action="store_true", help="the server doesn't ask the system for huge pages")
+    words.add_argument("--small-pages", action="store_true", help="the server has its memory as glibc does by itself")
     words.add_argument(
         "--only", metavar="WORD", default="", help="only the rows whose name has this, as `drip` or `64 at once`"
     )
@@ -852,7 +852,7 @@ def measure(rows):
 def main():
     words = read_words()
     running.PROGRAM = os.path.abspath(words.program)
-    settings = {} if words.small_pages else servers.HUGE_PAGES
+    settings = {} if words.small_pages else servers.MALLOC
     load = [os.getloadavg()[0]]
     with tempfile.TemporaryDirectory(dir="/dev/shm") as folder:
         blob = Blob(os.path.join(folder, "blob"), words.mib * MIB)

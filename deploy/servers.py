@@ -15,8 +15,8 @@ import time
 HERE = os.path.dirname(os.path.abspath(__file__))
 # Debian keeps servers where the path of others doesn't look.
 PATH = os.environ.get("PATH", "") + os.pathsep + "/usr/sbin" + os.pathsep + "/sbin"
-# What `make serve` sets too: large blobs lie in huge pages.
-HUGE_PAGES = {"GLIBC_TUNABLES": "glibc.malloc.hugetlb=1"}
+# What `make serve` sets too: large blobs lie in huge pages, and each large block is the system's own.
+MALLOC = {"GLIBC_TUNABLES": "glibc.malloc.hugetlb=1:glibc.malloc.mmap_threshold=1048576"}
 PATIENCE = 60
 DIES_WITH_PARENT = 1
 
@@ -126,7 +126,7 @@ def blobd(binary, folder, address, name="blobd", memory=None, workers=2):
     words = [os.path.abspath(binary), "serve", address]
     if memory:
         words = ["prlimit", f"--as={memory}", *words]
-    return Service(name, folder, words, [address], HUGE_PAGES | {"BLOBD_WORKERS": str(workers)})
+    return Service(name, folder, words, [address], MALLOC | {"BLOBD_WORKERS": str(workers)})
 
 
 def certificate(folder):

@@ -5,8 +5,8 @@
 
 A server gets a limit on its address space a few MiB above what it has, and blobs and open uploads of one size or of
 mixed sizes until it refuses several in a row. Then each of its workers is asked for what is stored, for the status of
-each kind of upload, and for what is refused. Each request has to get its usual reply: with huge pages and without, if
-all threads share one heap, and from a worker that had served nobody before memory was full.
+each kind of upload, and for what is refused. Each request has to get its usual reply: with glibc as `make serve` sets
+it and as it is, if all threads share one heap, and from a worker that had served nobody before memory was full.
 
 Its last line is 'N passed, M failed'.
 """
@@ -14,11 +14,15 @@ import collections
 import os
 import random
 import resource
+import sys
 import unittest
 
 from harness import running, suite
 from harness.running import sha256
 from harness.wire import Complaint, Connection, request_text
+
+sys.path.insert(0, os.path.join(os.path.dirname(os.path.dirname(os.path.abspath(__file__))), "deploy"))
+import servers  # noqa: E402
 
 KIB, MIB = 1 << 10, 1 << 20
 # What a server may take beside what it has once it listens, its 4 MiB that stay free among them.
@@ -30,7 +34,7 @@ TIMES, BLOBS = 5, 40
 
 HEAPS = {
     "as it is": {},
-    "with huge pages": {"GLIBC_TUNABLES": "glibc.malloc.hugetlb=1"},
+    "as `make serve` has it": servers.MALLOC,
     "with one heap for all threads": {"GLIBC_TUNABLES": "glibc.malloc.arena_max=1"},
 }
 SIZES = {

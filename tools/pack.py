@@ -86,7 +86,7 @@ def image():
     settings = {
         "Entrypoint": ["/usr/local/bin/blobd"],
         "Cmd": ["serve", ADDRESS],
-        "Env": ["GLIBC_TUNABLES=glibc.malloc.hugetlb=1", "BLOBD_WORKERS=16"],
+        "Env": ["GLIBC_TUNABLES=glibc.malloc.hugetlb=1:glibc.malloc.mmap_threshold=1048576", "BLOBD_WORKERS=16"],
         "ExposedPorts": {f"{ADDRESS.rpartition(':')[2]}/tcp": {}},
         "User": "65534:65534",
         "Labels": labels,
