@@ -72,8 +72,8 @@ serve: counted $(PROGRAM)
 .PHONY: counted
 counted:
 	@case '$(COUNT)' in \
-		'') ;; \
-		0* | *[!0-9]* | ????????*) echo 'usage: make serve [ADDR=$(ADDR)] [COUNT=1 to 1000000]' >&2; exit 2;; \
+		'' | 1000000) ;; \
+		0* | *[!0-9]* | ???????*) echo 'usage: make serve [ADDR=$(ADDR)] [COUNT=1 to 1000000]' >&2; exit 2;; \
 	esac
 
 run: built

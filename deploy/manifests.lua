@@ -120,22 +120,22 @@ local function member(object, name)
   if value ~= json.null then return value end
 end
 
--- Adds the digest of a descriptor to those found, once.
-local function add_digest(found, descriptor)
+-- Adds the digest of a descriptor to those found, once. A layer with addresses of its own is fetched there, and isn't
+-- pushed.
+local function add_digest(found, descriptor, is_layer)
   local digest = type(descriptor) == "table" and member(descriptor, "digest")
   if type(digest) ~= "string" or not algorithm_of(digest) then unreadable("a descriptor has no digest") end
-  local urls = member(descriptor, "urls")
-  -- a layer with addresses of its own is fetched there, and isn't pushed
+  local urls = is_layer and member(descriptor, "urls")
   if type(urls) == "table" and #urls > 0 or found[digest] then return end
   found[digest] = true
   found[#found + 1] = digest
 end
 
-local function add_digests(found, list)
+local function add_digests(found, list, are_layers)
   if type(list) ~= "table" then unreadable("what is to be a list of descriptors isn't one") end
   for key, descriptor in pairs(list) do
     if math.type(key) ~= "integer" then unreadable("what is to be a list of descriptors is an object") end
-    add_digest(found, descriptor)
+    add_digest(found, descriptor, are_layers)
   end
 end
 
@@ -148,6 +148,10 @@ end
 local function named_in(body)
   if marks_in(body, "[{,", MOST_MARKS) > MOST_MARKS then
     refuse(413, "SIZE_INVALID", "the manifest has too many values")
+  end
+  -- cjson reads no further than this; and a name could hide from what is looked for below
+  if body:find("\0", 1, true) or body:find("\\u00[4-7]%x") then
+    unreadable("the manifest has a zero byte, or a letter that is written as an escape")
   end
   -- an object without a member is read as an empty list
   if body:find('"layers"%s*:%s*{') or body:find('"manifests"%s*:%s*{') then
@@ -163,7 +167,7 @@ local function named_in(body)
     unreadable("a manifest has a config and layers, an index has manifests")
   end
   if config then add_digest(blobs, config) end
-  if layers then add_digests(blobs, layers) end
+  if layers then add_digests(blobs, layers, true) end
   if named then add_digests(manifests, named) end
   if #blobs + #manifests > MOST_NAMED then
     unreadable("the manifest names more than " .. MOST_NAMED .. " blobs and manifests")

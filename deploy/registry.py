@@ -36,7 +36,7 @@ def lacks_packages():
     return bool(absent)
 
 
-def greeting(folder, password, local):
+def greeting(binary, folder, password, local):
     """What is printed once it serves: lines that work as they stand, without a network, and HAProxy's local address."""
     certificates, image, back = (os.path.join(folder, name) for name in ("ca", "image", "back"))
     there = f"docker://{TLS}/lib/hello:latest"
@@ -47,7 +47,7 @@ def greeting(folder, password, local):
         f"  skopeo login --cert-dir {certificates} -u {USER} -p {password} {TLS}",
         f"  skopeo copy --dest-cert-dir {certificates} oci:{image}:hello {there}",
         f"  skopeo copy --src-cert-dir {certificates} {there} oci:{back}:hello",
-        f"  zcat -f {back}/blobs/sha256/* | grep -a hello",
+        f"  zcat -f {back}/blobs/sha256/* | grep -ao '{TEXT.decode().strip()}'",
         "",
         f"The image is of one file, hello.txt, and lies in {image}. "
         "Any other works too: docker://docker.io/library/busybox in place of oci:..",
@@ -57,7 +57,7 @@ def greeting(folder, password, local):
         lines += ["(skopeo isn't installed: apt-get install skopeo)"]
     lines += [
         f"Tools of this machine reach it without TLS and without a login at http://{local}, such as: "
-        f"blobd push {local} lib/file FILE",
+        f"{binary} push {local} lib/file FILE",
         f"Docker and Podman push and pull too (docs/OPERATIONS.md). Requests are logged in {folder}/haproxy.log",
     ]
     return "\n".join(lines)
@@ -71,7 +71,7 @@ def serve(binary, folder):
     servers.logins(folder, {USER: password})
     shard = servers.blobd(binary, folder, BLOBD, workers=WORKERS)
     with shard as store, servers.HAProxy(folder, [BLOBD], TLS, workers=WORKERS) as proxy:
-        print(greeting(folder, password, proxy.local), flush=True)
+        print(greeting(binary, folder, password, proxy.local), flush=True)
         while not (store.ended() or proxy.ended()):
             time.sleep(0.5)
         ended = store if store.ended() else proxy
@@ -88,7 +88,9 @@ def main(words):
         return 1
     if words[0] == "--packages":
         return 0
-    signal.signal(signal.SIGTERM, signal.default_int_handler)
+    # in the background of a shell an interrupt is ignored, unless this is said
+    for number in (signal.SIGINT, signal.SIGTERM):
+        signal.signal(number, signal.default_int_handler)
     try:
         with tempfile.TemporaryDirectory(prefix="blobd-registry-") as folder:
             return serve(words[0], folder)

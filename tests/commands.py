@@ -8,6 +8,7 @@ import hashlib
 import io
 import json
 import os
+import shutil
 import subprocess
 import sys
 import tarfile
@@ -45,7 +46,7 @@ def shown(*command):
 
 class Commands(unittest.TestCase):
     def test_wrong_counts_are_refused_before_anything_is_built(self):
-        for count in ("0", "-1", "x", "12x", "100000000"):
+        for count in ("0", "-1", "x", "12x", "1000001", "100000000"):
             with self.subTest(count=count):
                 told, status = make("serve", f"COUNT={count}", "PROGRAM=/nowhere/blobd")
                 self.assertEqual((2, True), (status, told.startswith("usage: make serve")))
@@ -55,6 +56,21 @@ class Commands(unittest.TestCase):
             with self.subTest(target=target):
                 told, status = make(target, "BUILT=")
                 self.assertEqual((2, True), (status, told.startswith("Nothing is built yet.")))
+
+    def test_what_is_newer_than_its_sources_is_started_at_once(self):
+        with tempfile.TemporaryDirectory() as folder:
+            program, source = os.path.join(folder, "blobd"), os.path.join(folder, "source")
+            for path in (program, source):
+                with open(path, "w", encoding="utf-8"):
+                    pass
+            words = [f"EVERY={program}", f"PROGRAM={program}", f"SOURCES={source}"]
+            for newer, older, is_built in ((program, source, False), (source, program, True)):
+                os.utime(older, (1, 1))
+                os.utime(newer, (2, 2))
+                for target in ("serve", "once", "registry"):
+                    with self.subTest(target=target, is_built=is_built):
+                        told, _ = make("-n", target, *words)
+                        self.assertEqual(is_built, "tools/build.py" in told, told)
 
     def test_run_starts_what_is_built(self):
         told, status = make("run", f"BUILT={running.PROGRAM}", "ARGS=no such words")
@@ -68,6 +84,11 @@ class Conversation(unittest.TestCase):
         parts = told.split("--- ")[1:]
         replies = [next(line for line in part.splitlines() if line.startswith("< ")).split()[2] for part in parts]
         self.assertEqual(["202", "204", "202", "202", "416", "201", "404", "404", "404"], replies)
+
+    def test_a_command_that_isnt_there_is_told(self):
+        words = [sys.executable, os.path.join(TOP, "tools", "conversation.py"), "no-such-rt"]
+        ran = subprocess.run(words, capture_output=True, text=True, check=False)
+        self.assertEqual((1, "no-such-rt isn't found (docs/TROUBLES.md)\n"), (ran.returncode, ran.stderr))
 
     def test_a_program_that_answers_less_is_told(self):
         self.assertEqual(1, shown("true")[1])
@@ -119,6 +140,28 @@ class Packs(unittest.TestCase):
         with tarfile.open(fileobj=io.BytesIO(layer)) as tar, mock.patch.object(pack, "PROGRAM", running.PROGRAM):
             self.assertEqual(pack.contents(running.PROGRAM), tar.extractfile("usr/local/bin/blobd").read())
             self.assertTrue({path.lstrip("/") for path in pack.libraries()} <= set(tar.getnames()))
+
+    def test_an_image_runs_where_buildah_is_installed(self):
+        if not shutil.which("buildah") or os.geteuid() != 0:
+            raise unittest.SkipTest("buildah isn't installed, or can't run an image here")
+        with tempfile.TemporaryDirectory() as folder, mock.patch.object(pack, "DIST", folder):
+            with mock.patch.object(pack, "PROGRAM", running.PROGRAM), mock.patch("sys.stdout", io.StringIO()):
+                self.assertEqual(0, pack.main(["image"]))
+            archive = next(name for name in os.listdir(folder) if name.endswith(".tar"))
+            words = ["buildah", "--root", f"{folder}/root", "--runroot", f"{folder}/run", "--storage-driver", "vfs"]
+
+            def told(*more):
+                ran = subprocess.run(
+                    [*words, *more], capture_output=True, text=True, timeout=running.PATIENCE, check=False
+                )
+                self.assertEqual(0, ran.returncode, ran.stderr)
+                return ran.stdout.strip()
+
+            image = told("pull", f"docker-archive:{folder}/{archive}").splitlines()[-1]
+            container = told("from", image)
+            ran = told("run", "--isolation", "chroot", container, "--", "/usr/local/bin/blobd", "--version")
+            self.assertEqual(f"blobd {pack.version()}", ran)
+            told("rm", container)
 
     def test_a_release_has_both_forms_and_the_sums_of_all(self):
         with tempfile.TemporaryDirectory() as folder:

@@ -548,7 +548,7 @@ def only_manifests_are_taken(site):
     hidden = manifest_of(b"{}", b"nowhere").replace(b'"digest"', b'"\\u0064igest"')
     check(
         "a blob that is named with an escape",
-        kept.put("odd", hidden) == (404, "MANIFEST_BLOB_UNKNOWN"),
+        kept.put("odd", hidden) == (400, "MANIFEST_INVALID"),
         kept.put("odd", hidden),
     )
     foreign = json.loads(manifest)
@@ -647,8 +647,24 @@ def manifests_have_bounds(site):
     check("with a question each", questions(site) - asked <= 2 * 10, questions(site) - asked)
     dense = b'{"schemaVersion":2,"a":[' + b"[]," * (MIB - 10) + b"[]]}"
     check("a manifest of many values", kept.put("dense", dense) == (413, "SIZE_INVALID"))
+    named = json.dumps(descriptor(b"nowhere") | {"urls": ["https://example.org/nowhere"]}).encode()
+    for what, odd, told in (
+        ("a config that is elsewhere", b'{"schemaVersion":2,"config":%s,"layers":[]}', (404, "MANIFEST_BLOB_UNKNOWN")),
+        ("a manifest that is elsewhere", b'{"schemaVersion":2,"manifests":[%s]}', (404, "MANIFEST_BLOB_UNKNOWN")),
+    ):
+        check(what, kept.put("odd", odd % named) == told, kept.put("odd", odd % named))
     named = json.dumps(descriptor(b"nowhere")).encode()
     for what, odd, told in (
+        (
+            "layers that are an object, under an escape",
+            b'{"schemaVersion":2,"config":%s,"\\u006cayers":{}}',
+            (400, "MANIFEST_INVALID"),
+        ),
+        (
+            "more behind a zero byte",
+            b'{"schemaVersion":2,"config":%s,"layers":[]}\0{"layers":[7]}',
+            (400, "MANIFEST_INVALID"),
+        ),
         ("layers that are an object", b'{"schemaVersion":2,"config":%s,"layers":{}}', (400, "MANIFEST_INVALID")),
         (
             "layers that are an object with members",

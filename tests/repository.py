@@ -369,12 +369,15 @@ def unwatched(_):
 
 
 def unversioned(paths):
-    """The program's own version, if it has one, where it isn't that of the file VERSION."""
+    """The program's version, and that of the first entry of the changes, if it isn't that of the file VERSION."""
     version = text_of("VERSION").strip()
-    constant = re.search(r'"([0-9]+\.[0-9]+\.[0-9]+)"', text_of("crates/blobd/src/version.rt"))
-    if constant and constant.group(1) != version:
-        return [f"crates/blobd/src/version.rt says {constant.group(1)}, and VERSION says {version}"]
-    return [] if re.fullmatch(r"[0-9]+\.[0-9]+\.[0-9]+", version) else ["VERSION isn't a version"]
+    found = []
+    forms = {"crates/blobd/src/help.rt": r'VERSION: &str = "blobd (.*)";', "CHANGELOG.md": r"^## \[(.*?)\]"}
+    for path, form in forms.items():
+        said = re.findall(form, text_of(path), re.MULTILINE)[:1]
+        if said != [version]:
+            found.append(f"{path} says {said}, and VERSION says {version}")
+    return found if re.fullmatch(r"[0-9]+\.[0-9]+\.[0-9]+", version) else [*found, "VERSION isn't a version"]
 
 
 def unshown(paths):

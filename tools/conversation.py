@@ -49,7 +49,11 @@ def main(command):
         return 2
     with open(REQUESTS, "rb") as file:
         asked = file.read()
-    ran = subprocess.run(command, input=asked, stdout=subprocess.PIPE, stderr=subprocess.PIPE, check=False)
+    try:
+        ran = subprocess.run(command, input=asked, stdout=subprocess.PIPE, stderr=subprocess.PIPE, check=False)
+    except FileNotFoundError as fault:
+        print(f"{fault.filename} isn't found (docs/TROUBLES.md)", file=sys.stderr)
+        return 1
     requests, replies = list(messages(asked)), list(messages(ran.stdout))
     for number, (shows, request, reply) in enumerate(zip(SHOWS, requests, replies), 1):
         print(f"--- {number}. {shows}\n{shown(request, '>')}\n\n{shown(reply, '<')}\n")
