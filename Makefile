@@ -36,7 +36,7 @@ help:
 	@echo 'make serve    the service at $(ADDR), until it is interrupted (ADDR=.. another address, WORKERS=.. connections at a time, COUNT=.. so many of each worker)'
 	@echo 'make upload   pushes $(FILE) to that service (FILE=.. another file), pulls it back and compares; in another shell'
 	@echo 'make registry a registry to push images to: TLS and a login, with HAProxy before the service (docs/OPERATIONS.md)'
-	@echo '              once, serve and registry prove and build the program if its sources are newer: 10 to 25 minutes from nothing on'
+	@echo '              once, serve and registry prove and build the program if its sources are newer: 15 to 40 minutes from nothing on'
 	@echo '              four cores, a few minutes after a change. Else they start at once'
 	@echo 'make run ARGS="push .."  the program as it was last built, with these words: it never proves'
 	@echo
@@ -86,7 +86,7 @@ upload: built
 
 .PHONY: built
 built:
-	@test -n '$(BUILT)' || { echo 'Nothing is built yet. make build proves and builds the program: 10 to 25 minutes from nothing on four cores.' >&2; exit 1; }
+	@test -n '$(BUILT)' || { echo 'Nothing is built yet. make build proves and builds the program: 15 to 40 minutes from nothing on four cores.' >&2; exit 1; }
 
 build: $(EVERY)
 	@echo '$(EVERY)'

@@ -258,12 +258,17 @@ def strange_servers(folder):
             "out of tries",
             f"the reply is TLS: {https} (tried 7 times)",
         ),
-        ("no reply", b"", "out of tries", "the server closed the connection before it had replied (tried 7 times)"),
+        (
+            "no reply",
+            b"",
+            "out of tries",
+            "the server closed the connection before it had replied: is this https? (tried 7 times)",
+        ),
         (
             "half a reply",
             b"HTTP/1.1 20",
             "out of tries",
-            "the server closed the connection before it had replied (tried 7 times)",
+            "the server closed the connection before it had replied: is this https? (tried 7 times)",
         ),
         ("an odd reply", b"HTTP/1.1 2xx\r\n\r\n", "out of tries", "no reply of a form that is read (tried 7 times)"),
     ]

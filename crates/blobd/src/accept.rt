@@ -160,8 +160,8 @@ impl<'a, R: Clock + Eprint + Wait + Sync> Conns for Accepted<'a, R> {
 
     type Out = Writer<'a, R>;
 
-    // One fewer is left behind each that it gives, and on that nothing was read or written. What a socket delivers is
-    // std's word.
+    // One fewer is left behind each that it gives, and on that nothing was read or written. What a socket
+    // delivers, only std says.
     ghost gives = { λ old given new. IfSome given (λ halves.
         (new.left + 1 ≡ old.left) × AreUnused halves.0 halves.1) };
 

@@ -123,7 +123,7 @@ fn words_of(trouble: Trouble) -> &'static str
         Trouble::NoReply | Trouble::System(_) => "no reply of a form that is read",
         Trouble::NoConnection => "no connection within 10 s",
         Trouble::Silence => "the server was silent for 30 s",
-        Trouble::Closed => "the server closed the connection before it had replied",
+        Trouble::Closed => "the server closed the connection before it had replied: is this https?",
         Trouble::Tls => "the reply is TLS: is this https? A push speaks plain HTTP",
         Trouble::NotHttp => "the reply isn't HTTP: is this https?",
         Trouble::Unavailable => "the server answers 503: it has no memory left, or can't serve now",
