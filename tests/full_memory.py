@@ -197,14 +197,16 @@ class FullMemory(unittest.TestCase):
     def unused(self, heap):
         """A worker that had served nobody before another one filled the memory, over one connection."""
         with running.Server(1_000_000, env=os.environ | heap) as server:
-            filling = Filling(server, SIZES["128 bytes"], 0)
+            filling = Filling(server, SIZES["30,000 bytes"], 0)
             only = filling.connection
             # Once one worker has served, both were started.
             self.assertTrue(filling.store())
             limit(server)
-            vain = 0
-            while vain < REFUSED and filling.asked < REQUESTS:
-                vain = 0 if filling.store() else vain + 1
+            # Large ones first: a thread's heap has 64 MiB of address space before it needs more.
+            for filling.size in SIZES["30,000 bytes"], SIZES["128 bytes"]:
+                vain = 0
+                while vain < REFUSED and filling.asked < REQUESTS:
+                    vain = 0 if filling.store() else vain + 1
             with self.subTest("one connection filled it"):
                 self.assertEqual((REFUSED, True), (vain, only.is_open))
             with self.subTest("the worker that had served nobody"):
