@@ -83,7 +83,7 @@ module _ (host : List ℕ) (earlier : List Attempt) where
         asks = asked_of e ∷ [];
         left = new;
         is_new = record {
-          given = ap (λ (w : WireState). w.reader.source.given) made.2;
+          given = ap (λ (w : WireState). w.reader.input.source.given) made.2;
           taken = ap (λ (w : WireState). w.writer.taken) made.2;
         };
         turn = (new, asks, refl);

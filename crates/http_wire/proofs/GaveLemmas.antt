@@ -3,7 +3,7 @@ use Rattle.std.proofs.Common.{◌≡◌, List, ℕ, [], ◌++◌, refl, sym, ◌
 use Rattle.std.specs.Prelude.{Option, Some, None}
 use Rattle.std.proofs.lemmas.List.{append-nil}
 use Rattle.std.specs.Io.KnownBytes.{Consumes, Keeps}
-use Rattle.http_wire.specs.States.{SourceState}
+use Rattle.http_wire.specs.States.{SourceState, InputState, input_state}
 use Rattle.http_wire.specs.Reading.{Gives, Gave}
 
 pub consumes_none : (known : Option (List ℕ)) → Consumes known known []
@@ -31,26 +31,28 @@ gives_both a b c xs ys h k = record {
   consumed = consumes_both a.remaining b.remaining c.remaining xs ys h.consumed k.consumed;
 }
 
-pub gave_none : (known : SourceState) (text : List ℕ) → Gave known known text text
-gave_none known text = record { given = []; gives = gives_none known; joined = sym (append-nil text) }
+pub gave_none : (known : InputState) → Gave known known.source known.held
+gave_none known = record { given = []; gives = gives_none known.source; joined = sym (append-nil known.held) }
 
 -- the same text, cut in another way
-pub gave_as : {a b : SourceState} {s t u : List ℕ} → u ≡ t → Gave a b s t → Gave a b s u
+pub gave_as : {a : InputState} {b : SourceState} {t u : List ℕ} → u ≡ t → Gave a b t → Gave a b u
 gave_as e g = record { given = g.given; gives = g.gives; joined = e ∙ g.joined }
 
-pub gave_both : (a b c : SourceState) (s t u : List ℕ) → Gave a b s t → Gave b c t u → Gave a c s u
-gave_both a b c s t u g h = record {
+pub gave_both : (a b : InputState) (c : SourceState) (text : List ℕ) → Gave a b.source b.held → Gave b c text
+    → Gave a c text
+gave_both a b c text g h = record {
   given = g.given ++ h.given;
-  gives = gives_both a b c g.given h.given g.gives h.gives;
-  joined = h.joined ∙ ap (λ r. r ++ h.given) g.joined ∙ append_assoc s g.given h.given;
+  gives = gives_both a.source b.source c g.given h.given g.gives h.gives;
+  joined = h.joined ∙ ap (λ r. r ++ h.given) g.joined ∙ append_assoc a.held g.given h.given;
 }
 
 -- a read behind the part that is left, after a front of the text was taken
-pub gave_after : (a b c : SourceState) (s front t u : List ℕ) → Gave a b s (front ++ t) → Gave b c t u
-    → Gave a c s (front ++ u)
-gave_after a b c s front t u g h =
-    gave_both a b c s (front ++ t) (front ++ u) g (record {
+pub gave_after : (a b : InputState) (c : SourceState) (front text : List ℕ) → Gave a b.source (front ++ b.held)
+    → Gave b c text
+    → Gave a c (front ++ text)
+gave_after a b c front text g h =
+    gave_both a (input_state (front ++ b.held) b.source) c (front ++ text) g (record {
       given = h.given;
       gives = h.gives;
-      joined = ap (λ r. front ++ r) h.joined ∙ sym (append_assoc front t h.given);
+      joined = ap (λ r. front ++ r) h.joined ∙ sym (append_assoc front b.held h.given);
     })

@@ -1,9 +1,13 @@
 -- An input: a source, behind the bytes that were read from it and not taken yet.
 use Rattle.std.specs.Prelude.{◌≡◌, ℕ, List}
 use Rattle.std.specs.Borrow.{MutBor}
-use Rattle.http_wire.specs.States.{SourceState}
+use Rattle.http_wire.specs.States.{SourceState, InputState, input_state}
 use Rattle.http_wire.specs.Reading.{Costs}
 use Rattle.http_wire.specs.declared.input.Input.{Input}
+
+-- what contracts see of it
+abbrev pub input_of : {S : Type 0} → (S → SourceState) → Input S → InputState
+input_of state input = input_state input.buffer.now (state input.source.now)
 
 -- it is over this source, behind what this buffer holds
 pub record IsInputOver {S : Type 0} (source : MutBor S) (buffer : MutBor (List ℕ)) (input : Input S) : Type 0 where

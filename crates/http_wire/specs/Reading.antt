@@ -2,7 +2,7 @@
 use Rattle.std.specs.Prelude.{◌≡◌, ℕ, ◌==◌, List, ◌++◌, take, IsTrue, Result, MatchResult}
 use Rattle.std.specs.Io.KnownBytes.{Consumes, IsAtEnd}
 use Rattle.http_wire.specs.Counts.{CountsUp, CountsAtMost}
-use Rattle.http_wire.specs.States.{SourceState}
+use Rattle.http_wire.specs.States.{SourceState, InputState}
 
 -- what one read adds to the transcript: at `Ok(n)` the first n bytes of the buffer, where 0 is the end, and at `Err`
 -- nothing
@@ -22,11 +22,11 @@ pub record HasEnded (source : SourceState) : Type 0 where
   pub told : IsTrue source.ended
   pub none_left : IsAtEnd source.remaining
 
--- some bytes were read, and stand at the end of the text
-pub record Gave (old new : SourceState) (before text : List ℕ) : Type 0 where
+-- some bytes were read, and the text is what was held and they behind it
+pub record Gave (old : InputState) (new : SourceState) (text : List ℕ) : Type 0 where
   pub given : List ℕ
-  pub gives : Gives old new given
-  pub joined : text ≡ before ++ given
+  pub gives : Gives old.source new given
+  pub joined : text ≡ old.held ++ given
 
 -- there were at most so many reads; one failed where this holds, and none else
 pub record Costs (most : ℕ) (fails : Type 0) (old new : SourceState) : Type 0 where

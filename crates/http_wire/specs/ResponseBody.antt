@@ -3,7 +3,7 @@
 use Rattle.std.specs.Prelude.{◌≡◌, ℕ, ◌≤◌, Bool, false, ◌||◌, ◌==◌, nat_lt, List, [], ◌∷◌, length, codes, if◌then◌else◌}
 use Rattle.std.specs.Prelude.{Result, Ok, Err}
 use Rattle.std.specs.Str.Parse.{digits_value}
-use Rattle.http_wire.specs.States.{SourceState}
+use Rattle.http_wire.specs.States.{InputState}
 use Rattle.http_wire.specs.Reading.{HasEnded}
 use Rattle.http_wire.specs.Fields.{Fields, values_of, keeps_connection}
 use Rattle.http_wire.specs.Body.{is_number}
@@ -60,7 +60,8 @@ keeps_on minor fields (ToEnd most) = false
 
 -- ---- bodies
 
--- the body is as long as its framing says, before rest; one that goes to the end of the input leaves nothing
-abbrev pub IsBody : ResponseFraming → List ℕ → List ℕ → SourceState → Type 0
-IsBody (Length n) body rest new = length body ≡ n
-IsBody (ToEnd most) body rest new = (length body ≤ most) × (rest ≡ []) × HasEnded new
+-- the body is as long as its framing says, before what the input holds; one that goes to the end of the input leaves
+-- nothing
+abbrev pub IsBody : ResponseFraming → List ℕ → InputState → Type 0
+IsBody (Length n) body new = length body ≡ n
+IsBody (ToEnd most) body new = (length body ≤ most) × (new.held ≡ []) × HasEnded new.source

@@ -1,4 +1,4 @@
--- What contracts see of a source, of a sink, and of a transcript.
+-- What contracts see of a source, of an input over it, of a sink, and of a transcript.
 use Rattle.std.specs.Prelude.{ℕ, Bool, List, Option}
 
 -- of a source: its transcript, which is the bytes that its reads have given so far, in order, and whether the last read
@@ -10,6 +10,14 @@ pub record SourceState : Type 0 where
   pub remaining : Option (List ℕ)
   pub reads : ℕ
   pub failed_reads : ℕ
+
+-- of an input: the bytes that were read and not taken yet, and the source behind them
+pub record InputState : Type 0 where
+  pub held : List ℕ
+  pub source : SourceState
+
+abbrev pub input_state : List ℕ → SourceState → InputState
+input_state held source = record { held = held; source = source }
 
 -- of a sink: its transcript, which is the bytes that its writes have taken so far, in order; the bytes that it holds,
 -- if they are known; how many writes and flushes there were, and how many failed; whether all that was written was

@@ -1,6 +1,6 @@
 //! Bodies (RFC 9112, section 6), read behind their heads.
 ghost use Rattle.std.specs.Prelude.{◌≡◌, ℕ, ◌+◌, ◌*◌, ◌^◌, ◌<◌, ◌≤◌, List, [], ◌++◌, length, Err, OnOk, OnErr};
-ghost use Rattle.http_wire.specs.Inputs.{ReadsAtMost};
+ghost use Rattle.http_wire.specs.Inputs.{ReadsAtMost, input_of};
 ghost use Rattle.http_wire.specs.Inner.BodyReading.{ReadsPart, ReadsBytes, body_state};
 ghost use Rattle.http_wire.specs.Inner.BodyFinding.{FindsBody};
 ghost use Rattle.http_wire.specs.Body.{most_of};
@@ -55,10 +55,8 @@ fn read_part<S: ByteSource, B: BodyBuffer>(
     left: usize,
 ) -> Result<usize, BodyFault>
     requires { 0 < left }
-    ensures found { ReadsPart
-        (body_state (S.state input.old.source.now) input.old.buffer.now (B.bytes body.old))
-        (body_state (S.state input.new.source.now) input.new.buffer.now (B.bytes body.new)) left
-        result }
+    ensures found { ReadsPart (body_state (input_of S.state input.old) (B.bytes body.old))
+        (body_state (input_of S.state input.new) (B.bytes body.new)) left result }
     ensures costs { ReadsAtMost S.state 1 (result ≡ Err BodyFault.Read) input.old input.new }
 {
     if input.byte(0)?.is_none() {
@@ -78,10 +76,8 @@ pub fn read_bytes<S: ByteSource, B: BodyBuffer>(
     body: &mut B,
     count: usize,
 ) -> Result<(), BodyFault>
-    ensures found { ReadsBytes (body_state (S.state input.old.source.now) input.old.buffer.now
-        (B.bytes body.old))
-        (body_state (S.state input.new.source.now) input.new.buffer.now (B.bytes body.new)) count
-        result }
+    ensures found { ReadsBytes (body_state (input_of S.state input.old) (B.bytes body.old))
+        (body_state (input_of S.state input.new) (B.bytes body.new)) count result }
     ensures costs { ReadsAtMost S.state count (result ≡ Err BodyFault.Read) input.old input.new }
 {
     let mut left = count;
@@ -100,8 +96,8 @@ pub fn read_body<S: ByteSource, B: BodyBuffer>(
 ) -> Result<BodyEnd, BodyFault>
     requires limit { most_of framing ≤ 2 ^ 31 }
     requires empty { B.bytes body.old ≡ [] }
-    ensures found { FindsBody framing (S.state input.old.source.now) input.old.buffer.now
-        (S.state input.new.source.now) input.new.buffer.now (B.bytes body.new) result }
+    ensures found { FindsBody framing (input_of S.state input.old) (input_of S.state input.new)
+        (B.bytes body.new) result }
     ensures costs { ReadsAtMost S.state (12 + 13 * most_of framing) (result ≡ Err BodyFault.Read)
         input.old input.new }
 {

@@ -1,6 +1,7 @@
 //! Bytes that were read from a source and not taken yet.
 ghost use Rattle.std.specs.Prelude.{◌≡◌, ◌+◌, ◌-◌, ◌<◌, ◌≤◌, [], length, drop, take, IfOk, OnErr, IsErr};
 ghost use Rattle.std.specs.Result.{result_unwrap_or};
+ghost use Rattle.http_wire.specs.States.{input_state};
 ghost use Rattle.http_wire.specs.Reading.{Gave, HasEnded, Costs};
 
 use crate::bytes::{ByteSource, Failed};
@@ -74,7 +75,8 @@ impl ReadBuffer {
     /// Reads once, behind what it holds. 0 is the end. A read that failed leaves what it holds.
     pub(crate) fn fill<S: ByteSource>(&mut self, source: &mut S) -> Result<usize, Failed>
         requires { length self.old < CAPACITY }
-        ensures gave { Gave (S.state source.old) (S.state source.new) self.old self.new }
+        ensures gave { Gave (input_state self.old (S.state source.old)) (S.state source.new)
+            self.new }
         ensures count { IfOk result (λ n. length self.new ≡ length self.old + n) }
         ensures end { IfOk result (λ n. n ≡ 0 → HasEnded (S.state source.new)) }
         ensures kept { OnErr result (self.new ≡ self.old) }
@@ -94,8 +96,8 @@ impl ReadBuffer {
 /// Reads once into the bytes from this index on.
 fn read_behind<S: ByteSource>(source: &mut S, bytes: &mut [u8], end: usize) -> Result<usize, Failed>
     requires { end < length bytes.old }
-    ensures gave { Gave (S.state source.old) (S.state source.new)
-        (take end bytes.old) (take (end + result_unwrap_or result 0) bytes.new) }
+    ensures gave { Gave (input_state (take end bytes.old) (S.state source.old))
+        (S.state source.new) (take (end + result_unwrap_or result 0) bytes.new) }
     ensures count { IfOk result (λ n. end + n ≤ length bytes.new) }
     ensures end { IfOk result (λ n. n ≡ 0 → HasEnded (S.state source.new)) }
     ensures kept { OnErr result (take end bytes.new ≡ take end bytes.old) }

@@ -4,7 +4,7 @@ ghost use Rattle.std.specs.Prelude.{◌≡◌, ℕ, ◌+◌, ◌*◌, ◌-◌, �
 ghost use Rattle.std.specs.Prelude.{MatchOption, IsFalse, true};
 ghost use Rattle.std.specs.Char.{is_ascii_hexdigit, digit_value};
 ghost use Rattle.http_wire.specs.Counts.{CountsAtMost};
-ghost use Rattle.http_wire.specs.Inputs.{ReadsAtMost};
+ghost use Rattle.http_wire.specs.Inputs.{ReadsAtMost, input_of};
 ghost use Rattle.http_wire.specs.Inner.SizeLines.{StandsAt, StepSays, IsBounded};
 ghost use Rattle.http_wire.specs.Inner.ChunkReading.{FindsLine, FindsEnd, FindsChunk};
 ghost use Rattle.http_wire.specs.Inner.BodyFinding.{FindsBody};
@@ -99,8 +99,7 @@ fn line_step(state: LineState, byte: u8) -> LineStep
 
 /// Reads a size line, and takes it.
 fn read_line<S: ByteSource>(input: &mut Input<'_, S>) -> Result<LineRead, InputFault>
-    ensures found { FindsLine (S.state input.old.source.now) input.old.buffer.now
-        (S.state input.new.source.now) input.new.buffer.now result }
+    ensures found { FindsLine (input_of S.state input.old) (input_of S.state input.new) result }
     ensures costs { ReadsAtMost S.state 10 (result ≡ Err InputFault.Read) input.old input.new }
 {
     let mut state = LineState::Digits(0, 0);
@@ -122,8 +121,7 @@ fn read_line<S: ByteSource>(input: &mut Input<'_, S>) -> Result<LineRead, InputF
 
 /// Reads a line end, CR LF, and takes it. `false`: a byte came that isn't one of it.
 fn read_line_end<S: ByteSource>(input: &mut Input<'_, S>) -> Result<bool, InputFault>
-    ensures found { FindsEnd (S.state input.old.source.now) input.old.buffer.now
-        (S.state input.new.source.now) input.new.buffer.now result }
+    ensures found { FindsEnd (input_of S.state input.old) (input_of S.state input.new) result }
     ensures costs { ReadsAtMost S.state 2 (result ≡ Err InputFault.Read) input.old input.new }
 {
     let Some(first) = input.byte(0)? else {
@@ -149,9 +147,8 @@ fn read_chunk<S: ByteSource, B: BodyBuffer>(
     room: u64,
 ) -> Result<ChunkRead, BodyFault>
     requires { room ≤ 2 ^ 31 }
-    ensures found { FindsChunk room (body_state (S.state input.old.source.now) input.old.buffer.now
-        (B.bytes body.old))
-        (body_state (S.state input.new.source.now) input.new.buffer.now (B.bytes body.new)) result }
+    ensures found { FindsChunk room (body_state (input_of S.state input.old) (B.bytes body.old))
+        (body_state (input_of S.state input.new) (B.bytes body.new)) result }
     ensures costs { ReadsAtMost S.state (12 + room) (result ≡ Err BodyFault.Read)
         input.old input.new }
     ensures few { result ≡ Ok ChunkRead.More
@@ -183,9 +180,8 @@ pub fn read_chunks<S: ByteSource, B: BodyBuffer>(
 ) -> Result<BodyEnd, BodyFault>
     requires limit { most ≤ 2 ^ 31 }
     requires empty { B.bytes body.old ≡ [] }
-    ensures found { FindsBody (Framing.Chunked most) (S.state input.old.source.now)
-        input.old.buffer.now
-        (S.state input.new.source.now) input.new.buffer.now (B.bytes body.new) result }
+    ensures found { FindsBody (Framing.Chunked most) (input_of S.state input.old)
+        (input_of S.state input.new) (B.bytes body.new) result }
     ensures costs { ReadsAtMost S.state (12 + 13 * most) (result ≡ Err BodyFault.Read)
         input.old input.new }
 {

@@ -2,7 +2,7 @@
 ghost use Rattle.std.specs.Prelude.{◌≡◌, ◌+◌, ◌<◌, length, take, Err};
 ghost use Rattle.http_wire.specs.Fronts.{line_feeds, HasNone};
 ghost use Rattle.http_wire.specs.Reading.{Gave};
-ghost use Rattle.http_wire.specs.Inputs.{ReadsAtMost};
+ghost use Rattle.http_wire.specs.Inputs.{ReadsAtMost, input_of};
 ghost use Rattle.http_wire.specs.Inner.HeadReading.{Spans, AreLawful, Judges, JudgesAt, FindsHead};
 
 use crate::bytes::ByteSource;
@@ -91,9 +91,9 @@ pub fn read_head<G: Grammar, S: ByteSource>(
     input: &mut Input<'_, S>,
 ) -> Result<HeadRead<G::Parsed>, InputFault>
     requires lawful { AreLawful G.spans }
-    ensures gave { Gave (S.state input.old.source.now) (S.state input.new.source.now)
-        input.old.buffer.now input.new.buffer.now }
-    ensures found { FindsHead G.spans input.new.buffer.now (S.state input.new.source.now) result }
+    ensures gave { Gave (input_of S.state input.old) (S.state input.new.source.now)
+        input.new.buffer.now }
+    ensures found { FindsHead G.spans (input_of S.state input.new) result }
     ensures costs { ReadsAtMost S.state MAX_HEAD (result ≡ Err InputFault.Read)
         input.old input.new }
 {

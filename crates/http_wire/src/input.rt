@@ -1,7 +1,7 @@
 //! What is read: a source, behind what a buffer holds of it.
 ghost use Rattle.std.specs.Prelude.{◌≡◌, ◌<◌, ◌≤◌, length, drop, get_or, IfOk, IfSome, IfNone, OnErr, IsErr};
 ghost use Rattle.http_wire.specs.Reading.{Gave, HasEnded};
-ghost use Rattle.http_wire.specs.Inputs.{IsInputOver, StaysOver, ReadsAtMost};
+ghost use Rattle.http_wire.specs.Inputs.{IsInputOver, StaysOver, ReadsAtMost, input_of};
 
 use crate::buffer::{CAPACITY, ReadBuffer};
 use crate::bytes::{ByteSource, Failed};
@@ -43,8 +43,8 @@ impl<'a, S: ByteSource> Input<'a, S> {
     pub fn byte(&mut self, at: usize) -> Result<Option<u8>, Failed>
         requires near { at ≤ length self.old.buffer.now }
         requires small { at < CAPACITY }
-        ensures gave { Gave (S.state self.old.source.now) (S.state self.new.source.now)
-            self.old.buffer.now self.new.buffer.now }
+        ensures gave { Gave (input_of S.state self.old) (S.state self.new.source.now)
+            self.new.buffer.now }
         ensures there { IfOk result (λ found. IfSome found (λ byte.
             (at < length self.new.buffer.now) × (byte ≡ get_or self.new.buffer.now at 0))) }
         ensures ended { IfOk result (λ found. IfNone found ((length self.new.buffer.now ≡ at)

@@ -6,7 +6,7 @@ use Rattle.std.proofs.lemmas.List.{take-append-drop, append-nil, take-append-le,
 use Rattle.std.proofs.Math.ListN.{drop_of_length-le}
 use Rattle.httparse.specs.Grammar.{ResponseHead, print_response, status_code}
 use Rattle.httparse.specs.Spans.{header_bytes, name_and_value}
-use Rattle.http_wire.specs.States.{SourceState}
+use Rattle.http_wire.specs.States.{SourceState, InputState, input_state}
 use Rattle.http_wire.specs.Reading.{Gave, HasEnded}
 use Rattle.http_wire.specs.Fronts.{HasNone, IsUnfinished, ReadsHead, responses}
 use Rattle.http_wire.proofs.Heads.HeadLemmas.{none_at_start}
@@ -101,17 +101,17 @@ framed h text p r f e = record {
 }
 
 -- a refused framing
-unframed : (h : Bool) (text rest : List ℕ) (new : SourceState) (keep : Bool) (p : ParsedResponse) (e : FramingFault)
+unframed : (h : Bool) (text : List ℕ) (new : InputState) (keep : Bool) (p : ParsedResponse) (e : FramingFault)
     → IsHeadAtFront response_spans text p
     → response_framing_of max_answer h p.spans.code (fields_of response_spans (take p.spans.len text) p) ≡ Err e
-    → FindsAnswer h text rest new (Err (heard_of_framing e)) keep
-unframed h text rest new keep p Framing.Unreadable f e =
+    → FindsAnswer h text new (Err (heard_of_framing e)) keep
+unframed h text new keep p Framing.Unreadable f e =
     inr (inl (record {
       head = the_head f;
       rest = drop p.spans.len text;
       framed = framed h text p (Err Framing.Unreadable) f e;
     }))
-unframed h text rest new keep p Framing.TooLarge f e =
+unframed h text new keep p Framing.TooLarge f e =
     inr (inl (record {
       head = the_head f;
       rest = drop p.spans.len text;
@@ -119,43 +119,43 @@ unframed h text rest new keep p Framing.TooLarge f e =
     }))
 
 -- behind a fault nothing is said of whether the connection stays
-any_keep : (h : Bool) (text rest : List ℕ) (new : SourceState) (e : HeardFault) (keep other : Bool)
-    → FindsAnswer h text rest new (Err e) keep → FindsAnswer h text rest new (Err e) other
-any_keep h text rest new Fault.Unreadable keep other x = x
-any_keep h text rest new Fault.TooLarge keep other x = x
-any_keep h text rest new Fault.Truncated keep other x = x
-any_keep h text rest new Fault.Read keep other x = x
-any_keep h text rest new Fault.NoMemory keep other x = x
-any_keep h text rest new Fault.Ended keep other x = x
+any_keep : (h : Bool) (text : List ℕ) (new : InputState) (e : HeardFault) (keep other : Bool)
+    → FindsAnswer h text new (Err e) keep → FindsAnswer h text new (Err e) other
+any_keep h text new Fault.Unreadable keep other x = x
+any_keep h text new Fault.TooLarge keep other x = x
+any_keep h text new Fault.Truncated keep other x = x
+any_keep h text new Fault.Read keep other x = x
+any_keep h text new Fault.NoMemory keep other x = x
+any_keep h text new Fault.Ended keep other x = x
 
-pub found_at_once : (h : Bool) (held rest : List ℕ) (known : SourceState) (r : Result Heard HeardFault) (keep : Bool)
-    → FindsAnswer h held rest known r keep → ReadsAnswer h held known rest known r keep
-found_at_once h held rest known r keep found = record {
+pub found_at_once : (h : Bool) (known : InputState) (r : Result Heard HeardFault) (keep : Bool)
+    → FindsAnswer h known.held known r keep → ReadsAnswer h known known r keep
+found_at_once h known r keep found = record {
   given = [];
-  gives = gives_none known;
-  found = subst (λ t. FindsAnswer h t rest known r keep) (sym (append-nil held)) found;
+  gives = gives_none known.source;
+  found = subst (λ t. FindsAnswer h t known r keep) (sym (append-nil known.held)) found;
 }
 
 -- what the body is, behind the head
-body_found : (h : Bool) (text after body rest : List ℕ) (new : SourceState) (keep : Bool) (p : ParsedResponse)
+body_found : (h : Bool) (text after body : List ℕ) (new : InputState) (keep : Bool) (p : ParsedResponse)
     (framing : ResponseFraming) (e : BodyFault) (f : IsHeadAtFront response_spans text p)
-    → ReadsFramed h text (Ok framing) (the_head f) after → FindsBodyIn framing after body rest new (Err e)
-    → FindsAnswer h text rest new (Err (heard_of_body e)) keep
-body_found h text after body rest new keep p (Length n) Body.Truncated f r b =
+    → ReadsFramed h text (Ok framing) (the_head f) after → FindsBodyIn framing after body new (Err e)
+    → FindsAnswer h text new (Err (heard_of_body e)) keep
+body_found h text after body new keep p (Length n) Body.Truncated f r b =
     (b.1, inr (record { head = the_head f; rest = after; size = n; framed = r; cut = b.0 }))
-body_found h text after body rest new keep p (ToEnd most) Body.Truncated f r b = absurd b
-body_found h text after body rest new keep p (Length n) Body.Read f r b =
+body_found h text after body new keep p (ToEnd most) Body.Truncated f r b = absurd b
+body_found h text after body new keep p (Length n) Body.Read f r b =
     inr (inl (record { head = the_head f; rest = after; size = n; framed = r; cut = b }))
-body_found h text after body rest new keep p (ToEnd most) Body.Read f r b =
+body_found h text after body new keep p (ToEnd most) Body.Read f r b =
     inr (inr (record { head = the_head f; rest = after; most = most; framed = r; small = b }))
-body_found h text after body rest new keep p framing Body.NoMemory f r b = tt
+body_found h text after body new keep p framing Body.NoMemory f r b = tt
 
-long_found : (h : Bool) (text after body rest : List ℕ) (new : SourceState) (keep : Bool) (p : ParsedResponse)
+long_found : (h : Bool) (text after body : List ℕ) (new : InputState) (keep : Bool) (p : ParsedResponse)
     (framing : ResponseFraming) (f : IsHeadAtFront response_spans text p)
-    → ReadsFramed h text (Ok framing) (the_head f) after → FindsBodyIn framing after body rest new (Ok TooLarge)
-    → FindsAnswer h text rest new (Err Fault.TooLarge) keep
-long_found h text after body rest new keep p (Length n) f r b = absurd b
-long_found h text after body rest new keep p (ToEnd most) f r b =
+    → ReadsFramed h text (Ok framing) (the_head f) after → FindsBodyIn framing after body new (Ok TooLarge)
+    → FindsAnswer h text new (Err Fault.TooLarge) keep
+long_found h text after body new keep p (Length n) f r b = absurd b
+long_found h text after body new keep p (ToEnd most) f r b =
     inr (inr (record { head = the_head f; rest = after; most = most; framed = r; long = b }))
 
 -- what is heard by what a reply says
@@ -164,17 +164,17 @@ heard_by (Ok heard) = Ok heard
 heard_by (Err fault) = Err (heard_of_said fault)
 
 -- what a whole reply says
-says_found : (h : Bool) (text rest : List ℕ) (new : SourceState) (head : ResponseHead) (body : List ℕ)
+says_found : (h : Bool) (text : List ℕ) (new : InputState) (head : ResponseHead) (body : List ℕ)
     (r : Result Heard SaidFault) (keep : Bool)
-    (whole : IsWhole h text rest new head body) → Says (status_code head) (head_fields head.fields) body r
-    → keep ≡ keeps_on head.minor (head_fields head.fields) whole.framing → FindsAnswer h text rest new (heard_by r) keep
-says_found h text rest new head body (Ok heard) keep whole says keeps =
+    (whole : IsWhole h text new head body) → Says (status_code head) (head_fields head.fields) body r
+    → keep ≡ keeps_on head.minor (head_fields head.fields) whole.framing → FindsAnswer h text new (heard_by r) keep
+says_found h text new head body (Ok heard) keep whole says keeps =
     record { head = head; body = body; whole = whole; says = says; keeps = keeps }
-says_found h text rest new head body (Err Said.Unreadable) keep whole says keeps =
+says_found h text new head body (Err Said.Unreadable) keep whole says keeps =
     inr (inr (record { head = head; body = body; whole = whole; misplaced = says }))
-says_found h text rest new head body (Err Said.NoMemory) keep whole says keeps = tt
+says_found h text new head body (Err Said.NoMemory) keep whole says keeps = tt
 
-module _ (h : Bool) (held rest body : List ℕ) (old new : SourceState) (keep : Bool) (p : ParsedResponse)
+module _ (h : Bool) (held body : List ℕ) (old : SourceState) (new : InputState) (keep : Bool) (p : ParsedResponse)
     (framing : ResponseFraming) (f : IsHeadAtFront response_spans held p)
     (is : Ok framing
     ≡ response_framing_of max_answer h p.spans.code (fields_of response_spans (take p.spans.len held) p)) where
@@ -192,31 +192,32 @@ module _ (h : Bool) (held rest body : List ℕ) (old new : SourceState) (keep : 
       subst (ReadsFramed h (held ++ given) (Ok framing) (the_head (head_kept held given p f))) behind
       (framed h (held ++ given) p (Ok framing) (head_kept held given p f) at)
 
-  pub body_fault_found : (e : BodyFault) → FindsResponseBody framing (drop p.spans.len held) old body rest new (Err e)
-      → ReadsAnswer h held old rest new (Err (heard_of_body e)) keep
+  pub body_fault_found : (e : BodyFault)
+      → FindsResponseBody framing (input_state (drop p.spans.len held) old) new body (Err e)
+      → ReadsAnswer h (input_state held old) new (Err (heard_of_body e)) keep
   body_fault_found e b = record {
     given = b.gave.given;
     gives = b.gave.gives;
     found =
-        body_found h (held ++ b.gave.given) b.text body rest new keep p framing e (head_kept held b.gave.given p f)
+        body_found h (held ++ b.gave.given) b.text body new keep p framing e (head_kept held b.gave.given p f)
         (framed_on b.gave.given b.text b.gave.joined) b.found;
   }
 
-  pub long_body_found : FindsResponseBody framing (drop p.spans.len held) old body rest new (Ok TooLarge)
-      → ReadsAnswer h held old rest new (Err Fault.TooLarge) keep
+  pub long_body_found : FindsResponseBody framing (input_state (drop p.spans.len held) old) new body (Ok TooLarge)
+      → ReadsAnswer h (input_state held old) new (Err Fault.TooLarge) keep
   long_body_found b = record {
     given = b.gave.given;
     gives = b.gave.gives;
     found =
-        long_found h (held ++ b.gave.given) b.text body rest new keep p framing (head_kept held b.gave.given p f)
+        long_found h (held ++ b.gave.given) b.text body new keep p framing (head_kept held b.gave.given p f)
         (framed_on b.gave.given b.text b.gave.joined) b.found;
   }
 
   pub reply_found : (r : Result Heard SaidFault)
-      → FindsResponseBody framing (drop p.spans.len held) old body rest new (Ok Whole)
+      → FindsResponseBody framing (input_state (drop p.spans.len held) old) new body (Ok Whole)
       → Says p.spans.code (fields_of response_spans (take p.spans.len held) p) body r
       → keep ≡ keeps_on p.spans.version (fields_of response_spans (take p.spans.len held) p) framing
-      → ReadsAnswer h held old rest new (heard_by r) keep
+      → ReadsAnswer h (input_state held old) new (heard_by r) keep
   reply_found r b says keeps =
       let given = b.gave.given in
       let text = held ++ given in
@@ -232,7 +233,7 @@ module _ (h : Bool) (held rest body : List ℕ) (old new : SourceState) (keep : 
       record {
         given = given;
         gives = b.gave.gives;
-        found = says_found h text rest new (the_head k) body r keep
+        found = says_found h text new (the_head k) body r keep
             (record {
               framing = framing;
               framed =
@@ -253,99 +254,100 @@ framing_at h held slice p r slice_is is =
     slice_is is
 
 -- a refused framing of the head
-pub framing_refused : (h : Bool) (held slice rest : List ℕ)
-    (known : SourceState) (p : ParsedResponse) (e : FramingFault) → IsHeadAtFront response_spans held p → slice ≡ held
+pub framing_refused : (h : Bool) (slice : List ℕ) (known : InputState) (p : ParsedResponse) (e : FramingFault)
+    → IsHeadAtFront response_spans known.held p → slice ≡ known.held
     → Err e ≡ response_framing_of max_answer h p.spans.code (fields_of response_spans (take p.spans.len slice) p)
-    → FindsReply h held known rest known (Err (heard_of_framing e))
-framing_refused h held slice rest known p e f slice_is is = λ keep.
-    found_at_once h held rest known (Err (heard_of_framing e)) keep
-    (unframed h held rest known keep p e f (sym (framing_at h held slice p (Err e) slice_is is)))
+    → FindsReply h known known (Err (heard_of_framing e))
+framing_refused h slice known p e f slice_is is = λ keep.
+    found_at_once h known (Err (heard_of_framing e)) keep
+    (unframed h known.held known keep p e f (sym (framing_at h known.held slice p (Err e) slice_is is)))
 
 -- a fault of the body behind the head
-pub fault_behind : (h : Bool) (held slice front body rest : List ℕ) (old new : SourceState) (p : ParsedResponse)
+pub fault_behind : (h : Bool) (held slice front body : List ℕ) (old : SourceState) (new : InputState)
+    (p : ParsedResponse)
     (framing : ResponseFraming) (e : BodyFault) → IsHeadAtFront response_spans held p → slice ≡ held
     → Ok framing ≡ response_framing_of max_answer h p.spans.code (fields_of response_spans (take p.spans.len slice) p)
-    → front ≡ drop p.spans.len held → FindsResponseBody framing front old body rest new (Err e)
-    → FindsReply h held old rest new (Err (heard_of_body e))
-fault_behind h held slice front body rest old new p framing e f slice_is is front_is b = λ keep.
-    body_fault_found h held rest body old new keep p framing f (framing_at h held slice p (Ok framing) slice_is is) e
-    (subst (λ t. FindsResponseBody framing t old body rest new (Err e)) front_is b)
+    → front ≡ drop p.spans.len held → FindsResponseBody framing (input_state front old) new body (Err e)
+    → FindsReply h (input_state held old) new (Err (heard_of_body e))
+fault_behind h held slice front body old new p framing e f slice_is is front_is b = λ keep.
+    body_fault_found h held body old new keep p framing f (framing_at h held slice p (Ok framing) slice_is is) e
+    (subst (λ t. FindsResponseBody framing (input_state t old) new body (Err e)) front_is b)
 
 -- a body that goes on behind the limit
-pub long_behind : (h : Bool) (held slice front body rest : List ℕ) (old new : SourceState) (p : ParsedResponse)
+pub long_behind : (h : Bool) (held slice front body : List ℕ) (old : SourceState) (new : InputState)
+    (p : ParsedResponse)
     (framing : ResponseFraming) → IsHeadAtFront response_spans held p → slice ≡ held
     → Ok framing ≡ response_framing_of max_answer h p.spans.code (fields_of response_spans (take p.spans.len slice) p)
-    → front ≡ drop p.spans.len held → FindsResponseBody framing front old body rest new (Ok TooLarge)
-    → FindsReply h held old rest new (Err Fault.TooLarge)
-long_behind h held slice front body rest old new p framing f slice_is is front_is b = λ keep.
-    long_body_found h held rest body old new keep p framing f (framing_at h held slice p (Ok framing) slice_is is)
-    (subst (λ t. FindsResponseBody framing t old body rest new (Ok TooLarge)) front_is b)
+    → front ≡ drop p.spans.len held → FindsResponseBody framing (input_state front old) new body (Ok TooLarge)
+    → FindsReply h (input_state held old) new (Err Fault.TooLarge)
+long_behind h held slice front body old new p framing f slice_is is front_is b = λ keep.
+    long_body_found h held body old new keep p framing f (framing_at h held slice p (Ok framing) slice_is is)
+    (subst (λ t. FindsResponseBody framing (input_state t old) new body (Ok TooLarge)) front_is b)
 
 -- a body behind the head
-pub reply_behind : (h : Bool) (held slice front body seen rest : List ℕ) (old new : SourceState) (keep : Bool)
+pub reply_behind : (h : Bool) (held slice front body seen : List ℕ) (old : SourceState) (new : InputState) (keep : Bool)
     (p : ParsedResponse) (framing : ResponseFraming)
     (r : Result Heard SaidFault)
     → IsHeadAtFront response_spans held p → slice ≡ held
     → Ok framing ≡ response_framing_of max_answer h p.spans.code (fields_of response_spans (take p.spans.len slice) p)
-    → front ≡ drop p.spans.len held → FindsResponseBody framing front old body rest new (Ok Whole) → seen ≡ body
+    → front ≡ drop p.spans.len held → FindsResponseBody framing (input_state front old) new body (Ok Whole)
+    → seen ≡ body
     → Says p.spans.code (fields_of response_spans (take p.spans.len slice) p) seen r
     → keep ≡ keeps_on p.spans.version (fields_of response_spans (take p.spans.len slice) p) framing
-    → ReadsAnswer h held old rest new (heard_by r) keep
-reply_behind h held slice front body seen rest old new keep p framing r f slice_is is front_is b seen_is says keeps =
+    → ReadsAnswer h (input_state held old) new (heard_by r) keep
+reply_behind h held slice front body seen old new keep p framing r f slice_is is front_is b seen_is says keeps =
     let at_slice =
     subst (λ t. Says p.spans.code (fields_of response_spans (take p.spans.len t) p) seen r) slice_is says in
-    reply_found h held rest body old new keep p framing f (framing_at h held slice p (Ok framing) slice_is is) r
-    (subst (λ t. FindsResponseBody framing t old body rest new (Ok Whole)) front_is b)
+    reply_found h held body old new keep p framing f (framing_at h held slice p (Ok framing) slice_is is) r
+    (subst (λ t. FindsResponseBody framing (input_state t old) new body (Ok Whole)) front_is b)
     (subst (λ t. Says p.spans.code (fields_of response_spans (take p.spans.len held) p) t r) seen_is at_slice)
     (subst (λ t. keep ≡ keeps_on p.spans.version (fields_of response_spans (take p.spans.len t) p) framing) slice_is
     keeps)
 
 -- what a reply says that isn't heard, whether or not the connection stays
-pub unheard_behind : (h : Bool) (held slice front body seen rest : List ℕ) (old new : SourceState) (p : ParsedResponse)
+pub unheard_behind : (h : Bool) (held slice front body seen : List ℕ) (old : SourceState) (new : InputState)
+    (p : ParsedResponse)
     (framing : ResponseFraming) (e : SaidFault) → IsHeadAtFront response_spans held p → slice ≡ held
     → Ok framing ≡ response_framing_of max_answer h p.spans.code (fields_of response_spans (take p.spans.len slice) p)
-    → front ≡ drop p.spans.len held → FindsResponseBody framing front old body rest new (Ok Whole) → seen ≡ body
+    → front ≡ drop p.spans.len held → FindsResponseBody framing (input_state front old) new body (Ok Whole)
+    → seen ≡ body
     → Says p.spans.code (fields_of response_spans (take p.spans.len slice) p) seen (Err e)
-    → FindsReply h held old rest new (Err (heard_of_said e))
-unheard_behind h held slice front body seen rest old new p framing e f slice_is is front_is b seen_is says =
+    → FindsReply h (input_state held old) new (Err (heard_of_said e))
+unheard_behind h held slice front body seen old new p framing e f slice_is is front_is b seen_is says =
     let told =
-    reply_behind h held slice front body seen rest old new
+    reply_behind h held slice front body seen old new
     (keeps_on p.spans.version (fields_of response_spans (take p.spans.len slice) p) framing) p framing (Err e)
     f slice_is is front_is b seen_is says refl in
     λ keep. record {
       given = told.given;
       gives = told.gives;
-      found = any_keep h (held ++ told.given) rest new (heard_of_said e) _ keep told.found;
+      found = any_keep h (held ++ told.given) new (heard_of_said e) _ keep told.found;
     }
 
 -- reads before it
-pub reads_after : (h : Bool) (held text rest : List ℕ) (old mid new : SourceState) (r : Result Heard HeardFault)
-    (keep : Bool) → Gave old mid held text → ReadsAnswer h text mid rest new r keep
-    → ReadsAnswer h held old rest new r keep
-reads_after h held text rest old mid new r keep gave next = record {
+pub reads_after : (h : Bool) (old mid new : InputState) (r : Result Heard HeardFault) (keep : Bool)
+    → Gave old mid.source mid.held → ReadsAnswer h mid new r keep → ReadsAnswer h old new r keep
+reads_after h old mid new r keep gave next = record {
   given = gave.given ++ next.given;
-  gives = gives_both old mid new gave.given next.given gave.gives next.gives;
+  gives = gives_both old.source mid.source new.source gave.given next.given gave.gives next.gives;
   found =
-      subst (λ t. FindsAnswer h t rest new r keep)
-      (ap (λ t. t ++ next.given) gave.joined ∙ append_assoc held gave.given next.given) next.found;
+      subst (λ t. FindsAnswer h t new r keep)
+      (ap (λ t. t ++ next.given) gave.joined ∙ append_assoc old.held gave.given next.given) next.found;
 }
 
-pub finds_after : (h : Bool) (held text rest : List ℕ) (old mid new : SourceState) (r : Result ReplyRead HeardFault)
-    → Gave old mid held text → FindsReply h text mid rest new r → FindsReply h held old rest new r
-finds_after h held text rest old mid new (Ok reply) gave next =
-    reads_after h held text rest old mid new (Ok reply.heard) reply.keep gave next
-finds_after h held text rest old mid new (Err e) gave next =
-    λ keep. reads_after h held text rest old mid new (Err e) keep gave (next keep)
+pub finds_after : (h : Bool) (old mid new : InputState) (r : Result ReplyRead HeardFault)
+    → Gave old mid.source mid.held → FindsReply h mid new r → FindsReply h old new r
+finds_after h old mid new (Ok reply) gave next = reads_after h old mid new (Ok reply.heard) reply.keep gave next
+finds_after h old mid new (Err e) gave next = λ keep. reads_after h old mid new (Err e) keep gave (next keep)
 
 -- a fault in what was read
-pub found_after : (h : Bool) (held text rest : List ℕ) (old new : SourceState) (e : HeardFault)
-    → Gave old new held text → ((keep : Bool) → FindsAnswer h text rest new (Err e) keep)
-    → FindsReply h held old rest new (Err e)
-found_after h held text rest old new e gave found = λ keep.
+pub found_after : (h : Bool) (old new : InputState) (e : HeardFault) → Gave old new.source new.held
+    → ((keep : Bool) → FindsAnswer h new.held new (Err e) keep) → FindsReply h old new (Err e)
+found_after h old new e gave found = λ keep.
     record {
       given = gave.given;
       gives = gave.gives;
-      found = subst (λ t. FindsAnswer h t rest new (Err e) keep) gave.joined (found keep);
+      found = subst (λ t. FindsAnswer h t new (Err e) keep) gave.joined (found keep);
     }
 
 -- there is no head in no byte
@@ -358,12 +360,11 @@ unfinished text (inl e) = record {
 unfinished text (inr u) = u.1
 
 -- a fault of the head
-pub head_over : (h : Bool) (text rest : List ℕ) (new : SourceState) → (text ≡ []) × HasEnded new
-    → (keep : Bool) → FindsAnswer h text rest new (Err Fault.Truncated) keep
-head_over h text rest new b = λ keep. (b.1, inl (unfinished text (inl b.0)))
+pub head_over : (h : Bool) (new : InputState) → (new.held ≡ []) × HasEnded new.source → (keep : Bool)
+    → FindsAnswer h new.held new (Err Fault.Truncated) keep
+head_over h new b = λ keep. (b.1, inl (unfinished new.held (inl b.0)))
 
-pub head_fault : (h : Bool) (text rest : List ℕ) (new : SourceState) (fault : InputFault)
-    → FindsHead response_spans text new (Err fault) → (keep : Bool)
-    → FindsAnswer h text rest new (Err (heard_of_input fault)) keep
-head_fault h text rest new Input.Truncated b = λ keep. (b.1, inl b.0.1)
-head_fault h text rest new Input.Read b = λ keep. inl (unfinished text b)
+pub head_fault : (h : Bool) (new : InputState) (fault : InputFault) → FindsHead response_spans new (Err fault)
+    → (keep : Bool) → FindsAnswer h new.held new (Err (heard_of_input fault)) keep
+head_fault h new Input.Truncated b = λ keep. (b.1, inl b.0.1)
+head_fault h new Input.Read b = λ keep. inl (unfinished new.held b)

@@ -4,7 +4,7 @@ use Rattle.std.proofs.Common.{arith, append-nil, length-append, inl, inr}
 use Rattle.std.specs.Prelude.{◌⊎◌, Option, Some, None, Result, Ok, Err}
 use Rattle.httparse.specs.Grammar.{ResponseHead, status_code}
 use Rattle.http_wire.specs.Fronts.{responses}
-use Rattle.http_wire.specs.States.{SourceState}
+use Rattle.http_wire.specs.States.{SourceState, InputState, input_state}
 use Rattle.http_wire.specs.Fields.{Fields, head_fields}
 use Rattle.http_wire.specs.Unambiguous.{HeadParse, head, long, unfinished, BeginsWith}
 use Rattle.http_wire.proofs.Bodies.ChunkLemmas.{same_front}
@@ -145,24 +145,24 @@ record Parsed (head_only : Bool) (text : List ℕ) (p : ReplyParse) : Type 0 whe
   begins : BeginsWith responses text front
   from : FromHead head_only front p
 
-from_body : (h : ResponseHead) (framing : ResponseFraming) (body rest : List ℕ) (new : SourceState) (p : ReplyParse)
-    → IsBody framing body rest new → Says h framing body rest p → FromFraming h (Ok framing) (body ++ rest) p
-from_body h (Length n) body rest new p is says = inr (body, rest, refl, is, says)
-from_body h (ToEnd most) body rest new p is says =
-    let all : body ≡ body ++ rest = sym (ap (λ r. body ++ r) is.1 ∙ append-nil body) in
+from_body : (h : ResponseHead) (framing : ResponseFraming) (body : List ℕ) (new : InputState) (p : ReplyParse)
+    → IsBody framing body new → Says h framing body new.held p → FromFraming h (Ok framing) (body ++ new.held) p
+from_body h (Length n) body new p is says = inr (body, new.held, refl, is, says)
+from_body h (ToEnd most) body new p is says =
+    let all : body ≡ body ++ new.held = sym (ap (λ r. body ++ r) is.1 ∙ append-nil body) in
     let long = ap length all in
     let small = is.0 in
     inr (omega (arith, long, small), subst₂ (λ b r. Says h (ToEnd most) b r p) all is.1 says)
 
-parsed_whole : (head_only : Bool) (text rest : List ℕ) (new : SourceState) (h : ResponseHead) (body : List ℕ)
+parsed_whole : (head_only : Bool) (text : List ℕ) (new : InputState) (h : ResponseHead) (body : List ℕ)
     (p : ReplyParse)
-    (w : IsWhole head_only text rest new h body) → Says h w.framing body rest p → Parsed head_only text p
-parsed_whole head_only text rest new h body p w says = record {
-  front = head h (body ++ rest);
+    (w : IsWhole head_only text new h body) → Says h w.framing body new.held p → Parsed head_only text p
+parsed_whole head_only text new h body p w says = record {
+  front = head h (body ++ new.held);
   begins = w.framed.reads;
   from =
-      subst (λ r. FromFraming h r (body ++ rest) p) (sym w.framed.framed)
-      (from_body h w.framing body rest new p w.is_body says);
+      subst (λ r. FromFraming h r (body ++ new.held) p) (sym w.framed.framed)
+      (from_body h w.framing body new p w.is_body says);
 }
 
 parsed_fault : (head_only : Bool) (text : List ℕ) (fault : FramingFault) (p : ReplyParse)
@@ -178,13 +178,13 @@ parsed_fault head_only text fault p x why = record {
 parsed : (head_only : Bool) (text : List ℕ) (new : SourceState) (p : ReplyParse) → ParsesAsReply head_only text new p
     → p ≢ refused → Parsed head_only text p
 parsed head_only text new (heard what keep rest) x other =
-    parsed_whole head_only text rest new x.head x.body (heard what keep rest) x.whole
+    parsed_whole head_only text (input_state rest new) x.head x.body (heard what keep rest) x.whole
     (inl (what, x.says, ap (λ k. heard what k rest) x.keeps))
 parsed head_only text new refused x other = absurd (other refl)
 parsed head_only text new unreadable (inl x) other =
     parsed_fault head_only text Fault.Unreadable unreadable x (inl (refl, refl))
 parsed head_only text new unreadable (inr x) other =
-    parsed_whole head_only text x.0 new x.1.head x.1.body unreadable x.1.whole (inr (x.1.misplaced, refl))
+    parsed_whole head_only text (input_state x.0 new) x.1.head x.1.body unreadable x.1.whole (inr (x.1.misplaced, refl))
 parsed head_only text new too_large (inl x) other = record { front = long; begins = x; from = refl }
 parsed head_only text new too_large (inr (inl x)) other =
     parsed_fault head_only text Fault.TooLarge too_large x (inr (refl, refl))

@@ -9,7 +9,7 @@ use Rattle.serde_json.specs.Data.{Data}
 use Rattle.serde_json.specs.Read.{read}
 use Rattle.serde_json.specs.Find.{get, at, as_str}
 use Rattle.upload_names.specs.ByteRange.{Span, range_of}
-use Rattle.http_wire.specs.States.{SourceState}
+use Rattle.http_wire.specs.States.{InputState}
 use Rattle.http_wire.specs.Reading.{Gives, HasEnded}
 use Rattle.http_wire.specs.Fields.{Fields, first_of, values_of, head_fields}
 use Rattle.http_wire.specs.ResponseBody.{IsBody, response_framing_of, keeps_on}
@@ -83,27 +83,26 @@ pub record ReadsFramed
   pub reads : ReadsHead responses text head rest
   pub framed : response_framing_of max_answer head_only (status_code head) (head_fields head.fields) ≡ framing
 
--- a whole reply and then rest
-pub record IsWhole (head_only : Bool) (text rest : List ℕ) (new : SourceState) (head : ResponseHead)
+-- a whole reply, and then what the input holds
+pub record IsWhole (head_only : Bool) (text : List ℕ) (new : InputState) (head : ResponseHead)
     (body : List ℕ) : Type 0 where
   pub framing : ResponseFraming
-  pub framed : ReadsFramed head_only text (Ok framing) head (body ++ rest)
-  pub is_body : IsBody framing body rest new
+  pub framed : ReadsFramed head_only text (Ok framing) head (body ++ new.held)
+  pub is_body : IsBody framing body new
 
 -- a reply of which this is heard, and which keeps the connection or doesn't
-pub record TellsHeard (head_only : Bool) (text rest : List ℕ) (new : SourceState) (heard : Heard)
-    (keep : Bool) : Type 0 where
+pub record TellsHeard (head_only : Bool) (text : List ℕ) (new : InputState) (heard : Heard) (keep : Bool) : Type 0 where
   pub head : ResponseHead
   pub body : List ℕ
-  pub whole : IsWhole head_only text rest new head body
+  pub whole : IsWhole head_only text new head body
   pub says : IsHeard (status_code head) (head_fields head.fields) body heard
   pub keeps : keep ≡ keeps_on head.minor (head_fields head.fields) whole.framing
 
 -- a reply whose Location or Range is unreadable
-pub record TellsMisplaced (head_only : Bool) (text rest : List ℕ) (new : SourceState) : Type 0 where
+pub record TellsMisplaced (head_only : Bool) (text : List ℕ) (new : InputState) : Type 0 where
   pub head : ResponseHead
   pub body : List ℕ
-  pub whole : IsWhole head_only text rest new head body
+  pub whole : IsWhole head_only text new head body
   pub misplaced : IsMisplaced (head_fields head.fields)
 
 -- a head whose framing is this fault
@@ -141,35 +140,32 @@ abbrev pub HoldsNoReply : Bool → List ℕ → Type 0
 HoldsNoReply head_only text =
     IsUnfinished responses text ⊎ (HasCutReplyBody head_only text ⊎ HasOpenBody head_only text)
 
--- What was found in the text, where the reader holds rest and the source is left as new. Behind a fault nothing is said
--- of whether the connection stays.
-abbrev pub FindsAnswer : Bool → List ℕ → List ℕ → SourceState → Result Heard HeardFault → Bool → Type 0
-FindsAnswer head_only text rest new (Ok heard) keep = TellsHeard head_only text rest new heard keep
-FindsAnswer head_only text rest new (Err Fault.Unreadable) keep =
+-- What was found in the text, where the reader's input is left as new. Behind a fault nothing is said of whether the
+-- connection stays.
+abbrev pub FindsAnswer : Bool → List ℕ → InputState → Result Heard HeardFault → Bool → Type 0
+FindsAnswer head_only text new (Ok heard) keep = TellsHeard head_only text new heard keep
+FindsAnswer head_only text new (Err Fault.Unreadable) keep =
     IsRefused responses text
-    ⊎ (HasFramingFault head_only text Framing.Unreadable ⊎ TellsMisplaced head_only text rest new)
-FindsAnswer head_only text rest new (Err Fault.TooLarge) keep =
+    ⊎ (HasFramingFault head_only text Framing.Unreadable ⊎ TellsMisplaced head_only text new)
+FindsAnswer head_only text new (Err Fault.TooLarge) keep =
     IsTooLong responses text ⊎ (HasFramingFault head_only text Framing.TooLarge ⊎ HasLongBody head_only text)
-FindsAnswer head_only text rest new (Err Fault.Truncated) keep =
-    HasEnded new × (IsUnfinished responses text ⊎ HasCutReplyBody head_only text)
-FindsAnswer head_only text rest new (Err Fault.Read) keep = HoldsNoReply head_only text
-FindsAnswer head_only text rest new (Err Fault.NoMemory) keep = ⊤
-FindsAnswer head_only text rest new (Err Fault.Ended) keep = ⊥
+FindsAnswer head_only text new (Err Fault.Truncated) keep =
+    HasEnded new.source × (IsUnfinished responses text ⊎ HasCutReplyBody head_only text)
+FindsAnswer head_only text new (Err Fault.Read) keep = HoldsNoReply head_only text
+FindsAnswer head_only text new (Err Fault.NoMemory) keep = ⊤
+FindsAnswer head_only text new (Err Fault.Ended) keep = ⊥
 
 -- so many bytes were read, and this was found in what was held and read
 pub record ReadsAnswer
-    (head_only : Bool) (held : List ℕ) (old : SourceState) (rest : List ℕ) (new : SourceState)
-    (r : Result Heard HeardFault) (keep : Bool)
-    : Type 0 where
+    (head_only : Bool) (old new : InputState) (r : Result Heard HeardFault) (keep : Bool) : Type 0 where
   pub given : List ℕ
-  pub gives : Gives old new given
-  pub found : FindsAnswer head_only (held ++ given) rest new r keep
+  pub gives : Gives old.source new.source given
+  pub found : FindsAnswer head_only (old.held ++ given) new r keep
 
--- what contracts see of a reader of replies: the bytes that were read and not taken, the source, whether a fault ended
--- the reading, and whether the connection stays behind the reply that was read last
+-- what contracts see of a reader of replies: its input, whether a fault ended the reading, and whether the connection
+-- stays behind the reply that was read last
 pub record AnswerReaderState : Type 0 where
-  pub held : List ℕ
-  pub source : SourceState
+  pub input : InputState
   pub ended : Bool
   pub keep : Bool
 

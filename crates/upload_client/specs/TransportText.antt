@@ -30,7 +30,7 @@ ReaderGoesOn false reader = reader.ended ≡ false
 -- reader holds no byte behind it. One that it holds came before the next request was written, and is no reply to that
 -- (RFC 9112, section 9.2).
 abbrev pub stays_open : WireState → Bool
-stays_open wire = not wire.broken && (wire.reader.keep && (length wire.reader.held == 0))
+stays_open wire = not wire.broken && (wire.reader.keep && (length wire.reader.input.held == 0))
 
 -- the request has a body of at least one byte
 abbrev pub has_body : Ask → Bool
@@ -49,22 +49,33 @@ refusal_in (Err fault) = None
 -- one reply was read; a failed read is Read, and nothing else is
 pub record ReadsReply (head_only : Bool) (old : AnswerReaderState) (reply : Result Heard HeardFault)
     (new : AnswerReaderState) : Type 0 where
-  pub read : ReadsAnswer head_only old.held old.source new.held new.source reply new.keep
-  pub costs : Costs most_answer_reads (reply ≡ Err Fault.Read) old.source new.source
+  pub read : ReadsAnswer head_only old.input new.input reply new.keep
+  pub costs : Costs most_answer_reads (reply ≡ Err Fault.Read) old.input.source new.input.source
 
--- What is heard behind a request, by whether it was written whole and whether it has a body. Where it was, one reply is
--- read and heard, and a fault of it breaks the transport. Where a write failed the transport is broken in any case;
--- behind a request with a body one reply is read all the same, which the server may have sent before it closed, and a
--- refusal is heard and nothing else.
-abbrev pub HearsBehind : Result ⊤ WriteFault → Bool → Bool → AnswerReaderState → Option Heard
-    → AnswerReaderState → Bool → Type 0
-HearsBehind (Ok u) body head_only old heard new broken =
-    (reply : Result Heard HeardFault) × ReadsReply head_only old reply new × (heard ≡ result_ok reply)
-    × (broken ≡ is_err reply)
-HearsBehind (Err fault) true head_only old heard new broken =
-    (reply : Result Heard HeardFault) × ReadsReply head_only old reply new × (heard ≡ refusal_in reply)
-    × (broken ≡ true)
-HearsBehind (Err fault) false head_only old heard new broken = (heard ≡ None) × (new ≡ old) × (broken ≡ true)
+-- what is awaited behind a request
+pub data Awaited : Type 0 where
+  a_reply : Awaited
+  a_refusal : Awaited
+  no_reply : Awaited
+
+-- A reply, if the request was written whole. If a write failed of one with a body, a refusal: the server may have sent
+-- it before it closed.
+abbrev pub awaited : Result ⊤ WriteFault → Bool → Awaited
+awaited (Ok u) body = a_reply
+awaited (Err fault) true = a_refusal
+awaited (Err fault) false = no_reply
+
+-- What is heard of what is awaited. One reply is read and heard, and a fault of it breaks the transport. If a write
+-- failed the transport is broken in any case; where a refusal is awaited one reply is read all the same, and a refusal
+-- is heard and nothing else.
+abbrev pub HearsBehind : Awaited → Bool → WireState → Option Heard → WireState → Type 0
+HearsBehind a_reply head_only old heard new =
+    (reply : Result Heard HeardFault) × ReadsReply head_only old.reader reply new.reader × (heard ≡ result_ok reply)
+    × (new.broken ≡ is_err reply)
+HearsBehind a_refusal head_only old heard new =
+    (reply : Result Heard HeardFault) × ReadsReply head_only old.reader reply new.reader × (heard ≡ refusal_in reply)
+    × (new.broken ≡ true)
+HearsBehind no_reply head_only old heard new = (heard ≡ None) × (new.reader ≡ old.reader) × (new.broken ≡ true)
 
 -- the request was written and handed on, or a front of it was written where a write failed, and this was heard behind
 -- it
@@ -72,7 +83,7 @@ pub record Exchanges (old : WireState) (ask : Ask) (heard : Option Heard) (new :
   pub written : Result ⊤ WriteFault
   pub wrote : Wrote old.writer new.writer (ask_text ask old.host) written
   pub flushed : OnOk written (IsTrue new.writer.flushed)
-  pub hears : HearsBehind written (has_body ask) (wants_head ask) old.reader heard new.reader new.broken
+  pub hears : HearsBehind (awaited written (has_body ask)) (wants_head ask) old heard new
   pub same_host : new.host ≡ old.host
 
 -- the same transport, broken

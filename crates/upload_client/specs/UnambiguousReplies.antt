@@ -2,7 +2,7 @@
 use Rattle.std.specs.Prelude.{◌≡◌, ◌≢◌, ℕ, ◌+◌, ◌<◌, ◌⊎◌, Bool, List}
 use Rattle.httparse.specs.Grammar.{ResponseHead, print_response}
 use Rattle.http_wire.specs.Fronts.{line_feeds, max_fields, IsRefused, IsTooLong, IsUnfinished, ReadsHead, responses}
-use Rattle.http_wire.specs.States.{SourceState}
+use Rattle.http_wire.specs.States.{SourceState, input_state}
 use Rattle.upload_client.specs.AnswerText.{TellsHeard, TellsMisplaced, HasFramingFault, HasLongBody, HasCutReplyBody}
 use Rattle.upload_client.specs.declared.heard.Heard.{Heard}
 use Rattle.http_wire.specs.declared.responses.framing.FramingFault.TheVariants as Fault
@@ -18,10 +18,11 @@ pub data ReplyParse : Type 0 where
 
 -- The text is read so, as the reply to a HEAD or to another request, where the source is left as new.
 abbrev pub ParsesAsReply : Bool → List ℕ → SourceState → ReplyParse → Type 0
-ParsesAsReply head_only text new (heard what keep rest) = TellsHeard head_only text rest new what keep
+ParsesAsReply head_only text new (heard what keep rest) = TellsHeard head_only text (input_state rest new) what keep
 ParsesAsReply head_only text new refused = IsRefused responses text
 ParsesAsReply head_only text new unreadable =
-    HasFramingFault head_only text Fault.Unreadable ⊎ ((rest : List ℕ) × TellsMisplaced head_only text rest new)
+    HasFramingFault head_only text Fault.Unreadable
+    ⊎ ((rest : List ℕ) × TellsMisplaced head_only text (input_state rest new))
 ParsesAsReply head_only text new too_large =
     IsTooLong responses text ⊎ (HasFramingFault head_only text Fault.TooLarge ⊎ HasLongBody head_only text)
 ParsesAsReply head_only text new cut = IsUnfinished responses text ⊎ HasCutReplyBody head_only text

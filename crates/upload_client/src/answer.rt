@@ -1,8 +1,9 @@
 //! Replies, read from a source of bytes.
 ghost use Rattle.std.specs.Prelude.{◌≡◌, ℕ, ◌==◌, [], length, option_map, Err, IfOk, false, true, is_err};
 ghost use Rattle.serde_json.specs.View.{view};
+ghost use Rattle.http_wire.specs.States.{input_state};
 ghost use Rattle.http_wire.specs.Reading.{Costs};
-ghost use Rattle.http_wire.specs.Inputs.{ReadsAtMost};
+ghost use Rattle.http_wire.specs.Inputs.{ReadsAtMost, input_of};
 ghost use Rattle.http_wire.specs.Fields.{Fields};
 ghost use Rattle.upload_client.specs.AnswerText.{ReadsAnswer, code_in, code_of, most_answer_reads, upto_of};
 ghost use Rattle.http_wire.specs.Inner.HeadReading.{IsHeadAtFront, fields_of};
@@ -137,8 +138,8 @@ fn read_framed<S: ByteSource>(
     head_only: bool,
 ) -> Result<ReplyRead, HeardFault>
     requires { IsHeadAtFront response_spans input.old.buffer.now parsed.now }
-    ensures found { FindsReply head_only input.old.buffer.now (S.state input.old.source.now)
-        input.new.buffer.now (S.state input.new.source.now) result }
+    ensures found { FindsReply head_only (input_of S.state input.old) (input_of S.state input.new)
+        result }
     ensures costs { ReadsAtMost S.state 65537 (result ≡ Err HeardFault.Read) input.old input.new }
 {
     let head = &input.unread()[..parsed.spans.len];
@@ -163,8 +164,8 @@ fn read_answer<S: ByteSource>(
     input: &mut Input<'_, S>,
     head_only: bool,
 ) -> Result<ReplyRead, HeardFault>
-    ensures found { FindsReply head_only input.old.buffer.now (S.state input.old.source.now)
-        input.new.buffer.now (S.state input.new.source.now) result }
+    ensures found { FindsReply head_only (input_of S.state input.old) (input_of S.state input.new)
+        result }
     ensures costs { ReadsAtMost S.state most_answer_reads (result ≡ Err HeardFault.Read)
         input.old input.new }
 {
@@ -187,13 +188,13 @@ pub struct AnswerReader<S: ByteSource> {
 }
 
 impl<S: ByteSource> Model for AnswerReader<S> {
+    ghost use Rattle.http_wire.specs.States.{input_state};
     ghost use Rattle.upload_client.specs.AnswerText.{AnswerReaderState};
 
     ghost Value = { AnswerReaderState };
 
     ghost view = { λ r. record {
-      held = r.buffer;
-      source = S.state r.source;
+      input = input_state r.buffer (S.state r.source);
       ended = r.ended;
       keep = r.keep;
     } };
@@ -205,8 +206,7 @@ impl<S: ByteSource> AnswerReader<S> {
     where
         S: Drop,
         ensures { IfOk result (λ reader. reader ≡ record {
-          held = [];
-          source = S.state source;
+          input = input_state [] (S.state source);
           ended = false;
           keep = true;
         }) }
@@ -238,11 +238,10 @@ impl<S: ByteSource> AnswerReader<S> {
         ensures ended { self.old.ended ≡ true
             → (result ≡ Err HeardFault.Ended) × (self.new ≡ self.old) }
         ensures found { self.old.ended ≡ false
-            → ReadsAnswer head self.old.held self.old.source self.new.held self.new.source
-            result self.new.keep }
+            → ReadsAnswer head self.old.input self.new.input result self.new.keep }
         ensures ends { self.new.ended ≡ is_err result }
-        ensures costs { Costs most_answer_reads (result ≡ Err HeardFault.Read) self.old.source
-            self.new.source }
+        ensures costs { Costs most_answer_reads (result ≡ Err HeardFault.Read)
+            self.old.input.source self.new.input.source }
     {
         if self.ended {
             return Err(HeardFault::Ended);
@@ -266,7 +265,7 @@ impl<S: ByteSource> AnswerReader<S> {
 
     /// Whether nothing was read behind that reply.
     pub(crate) fn holds_none(&self) -> bool
-        ensures { result ≡ (length self.now.held == 0) }
+        ensures { result ≡ (length self.now.input.held == 0) }
     {
         self.buffer.len() == 0
     }

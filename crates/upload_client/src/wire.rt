@@ -1,8 +1,10 @@
 //! A transport over a reader and a writer of bytes.
 ghost use Rattle.std.specs.Prelude.{◌≡◌, IfOk, IsOk, OnErr, IsTrue, [], false, true};
 ghost use Rattle.upload_service.specs.declared.ask.Ask.{Ask as AskModel};
+ghost use Rattle.http_wire.specs.States.{input_state};
 ghost use Rattle.upload_client.specs.AskText.{CanBeWritten, ask_of_chunk, is_host, wants_head};
-ghost use Rattle.upload_client.specs.TransportText.{AsksOverWire, HearsBehind, is_refusal, refusal_in, stays_open};
+ghost use Rattle.upload_client.specs.TransportText.{AsksOverWire, HearsBehind, awaited, is_refusal, refusal_in};
+ghost use Rattle.upload_client.specs.TransportText.{stays_open};
 
 use crate::answer::AnswerReader;
 use crate::ask::{is_bodiless, write_ask, write_chunk};
@@ -59,8 +61,7 @@ impl<S: ByteSource, W: ByteSink> WireTransport<S, W> {
         requires { IsTrue (is_host host.now) }
         ensures { IfOk result (λ transport. transport ≡ record {
           reader = record {
-            held = [];
-            source = S.state source;
+            input = input_state [] (S.state source);
             ended = false;
             keep = true;
           };
@@ -121,8 +122,7 @@ impl<S: ByteSource, W: ByteSink> WireTransport<S, W> {
     /// Hears the reply to a request that was written so far.
     fn hear(&mut self, written: Result<(), WriteFault>, has_body: bool, head: bool) -> Option<Heard>
         requires { self.old.reader.ended ≡ false }
-        ensures hears { HearsBehind written has_body head self.old.reader result self.new.reader
-            self.new.broken }
+        ensures hears { HearsBehind (awaited written has_body) head self.old result self.new }
         ensures writer { self.new.writer ≡ self.old.writer }
         ensures host { self.new.host ≡ self.old.host }
     {

@@ -9,8 +9,10 @@ use Rattle.upload_client.specs.TransportText.{WireState, AsksOverWire, stays_ope
 abbrev pub new_wire : List ℕ → Option (List ℕ) → Option (List ℕ) → WireState
 new_wire host remaining contents = record {
   reader = record {
-    held = [];
-    source = record { given = []; ended = false; remaining = remaining; reads = 0; failed_reads = 0 };
+    input = record {
+      held = [];
+      source = record { given = []; ended = false; remaining = remaining; reads = 0; failed_reads = 0 };
+    };
     ended = false;
     keep = true;
   };

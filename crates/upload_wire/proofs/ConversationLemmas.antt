@@ -18,7 +18,7 @@ use Rattle.upload_wire.specs.declared.connection.ConnEnd.TheVariants.{Fault}
 use Rattle.upload_wire.specs.declared.connection.ConnFault.TheVariants as Conn
 use Rattle.upload_wire.specs.RequestText.{ReadsNext}
 use Rattle.upload_wire.specs.ReplyText.{reply}
-use Rattle.http_wire.specs.States.{SourceState, SinkState}
+use Rattle.http_wire.specs.States.{SourceState, SinkState, input_state}
 use Rattle.http_wire.specs.Reading.{Gives}
 use Rattle.http_wire.specs.Writing.{TookAll}
 use Rattle.upload_wire.specs.Conversation.{Moves, WireExchange, IsKept, messages, replies, Answers, HandedOn}
@@ -41,7 +41,8 @@ module _ {D : Type 0} (step : Moves D) (max count : ℕ) (held rest : List ℕ) 
     (ask : Ask) (style : Style)
     (at new : D) (mid : SinkState) (answer : Answer) (after : SinkState) where
   unfoldable pub one_more : (kept : List ℕ) (next : ℕ) → kept ≡ rest → next ≡ count + 1 → (r : Option ConnEnd)
-      → ReadsNext max held first rest left (Ok (Request ask style)) → left.failed_reads ≡ first.failed_reads
+      → ReadsNext max (input_state held first) (input_state rest left) (Ok (Request ask style))
+      → left.failed_reads ≡ first.failed_reads
       → step at ask (Some answer) new → IsRepliedTo count answer style mid after r → r ≡ None
       → GoesOn step max (stand count held first at mid) (stand next kept left new after)
   one_more kept next stays one None n same answered a e = record {
@@ -59,15 +60,17 @@ module _ {D : Type 0} (step : Moves D) (max count : ℕ) (held rest : List ℕ) 
   one_more kept next stays one (Some x) n same answered a e = absurd (cc)
 
   -- the exchange that ended the connection
-  abbrev last_exchange : ReadsNext max held first rest left (Ok (Request ask style)) → WireExchange
+  abbrev last_exchange : ReadsNext max (input_state held first) (input_state rest left) (Ok (Request ask style))
+      → WireExchange
   last_exchange n = record { message = n.found.message; ask = ask; style = style; answer = answer }
 
-  pub answers_next : (n : ReadsNext max held first rest left (Ok (Request ask style))) → step at ask (Some answer) new
+  pub answers_next : (n : ReadsNext max (input_state held first) (input_state rest left) (Ok (Request ask style)))
+      → step at ask (Some answer) new
       → AnswersNext step max at new (held ++ n.given) (last_exchange n)
   answers_next n answered = record { more = rest; read = n.found.cut; request = n.found.request; answered = answered }
 
   unfoldable pub one_last : (kept : List ℕ) (next : ℕ) (r : Option ConnEnd)
-      → ReadsNext max held first rest left (Ok (Request ask style))
+      → ReadsNext max (input_state held first) (input_state rest left) (Ok (Request ask style))
       → left.failed_reads ≡ first.failed_reads → step at ask (Some answer) new
       → IsRepliedTo count answer style mid after r
       → IfSome r (Stops step max (stand count held first at mid) (stand next kept left new after))
@@ -99,7 +102,8 @@ module _ {D : Type 0} (step : Moves D) (max count : ℕ) (held rest : List ℕ) 
       }
 
 unfoldable pub after_refusal : {D : Type 0} (step : Moves D) (max : ℕ) (old new : Standing D)
-    (rest : List ℕ) (why : Bad) (end : ConnEnd) → ReadsNext max old.held old.source rest new.source (Ok (nexts.Bad why))
+    (rest : List ℕ) (why : Bad) (end : ConnEnd)
+    → ReadsNext max (input_state old.held old.source) (input_state rest new.source) (Ok (nexts.Bad why))
     → new.source.failed_reads ≡ old.source.failed_reads → new.desk ≡ old.desk → RefusedWith old.sink new.sink why end
     → Stops step max old new end
 after_refusal step max old new rest why AfterBad n same unasked told =

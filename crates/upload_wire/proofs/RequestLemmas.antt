@@ -12,7 +12,7 @@ use Rattle.http_wire.specs.Fields.{head_fields, values_of, keeps_connection}
 use Rattle.http_wire.specs.Body.{framing_of, head_framing}
 use Rattle.upload_wire.specs.Target.{HeadAsks, AsksWhole, extent_of, head_range, with_body}
 use Rattle.http_wire.specs.Inner.HeadSpans.{request_spans}
-use Rattle.http_wire.specs.States.{SourceState}
+use Rattle.http_wire.specs.States.{SourceState, InputState, input_state}
 use Rattle.http_wire.specs.Reading.{Gave}
 use Rattle.http_wire.specs.Inner.BodyFinding.{CutsBody, FindsBody}
 use Rattle.upload_wire.specs.Inner.RequestReading.{DescribesAll, FindsRequest}
@@ -126,27 +126,29 @@ line_read text p f method target m t = record {
 }
 
 -- a head of bad framing
-pub bad_framing_next : (max : ℕ) (old : SourceState) (held rest : List ℕ) (p : ParsedRequest) (why : Bad)
-    (f : IsHeadAtFront request_spans held p)
-    → framing_of max p.spans.version (fields_of request_spans (take p.spans.len held) p) ≡ Err why
-    → ReadsNext max held old rest old (Ok (nexts.Bad why))
-bad_framing_next max old held rest p why f refused = record {
-  given = [];
-  gives = gives_none old;
-  found = inr (inr (inl (record {
-    head = the_head f;
-    rest = drop p.spans.len held;
-    reads =
-        subst (λ t. ReadsHead requests t (the_head f) (drop p.spans.len held))
-        (take-append-drop p.spans.len held ∙ sym (append-nil held)) (head_then held (drop p.spans.len held) p f);
-    refused = framing_same max held p (Err why) f refused;
-  })));
-}
+pub bad_framing_next : (max : ℕ) (old : InputState) (p : ParsedRequest) (why : Bad)
+    (f : IsHeadAtFront request_spans old.held p)
+    → framing_of max p.spans.version (fields_of request_spans (take p.spans.len old.held) p) ≡ Err why
+    → ReadsNext max old old (Ok (nexts.Bad why))
+bad_framing_next max old p why f refused =
+    let held = old.held in
+    record {
+      given = [];
+      gives = gives_none old.source;
+      found = inr (inr (inl (record {
+        head = the_head f;
+        rest = drop p.spans.len held;
+        reads =
+            subst (λ t. ReadsHead requests t (the_head f) (drop p.spans.len held))
+            (take-append-drop p.spans.len held ∙ sym (append-nil held)) (head_then held (drop p.spans.len held) p f);
+        refused = framing_same max held p (Err why) f refused;
+      })));
+    }
 
 -- what came behind the head ends inside the body
 cut_next : (max : ℕ) (old new : SourceState) (held : List ℕ) (p : ParsedRequest) (d : Described)
     (f : IsHeadAtFront request_spans held p) → DescribesAll max (take p.spans.len held) p d
-    → (b : CutsBody d.framing old (drop p.spans.len held) new) → HasCutBody max (held ++ b.gave.given)
+    → (b : CutsBody d.framing (input_state (drop p.spans.len held) old) new) → HasCutBody max (held ++ b.gave.given)
 cut_next max old new held p d f says b = record {
   head = the_head f;
   rest = b.text;
@@ -159,18 +161,17 @@ cut_next max old new held p d f says b = record {
 }
 
 -- what comes next, by what was found behind the head
-pub request_next : (max : ℕ) (old new : SourceState) (held rest : List ℕ) (p : ParsedRequest) (d : Described)
+pub request_next : (max : ℕ) (old : SourceState) (held : List ℕ) (new : InputState) (p : ParsedRequest) (d : Described)
     (r : Result Next WireFault)
     (f : IsHeadAtFront request_spans held p) → DescribesAll max (take p.spans.len held) p d
-    → FindsRequest d old (drop p.spans.len held) new rest r
-    → ReadsNext max held old rest new r
-request_next max old new held rest p d (Ok (Request ask style)) f says b = record {
+    → FindsRequest d (input_state (drop p.spans.len held) old) new r → ReadsNext max (input_state held old) new r
+request_next max old held new p d (Ok (Request ask style)) f says b = record {
   given = b.taken.gave.given;
   gives = b.taken.gave.gives;
   found = record {
     message = take p.spans.len held ++ b.taken.text;
-    cut = whole_text held b.taken.gave.given (b.taken.text ++ rest) p.spans.len b.taken.gave.joined
-        ∙ sym (append_assoc (take p.spans.len held) b.taken.text rest);
+    cut = whole_text held b.taken.gave.given (b.taken.text ++ new.held) p.spans.len b.taken.gave.joined
+        ∙ sym (append_assoc (take p.spans.len held) b.taken.text new.held);
     request = record {
       head = the_head f;
       rest = b.taken.text;
@@ -184,8 +185,8 @@ request_next max old new held rest p d (Ok (Request ask style)) f says b = recor
     };
   };
 }
-request_next max old new held rest p d (Ok Over) f says b = absurd b
-request_next max old new held rest p d (Ok (nexts.Bad why)) f says b = record {
+request_next max old held new p d (Ok Over) f says b = absurd b
+request_next max old held new p d (Ok (nexts.Bad why)) f says b = record {
   given = b.gave.given;
   gives = b.gave.gives;
   found = inr (inr (inr (record {
@@ -199,45 +200,45 @@ request_next max old new held rest p d (Ok (nexts.Bad why)) f says b = record {
     refused = b.bad;
   })));
 }
-request_next max old new held rest p d (Err Fault.Truncated) f says b = record {
+request_next max old held new p d (Err Fault.Truncated) f says b = record {
   given = b.0.gave.given;
   gives = b.0.gave.gives;
-  found = (inr (cut_next max old new held p d f says b.0), b.1);
+  found = (inr (cut_next max old new.source held p d f says b.0), b.1);
 }
-request_next max old new held rest p d (Err Fault.Read) f says b = record {
+request_next max old held new p d (Err Fault.Read) f says b = record {
   given = b.gave.given;
   gives = b.gave.gives;
-  found = inr (inr (cut_next max old new held p d f says b));
+  found = inr (inr (cut_next max old new.source held p d f says b));
 }
-request_next max old new held rest p d (Err Fault.NoMemory) f says b =
+request_next max old held new p d (Err Fault.NoMemory) f says b =
     record { given = b.gave.given; gives = b.gave.gives; found = tt }
-request_next max old new held rest p d (Err Fault.Ended) f says b = absurd b
+request_next max old held new p d (Err Fault.Ended) f says b = absurd b
 
 -- what is found behind a head where its body stopped
-pub body_fault : (d : Described) (old new : SourceState) (held rest body : List ℕ) (e : BodyFault)
-    → FindsBody d.framing old held new rest body (Err e) → FindsRequest d old held new rest (Err (wire_of_body e))
-body_fault d old new held rest body Body.Truncated b = b
-body_fault d old new held rest body Body.Read b = b
-body_fault d old new held rest body Body.NoMemory b = b
+pub body_fault : (d : Described) (old new : InputState) (body : List ℕ) (e : BodyFault)
+    → FindsBody d.framing old new body (Err e) → FindsRequest d old new (Err (wire_of_body e))
+body_fault d old new body Body.Truncated b = b
+body_fault d old new body Body.Read b = b
+body_fault d old new body Body.NoMemory b = b
 
 -- why no head came
-pub head_fault_next : (max : ℕ) (text rest : List ℕ) (new : SourceState) (e : InputFault)
-    → FindsHead request_spans text new (Err e) → FindsNext max text rest new (Err (wire_of_input e))
-head_fault_next max text rest new Input.Truncated h = (inl h.0, h.1)
-head_fault_next max text rest new Input.Read h = elim h [
+pub head_fault_next : (max : ℕ) (text : List ℕ) (new : InputState) (e : InputFault)
+    → FindsHead request_spans (input_state text new.source) (Err e) → FindsNext max text new (Err (wire_of_input e))
+head_fault_next max text new Input.Truncated h = (inl h.0, h.1)
+head_fault_next max text new Input.Read h = elim h [
   | inl empty ↦ inl empty
   | inr unfinished ↦ inr (inl unfinished)
 ]
 
 -- a read, and then what came next
-unfoldable pub reads_after : (max : ℕ) (held text rest : List ℕ) (old mid new : SourceState) (r : Result Next WireFault)
-    → Gave old mid held text → ReadsNext max text mid rest new r → ReadsNext max held old rest new r
-reads_after max held text rest old mid new r gave next = record {
+unfoldable pub reads_after : (max : ℕ) (old mid new : InputState) (r : Result Next WireFault)
+    → Gave old mid.source mid.held → ReadsNext max mid new r → ReadsNext max old new r
+reads_after max old mid new r gave next = record {
   given = gave.given ++ next.given;
-  gives = gives_both old mid new gave.given next.given gave.gives next.gives;
+  gives = gives_both old.source mid.source new.source gave.given next.given gave.gives next.gives;
   found =
-      subst (λ t. FindsNext max t rest new r)
-      (ap (λ t. t ++ next.given) gave.joined ∙ append_assoc held gave.given next.given) next.found;
+      subst (λ t. FindsNext max t new r)
+      (ap (λ t. t ++ next.given) gave.joined ∙ append_assoc old.held gave.given next.given) next.found;
 }
 
 pub described : (max : ℕ) (front : List ℕ) (p : ParsedRequest) (d : Described) (method target : List ℕ) (range : Extent)

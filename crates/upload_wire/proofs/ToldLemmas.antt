@@ -6,7 +6,7 @@ use Rattle.std.proofs.lemmas.List.{append-nil}
 use Rattle.httparse.specs.Grammar.{RequestHead, print_request}
 use Rattle.upload_service.specs.declared.ask.Ask.{Ask}
 use Rattle.upload_service.specs.declared.answer.Answer.{Answer}
-use Rattle.http_wire.specs.States.{SourceState, SinkState}
+use Rattle.http_wire.specs.States.{SourceState, InputState, SinkState, input_state}
 use Rattle.http_wire.specs.Reading.{Gave, Costs}
 use Rattle.http_wire.specs.Faults.{wire_of_input}
 use Rattle.http_wire.specs.HeadText.{bad_status, status_number}
@@ -104,27 +104,27 @@ tells_behind text method target (Ok (nexts.Bad why)) line came = (Head method ta
 tells_behind text method target (Err fault) line came =
     inr (record { method = method; target = target; line = line; events_are = refl })
 
-module _ {O : Type 0} (telling : Telling O) (max : ℕ) (held text : List ℕ) (first mid : SourceState)
-    (gave : Gave first mid held text) (old : O) where
+module _ {O : Type 0} (telling : Telling O) (max : ℕ) (first mid : InputState)
+    (gave : Gave first mid.source mid.held) (old : O) where
   -- a head was told, and then its body was read
-  pub told_behind : (rest : List ℕ) (left : SourceState) (new : O) (method target : List ℕ) (r : Result Next WireFault)
-      → HasLine text method target → telling old (Head method target) new → ReadsNext max text mid rest left r
-      → ¬ (r ≡ Ok Over) → ReadsTold telling max (listening held first old) (listening rest left new) r
+  pub told_behind : (left : InputState) (new : O) (method target : List ℕ) (r : Result Next WireFault)
+      → HasLine mid.held method target → telling old (Head method target) new → ReadsNext max mid left r
+      → ¬ (r ≡ Ok Over) → ReadsTold telling max (listening first old) (listening left new) r
   unfolding reads_after
-  told_behind rest left new method target r line tells n came =
-      let joined = ap (λ t. t ++ n.given) gave.joined ∙ append_assoc held gave.given n.given in
-      let whole = subst (λ t. HasLine t method target) joined (line_more text n.given method target line) in
+  told_behind left new method target r line tells n came =
+      let joined = ap (λ t. t ++ n.given) gave.joined ∙ append_assoc first.held gave.given n.given in
+      let whole = subst (λ t. HasLine t method target) joined (line_more mid.held n.given method target line) in
       record {
-        next = reads_after max held text rest first mid left r gave n;
+        next = reads_after max first mid left r gave n;
         events = Head method target ∷ [];
-        tells = tells_behind (held ++ (gave.given ++ n.given)) method target r whole came;
+        tells = tells_behind (first.held ++ (gave.given ++ n.given)) method target r whole came;
         told = (new, tells, refl);
       }
 
   -- there is no head that can be read
-  pub told_unreadable : (new : O) (why : Bad) → IsBad max text why
-      → (IsRefused requests text) ⊎ (IsTooLong requests text) → telling old Unreadable new
-      → ReadsTold telling max (listening held first old) (listening text mid new) (Ok (nexts.Bad why))
+  pub told_unreadable : (new : O) (why : Bad) → IsBad max mid.held why
+      → (IsRefused requests mid.held) ⊎ (IsTooLong requests mid.held) → telling old Unreadable new
+      → ReadsTold telling max (listening first old) (listening mid new) (Ok (nexts.Bad why))
   told_unreadable new why is_bad none tells = record {
     next = record {
       given = gave.given;
@@ -136,24 +136,25 @@ module _ {O : Type 0} (telling : Telling O) (max : ℕ) (held text : List ℕ) (
     told = (new, tells, refl);
   }
 
-  nothing_told : (t : List ℕ) (e : InputFault) → FindsHead request_spans t mid (Err e) → TellsCut t []
+  nothing_told : (t : List ℕ) (e : InputFault) → FindsHead request_spans (input_state t mid.source) (Err e)
+      → TellsCut t []
   nothing_told t Input.Truncated h = inl (inr h.0, refl)
   nothing_told t Input.Read (inl empty) = inl (inl empty, refl)
   nothing_told t Input.Read (inr begun) = inl (inr begun, refl)
 
   -- no head came
-  pub told_fault : (e : InputFault) → FindsHead request_spans text mid (Err e)
-      → ReadsTold telling max (listening held first old) (listening text mid old) (Err (wire_of_input e))
+  pub told_fault : (e : InputFault) → FindsHead request_spans mid (Err e)
+      → ReadsTold telling max (listening first old) (listening mid old) (Err (wire_of_input e))
   told_fault e h =
-      let found = subst (λ t. FindsHead request_spans t mid (Err e)) gave.joined h in
+      let found = subst (λ t. FindsHead request_spans (input_state t mid.source) (Err e)) gave.joined h in
       record {
         next = record {
           given = gave.given;
           gives = gave.gives;
-          found = head_fault_next max (held ++ gave.given) text mid e found;
+          found = head_fault_next max (first.held ++ gave.given) mid e found;
         };
         events = [];
-        tells = nothing_told (held ++ gave.given) e found;
+        tells = nothing_told (first.held ++ gave.given) e found;
         told = refl;
       }
 
@@ -162,7 +163,8 @@ module _ {O : Type 0} (telling : Telling O) (max : ℕ) (held text : List ℕ) (
 module _ {D O : Type 0} (step : Moves D) (telling : Telling O) (max count : ℕ) (held rest : List ℕ)
     (first left : SourceState) (ask : Ask) (style : Style)
     (at new : D) (mid : SinkState) (was heard : O)
-    (n : ReadsTold telling max (listening held first was) (listening rest left heard) (Ok (Request ask style)))
+    (n : ReadsTold telling max (listening (input_state held first) was) (listening (input_state rest left) heard)
+    (Ok (Request ask style)))
     (same : left.failed_reads ≡ first.failed_reads) where
   module _ (answer : Answer) (after : SinkState) (is : O) (replied : telling heard (event_of answer style) is)
       (answered : step at ask (Some answer) new) where
@@ -267,7 +269,8 @@ module _ {D O : Type 0} (step : Moves D) (telling : Telling O) (max count : ℕ)
     (was heard : O) where
   -- what came was refused
   module _ (why : Bad)
-      (n : ReadsTold telling max (listening held first was) (listening rest left heard) (Ok (nexts.Bad why)))
+      (n : ReadsTold telling max (listening (input_state held first) was) (listening (input_state rest left) heard)
+      (Ok (nexts.Bad why)))
       (same : left.failed_reads ≡ first.failed_reads) (after : SinkState) (is : O)
       (replied : telling heard (Replied (status_number (bad_status why)) 0) is) where
     refused : List Event
@@ -321,7 +324,7 @@ module _ {D O : Type 0} (step : Moves D) (telling : Telling O) (max count : ℕ)
   reads_fail Wire.NoMemory costs = costs.unfailed (λ e. cc)
   reads_fail Wire.Ended costs = costs.unfailed (λ e. cc)
 
-  wire_stops : (fault : WireFault) (text : List ℕ) → FindsNext max text rest left (Err fault)
+  wire_stops : (fault : WireFault) (text : List ℕ) → FindsNext max text (input_state rest left) (Err fault)
       → WireStops max text left fault
   wire_stops Wire.Truncated text found = found
   wire_stops Wire.Read text found = found
@@ -330,7 +333,8 @@ module _ {D O : Type 0} (step : Moves D) (telling : Telling O) (max count : ℕ)
 
   -- no more could be read
   pub stopped_told : (fault : WireFault)
-      → ReadsTold telling max (listening held first was) (listening rest left heard) (Err fault)
+      → ReadsTold telling max (listening (input_state held first) was) (listening (input_state rest left) heard)
+      (Err fault)
       → Costs (most_reads max) (◌≡◌ {A = Result Next WireFault} (Err fault) (Err Wire.Read)) first left
       → (kept : List ℕ) (next : ℕ) → StopsTold (rules step telling max) (observed (stand count held first at mid) was)
       (observed (stand next kept left at mid) heard) (Fault (Conn.Wire fault))

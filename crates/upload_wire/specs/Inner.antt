@@ -2,4 +2,4 @@
 pub mod ConversationSteps
 pub mod ToldSteps
 pub mod RequestReading
-pub mod InputState
+pub mod RequestInputState

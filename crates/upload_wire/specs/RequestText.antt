@@ -2,7 +2,7 @@
 use Rattle.std.specs.Prelude.{◌≡◌, ℕ, ◌⊎◌, List, [], ◌++◌, codes, bytes_eq, Result, Ok, Err, ⊤}
 use Rattle.httparse.specs.Grammar.{RequestHead}
 use Rattle.upload_service.specs.declared.ask.Ask.{Ask}
-use Rattle.http_wire.specs.States.{SourceState}
+use Rattle.http_wire.specs.States.{InputState}
 use Rattle.http_wire.specs.Reading.{Gives, HasEnded}
 use Rattle.http_wire.specs.Fronts.{IsCutHead, IsRefused, IsTooLong, ReadsHead, requests}
 use Rattle.http_wire.specs.Fields.{head_fields, keeps_connection}
@@ -82,20 +82,18 @@ pub record ReadsOne (max_body : ℕ) (text rest : List ℕ) (ask : Ask) (style :
   pub cut : text ≡ message ++ rest
   pub request : IsRequest max_body message ask style
 
--- what the reader found in the text, where it holds rest and the source is left as new
-abbrev pub FindsNext : ℕ → List ℕ → List ℕ → SourceState → Result Next WireFault → Type 0
-FindsNext max_body text rest new (Ok (Request ask style)) = ReadsOne max_body text rest ask style
-FindsNext max_body text rest new (Ok Over) = (text ≡ []) × (rest ≡ []) × HasEnded new
-FindsNext max_body text rest new (Ok (nexts.Bad why)) = IsBad max_body text why
-FindsNext max_body text rest new (Err Fault.Truncated) = IsTruncated max_body text × HasEnded new
-FindsNext max_body text rest new (Err Fault.Read) = HoldsNoRequest max_body text
-FindsNext max_body text rest new (Err Fault.NoMemory) = ⊤
-FindsNext max_body text rest new (Err Fault.Ended) = ⊥
+-- what the reader found in the text, where its input is left as new
+abbrev pub FindsNext : ℕ → List ℕ → InputState → Result Next WireFault → Type 0
+FindsNext max_body text new (Ok (Request ask style)) = ReadsOne max_body text new.held ask style
+FindsNext max_body text new (Ok Over) = (text ≡ []) × (new.held ≡ []) × HasEnded new.source
+FindsNext max_body text new (Ok (nexts.Bad why)) = IsBad max_body text why
+FindsNext max_body text new (Err Fault.Truncated) = IsTruncated max_body text × HasEnded new.source
+FindsNext max_body text new (Err Fault.Read) = HoldsNoRequest max_body text
+FindsNext max_body text new (Err Fault.NoMemory) = ⊤
+FindsNext max_body text new (Err Fault.Ended) = ⊥
 
 -- some bytes were read, and this was found in what was held and read
-pub record ReadsNext
-    (max_body : ℕ) (held : List ℕ) (old : SourceState) (rest : List ℕ) (new : SourceState) (r : Result Next WireFault)
-    : Type 0 where
+pub record ReadsNext (max_body : ℕ) (old new : InputState) (r : Result Next WireFault) : Type 0 where
   pub given : List ℕ
-  pub gives : Gives old new given
-  pub found : FindsNext max_body (held ++ given) rest new r
+  pub gives : Gives old.source new.source given
+  pub found : FindsNext max_body (old.held ++ given) new r

@@ -1,6 +1,7 @@
 //! A connection, served: requests are read, asked of a desk and replied to, in turn.
 ghost use Rattle.std.specs.Prelude.{◌≡◌, ◌+◌, ◌<◌, None, Err, IfOk, IfSome};
 ghost use Rattle.http_wire.specs.HeadText.{bad_status, status_number};
+ghost use Rattle.http_wire.specs.States.{input_state};
 ghost use Rattle.http_wire.specs.Reading.{Costs};
 ghost use Rattle.upload_service.specs.Machine.{AreLawful};
 ghost use Rattle.upload_wire.specs.Conversation.{IsConversation, last_style};
@@ -190,8 +191,8 @@ impl ConnectionServer {
         observer: &mut O,
     ) -> Result<Next, WireFault>
         ensures told { ReadsTold O.told self.old.max_body
-            (listening self.old.held (S.state reader.old) observer.old)
-            (listening self.new.held (S.state reader.new) observer.new) result }
+            (listening (input_state self.old.held (S.state reader.old)) observer.old)
+            (listening (input_state self.new.held (S.state reader.new)) observer.new) result }
         ensures costs { Costs (most_reads self.old.max_body) (result ≡ Err WireFault.Read)
             (S.state reader.old) (S.state reader.new) }
         ensures answered { self.new.answered ≡ self.old.answered }

@@ -1,8 +1,9 @@
 //! Requests, one after another.
 ghost use Rattle.std.specs.Prelude.{◌≡◌, ◌+◌, ◌*◌, ◌^◌, ◌≤◌, [], Ok, Err, IfOk};
 ghost use Rattle.http_wire.specs.Fronts.{max_head};
+ghost use Rattle.http_wire.specs.States.{input_state};
 ghost use Rattle.http_wire.specs.Reading.{Costs, Gave};
-ghost use Rattle.http_wire.specs.Inputs.{ReadsAtMost};
+ghost use Rattle.http_wire.specs.Inputs.{ReadsAtMost, input_of};
 ghost use Rattle.http_wire.specs.Inner.HeadReading.{FindsHead, IsHeadAtFront};
 ghost use Rattle.http_wire.specs.Inner.HeadSpans.{request_spans};
 ghost use Rattle.upload_service.specs.Machine.{AreLawful};
@@ -33,9 +34,9 @@ pub(crate) struct RequestInput {
 
 impl Model for RequestInput {
     ghost use Rattle.std.specs.Prelude.{◌≤◌, ◌^◌};
-    ghost use Rattle.upload_wire.specs.Inner.InputState.{InputState};
+    ghost use Rattle.upload_wire.specs.Inner.RequestInputState.{RequestInputState};
 
-    ghost Value = { InputState };
+    ghost Value = { RequestInputState };
 
     ghost view = { λ i. record { max_body = i.max_body; held = i.buffer } };
 
@@ -75,8 +76,8 @@ impl RequestInput {
 
     /// Reads what comes next, behind what the buffer holds of it. Nothing is hashed in a thread.
     pub fn next<S: ByteSource>(&mut self, source: &mut S) -> Result<Next, WireFault>
-        ensures found { ReadsNext self.old.max_body self.old.held (S.state source.old)
-            self.new.held (S.state source.new) result }
+        ensures found { ReadsNext self.old.max_body (input_state self.old.held (S.state source.old))
+            (input_state self.new.held (S.state source.new)) result }
         ensures costs { Costs (most_reads self.old.max_body) (result ≡ Err WireFault.Read)
             (S.state source.old) (S.state source.new) }
         ensures limit { self.new.max_body ≡ self.old.max_body }
@@ -94,8 +95,10 @@ impl RequestInput {
         &mut self,
         source: &mut S,
     ) -> Result<HeadRead<ParsedRequest>, InputFault>
-        ensures gave { Gave (S.state source.old) (S.state source.new) self.old.held self.new.held }
-        ensures found { FindsHead request_spans self.new.held (S.state source.new) result }
+        ensures gave { Gave (input_state self.old.held (S.state source.old)) (S.state source.new)
+            self.new.held }
+        ensures found { FindsHead request_spans (input_state self.new.held (S.state source.new))
+            result }
         ensures costs { Costs max_head (result ≡ Err InputFault.Read)
             (S.state source.old) (S.state source.new) }
         ensures limit { self.new.max_body ≡ self.old.max_body }
@@ -124,8 +127,8 @@ impl RequestInput {
         parsed: &ParsedRequest,
     ) -> Result<Next, WireFault>
         requires { IsHeadAtFront request_spans self.old.held parsed.now }
-        ensures found { ReadsNext self.old.max_body self.old.held (S.state source.old)
-            self.new.held (S.state source.new) result }
+        ensures found { ReadsNext self.old.max_body (input_state self.old.held (S.state source.old))
+            (input_state self.new.held (S.state source.new)) result }
         ensures came { ¬ (result ≡ Ok Next.Over) }
         ensures costs { Costs (12 + 13 * self.old.max_body) (result ≡ Err WireFault.Read)
             (S.state source.old) (S.state source.new) }
@@ -149,8 +152,8 @@ fn read_behind<S: ByteSource, P: HashPlace>(
 ) -> Result<Next, WireFault>
     requires limit { max_body ≤ 2 ^ 31 }
     requires head { IsHeadAtFront request_spans input.old.buffer.now parsed.now }
-    ensures found { ReadsNext max_body input.old.buffer.now (S.state input.old.source.now)
-        input.new.buffer.now (S.state input.new.source.now) result }
+    ensures found { ReadsNext max_body (input_of S.state input.old) (input_of S.state input.new)
+        result }
     ensures came { ¬ (result ≡ Ok Next.Over) }
     ensures costs { ReadsAtMost S.state (12 + 13 * max_body) (result ≡ Err WireFault.Read)
         input.old input.new }

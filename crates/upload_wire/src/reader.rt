@@ -1,6 +1,7 @@
 //! A reader of requests.
 ghost use Rattle.std.specs.Prelude.{◌≡◌, [], Ok, Err, IfOk};
 ghost use Rattle.upload_service.specs.Machine.{AreLawful};
+ghost use Rattle.http_wire.specs.States.{input_state};
 ghost use Rattle.http_wire.specs.Reading.{Costs};
 ghost use Rattle.upload_wire.specs.RequestText.{ReadsNext};
 ghost use Rattle.upload_wire.specs.Phases.{phase_after, most_reads};
@@ -32,13 +33,13 @@ pub struct RequestReader<S: ByteSource> {
 }
 
 impl<S: ByteSource> Model for RequestReader<S> {
+    ghost use Rattle.http_wire.specs.States.{input_state};
     ghost use Rattle.upload_wire.specs.ReaderState.{ReaderState};
 
     ghost Value = { ReaderState };
 
     ghost view = { λ r. record {
-      held = r.input.held;
-      source = S.state r.source;
+      input = input_state r.input.held (S.state r.source);
       max_body = r.input.max_body;
       phase = r.phase;
     } };
@@ -50,8 +51,7 @@ impl<S: ByteSource + Drop> RequestReader<S> {
     pub fn new(alloc: Global, source: S, limits: Limits) -> Result<RequestReader<S>, AllocError>
         requires { AreLawful limits }
         ensures { IfOk result (λ reader. reader ≡ record {
-          held = [];
-          source = S.state source;
+          input = input_state [] (S.state source);
           max_body = limits.max_body;
           phase = Phase.Ready;
         }) }
@@ -71,8 +71,8 @@ impl<S: ByteSource> RequestReader<S> {
     /// `Read` comes only where a read failed in this call, before a request had come whole. `Truncated` comes
     /// where the input ended inside a request, `NoMemory` where a growth was refused.
     pub fn next_request(&mut self) -> Result<Next, WireFault>
-        ensures ready { self.old.phase ≡ Phase.Ready → ReadsNext self.old.max_body self.old.held
-            self.old.source self.new.held self.new.source result }
+        ensures ready { self.old.phase ≡ Phase.Ready
+            → ReadsNext self.old.max_body self.old.input self.new.input result }
         ensures over { self.old.phase ≡ Phase.Over
             → (result ≡ Ok Next.Over) × (self.new ≡ self.old) }
         ensures ended { self.old.phase ≡ Phase.Ended
@@ -80,7 +80,7 @@ impl<S: ByteSource> RequestReader<S> {
         ensures phase { self.new.phase ≡ phase_after result }
         ensures limit { self.new.max_body ≡ self.old.max_body }
         ensures costs { Costs (most_reads self.old.max_body) (result ≡ Err WireFault.Read)
-            self.old.source self.new.source }
+            self.old.input.source self.new.input.source }
     {
         match self.phase {
             Phase::Over => return Ok(Next::Over),

@@ -1,7 +1,7 @@
 //! A request: what its head describes, and its body behind it.
 ghost use Rattle.std.specs.Prelude.{◌≡◌, ◌+◌, ◌*◌, ◌^◌, ◌≤◌, Err, IfOk, codes};
 ghost use Rattle.http_wire.specs.Body.{most_of};
-ghost use Rattle.http_wire.specs.Inputs.{ReadsAtMost};
+ghost use Rattle.http_wire.specs.Inputs.{ReadsAtMost, input_of};
 ghost use Rattle.http_wire.specs.Fields.{values_of};
 ghost use Rattle.upload_wire.specs.Target.{extent_of};
 ghost use Rattle.http_wire.specs.Inner.HeadReading.{fields_of};
@@ -106,8 +106,8 @@ pub(crate) fn read_request<S: ByteSource, P: HashPlace>(
     filled: Option<UploadRef>,
 ) -> Result<Next, WireFault>
     requires { most_of described.framing ≤ 2 ^ 31 }
-    ensures found { FindsRequest described (S.state input.old.source.now) input.old.buffer.now
-        (S.state input.new.source.now) input.new.buffer.now result }
+    ensures found { FindsRequest described (input_of S.state input.old)
+        (input_of S.state input.new) result }
     ensures costs { ReadsAtMost S.state (12 + 13 * most_of described.framing)
         (result ≡ Err WireFault.Read) input.old input.new }
 {

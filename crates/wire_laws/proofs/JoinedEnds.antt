@@ -17,7 +17,7 @@ use Rattle.upload_service.specs.declared.ask.Ask.{Ask}
 use Rattle.upload_service.specs.declared.answer.Answer.{Answer}
 use Rattle.upload_service.specs.declared.answer.Answer.TheVariants.{Base, Blob, Begun, Stored, Taken, Standing}
 use Rattle.upload_service.specs.declared.answer.Answer.TheVariants.{Misplaced, Refused, NoMemory}
-use Rattle.http_wire.specs.States.{SourceState, SinkState}
+use Rattle.http_wire.specs.States.{SourceState, InputState, SinkState, input_state}
 use Rattle.http_wire.specs.Writing.{Wrote}
 use Rattle.http_wire.specs.ResponseBody.{IsBody}
 use Rattle.http_wire.specs.declared.fault.Bad.TheVariants.{Head}
@@ -40,8 +40,8 @@ use Rattle.upload_client.specs.AskText.{ask_text, wants_head}
 use Rattle.upload_client.specs.AnswerText.{AnswerReaderState, TellsHeard, HasOpenBody, HasLongBody, ReadsFramed}
 use Rattle.upload_client.specs.AnswerText.{code_of, max_answer}
 use Rattle.upload_client.specs.Heard.{bare, reply_heard}
-use Rattle.upload_client.specs.TransportText.{WireState, AsksWhere, Exchanges, HearsBehind, ReadsReply, has_body}
-use Rattle.upload_client.specs.TransportText.{is_refusal, refusal_in, stays_open}
+use Rattle.upload_client.specs.TransportText.{WireState, AsksWhere, Exchanges, HearsBehind, ReadsReply, awaited}
+use Rattle.upload_client.specs.TransportText.{has_body, is_refusal, refusal_in, stays_open}
 use Rattle.upload_client.specs.UnambiguousReplies.{heard, too_large}
 use Rattle.upload_client.specs.declared.heard.Heard.{Heard}
 use Rattle.upload_client.specs.declared.heard.HeardFault.{HeardFault}
@@ -188,9 +188,9 @@ no_empty_head text h rest reads none =
     let one = ap length ends.1 in
     absurd (omega (arith, all, one, length-append (print_request h) rest, length-append ends.0 (line_feed ∷ [])))
 
-no_empty_reply : (head_only : Bool) (text rest : List ℕ) (new : SourceState) (what : Heard) (keep : Bool)
-    → TellsHeard head_only text rest new what keep → text ≡ [] → ⊥
-no_empty_reply head_only text rest new what keep t none =
+no_empty_reply : (head_only : Bool) (text : List ℕ) (new : InputState) (what : Heard) (keep : Bool)
+    → TellsHeard head_only text new what keep → text ≡ [] → ⊥
+no_empty_reply head_only text new what keep t none =
     let all = ap length (sym none ∙ t.whole.framed.reads.reads.1) in
     let ends = response_ends t.head in
     let one = ap length ends.1 in
@@ -198,15 +198,15 @@ no_empty_reply head_only text rest new what keep t none =
       arith,
       all,
       one,
-      length-append (print_response t.head) (t.body ++ rest),
+      length-append (print_response t.head) (t.body ++ new.held),
       length-append ends.0 (line_feed ∷ []),
     ))
 
 -- the same reply with more behind it
-more_behind : (head_only : Bool) (text rest more : List ℕ) (new : SourceState) (what : Heard) (keep : Bool)
-    (t : TellsHeard head_only text rest new what keep) (n : ℕ) → t.whole.framing ≡ Length n
-    → TellsHeard head_only (text ++ more) (rest ++ more) new what keep
-more_behind head_only text rest more new what keep t n sized =
+more_behind : (head_only : Bool) (text more : List ℕ) (new : InputState) (what : Heard) (keep : Bool)
+    (t : TellsHeard head_only text new what keep) (n : ℕ) → t.whole.framing ≡ Length n
+    → TellsHeard head_only (text ++ more) (input_state (new.held ++ more) new.source) what keep
+more_behind head_only text more new what keep t n sized =
     record {
       head = t.head;
       body = t.body;
@@ -217,8 +217,8 @@ more_behind head_only text rest more new what keep t n sized =
             reads = (
               t.whole.framed.reads.reads.0,
               ap (λ x. x ++ more) t.whole.framed.reads.reads.1
-                  ∙ append_assoc (print_response t.head) (t.body ++ rest) more
-                  ∙ ap (λ x. print_response t.head ++ x) (append_assoc t.body rest more),
+                  ∙ append_assoc (print_response t.head) (t.body ++ new.held) more
+                  ∙ ap (λ x. print_response t.head ++ x) (append_assoc t.body new.held more),
             );
             short = t.whole.framed.reads.short;
             few = t.whole.framed.reads.few;
@@ -226,8 +226,8 @@ more_behind head_only text rest more new what keep t n sized =
           framed = t.whole.framed.framed;
         };
         is_body =
-            subst (λ f. IsBody f t.body (rest ++ more) new) (sym sized)
-            (subst (λ f. IsBody f t.body rest new) sized t.whole.is_body);
+            subst (λ f. IsBody f t.body (input_state (new.held ++ more) new.source)) (sym sized)
+            (subst (λ f. IsBody f t.body new) sized t.whole.is_body);
       };
       says = t.says;
       keeps = t.keeps;
@@ -257,32 +257,32 @@ module _ (answer : Answer) (head keep : Bool) (rest : List ℕ) (values : HasLaw
         subst (IsReadOnlyAs head written_text new) as_said.1 (replies_heard answer style rest new values fits),
       )
 
-  by_length : (g behind more : List ℕ) (new : SourceState) (what : Heard) (goes_on : Bool)
-      (t : TellsHeard head g behind new what goes_on) (n : ℕ) → t.whole.framing ≡ Length n → g ++ more ≡ written_text
-      → IsHeardAs answer what (behind ++ more) rest
-  by_length g behind more new what goes_on t n sized e =
-      let only = read_so new in
-      let longer = more_behind head g behind more new what goes_on t n sized in
+  by_length : (g more : List ℕ) (new : InputState) (what : Heard) (goes_on : Bool)
+      (t : TellsHeard head g new what goes_on) (n : ℕ) → t.whole.framing ≡ Length n → g ++ more ≡ written_text
+      → IsHeardAs answer what (new.held ++ more) rest
+  by_length g more new what goes_on t n sized e =
+      let only = read_so new.source in
+      let longer = more_behind head g more new what goes_on t n sized in
       let same =
-      only.1.alone (heard what goes_on (behind ++ more))
-      (subst (λ x. TellsHeard head x (behind ++ more) new what goes_on) e longer) in
+      only.1.alone (heard what goes_on (new.held ++ more))
+      (subst (λ x. TellsHeard head x (input_state (new.held ++ more) new.source) what goes_on) e longer) in
       let whats : what ≡ said answer only.0 = cc in
-      let lefts : behind ++ more ≡ rest = cc in
+      let lefts : new.held ++ more ≡ rest = cc in
       record { code = only.0; is = whats; left = lefts }
 
   -- no such reply goes to the end of the input
-  not_to_end : {A : Type 0} (g behind more : List ℕ) (new : SourceState) (what : Heard) (goes_on : Bool)
-      (t : TellsHeard head g behind new what goes_on) (most : ℕ) → t.whole.framing ≡ ToEnd most
+  not_to_end : {A : Type 0} (g more : List ℕ) (new : InputState) (what : Heard) (goes_on : Bool)
+      (t : TellsHeard head g new what goes_on) (most : ℕ) → t.whole.framing ≡ ToEnd most
       → g ++ more ≡ written_text → A
-  not_to_end {A} g behind more new what goes_on t most to_end e =
-      let only = read_so new in
-      let all = (t.body ++ behind) ++ more in
+  not_to_end {A} g more new what goes_on t most to_end e =
+      let only = read_so new.source in
+      let all = (t.body ++ new.held) ++ more in
       let read = t.whole.framed.reads in
       let framed : ReadsFramed head written_text (Ok (ToEnd most)) t.head all = record {
         reads = record {
           reads = (
             read.reads.0,
-            sym e ∙ ap (λ x. x ++ more) read.reads.1 ∙ append_assoc (print_response t.head) (t.body ++ behind) more,
+            sym e ∙ ap (λ x. x ++ more) read.reads.1 ∙ append_assoc (print_response t.head) (t.body ++ new.held) more,
           );
           short = read.short;
           few = read.few;
@@ -310,18 +310,17 @@ module _ (answer : Answer) (head keep : Bool) (rest : List ℕ) (values : HasLaw
             absurd (cc (only.1.gives [] (Err Reply.Read) goes_on (inr (inr body)) (λ x. absurd (cc x))).0)
       ] refl
 
-  by_framing : (g behind more : List ℕ) (new : SourceState) (what : Heard) (goes_on : Bool)
-      (t : TellsHeard head g behind new what goes_on) (framing : ResponseFraming) → t.whole.framing ≡ framing
-      → g ++ more ≡ written_text → IsHeardAs answer what (behind ++ more) rest
-  by_framing g behind more new what goes_on t (Length n) is e = by_length g behind more new what goes_on t n is e
-  by_framing g behind more new what goes_on t (ToEnd most) is e = not_to_end g behind more new what goes_on t most is e
+  by_framing : (g more : List ℕ) (new : InputState) (what : Heard) (goes_on : Bool)
+      (t : TellsHeard head g new what goes_on) (framing : ResponseFraming) → t.whole.framing ≡ framing
+      → g ++ more ≡ written_text → IsHeardAs answer what (new.held ++ more) rest
+  by_framing g more new what goes_on t (Length n) is e = by_length g more new what goes_on t n is e
+  by_framing g more new what goes_on t (ToEnd most) is e = not_to_end g more new what goes_on t most is e
 
-  heard_as : (g behind more : List ℕ) (new : SourceState) (what : Heard) (goes_on : Bool)
-      → TellsHeard head g behind new what goes_on
+  heard_as : (g more : List ℕ) (new : InputState) (what : Heard) (goes_on : Bool) → TellsHeard head g new what goes_on
       → g ++ more ≡ reply answer (record { head = head; keep = keep }) ++ rest
-      → IsHeardAs answer what (behind ++ more) rest
+      → IsHeardAs answer what (new.held ++ more) rest
   unfolding written_text style
-  heard_as g behind more new what goes_on t e = by_framing g behind more new what goes_on t t.whole.framing refl e
+  heard_as g more new what goes_on t e = by_framing g more new what goes_on t t.whole.framing refl e
 
 -- ---- the client's end
 
@@ -330,7 +329,7 @@ record Grows (old new : WireState) : Type 0 where
   written : List ℕ
   read : List ℕ
   taken : new.writer.taken ≡ old.writer.taken ++ written
-  given : new.reader.source.given ≡ old.reader.source.given ++ read
+  given : new.reader.input.source.given ≡ old.reader.input.source.given ++ read
   host : new.host ≡ old.host
 
 grows_none : (old new : WireState) → new.writer ≡ old.writer → new.reader ≡ old.reader
@@ -339,7 +338,7 @@ grows_none old new w r h = record {
   written = [];
   read = [];
   taken = ap (λ x. x.taken) w ∙ sym (append-nil old.writer.taken);
-  given = ap (λ x. x.source.given) r ∙ sym (append-nil old.reader.source.given);
+  given = ap (λ x. x.input.source.given) r ∙ sym (append-nil old.reader.input.source.given);
   host = h;
 }
 
@@ -348,7 +347,7 @@ grows_twice old mid new a b = record {
   written = a.written ++ b.written;
   read = a.read ++ b.read;
   taken = b.taken ∙ ap (λ x. x ++ b.written) a.taken ∙ append_assoc old.writer.taken a.written b.written;
-  given = b.given ∙ ap (λ x. x ++ b.read) a.given ∙ append_assoc old.reader.source.given a.read b.read;
+  given = b.given ∙ ap (λ x. x ++ b.read) a.given ∙ append_assoc old.reader.input.source.given a.read b.read;
   host = b.host ∙ a.host;
 }
 
@@ -357,18 +356,18 @@ wrote_front : (written : Result ⊤ WriteFault) (old new : SinkState) (whole : L
 wrote_front (Ok u) old new whole w = (whole, w.takes.told)
 wrote_front (Err fault) old new whole w = (w.front, w.takes.told)
 
-read_front : (written : Result ⊤ WriteFault) (body head_only : Bool) (old new : AnswerReaderState) (told : Option Heard)
-    (broken : Bool) → HearsBehind written body head_only old told new broken
-    → (given : List ℕ) × (new.source.given ≡ old.source.given ++ given)
-read_front (Ok u) body head_only old new told broken h = (h.1.read.given, h.1.read.gives.told)
-read_front (Err fault) true head_only old new told broken h = (h.1.read.given, h.1.read.gives.told)
-read_front (Err fault) false head_only old new told broken h =
-    ([], ap (λ r. r.source.given) h.1 ∙ sym (append-nil old.source.given))
+read_front : (written : Result ⊤ WriteFault) (body head_only : Bool) (old new : WireState) (told : Option Heard)
+    → HearsBehind (awaited written body) head_only old told new
+    → (given : List ℕ) × (new.reader.input.source.given ≡ old.reader.input.source.given ++ given)
+read_front (Ok u) body head_only old new told h = (h.1.read.given, h.1.read.gives.told)
+read_front (Err fault) true head_only old new told h = (h.1.read.given, h.1.read.gives.told)
+read_front (Err fault) false head_only old new told h =
+    ([], ap (λ r. r.input.source.given) h.1 ∙ sym (append-nil old.reader.input.source.given))
 
 exchange_grows : (old new : WireState) (ask : Ask) (told : Option Heard) → Exchanges old ask told new → Grows old new
 exchange_grows old new ask told x =
     let w = wrote_front x.written old.writer new.writer (ask_text ask old.host) x.wrote in
-    let r = read_front x.written (has_body ask) (wants_head ask) old.reader new.reader told new.broken x.hears in
+    let r = read_front x.written (has_body ask) (wants_head ask) old new told x.hears in
     record { written = w.0; read = r.0; taken = w.1; given = r.1; host = x.same_host }
 
 one_grows : (may_ask : Bool) (old new : WireState) (ask : Ask) (told : Option Heard)
@@ -399,57 +398,56 @@ stays_closed old new (x ∷ xs) closed turn =
 
 -- nothing is heard where nothing was read
 none_heard : (reply : Result Heard HeardFault) (head_only : Bool) (old new : AnswerReaderState)
-    (r : ReadsReply head_only old reply new) → old.held ≡ [] → r.read.given ≡ []
+    (r : ReadsReply head_only old reply new) → old.input.held ≡ [] → r.read.given ≡ []
     → (result_ok reply ≡ None) × (refusal_in reply ≡ None)
 none_heard (Ok what) head_only old new r held none =
-    absurd (no_empty_reply head_only (old.held ++ r.read.given) new.held new.source what new.keep r.read.found
+    absurd (no_empty_reply head_only (old.input.held ++ r.read.given) new.input what new.keep r.read.found
     (ap (λ x. x ++ r.read.given) held ∙ none))
 none_heard (Err fault) head_only old new r held none = (refl, refl)
 
-nothing_heard : (written : Result ⊤ WriteFault) (body head_only : Bool) (old new : AnswerReaderState)
-    (told : Option Heard) (broken : Bool) (h : HearsBehind written body head_only old told new broken) → old.held ≡ []
-    → (read_front written body head_only old new told broken h).0 ≡ [] → told ≡ None
+nothing_heard : (written : Result ⊤ WriteFault) (body head_only : Bool) (old new : WireState) (told : Option Heard)
+    (h : HearsBehind (awaited written body) head_only old told new) → old.reader.input.held ≡ []
+    → (read_front written body head_only old new told h).0 ≡ [] → told ≡ None
 unfolding read_front
-nothing_heard (Ok u) body head_only old new told broken h held none =
-    h.2 ∙ (none_heard h.0 head_only old new h.1 held none).0
-nothing_heard (Err fault) true head_only old new told broken h held none =
-    h.2 ∙ (none_heard h.0 head_only old new h.1 held none).1
-nothing_heard (Err fault) false head_only old new told broken h held none = h.0
+nothing_heard (Ok u) body head_only old new told h held none =
+    h.2 ∙ (none_heard h.0 head_only old.reader new.reader h.1 held none).0
+nothing_heard (Err fault) true head_only old new told h held none =
+    h.2 ∙ (none_heard h.0 head_only old.reader new.reader h.1 held none).1
+nothing_heard (Err fault) false head_only old new told h held none = h.0
 
 -- where more can be asked no byte is held, and no fault broke it
 and_true : (a b : Bool) → (a && b) ≡ true → (a ≡ true) × (b ≡ true)
 and_true true b e = (refl, e)
 and_true false b e = absurd (true≢false (sym e))
 
-none_held : (w : WireState) → stays_open w ≡ true → w.reader.held ≡ []
+none_held : (w : WireState) → stays_open w ≡ true → w.reader.input.held ≡ []
 none_held w is =
     let held =
-    (and_true w.reader.keep (length w.reader.held == 0)
-    (and_true (not w.broken) (w.reader.keep && (length w.reader.held == 0)) is).1).1 in
-    nil_from_length w.reader.held (eqb-true (length w.reader.held) 0 held)
+    (and_true w.reader.keep (length w.reader.input.held == 0)
+    (and_true (not w.broken) (w.reader.keep && (length w.reader.input.held == 0)) is).1).1 in
+    nil_from_length w.reader.input.held (eqb-true (length w.reader.input.held) 0 held)
 
 unheard_one : (may_ask : Bool) (old new : WireState) (ask : Ask) (told : Option Heard) → stays_open old ≡ may_ask
     → (asked : AsksWhere may_ask old ask told new) → (one_grows may_ask old new ask told asked).read ≡ [] → told ≡ None
 unfolding one_grows exchange_grows
 unheard_one true old new ask told is asked none =
-    nothing_heard asked.written (has_body ask) (wants_head ask) old.reader new.reader told new.broken asked.hears
-    (none_held old is) none
+    nothing_heard asked.written (has_body ask) (wants_head ask) old new told asked.hears (none_held old is) none
 unheard_one false old new ask told is asked none = asked.0
 
 -- where nothing more was read nothing more was heard
 silent : (xs : List TransportCall) (old new : WireState) (more : List ℕ) → AsksInTurn old xs new
-    → old.reader.source.given ≡ new.reader.source.given ++ more → AllByRecursion (λ x. x.heard ≡ None) xs
+    → old.reader.input.source.given ≡ new.reader.input.source.given ++ more → AllByRecursion (λ x. x.heard ≡ None) xs
 silent [] old new more turn e = tt
 silent (x ∷ xs) old new more turn e =
     let here = one_grows (stays_open old) old turn.0 x.ask x.heard turn.1 in
     let later = all_grow turn.0 new xs turn.2 in
-    let nothing_read = none_added old.reader.source.given (here.read ++ (later.read ++ more))
-    (e ∙ ap (λ t. t ++ more) later.given ∙ append_assoc turn.0.reader.source.given later.read more
+    let nothing_read = none_added old.reader.input.source.given (here.read ++ (later.read ++ more))
+    (e ∙ ap (λ t. t ++ more) later.given ∙ append_assoc turn.0.reader.input.source.given later.read more
     ∙ ap (λ t. t ++ (later.read ++ more)) here.given
-    ∙ append_assoc old.reader.source.given here.read (later.read ++ more)) in
+    ∙ append_assoc old.reader.input.source.given here.read (later.read ++ more)) in
     let none_here : here.read ≡ [] = none_before here.read (later.read ++ more) nothing_read in
-    let same : turn.0.reader.source.given ≡ old.reader.source.given =
-    here.given ∙ ap (λ t. old.reader.source.given ++ t) none_here ∙ append-nil old.reader.source.given in (
+    let same : turn.0.reader.input.source.given ≡ old.reader.input.source.given =
+    here.given ∙ ap (λ t. old.reader.input.source.given ++ t) none_here ∙ append-nil old.reader.input.source.given in (
       unheard_one (stays_open old) old turn.0 x.ask x.heard refl turn.1 none_here,
       silent xs turn.0 new more turn.2 (same ∙ e),
     )
@@ -494,12 +492,12 @@ ask_read (Err fault) max ask host message read style old new more later may is w
 
 -- the style of a request decides how its reply is read
 reply_heard_in : (y : WireExchange) (keep : Bool) (ask : Ask) → IsAudible y → y.style ≡ written_style ask
-    → (g behind more replied : List ℕ) (new : SourceState) (what : Heard) (goes_on : Bool)
-    → TellsHeard (wants_head ask) g behind new what goes_on → g ++ more ≡ reply_of (y, keep) ++ replied
-    → IsHeardAs y.answer what (behind ++ more) replied
-reply_heard_in y keep ask audible style_is g behind more replied new what goes_on t e =
+    → (g more replied : List ℕ) (new : InputState) (what : Heard) (goes_on : Bool)
+    → TellsHeard (wants_head ask) g new what goes_on → g ++ more ≡ reply_of (y, keep) ++ replied
+    → IsHeardAs y.answer what (new.held ++ more) replied
+reply_heard_in y keep ask audible style_is g more replied new what goes_on t e =
     heard_as y.answer (wants_head ask) keep replied audible.values
-    (subst (λ s. FitsMethod y.answer s.head) style_is audible.fits) audible.short g behind more new what goes_on t
+    (subst (λ s. FitsMethod y.answer s.head) style_is audible.fits) audible.short g more new what goes_on t
     (e ∙ ap (λ s. reply y.answer (record { head = s.head; keep = keep }) ++ replied) style_is)
 
 refusal_says : (answer : Answer) (what : Heard) (refuses : Bool) (code : Option (List ℕ)) → what ≡ said answer code
@@ -508,52 +506,53 @@ refusal_says answer what true code is = inr (code, ap Some is)
 refusal_says answer what false code is = inl refl
 
 module _ (y : WireExchange) (keep : Bool) (ask : Ask) (audible : IsAudible y) (style_is : y.style ≡ written_style ask)
-    (old new : AnswerReaderState) (held : old.held ≡ []) (later replied : List ℕ) where
+    (old new : WireState) (held : old.reader.input.held ≡ []) (later replied : List ℕ) where
   abbrev Whole : List ℕ → Type 0
   Whole given = given ++ later ≡ reply_of (y, keep) ++ replied
 
-  one_reply : (reply_read : Result Heard HeardFault) (r : ReadsReply (wants_head ask) old reply_read new)
+  one_reply : (reply_read : Result Heard HeardFault) (r : ReadsReply (wants_head ask) old.reader reply_read new.reader)
       → Whole r.read.given → AnswerSays y.answer (result_ok reply_read) × AnswerSays y.answer (refusal_in reply_read)
-      × (is_err reply_read ≡ false → new.held ++ later ≡ replied)
+      × (is_err reply_read ≡ false → new.reader.input.held ++ later ≡ replied)
   one_reply (Ok what) r e =
-      let text_is : old.held ++ r.read.given ≡ r.read.given = ap (λ t. t ++ r.read.given) held in
-      let told = subst (λ t. TellsHeard (wants_head ask) t new.held new.source what new.keep) text_is r.read.found in
+      let text_is : old.reader.input.held ++ r.read.given ≡ r.read.given = ap (λ t. t ++ r.read.given) held in
+      let told =
+      subst (λ t. TellsHeard (wants_head ask) t new.reader.input what new.reader.keep) text_is r.read.found in
       let as_said =
-      reply_heard_in y keep ask audible style_is r.read.given new.held later replied new.source what
-      new.keep told e in (
+      reply_heard_in y keep ask audible style_is r.read.given later replied new.reader.input what new.reader.keep
+      told e in (
         inr (as_said.code, ap Some as_said.is),
         refusal_says y.answer what (is_refusal what.status) as_said.code as_said.is,
         λ whole. as_said.left,
       )
   one_reply (Err fault) r e = (inl refl, inl refl, λ whole. absurd (true≢false whole))
 
-  reply_says : (written : Result ⊤ WriteFault) (body : Bool) (told : Option Heard) (broken : Bool)
-      (h : HearsBehind written body (wants_head ask) old told new broken)
-      → Whole (read_front written body (wants_head ask) old new told broken h).0
-      → AnswerSays y.answer told × (broken ≡ false → new.held ++ later ≡ replied)
+  reply_says : (written : Result ⊤ WriteFault) (body : Bool) (told : Option Heard)
+      (h : HearsBehind (awaited written body) (wants_head ask) old told new)
+      → Whole (read_front written body (wants_head ask) old new told h).0
+      → AnswerSays y.answer told × (new.broken ≡ false → new.reader.input.held ++ later ≡ replied)
   unfolding read_front
-  reply_says (Ok u) body told broken h e =
+  reply_says (Ok u) body told h e =
       let one = one_reply h.0 h.1 e in (subst (AnswerSays y.answer) (sym h.2) one.0, λ whole. one.2 (sym h.3 ∙ whole))
-  reply_says (Err fault) true told broken h e =
+  reply_says (Err fault) true told h e =
       let one = one_reply h.0 h.1 e in
       (subst (AnswerSays y.answer) (sym h.2) one.1, λ whole. absurd (true≢false (sym h.3 ∙ whole)))
-  reply_says (Err fault) false told broken h e = (inl h.0, λ whole. absurd (true≢false (sym h.2 ∙ whole)))
+  reply_says (Err fault) false told h e = (inl h.0, λ whole. absurd (true≢false (sym h.2 ∙ whole)))
 
 not_true : (b : Bool) → not b ≡ true → b ≡ false
 not_true true e = absurd (true≢false (sym e))
 not_true false e = refl
 
 sound : (w : WireState) → stays_open w ≡ true → w.broken ≡ false
-sound w is = not_true w.broken (and_true (not w.broken) (w.reader.keep && (length w.reader.held == 0)) is).0
+sound w is = not_true w.broken (and_true (not w.broken) (w.reader.keep && (length w.reader.input.held == 0)) is).0
 
 closed_by_fault : (w : WireState) → w.broken ≡ true → stays_open w ≡ false
-closed_by_fault w broken = ap (λ b. not b && (w.reader.keep && (length w.reader.held == 0))) broken
+closed_by_fault w broken = ap (λ b. not b && (w.reader.keep && (length w.reader.input.held == 0))) broken
 
-err_breaks : (written : Result ⊤ WriteFault) (body head_only : Bool) (old new : AnswerReaderState) (told : Option Heard)
-    (broken : Bool) → HearsBehind written body head_only old told new broken → is_err written ≡ true → broken ≡ true
-err_breaks (Ok u) body head_only old new told broken h e = absurd (true≢false (sym e))
-err_breaks (Err fault) true head_only old new told broken h e = h.3
-err_breaks (Err fault) false head_only old new told broken h e = h.2
+err_breaks : (written : Result ⊤ WriteFault) (body head_only : Bool) (old new : WireState) (told : Option Heard)
+    → HearsBehind (awaited written body) head_only old told new → is_err written ≡ true → new.broken ≡ true
+err_breaks (Ok u) body head_only old new told h e = absurd (true≢false (sym e))
+err_breaks (Err fault) true head_only old new told h e = h.3
+err_breaks (Err fault) false head_only old new told h e = h.2
 
 -- what the worker read from here on begins what the client wrote
 next_text : (read : List ℕ) (x : TransportCall) (xs : List TransportCall) (old new : WireState)
@@ -582,7 +581,7 @@ next_ends x xs old new turn exchanged failed =
     let mid : WireState = turn.0 in
     let later : Grows mid new = all_grow mid new xs turn.2 in
     let broken =
-    err_breaks exchanged.written (has_body x.ask) (wants_head x.ask) old.reader mid.reader x.heard mid.broken
+    err_breaks exchanged.written (has_body x.ask) (wants_head x.ask) old mid x.heard
     exchanged.hears failed in
     let stays = stays_closed mid new xs (closed_by_fault mid broken) turn.2 in
     none_added mid.writer.taken later.written (sym (ap (λ s. s.taken) stays.writer) ∙ later.taken)
@@ -652,8 +651,9 @@ module _ (max : ℕ) (known : Ask → Type 0) (host rest read written : List ℕ
   joined : (xs : List TransportCall) (ts : List Turn) (old new : WireState) → AsksInTurn old xs new → old.host ≡ host
       → AllByRecursion (λ x. MayBeAsked max x.ask host) xs → AllByRecursion (λ x. known x.ask) xs → AreRead max ts
       → AllByRecursion (λ (t : Turn). MayBeHeard known t.0) ts → IsLeft ts old
-      → (stays_open old ≡ true → written ≡ old.reader.source.given ++ all_replies ts) → IsPrefix read new.writer.taken
-      → IsPrefix new.reader.source.given written → AreJoined xs (map (λ (t : Turn). t.0) ts) asks_left
+      → (stays_open old ≡ true → written ≡ old.reader.input.source.given ++ all_replies ts)
+      → IsPrefix read new.writer.taken
+      → IsPrefix new.reader.input.source.given written → AreJoined xs (map (λ (t : Turn). t.0) ts) asks_left
   joined [] ts old new turn host_is may knows kept audible read_is opened there back =
       let none = none_left ts old new kept (ap (λ w. w.writer) turn) read_is there in
       subst (λ l. AreJoined [] (map (λ (t : Turn). t.0) l) asks_left) (sym none)
@@ -662,7 +662,8 @@ module _ (max : ℕ) (known : Ask → Type 0) (host rest read written : List ℕ
       let unheard : AllByRecursion (λ x. x.heard ≡ None) (x ∷ xs) =
       elim (stays_open old) as (λ b. stays_open old ≡ b → AllByRecursion (λ x. x.heard ≡ None) (x ∷ xs)) [
         | true ↦ λ is.
-            silent (x ∷ xs) old new back.0 turn (sym (append-nil old.reader.source.given) ∙ sym (opened is) ∙ back.1)
+            silent (x ∷ xs) old new back.0 turn (sym (append-nil old.reader.input.source.given) ∙ sym (opened is)
+            ∙ back.1)
         | false ↦ λ closed. (stays_closed old new (x ∷ xs) closed turn).unheard
       ] refl in
       unanswered_joined us refl (x ∷ xs) old new turn host_is may read_is there unheard
@@ -688,14 +689,13 @@ module _ (max : ℕ) (known : Ask → Type 0) (host rest read written : List ℕ
             ∙ sym (append_assoc old.writer.taken (ask_text x.ask old.host) behind)
             ∙ ap (λ t. t ++ behind) (sym ask_is.taken) in
             let given =
-            read_front exchanged.written (has_body x.ask) (wants_head x.ask) old.reader mid.reader x.heard mid.broken
-            exchanged.hears in
+            read_front exchanged.written (has_body x.ask) (wants_head x.ask) old mid x.heard exchanged.hears in
             let reply_text : given.0 ++ (later.read ++ back.0) ≡ reply_of y ++ all_replies ys =
-            append_cancel_left old.reader.source.given (given.0 ++ (later.read ++ back.0))
+            append_cancel_left old.reader.input.source.given (given.0 ++ (later.read ++ back.0))
             (reply_of y ++ all_replies ys)
-            (sym (append_assoc old.reader.source.given given.0 (later.read ++ back.0))
+            (sym (append_assoc old.reader.input.source.given given.0 (later.read ++ back.0))
             ∙ ap (λ t. t ++ (later.read ++ back.0)) (sym given.1)
-            ∙ sym (append_assoc mid.reader.source.given later.read back.0)
+            ∙ sym (append_assoc mid.reader.input.source.given later.read back.0)
             ∙ ap (λ t. t ++ back.0) (sym later.given)
             ∙ sym back.1
             ∙ opened is) in
@@ -703,14 +703,14 @@ module _ (max : ℕ) (known : Ask → Type 0) (host rest read written : List ℕ
             audible.0 (subst known (sym ask_is.ask_is) knows.0)
             (ask_is.style_is ∙ ap written_style (sym ask_is.ask_is)) in
             let told =
-            reply_says y.0 y.1 x.ask can_hear ask_is.style_is old.reader mid.reader (none_held old is)
+            reply_says y.0 y.1 x.ask can_hear ask_is.style_is old mid (none_held old is)
             (later.read ++ back.0) (all_replies ys)
-            exchanged.written (has_body x.ask) x.heard mid.broken exchanged.hears reply_text in
-            let opened_next : stays_open mid ≡ true → written ≡ mid.reader.source.given ++ all_replies ys =
+            exchanged.written (has_body x.ask) x.heard exchanged.hears reply_text in
+            let opened_next : stays_open mid ≡ true → written ≡ mid.reader.input.source.given ++ all_replies ys =
             λ o. back.1
             ∙ ap (λ t. t ++ back.0) later.given
-            ∙ append_assoc mid.reader.source.given later.read back.0
-            ∙ ap (λ t. mid.reader.source.given ++ t)
+            ∙ append_assoc mid.reader.input.source.given later.read back.0
+            ∙ ap (λ t. mid.reader.input.source.given ++ t)
             (ap (λ h. h ++ (later.read ++ back.0)) (sym (none_held mid o)) ∙ told.1 (sound mid o)) in (
               ask_is.ask_is,
               told.0,
@@ -961,14 +961,14 @@ connections_joined {D} step max first left old new before after end c xs can wir
     let replies_are : all_replies ts ≡ replies c.exchanges ++ all_replies e.ts =
     flat_map-append reply_of (kept_turns c.exchanges) e.ts
     ∙ ap (λ t. t ++ all_replies e.ts) (kept_replies c.exchanges) in
-    let written_is : after.taken ++ e.lost ≡ wire.reader.source.given ++ all_replies ts =
+    let written_is : after.taken ++ e.lost ≡ wire.reader.input.source.given ++ all_replies ts =
     e.replied
     ∙ ap (λ t. t ++ all_replies e.ts) (c.served.written.takes.told ∙ ap (λ t. t ++ replies c.exchanges) can.taken)
     ∙ sym replies_are
     ∙ ap (λ t. t ++ all_replies ts) (sym is_new.given) in
-    let back : IsPrefix wire'.reader.source.given (after.taken ++ e.lost) = (
+    let back : IsPrefix wire'.reader.input.source.given (after.taken ++ e.lost) = (
       carries.back.0 ++ e.lost,
-      ap (λ t. t ++ e.lost) carries.back.1 ∙ append_assoc wire'.reader.source.given carries.back.0 e.lost,
+      ap (λ t. t ++ e.lost) carries.back.1 ∙ append_assoc wire'.reader.input.source.given carries.back.0 e.lost,
     ) in
     let answers_are : map (λ (t : Turn). t.0) ts ≡ answered step max first left old new before after end c =
     turns_answered c.exchanges e.ts ∙ ap (λ l. c.exchanges ++ l) e.answers in

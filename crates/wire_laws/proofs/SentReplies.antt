@@ -8,7 +8,7 @@ use Rattle.http_wire.specs.HeadText.{status_number}
 use Rattle.http_wire.specs.Fronts.{IsRefused, responses}
 use Rattle.http_wire.specs.ResponseBody.{response_framing_by_length, response_framing_of, framing_without_coding}
 use Rattle.http_wire.specs.ResponseBody.{has_no_body, keeps_on}
-use Rattle.http_wire.specs.States.{SourceState}
+use Rattle.http_wire.specs.States.{SourceState, input_state}
 use Rattle.http_wire.specs.declared.responses.framing.ResponseFraming.TheVariants.{Length, ToEnd}
 use Rattle.http_wire.specs.declared.responses.framing.FramingFault.TheVariants as Fault
 use Rattle.http_wire.specs.declared.status.Status.{Status}
@@ -112,7 +112,7 @@ heard_in sent body what h =
 -- a reply of which this is heard
 tells : (head_only : Bool) (sent : Sent) (body rest : List ℕ) (new : SourceState) (what : Heard)
     → framing_behind head_only sent ≡ Ok (Length (length body)) → IsSaidBy sent body what
-    → TellsHeard head_only (text_of sent (body ++ rest)) rest new what sent.keep
+    → TellsHeard head_only (text_of sent (body ++ rest)) (input_state rest new) what sent.keep
 tells head_only sent body rest new what e h =
     let size = Length (length body) in
     let same : head_fields (head_sent sent).fields ≡ sent.fields =
@@ -165,7 +165,7 @@ module _ (head_only : Bool) (sent : Sent) (behind : List ℕ) (new : SourceState
       absurd (no_open_body head_only (text_of sent behind) r (head_sent sent) behind is ends_first x)
 
   gives : (left : List ℕ) (given : Result Heard HeardFault) (keep : Bool)
-      → FindsAnswer head_only (text_of sent behind) left new given keep → given ≢ Err Reply.NoMemory
+      → FindsAnswer head_only (text_of sent behind) (input_state left new) given keep → given ≢ Err Reply.NoMemory
       → ReaderGives parse left given keep
   gives left (Ok what) keep x some = heard_gives parse reading what keep left (alone (heard what keep left) x)
   gives left (Err Reply.Unreadable) keep (inl x) some = not_refused_text x

@@ -30,7 +30,7 @@ AsksInTurn old (x ∷ xs) new = (mid : WireState) × AsksOverWire old x.ask x.he
 
 -- nothing was read over the transport, and nothing written
 pub record IsUntouched (wire : WireState) : Type 0 where
-  pub given : wire.reader.source.given ≡ []
+  pub given : wire.reader.input.source.given ≡ []
   pub taken : wire.writer.taken ≡ []
 
 abbrev pub IsPrefix : List ℕ → List ℕ → Type 0
@@ -40,7 +40,7 @@ IsPrefix front text = (back : List ℕ) × (text ≡ front ++ back)
 -- reads gave a prefix of what the worker's writes took. It may cut a connection in each direction, at any byte.
 pub record Transmits (client : WireState) (source : SourceState) (sink : SinkState) : Type 0 where
   pub there : IsPrefix source.given client.writer.taken
-  pub back : IsPrefix client.reader.source.given sink.taken
+  pub back : IsPrefix client.reader.input.source.given sink.taken
 
 -- a blob that is handed out has no more bytes than a client reads of a reply
 abbrev pub IsShort : Answer → Type 0

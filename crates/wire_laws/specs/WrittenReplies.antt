@@ -7,7 +7,7 @@ use Rattle.upload_names.specs.ByteRange.{range_cap}
 use Rattle.upload_service.specs.declared.answer.Answer.{Answer}
 use Rattle.upload_service.specs.declared.answer.Answer.TheVariants.{Base, Blob, Begun, Stored, Taken, Standing}
 use Rattle.upload_service.specs.declared.answer.Answer.TheVariants.{Misplaced, Refused, NoMemory}
-use Rattle.http_wire.specs.States.{SourceState}
+use Rattle.http_wire.specs.States.{SourceState, input_state}
 use Rattle.upload_wire.specs.ReplyText.{reply}
 use Rattle.upload_wire.specs.declared.request.Style.{Style}
 use Rattle.upload_client.specs.AnswerText.{FindsAnswer, code_of, max_answer}
@@ -96,7 +96,8 @@ pub record IsReadOnlyAs (head_only : Bool) (text : List ℕ) (new : SourceState)
   pub reads : ParsesAsReply head_only text new parse
   pub alone : (other : ReplyParse) → ParsesAsReply head_only text new other → other ≡ parse
   pub gives : (left : List ℕ) (given : Result Heard HeardFault) (keep : Bool)
-      → FindsAnswer head_only text left new given keep → given ≢ Err Reply.NoMemory → ReaderGives parse left given keep
+      → FindsAnswer head_only text (input_state left new) given keep → given ≢ Err Reply.NoMemory
+      → ReaderGives parse left given keep
 
 -- The reply to an answer is read as what the answer says, whatever follows it, and what follows stays.
 abbrev pub RepliesAreHeard : Type 0

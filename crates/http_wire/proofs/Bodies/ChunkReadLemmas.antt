@@ -6,7 +6,7 @@ use Rattle.std.proofs.lemmas.List.{append-nil}
 use Rattle.std.proofs.lemmas.Grind.{flat_map-append}
 use Rattle.std.proofs.lemmas.List.Elements.{All-append, All-cons, All-nil}
 use Rattle.std.specs.Str.Parse.{digits_value}
-use Rattle.http_wire.specs.States.{SourceState}
+use Rattle.http_wire.specs.States.{SourceState, InputState}
 use Rattle.http_wire.specs.Reading.{Gave}
 use Rattle.http_wire.specs.Body.{Chunk, print_chunk, IsChunk, chunks_text, chunks_data, NeverChunked, IsBadBody}
 use Rattle.http_wire.specs.Body.{IsCutBody}
@@ -31,9 +31,9 @@ use Rattle.http_wire.proofs.Heads.FrontLemmas.{front_line, front_data, front_dat
 
 -- ---- one chunk
 
-pub chunk_line_broken : (room : ℕ) (a b : SourceState) (held : List ℕ) → BreaksLine a held b
-    → RefusesChunk room a held b bads.Chunks
-chunk_line_broken room a b held h = record {
+pub chunk_line_broken : (room : ℕ) (a : InputState) (b : SourceState) → BreaksLine a b
+    → RefusesChunk room a b bads.Chunks
+chunk_line_broken room a b h = record {
   text = h.before ++ h.byte ∷ h.rest;
   gave = h.gave;
   bad = inr (
@@ -50,36 +50,35 @@ chunk_line_broken room a b held h = record {
   );
 }
 
-chunk_line_cut : (room : ℕ) (a b : SourceState) (held : List ℕ) → CutsLine a held b → CutsChunk room a held b
-chunk_line_cut room a b held h = record {
+chunk_line_cut : (room : ℕ) (a : InputState) (b : SourceState) → CutsLine a b → CutsChunk room a b
+chunk_line_cut room a b h = record {
   text = h.text;
   gave = h.gave;
   cut = (front_line h.text h.state h.stands, under_line room h.text h.state h.stands);
 }
 
-pub chunk_line_fault : (room : ℕ) (a b : SourceState) (held rest x y : List ℕ) (e : InputFault)
-    → FindsLine a held b rest (Err e)
-    → FindsChunk room (body_state a held x) (body_state b rest y) (Err (body_of_input e))
-chunk_line_fault room a b held rest x y Input.Truncated h = (chunk_line_cut room a b held h.0, h.1)
-chunk_line_fault room a b held rest x y Input.Read h = chunk_line_cut room a b held h
+pub chunk_line_fault : (room : ℕ) (a b : InputState) (x y : List ℕ) (e : InputFault) → FindsLine a b (Err e)
+    → FindsChunk room (body_state a x) (body_state b y) (Err (body_of_input e))
+chunk_line_fault room a b x y Input.Truncated h = (chunk_line_cut room a b.source h.0, h.1)
+chunk_line_fault room a b x y Input.Read h = chunk_line_cut room a b.source h
 
-pub chunk_over : (room : ℕ) (a b : SourceState) (held rest : List ℕ) (value : ℕ) → TakesLine a held b rest value
-    → room < value → RefusesChunk room a held b bads.TooLarge
-chunk_over room a b held rest value h over =
+pub chunk_over : (room : ℕ) (a b : InputState) (value : ℕ) → TakesLine a b value → room < value
+    → RefusesChunk room a b.source bads.TooLarge
+chunk_over room a b value h over =
     let l = h.is_line in
     let valued = l.value_is in
     record {
-      text = h.line ++ rest;
+      text = h.line ++ b.held;
       gave = h.gave;
       bad = inl (
         refl,
         record {
           chunks = [];
           digits = l.digits;
-          rest = rest;
+          rest = b.held;
           each = All-nil IsChunk;
           size = l.size;
-          cut = ap (λ t. t ++ rest) l.cut ∙ append_assoc l.digits (13 ∷ 10 ∷ []) rest;
+          cut = ap (λ t. t ++ b.held) l.cut ∙ append_assoc l.digits (13 ∷ 10 ∷ []) b.held;
           over = omega (arith, valued, over);
         },
       );
@@ -89,44 +88,41 @@ chunk_over room a b held rest value h over =
 line_text : (line digits more : List ℕ) → line ≡ digits ++ (13 ∷ 10 ∷ []) → line ++ more ≡ digits ++ (13 ∷ 10 ∷ more)
 line_text line digits more cut = ap (λ t. t ++ more) cut ∙ append_assoc digits (13 ∷ 10 ∷ []) more
 
-chunk_data_cut : (room : ℕ) (a b c : SourceState) (held mid : List ℕ) (value : ℕ)
-    → TakesLine a held b mid value → value ≤ room → StopsBefore b mid c value → CutsChunk room a held c
-chunk_data_cut room a b c held mid value h fits end =
+chunk_data_cut : (room : ℕ) (a b : InputState) (c : SourceState) (value : ℕ) → TakesLine a b value → value ≤ room
+    → StopsBefore b c value → CutsChunk room a c
+chunk_data_cut room a b c value h fits end =
     let l = h.is_line in
     let valued = l.value_is in
     let short = end.short in
     record {
       text = h.line ++ end.text;
-      gave = gave_after a b c held h.line mid end.text h.gave end.gave;
+      gave = gave_after a b c h.line end.text h.gave end.gave;
       cut = subst (IsCutBody (Chunked room)) (sym (line_text h.line l.digits end.text l.cut)) (
         front_data l.digits end.text l.size (omega (arith, short, valued)),
         under_inside room l.digits end.text l.size (omega (arith, valued, fits)) (omega (arith, short, valued)),
       );
     }
 
-pub chunk_data_fault : (room : ℕ) (a b c : SourceState) (held mid rest x y : List ℕ) (value : ℕ) (e : BodyFault)
-    → TakesLine a held b mid value → value ≤ room → ReadsBytes (body_state b mid x) (body_state c rest y) value (Err e)
-    → FindsChunk room (body_state a held x) (body_state c rest y) (Err e)
-chunk_data_fault room a b c held mid rest x y value Fault.Truncated h fits end = (
-  chunk_data_cut room a b c held mid value h fits (stops (body_state b mid x) (body_state c rest y) value end.0),
-  end.1,
-)
-chunk_data_fault room a b c held mid rest x y value Fault.Read h fits end =
-    chunk_data_cut room a b c held mid value h fits (stops (body_state b mid x) (body_state c rest y) value end)
-chunk_data_fault room a b c held mid rest x y value Fault.NoMemory h fits none =
-    record { text = h.line ++ none.text; gave = gave_after a b c held h.line mid none.text h.gave none.gave }
+pub chunk_data_fault : (room : ℕ) (a b c : InputState) (x y : List ℕ) (value : ℕ) (e : BodyFault) → TakesLine a b value
+    → value ≤ room → ReadsBytes (body_state b x) (body_state c y) value (Err e)
+    → FindsChunk room (body_state a x) (body_state c y) (Err e)
+chunk_data_fault room a b c x y value Fault.Truncated h fits end =
+    (chunk_data_cut room a b c.source value h fits (stops (body_state b x) (body_state c y) value end.0), end.1)
+chunk_data_fault room a b c x y value Fault.Read h fits end =
+    chunk_data_cut room a b c.source value h fits (stops (body_state b x) (body_state c y) value end)
+chunk_data_fault room a b c x y value Fault.NoMemory h fits none =
+    record { text = h.line ++ none.text; gave = gave_after a b c.source h.line none.text h.gave none.gave }
 
 -- a line and its data were taken, and then some text was seen
-gave_chunk : (a b c d : SourceState) (held mid rest more x y : List ℕ) (value : ℕ) (h : TakesLine a held b mid value)
-    (m : Moved (body_state b mid x) (body_state c rest y) value) → Gave c d rest more
-    → Gave a d held (h.line ++ (m.bytes ++ more))
-gave_chunk a b c d held mid rest more x y value h m g =
-    gave_after a b d held h.line mid (m.bytes ++ more) h.gave (gave_after b c d mid m.bytes rest more m.gave g)
+gave_chunk : (a b c : InputState) (d : SourceState) (more x y : List ℕ) (value : ℕ) (h : TakesLine a b value)
+    (m : Moved (body_state b x) (body_state c y) value) → Gave c d more → Gave a d (h.line ++ (m.bytes ++ more))
+gave_chunk a b c d more x y value h m g =
+    gave_after a b d h.line (m.bytes ++ more) h.gave (gave_after b c d m.bytes more m.gave g)
 
-pub chunk_end_broken : (room : ℕ) (a b c d : SourceState) (held mid rest x y : List ℕ) (value : ℕ)
-    → TakesLine a held b mid value → value ≤ room → Moved (body_state b mid x) (body_state c rest y) value
-    → BreaksEnd c rest d → RefusesChunk room a held d bads.Chunks
-chunk_end_broken room a b c d held mid rest x y value h fits m e =
+pub chunk_end_broken : (room : ℕ) (a b c : InputState) (d : SourceState) (x y : List ℕ) (value : ℕ)
+    → TakesLine a b value → value ≤ room → Moved (body_state b x) (body_state c y) value → BreaksEnd c d
+    → RefusesChunk room a d bads.Chunks
+chunk_end_broken room a b c d x y value h fits m e =
     let l = h.is_line in
     let valued = l.value_is in
     let counted = m.counted in
@@ -137,7 +133,7 @@ chunk_end_broken room a b c d held mid rest x y value h fits m e =
     let before : List ℕ = l.digits ++ (13 ∷ 10 ∷ (m.bytes ++ e.before)) in
     record {
       text = h.line ++ (m.bytes ++ (e.before ++ e.byte ∷ e.rest));
-      gave = gave_chunk a b c d held mid rest (e.before ++ e.byte ∷ e.rest) x y value h m e.gave;
+      gave = gave_chunk a b c d (e.before ++ e.byte ∷ e.rest) x y value h m e.gave;
       bad = inr (
         refl,
         record {
@@ -160,10 +156,9 @@ chunk_end_broken room a b c d held mid rest x y value h fits m e =
     front_of x (inl e) = (0, 13 ∷ 10 ∷ [], ap (λ t. t ++ (13 ∷ 10 ∷ [])) e, omega arith)
     front_of x (inr e) = (0, 10 ∷ [], ap (λ t. t ++ (10 ∷ [])) e, omega arith)
 
-pub chunk_end_cut : (room : ℕ) (a b c d : SourceState) (held mid rest x y : List ℕ) (value : ℕ)
-    → TakesLine a held b mid value → value ≤ room → Moved (body_state b mid x) (body_state c rest y) value
-    → CutsEnd c rest d → CutsChunk room a held d
-chunk_end_cut room a b c d held mid rest x y value h fits m e =
+pub chunk_end_cut : (room : ℕ) (a b c : InputState) (d : SourceState) (x y : List ℕ) (value : ℕ) → TakesLine a b value
+    → value ≤ room → Moved (body_state b x) (body_state c y) value → CutsEnd c d → CutsChunk room a d
+chunk_end_cut room a b c d x y value h fits m e =
     let l = h.is_line in
     let valued = l.value_is in
     let counted = m.counted in
@@ -173,7 +168,7 @@ chunk_end_cut room a b c d held mid rest x y value h fits m e =
     let some = front.3 in
     record {
       text = h.line ++ (m.bytes ++ e.text);
-      gave = gave_chunk a b c d held mid rest e.text x y value h m e.gave;
+      gave = gave_chunk a b c d e.text x y value h m e.gave;
       cut = subst (IsCutBody (Chunked room)) (sym (line_text h.line l.digits (m.bytes ++ e.text) l.cut)) (
         front_data_end l.digits m.bytes e.text front.1 l.size same front.2 front.3,
         under_inside room l.digits (m.bytes ++ e.text) l.size (omega (arith, valued, fits))
@@ -186,96 +181,92 @@ chunk_end_cut room a b c d held mid rest x y value h fits m e =
     front_of x (inl e) = (0, 13 ∷ 10 ∷ [], ap (λ t. t ++ (13 ∷ 10 ∷ [])) e, omega arith)
     front_of x (inr e) = (0, 10 ∷ [], ap (λ t. t ++ (10 ∷ [])) e, omega arith)
 
-pub chunk_end_fault : (room : ℕ) (a b c d : SourceState) (held mid rest last x y : List ℕ) (value : ℕ) (e : InputFault)
-    → TakesLine a held b mid value → value ≤ room → Moved (body_state b mid x) (body_state c rest y) value
-    → FindsEnd c rest d last (Err e)
-    → FindsChunk room (body_state a held x) (body_state d last y) (Err (body_of_input e))
-chunk_end_fault room a b c d held mid rest last x y value Input.Truncated h fits m f =
-    (chunk_end_cut room a b c d held mid rest x y value h fits m f.0, f.1)
-chunk_end_fault room a b c d held mid rest last x y value Input.Read h fits m f =
-    chunk_end_cut room a b c d held mid rest x y value h fits m f
+pub chunk_end_fault : (room : ℕ) (a b c d : InputState) (x y : List ℕ) (value : ℕ) (e : InputFault)
+    → TakesLine a b value → value ≤ room → Moved (body_state b x) (body_state c y) value → FindsEnd c d (Err e)
+    → FindsChunk room (body_state a x) (body_state d y) (Err (body_of_input e))
+chunk_end_fault room a b c d x y value Input.Truncated h fits m f =
+    (chunk_end_cut room a b c d.source x y value h fits m f.0, f.1)
+chunk_end_fault room a b c d x y value Input.Read h fits m f = chunk_end_cut room a b c d.source x y value h fits m f
 
-pub chunk_taken : (room : ℕ) (a b c d : SourceState) (held mid rest last x y : List ℕ) (value : ℕ)
-    → TakesLine a held b mid value → value ≤ room → 0 < value → Moved (body_state b mid x) (body_state c rest y) value
-    → Gave c d rest (13 ∷ 10 ∷ last) → TakesChunk room (body_state a held x) (body_state d last y)
-chunk_taken room a b c d held mid rest last x y value h fits some m end =
+pub chunk_taken : (room : ℕ) (a b c d : InputState) (x y : List ℕ) (value : ℕ) → TakesLine a b value → value ≤ room
+    → 0 < value → Moved (body_state b x) (body_state c y) value → Gave c d.source (13 ∷ 10 ∷ d.held)
+    → TakesChunk room (body_state a x) (body_state d y)
+chunk_taken room a b c d x y value h fits some m end =
     let l = h.is_line in
     let valued = l.value_is in
     let counted = m.counted in
-    let gave = gave_chunk a b c d held mid rest (13 ∷ 10 ∷ last) x y value h m end in
+    let gave = gave_chunk a b c d.source (13 ∷ 10 ∷ d.held) x y value h m end in
     record {
       chunk = record { digits = l.digits; data_bytes = m.bytes };
       is_chunk = record { size = l.size; some = omega (arith, counted, some); same = omega (arith, valued, counted) };
       fits = omega (arith, counted, fits);
-      gave = gave_as (flat l.digits m.bytes ∙ sym (line_text h.line l.digits (m.bytes ++ (13 ∷ 10 ∷ last)) l.cut)) gave;
+      gave = gave_as (flat l.digits m.bytes ∙ sym (line_text h.line l.digits (m.bytes ++ (13 ∷ 10 ∷ d.held)) l.cut))
+          gave;
       joined = m.joined;
     }
   where
-    flat : (ds d : List ℕ)
-        → (ds ++ (13 ∷ 10 ∷ (d ++ (13 ∷ 10 ∷ [])))) ++ last ≡ ds ++ (13 ∷ 10 ∷ (d ++ (13 ∷ 10 ∷ last)))
-    flat ds d = simp append_assoc
+    flat : (ds bytes : List ℕ)
+        → (ds ++ (13 ∷ 10 ∷ (bytes ++ (13 ∷ 10 ∷ [])))) ++ d.held ≡ ds ++ (13 ∷ 10 ∷ (bytes ++ (13 ∷ 10 ∷ d.held)))
+    flat ds bytes = simp append_assoc
 
-pub chunk_last : (a b c d : SourceState) (held mid rest last x y : List ℕ) (value : ℕ)
-    → TakesLine a held b mid value → value ≡ 0 → Moved (body_state b mid x) (body_state c rest y) value
-    → Gave c d rest (13 ∷ 10 ∷ last) → TakesLast (body_state a held x) (body_state d last y)
-chunk_last a b c d held mid rest last x y value h zero m end =
+pub chunk_last : (a b c d : InputState) (x y : List ℕ) (value : ℕ) → TakesLine a b value → value ≡ 0
+    → Moved (body_state b x) (body_state c y) value → Gave c d.source (13 ∷ 10 ∷ d.held)
+    → TakesLast (body_state a x) (body_state d y)
+chunk_last a b c d x y value h zero m end =
     let l = h.is_line in
     let valued = l.value_is in
     let counted = m.counted in
     let none : m.bytes ≡ [] = empty_of m.bytes (omega (arith, counted, zero)) in
-    let gave = gave_chunk a b c d held mid rest (13 ∷ 10 ∷ last) x y value h m end in
+    let gave = gave_chunk a b c d.source (13 ∷ 10 ∷ d.held) x y value h m end in
     record {
       zeros = l.digits;
       is_zero = record { size = l.size; zero = omega (arith, valued, zero) };
-      gave = gave_as (flat l.digits ∙ ap (λ d. l.digits ++ (13 ∷ 10 ∷ (d ++ (13 ∷ 10 ∷ last)))) (sym none)
-          ∙ sym (line_text h.line l.digits (m.bytes ++ (13 ∷ 10 ∷ last)) l.cut)) gave;
-      joined = m.joined ∙ ap (λ d. x ++ d) none ∙ append-nil x;
+      gave = gave_as (flat l.digits ∙ ap (λ bytes. l.digits ++ (13 ∷ 10 ∷ (bytes ++ (13 ∷ 10 ∷ d.held)))) (sym none)
+          ∙ sym (line_text h.line l.digits (m.bytes ++ (13 ∷ 10 ∷ d.held)) l.cut)) gave;
+      joined = m.joined ∙ ap (λ bytes. x ++ bytes) none ∙ append-nil x;
     }
   where
-    flat : (ds : List ℕ) → (ds ++ (13 ∷ 10 ∷ 13 ∷ 10 ∷ [])) ++ last ≡ ds ++ (13 ∷ 10 ∷ 13 ∷ 10 ∷ last)
+    flat : (ds : List ℕ) → (ds ++ (13 ∷ 10 ∷ 13 ∷ 10 ∷ [])) ++ d.held ≡ ds ++ (13 ∷ 10 ∷ 13 ∷ 10 ∷ d.held)
     flat ds = simp append_assoc
 
 -- ---- all chunks
 
-pub taken_nothing : (max : ℕ) (known : SourceState) (held : List ℕ)
-    → AreTaken max (body_state known held []) (body_state known held [])
-taken_nothing max known held =
-    record { chunks = []; each = All-nil IsChunk; gave = gave_none known held; joined = refl; fits = omega arith }
+pub taken_nothing : (max : ℕ) (known : InputState) → AreTaken max (body_state known []) (body_state known [])
+taken_nothing max known =
+    record { chunks = []; each = All-nil IsChunk; gave = gave_none known; joined = refl; fits = omega arith }
 
-pub taken_more : (max room : ℕ) (a b c : SourceState) (held mid rest x y : List ℕ) → room ≡ max - length x
-    → AreTaken max (body_state a held []) (body_state b mid x)
-    → TakesChunk room (body_state b mid x) (body_state c rest y)
-    → AreTaken max (body_state a held []) (body_state c rest y)
-taken_more max room a b c held mid rest x y left t h =
+pub taken_more : (max room : ℕ) (a b c : InputState) (x y : List ℕ) → room ≡ max - length x
+    → AreTaken max (body_state a []) (body_state b x) → TakesChunk room (body_state b x) (body_state c y)
+    → AreTaken max (body_state a []) (body_state c y)
+taken_more max room a b c x y left t h =
     let fits = t.fits in
     let more = h.fits in
     let joined = ap length h.joined in
-    let gave = gave_after a b c held (chunks_text t.chunks) mid (print_chunk h.chunk ++ rest) t.gave h.gave in
+    let gave = gave_after a b c.source (chunks_text t.chunks) (print_chunk h.chunk ++ c.held) t.gave h.gave in
     record {
       chunks = t.chunks ++ h.chunk ∷ [];
       each =
           All-append IsChunk t.chunks (h.chunk ∷ []) t.each (All-cons IsChunk h.chunk [] h.is_chunk (All-nil IsChunk));
       gave =
-          gave_as (ap (λ s. s ++ rest) (flat_map-append print_chunk t.chunks (h.chunk ∷ [])
+          gave_as (ap (λ s. s ++ c.held) (flat_map-append print_chunk t.chunks (h.chunk ∷ [])
           ∙ ap (λ s. chunks_text t.chunks ++ s) (append-nil (print_chunk h.chunk)))
-          ∙ append_assoc (chunks_text t.chunks) (print_chunk h.chunk) rest) gave;
+          ∙ append_assoc (chunks_text t.chunks) (print_chunk h.chunk) c.held) gave;
       joined = h.joined ∙ ap (λ s. s ++ h.chunk.data_bytes) t.joined
           ∙ ap (λ s. chunks_data t.chunks ++ s) (sym (append-nil h.chunk.data_bytes))
-          ∙ sym (flat_map-append (λ c. c.data_bytes) t.chunks (h.chunk ∷ []));
+          ∙ sym (flat_map-append (λ chunk. chunk.data_bytes) t.chunks (h.chunk ∷ []));
       fits = omega (arith, fits, more, left, joined, length-append x h.chunk.data_bytes);
     }
 
-pub body_whole : (max : ℕ) (a b c : SourceState) (held mid rest x y : List ℕ)
-    → AreTaken max (body_state a held []) (body_state b mid x) → TakesLast (body_state b mid x) (body_state c rest y)
-    → TakesBody (Chunked max) a held c rest y
-body_whole max a b c held mid rest x y t h =
+pub body_whole : (max : ℕ) (a b c : InputState) (x y : List ℕ) → AreTaken max (body_state a []) (body_state b x)
+    → TakesLast (body_state b x) (body_state c y) → TakesBody (Chunked max) a c y
+body_whole max a b c x y t h =
     let fits = t.fits in
     let same = ap length h.joined in
     let last : List ℕ = h.zeros ++ (13 ∷ 10 ∷ 13 ∷ 10 ∷ []) in
-    let gave = gave_after a b c held (chunks_text t.chunks) mid (last ++ rest) t.gave h.gave in
+    let gave = gave_after a b c.source (chunks_text t.chunks) (last ++ c.held) t.gave h.gave in
     record {
       text = chunks_text t.chunks ++ last;
-      gave = gave_as (append_assoc (chunks_text t.chunks) last rest) gave;
+      gave = gave_as (append_assoc (chunks_text t.chunks) last c.held) gave;
       written = (
         record {
           chunks = t.chunks;
@@ -318,61 +309,57 @@ bad_after max chunks text why each fits bad = elim bad [
       )
 ]
 
-pub body_refused : (max room : ℕ) (a b c : SourceState) (held mid x : List ℕ) (why : Bad) → room ≡ max - length x
-    → AreTaken max (body_state a held []) (body_state b mid x) → RefusesChunk room b mid c why
-    → RefusesBodyText (Chunked max) a held c why
-body_refused max room a b c held mid x why left t h =
+pub body_refused : (max room : ℕ) (a b : InputState) (c : SourceState) (x : List ℕ) (why : Bad)
+    → room ≡ max - length x → AreTaken max (body_state a []) (body_state b x) → RefusesChunk room b c why
+    → RefusesBodyText (Chunked max) a c why
+body_refused max room a b c x why left t h =
     let fits = t.fits in
     let same = ap length t.joined in
     record {
       text = chunks_text t.chunks ++ h.text;
-      gave = gave_after a b c held (chunks_text t.chunks) mid h.text t.gave h.gave;
+      gave = gave_after a b c (chunks_text t.chunks) h.text t.gave h.gave;
       bad = bad_after max t.chunks h.text why t.each (omega (arith, fits, same))
           (subst (λ n. IsBadBody (Chunked n) h.text why) (room_left max room x t.chunks left t.joined) h.bad);
     }
 
-body_cut : (max room : ℕ) (a b c : SourceState) (held mid x : List ℕ) → room ≡ max - length x
-    → AreTaken max (body_state a held []) (body_state b mid x) → CutsChunk room b mid c
-    → CutsBody (Chunked max) a held c
-body_cut max room a b c held mid x left t h =
+body_cut : (max room : ℕ) (a b : InputState) (c : SourceState) (x : List ℕ) → room ≡ max - length x
+    → AreTaken max (body_state a []) (body_state b x) → CutsChunk room b c → CutsBody (Chunked max) a c
+body_cut max room a b c x left t h =
     let fits = t.fits in
     let same = ap length t.joined in
     let cut = subst (λ n. IsCutBody (Chunked n) h.text) (room_left max room x t.chunks left t.joined) h.cut in
     record {
       text = chunks_text t.chunks ++ h.text;
-      gave = gave_after a b c held (chunks_text t.chunks) mid h.text t.gave h.gave;
+      gave = gave_after a b c (chunks_text t.chunks) h.text t.gave h.gave;
       cut = (
         front_after t.chunks h.text t.each cut.0,
         under_after max t.chunks h.text t.each (omega (arith, fits, same)) cut.1,
       );
     }
 
-pub body_fault : (max room : ℕ) (a b c : SourceState) (held mid rest x y : List ℕ) (e : BodyFault)
-    → room ≡ max - length x → AreTaken max (body_state a held []) (body_state b mid x)
-    → FindsChunk room (body_state b mid x) (body_state c rest y) (Err e)
-    → FindsBody (Chunked max) a held c rest y (Err e)
-body_fault max room a b c held mid rest x y Fault.Truncated left t h =
-    (body_cut max room a b c held mid x left t h.0, h.1)
-body_fault max room a b c held mid rest x y Fault.Read left t h = body_cut max room a b c held mid x left t h
-body_fault max room a b c held mid rest x y Fault.NoMemory left t h =
-    record {
-      text = chunks_text t.chunks ++ h.text;
-      gave = gave_after a b c held (chunks_text t.chunks) mid h.text t.gave h.gave;
-    }
+pub body_fault : (max room : ℕ) (a b c : InputState) (x y : List ℕ) (e : BodyFault) → room ≡ max - length x
+    → AreTaken max (body_state a []) (body_state b x) → FindsChunk room (body_state b x) (body_state c y) (Err e)
+    → FindsBody (Chunked max) a c y (Err e)
+body_fault max room a b c x y Fault.Truncated left t h = (body_cut max room a b c.source x left t h.0, h.1)
+body_fault max room a b c x y Fault.Read left t h = body_cut max room a b c.source x left t h
+body_fault max room a b c x y Fault.NoMemory left t h = record {
+  text = chunks_text t.chunks ++ h.text;
+  gave = gave_after a b c.source (chunks_text t.chunks) h.text t.gave h.gave;
+}
 
 -- ---- a body of a length
 
-pub length_whole : (n : ℕ) (a b : SourceState) (held rest y : List ℕ)
-    → Moved (body_state a held []) (body_state b rest y) n → TakesBody (Length n) a held b rest y
-length_whole n a b held rest y m =
+pub length_whole : (n : ℕ) (a b : InputState) (y : List ℕ) → Moved (body_state a []) (body_state b y) n
+    → TakesBody (Length n) a b y
+length_whole n a b y m =
     record { text = m.bytes; gave = m.gave; written = (sym m.joined, ap length m.joined ∙ m.counted) }
 
-pub length_fault : (n : ℕ) (a b : SourceState) (held rest y : List ℕ) (e : BodyFault)
-    → ReadsBytes (body_state a held []) (body_state b rest y) n (Err e) → FindsBody (Length n) a held b rest y (Err e)
-length_fault n a b held rest y Fault.Truncated h =
-    let end = stops (body_state a held []) (body_state b rest y) n h.0 in
+pub length_fault : (n : ℕ) (a b : InputState) (y : List ℕ) (e : BodyFault)
+    → ReadsBytes (body_state a []) (body_state b y) n (Err e) → FindsBody (Length n) a b y (Err e)
+length_fault n a b y Fault.Truncated h =
+    let end = stops (body_state a []) (body_state b y) n h.0 in
     (record { text = end.text; gave = end.gave; cut = end.short }, h.1)
-length_fault n a b held rest y Fault.Read h =
-    let end = stops (body_state a held []) (body_state b rest y) n h in
+length_fault n a b y Fault.Read h =
+    let end = stops (body_state a []) (body_state b y) n h in
     record { text = end.text; gave = end.gave; cut = end.short }
-length_fault n a b held rest y Fault.NoMemory h = h
+length_fault n a b y Fault.NoMemory h = h

@@ -10,7 +10,7 @@ use Rattle.std.proofs.lemmas.List.Elements.{All-head, All-tail}
 use Rattle.std.proofs.lemmas.Int.Digits.{digits_value-lt}
 use Rattle.std.specs.Str.Parse.{digits_value, AllDigits}
 use Rattle.std.specs.Char.{is_ascii_hexdigit, digit_value}
-use Rattle.http_wire.specs.States.{SourceState}
+use Rattle.http_wire.specs.States.{SourceState, InputState, input_state}
 use Rattle.http_wire.specs.Reading.{Gave}
 use Rattle.http_wire.specs.Inner.SizeLines.{StandsAt, IsLine, IsBounded, NeverLine}
 use Rattle.http_wire.specs.Inner.ChunkReading.{TakesLine, BreaksLine, CutsLine, NeverEnd, BreaksEnd, CutsEnd}
@@ -45,13 +45,13 @@ bounded front (Ended value) h =
     omega (arith, valued, small)
 
 -- a read behind the bytes leaves them
-pub front_kept : (a b : SourceState) (old new : List ℕ) (at : ℕ) → Gave a b old new → at ≤ length old
-    → take at new ≡ take at old
-front_kept a b old new at gave le = ap (take at) gave.joined ∙ take-append-le at old gave.given le
+pub front_kept : (a : InputState) (b : SourceState) (text : List ℕ) (at : ℕ) → Gave a b text → at ≤ length a.held
+    → take at text ≡ take at a.held
+front_kept a b text at gave le = ap (take at) gave.joined ∙ take-append-le at a.held gave.given le
 
-pub front_stands : (a b : SourceState) (old new : List ℕ) (at : ℕ) (state : LineState) → Gave a b old new
-    → at ≤ length old → StandsAt (take at old) state → StandsAt (take at new) state
-front_stands a b old new at state gave le = subst (λ t. StandsAt t state) (sym (front_kept a b old new at gave le))
+pub front_stands : (a : InputState) (b : SourceState) (text : List ℕ) (at : ℕ) (state : LineState) → Gave a b text
+    → at ≤ length a.held → StandsAt (take at a.held) state → StandsAt (take at text) state
+front_stands a b text at state gave le = subst (λ t. StandsAt t state) (sym (front_kept a b text at gave le))
 
 -- one more byte
 pub front_next : (text : List ℕ) (at byte : ℕ) → (at < length text) × (byte ≡ get_or text at 0)
@@ -65,19 +65,19 @@ cut_round text at b next =
     sym (append_assoc (take at text) (b ∷ []) (drop (at + 1) text))
     ∙ ap (λ t. t ++ drop (at + 1) text) (sym next) ∙ take-append-drop (at + 1) text
 
-pub line_taken : (a b : SourceState) (held text front : List ℕ) (at byte value : ℕ) → Gave a b held text
+pub line_taken : (a : InputState) (b : SourceState) (text front : List ℕ) (at byte value : ℕ) → Gave a b text
     → take (at + 1) text ≡ front ++ byte ∷ [] → IsLine (front ++ byte ∷ []) value
-    → TakesLine a held b (drop (at + 1) text) value
-line_taken a b held text front at byte value gave next is = record {
+    → TakesLine a (input_state (drop (at + 1) text) b) value
+line_taken a b text front at byte value gave next is = record {
   line = take (at + 1) text;
   is_line = subst (λ t. IsLine t value) (sym next) is;
   gave = gave_as (take-append-drop (at + 1) text) gave;
 }
 
-pub line_broken : (a b : SourceState) (held text : List ℕ) (at byte : ℕ) (state : LineState) → Gave a b held text
+pub line_broken : (a : InputState) (b : SourceState) (text : List ℕ) (at byte : ℕ) (state : LineState) → Gave a b text
     → take (at + 1) text ≡ take at text ++ byte ∷ [] → StandsAt (take at text) state
-    → NeverLine (take at text ++ byte ∷ []) → BreaksLine a held b
-line_broken a b held text at byte state gave next stands never = record {
+    → NeverLine (take at text ++ byte ∷ []) → BreaksLine a b
+line_broken a b text at byte state gave next stands never = record {
   before = take at text;
   byte = byte;
   rest = drop (at + 1) text;
@@ -87,9 +87,9 @@ line_broken a b held text at byte state gave next stands never = record {
   never = never;
 }
 
-pub line_cut : (a b : SourceState) (held text : List ℕ) (at : ℕ) (state : LineState) → Gave a b held text
-    → length text ≡ at → StandsAt (take at text) state → CutsLine a held b
-line_cut a b held text at state gave len stands = record {
+pub line_cut : (a : InputState) (b : SourceState) (text : List ℕ) (at : ℕ) (state : LineState) → Gave a b text
+    → length text ≡ at → StandsAt (take at text) state → CutsLine a b
+line_cut a b text at state gave len stands = record {
   text = text;
   gave = gave;
   state = state;
@@ -104,10 +104,10 @@ never_first b other more rest e = other (cc)
 pub never_second : (b : ℕ) → b ≢ 10 → NeverEnd ((13 ∷ []) ++ b ∷ [])
 never_second b other more rest e = other (cc)
 
-pub end_broken : (a b : SourceState) (held text front : List ℕ) (at byte : ℕ) → Gave a b held text
+pub end_broken : (a : InputState) (b : SourceState) (text front : List ℕ) (at byte : ℕ) → Gave a b text
     → take (at + 1) text ≡ front ++ byte ∷ [] → (front ≡ []) ⊎ (front ≡ 13 ∷ []) → NeverEnd (front ++ byte ∷ [])
-    → BreaksEnd a held b
-end_broken a b held text front at byte gave next which never = record {
+    → BreaksEnd a b
+end_broken a b text front at byte gave next which never = record {
   before = front;
   byte = byte;
   rest = drop (at + 1) text;
@@ -118,9 +118,9 @@ end_broken a b held text front at byte gave next which never = record {
   never = never;
 }
 
-pub end_cut : (a b : SourceState) (held text front : List ℕ) (at : ℕ) → Gave a b held text → length text ≡ at
-    → take at text ≡ front → (front ≡ []) ⊎ (front ≡ 13 ∷ []) → CutsEnd a held b
-end_cut a b held text front at gave len start which = record {
+pub end_cut : (a : InputState) (b : SourceState) (text front : List ℕ) (at : ℕ) → Gave a b text → length text ≡ at
+    → take at text ≡ front → (front ≡ []) ⊎ (front ≡ 13 ∷ []) → CutsEnd a b
+end_cut a b text front at gave len start which = record {
   text = front;
   gave = gave_as (sym start ∙ take_all at text (omega (arith, len))) gave;
   front = which;

@@ -1,6 +1,6 @@
 -- What is found behind a head.
 use Rattle.std.specs.Prelude.{ℕ, List, ◌++◌, Result, Ok, Err}
-use Rattle.http_wire.specs.States.{SourceState}
+use Rattle.http_wire.specs.States.{SourceState, InputState}
 use Rattle.http_wire.specs.Reading.{Gave, HasEnded}
 use Rattle.http_wire.specs.Inner.BodyReading.{MovedNone}
 use Rattle.http_wire.specs.Body.{IsBodyText, IsBadBody, IsCutBody}
@@ -12,29 +12,26 @@ use Rattle.http_wire.specs.declared.fault.BodyFault.{BodyFault}
 use Rattle.http_wire.specs.declared.fault.BodyFault.TheVariants as Fault
 
 -- a whole body was taken
-pub record TakesBody (framing : Framing) (old : SourceState) (held : List ℕ) (new : SourceState)
-    (rest body : List ℕ) : Type 0 where
+pub record TakesBody (framing : Framing) (old new : InputState) (body : List ℕ) : Type 0 where
   pub text : List ℕ
-  pub gave : Gave old new held (text ++ rest)
+  pub gave : Gave old new.source (text ++ new.held)
   pub written : IsBodyText framing text body
 
--- what came is refused as a body
-pub record RefusesBodyText (framing : Framing) (old : SourceState) (held : List ℕ) (new : SourceState)
-    (why : Bad) : Type 0 where
+-- what came is refused as a body, where the source is left as new
+pub record RefusesBodyText (framing : Framing) (old : InputState) (new : SourceState) (why : Bad) : Type 0 where
   pub text : List ℕ
-  pub gave : Gave old new held text
+  pub gave : Gave old new text
   pub bad : IsBadBody framing text why
 
 -- what came is the front of a body
-pub record CutsBody (framing : Framing) (old : SourceState) (held : List ℕ) (new : SourceState) : Type 0 where
+pub record CutsBody (framing : Framing) (old : InputState) (new : SourceState) : Type 0 where
   pub text : List ℕ
-  pub gave : Gave old new held text
+  pub gave : Gave old new text
   pub cut : IsCutBody framing text
 
-abbrev pub FindsBody : Framing → SourceState → List ℕ → SourceState → List ℕ → List ℕ
-    → Result BodyEnd BodyFault → Type 0
-FindsBody framing old held new rest body (Ok Whole) = TakesBody framing old held new rest body
-FindsBody framing old held new rest body (Ok (Refused why)) = RefusesBodyText framing old held new why
-FindsBody framing old held new rest body (Err Fault.Truncated) = CutsBody framing old held new × HasEnded new
-FindsBody framing old held new rest body (Err Fault.Read) = CutsBody framing old held new
-FindsBody framing old held new rest body (Err Fault.NoMemory) = MovedNone old held new
+abbrev pub FindsBody : Framing → InputState → InputState → List ℕ → Result BodyEnd BodyFault → Type 0
+FindsBody framing old new body (Ok Whole) = TakesBody framing old new body
+FindsBody framing old new body (Ok (Refused why)) = RefusesBodyText framing old new.source why
+FindsBody framing old new body (Err Fault.Truncated) = CutsBody framing old new.source × HasEnded new.source
+FindsBody framing old new body (Err Fault.Read) = CutsBody framing old new.source
+FindsBody framing old new body (Err Fault.NoMemory) = MovedNone old new.source

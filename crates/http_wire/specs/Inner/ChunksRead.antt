@@ -8,6 +8,6 @@ use Rattle.http_wire.specs.Body.{Chunk, IsChunk, chunks_text, chunks_data}
 pub record AreTaken (max_body : ℕ) (old new : BodyState) : Type 0 where
   pub chunks : List Chunk
   pub each : All IsChunk chunks
-  pub gave : Gave old.source new.source old.held (chunks_text chunks ++ new.held)
+  pub gave : Gave old.input new.input.source (chunks_text chunks ++ new.input.held)
   pub joined : new.body ≡ old.body ++ chunks_data chunks
   pub fits : length new.body ≤ max_body

@@ -3,7 +3,7 @@ use Rattle.std.specs.Prelude.{◌≡◌, ℕ, ◌+◌, ◌≤◌, ◌⊎◌, Lis
 use Rattle.httparse.specs.Ascii.{line_feed}
 use Rattle.httparse.specs.Spans.{header_bytes}
 use Rattle.httparse.specs.declared.spans.HeaderSpan.{HeaderSpan}
-use Rattle.http_wire.specs.States.{SourceState}
+use Rattle.http_wire.specs.States.{InputState}
 use Rattle.http_wire.specs.Reading.{HasEnded}
 use Rattle.http_wire.specs.Fields.{Fields}
 use Rattle.http_wire.specs.Fronts.{max_head, Words, Reads, HasNone, IsRefused, IsTooLong, IsCutHead, MayBeRefused}
@@ -51,11 +51,11 @@ JudgesAt s text at (Complete p) = IsHeadAtFront s text p
 JudgesAt s text at Refused = IsRefused s.words text
 JudgesAt s text at Open = HasNone s.words (take (at + 1) text)
 
--- what a read of a head found in the text that was read, where the source is left as new
-abbrev pub FindsHead : {P : Type 0} → Spans P → List ℕ → SourceState → Result (HeadRead P) InputFault → Type 0
-FindsHead s text new (Ok Found.Over) = (text ≡ []) × HasEnded new
-FindsHead s text new (Ok Found.Refused) = IsRefused s.words text
-FindsHead s text new (Ok Found.TooLong) = IsTooLong s.words text
-FindsHead s text new (Ok (Found.Head p)) = IsHeadAtFront s text p
-FindsHead s text new (Err Fault.Truncated) = IsCutHead s.words text × HasEnded new
-FindsHead s text new (Err Fault.Read) = (text ≡ []) ⊎ IsCutHead s.words text
+-- what a read of a head found in what the input holds
+abbrev pub FindsHead : {P : Type 0} → Spans P → InputState → Result (HeadRead P) InputFault → Type 0
+FindsHead s new (Ok Found.Over) = (new.held ≡ []) × HasEnded new.source
+FindsHead s new (Ok Found.Refused) = IsRefused s.words new.held
+FindsHead s new (Ok Found.TooLong) = IsTooLong s.words new.held
+FindsHead s new (Ok (Found.Head p)) = IsHeadAtFront s new.held p
+FindsHead s new (Err Fault.Truncated) = IsCutHead s.words new.held × HasEnded new.source
+FindsHead s new (Err Fault.Read) = (new.held ≡ []) ⊎ IsCutHead s.words new.held

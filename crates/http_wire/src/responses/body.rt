@@ -1,6 +1,6 @@
 //! The body of a response, read behind its head.
 ghost use Rattle.std.specs.Prelude.{◌≡◌, ◌+◌, ◌^◌, ◌≤◌, [], Err};
-ghost use Rattle.http_wire.specs.Inputs.{ReadsAtMost};
+ghost use Rattle.http_wire.specs.Inputs.{ReadsAtMost, input_of};
 ghost use Rattle.http_wire.specs.ResponseBody.{IsFraming, most_of_response};
 ghost use Rattle.http_wire.specs.Inner.ResponseBodyFinding.{FindsResponseBody, end_of};
 
@@ -27,9 +27,8 @@ fn read_to_end<S: ByteSource, B: BodyBuffer>(
 ) -> Result<ResponseBodyEnd, BodyFault>
     requires small { most ≤ 2 ^ 31 }
     requires empty { B.bytes body.old ≡ [] }
-    ensures found { FindsResponseBody (ResponseFraming.ToEnd most) input.old.buffer.now
-        (S.state input.old.source.now)
-        (B.bytes body.new) input.new.buffer.now (S.state input.new.source.now) result }
+    ensures found { FindsResponseBody (ResponseFraming.ToEnd most) (input_of S.state input.old)
+        (input_of S.state input.new) (B.bytes body.new) result }
     ensures costs { ReadsAtMost S.state (most + 1) (result ≡ Err BodyFault.Read)
         input.old input.new }
 {
@@ -58,9 +57,8 @@ pub fn read_response_body<S: ByteSource, B: BodyBuffer>(
 ) -> Result<ResponseBodyEnd, BodyFault>
     requires small { IsFraming (2 ^ 31) framing }
     requires empty { B.bytes body.old ≡ [] }
-    ensures found { FindsResponseBody framing input.old.buffer.now (S.state input.old.source.now)
-        (B.bytes body.new)
-        input.new.buffer.now (S.state input.new.source.now) result }
+    ensures found { FindsResponseBody framing (input_of S.state input.old)
+        (input_of S.state input.new) (B.bytes body.new) result }
     ensures costs { ReadsAtMost S.state (most_of_response framing + 1) (result ≡ Err BodyFault.Read)
         input.old input.new }
 {

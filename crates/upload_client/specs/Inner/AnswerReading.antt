@@ -1,7 +1,7 @@
 -- What the functions find that read a reply.
 use Rattle.std.specs.Prelude.{◌≡◌, ℕ, Bool, List, Option, Result, Ok, Err, ⊤}
 use Rattle.http_wire.specs.Fields.{Fields}
-use Rattle.http_wire.specs.States.{SourceState}
+use Rattle.http_wire.specs.States.{InputState}
 use Rattle.upload_client.specs.AnswerText.{IsHeard, IsMisplaced, IsPlaceOf, ReadsAnswer, location, range, upto_of}
 use Rattle.http_wire.specs.declared.responses.framing.FramingFault.{FramingFault}
 use Rattle.http_wire.specs.declared.responses.framing.FramingFault.TheVariants as Framing
@@ -19,10 +19,9 @@ use Rattle.http_wire.specs.declared.fault.BodyFault.TheVariants as Body
 -- ---- a reply
 
 -- A reply was read: what is heard in it, and whether it keeps the connection; behind a fault nothing is said of that.
-abbrev pub FindsReply : Bool → List ℕ → SourceState → List ℕ → SourceState → Result ReplyRead HeardFault → Type 0
-FindsReply head_only held old rest new (Ok reply) = ReadsAnswer head_only held old rest new (Ok reply.heard) reply.keep
-FindsReply head_only held old rest new (Err fault) =
-    (keep : Bool) → ReadsAnswer head_only held old rest new (Err fault) keep
+abbrev pub FindsReply : Bool → InputState → InputState → Result ReplyRead HeardFault → Type 0
+FindsReply head_only old new (Ok reply) = ReadsAnswer head_only old new (Ok reply.heard) reply.keep
+FindsReply head_only old new (Err fault) = (keep : Bool) → ReadsAnswer head_only old new (Err fault) keep
 
 -- ---- what it says
 

@@ -2,7 +2,7 @@
 use Rattle.std.specs.Prelude.{◌≡◌, ℕ, List, codes, bytes_eq, Result, Ok, Err}
 use Rattle.httparse.specs.Spans.{span_bytes}
 use Rattle.upload_service.specs.declared.ask.Ask.{Ask}
-use Rattle.http_wire.specs.States.{SourceState}
+use Rattle.http_wire.specs.States.{InputState}
 use Rattle.http_wire.specs.Reading.{HasEnded}
 use Rattle.http_wire.specs.Fields.{values_of, keeps_connection}
 use Rattle.http_wire.specs.Body.{framing_of}
@@ -41,19 +41,17 @@ Describes max_body head p (Err fault) = fault ≡ Fault.NoMemory
 -- ---- the body behind it
 
 -- a whole body was taken, and this is the request
-pub record TakesRequest (d : Described) (old : SourceState) (held : List ℕ) (new : SourceState) (rest : List ℕ)
-    (ask : Ask) (style : Style)
-    : Type 0 where
+pub record TakesRequest (d : Described) (old new : InputState) (ask : Ask) (style : Style) : Type 0 where
   pub body : List ℕ
-  pub taken : TakesBody d.framing old held new rest body
+  pub taken : TakesBody d.framing old new body
   pub asked : ask ≡ with_body d.ask body
   pub styled : style ≡ d.style
 
-abbrev pub FindsRequest : Described → SourceState → List ℕ → SourceState → List ℕ → Result Next WireFault → Type 0
-FindsRequest d old held new rest (Ok (Request ask style)) = TakesRequest d old held new rest ask style
-FindsRequest d old held new rest (Ok Over) = ⊥
-FindsRequest d old held new rest (Ok (nexts.Bad why)) = RefusesBodyText d.framing old held new why
-FindsRequest d old held new rest (Err Fault.Truncated) = CutsBody d.framing old held new × HasEnded new
-FindsRequest d old held new rest (Err Fault.Read) = CutsBody d.framing old held new
-FindsRequest d old held new rest (Err Fault.NoMemory) = MovedNone old held new
-FindsRequest d old held new rest (Err Fault.Ended) = ⊥
+abbrev pub FindsRequest : Described → InputState → InputState → Result Next WireFault → Type 0
+FindsRequest d old new (Ok (Request ask style)) = TakesRequest d old new ask style
+FindsRequest d old new (Ok Over) = ⊥
+FindsRequest d old new (Ok (nexts.Bad why)) = RefusesBodyText d.framing old new.source why
+FindsRequest d old new (Err Fault.Truncated) = CutsBody d.framing old new.source × HasEnded new.source
+FindsRequest d old new (Err Fault.Read) = CutsBody d.framing old new.source
+FindsRequest d old new (Err Fault.NoMemory) = MovedNone old new.source
+FindsRequest d old new (Err Fault.Ended) = ⊥

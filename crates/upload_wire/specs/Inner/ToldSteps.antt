@@ -1,6 +1,6 @@
 -- What the observer is told by the parts of a served connection.
 use Rattle.std.specs.Prelude.{◌≡◌, ℕ, List, [], ◌∷◌, ◌++◌, Result, Ok, Err}
-use Rattle.http_wire.specs.States.{SourceState}
+use Rattle.http_wire.specs.States.{InputState}
 use Rattle.http_wire.specs.declared.fault.WireFault.{WireFault}
 use Rattle.upload_wire.specs.Events.{Event, Telling, Hears}
 use Rattle.upload_wire.specs.Told.{TellsHead, TellsLine, TellsExchange, TellsCut, TellsEnd, Rules}
@@ -14,14 +14,13 @@ use Rattle.upload_wire.specs.declared.connection.ConnEnd.{ConnEnd}
 
 -- ---- reading
 
--- what is held, what is read, and the observer
+-- what is read, and the observer
 pub record Listening (O : Type 0) : Type 0 where
-  pub held : List ℕ
-  pub source : SourceState
+  pub input : InputState
   pub observer : O
 
-abbrev pub listening : {O : Type 0} → List ℕ → SourceState → O → Listening O
-listening held source observer = record { held = held; source = source; observer = observer }
+abbrev pub listening : {O : Type 0} → InputState → O → Listening O
+listening input observer = record { input = input; observer = observer }
 
 -- what is told of what was found in the text
 abbrev pub TellsNext : List ℕ → Result Next WireFault → List Event → Type 0
@@ -33,9 +32,9 @@ TellsNext text (Err fault) events = TellsCut text events
 -- what came next was read, and its head was told
 pub record ReadsTold {O : Type 0} (telling : Telling O) (max_body : ℕ) (old new : Listening O)
     (r : Result Next WireFault) : Type 0 where
-  pub next : ReadsNext max_body old.held old.source new.held new.source r
+  pub next : ReadsNext max_body old.input new.input r
   pub events : List Event
-  pub tells : TellsNext (old.held ++ next.given) r events
+  pub tells : TellsNext (old.input.held ++ next.given) r events
   pub told : Hears telling old.observer events new.observer
 
 -- ---- serving

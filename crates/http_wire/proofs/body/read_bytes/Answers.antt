@@ -1,5 +1,6 @@
 use Rattle.std.proofs.Common.{◌≡◌, ◌-◌, ◌+◌, arith, refl, subst, ◌∙◌}
 use Rattle.std.proofs.lemmas.Result.{err_from_is_err_and}
+use Rattle.http_wire.specs.Inputs.{input_of}
 use Rattle.http_wire.specs.Inner.BodyReading.{Moved, body_state}
 use Rattle.http_wire.proofs.Bodies.MovedLemmas.{moved_no_more, moved_both, bytes_fault}
 use Rattle.http_wire.proofs.body.read_bytes.Goals as goal
@@ -26,9 +27,9 @@ loop-left-preserved g c =
     record {
       within = omega (arith, within);
       moved =
-          subst (λ n. Moved (body_state (g.S.ByteSource.state c.args.input.now.source.now) c.args.input.now.buffer.now
+          subst (λ n. Moved (body_state (input_of g.S.ByteSource.state c.args.input.now)
           (g.B.BodyBuffer.bytes c.args.body.now))
-          (body_state (g.S.ByteSource.state c.read_part.new.input.source.now) c.read_part.new.input.buffer.now
+          (body_state (input_of g.S.ByteSource.state c.read_part.new.input)
           (g.B.BodyBuffer.bytes c.read_part.new.body)) n) done
           (moved_both _ _ _ (count - left) part c.loop-left.invariant.moved found.0);
       reads = λ low. let before = c.loop-left.invariant.reads (omega (arith, low, done)) in
@@ -47,7 +48,7 @@ returns-in_err-left-clause-found g c =
     let some = c.loop-left-test.true in
     let p = err_from_is_err_and c.from_residual.result c.from_residual.ensures.1 in
     rw (p.1, p.2)
-    (bytes_fault _ _ (body_state (g.S.ByteSource.state c.read_part.new.input.source.now)
-    c.read_part.new.input.buffer.now (g.B.BodyBuffer.bytes c.read_part.new.body))
+    (bytes_fault _ _ (body_state (input_of g.S.ByteSource.state c.read_part.new.input)
+    (g.B.BodyBuffer.bytes c.read_part.new.body))
     (c.args.count - c.loop-left.left) c.loop-left.left c.args.count
     c.in_err-left.field-0.0 c.loop-left.invariant.moved (omega (arith, within, some)) c.in_err-left.ensures.found)

@@ -1,15 +1,15 @@
 use Rattle.std.proofs.Common.{◌≡◌, ◌-◌, ◌≤◌}
 use Rattle.http_wire.specs.Counts.{CountsAtMost}
-use Rattle.http_wire.specs.Inputs.{StaysOver}
+use Rattle.http_wire.specs.Inputs.{StaysOver, input_of}
 use Rattle.http_wire.specs.Inner.BodyReading.{Moved, body_state}
 use Rattle.http_wire.proofs.body.read_bytes.Given as goal
 
 abbrev pub invariant-loop-left : goal.invariant-loop-left
 invariant-loop-left g l = record {
   within : l.left ≤ l.fn.count;
-  moved : Moved (body_state (g.S.ByteSource.state l.initial.input.source.now) l.initial.input.buffer.now
+  moved : Moved (body_state (input_of g.S.ByteSource.state l.initial.input)
       (g.B.BodyBuffer.bytes l.initial.body))
-      (body_state (g.S.ByteSource.state l.input.source.now) l.input.buffer.now (g.B.BodyBuffer.bytes l.body))
+      (body_state (input_of g.S.ByteSource.state l.input) (g.B.BodyBuffer.bytes l.body))
       (l.fn.count - l.left);
   reads : CountsAtMost (g.S.ByteSource.state l.initial.input.source.now).reads
       (g.S.ByteSource.state l.input.source.now).reads (l.fn.count - l.left);

@@ -4,7 +4,7 @@ use Rattle.std.specs.Result.{result_unwrap_or}
 use Rattle.std.specs.Io.KnownBytes.{ReadConsumes}
 use Rattle.std.proofs.lemmas.List.{append-nil}
 use Rattle.http_wire.specs.declared.bytes.Failed.{Failed}
-use Rattle.http_wire.specs.States.{SourceState}
+use Rattle.http_wire.specs.States.{SourceState, input_state}
 use Rattle.http_wire.specs.Reading.{ReadTells, Gave, HasEnded}
 use Rattle.http_wire.proofs.BufferLemmas.{read_on, read_nothing}
 use Rattle.http_wire.proofs.GaveLemmas.{consumes_kept}
@@ -13,7 +13,7 @@ use Rattle.http_wire.proofs.buffer.read_behind.Goals as goal
 -- one read, behind the first bytes
 gave_by : (a b : SourceState) (old got after : List ℕ) (end : ℕ) (r : Result ℕ Failed)
     → end ≤ length old → IfOk r (λ n. n ≤ length got) → ReadConsumes a.remaining b.remaining r got → ReadTells a b r got
-    → Gave a b (take end old) (take (end + result_unwrap_or r 0) (take end old ++ (got ++ after)))
+    → Gave (input_state (take end old) a) b (take (end + result_unwrap_or r 0) (take end old ++ (got ++ after)))
 gave_by a b old got after end (Ok n) fits few read told =
     record {
       given = take n got;

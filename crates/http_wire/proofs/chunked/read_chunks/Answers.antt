@@ -1,6 +1,7 @@
 use Rattle.std.proofs.Common.{◌≡◌, ◌∙◌, arith, ◌-◌, ◌+◌, length, ap, sym, subst, refl, length-append, []}
 use Rattle.std.specs.Prelude.{Ok, Err}
 use Rattle.std.proofs.lemmas.Result.{err_from_is_err_and}
+use Rattle.http_wire.specs.Inputs.{input_of}
 use Rattle.http_wire.specs.Inner.ChunkReading.{FindsChunk, TakesChunk}
 use Rattle.http_wire.specs.Inner.ChunksRead.{AreTaken}
 use Rattle.http_wire.specs.Inner.BodyReading.{body_state}
@@ -14,9 +15,9 @@ pub loop-chunk-init : goal.loop-chunk-init
 loop-chunk-init g c = record {
   taken =
       subst (λ body. AreTaken c.args.most
-      (body_state (g.S.ByteSource.state c.args.input.now.source.now) c.args.input.now.buffer.now [])
-      (body_state (g.S.ByteSource.state c.args.input.now.source.now) c.args.input.now.buffer.now body))
-      (sym c.requires.empty) (taken_nothing c.args.most _ c.args.input.now.buffer.now);
+      (body_state (input_of g.S.ByteSource.state c.args.input.now) [])
+      (body_state (input_of g.S.ByteSource.state c.args.input.now) body))
+      (sym c.requires.empty) (taken_nothing c.args.most (input_of g.S.ByteSource.state c.args.input.now));
   filled = omega arith;
   reads = λ _. omega arith;
   same = record { same_source = refl; same_buffer = refl };
@@ -25,13 +26,13 @@ loop-chunk-init g c = record {
 
 pub loop-chunk-preserved : goal.loop-chunk-preserved
 loop-chunk-preserved g c =
-    let h : TakesChunk (c.args.most - c.len.result) (body_state (g.S.ByteSource.state c.loop-chunk.input.source.now)
-    c.loop-chunk.input.buffer.now (g.B.BodyBuffer.bytes c.loop-chunk.body))
-    (body_state (g.S.ByteSource.state c.read_chunk.new.input.source.now) c.read_chunk.new.input.buffer.now
+    let h : TakesChunk (c.args.most - c.len.result) (body_state (input_of g.S.ByteSource.state c.loop-chunk.input)
+    (g.B.BodyBuffer.bytes c.loop-chunk.body))
+    (body_state (input_of g.S.ByteSource.state c.read_chunk.new.input)
     (g.B.BodyBuffer.bytes c.read_chunk.new.body)) =
-    subst (λ r. FindsChunk (c.args.most - c.len.result) (body_state (g.S.ByteSource.state c.loop-chunk.input.source.now)
-    c.loop-chunk.input.buffer.now (g.B.BodyBuffer.bytes c.loop-chunk.body))
-    (body_state (g.S.ByteSource.state c.read_chunk.new.input.source.now) c.read_chunk.new.input.buffer.now
+    subst (λ r. FindsChunk (c.args.most - c.len.result) (body_state (input_of g.S.ByteSource.state c.loop-chunk.input)
+    (g.B.BodyBuffer.bytes c.loop-chunk.body))
+    (body_state (input_of g.S.ByteSource.state c.read_chunk.new.input)
     (g.B.BodyBuffer.bytes c.read_chunk.new.body)) (Ok r))
     c.in-More.is c.in_ok-read_chunk.ensures.found in
     let taken = c.loop-chunk.invariant.taken in
@@ -42,8 +43,9 @@ loop-chunk-preserved g c =
     ap length h.joined ∙ length-append (g.B.BodyBuffer.bytes c.loop-chunk.body) h.chunk.data_bytes in
     record {
       taken =
-          taken_more c.args.most _ _ _ _ c.args.input.now.buffer.now c.loop-chunk.input.buffer.now
-          c.read_chunk.new.input.buffer.now (g.B.BodyBuffer.bytes c.loop-chunk.body)
+          taken_more c.args.most _ (input_of g.S.ByteSource.state c.args.input.now)
+          (input_of g.S.ByteSource.state c.loop-chunk.input)
+          (input_of g.S.ByteSource.state c.read_chunk.new.input) (g.B.BodyBuffer.bytes c.loop-chunk.body)
           (g.B.BodyBuffer.bytes c.read_chunk.new.body)
           (omega arith) taken h;
       filled = omega (arith, filled, some, grown);
@@ -61,25 +63,27 @@ loop-chunk-preserved g c =
 pub returns-in-Last-clause-found : goal.returns-in-Last-clause-found
 returns-in-Last-clause-found g c =
     let found =
-    subst (λ r. FindsChunk (c.args.most - c.len.result) (body_state (g.S.ByteSource.state c.loop-chunk.input.source.now)
-    c.loop-chunk.input.buffer.now (g.B.BodyBuffer.bytes c.loop-chunk.body))
-    (body_state (g.S.ByteSource.state c.read_chunk.new.input.source.now) c.read_chunk.new.input.buffer.now
+    subst (λ r. FindsChunk (c.args.most - c.len.result) (body_state (input_of g.S.ByteSource.state c.loop-chunk.input)
+    (g.B.BodyBuffer.bytes c.loop-chunk.body))
+    (body_state (input_of g.S.ByteSource.state c.read_chunk.new.input)
     (g.B.BodyBuffer.bytes c.read_chunk.new.body)) (Ok r))
     c.in-Last.is c.in_ok-read_chunk.ensures.found in
-    body_whole c.args.most _ _ _ c.args.input.now.buffer.now c.loop-chunk.input.buffer.now
-    c.read_chunk.new.input.buffer.now (g.B.BodyBuffer.bytes c.loop-chunk.body)
+    body_whole c.args.most (input_of g.S.ByteSource.state c.args.input.now)
+    (input_of g.S.ByteSource.state c.loop-chunk.input)
+    (input_of g.S.ByteSource.state c.read_chunk.new.input) (g.B.BodyBuffer.bytes c.loop-chunk.body)
     (g.B.BodyBuffer.bytes c.read_chunk.new.body)
     c.loop-chunk.invariant.taken found
 
 pub returns-in-Refused-clause-found : goal.returns-in-Refused-clause-found
 returns-in-Refused-clause-found g c =
     let found =
-    subst (λ r. FindsChunk (c.args.most - c.len.result) (body_state (g.S.ByteSource.state c.loop-chunk.input.source.now)
-    c.loop-chunk.input.buffer.now (g.B.BodyBuffer.bytes c.loop-chunk.body))
-    (body_state (g.S.ByteSource.state c.read_chunk.new.input.source.now) c.read_chunk.new.input.buffer.now
+    subst (λ r. FindsChunk (c.args.most - c.len.result) (body_state (input_of g.S.ByteSource.state c.loop-chunk.input)
+    (g.B.BodyBuffer.bytes c.loop-chunk.body))
+    (body_state (input_of g.S.ByteSource.state c.read_chunk.new.input)
     (g.B.BodyBuffer.bytes c.read_chunk.new.body)) (Ok r))
     c.in-Refused.is c.in_ok-read_chunk.ensures.found in
-    body_refused c.args.most _ _ _ _ c.args.input.now.buffer.now c.loop-chunk.input.buffer.now
+    body_refused c.args.most _ (input_of g.S.ByteSource.state c.args.input.now)
+    (input_of g.S.ByteSource.state c.loop-chunk.input) _
     (g.B.BodyBuffer.bytes c.loop-chunk.body) c.in-Refused.bad
     (omega arith) c.loop-chunk.invariant.taken found
 
@@ -87,7 +91,8 @@ pub returns-in_err-read_chunk-clause-found : goal.returns-in_err-read_chunk-clau
 returns-in_err-read_chunk-clause-found g c =
     let p = err_from_is_err_and c.from_residual.result c.from_residual.ensures.1 in
     rw (p.1, p.2)
-    (body_fault c.args.most _ _ _ _ c.args.input.now.buffer.now c.loop-chunk.input.buffer.now
-    c.read_chunk.new.input.buffer.now (g.B.BodyBuffer.bytes c.loop-chunk.body)
+    (body_fault c.args.most _ (input_of g.S.ByteSource.state c.args.input.now)
+    (input_of g.S.ByteSource.state c.loop-chunk.input)
+    (input_of g.S.ByteSource.state c.read_chunk.new.input) (g.B.BodyBuffer.bytes c.loop-chunk.body)
     (g.B.BodyBuffer.bytes c.read_chunk.new.body)
     c.in_err-read_chunk.field-0.0 (omega arith) c.loop-chunk.invariant.taken c.in_err-read_chunk.ensures.found)

@@ -1,6 +1,7 @@
 use Rattle.std.proofs.Common.{◌≡◌, ◌∙◌, sym, ap, arith, refl, ◌++◌, ◌∷◌, [], take, drop, inl, inr}
 use Rattle.std.proofs.lemmas.List.{take-append-drop}
 use Rattle.std.proofs.lemmas.Result.{err_from_is_err_and}
+use Rattle.http_wire.specs.Inputs.{input_of}
 use Rattle.http_wire.proofs.GaveLemmas.{gave_as, gave_both}
 use Rattle.http_wire.proofs.Bodies.LineReadLemmas.{front_kept, front_next, never_first, never_second, end_broken}
 use Rattle.http_wire.proofs.Bodies.LineReadLemmas.{end_cut}
@@ -10,7 +11,7 @@ pub returns-then-first-ne13-clause-found : goal.returns-then-first-ne13-clause-f
 returns-then-first-ne13-clause-found g c =
     let text = c.byte.new.self.buffer.now in
     let next = front_next text 0 c.in-Some.first (rw c.in-Some.is at c.in_ok-first.ensures.there) in
-    end_broken _ _ c.args.input.now.buffer.now text [] 0 c.in-Some.first c.byte.ensures.gave next (inl refl)
+    end_broken _ _ text [] 0 c.in-Some.first c.byte.ensures.gave next (inl refl)
     (never_first c.in-Some.first c.if-first-ne13.true)
 
 pub returns-in_default-2-clause-found : goal.returns-in_default-2-clause-found
@@ -21,10 +22,11 @@ returns-in_default-2-clause-found g c =
     let some = there.0 in
     let first : take 1 old ≡ 13 ∷ [] =
     front_next old 0 c.in-Some.first there ∙ ap (λ b. b ∷ []) c.if-first-ne13.false in
-    let kept = front_kept _ _ old text 1 c.byte-2.ensures.gave (omega (arith, some)) in
+    let kept = front_kept (input_of g.S.ByteSource.state c.byte.new.self) _ text 1 c.byte-2.ensures.gave
+    (omega (arith, some)) in
     let ended = rw c.in_default-2.is at c.in_ok-second.ensures.ended in (
-      end_cut _ _ c.args.input.now.buffer.now text (13 ∷ []) 1
-          (gave_both _ _ _ _ _ _ c.byte.ensures.gave c.byte-2.ensures.gave)
+      end_cut _ _ text (13 ∷ []) 1
+          (gave_both _ _ _ _ c.byte.ensures.gave c.byte-2.ensures.gave)
           ended.0 (kept ∙ first) (inr refl),
       ended.2,
     )
@@ -37,11 +39,12 @@ returns-in_err-second-clause-found g c =
     let some = there.0 in
     let first : take 1 old ≡ 13 ∷ [] =
     front_next old 0 c.in-Some.first there ∙ ap (λ b. b ∷ []) c.if-first-ne13.false in
-    let kept = front_kept _ _ old text 1 c.byte-2.ensures.gave (omega (arith, some)) in
+    let kept = front_kept (input_of g.S.ByteSource.state c.byte.new.self) _ text 1 c.byte-2.ensures.gave
+    (omega (arith, some)) in
     let p = err_from_is_err_and c.from_residual-in_err-second.result c.from_residual-in_err-second.ensures.1 in
     rw (p.1, p.2)
-    (end_cut _ _ c.args.input.now.buffer.now text (13 ∷ []) 1
-    (gave_both _ _ _ _ _ _ c.byte.ensures.gave c.byte-2.ensures.gave)
+    (end_cut _ _ text (13 ∷ []) 1
+    (gave_both _ _ _ _ c.byte.ensures.gave c.byte-2.ensures.gave)
     c.in_err-second.ensures.kept.0 (kept ∙ first) (inr refl))
 
 pub returns-then-second-ne10-clause-found : goal.returns-then-second-ne10-clause-found
@@ -52,12 +55,13 @@ returns-then-second-ne10-clause-found g c =
     let some = there.0 in
     let first : take 1 old ≡ 13 ∷ [] =
     front_next old 0 c.in-Some.first there ∙ ap (λ b. b ∷ []) c.if-first-ne13.false in
-    let kept = front_kept _ _ old text 1 c.byte-2.ensures.gave (omega (arith, some)) in
+    let kept = front_kept (input_of g.S.ByteSource.state c.byte.new.self) _ text 1 c.byte-2.ensures.gave
+    (omega (arith, some)) in
     let next : take 2 text ≡ (13 ∷ []) ++ c.in-Some-2.second ∷ [] =
     front_next text 1 c.in-Some-2.second (rw c.in-Some-2.is at c.in_ok-second.ensures.there)
     ∙ ap (λ t. t ++ c.in-Some-2.second ∷ []) (kept ∙ first) in
-    end_broken _ _ c.args.input.now.buffer.now text (13 ∷ []) 1 c.in-Some-2.second
-    (gave_both _ _ _ _ _ _ c.byte.ensures.gave c.byte-2.ensures.gave)
+    end_broken _ _ text (13 ∷ []) 1 c.in-Some-2.second
+    (gave_both _ _ _ _ c.byte.ensures.gave c.byte-2.ensures.gave)
     next (inr refl) (never_second c.in-Some-2.second c.if-second-ne10.true)
 
 pub returns-clause-found : goal.returns-clause-found
@@ -68,11 +72,12 @@ returns-clause-found g c =
     let some = there.0 in
     let first : take 1 old ≡ 13 ∷ [] =
     front_next old 0 c.in-Some.first there ∙ ap (λ b. b ∷ []) c.if-first-ne13.false in
-    let kept = front_kept _ _ old text 1 c.byte-2.ensures.gave (omega (arith, some)) in
+    let kept = front_kept (input_of g.S.ByteSource.state c.byte.new.self) _ text 1 c.byte-2.ensures.gave
+    (omega (arith, some)) in
     let next : take 2 text ≡ 13 ∷ 10 ∷ [] =
     front_next text 1 c.in-Some-2.second (rw c.in-Some-2.is at c.in_ok-second.ensures.there)
     ∙ ap (λ t. t ++ c.in-Some-2.second ∷ []) (kept ∙ first)
     ∙ ap (λ b. 13 ∷ b ∷ []) c.if-second-ne10.false in
     rw (c.take.ensures.unread, c.take.ensures.taken)
     (gave_as (ap (λ t. t ++ drop 2 text) (sym next) ∙ take-append-drop 2 text)
-    (gave_both _ _ _ _ _ _ c.byte.ensures.gave c.byte-2.ensures.gave))
+    (gave_both _ _ _ _ c.byte.ensures.gave c.byte-2.ensures.gave))

@@ -9,7 +9,7 @@ loop-at-init g c = record {
   within = omega arith;
   counted = refl;
   none = none_at_start g.G.Grammar.spans.words c.requires.lawful.ends;
-  gave = gave_none _ _;
+  gave = gave_none _;
   reads = λ _. omega arith;
   same = record { same_source = refl; same_buffer = refl };
   unfailed = refl;
@@ -17,7 +17,7 @@ loop-at-init g c = record {
 
 pub returns-in-Complete-clause-gave : goal.returns-in-Complete-clause-gave
 returns-in-Complete-clause-gave g c =
-    gave_both _ _ _ _ _ _ c.loop-at.invariant.gave c.byte.ensures.gave
+    gave_both _ _ _ _ c.loop-at.invariant.gave c.byte.ensures.gave
 
 pub returns-clause-found : goal.returns-clause-found
 returns-clause-found g c =
@@ -27,4 +27,4 @@ returns-clause-found g c =
 
 pub returns-in-Refused-clause-gave : goal.returns-in-Refused-clause-gave
 returns-in-Refused-clause-gave g c =
-    gave_both _ _ _ _ _ _ c.loop-at.invariant.gave c.byte.ensures.gave
+    gave_both _ _ _ _ c.loop-at.invariant.gave c.byte.ensures.gave

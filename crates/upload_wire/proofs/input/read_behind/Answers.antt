@@ -1,5 +1,7 @@
 use Rattle.std.proofs.Common.{subst, take}
 use Rattle.std.specs.Prelude.{Ok, Err}
+use Rattle.http_wire.specs.States.{input_state}
+use Rattle.http_wire.specs.Inputs.{input_of}
 use Rattle.upload_wire.specs.Inner.RequestReading.{Describes, FindsRequest}
 use Rattle.upload_wire.proofs.RequestLemmas.{bad_framing_next, request_next}
 use Rattle.upload_wire.proofs.input.read_behind.Goals as goal
@@ -12,11 +14,11 @@ returns-in-Ok-clause-found g c =
     subst (λ t. Describes c.args.max_body (take p.spans.len t) p (Ok (Ok c.in-Ok.described))) c.unread.ensures
     (subst (λ r. Describes c.args.max_body (take p.spans.len c.unread.result.now) p (Ok r)) c.in-Ok.is
     c.in_ok-described.ensures.found) in
-    let found = subst (λ t. FindsRequest c.in-Ok.described (g.S.ByteSource.state c.args.input.now.source.now) t
-    (g.S.ByteSource.state c.read_request.new.input.source.now) c.read_request.new.input.buffer.now
-    c.read_request.result) c.take.ensures.taken (rw c.take.ensures.unread at c.read_request.ensures.found) in
-    request_next c.args.max_body _ _ text c.read_request.new.input.buffer.now p c.in-Ok.described c.read_request.result
-    c.requires.head says found
+    let source = g.S.ByteSource.state c.args.input.now.source.now in
+    let left = input_of g.S.ByteSource.state c.read_request.new.input in
+    let found = subst (λ t. FindsRequest c.in-Ok.described (input_state t source) left c.read_request.result)
+    c.take.ensures.taken (rw c.take.ensures.unread at c.read_request.ensures.found) in
+    request_next c.args.max_body source text left p c.in-Ok.described c.read_request.result c.requires.head says found
 
 pub returns-in-Err-clause-found : goal.returns-in-Err-clause-found
 returns-in-Err-clause-found g c =
@@ -25,4 +27,5 @@ returns-in-Err-clause-found g c =
     let refused = subst (λ t. Describes c.args.max_body (take p.spans.len t) p (Ok (Err c.in-Err.bad))) c.unread.ensures
     (subst (λ r. Describes c.args.max_body (take p.spans.len c.unread.result.now) p (Ok r)) c.in-Err.is
     c.in_ok-described.ensures.found) in
-    bad_framing_next c.args.max_body _ text text p c.in-Err.bad c.requires.head refused
+    bad_framing_next c.args.max_body (input_of g.S.ByteSource.state c.args.input.now) p c.in-Err.bad c.requires.head
+    refused

@@ -2,6 +2,7 @@ use Rattle.std.proofs.Common.{◌∙◌, ap, refl, subst}
 use Rattle.std.proofs.lemmas.Result.{err_from_is_err_and}
 use Rattle.std.specs.Prelude.{Ok}
 use Rattle.upload_wire.specs.Target.{with_body}
+use Rattle.http_wire.specs.Inputs.{input_of}
 use Rattle.http_wire.specs.Inner.BodyFinding.{FindsBody}
 use Rattle.upload_wire.proofs.RequestLemmas.{body_fault}
 use Rattle.upload_wire.proofs.request.read_request.Goals as goal
@@ -11,8 +12,8 @@ returns-in-Whole-clause-found g c = record {
   body = c.read_body.new.body.body;
   taken =
       subst (λ r.
-      FindsBody c.args.described.framing (g.S.ByteSource.state c.args.input.now.source.now) c.args.input.now.buffer.now
-      (g.S.ByteSource.state c.read_body.new.input.source.now) c.read_body.new.input.buffer.now c.read_body.new.body.body
+      FindsBody c.args.described.framing (input_of g.S.ByteSource.state c.args.input.now)
+      (input_of g.S.ByteSource.state c.read_body.new.input) c.read_body.new.body.body
       (Ok r)) c.in-Whole.is c.in_ok-read_body.ensures.found;
   asked = c.with_body.ensures ∙ ap (with_body c.args.described.ask) c.finish.ensures;
   styled = refl;
@@ -21,13 +22,14 @@ returns-in-Whole-clause-found g c = record {
 pub returns-in-Refused-clause-found : goal.returns-in-Refused-clause-found
 returns-in-Refused-clause-found g c =
     subst (λ r.
-    FindsBody c.args.described.framing (g.S.ByteSource.state c.args.input.now.source.now) c.args.input.now.buffer.now
-    (g.S.ByteSource.state c.read_body.new.input.source.now) c.read_body.new.input.buffer.now c.read_body.new.body.body
+    FindsBody c.args.described.framing (input_of g.S.ByteSource.state c.args.input.now)
+    (input_of g.S.ByteSource.state c.read_body.new.input) c.read_body.new.body.body
     (Ok r)) c.in-Refused.is c.in_ok-read_body.ensures.found
 
 pub returns-in_err-read_body-clause-found : goal.returns-in_err-read_body-clause-found
 returns-in_err-read_body-clause-found g c =
     let e = err_from_is_err_and c.from_residual.result c.from_residual.ensures.1 in
     rw (e.1, e.2)
-    (body_fault c.args.described _ _ c.args.input.now.buffer.now c.read_body.new.input.buffer.now
-    c.read_body.new.body.body c.in_err-read_body.field-0.0 c.in_err-read_body.ensures.found)
+    (body_fault c.args.described (input_of g.S.ByteSource.state c.args.input.now)
+    (input_of g.S.ByteSource.state c.read_body.new.input) c.read_body.new.body.body c.in_err-read_body.field-0.0
+    c.in_err-read_body.ensures.found)

@@ -5,11 +5,11 @@ use Rattle.http_wire.proofs.Bodies.ResponseBodyLemmas.{long_body, end_found, end
 use Rattle.http_wire.proofs.responses.body.read_to_end.Goals as goal
 
 pub returns-in-Ok-clause-found : goal.returns-in-Ok-clause-found
-returns-in-Ok-clause-found g c = long_body _ _ _ _ _ _ c.args.most c.in-Ok.ensures.found
+returns-in-Ok-clause-found g c = long_body _ _ _ _ c.args.most c.in-Ok.ensures.found
 
 pub returns-in-Err-clause-found : goal.returns-in-Err-clause-found
 returns-in-Err-clause-found g c =
-    rw c.end_of.ensures (end_found _ _ _ _ _ _ c.args.most c.in-Err.fault c.requires.empty c.in-Err.ensures.found)
+    rw c.end_of.ensures (end_found _ _ _ _ c.args.most c.in-Err.fault c.requires.empty c.in-Err.ensures.found)
 
 pub returns-in-Err-clause-costs : goal.returns-in-Err-clause-costs
 returns-in-Err-clause-costs g c = record {

@@ -1,6 +1,7 @@
 use Rattle.std.proofs.Common.{◌≡◌, ◌+◌, ◌∙◌, ap, subst}
 use Rattle.std.specs.Prelude.{Ok}
 use Rattle.upload_wire.specs.Inner.ConversationSteps.{IsRepliedTo}
+use Rattle.http_wire.specs.States.{input_state}
 use Rattle.http_wire.specs.HeadText.{status_number}
 use Rattle.upload_wire.specs.Events.{Replied}
 use Rattle.upload_wire.specs.Inner.ToldSteps.{ReadsTold, listening}
@@ -18,8 +19,9 @@ returns-in-Some-clause-goes_on g c =
     c.in-Ok-Request.style
     c.args.desk.now c.ask.new.self (g.W.ByteSink.state c.args.writer.now) c.args.observer.now c.read_next.new.observer
     (subst (λ n. ReadsTold g.O.Observer.told c.args.self.now.max_body
-    (listening c.args.self.now.held (g.S.ByteSource.state c.args.reader.now) c.args.observer.now)
-    (listening c.read_next.new.self.held (g.S.ByteSource.state c.read_next.new.reader) c.read_next.new.observer) (Ok n))
+    (listening (input_state c.args.self.now.held (g.S.ByteSource.state c.args.reader.now)) c.args.observer.now)
+    (listening (input_state c.read_next.new.self.held (g.S.ByteSource.state c.read_next.new.reader))
+    c.read_next.new.observer) (Ok n))
     c.in-Ok-Request.field-0-is c.in-Ok-Request.ensures.told)
     (c.in-Ok-Request.ensures.costs.unfailed (ok_not_err c.in-Ok-Request.field-0 Read))
     c.in-Some.answer (g.W.ByteSink.state c.reply-end.new.writer) c.tell_reply.new.observer c.tell_reply.ensures
@@ -41,8 +43,9 @@ returns-in-Some-clause-stops g c =
     c.in-Ok-Request.style
     c.args.desk.now c.ask.new.self (g.W.ByteSink.state c.args.writer.now) c.args.observer.now c.read_next.new.observer
     (subst (λ n. ReadsTold g.O.Observer.told c.args.self.now.max_body
-    (listening c.args.self.now.held (g.S.ByteSource.state c.args.reader.now) c.args.observer.now)
-    (listening c.read_next.new.self.held (g.S.ByteSource.state c.read_next.new.reader) c.read_next.new.observer) (Ok n))
+    (listening (input_state c.args.self.now.held (g.S.ByteSource.state c.args.reader.now)) c.args.observer.now)
+    (listening (input_state c.read_next.new.self.held (g.S.ByteSource.state c.read_next.new.reader))
+    c.read_next.new.observer) (Ok n))
     c.in-Ok-Request.field-0-is c.in-Ok-Request.ensures.told)
     (c.in-Ok-Request.ensures.costs.unfailed (ok_not_err c.in-Ok-Request.field-0 Read))
     c.in-Some.answer (g.W.ByteSink.state c.reply-end.new.writer) c.tell_reply.new.observer c.tell_reply.ensures
@@ -60,8 +63,9 @@ returns-in-None-clause-stops g c =
     c.in-Ok-Request.style
     c.args.desk.now c.ask.new.self (g.W.ByteSink.state c.args.writer.now) c.args.observer.now c.read_next.new.observer
     (subst (λ n. ReadsTold g.O.Observer.told c.args.self.now.max_body
-    (listening c.args.self.now.held (g.S.ByteSource.state c.args.reader.now) c.args.observer.now)
-    (listening c.read_next.new.self.held (g.S.ByteSource.state c.read_next.new.reader) c.read_next.new.observer) (Ok n))
+    (listening (input_state c.args.self.now.held (g.S.ByteSource.state c.args.reader.now)) c.args.observer.now)
+    (listening (input_state c.read_next.new.self.held (g.S.ByteSource.state c.read_next.new.reader))
+    c.read_next.new.observer) (Ok n))
     c.in-Ok-Request.field-0-is c.in-Ok-Request.ensures.told)
     (c.in-Ok-Request.ensures.costs.unfailed (ok_not_err c.in-Ok-Request.field-0 Read))
     c.read_next.new.self.held c.read_next.new.self.answered c.in-None.ensures
@@ -74,8 +78,9 @@ returns-in-Ok-Bad-clause-stops g c =
     c.args.desk.now (g.W.ByteSink.state c.args.writer.now) c.args.observer.now c.read_next.new.observer
     c.in-Ok-Bad.why
     (subst (λ n. ReadsTold g.O.Observer.told c.args.self.now.max_body
-    (listening c.args.self.now.held (g.S.ByteSource.state c.args.reader.now) c.args.observer.now)
-    (listening c.read_next.new.self.held (g.S.ByteSource.state c.read_next.new.reader) c.read_next.new.observer) (Ok n))
+    (listening (input_state c.args.self.now.held (g.S.ByteSource.state c.args.reader.now)) c.args.observer.now)
+    (listening (input_state c.read_next.new.self.held (g.S.ByteSource.state c.read_next.new.reader))
+    c.read_next.new.observer) (Ok n))
     c.in-Ok-Bad.field-0-is c.in-Ok-Bad.ensures.told)
     (c.in-Ok-Bad.ensures.costs.unfailed (ok_not_err c.in-Ok-Bad.field-0 Read))
     (g.W.ByteSink.state c.refuse-end.new.writer) c.replied.new.self

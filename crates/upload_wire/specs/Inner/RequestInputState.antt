@@ -2,6 +2,6 @@
 use Rattle.std.specs.Prelude.{ℕ, List}
 
 -- the limit of a body, and the bytes that were read and not taken
-pub record InputState : Type 0 where
+pub record RequestInputState : Type 0 where
   pub max_body : ℕ
   pub held : List ℕ
