@@ -5,7 +5,7 @@ use Rattle.upload_service.specs.Machine.{empty_state}
 use Rattle.upload_service.specs.Run.{Run}
 use Rattle.upload_service.specs.Headline.{Headline}
 use Rattle.http_wire.specs.States.{SourceState, SinkState}
-use Rattle.upload_wire.specs.Conversation.{IsConversation}
+use Rattle.upload_wire.specs.Conversation.{connection, IsConversation}
 use Rattle.upload_wire.specs.ConnectionRuns.{answered, service_exchanges}
 use Rattle.upload_wire.specs.ServiceTurns.{StepsService}
 use Rattle.upload_wire.specs.declared.connection.ConnEnd.{ConnEnd}
@@ -35,13 +35,16 @@ status_of (Fault fault) = 3
 pub record IsOnce (first left : SourceState) (before after : SinkState) (status : ℕ) : Type 0 where
   pub end : ConnEnd
   pub desk : ServiceDesk
-  pub conversation : IsConversation StepsService program_limits.max_body first left first_desk desk before after end
+  pub conversation : IsConversation StepsService program_limits.max_body (connection first first_desk before)
+      (connection left desk after) end
   pub run : Run first_desk.service
       (service_exchanges first_desk
-      (answered StepsService program_limits.max_body first left first_desk desk before after end conversation))
+      (answered StepsService program_limits.max_body (connection first first_desk before)
+      (connection left desk after) end conversation))
       desk.service
   pub headline : Headline first_desk.service
       (service_exchanges first_desk
-      (answered StepsService program_limits.max_body first left first_desk desk before after end conversation))
+      (answered StepsService program_limits.max_body (connection first first_desk before)
+      (connection left desk after) end conversation))
       desk.service
   pub is_status : status ≡ status_of end

@@ -2,7 +2,7 @@
 //! answer. Behind the replies the program prints how the connection ended, and the count.
 #![tactic(auto)]
 
-ghost use Rattle.upload_wire.specs.Conversation.{IsConversation};
+ghost use Rattle.upload_wire.specs.Conversation.{IsConversation, connection};
 ghost use Rattle.embed_connection.specs.Counting.{StepsAndCounts};
 
 use http_wire::{ByteSink, ByteSource, FromRead, ToWrite};
@@ -42,8 +42,9 @@ fn serve<R: ByteSource, W: ByteSink>(
     writer: &mut W,
     desk: &mut CountingDesk,
 ) -> ConnEnd
-    ensures { IsConversation StepsAndCounts 1048576 (R.state reader.old) (R.state reader.new)
-        desk.old desk.new (W.state writer.old) (W.state writer.new) result }
+    ensures { IsConversation StepsAndCounts 1048576
+        (connection (R.state reader.old) desk.old (W.state writer.old))
+        (connection (R.state reader.new) desk.new (W.state writer.new)) result }
 {
     serve_connection(alloc, reader, writer, desk, LIMITS)
 }

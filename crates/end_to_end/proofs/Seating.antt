@@ -9,8 +9,7 @@ use Rattle.std.proofs.lemmas.List.{map-append}
 use Rattle.upload_service.specs.Machine.{State, AreLawful, IsLawful, Turn}
 use Rattle.upload_service.specs.declared.ask.Ask.{Ask}
 use Rattle.upload_service.specs.declared.answer.Answer.{Answer}
-use Rattle.http_wire.specs.States.{SourceState, SinkState}
-use Rattle.upload_wire.specs.Conversation.{Moves, WireExchange, EndsWith, stand}
+use Rattle.upload_wire.specs.Conversation.{Moves, WireExchange, ConnectionState, Standing, stand, EndsWith}
 use Rattle.upload_wire.specs.ConnectionRuns.{unanswered_last}
 use Rattle.upload_wire.specs.declared.connection.ConnEnd.{ConnEnd}
 use Rattle.upload_wire.specs.declared.connection.ConnEnd.TheVariants.{Clean, AfterClose, AfterBad, TooMany, DeskGone}
@@ -22,7 +21,7 @@ use Rattle.upload_intake.specs.Seats.{SeatState}
 use Rattle.upload_intake.specs.Pools.ServedPool.{of_seat, asked_and_answered, read_and_replied, asks}
 use Rattle.upload_intake.specs.Transcripts.{GivesUnused}
 use Rattle.upload_intake.specs.Pools.Working.{Lending, Means, Talk, Serves, IsLast, steps, answered_on, unanswered_on}
-use Rattle.upload_intake.specs.Pools.Working.{all_answered, all_unanswered}
+use Rattle.upload_intake.specs.Pools.Working.{connection_given, connection_left, all_answered, all_unanswered}
 use Rattle.upload_intake.proofs.Working.{behind}
 use Rattle.upload_push.specs.Runs.{IsHeardOf}
 use Rattle.upload_push.specs.Slices.{Push, IsSound, IsSoundAsk}
@@ -264,10 +263,9 @@ all_audible max host xs (y ∷ ys) may none is = (
 
 -- ---- a worker's conversations
 
-module _ {D : Type 0} (step : Moves D) (max count : ℕ) (at new : D) (rest : List ℕ) (left : SourceState)
-    (mid after : SinkState) where
-  all_heard : (end : ConnEnd) (e : EndsWith step max (stand count rest left at mid) new after end)
-      → (end ≡ DeskGone → ⊥) → unanswered_last step max (stand count rest left at mid) new after end e ≡ []
+module _ {D : Type 0} (step : Moves D) (max : ℕ) (s : Standing D) (new : ConnectionState D) where
+  all_heard : (end : ConnEnd) (e : EndsWith step max s new end) → (end ≡ DeskGone → ⊥)
+      → unanswered_last step max s new end e ≡ []
   all_heard Clean e there = refl
   all_heard AfterClose e there = refl
   all_heard AfterBad e there = refl
@@ -296,8 +294,9 @@ module _ {L : Lending} {S G O : Type 0} (m : Means L S G O) (max : ℕ) where
       ∙ ap (λ l. items (ans ++ []) l) (sym (append-nil una))))
       (λ (x : (t.end ≡ DeskGone → ⊥) × Serves m max s.1 t.new ts left new).
       let none : una ≡ [] =
-      all_heard (steps m max) max (length t.conversation.exchanges) t.conversation.at t.new t.conversation.rest
-      (L.reads t.reader_left) t.conversation.mid (L.writes t.writer_left) t.end t.conversation.ended x.0 in
+      all_heard (steps m max) max
+      (stand (length t.conversation.exchanges) t.conversation.rest t.conversation.at t.conversation.mid)
+      (connection_left m max t) t.end t.conversation.ended x.0 in
       ap (λ l. items ans l ++ flat_map items_on ts) none
       ∙ ap (λ l. l ++ flat_map items_on ts) (append-nil (map answered_item ans))
       ∙ ap (λ l. map answered_item ans ++ l) (items_are s.1 left t.new new ts x.1)
@@ -334,8 +333,8 @@ module _ {L : Lending} {S G O : Type 0} (m : Means L S G O) (max : ℕ) where
         all_both (λ x. IsNoGet x.ask) c.before c.asks is.no_gets
         (no_gets p c.asks (own_asks p log c.asks sound is.own)) in
         joined_fit all (marks_asked c) (answered_on m max t) (unanswered_on m max t) (all_marked c.before c.asks)
-        (connections_joined (steps m max) max (L.reads t.reader) (L.reads t.reader_left) t.old t.new (L.writes t.writer)
-        (L.writes t.writer_left) t.end t.conversation all
+        (connections_joined (steps m max) max (connection_given m max t) (connection_left m max t) t.end t.conversation
+        all
         (record {
           given = new.0;
           taken = new.1;

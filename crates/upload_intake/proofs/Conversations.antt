@@ -1,6 +1,6 @@
 -- What each move of a desk keeps, a whole conversation keeps.
 use Rattle.std.proofs.Common.{◌≡◌, ℕ, List, [], ◌∷◌, Option, Some, None, Result, Ok, Err, sym, refl, ap, ◌∙◌, subst}
-use Rattle.std.proofs.Common.{⊎_elim}
+use Rattle.std.proofs.Common.{length, ⊎_elim}
 use Rattle.upload_service.specs.declared.ask.Ask.{Ask}
 use Rattle.upload_service.specs.declared.answer.Answer.{Answer}
 use Rattle.upload_intake.specs.declared.gone.Gone.{Gone}
@@ -15,8 +15,8 @@ use Rattle.upload_wire.specs.declared.connection.ConnEnd.{ConnEnd}
 use Rattle.upload_wire.specs.declared.connection.ConnEnd.TheVariants.{Clean, AfterClose, AfterBad, TooMany, DeskGone}
 use Rattle.upload_wire.specs.declared.connection.ConnEnd.TheVariants.{Fault}
 use Rattle.upload_wire.specs.declared.connection.ConnFault.TheVariants as Conn
-use Rattle.http_wire.specs.States.{SourceState, SinkState}
-use Rattle.upload_wire.specs.Conversation.{Moves, WireExchange, Answers, EndsWith, IsConversation, stand}
+use Rattle.upload_wire.specs.Conversation.{Moves, WireExchange, Answers, ConnectionState, Standing, stand, EndsWith}
+use Rattle.upload_wire.specs.Conversation.{IsConversation}
 
 module _ {D : Type 0} (step : Moves D) (Keeps : D → D → Type 0) (same : (d : D) → Keeps d d)
     (joined : (a b c : D) → Keeps a b → Keeps b c → Keeps a c)
@@ -28,22 +28,23 @@ module _ {D : Type 0} (step : Moves D) (Keeps : D → D → Type 0) (same : (d :
   by_answers [] old at e = unmoved old at (sym e)
   by_answers (x ∷ xs) old at a = joined old a.0 at (each old x.ask (Some x.answer) a.0 a.1) (by_answers xs a.0 at a.2)
 
-  by_end : (max_body count : ℕ) (at new : D) (rest : List ℕ) (left : SourceState) (mid after : SinkState)
-      (end : ConnEnd) → EndsWith step max_body (stand count rest left at mid) new after end → Keeps at new
-  by_end max_body count at new rest left mid after Clean e = unmoved at new e.2.unasked
-  by_end max_body count at new rest left mid after AfterClose e = each at e.0.ask (Some e.0.answer) new e.1.answered
-  by_end max_body count at new rest left mid after AfterBad e = unmoved at new e.1.unasked
-  by_end max_body count at new rest left mid after TooMany e = each at e.0.ask (Some e.0.answer) new e.1.answered
-  by_end max_body count at new rest left mid after DeskGone e = each at e.0.ask None new e.0.gone
-  by_end max_body count at new rest left mid after (Fault (Conn.Wire fault)) e = unmoved at new e.1.unasked
-  by_end max_body count at new rest left mid after (Fault Conn.Write) e =
-      ⊎_elim (λ s. each at s.0.ask (Some s.0.answer) new s.1.answered) (λ s. unmoved at new s.1.unasked) e
+  by_end : (max_body : ℕ) (s : Standing D) (new : ConnectionState D) (end : ConnEnd)
+      → EndsWith step max_body s new end → Keeps s.desk new.desk
+  by_end max_body s new Clean e = unmoved s.desk new.desk e.2.unasked
+  by_end max_body s new AfterClose e = each s.desk e.0.ask (Some e.0.answer) new.desk e.1.answered
+  by_end max_body s new AfterBad e = unmoved s.desk new.desk e.1.unasked
+  by_end max_body s new TooMany e = each s.desk e.0.ask (Some e.0.answer) new.desk e.1.answered
+  by_end max_body s new DeskGone e = each s.desk e.0.ask None new.desk e.0.gone
+  by_end max_body s new (Fault (Conn.Wire fault)) e = unmoved s.desk new.desk e.1.unasked
+  by_end max_body s new (Fault Conn.Write) e =
+      ⊎_elim (λ h. each s.desk h.0.ask (Some h.0.answer) new.desk h.1.answered)
+      (λ h. unmoved s.desk new.desk h.1.unasked) e
 
-  pub kept_by : (max_body : ℕ) (first left : SourceState) (old new : D) (before after : SinkState) (end : ConnEnd)
-      → IsConversation step max_body first left old new before after end → Keeps old new
-  kept_by max_body first left old new before after end c =
-      joined old c.at new (by_answers c.exchanges old c.at c.served.answered)
-      (by_end max_body _ c.at new c.rest left c.mid after end c.ended)
+  pub kept_by : (max_body : ℕ) (old new : ConnectionState D) (end : ConnEnd)
+      → IsConversation step max_body old new end → Keeps old.desk new.desk
+  kept_by max_body old new end c =
+      joined old.desk c.at new.desk (by_answers c.exchanges old.desk c.at c.served.answered)
+      (by_end max_body (stand (length c.exchanges) c.rest c.at c.mid) new end c.ended)
 
 -- a call of a seat leaves its lines and its number
 asks_same : (old : SeatState) (ask : Ask) (secret : List ℕ) (result : Result Answer Gone) (new : SeatState)
@@ -78,14 +79,14 @@ GatedSteps draws watches a ask answer b =
 
 -- it has the same seat behind a conversation
 pub gated_same : {R S G : Type 0} (draws : S → List ℕ → S → Type 0) (watches : Watching G) (max_body : ℕ)
-    (first left : SourceState) (old new : GatedDesk R S G) (before after : SinkState) (end : ConnEnd)
-    → IsConversation (GatedSteps {R = R} draws watches) max_body first left old new before after end
-    → IsSameSeat (seat_of old.desk) (seat_of new.desk)
-gated_same {R} {S} {G} draws watches max_body first left old new before after end c =
+    (old new : ConnectionState (GatedDesk R S G)) (end : ConnEnd)
+    → IsConversation (GatedSteps {R = R} draws watches) max_body old new end
+    → IsSameSeat (seat_of old.desk.desk) (seat_of new.desk.desk)
+gated_same {R} {S} {G} draws watches max_body old new end c =
     kept_by {D = GatedDesk R S G} (GatedSteps {R = R} draws watches)
     (λ a b. IsSameSeat (seat_of a.desk) (seat_of b.desk))
     (λ d. same_seat (seat_of d.desk))
     (λ x y z p q. same_seat_twice (seat_of x.desk) (seat_of y.desk) (seat_of z.desk) p q)
     (λ a ask answer b m. drawn_same draws (seat_of a.desk, secrets_of a.desk) ask answer
     (seat_of b.desk, secrets_of b.desk) m.0)
-    max_body first left old new before after end c
+    max_body old new end c

@@ -10,8 +10,8 @@ use Rattle.upload_intake.specs.Seats.{SeatState, Asks}
 use Rattle.upload_intake.specs.SeatConversations.{asks_of, answers_of, asks_in, Adds, SeatSteps}
 use Rattle.upload_intake.specs.SeatConversations.{ConversationsFillTheSeat}
 use Rattle.upload_wire.specs.ConnectionRuns.{answered_last, unanswered_last, answered, unanswered}
-use Rattle.http_wire.specs.States.{SourceState, SinkState}
-use Rattle.upload_wire.specs.Conversation.{Moves, WireExchange, Answers, EndsWith, IsConversation, stand}
+use Rattle.upload_wire.specs.Conversation.{Moves, WireExchange, Answers, ConnectionState, Standing, stand, EndsWith}
+use Rattle.upload_wire.specs.Conversation.{IsConversation}
 use Rattle.upload_wire.specs.declared.connection.ConnEnd.{ConnEnd}
 use Rattle.upload_wire.specs.declared.connection.ConnEnd.TheVariants.{Clean, AfterClose, AfterBad, TooMany, DeskGone}
 use Rattle.upload_wire.specs.declared.connection.ConnEnd.TheVariants.{Fault}
@@ -88,33 +88,34 @@ module _ {D S : Type 0} (draws : S → List ℕ → S → Type 0) (seat : D → 
       adds_twice (seat old) (seat a.0) (seat at) (x ∷ []) xs [] (adds_one (seat old) (seat a.0) x a.1.0 a.1.2)
       (by_answers xs a.0 at a.2)
 
-  by_end : (max_body count : ℕ) (at new : D) (rest : List ℕ) (left : SourceState) (mid after : SinkState)
-      (end : ConnEnd) (e : EndsWith steps max_body (stand count rest left at mid) new after end)
-      → Adds (seat at) (seat new) (answered_last steps max_body (stand count rest left at mid) new after end e)
-      (unanswered_last steps max_body (stand count rest left at mid) new after end e)
-  by_end max_body count at new rest left mid after Clean e = adds_none (seat at) (seat new) (ap seat e.2.unasked)
-  by_end max_body count at new rest left mid after AfterClose e =
-      adds_one (seat at) (seat new) e.0 e.1.answered.0 e.1.answered.2
-  by_end max_body count at new rest left mid after AfterBad e = adds_none (seat at) (seat new) (ap seat e.1.unasked)
-  by_end max_body count at new rest left mid after TooMany e =
-      adds_one (seat at) (seat new) e.0 e.1.answered.0 e.1.answered.2
-  by_end max_body count at new rest left mid after DeskGone e =
-      adds_gone (seat at) (seat new) e.0.ask e.0.gone.0 e.0.gone.1 e.0.gone.3
-  by_end max_body count at new rest left mid after (Fault (Conn.Wire fault)) e =
-      adds_none (seat at) (seat new) (ap seat e.1.unasked)
-  by_end max_body count at new rest left mid after (Fault Conn.Write) e =
-      elim e as (λ e. Adds (seat at) (seat new) (⊎_elim (λ s. s.0 ∷ []) (λ s. []) e) []) [
-        | inl s ↦ adds_one (seat at) (seat new) s.0 s.1.answered.0 s.1.answered.2
-        | inr s ↦ adds_none (seat at) (seat new) (ap seat s.1.unasked)
+  by_end : (max_body : ℕ) (s : Standing D) (new : ConnectionState D) (end : ConnEnd)
+      (e : EndsWith steps max_body s new end)
+      → Adds (seat s.desk) (seat new.desk) (answered_last steps max_body s new end e)
+      (unanswered_last steps max_body s new end e)
+  by_end max_body s new Clean e = adds_none (seat s.desk) (seat new.desk) (ap seat e.2.unasked)
+  by_end max_body s new AfterClose e =
+      adds_one (seat s.desk) (seat new.desk) e.0 e.1.answered.0 e.1.answered.2
+  by_end max_body s new AfterBad e = adds_none (seat s.desk) (seat new.desk) (ap seat e.1.unasked)
+  by_end max_body s new TooMany e =
+      adds_one (seat s.desk) (seat new.desk) e.0 e.1.answered.0 e.1.answered.2
+  by_end max_body s new DeskGone e =
+      adds_gone (seat s.desk) (seat new.desk) e.0.ask e.0.gone.0 e.0.gone.1 e.0.gone.3
+  by_end max_body s new (Fault (Conn.Wire fault)) e =
+      adds_none (seat s.desk) (seat new.desk) (ap seat e.1.unasked)
+  by_end max_body s new (Fault Conn.Write) e =
+      elim e as (λ e. Adds (seat s.desk) (seat new.desk) (⊎_elim (λ h. h.0 ∷ []) (λ h. []) e) []) [
+        | inl h ↦ adds_one (seat s.desk) (seat new.desk) h.0 h.1.answered.0 h.1.answered.2
+        | inr h ↦ adds_none (seat s.desk) (seat new.desk) (ap seat h.1.unasked)
       ]
 
-  pub fills : (max_body : ℕ) (first left : SourceState) (old new : D) (before after : SinkState)
-      (end : ConnEnd) (c : IsConversation steps max_body first left old new before after end)
-      → Adds (seat old) (seat new) (answered steps max_body first left old new before after end c)
-      (unanswered steps max_body first left old new before after end c)
-  fills max_body first left old new before after end c =
-      adds_twice (seat old) (seat c.at) (seat new) c.exchanges _ _ (by_answers c.exchanges old c.at c.served.answered)
-      (by_end max_body (length c.exchanges) c.at new c.rest left c.mid after end c.ended)
+  pub fills : (max_body : ℕ) (old new : ConnectionState D) (end : ConnEnd)
+      (c : IsConversation steps max_body old new end)
+      → Adds (seat old.desk) (seat new.desk) (answered steps max_body old new end c)
+      (unanswered steps max_body old new end c)
+  fills max_body old new end c =
+      adds_twice (seat old.desk) (seat c.at) (seat new.desk) c.exchanges _ _
+      (by_answers c.exchanges old.desk c.at c.served.answered)
+      (by_end max_body (stand (length c.exchanges) c.rest c.at c.mid) new end c.ended)
 
 pub conversations_fill : {S : Type 0} (draws : S → List ℕ → S → Type 0) → ConversationsFillTheSeat draws
 conversations_fill {S} draws = fills {D = SeatState × S} {S = S} draws (λ d. d.0) (λ d. d.1)

@@ -3,7 +3,8 @@ use Rattle.std.proofs.Common.{◌≡◌, ℕ, List, [], ◌∷◌, ◌++◌, sym
 use Rattle.std.specs.Prelude.{Some}
 use Rattle.std.specs.List.{AllByRecursion}
 use Rattle.upload_intake.specs.Seats.{SeatState}
-use Rattle.upload_intake.specs.Pools.Working.{Lending, Means, Talk, Serves, IsLast, steps}
+use Rattle.upload_intake.specs.Pools.Working.{Lending, Means, Talk, connection_given, connection_left, Serves, IsLast}
+use Rattle.upload_intake.specs.Pools.Working.{steps}
 use Rattle.upload_intake.specs.Transcripts.{GivesUnused, TellsAll, TranscriptsTellConnections}
 use Rattle.upload_intake.proofs.Working.{behind}
 use Rattle.upload_wire.specs.declared.connection.ConnEnd.TheVariants.{DeskGone}
@@ -17,8 +18,8 @@ module _ {L : Lending} {S G O : Type 0} (m : Means L S G O) (max_body : ℕ) (un
       → TellsAll m max_body t
   one_told conns mid t given =
       let whole =
-      conversations_told (steps m max_body) max_body (L.reads t.reader) (L.reads t.reader_left) t.old t.new
-      (L.writes t.writer) (L.writes t.writer_left) t.end t.conversation in
+      conversations_told (steps m max_body) max_body (connection_given m max_body t) (connection_left m max_body t)
+      t.end t.conversation in
       let empty = unused conns mid t.reader t.writer given in
       record { read = whole_of _ _ _ whole.read empty.0; written = whole_of _ _ _ whole.written empty.1 }
 

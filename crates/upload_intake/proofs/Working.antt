@@ -13,15 +13,16 @@ use Rattle.upload_intake.specs.declared.work.WorkerEnd.{WorkerEnd}
 use Rattle.upload_intake.specs.Pools.Settled.{count_limit}
 use Rattle.upload_intake.specs.SeatConversations.{Adds}
 use Rattle.upload_intake.specs.Pools.Working.{Lending, Means, Lent, Behind, is_clean, is_gone, Serves, IsLast, Talk}
-use Rattle.upload_intake.specs.Pools.Working.{steps}
+use Rattle.upload_intake.specs.Pools.Working.{connection_given, connection_left, steps}
 use Rattle.upload_intake.specs.Pools.Working.{answered_on, unanswered_on, all_answered, all_unanswered, count_clean}
 use Rattle.upload_intake.specs.Pools.Working.{TellsTalk, TellsTalks}
 use Rattle.upload_intake.specs.Pools.Working.{IsWorked}
 use Rattle.upload_intake.proofs.Conversations.{GatedSteps, gate_at}
 use Rattle.upload_intake.proofs.SeatConversations.{adds_none, adds_twice, fills}
 use Rattle.upload_intake.proofs.Watching.{each_twice, watched_on, watched_lost}
-use Rattle.http_wire.specs.States.{SourceState, SinkState}
-use Rattle.upload_wire.specs.Conversation.{Moves, WireExchange, Answers, EndsWith, IsConversation, stand}
+use Rattle.upload_wire.specs.Conversation as wire
+use Rattle.upload_wire.specs.Conversation.{Moves, WireExchange, Answers, ConnectionState, connection, stand, EndsWith}
+use Rattle.upload_wire.specs.Conversation.{IsConversation}
 use Rattle.upload_wire.specs.Events.{Event, Hears}
 use Rattle.upload_wire.specs.Told.{TellsEnd, IsTold, rules, sides}
 use Rattle.upload_wire.proofs.ToldLemmas.{hears_more}
@@ -40,37 +41,40 @@ module _ {D E : Type 0} (step : Moves D) (seen : Moves E) (see : D → E)
   see_answers [] old at a = ap see a
   see_answers (x ∷ xs) old at a = (see a.0, each old x.ask (Some x.answer) a.0 a.1, see_answers xs a.0 at a.2)
 
-  see_end : (max_body count : ℕ) (at new : D) (rest : List ℕ) (left : SourceState) (mid after : SinkState)
-      (end : ConnEnd) → EndsWith step max_body (stand count rest left at mid) new after end
-      → EndsWith seen max_body (stand count rest left (see at) mid) (see new) after end
-  see_end max_body count at new rest left mid after Clean e =
-      (e.0, e.1, record { unasked = ap see e.2.unasked; unwritten = e.2.unwritten })
-  see_end max_body count at new rest left mid after AfterClose e = (
+  abbrev see_standing : wire.Standing D → wire.Standing E
+  see_standing s = stand s.answered s.held (see s.desk) s.sink
+
+  abbrev pub see_connection : ConnectionState D → ConnectionState E
+  see_connection c = connection c.source (see c.desk) c.sink
+
+  see_end : (max_body : ℕ) (s : wire.Standing D) (new : ConnectionState D) (end : ConnEnd)
+      → EndsWith step max_body s new end → EndsWith seen max_body (see_standing s) (see_connection new) end
+  see_end max_body s new Clean e = (e.0, e.1, record { unasked = ap see e.2.unasked; unwritten = e.2.unwritten })
+  see_end max_body s new AfterClose e = (
     e.0,
     record {
       more = e.1.more;
       read = e.1.read;
       request = e.1.request;
-      answered = each at e.0.ask (Some e.0.answer) new e.1.answered;
+      answered = each s.desk e.0.ask (Some e.0.answer) new.desk e.1.answered;
     },
     e.2,
     e.3,
   )
-  see_end max_body count at new rest left mid after AfterBad e =
-      (e.0, record { bad = e.1.bad; unasked = ap see e.1.unasked }, e.2)
-  see_end max_body count at new rest left mid after TooMany e = (
+  see_end max_body s new AfterBad e = (e.0, record { bad = e.1.bad; unasked = ap see e.1.unasked }, e.2)
+  see_end max_body s new TooMany e = (
     e.0,
     record {
       more = e.1.more;
       read = e.1.read;
       request = e.1.request;
-      answered = each at e.0.ask (Some e.0.answer) new e.1.answered;
+      answered = each s.desk e.0.ask (Some e.0.answer) new.desk e.1.answered;
     },
     e.2,
     e.3,
     e.4,
   )
-  see_end max_body count at new rest left mid after DeskGone e = (
+  see_end max_body s new DeskGone e = (
     record {
       message = e.0.message;
       more = e.0.more;
@@ -78,29 +82,29 @@ module _ {D E : Type 0} (step : Moves D) (seen : Moves E) (see : D → E)
       style = e.0.style;
       read = e.0.read;
       request = e.0.request;
-      gone = each at e.0.ask None new e.0.gone;
+      gone = each s.desk e.0.ask None new.desk e.0.gone;
     },
     e.1,
   )
-  see_end max_body count at new rest left mid after (Fault (Conn.Wire fault)) e =
+  see_end max_body s new (Fault (Conn.Wire fault)) e =
       (e.0, record { unasked = ap see e.1.unasked; unwritten = e.1.unwritten })
-  see_end max_body count at new rest left mid after (Fault Conn.Write) e =
-      ⊎_elim (λ s. inl (
-        s.0,
+  see_end max_body s new (Fault Conn.Write) e =
+      ⊎_elim (λ h. inl (
+        h.0,
         record {
-          more = s.1.more;
-          read = s.1.read;
-          request = s.1.request;
-          answered = each at s.0.ask (Some s.0.answer) new s.1.answered;
+          more = h.1.more;
+          read = h.1.read;
+          request = h.1.request;
+          answered = each s.desk h.0.ask (Some h.0.answer) new.desk h.1.answered;
         },
-        s.2,
+        h.2,
       ))
-      (λ s. inr (s.0, record { bad = s.1.bad; unasked = ap see s.1.unasked }, s.2)) e
+      (λ h. inr (h.0, record { bad = h.1.bad; unasked = ap see h.1.unasked }, h.2)) e
 
-  pub seen_as : (max_body : ℕ) (first left : SourceState) (old new : D) (before after : SinkState) (end : ConnEnd)
-      → IsConversation step max_body first left old new before after end
-      → IsConversation seen max_body first left (see old) (see new) before after end
-  seen_as max_body first left old new before after end c = record {
+  pub seen_as : (max_body : ℕ) (old new : ConnectionState D) (end : ConnEnd)
+      → IsConversation step max_body old new end
+      → IsConversation seen max_body (see_connection old) (see_connection new) end
+  seen_as max_body old new end c = record {
     bytes = c.bytes;
     gives = c.gives;
     reads = c.reads;
@@ -110,68 +114,63 @@ module _ {D E : Type 0} (step : Moves D) (seen : Moves E) (see : D → E)
     mid = c.mid;
     served = record {
       few = c.served.few;
+      counted = c.served.counted;
       read = c.served.read;
       kept = c.served.kept;
-      answered = see_answers c.exchanges old c.at c.served.answered;
+      answered = see_answers c.exchanges old.desk c.at c.served.answered;
       written = c.served.written;
       handed_on = c.served.handed_on;
     };
-    ended = see_end max_body (length c.exchanges) c.at new c.rest left c.mid after end c.ended;
+    ended = see_end max_body (stand (length c.exchanges) c.rest c.at c.mid) new end c.ended;
   }
 
   -- the same is answered and unanswered there
-  see_answered : (max_body count : ℕ) (at new : D) (rest : List ℕ) (left : SourceState) (mid after : SinkState)
-      (end : ConnEnd) (e : EndsWith step max_body (stand count rest left at mid) new after end)
-      → answered_last seen max_body (stand count rest left (see at) mid) (see new) after end (see_end max_body count at
-      new rest left mid after end e) ≡ answered_last step max_body (stand count rest left at mid) new after end e
+  see_answered : (max_body : ℕ) (s : wire.Standing D) (new : ConnectionState D) (end : ConnEnd)
+      (e : EndsWith step max_body s new end)
+      → answered_last seen max_body (see_standing s) (see_connection new) end (see_end max_body s new end e)
+      ≡ answered_last step max_body s new end e
   unfolding see_end
-  see_answered max_body count at new rest left mid after Clean e = refl
-  see_answered max_body count at new rest left mid after AfterClose e = refl
-  see_answered max_body count at new rest left mid after AfterBad e = refl
-  see_answered max_body count at new rest left mid after TooMany e = refl
-  see_answered max_body count at new rest left mid after DeskGone e = refl
-  see_answered max_body count at new rest left mid after (Fault (Conn.Wire fault)) e = refl
-  see_answered max_body count at new rest left mid after (Fault Conn.Write) (inl s) = refl
-  see_answered max_body count at new rest left mid after (Fault Conn.Write) (inr s) = refl
+  see_answered max_body s new Clean e = refl
+  see_answered max_body s new AfterClose e = refl
+  see_answered max_body s new AfterBad e = refl
+  see_answered max_body s new TooMany e = refl
+  see_answered max_body s new DeskGone e = refl
+  see_answered max_body s new (Fault (Conn.Wire fault)) e = refl
+  see_answered max_body s new (Fault Conn.Write) (inl h) = refl
+  see_answered max_body s new (Fault Conn.Write) (inr h) = refl
 
-  see_unanswered : (max_body count : ℕ) (at new : D) (rest : List ℕ) (left : SourceState) (mid after : SinkState)
-      (end : ConnEnd) (e : EndsWith step max_body (stand count rest left at mid) new after end)
-      → unanswered_last seen max_body (stand count rest left (see at) mid) (see new) after end (see_end max_body count
-      at new rest left mid after end e) ≡ unanswered_last step max_body (stand count rest left at mid) new after end e
+  see_unanswered : (max_body : ℕ) (s : wire.Standing D) (new : ConnectionState D) (end : ConnEnd)
+      (e : EndsWith step max_body s new end)
+      → unanswered_last seen max_body (see_standing s) (see_connection new) end (see_end max_body s new end e)
+      ≡ unanswered_last step max_body s new end e
   unfolding see_end
-  see_unanswered max_body count at new rest left mid after Clean e = refl
-  see_unanswered max_body count at new rest left mid after AfterClose e = refl
-  see_unanswered max_body count at new rest left mid after AfterBad e = refl
-  see_unanswered max_body count at new rest left mid after TooMany e = refl
-  see_unanswered max_body count at new rest left mid after DeskGone e = refl
-  see_unanswered max_body count at new rest left mid after (Fault (Conn.Wire fault)) e = refl
-  see_unanswered max_body count at new rest left mid after (Fault Conn.Write) e = refl
+  see_unanswered max_body s new Clean e = refl
+  see_unanswered max_body s new AfterClose e = refl
+  see_unanswered max_body s new AfterBad e = refl
+  see_unanswered max_body s new TooMany e = refl
+  see_unanswered max_body s new DeskGone e = refl
+  see_unanswered max_body s new (Fault (Conn.Wire fault)) e = refl
+  see_unanswered max_body s new (Fault Conn.Write) e = refl
 
   -- the same is told of it there
-  see_tells : (max_body count : ℕ) (at new : D) (rest : List ℕ) (left : SourceState) (mid after : SinkState)
-      (end : ConnEnd) (e : EndsWith step max_body (stand count rest left at mid) new after end) (events : List Event)
+  see_tells : (max_body : ℕ) (s : wire.Standing D) (new : ConnectionState D) (end : ConnEnd)
+      (e : EndsWith step max_body s new end) (events : List Event)
+      → TellsEnd (record { moves = step; max_body = max_body; stood = s; left = new }) end e events
       → TellsEnd (record {
-        moves = step;
-        max_body = max_body;
-        stood = stand count rest left at mid;
-        desk = new;
-        sink = after;
-      }) end e events → TellsEnd (record {
         moves = seen;
         max_body = max_body;
-        stood = stand count rest left (see at) mid;
-        desk = see new;
-        sink = after;
-      }) end (see_end max_body count at new rest left mid after end e) events
+        stood = see_standing s;
+        left = see_connection new;
+      }) end (see_end max_body s new end e) events
   unfolding see_end
-  see_tells max_body count at new rest left mid after Clean e events told = told
-  see_tells max_body count at new rest left mid after AfterClose e events told = told
-  see_tells max_body count at new rest left mid after AfterBad e events told = told
-  see_tells max_body count at new rest left mid after TooMany e events told = told
-  see_tells max_body count at new rest left mid after DeskGone e events told = told
-  see_tells max_body count at new rest left mid after (Fault (Conn.Wire fault)) e events told = told
-  see_tells max_body count at new rest left mid after (Fault Conn.Write) (inl s) events told = told
-  see_tells max_body count at new rest left mid after (Fault Conn.Write) (inr s) events told = told
+  see_tells max_body s new Clean e events told = told
+  see_tells max_body s new AfterClose e events told = told
+  see_tells max_body s new AfterBad e events told = told
+  see_tells max_body s new TooMany e events told = told
+  see_tells max_body s new DeskGone e events told = told
+  see_tells max_body s new (Fault (Conn.Wire fault)) e events told = told
+  see_tells max_body s new (Fault Conn.Write) (inl h) events told = told
+  see_tells max_body s new (Fault Conn.Write) (inr h) events told = told
 
 -- ---- ends
 
@@ -205,10 +204,9 @@ gone_is TooMany gone = absurd (true≢false (sym gone))
 gone_is DeskGone gone = refl
 gone_is (Fault fault) gone = absurd (true≢false (sym gone))
 
-module _ {D : Type 0} (step : Moves D) (max_body count : ℕ) (at new : D) (rest : List ℕ) (left : SourceState)
-    (mid after : SinkState) where
-  all_heard : (end : ConnEnd) (e : EndsWith step max_body (stand count rest left at mid) new after end)
-      → (end ≡ DeskGone → ⊥) → unanswered_last step max_body (stand count rest left at mid) new after end e ≡ []
+module _ {D : Type 0} (step : Moves D) (max_body : ℕ) (s : wire.Standing D) (new : ConnectionState D) where
+  all_heard : (end : ConnEnd) (e : EndsWith step max_body s new end) → (end ≡ DeskGone → ⊥)
+      → unanswered_last step max_body s new end e ≡ []
   all_heard Clean e there = refl
   all_heard AfterClose e there = refl
   all_heard AfterBad e there = refl
@@ -285,8 +283,12 @@ module _ {L : Lending} {S G O : Type 0} (m : Means L S G O) (max_body : ℕ) whe
   -- all that was asked and answered was added to the seat
   fills_by : (t : Talk m max_body) → Adds t.old.0 t.new.0 (answered_on m max_body t) (unanswered_on m max_body t)
   fills_by t =
-      fills {D = SeatState × S} {S = S} m.draws (λ d. d.0) (λ d. d.1) max_body (L.reads t.reader)
-      (L.reads t.reader_left) t.old t.new (L.writes t.writer) (L.writes t.writer_left) t.end t.conversation
+      fills {D = SeatState × S} {S = S} m.draws (λ d. d.0) (λ d. d.1) max_body (connection_given m max_body t)
+      (connection_left m max_body t) t.end t.conversation
+
+  -- where a connection stood when it ended
+  abbrev stood : Talk m max_body → wire.Standing (SeatState × S)
+  stood t = stand (length t.conversation.exchanges) t.conversation.rest t.conversation.at t.conversation.mid
 
   pub adds_all : (conns left : L.Conns) (desk : SeatState × S) (ts : List (Talk m max_body)) (new : SeatState × S)
       → Serves m max_body conns desk ts left new
@@ -307,9 +309,7 @@ module _ {L : Lending} {S G O : Type 0} (m : Means L S G O) (max_body : ℕ) whe
       (sym (append-nil (unanswered_on m max_body t))) first))))
       (λ (x : (t.end ≡ DeskGone → ⊥) × Serves m max_body s.1 t.new ts left new).
       let heard : unanswered_on m max_body t ≡ [] =
-      all_heard (steps m max_body) max_body (length t.conversation.exchanges) t.conversation.at t.new
-      t.conversation.rest (L.reads t.reader_left) t.conversation.mid (L.writes t.writer_left) t.end
-      t.conversation.ended x.0 in
+      all_heard (steps m max_body) max_body (stood t) (connection_left m max_body t) t.end t.conversation.ended x.0 in
       subst (λ (l : List Ask). Adds desk.0 new.0 (all_answered m max_body (t ∷ ts)) (l ++ all_unanswered m max_body ts))
       (sym heard)
       (adds_twice desk.0 t.new.0 new.0 (answered_on m max_body t) (all_answered m max_body ts)
@@ -468,9 +468,9 @@ module _ {L : Lending} {S G O : Type 0} (m : Means L S G O) (max_body : ℕ) whe
             there);
         watched = told_too next.gate told;
         none_lost =
-            lost_too ∙ all_heard (steps m max_body) max_body (length t.conversation.exchanges) t.conversation.at t.new
-            t.conversation.rest (L.reads t.reader_left) t.conversation.mid (L.writes t.writer_left) t.end
-            t.conversation.ended there;
+            lost_too
+            ∙ all_heard (steps m max_body) max_body (stood t) (connection_left m max_body t) t.end t.conversation.ended
+            there;
         events = w.events ++ more;
         tells = tells_more w.talks t w.events more w.tells tells;
         heard = heard_too;
@@ -515,9 +515,17 @@ module _ {L : Lending} {S G O : Type 0} (m : Means L S G O) (max_body : ℕ) whe
       (was is : O) (end : ConnEnd)
       (told : IsTold (rules (GatedSteps {R = R} m.draws m.watches) m.told max_body) (sides (L.reads reader) old was
       (L.writes writer)) (sides (L.reads reader_left) new is (L.writes writer_left)) end) where
-    abbrev c : IsConversation (GatedSteps {R = R} m.draws m.watches) max_body (L.reads reader) (L.reads reader_left) old
-        new (L.writes writer) (L.writes writer_left) end
+    abbrev given : ConnectionState (GatedDesk R S G)
+    given = connection (L.reads reader) old (L.writes writer)
+
+    abbrev left : ConnectionState (GatedDesk R S G)
+    left = connection (L.reads reader_left) new (L.writes writer_left)
+
+    abbrev c : IsConversation (GatedSteps {R = R} m.draws m.watches) max_body given left end
     c = told.conversation
+
+    abbrev stood_there : wire.Standing (GatedDesk R S G)
+    stood_there = stand (length c.exchanges) c.rest c.at c.mid
 
     abbrev see : GatedDesk R S G → SeatState × S
     see d = (seat_of d.desk, secrets_of d.desk)
@@ -535,24 +543,23 @@ module _ {L : Lending} {S G O : Type 0} (m : Means L S G O) (max_body : ℕ) whe
       conversation =
           seen_as {D = GatedDesk R S G} {E = SeatState × S} (GatedSteps {R = R} m.draws m.watches)
           (steps m max_body) see (λ a ask answer b moved. moved.0)
-          max_body (L.reads reader) (L.reads reader_left) old new (L.writes writer) (L.writes writer_left) end c;
+          max_body given left end c;
     }
 
-    same_answered : answered_on m max_body talk_of ≡ answered (GatedSteps {R = R} m.draws m.watches) max_body
-        (L.reads reader) (L.reads reader_left) old new (L.writes writer) (L.writes writer_left) end c
+    same_answered : answered_on m max_body talk_of
+        ≡ answered (GatedSteps {R = R} m.draws m.watches) max_body given left end c
     unfolding seen_as
     same_answered =
         ap (λ l. c.exchanges ++ l) (see_answered {D = GatedDesk R S G} {E = SeatState × S}
         (GatedSteps {R = R} m.draws m.watches) (steps m max_body) see (λ a ask answer b moved. moved.0)
-        max_body (length c.exchanges) c.at new c.rest (L.reads reader_left) c.mid (L.writes writer_left) end c.ended)
+        max_body stood_there left end c.ended)
 
-    same_unanswered : unanswered_on m max_body talk_of ≡ unanswered (GatedSteps {R = R} m.draws m.watches) max_body
-        (L.reads reader) (L.reads reader_left) old new (L.writes writer) (L.writes writer_left) end c
+    same_unanswered : unanswered_on m max_body talk_of
+        ≡ unanswered (GatedSteps {R = R} m.draws m.watches) max_body given left end c
     unfolding seen_as
     same_unanswered =
         see_unanswered {D = GatedDesk R S G} {E = SeatState × S} (GatedSteps {R = R} m.draws m.watches)
-        (steps m max_body) see (λ a ask answer b moved. moved.0)
-        max_body (length c.exchanges) c.at new c.rest (L.reads reader_left) c.mid (L.writes writer_left) end c.ended
+        (steps m max_body) see (λ a ask answer b moved. moved.0) max_body stood_there left end c.ended
 
     -- what was told of it tells the talk
     pub tells_talk : TellsTalk m max_body talk_of (told.of_exchanges ++ told.of_end)
@@ -563,9 +570,8 @@ module _ {L : Lending} {S G O : Type 0} (m : Means L S G O) (max_body : ℕ) whe
       each = told.each;
       last =
           see_tells {D = GatedDesk R S G} {E = SeatState × S} (GatedSteps {R = R} m.draws m.watches)
-          (steps m max_body) see (λ a ask answer b moved. moved.0)
-          max_body (length c.exchanges) c.at new c.rest (L.reads reader_left) c.mid (L.writes writer_left) end c.ended
-          told.of_end told.last;
+          (steps m max_body) see (λ a ask answer b moved. moved.0) max_body stood_there left end c.ended told.of_end
+          told.last;
       events_are = refl;
     }
 
@@ -574,8 +580,7 @@ module _ {L : Lending} {S G O : Type 0} (m : Means L S G O) (max_body : ℕ) whe
         → WatchesEach m.watches (gate_at old) (answered_on m max_body talk_of) (gate_at new)
     told_on there = subst (λ l. WatchesEach m.watches (gate_at old) l (gate_at new)) (sym same_answered)
         (watched_on {D = GatedDesk R S G} m.watches (GatedSteps {R = R} m.draws m.watches) (λ d. gate_at d)
-        (λ a ask answer b moved. moved.1)
-        max_body (L.reads reader) (L.reads reader_left) old new (L.writes writer) (L.writes writer_left) end c there)
+        (λ a ask answer b moved. moved.1) max_body given left end c there)
 
     pub told_gone : end ≡ DeskGone → (gate : GateAt G)
         × WatchesEach m.watches (gate_at old) (answered_on m max_body talk_of) gate
@@ -583,8 +588,7 @@ module _ {L : Lending} {S G O : Type 0} (m : Means L S G O) (max_body : ℕ) whe
     told_gone gone =
         let l =
         watched_lost {D = GatedDesk R S G} m.watches (GatedSteps {R = R} m.draws m.watches) (λ d. gate_at d)
-        (λ a ask answer b moved. moved.1)
-        max_body (L.reads reader) (L.reads reader_left) old new (L.writes writer) (L.writes writer_left) end c gone in (
+        (λ a ask answer b moved. moved.1) max_body given left end c gone in (
           l.0,
           subst (λ xs. WatchesEach m.watches (gate_at old) xs l.0) (sym same_answered) l.1,
           subst (λ us. WatchesLast m.watches l.0 us new.gate) (sym same_unanswered) l.2,

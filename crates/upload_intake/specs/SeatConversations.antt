@@ -5,8 +5,7 @@ use Rattle.upload_service.specs.declared.answer.Answer.{Answer}
 use Rattle.upload_intake.specs.Log.{Job}
 use Rattle.upload_intake.specs.Seats.{SeatState}
 use Rattle.upload_intake.specs.SeatMoves.{AsksWithDrawn}
-use Rattle.http_wire.specs.States.{SourceState, SinkState}
-use Rattle.upload_wire.specs.Conversation.{Moves, WireExchange, IsConversation}
+use Rattle.upload_wire.specs.Conversation.{Moves, WireExchange, ConnectionState, IsConversation}
 use Rattle.upload_wire.specs.ConnectionRuns.{answered, unanswered}
 use Rattle.upload_wire.specs.declared.connection.ConnEnd.{ConnEnd}
 
@@ -35,9 +34,8 @@ SeatSteps draws seat secrets a ask answer b = AsksWithDrawn draws (seat a, secre
 -- every conversation over a desk that is a seat with secrets adds its asks and its answers to the seat
 abbrev pub ConversationsFillTheSeat : {S : Type 0} → (S → List ℕ → S → Type 0) → Type 0
 ConversationsFillTheSeat {S} draws =
-    (max_body : ℕ) (first left : SourceState) (old new : SeatState × S) (before after : SinkState) (end : ConnEnd)
-    → (c : IsConversation {D = SeatState × S} (SeatSteps draws (λ d. d.0) (λ d. d.1)) max_body first left old new before
-    after end) → Adds old.0 new.0 (answered {D = SeatState × S} (SeatSteps draws (λ d. d.0) (λ d. d.1)) max_body first
-    left old new before after end c)
-    (unanswered {D = SeatState × S} (SeatSteps draws (λ d. d.0) (λ d. d.1)) max_body first left old new
-    before after end c)
+    (max_body : ℕ) (old new : ConnectionState (SeatState × S)) (end : ConnEnd)
+    → (c : IsConversation {D = SeatState × S} (SeatSteps draws (λ d. d.0) (λ d. d.1)) max_body old new end)
+    → Adds old.desk.0 new.desk.0
+    (answered {D = SeatState × S} (SeatSteps draws (λ d. d.0) (λ d. d.1)) max_body old new end c)
+    (unanswered {D = SeatState × S} (SeatSteps draws (λ d. d.0) (λ d. d.1)) max_body old new end c)

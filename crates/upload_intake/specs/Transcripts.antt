@@ -2,7 +2,7 @@
 use Rattle.std.specs.Prelude.{◌≡◌, ℕ, List, [], Some}
 use Rattle.std.specs.List.{AllByRecursion}
 use Rattle.upload_intake.specs.Seats.{SeatState}
-use Rattle.upload_intake.specs.Pools.Working.{Lending, Means, Talk, Serves, steps}
+use Rattle.upload_intake.specs.Pools.Working.{Lending, Means, Talk, connection_given, connection_left, Serves, steps}
 use Rattle.upload_wire.specs.Transcripts.{all_read, all_written}
 
 -- connections are given on which nothing was read and nothing was written
@@ -16,13 +16,11 @@ module _ {L : Lending} {S G O : Type 0} (m : Means L S G O) (max_body : ℕ) whe
   -- conversation wrote.
   pub record TellsAll (t : Talk m max_body) : Type 0 where
     pub read : (L.reads t.reader_left).given
-        ≡ all_read (steps m max_body) max_body
-        (L.reads t.reader) (L.reads t.reader_left) t.old t.new (L.writes t.writer) (L.writes t.writer_left)
-        t.end t.conversation
+        ≡ all_read (steps m max_body) max_body (connection_given m max_body t) (connection_left m max_body t) t.end
+        t.conversation
     pub written : (L.writes t.writer_left).taken
-        ≡ all_written (steps m max_body) max_body
-        (L.reads t.reader) (L.reads t.reader_left) t.old t.new (L.writes t.writer) (L.writes t.writer_left)
-        t.end t.conversation
+        ≡ all_written (steps m max_body) max_body (connection_given m max_body t) (connection_left m max_body t) t.end
+        t.conversation
 
 -- if connections are given so, that is so of each that a worker served
 abbrev pub TranscriptsTellConnections : {L : Lending} {S G O : Type 0} → Means L S G O → Type 0

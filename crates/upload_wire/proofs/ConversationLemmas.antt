@@ -23,9 +23,10 @@ use Rattle.http_wire.specs.Reading.{Gives}
 use Rattle.http_wire.specs.Writing.{TookAll}
 use Rattle.upload_wire.specs.Conversation.{Moves, WireExchange, IsKept, messages, replies, Answers, HandedOn}
 use Rattle.upload_wire.specs.Conversation.{HandedOnEach}
-use Rattle.upload_wire.specs.Conversation.{AnswersEach, AnswersNext, Standing, stand, EndsWith, ReadsFail}
-use Rattle.upload_wire.specs.Conversation.{IsConversation}
-use Rattle.upload_wire.specs.Inner.ConversationSteps.{IsRepliedTo, RefusedWith, GoesOn, Stops}
+use Rattle.upload_wire.specs.Conversation.{AnswersEach, AnswersNext, ConnectionState, connection, stand, EndsWith}
+use Rattle.upload_wire.specs.Conversation.{ReadsFail, IsConversation}
+use Rattle.upload_wire.specs.Inner.ConversationSteps.{IsRepliedTo, styled, RefusedWith, Progress, progress, GoesOn}
+use Rattle.upload_wire.specs.Inner.ConversationSteps.{Stops}
 use Rattle.http_wire.proofs.GaveLemmas.{gives_none, gives_both}
 use Rattle.http_wire.proofs.WritingLemmas.{takes_none, took_both}
 
@@ -43,8 +44,8 @@ module _ {D : Type 0} (step : Moves D) (max count : ℕ) (held rest : List ℕ) 
   unfoldable pub one_more : (kept : List ℕ) (next : ℕ) → kept ≡ rest → next ≡ count + 1 → (r : Option ConnEnd)
       → ReadsNext max (input_state held first) (input_state rest left) (Ok (Request ask style))
       → left.failed_reads ≡ first.failed_reads
-      → step at ask (Some answer) new → IsRepliedTo count answer style mid after r → r ≡ None
-      → GoesOn step max (stand count held first at mid) (stand next kept left new after)
+      → step at ask (Some answer) new → IsRepliedTo count (styled answer style) mid after r → r ≡ None
+      → GoesOn step max (progress count held first at mid) (progress next kept left new after)
   one_more kept next stays one None n same answered a e = record {
     given = n.given;
     gives = n.gives;
@@ -66,14 +67,14 @@ module _ {D : Type 0} (step : Moves D) (max count : ℕ) (held rest : List ℕ) 
 
   pub answers_next : (n : ReadsNext max (input_state held first) (input_state rest left) (Ok (Request ask style)))
       → step at ask (Some answer) new
-      → AnswersNext step max at new (held ++ n.given) (last_exchange n)
+      → AnswersNext step max (stand count (held ++ n.given) at mid) new (last_exchange n)
   answers_next n answered = record { more = rest; read = n.found.cut; request = n.found.request; answered = answered }
 
   unfoldable pub one_last : (kept : List ℕ) (next : ℕ) (r : Option ConnEnd)
       → ReadsNext max (input_state held first) (input_state rest left) (Ok (Request ask style))
       → left.failed_reads ≡ first.failed_reads → step at ask (Some answer) new
-      → IsRepliedTo count answer style mid after r
-      → IfSome r (Stops step max (stand count held first at mid) (stand next kept left new after))
+      → IsRepliedTo count (styled answer style) mid after r
+      → IfSome r (Stops step max (progress count held first at mid) (progress next kept left new after))
   one_last kept next None n same answered a = tt
   one_last kept next (Some Clean) n same answered a = absurd a
   one_last kept next (Some AfterClose) n same answered a =
@@ -101,7 +102,7 @@ module _ {D : Type 0} (step : Moves D) (max count : ℕ) (held rest : List ℕ) 
         ended = inl (last_exchange n, answers_next n answered, a);
       }
 
-unfoldable pub after_refusal : {D : Type 0} (step : Moves D) (max : ℕ) (old new : Standing D)
+unfoldable pub after_refusal : {D : Type 0} (step : Moves D) (max : ℕ) (old new : Progress D)
     (rest : List ℕ) (why : Bad) (end : ConnEnd)
     → ReadsNext max (input_state old.held old.source) (input_state rest new.source) (Ok (nexts.Bad why))
     → new.source.failed_reads ≡ old.source.failed_reads → new.desk ≡ old.desk → RefusedWith old.sink new.sink why end
@@ -154,17 +155,18 @@ replies_more xs x =
     ∙ ap (λ t. replies xs ++ t) (append-nil (reply x.answer x.style))
 
 -- what a connection has done that stood so when it began
-pub record SoFar {D : Type 0} (step : Moves D) (max : ℕ) (begun now : Standing D) : Type 0 where
+pub record SoFar {D : Type 0} (step : Moves D) (max : ℕ) (begun now : Progress D) : Type 0 where
   pub given : List ℕ
   pub gives : Gives begun.source now.source given
   pub unfailed : now.source.failed_reads ≡ begun.source.failed_reads
   pub exchanges : List WireExchange
   pub counted : length exchanges ≡ now.answered
-  pub served : AnswersEach step max begun.desk now.desk given now.held begun.sink now.sink exchanges
+  pub served : AnswersEach step max (stand 0 given begun.desk begun.sink)
+      (stand now.answered now.held now.desk now.sink) exchanges
 
 unfoldable pub starts : {D : Type 0} (step : Moves D) (max : ℕ) (before : ℕ) (left : List ℕ)
     (source : SourceState) (desk : D) (sink : SinkState) (held : List ℕ) (answered : ℕ) → held ≡ [] → answered ≡ 0
-    → SoFar step max (stand before left source desk sink) (stand answered held source desk sink)
+    → SoFar step max (progress before left source desk sink) (progress answered held source desk sink)
 starts step max before left source desk sink held answered empty none = record {
   given = [];
   gives = gives_none source;
@@ -173,6 +175,7 @@ starts step max before left source desk sink held answered empty none = record {
   counted = sym none;
   served = record {
     few = lit< tt;
+    counted = none;
     read = sym empty;
     kept = tt;
     answered = refl;
@@ -181,7 +184,7 @@ starts step max before left source desk sink held answered empty none = record {
   };
 }
 
-unfoldable pub goes_on : {D : Type 0} (step : Moves D) (max : ℕ) (begun now next : Standing D)
+unfoldable pub goes_on : {D : Type 0} (step : Moves D) (max : ℕ) (begun now next : Progress D)
     → SoFar step max begun now → GoesOn step max now next → SoFar step max begun next
 goes_on step max begun now next s n =
     let counted = s.counted in
@@ -194,6 +197,7 @@ goes_on step max begun now next s n =
       counted = omega (arith, counted, one, length-append s.exchanges (n.exchange ∷ []));
       served = record {
         few = omega (arith, counted, n.few, length-append s.exchanges (n.exchange ∷ []));
+        counted = omega (arith, counted, one, length-append s.exchanges (n.exchange ∷ []));
         read = ap (λ t. t ++ n.given) s.served.read ∙ append_assoc (messages s.exchanges) now.held n.given
             ∙ ap (λ t. messages s.exchanges ++ t) n.read
             ∙ sym (append_assoc (messages s.exchanges) n.exchange.message next.held)
@@ -210,11 +214,13 @@ goes_on step max begun now next s n =
 pub reads_fail_from : (end : ConnEnd) (a b c : ℕ) → b ≡ a → ReadsFail end b c → ReadsFail end a c
 reads_fail_from end a b c same h = subst (λ n. ReadsFail end n c) same h
 
-unfoldable pub ends : {D : Type 0} (step : Moves D) (max : ℕ) (begun now last : Standing D) (end : ConnEnd)
+unfoldable pub ends : {D : Type 0} (step : Moves D) (max : ℕ) (begun now last : Progress D) (end : ConnEnd)
     (s : SoFar step max begun now)
     (n : Stops step max now last end)
-    → EndsWith step max (stand (length s.exchanges) (now.held ++ n.given) last.source now.desk now.sink) last.desk
-    last.sink end → IsConversation step max begun.source last.source begun.desk last.desk begun.sink last.sink end
+    → EndsWith step max (stand (length s.exchanges) (now.held ++ n.given) now.desk now.sink)
+    (connection last.source last.desk last.sink) end
+    → IsConversation step max (connection begun.source begun.desk begun.sink)
+    (connection last.source last.desk last.sink) end
 ends step max begun now last end s n ended = record {
   bytes = s.given ++ n.given;
   gives = gives_both begun.source now.source last.source s.given n.given s.gives n.gives;
@@ -226,6 +232,7 @@ ends step max begun now last end s n ended = record {
   mid = now.sink;
   served = record {
     few = s.served.few;
+    counted = omega arith;
     read = ap (λ t. t ++ n.given) s.served.read ∙ append_assoc (messages s.exchanges) now.held n.given;
     kept = s.served.kept;
     answered = s.served.answered;
@@ -236,17 +243,24 @@ ends step max begun now last end s n ended = record {
 }
 
 -- no buffer could be made
-pub ends_at_once : {D : Type 0} (step : Moves D) (max : ℕ) (first : SourceState) (desk : D) (before : SinkState)
-    → IsConversation step max first first desk desk before before (Fault (Conn.Wire Wire.NoMemory))
-ends_at_once step max first desk before = record {
+pub ends_at_once : {D : Type 0} (step : Moves D) (max : ℕ) (c : ConnectionState D)
+    → IsConversation step max c c (Fault (Conn.Wire Wire.NoMemory))
+ends_at_once step max c = record {
   bytes = [];
-  gives = gives_none first;
+  gives = gives_none c.source;
   reads = refl;
   exchanges = [];
   rest = [];
-  at = desk;
-  mid = before;
-  served =
-      record { few = lit< tt; read = refl; kept = tt; answered = refl; written = took_none before; handed_on = refl };
+  at = c.desk;
+  mid = c.sink;
+  served = record {
+    few = lit< tt;
+    counted = refl;
+    read = refl;
+    kept = tt;
+    answered = refl;
+    written = took_none c.sink;
+    handed_on = refl;
+  };
   ended = (tt, record { unasked = refl; unwritten = refl });
 }

@@ -19,10 +19,10 @@ use Rattle.upload_wire.specs.declared.connection.ConnEnd.TheVariants.{Clean, Aft
 use Rattle.upload_wire.specs.declared.connection.ConnEnd.TheVariants.{Fault}
 use Rattle.upload_wire.specs.declared.connection.ConnFault.TheVariants as Conn
 use Rattle.upload_wire.specs.RequestText.{IsBad, IsRequest}
-use Rattle.http_wire.specs.States.{SourceState, SinkState}
 use Rattle.http_wire.specs.Writing.{TookAll}
 use Rattle.upload_wire.specs.Conversation.{Moves, WireExchange, IsKept, IsRead, messages, replies, last_reply, Answers}
-use Rattle.upload_wire.specs.Conversation.{EndsWith, AnswersNext, FindsNoDesk, max_requests, stand}
+use Rattle.upload_wire.specs.Conversation.{ConnectionState, Standing, stand, EndsWith, AnswersNext, FindsNoDesk}
+use Rattle.upload_wire.specs.Conversation.{max_requests}
 use Rattle.http_wire.specs.HeadText.{bad as bad_reply}
 use Rattle.upload_wire.specs.ConnectionRuns.{answered_last}
 use Rattle.upload_wire.specs.Unambiguous.{RequestParse, request, bad, cut, nothing, ParsesAsRequest}
@@ -156,24 +156,22 @@ LastOf step count rest at new end (bad why) xs text = (xs ≡ []) × (new ≡ at
 LastOf step count rest at new end cut xs text = (xs ≡ []) × (new ≡ at) × (text ≡ [])
 LastOf step count rest at new end nothing xs text = (xs ≡ []) × (new ≡ at) × (text ≡ [])
 
-record Ends {D : Type 0} (step : Moves D) (max count : ℕ) (rest : List ℕ) (at new : D) (mid after : SinkState)
-    (end : ConnEnd) (xs : List WireExchange) : Type 0 where
+record Ends {D : Type 0} (step : Moves D) (max : ℕ) (s : Standing D) (new : ConnectionState D) (end : ConnEnd)
+    (xs : List WireExchange) : Type 0 where
   parse : RequestParse
-  parses : ParsesAsRequest max rest parse
+  parses : ParsesAsRequest max s.held parse
   no_bad_head : parse ≢ bad Head
   text : List ℕ
-  last : LastOf step count rest at new end parse xs text
-  took : TookAll mid after text
+  last : LastOf step s.answered s.held s.desk new.desk end parse xs text
+  took : TookAll s.sink new.sink text
 
-module _ {D : Type 0} (step : Moves D) (max count : ℕ) (at new : D) (rest : List ℕ) (left : SourceState)
-    (mid after : SinkState) where
+module _ {D : Type 0} (step : Moves D) (max : ℕ) (s : Standing D) (new : ConnectionState D) where
   -- a sink that stands as it stood took nothing
-  unwritten : after ≡ mid → TookAll mid after []
-  unwritten same = subst (λ s. TookAll mid s []) (sym same) (took_none mid)
+  unwritten : new.sink ≡ s.sink → TookAll s.sink new.sink []
+  unwritten same = subst (λ k. TookAll s.sink k []) (sym same) (took_none s.sink)
 
-  ends_wire : (fault : WireFault) → EndsWith step max (stand count rest left at mid) new after (Fault (Conn.Wire fault))
-      → ¬ (IsUndecided max rest (Fault (Conn.Wire fault)))
-      → Ends step max count rest at new mid after (Fault (Conn.Wire fault)) []
+  ends_wire : (fault : WireFault) → EndsWith step max s new (Fault (Conn.Wire fault))
+      → ¬ (IsUndecided max s.held (Fault (Conn.Wire fault))) → Ends step max s new (Fault (Conn.Wire fault)) []
   ends_wire Wire.Truncated e decided =
       record {
         parse = cut;
@@ -206,20 +204,19 @@ module _ {D : Type 0} (step : Moves D) (max count : ℕ) (at new : D) (rest : Li
   ends_wire Wire.NoMemory e decided = absurd (decided tt)
   ends_wire Wire.Ended e decided = absurd e.0
 
-  ends_answered : (end : ConnEnd) (x : WireExchange) → AnswersNext step max at new rest x
-      → TookAll mid after (last_reply count x) → Ends step max count rest at new mid after end (x ∷ [])
+  ends_answered : (end : ConnEnd) (x : WireExchange) → AnswersNext step max s new.desk x
+      → TookAll s.sink new.sink (last_reply s.answered x) → Ends step max s new end (x ∷ [])
   ends_answered end x a took = record {
     parse = request x.ask x.style a.more;
     parses = record { message = x.message; cut = a.read; request = a.request };
     no_bad_head = no_head x.ask x.style a.more;
-    text = last_reply count x;
+    text = last_reply s.answered x;
     last = inl (x, refl, refl, refl, a.read, a.answered, refl);
     took = took;
   }
 
-  ends : (end : ConnEnd) (e : EndsWith step max (stand count rest left at mid) new after end)
-      → ¬ (IsUndecided max rest end) → Ends step max count rest at new mid after end
-      (answered_last step max (stand count rest left at mid) new after end e)
+  ends : (end : ConnEnd) (e : EndsWith step max s new end) → ¬ (IsUndecided max s.held end)
+      → Ends step max s new end (answered_last step max s new end e)
   ends Clean e decided =
       record {
         parse = nothing;
@@ -233,7 +230,7 @@ module _ {D : Type 0} (step : Moves D) (max count : ℕ) (at new : D) (rest : Li
   ends AfterBad e decided = record {
     parse = bad e.0;
     parses = e.1.bad;
-    no_bad_head = λ s. decided (subst (IsBad max rest) (why_same e.0 Head s) e.1.bad);
+    no_bad_head = λ same. decided (subst (IsBad max s.held) (why_same e.0 Head same) e.1.bad);
     text = bad_reply e.0;
     last = (refl, e.1.unasked, refl);
     took = e.2.took;
@@ -252,27 +249,27 @@ module _ {D : Type 0} (step : Moves D) (max count : ℕ) (at new : D) (rest : Li
 
   -- where a request stands that keeps the connection, and more may come, no conversation ends but by a desk that is
   -- gone
-  goes_on : (end : ConnEnd) → EndsWith step max (stand count rest left at mid) new after end
-      → ¬ (IsUndecided max rest end) → count + 1 < max_requests
-      → (end ≡ DeskGone → FindsNoDesk step max at new rest → ⊥) → (y : WireExchange) (more : List ℕ)
-      → rest ≡ y.message ++ more → IsKept max y → ⊥
+  goes_on : (end : ConnEnd) → EndsWith step max s new end → ¬ (IsUndecided max s.held end)
+      → s.answered + 1 < max_requests → (end ≡ DeskGone → FindsNoDesk step max s new.desk → ⊥)
+      → (y : WireExchange) (more : List ℕ) → s.held ≡ y.message ++ more → IsKept max y → ⊥
   goes_on Clean e decided few there y more read kept =
-      not_request max rest nothing y more e.0 (λ s. absurd (cc)) (λ a s r same. absurd (cc)) read kept
+      not_request max s.held nothing y more e.0 (λ s. absurd (cc)) (λ a s r same. absurd (cc)) read kept
   goes_on AfterClose e decided few there y more read kept =
-      let s =
+      let one =
       same_request max e.0.ask y.ask e.0.style y.style e.0.message y.message e.1.more more e.1.request kept.0
       (sym e.1.read ∙ read) in
-      true≢false (sym kept.1 ∙ ap (λ t. t.keep) (sym s.style) ∙ e.2)
+      true≢false (sym kept.1 ∙ ap (λ t. t.keep) (sym one.style) ∙ e.2)
   goes_on AfterBad e decided few there y more read kept =
-      not_request max rest (bad e.0) y more e.1.bad
-      (λ s. decided (subst (IsBad max rest) (why_same e.0 Head s) e.1.bad)) (λ a s r same. absurd (cc)) read kept
+      not_request max s.held (bad e.0) y more e.1.bad
+      (λ same. decided (subst (IsBad max s.held) (why_same e.0 Head same) e.1.bad)) (λ a s r same. absurd (cc)) read
+      kept
   goes_on TooMany e decided few there y more read kept = let full = e.3 in omega (arith, full, few)
   goes_on DeskGone e decided few there y more read kept = there refl e.0
   goes_on (Fault (Conn.Wire Wire.Truncated)) e decided few there y more read kept =
-      not_request max rest cut y more e.0.0 (λ s. absurd (cc)) (λ a s r same. absurd (cc)) read kept
+      not_request max s.held cut y more e.0.0 (λ s. absurd (cc)) (λ a s r same. absurd (cc)) read kept
   goes_on (Fault (Conn.Wire Wire.Read)) e decided few there y more read kept = elim e.0 [
-    | inl none ↦ not_request max rest nothing y more none (λ s. absurd (cc)) (λ a s r same. absurd (cc)) read kept
-    | inr short ↦ not_request max rest cut y more short (λ s. absurd (cc)) (λ a s r same. absurd (cc)) read kept
+    | inl none ↦ not_request max s.held nothing y more none (λ s. absurd (cc)) (λ a s r same. absurd (cc)) read kept
+    | inr short ↦ not_request max s.held cut y more short (λ s. absurd (cc)) (λ a s r same. absurd (cc)) read kept
   ]
   goes_on (Fault (Conn.Wire Wire.NoMemory)) e decided few there y more read kept = decided tt
   goes_on (Fault (Conn.Wire Wire.Ended)) e decided few there y more read kept = e.0
@@ -307,17 +304,16 @@ last_asked step count count2 rest at new at2 new2 end end2 nothing xs ys text te
     ap (map asked) (x.0 ∙ sym y.0)
 
 -- ends at one rest have one parse
-same_parse : {D : Type 0} (step : Moves D) (max count count2 : ℕ) (rest rest2 : List ℕ) (at new at2 new2 : D)
-    (mid after mid2 after2 : SinkState) (end end2 : ConnEnd)
-    (xs ys : List WireExchange) → rest ≡ rest2 → (a : Ends step max count rest at new mid after end xs)
-    (b : Ends step max count2 rest2 at2 new2 mid2 after2 end2 ys)
-    → LastOf step count2 rest at2 new2 end2 a.parse ys b.text
-same_parse step max count count2 rest rest2 at new at2 new2 mid after mid2 after2 end end2 xs ys e a b =
+same_parse : {D : Type 0} (step : Moves D) (max : ℕ) (s s2 : Standing D) (new new2 : ConnectionState D)
+    (end end2 : ConnEnd) (xs ys : List WireExchange) → s.held ≡ s2.held → (a : Ends step max s new end xs)
+    (b : Ends step max s2 new2 end2 ys)
+    → LastOf step s2.answered s.held s2.desk new2.desk end2 a.parse ys b.text
+same_parse step max s s2 new new2 end end2 xs ys e a b =
     let same =
-    requests_are_unambiguous.one max rest b.parse a.parse (subst (λ r. ParsesAsRequest max r b.parse) (sym e) b.parses)
-    a.parses b.no_bad_head a.no_bad_head in
-    subst (λ p. LastOf step count2 rest at2 new2 end2 p ys b.text) same
-    (subst (λ r. LastOf step count2 r at2 new2 end2 b.parse ys b.text) (sym e) b.last)
+    requests_are_unambiguous.one max s.held b.parse a.parse
+    (subst (λ r. ParsesAsRequest max r b.parse) (sym e) b.parses) a.parses b.no_bad_head a.no_bad_head in
+    subst (λ p. LastOf step s2.answered s.held s2.desk new2.desk end2 p ys b.text) same
+    (subst (λ r. LastOf step s2.answered r s2.desk new2.desk end2 b.parse ys b.text) (sym e) b.last)
 
 -- how many come before one that goes on
 few_before : (max : ℕ) (rest : List ℕ) (xs ys : List WireExchange) → GoesOn max rest xs ys → length ys < max_requests
@@ -329,23 +325,21 @@ few_before max rest xs ys g few =
     (arith, few, total, front, length-append g.front (g.next ∷ g.behind), length-map xs asked, length-map g.front asked)
 
 module _ {D : Type 0} (step : Moves D) (max : ℕ) where
+  -- where a dialogue stood when it ended
+  abbrev stood : Dialogue step max → Standing D
+  stood d = stand (length d.is.exchanges) d.is.rest d.is.at d.is.mid
+
   -- the end of a dialogue
   ends_of : (d : Dialogue step max) → IsDecided step max d
-      → Ends step max (length d.is.exchanges) d.is.rest d.is.at d.new d.is.mid d.after d.end
-      (answered_last step max (stand (length d.is.exchanges) d.is.rest d.left d.is.at d.is.mid) d.new d.after
-      d.end d.is.ended)
-  ends_of d decided =
-      ends step max (length d.is.exchanges) d.is.at d.new d.is.rest d.left d.is.mid d.after d.end d.is.ended decided
+      → Ends step max (stood d) d.new d.end (answered_last step max (stood d) d.new d.end d.is.ended)
+  ends_of d decided = ends step max (stood d) d.new d.end d.is.ended decided
 
   -- of two with one rest, the end of the other at what this one found
   the_other : (d e : Dialogue step max) → d.is.rest ≡ e.is.rest → {xs ys : List WireExchange}
-      → (a : Ends step max (length d.is.exchanges) d.is.rest d.is.at d.new d.is.mid d.after d.end xs)
-      (b : Ends step max (length e.is.exchanges) e.is.rest e.is.at e.new e.is.mid e.after e.end ys)
-      → LastOf step (length e.is.exchanges) d.is.rest e.is.at e.new e.end a.parse ys b.text
+      → (a : Ends step max (stood d) d.new d.end xs) (b : Ends step max (stood e) e.new e.end ys)
+      → LastOf step (length e.is.exchanges) d.is.rest e.is.at e.new.desk e.end a.parse ys b.text
   the_other d e same {xs} {ys} a b =
-      same_parse step max (length d.is.exchanges) (length e.is.exchanges) d.is.rest e.is.rest d.is.at d.new e.is.at
-      e.new d.is.mid d.after e.is.mid e.after
-      d.end e.end xs ys same a b
+      same_parse step max (stood d) (stood e) d.new e.new d.end e.end xs ys same a b
 
   compared : (d e : Dialogue step max) → d.is.bytes ≡ e.is.bytes
       → Compare max d.is.rest e.is.rest d.is.exchanges e.is.exchanges
@@ -356,9 +350,9 @@ module _ {D : Type 0} (step : Moves D) (max : ℕ) where
   -- no dialogue goes on where the other ended
   none_goes_on : (d e : Dialogue step max) → IsDecided step max d
       → (g : GoesOn max d.is.rest d.is.exchanges e.is.exchanges)
-      → (d.end ≡ DeskGone → FindsNoDesk step max d.is.at d.new d.is.rest → ⊥) → ⊥
+      → (d.end ≡ DeskGone → FindsNoDesk step max (stood d) d.new.desk → ⊥) → ⊥
   none_goes_on d e decided g there =
-      goes_on step max (length d.is.exchanges) d.is.at d.new d.is.rest d.left d.is.mid d.after d.end d.is.ended decided
+      goes_on step max (stood d) d.new d.end d.is.ended decided
       (few_before max d.is.rest d.is.exchanges e.is.exchanges g e.is.served.few) there g.next g.more g.read g.kept
 
   ask_the_same : (d e : Dialogue step max) → d.is.bytes ≡ e.is.bytes → IsDecided step max d → IsDecided step max e
@@ -370,8 +364,8 @@ module _ {D : Type 0} (step : Moves D) (max : ℕ) where
           let a = ends_of d decided in
           let b = ends_of e decided2 in
           let lasts =
-          last_asked step (length d.is.exchanges) (length e.is.exchanges) d.is.rest d.is.at d.new e.is.at e.new d.end
-          e.end a.parse _ _ a.text b.text
+          last_asked step (length d.is.exchanges) (length e.is.exchanges) d.is.rest d.is.at d.new.desk e.is.at
+          e.new.desk d.end e.end a.parse _ _ a.text b.text
           there there2 a.last (the_other d e s.1 a b) in
           record {
             requests =
@@ -470,27 +464,28 @@ module _ {D : Type 0} (step : Moves D) (det : IsDeterministic step) where
       (x.0 ∙ sym y.0, x.1 ∙ e ∙ sym y.1, x.2 ∙ sym y.2)
 
   -- a desk that answers in one dialogue isn't gone in the other
-  not_gone : (max : ℕ) (d e : Dialogue step max) → HasMemory d.is.exchanges → HasMemory e.is.exchanges → d.old ≡ e.old
-      → (g : GoesOn max d.is.rest d.is.exchanges e.is.exchanges) → FindsNoDesk step max d.is.at d.new d.is.rest → ⊥
+  not_gone : (max : ℕ) (d e : Dialogue step max) → HasMemory d.is.exchanges → HasMemory e.is.exchanges
+      → d.old.desk ≡ e.old.desk → (g : GoesOn max d.is.rest d.is.exchanges e.is.exchanges)
+      → FindsNoDesk step max (stood step max d) d.new.desk → ⊥
   not_gone max d e m n same g f =
       let split = subst HasMemory g.split n in
       let parts =
-      answers_split e.old e.is.at g.front g.behind g.next
-      (subst (λ ys. Answers step e.old ys e.is.at) g.split e.is.served.answered) in
+      answers_split e.old.desk e.is.at g.front g.behind g.next
+      (subst (λ ys. Answers step e.old.desk ys e.is.at) g.split e.is.served.answered) in
       let at_same =
-      (same_answers d.old e.old d.is.at parts.0 d.is.exchanges g.front m (memory_left g.front (g.next ∷ g.behind) split)
-      same g.same d.is.served.answered parts.2).1 in
+      (same_answers d.old.desk e.old.desk d.is.at parts.0 d.is.exchanges g.front m
+      (memory_left g.front (g.next ∷ g.behind) split) same g.same d.is.served.answered parts.2).1 in
       let s =
       same_request max f.ask g.next.ask f.style g.next.style f.message g.next.message f.more g.more f.request g.kept.0
       (sym f.read ∙ g.read) in
       let once =
-      det parts.0 g.next.ask None (Some g.next.answer) d.new parts.1
-      (subst₂ (λ s q. step s q None d.new) at_same s.ask f.gone) parts.3
+      det parts.0 g.next.ask None (Some g.next.answer) d.new.desk parts.1
+      (subst₂ (λ s q. step s q None d.new.desk) at_same s.ask f.gone) parts.3
       none_is_enough (enough g.next.answer (memory_right g.front (g.next ∷ g.behind) split).0) in
       some_not_none g.next.answer (sym once.0)
 
   are_the_same : (max : ℕ) (d e : Dialogue step max) → d.is.bytes ≡ e.is.bytes → IsDecided step max d
-      → IsDecided step max e → d.old ≡ e.old → HasMemory (answered_in_dialogue step max d)
+      → IsDecided step max e → d.old.desk ≡ e.old.desk → HasMemory (answered_in_dialogue step max d)
       → HasMemory (answered_in_dialogue step max e) → AreTheSame step max d e
   are_the_same max d e same decided decided2 from m n = by (compared step max d e same)
     where
@@ -505,11 +500,11 @@ module _ {D : Type 0} (step : Moves D) (det : IsDeterministic step) where
           let a = ends_of step max d decided in
           let b = ends_of step max e decided2 in
           let whole =
-          same_answers d.old e.old d.is.at e.is.at d.is.exchanges e.is.exchanges m_served n_served from s.0
+          same_answers d.old.desk e.old.desk d.is.at e.is.at d.is.exchanges e.is.exchanges m_served n_served from s.0
           d.is.served.answered e.is.served.answered in
           let lasts =
-          last_same (length d.is.exchanges) (length e.is.exchanges) d.is.rest d.is.at d.new e.is.at e.new d.end e.end
-          a.parse _ _ a.text b.text
+          last_same (length d.is.exchanges) (length e.is.exchanges) d.is.rest d.is.at d.new.desk e.is.at e.new.desk
+          d.end e.end a.parse _ _ a.text b.text
           (memory_right d.is.exchanges _ m) (memory_right e.is.exchanges _ n) (ap length whole.0) whole.1 a.last
           (the_other step max d e s.1 a b) in
           let texts : replies e.is.exchanges ++ b.text ≡ replies d.is.exchanges ++ a.text =
@@ -519,10 +514,11 @@ module _ {D : Type 0} (step : Moves D) (det : IsDeterministic step) where
             rest = s.1;
             desk = lasts.1;
             written = replies d.is.exchanges ++ a.text;
-            taken = took_both d.before d.is.mid d.after (replies d.is.exchanges) a.text d.is.served.written a.took;
+            taken =
+                took_both d.old.sink d.is.mid d.new.sink (replies d.is.exchanges) a.text d.is.served.written a.took;
             taken_too =
-                subst (TookAll e.before e.after) texts
-                (took_both e.before e.is.mid e.after (replies e.is.exchanges) b.text e.is.served.written b.took);
+                subst (TookAll e.old.sink e.new.sink) texts
+                (took_both e.old.sink e.is.mid e.new.sink (replies e.is.exchanges) b.text e.is.served.written b.took);
           }
       by (inr (inl g)) =
           absurd (none_goes_on step max d e decided g (λ gone f. not_gone max d e m_served n_served from g f))

@@ -9,8 +9,8 @@ use Rattle.upload_wire.specs.declared.connection.ConnEnd.TheVariants.{Clean, Aft
 use Rattle.upload_wire.specs.declared.connection.ConnEnd.TheVariants.{Fault}
 use Rattle.upload_wire.specs.declared.connection.ConnFault.TheVariants as Conn
 use Rattle.upload_wire.specs.declared.desk.ServiceDesk.{ServiceDesk}
-use Rattle.http_wire.specs.States.{SourceState, SinkState}
-use Rattle.upload_wire.specs.Conversation.{WireExchange, Answers, EndsWith, IsConversation, stand}
+use Rattle.upload_wire.specs.Conversation.{WireExchange, Answers, ConnectionState, Standing, stand, EndsWith}
+use Rattle.upload_wire.specs.Conversation.{IsConversation}
 use Rattle.upload_wire.specs.ServiceTurns.{StepsService}
 use Rattle.upload_wire.specs.ConnectionRuns.{service_exchange, answered_last, answered, IsRunOfService}
 use Rattle.upload_wire.proofs.ConversationLemmas.{answers_more}
@@ -60,24 +60,23 @@ run_of old new xs end there answers =
     let all = ran old new xs answers in
     record { run = all.run; same_secret = all.same_secret; same_moment = all.same_moment; never_gone = there }
 
-module _ (max_body count : ℕ) (old at new : ServiceDesk) (rest : List ℕ) (left : SourceState) (mid after : SinkState)
+module _ (max_body : ℕ) (old : ServiceDesk) (s : Standing ServiceDesk) (new : ConnectionState ServiceDesk)
     (xs : List WireExchange)
-    (answers : Answers StepsService old xs at) where
+    (answers : Answers StepsService old xs s.desk) where
   -- nothing more was asked
-  none_more : (end : ConnEnd) → (end ≡ DeskGone → ⊥) → new ≡ at → IsRunOfService old new (xs ++ []) end
+  none_more : (end : ConnEnd) → (end ≡ DeskGone → ⊥) → new.desk ≡ s.desk → IsRunOfService old new.desk (xs ++ []) end
   none_more end there same =
-      run_of old new (xs ++ []) end there
-      (subst (λ ys. Answers StepsService old ys new) (sym (append-nil xs))
+      run_of old new.desk (xs ++ []) end there
+      (subst (λ ys. Answers StepsService old ys new.desk) (sym (append-nil xs))
       (subst (λ d. Answers StepsService old xs d) (sym same) answers))
 
-  one_more : (end : ConnEnd) (x : WireExchange) → (end ≡ DeskGone → ⊥) → StepsService at x.ask (Some x.answer) new
-      → IsRunOfService old new (xs ++ x ∷ []) end
+  one_more : (end : ConnEnd) (x : WireExchange) → (end ≡ DeskGone → ⊥)
+      → StepsService s.desk x.ask (Some x.answer) new.desk → IsRunOfService old new.desk (xs ++ x ∷ []) end
   one_more end x there step =
-      run_of old new (xs ++ x ∷ []) end there (answers_more StepsService old at new xs x answers step)
+      run_of old new.desk (xs ++ x ∷ []) end there (answers_more StepsService old s.desk new.desk xs x answers step)
 
-  ended : (end : ConnEnd) (e : EndsWith StepsService max_body (stand count rest left at mid) new after end)
-      → IsRunOfService old new
-      (xs ++ answered_last StepsService max_body (stand count rest left at mid) new after end e) end
+  ended : (end : ConnEnd) (e : EndsWith StepsService max_body s new end)
+      → IsRunOfService old new.desk (xs ++ answered_last StepsService max_body s new end e) end
   ended Clean e = none_more Clean (λ same. cc) e.2.unasked
   ended AfterClose e = one_more AfterClose e.0 (λ same. cc) e.1.answered
   ended AfterBad e = none_more AfterBad (λ same. cc) e.1.unasked
@@ -85,13 +84,13 @@ module _ (max_body count : ℕ) (old at new : ServiceDesk) (rest : List ℕ) (le
   ended DeskGone e = absurd (never_none e.0.gone.said e.0.gone.answered)
   ended (Fault (Conn.Wire fault)) e = none_more (Fault (Conn.Wire fault)) (λ same. cc) e.1.unasked
   ended (Fault Conn.Write) e =
-      elim e as (λ e. IsRunOfService old new (xs ++ ⊎_elim (λ s. s.0 ∷ []) (λ s. []) e) (Fault Conn.Write)) [
+      elim e as (λ e. IsRunOfService old new.desk (xs ++ ⊎_elim (λ s. s.0 ∷ []) (λ s. []) e) (Fault Conn.Write)) [
         | inl h ↦ one_more (Fault Conn.Write) h.0 (λ same. cc) h.1.answered
         | inr h ↦ none_more (Fault Conn.Write) (λ same. cc) h.1.unasked
       ]
 
-pub run_of_conversation : (max_body : ℕ) (first left : SourceState) (old new : ServiceDesk) (before after : SinkState)
-    (end : ConnEnd) → (c : IsConversation StepsService max_body first left old new before after end)
-    → IsRunOfService old new (answered StepsService max_body first left old new before after end c) end
-run_of_conversation max_body first left old new before after end c =
-    ended max_body (length c.exchanges) old c.at new c.rest left c.mid after c.exchanges c.served.answered end c.ended
+pub run_of_conversation : (max_body : ℕ) (old new : ConnectionState ServiceDesk) (end : ConnEnd)
+    → (c : IsConversation StepsService max_body old new end)
+    → IsRunOfService old.desk new.desk (answered StepsService max_body old new end c) end
+run_of_conversation max_body old new end c =
+    ended max_body old.desk (stand (length c.exchanges) c.rest c.at c.mid) new c.exchanges c.served.answered end c.ended

@@ -29,12 +29,12 @@ use Rattle.upload_wire.specs.declared.connection.ConnEnd.TheVariants.{Clean, Aft
 use Rattle.upload_wire.specs.declared.connection.ConnEnd.TheVariants.{Fault}
 use Rattle.upload_wire.specs.declared.connection.ConnFault.TheVariants as Conn
 use Rattle.upload_wire.specs.RequestText.{IsRequest, IsBad, ReadsNext, FindsNext}
-use Rattle.upload_wire.specs.Conversation.{Moves, WireExchange, Standing, stand, ReadsFail, WireStops}
+use Rattle.upload_wire.specs.Conversation.{Moves, WireExchange, connection, stand, ReadsFail, WireStops}
 use Rattle.upload_wire.specs.Phases.{most_reads}
 use Rattle.upload_wire.specs.Events.{Event, Head, Unreadable, Replied, Telling, Hears}
 use Rattle.upload_wire.specs.Told.{HasLine, TellsExchange, TellsEach, TellsRefusal, TellsCut, TellsEnd, event_of, rules}
 use Rattle.upload_wire.specs.Told.{Rules, sides, Ending, EndsAs, IsTold}
-use Rattle.upload_wire.specs.Inner.ConversationSteps.{IsRepliedTo, RefusedWith}
+use Rattle.upload_wire.specs.Inner.ConversationSteps.{IsRepliedTo, styled, RefusedWith, Progress, progress}
 use Rattle.upload_wire.specs.Inner.ToldSteps.{listening, TellsNext, ReadsTold, Observed, observed, GoesOnTold}
 use Rattle.upload_wire.specs.Inner.ToldSteps.{StopsTold}
 use Rattle.upload_wire.proofs.RequestLemmas.{head_fault_next, reads_after}
@@ -190,8 +190,9 @@ module _ {D O : Type 0} (step : Moves D) (telling : Telling O) (max count : ℕ)
     }
 
     pub one_more_told : (kept : List ℕ) (next : ℕ) → kept ≡ rest → next ≡ count + 1 → (r : Option ConnEnd)
-        → IsRepliedTo count answer style mid after r → r ≡ None → GoesOnTold (rules step telling
-        max) (observed (stand count held first at mid) was) (observed (stand next kept left new after) is)
+        → IsRepliedTo count (styled answer style) mid after r → r ≡ None
+        → GoesOnTold (rules step telling max) (observed (progress count held first at mid) was)
+        (observed (progress next kept left new after) is)
     unfolding one_more
     one_more_told kept next stays one None a e = record {
       goes_on =
@@ -203,9 +204,10 @@ module _ {D O : Type 0} (step : Moves D) (telling : Telling O) (max count : ℕ)
     }
     one_more_told kept next stays one (Some x) a e = absurd (cc)
 
-    pub one_last_told : (kept : List ℕ) (next : ℕ) (r : Option ConnEnd) → IsRepliedTo count answer style mid after r
-        → IfSome r (StopsTold (rules step telling max) (observed (stand count held first at mid) was)
-        (observed (stand next kept left new after) is))
+    pub one_last_told : (kept : List ℕ) (next : ℕ) (r : Option ConnEnd)
+        → IsRepliedTo count (styled answer style) mid after r
+        → IfSome r (StopsTold (rules step telling max) (observed (progress count held first at mid) was)
+        (observed (progress next kept left new after) is))
     unfolding one_last
     one_last_told kept next None a = tt
     one_last_told kept next (Some Clean) a = absurd a
@@ -239,8 +241,8 @@ module _ {D O : Type 0} (step : Moves D) (telling : Telling O) (max count : ℕ)
 
   -- the desk was gone
   pub gone_told : (kept : List ℕ) (next : ℕ) → step at ask None new
-      → StopsTold (rules step telling max) (observed (stand count held first at mid) was)
-      (observed (stand next kept left new mid) heard) DeskGone
+      → StopsTold (rules step telling max) (observed (progress count held first at mid) was)
+      (observed (progress next kept left new mid) heard) DeskGone
   gone_told kept next gone = record {
     stops = record {
       given = n.next.given;
@@ -291,12 +293,12 @@ module _ {D O : Type 0} (step : Moves D) (telling : Telling O) (max count : ℕ)
     }
 
     pub refusal_told : (kept : List ℕ) (next : ℕ) (end : ConnEnd) → RefusedWith mid after why end
-        → StopsTold (rules step telling max) (observed (stand count held first at mid) was)
-        (observed (stand next kept left at after) is) end
+        → StopsTold (rules step telling max) (observed (progress count held first at mid) was)
+        (observed (progress next kept left at after) is) end
     unfolding after_refusal
     refusal_told kept next AfterBad a = record {
       stops =
-          after_refusal step max (stand count held first at mid) (stand next kept left at after) rest why AfterBad
+          after_refusal step max (progress count held first at mid) (progress next kept left at after) rest why AfterBad
           n.next same refl a;
       events = refused;
       tells = tells_refused;
@@ -304,7 +306,7 @@ module _ {D O : Type 0} (step : Moves D) (telling : Telling O) (max count : ℕ)
     }
     refusal_told kept next (Fault Conn.Write) a = record {
       stops =
-          after_refusal step max (stand count held first at mid) (stand next kept left at after) rest why
+          after_refusal step max (progress count held first at mid) (progress next kept left at after) rest why
           (Fault Conn.Write) n.next same refl a;
       events = refused;
       tells = tells_refused;
@@ -336,8 +338,9 @@ module _ {D O : Type 0} (step : Moves D) (telling : Telling O) (max count : ℕ)
       → ReadsTold telling max (listening (input_state held first) was) (listening (input_state rest left) heard)
       (Err fault)
       → Costs (most_reads max) (◌≡◌ {A = Result Next WireFault} (Err fault) (Err Wire.Read)) first left
-      → (kept : List ℕ) (next : ℕ) → StopsTold (rules step telling max) (observed (stand count held first at mid) was)
-      (observed (stand next kept left at mid) heard) (Fault (Conn.Wire fault))
+      → (kept : List ℕ) (next : ℕ)
+      → StopsTold (rules step telling max) (observed (progress count held first at mid) was)
+      (observed (progress next kept left at mid) heard) (Fault (Conn.Wire fault))
   stopped_told fault n costs kept next = record {
     stops = record {
       given = n.next.given;
@@ -360,7 +363,7 @@ each_more (y ∷ xs) x es fs h k =
 
 -- what a connection has done, and what its observer was told of it
 pub record SoFarTold {D O : Type 0} (r : Rules D O) (begun now : Observed D O) : Type 0 where
-  pub so_far : SoFar r.moves r.max_body begun.standing now.standing
+  pub so_far : SoFar r.moves r.max_body begun.progress now.progress
   pub events : List Event
   pub each : TellsEach so_far.exchanges events
   pub told : Hears r.told begun.observer events now.observer
@@ -368,8 +371,8 @@ pub record SoFarTold {D O : Type 0} (r : Rules D O) (begun now : Observed D O) :
 pub starts_told : {D O : Type 0} (step : Moves D) (telling : Telling O) (max before : ℕ) (left : List ℕ)
     (source : SourceState) (desk : D) (sink : SinkState) (observer : O)
     (held : List ℕ) (answered : ℕ) → held ≡ [] → answered ≡ 0
-    → SoFarTold (rules step telling max) (observed (stand before left source desk sink) observer)
-    (observed (stand answered held source desk sink) observer)
+    → SoFarTold (rules step telling max) (observed (progress before left source desk sink) observer)
+    (observed (progress answered held source desk sink) observer)
 unfolding starts
 starts_told step telling max before left source desk sink observer held answered empty none = record {
   so_far = starts step max before left source desk sink held answered empty none;
@@ -385,36 +388,35 @@ unfolding goes_on
 goes_on_told step telling max limit begun now next same s more =
     let n = subst (λ k. GoesOnTold (rules step telling k) now next) same more in
     record {
-      so_far = goes_on step max begun.standing now.standing next.standing s.so_far n.goes_on;
+      so_far = goes_on step max begun.progress now.progress next.progress s.so_far n.goes_on;
       events = s.events ++ n.events;
       each = each_more s.so_far.exchanges n.goes_on.exchange s.events n.events s.each n.tells;
       told = hears_more telling begun.observer now.observer next.observer s.events n.events s.told n.told;
     }
 
-abbrev ending_at : {D : Type 0} → Moves D → ℕ → Standing D → Standing D → List ℕ → ℕ → Ending D
+abbrev ending_at : {D : Type 0} → Moves D → ℕ → Progress D → Progress D → List ℕ → ℕ → Ending D
 ending_at step max now last given count = record {
   moves = step;
   max_body = max;
-  stood = stand count (now.held ++ given) last.source now.desk now.sink;
-  desk = last.desk;
-  sink = last.sink;
+  stood = stand count (now.held ++ given) now.desk now.sink;
+  left = connection last.source last.desk last.sink;
 }
 
 pub ends_told : {D O : Type 0} (step : Moves D) (telling : Telling O) (max limit : ℕ) (begun now last : Observed D O)
     (end : ConnEnd) → limit ≡ max → SoFarTold (rules step telling max) begun now
     → StopsTold (rules step telling limit) now last end → IsTold (rules step telling max)
-    (sides begun.standing.source begun.standing.desk begun.observer begun.standing.sink)
-    (sides last.standing.source last.standing.desk last.observer last.standing.sink) end
+    (sides begun.progress.source begun.progress.desk begun.observer begun.progress.sink)
+    (sides last.progress.source last.progress.desk last.observer last.progress.sink) end
 unfolding ends
 ends_told {D} {O} step telling max limit begun now last end same s stopped =
     let n = subst (λ k. StopsTold (rules step telling k) now last end) same stopped in
-    let k : ℕ → Ending D = λ count. ending_at step max now.standing last.standing n.stops.given count in
+    let k : ℕ → Ending D = λ count. ending_at step max now.progress last.progress n.stops.given count in
     let e : (e : EndsAs (k (length s.so_far.exchanges)) end)
     × TellsEnd (k (length s.so_far.exchanges)) end e n.events =
     subst (λ count. (e : EndsAs (k count) end) × TellsEnd (k count) end e n.events) (sym s.so_far.counted)
     (n.stops.ended, n.tells) in
     record {
-      conversation = ends step max begun.standing now.standing last.standing end s.so_far n.stops e.0;
+      conversation = ends step max begun.progress now.progress last.progress end s.so_far n.stops e.0;
       of_exchanges = s.events;
       of_end = n.events;
       each = s.each;

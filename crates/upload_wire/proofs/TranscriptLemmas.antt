@@ -3,7 +3,7 @@ use Rattle.std.proofs.Common.{◌≡◌, ℕ, List, [], ◌++◌, length, sym, a
 use Rattle.std.proofs.lemmas.List.{append-nil}
 use Rattle.http_wire.specs.States.{SinkState}
 use Rattle.http_wire.specs.Writing.{Takes}
-use Rattle.upload_wire.specs.Conversation.{Moves, replies, Standing, stand, EndsWith}
+use Rattle.upload_wire.specs.Conversation.{Moves, replies, ConnectionState, Standing, stand, EndsWith}
 use Rattle.upload_wire.specs.Transcripts.{last_written, TranscriptsTellConversations}
 use Rattle.upload_wire.specs.declared.connection.ConnEnd.{ConnEnd}
 use Rattle.upload_wire.specs.declared.connection.ConnEnd.TheVariants.{Clean, AfterClose, AfterBad, TooMany, DeskGone}
@@ -13,26 +13,26 @@ use Rattle.upload_wire.specs.declared.connection.ConnFault.TheVariants as Conn
 nothing_more : (a b : SinkState) → b ≡ a → b.taken ≡ a.taken ++ []
 nothing_more a b e = ap (λ (s : SinkState). s.taken) e ∙ sym (append-nil a.taken)
 
-module _ {D : Type 0} (step : Moves D) (max_body : ℕ) (s : Standing D) (new : D) (after : SinkState) where
+module _ {D : Type 0} (step : Moves D) (max_body : ℕ) (s : Standing D) (new : ConnectionState D) where
   -- what an end adds
-  last_told : (end : ConnEnd) (e : EndsWith step max_body s new after end)
-      → after.taken ≡ s.sink.taken ++ last_written step max_body s new after end e
-  last_told Clean e = nothing_more s.sink after e.2.unwritten
+  last_told : (end : ConnEnd) (e : EndsWith step max_body s new end)
+      → new.sink.taken ≡ s.sink.taken ++ last_written step max_body s new end e
+  last_told Clean e = nothing_more s.sink new.sink e.2.unwritten
   last_told AfterClose e = e.3.took.takes.told
   last_told AfterBad e = e.2.took.takes.told
   last_told TooMany e = e.4.took.takes.told
-  last_told DeskGone e = nothing_more s.sink after e.1
-  last_told (Fault (Conn.Wire fault)) e = nothing_more s.sink after e.1.unwritten
+  last_told DeskGone e = nothing_more s.sink new.sink e.1
+  last_told (Fault (Conn.Wire fault)) e = nothing_more s.sink new.sink e.1.unwritten
   last_told (Fault Conn.Write) (inl w) = w.2.takes.told
   last_told (Fault Conn.Write) (inr w) = w.2.takes.told
 
 pub conversations_told : {D : Type 0} (step : Moves D) → TranscriptsTellConversations step
-conversations_told step = λ max_body first left old new before after end c.
-    let last = last_told step max_body (stand (length c.exchanges) c.rest left c.at c.mid) new after end c.ended in
+conversations_told {D} step = λ max_body old new end c.
+    let s : Standing D = stand (length c.exchanges) c.rest c.at c.mid in
+    let last = last_told step max_body s new end c.ended in
     record {
-      read = c.gives.told ∙ ap (λ t. first.given ++ t) c.served.read;
+      read = c.gives.told ∙ ap (λ t. old.source.given ++ t) c.served.read;
       written =
-          last ∙ ap (λ t. t ++ last_written step max_body (stand (length c.exchanges) c.rest left c.at c.mid) new after
-          end c.ended) c.served.written.takes.told
-          ∙ append_assoc before.taken (replies c.exchanges) _;
+          last ∙ ap (λ t. t ++ last_written step max_body s new end c.ended) c.served.written.takes.told
+          ∙ append_assoc old.sink.taken (replies c.exchanges) _;
     }

@@ -3,8 +3,8 @@ use Rattle.std.specs.Prelude.{◌≡◌, ℕ, List, [], ◌∷◌, ◌++◌, len
 use Rattle.upload_service.specs.declared.ask.Ask.{Ask}
 use Rattle.upload_service.specs.Run.{Run}
 use Rattle.upload_service.specs.Run as service
-use Rattle.http_wire.specs.States.{SourceState, SinkState}
-use Rattle.upload_wire.specs.Conversation.{Moves, WireExchange, Standing, stand, EndsWith, IsConversation}
+use Rattle.upload_wire.specs.Conversation.{Moves, WireExchange, ConnectionState, Standing, stand, EndsWith}
+use Rattle.upload_wire.specs.Conversation.{IsConversation}
 use Rattle.upload_wire.specs.ServiceTurns.{StepsService}
 use Rattle.upload_wire.specs.declared.connection.ConnEnd.{ConnEnd}
 use Rattle.upload_wire.specs.declared.connection.ConnEnd.TheVariants.{Clean, AfterClose, AfterBad, TooMany, DeskGone}
@@ -15,9 +15,9 @@ use mathlib.Core.Logic.{⊎_elim}
 
 -- ---- what a conversation asked
 
-module _ {D : Type 0} (step : Moves D) (max_body : ℕ) (s : Standing D) (new : D) (after : SinkState) where
+module _ {D : Type 0} (step : Moves D) (max_body : ℕ) (s : Standing D) (new : ConnectionState D) where
   -- the exchange inside an end: the request behind all others, where it was answered
-  abbrev pub answered_last : (end : ConnEnd) → EndsWith step max_body s new after end → List WireExchange
+  abbrev pub answered_last : (end : ConnEnd) → EndsWith step max_body s new end → List WireExchange
   answered_last Clean e = []
   answered_last AfterClose e = e.0 ∷ []
   answered_last AfterBad e = []
@@ -27,7 +27,7 @@ module _ {D : Type 0} (step : Moves D) (max_body : ℕ) (s : Standing D) (new : 
   answered_last (Fault Conn.Write) e = ⊎_elim (λ w. w.0 ∷ []) (λ w. []) e
 
   -- the request at which the desk was gone
-  abbrev pub unanswered_last : (end : ConnEnd) → EndsWith step max_body s new after end → List Ask
+  abbrev pub unanswered_last : (end : ConnEnd) → EndsWith step max_body s new end → List Ask
   unanswered_last Clean e = []
   unanswered_last AfterClose e = []
   unanswered_last AfterBad e = []
@@ -36,17 +36,15 @@ module _ {D : Type 0} (step : Moves D) (max_body : ℕ) (s : Standing D) (new : 
   unanswered_last (Fault (Conn.Wire fault)) e = []
   unanswered_last (Fault Conn.Write) e = []
 
-module _ {D : Type 0} (step : Moves D) (max_body : ℕ) (first left : SourceState) (old new : D)
-    (before after : SinkState) (end : ConnEnd)
-    (c : IsConversation step max_body first left old new before after end) where
+module _ {D : Type 0} (step : Moves D) (max_body : ℕ) (old new : ConnectionState D) (end : ConnEnd)
+    (c : IsConversation step max_body old new end) where
   -- all requests that the desk answered, in their order, and the one that it didn't
   abbrev pub answered : List WireExchange
   answered =
-      c.exchanges
-      ++ answered_last step max_body (stand (length c.exchanges) c.rest left c.at c.mid) new after end c.ended
+      c.exchanges ++ answered_last step max_body (stand (length c.exchanges) c.rest c.at c.mid) new end c.ended
 
   abbrev pub unanswered : List Ask
-  unanswered = unanswered_last step max_body (stand (length c.exchanges) c.rest left c.at c.mid) new after end c.ended
+  unanswered = unanswered_last step max_body (stand (length c.exchanges) c.rest c.at c.mid) new end c.ended
 
 -- ---- over a service
 
@@ -68,6 +66,6 @@ pub record IsRunOfService (old new : ServiceDesk) (exchanges : List WireExchange
 -- every conversation over a desk of a service is a run of the service
 abbrev pub ConversationsRunTheService : Type 0
 ConversationsRunTheService =
-    (max_body : ℕ) (first left : SourceState) (old new : ServiceDesk) (before after : SinkState) (end : ConnEnd)
-    → (c : IsConversation StepsService max_body first left old new before after end)
-    → IsRunOfService old new (answered StepsService max_body first left old new before after end c) end
+    (max_body : ℕ) (old new : ConnectionState ServiceDesk) (end : ConnEnd)
+    → (c : IsConversation StepsService max_body old new end)
+    → IsRunOfService old.desk new.desk (answered StepsService max_body old new end c) end

@@ -29,6 +29,16 @@ max_requests = 10000
 abbrev pub Moves : Type 0 → Type 1
 Moves D = D → Ask → Option Answer → D → Type 0
 
+-- What a connection is served with: the source that requests are read from, the desk that answers them, and the sink
+-- that their replies are written to.
+pub record ConnectionState (D : Type 0) : Type 0 where
+  pub source : SourceState
+  pub desk : D
+  pub sink : SinkState
+
+abbrev pub connection : {D : Type 0} → SourceState → D → SinkState → ConnectionState D
+connection source desk sink = record { source = source; desk = desk; sink = sink }
+
 -- ---- exchanges
 
 -- a request as it was read, what it asks, how it wants its reply, and what it was answered
@@ -69,33 +79,31 @@ HandedOnEach before [] mid = before ≡ mid
 HandedOnEach before (x ∷ xs) mid =
     (next : SinkState) × HandedOn before next (reply x.answer x.style) × HandedOnEach next xs mid
 
--- The bytes are these requests and then rest; each request wanted the connection to go on, was answered by the desk,
--- and its reply was written whole and handed on.
-pub record AnswersEach
-    {D : Type 0} (step : Moves D) (max_body : ℕ) (old at : D) (bytes rest : List ℕ) (before mid : SinkState)
-    (xs : List WireExchange)
-    : Type 0 where
-  pub few : length xs < max_requests
-  pub read : bytes ≡ messages xs ++ rest
-  pub kept : AllByRecursion (IsKept max_body) xs
-  pub answered : Answers step old xs at
-  pub written : TookAll before mid (replies xs)
-  pub handed_on : HandedOnEach before xs mid
-
--- ---- ends
-
--- Where a conversation stands: how many requests were answered, what was read and is held, the source, the desk and the
+-- Where a conversation stands: how many requests were answered, what was read and isn't answered, the desk and the
 -- sink.
 pub record Standing (D : Type 0) : Type 0 where
   pub answered : ℕ
   pub held : List ℕ
-  pub source : SourceState
   pub desk : D
   pub sink : SinkState
 
-abbrev pub stand : {D : Type 0} → ℕ → List ℕ → SourceState → D → SinkState → Standing D
-stand answered held source desk sink =
-    record { answered = answered; held = held; source = source; desk = desk; sink = sink }
+abbrev pub stand : {D : Type 0} → ℕ → List ℕ → D → SinkState → Standing D
+stand answered held desk sink = record { answered = answered; held = held; desk = desk; sink = sink }
+
+-- From old to new these requests were answered: what was held is the requests and then what is still held; each request
+-- wanted the connection to go on, was answered by the desk, and its reply was written whole and handed on.
+pub record AnswersEach
+    {D : Type 0} (step : Moves D) (max_body : ℕ) (old new : Standing D) (xs : List WireExchange)
+    : Type 0 where
+  pub few : length xs < max_requests
+  pub counted : new.answered ≡ old.answered + length xs
+  pub read : old.held ≡ messages xs ++ new.held
+  pub kept : AllByRecursion (IsKept max_body) xs
+  pub answered : Answers step old.desk xs new.desk
+  pub written : TookAll old.sink new.sink (replies xs)
+  pub handed_on : HandedOnEach old.sink xs new.sink
+
+-- ---- ends
 
 -- The reply to a request that comes behind so many others: the last that a connection may have closes it.
 abbrev pub last_style : ℕ → Style → Style
@@ -104,33 +112,33 @@ last_style count style = record { head = style.head; keep = style.keep && not (c
 abbrev pub last_reply : ℕ → WireExchange → List ℕ
 last_reply count x = reply x.answer (last_style count x.style)
 
--- rest begins with the request, and the desk answered it
-pub record AnswersNext {D : Type 0} (step : Moves D) (max_body : ℕ) (at new : D) (rest : List ℕ)
-    (x : WireExchange) : Type 0 where
+-- what is held begins with the request, and the desk answered it
+pub record AnswersNext {D : Type 0} (step : Moves D) (max_body : ℕ) (s : Standing D) (new : D) (x : WireExchange)
+    : Type 0 where
   pub more : List ℕ
-  pub read : rest ≡ x.message ++ more
+  pub read : s.held ≡ x.message ++ more
   pub request : IsRead max_body x
-  pub answered : step at x.ask (Some x.answer) new
+  pub answered : step s.desk x.ask (Some x.answer) new
 
--- rest begins with a request, and the desk was gone when it was asked
-pub record FindsNoDesk {D : Type 0} (step : Moves D) (max_body : ℕ) (at new : D) (rest : List ℕ) : Type 0 where
+-- what is held begins with a request, and the desk was gone when it was asked
+pub record FindsNoDesk {D : Type 0} (step : Moves D) (max_body : ℕ) (s : Standing D) (new : D) : Type 0 where
   pub message : List ℕ
   pub more : List ℕ
   pub ask : Ask
   pub style : Style
-  pub read : rest ≡ message ++ more
+  pub read : s.held ≡ message ++ more
   pub request : IsRequest max_body message ask style
-  pub gone : step at ask None new
+  pub gone : step s.desk ask None new
 
--- rest is refused as a request, and the desk wasn't asked
-pub record Refuses {D : Type 0} (max_body : ℕ) (at new : D) (rest : List ℕ) (why : Bad) : Type 0 where
-  pub bad : IsBad max_body rest why
-  pub unasked : new ≡ at
+-- what is held is refused as a request, and the desk wasn't asked
+pub record Refuses {D : Type 0} (max_body : ℕ) (s : Standing D) (new : D) (why : Bad) : Type 0 where
+  pub bad : IsBad max_body s.held why
+  pub unasked : new ≡ s.desk
 
 -- the desk wasn't asked, and the sink stands as it stood
-pub record StandsStill {D : Type 0} (at new : D) (mid after : SinkState) : Type 0 where
-  pub unasked : new ≡ at
-  pub unwritten : after ≡ mid
+pub record StandsStill {D : Type 0} (s : Standing D) (new : ConnectionState D) : Type 0 where
+  pub unasked : new.desk ≡ s.desk
+  pub unwritten : new.sink ≡ s.sink
 
 -- why the reader gave no request: what the bytes say of it, and what the source does
 abbrev pub WireStops : ℕ → List ℕ → SourceState → WireFault → Type 0
@@ -139,26 +147,26 @@ WireStops max_body rest left Wire.Read = HoldsNoRequest max_body rest
 WireStops max_body rest left Wire.NoMemory = ⊤
 WireStops max_body rest left Wire.Ended = ⊥
 
--- How a conversation ends that stands so, where what it holds is all that was read and not answered: the desk's new
--- state, and the sink's.
-abbrev pub EndsWith : {D : Type 0} → Moves D → ℕ → Standing D → D → SinkState → ConnEnd → Type 0
-EndsWith step max_body s new after Clean = (s.held ≡ []) × HasEnded s.source × StandsStill s.desk new s.sink after
-EndsWith step max_body s new after AfterClose =
-    (x : WireExchange) × AnswersNext step max_body s.desk new s.held x × (x.style.keep ≡ false)
-    × HandedOn s.sink after (last_reply s.answered x)
-EndsWith step max_body s new after AfterBad =
-    (why : Bad) × Refuses max_body s.desk new s.held why × HandedOn s.sink after (bad why)
-EndsWith step max_body s new after TooMany =
-    (x : WireExchange) × AnswersNext step max_body s.desk new s.held x × (x.style.keep ≡ true)
+-- How a conversation that stands so ends, if what it holds is all that was read and not answered, and how the
+-- connection is left.
+abbrev pub EndsWith : {D : Type 0} → Moves D → ℕ → Standing D → ConnectionState D → ConnEnd → Type 0
+EndsWith step max_body s new Clean = (s.held ≡ []) × HasEnded new.source × StandsStill s new
+EndsWith step max_body s new AfterClose =
+    (x : WireExchange) × AnswersNext step max_body s new.desk x × (x.style.keep ≡ false)
+    × HandedOn s.sink new.sink (last_reply s.answered x)
+EndsWith step max_body s new AfterBad =
+    (why : Bad) × Refuses max_body s new.desk why × HandedOn s.sink new.sink (bad why)
+EndsWith step max_body s new TooMany =
+    (x : WireExchange) × AnswersNext step max_body s new.desk x × (x.style.keep ≡ true)
     × (s.answered + 1 ≡ max_requests)
-    × HandedOn s.sink after (last_reply s.answered x)
-EndsWith step max_body s new after DeskGone = FindsNoDesk step max_body s.desk new s.held × (after ≡ s.sink)
-EndsWith step max_body s new after (Fault (Conn.Wire fault)) =
-    WireStops max_body s.held s.source fault × StandsStill s.desk new s.sink after
-EndsWith step max_body s new after (Fault Conn.Write) =
-    ((x : WireExchange) × AnswersNext step max_body s.desk new s.held x
-    × TookFront s.sink after (last_reply s.answered x))
-    ⊎ ((why : Bad) × Refuses max_body s.desk new s.held why × TookFront s.sink after (bad why))
+    × HandedOn s.sink new.sink (last_reply s.answered x)
+EndsWith step max_body s new DeskGone = FindsNoDesk step max_body s new.desk × (new.sink ≡ s.sink)
+EndsWith step max_body s new (Fault (Conn.Wire fault)) =
+    WireStops max_body s.held new.source fault × StandsStill s new
+EndsWith step max_body s new (Fault Conn.Write) =
+    ((x : WireExchange) × AnswersNext step max_body s new.desk x
+    × TookFront s.sink new.sink (last_reply s.answered x))
+    ⊎ ((why : Bad) × Refuses max_body s new.desk why × TookFront s.sink new.sink (bad why))
 
 -- a read failed where the end says so, and nowhere else
 abbrev pub ReadsFail : ConnEnd → ℕ → ℕ → Type 0
@@ -169,15 +177,15 @@ ReadsFail other old new = new ≡ old
 
 -- The bytes that were read, the desk's moves, and the bytes that were written are a conversation with this end.
 pub record IsConversation
-    {D : Type 0} (step : Moves D) (max_body : ℕ) (first left : SourceState) (old new : D)
-    (before after : SinkState) (end : ConnEnd)
+    {D : Type 0} (step : Moves D) (max_body : ℕ) (old new : ConnectionState D) (end : ConnEnd)
     : Type 0 where
   pub bytes : List ℕ
-  pub gives : Gives first left bytes
-  pub reads : ReadsFail end first.failed_reads left.failed_reads
+  pub gives : Gives old.source new.source bytes
+  pub reads : ReadsFail end old.source.failed_reads new.source.failed_reads
   pub exchanges : List WireExchange
   pub rest : List ℕ
   pub at : D
   pub mid : SinkState
-  pub served : AnswersEach step max_body old at bytes rest before mid exchanges
-  pub ended : EndsWith step max_body (stand (length exchanges) rest left at mid) new after end
+  pub served : AnswersEach step max_body (stand 0 bytes old.desk old.sink) (stand (length exchanges) rest at mid)
+      exchanges
+  pub ended : EndsWith step max_body (stand (length exchanges) rest at mid) new end

@@ -4,12 +4,11 @@ use Rattle.std.specs.List.{AllByRecursion}
 use Rattle.upload_service.specs.declared.ask.Ask.{Ask}
 use Rattle.upload_service.specs.declared.answer.Answer.{Answer}
 use Rattle.upload_service.specs.declared.answer.Answer.TheVariants.{NoMemory}
-use Rattle.http_wire.specs.States.{SourceState, SinkState}
 use Rattle.http_wire.specs.Writing.{TookAll}
 use Rattle.http_wire.specs.declared.fault.Bad.TheVariants.{Head}
 use Rattle.http_wire.specs.declared.fault.WireFault.TheVariants as Wire
 use Rattle.upload_wire.specs.RequestText.{IsBad}
-use Rattle.upload_wire.specs.Conversation.{Moves, WireExchange, IsConversation}
+use Rattle.upload_wire.specs.Conversation.{Moves, WireExchange, ConnectionState, IsConversation}
 use Rattle.upload_wire.specs.ConnectionRuns.{answered}
 use Rattle.upload_wire.specs.declared.request.Style.{Style}
 use Rattle.upload_wire.specs.declared.connection.ConnEnd.{ConnEnd}
@@ -18,19 +17,15 @@ use Rattle.upload_wire.specs.declared.connection.ConnFault.TheVariants as Conn
 
 -- a conversation, with all that it is one of
 pub record Dialogue {D : Type 0} (step : Moves D) (max_body : ℕ) : Type 0 where
-  pub first : SourceState
-  pub left : SourceState
-  pub old : D
-  pub new : D
-  pub before : SinkState
-  pub after : SinkState
+  pub old : ConnectionState D
+  pub new : ConnectionState D
   pub end : ConnEnd
-  pub is : IsConversation step max_body first left old new before after end
+  pub is : IsConversation step max_body old new end
 
 -- all requests that were answered, the one inside the end among them
 abbrev pub answered_in_dialogue : {D : Type 0} (step : Moves D) (max_body : ℕ) → Dialogue step max_body
     → List WireExchange
-answered_in_dialogue step max_body d = answered step max_body d.first d.left d.old d.new d.before d.after d.end d.is
+answered_in_dialogue step max_body d = answered step max_body d.old d.new d.end d.is
 
 -- a request as it was read, what it asks, and how it wants its reply
 pub record ReadRequest : Type 0 where
@@ -71,10 +66,10 @@ pub record AskTheSame {D : Type 0} (step : Moves D) (max_body : ℕ) (d e : Dial
 pub record AreTheSame {D : Type 0} (step : Moves D) (max_body : ℕ) (d e : Dialogue step max_body) : Type 0 where
   pub exchanges : answered_in_dialogue step max_body d ≡ answered_in_dialogue step max_body e
   pub rest : d.is.rest ≡ e.is.rest
-  pub desk : d.new ≡ e.new
+  pub desk : d.new.desk ≡ e.new.desk
   pub written : List ℕ
-  pub taken : TookAll d.before d.after written
-  pub taken_too : TookAll e.before e.after written
+  pub taken : TookAll d.old.sink d.new.sink written
+  pub taken_too : TookAll e.old.sink e.new.sink written
 
 -- Of two conversations over the same bytes, whose ends these decide: what is asked is the same, whatever the desk
 -- answers, unless it was gone. What is answered and written, and how the desk is left, is the same too where the desk
@@ -83,6 +78,6 @@ pub record ConversationsAreDetermined {D : Type 0} (step : Moves D) : Type 0 whe
   pub by_bytes : (max_body : ℕ) (d e : Dialogue step max_body) → d.is.bytes ≡ e.is.bytes → IsDecided step max_body d
       → IsDecided step max_body e → d.end ≢ DeskGone → e.end ≢ DeskGone → AskTheSame step max_body d e
   pub by_desk : (max_body : ℕ) (d e : Dialogue step max_body) → d.is.bytes ≡ e.is.bytes → IsDecided step max_body d
-      → IsDecided step max_body e → IsDeterministic step → d.old ≡ e.old
+      → IsDecided step max_body e → IsDeterministic step → d.old.desk ≡ e.old.desk
       → HasMemory (answered_in_dialogue step max_body d) → HasMemory (answered_in_dialogue step max_body e)
       → AreTheSame step max_body d e

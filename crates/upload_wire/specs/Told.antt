@@ -12,7 +12,8 @@ use Rattle.upload_wire.specs.declared.request.Style.{Style}
 use Rattle.upload_wire.specs.Events.{Event, Head, Unreadable, Replied, Telling, Hears}
 use Rattle.upload_wire.specs.ReplySize.{body_size}
 use Rattle.upload_wire.specs.ReplyText.{reply_of}
-use Rattle.upload_wire.specs.Conversation.{Moves, WireExchange, Standing, stand, EndsWith, IsConversation}
+use Rattle.upload_wire.specs.Conversation.{Moves, WireExchange, ConnectionState, connection, Standing, stand, EndsWith}
+use Rattle.upload_wire.specs.Conversation.{IsConversation}
 use Rattle.upload_wire.specs.declared.connection.ConnEnd.{ConnEnd}
 use Rattle.upload_wire.specs.declared.connection.ConnEnd.TheVariants.{Clean, AfterClose, AfterBad, TooMany, DeskGone}
 use Rattle.upload_wire.specs.declared.connection.ConnEnd.TheVariants.{Fault}
@@ -72,16 +73,15 @@ TellsCut text events = (((text ≡ []) ⊎ IsCutHead requests text) × (events �
 
 -- ---- an end
 
--- The last of a conversation: how its desk moves, its limit, where it stood, and its desk and its sink at the end.
+-- The last of a conversation: how its desk moves, its limit, where it stood, and the connection as it is left.
 pub record Ending (D : Type 0) : Type 1 where
   pub moves : Moves D
   pub max_body : ℕ
   pub stood : Standing D
-  pub desk : D
-  pub sink : SinkState
+  pub left : ConnectionState D
 
 abbrev pub EndsAs : {D : Type 0} → Ending D → ConnEnd → Type 0
-EndsAs k end = EndsWith k.moves k.max_body k.stood k.desk k.sink end
+EndsAs k end = EndsWith k.moves k.max_body k.stood k.left end
 
 -- what is told of an end: the request that was answered there, the one that was refused, or the head that nobody
 -- replied to
@@ -116,18 +116,21 @@ pub record Sides (D O : Type 0) : Type 0 where
 abbrev pub sides : {D O : Type 0} → SourceState → D → O → SinkState → Sides D O
 sides source desk observer sink = record { source = source; desk = desk; observer = observer; sink = sink }
 
+-- the connection, without its observer
+abbrev pub connection_in : {D O : Type 0} → Sides D O → ConnectionState D
+connection_in s = connection s.source s.desk s.sink
+
 -- What was read, asked and written is a conversation with this end, and the observer was told of it and of nothing
 -- else: of each request behind which the connection went on, and then of its end.
 pub record IsTold {D O : Type 0} (r : Rules D O) (old new : Sides D O) (end : ConnEnd) : Type 0 where
-  pub conversation : IsConversation r.moves r.max_body old.source new.source old.desk new.desk old.sink new.sink end
+  pub conversation : IsConversation r.moves r.max_body (connection_in old) (connection_in new) end
   pub of_exchanges : List Event
   pub of_end : List Event
   pub each : TellsEach conversation.exchanges of_exchanges
   pub last : TellsEnd (record {
     moves = r.moves;
     max_body = r.max_body;
-    stood = stand (length conversation.exchanges) conversation.rest new.source conversation.at conversation.mid;
-    desk = new.desk;
-    sink = new.sink;
+    stood = stand (length conversation.exchanges) conversation.rest conversation.at conversation.mid;
+    left = connection_in new;
   }) end conversation.ended of_end
   pub told : Hears r.told old.observer (of_exchanges ++ of_end) new.observer

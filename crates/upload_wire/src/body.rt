@@ -2,7 +2,15 @@
 
 use http_wire::BodyBuffer;
 use std::alloc::AllocError;
-use upload_names::{BodyBuilder, HashPlace};
+use upload_names::{BodyBuilder, HashPlace, UploadRef};
+
+/// Which bodies are hashed as they come, and where.
+#[derive(Drop)]
+pub struct Hashing<'a, P: HashPlace> {
+    pub place: &'a P,
+    /// An upload that is known to have bytes: the hash of a further body alone is of no use to it.
+    pub filled: Option<UploadRef>,
+}
 
 /// The body of a request, as far as it came, and where it is hashed.
 #[derive(Drop)]

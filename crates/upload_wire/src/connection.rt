@@ -4,11 +4,12 @@ ghost use Rattle.http_wire.specs.HeadText.{bad_status, status_number};
 ghost use Rattle.http_wire.specs.States.{input_state};
 ghost use Rattle.http_wire.specs.Reading.{Costs};
 ghost use Rattle.upload_service.specs.Machine.{AreLawful};
-ghost use Rattle.upload_wire.specs.Conversation.{IsConversation, last_style};
+ghost use Rattle.upload_wire.specs.Conversation.{IsConversation, connection, last_style};
 ghost use Rattle.upload_wire.specs.Events.{Replied};
 ghost use Rattle.upload_wire.specs.Phases.{most_reads};
 ghost use Rattle.upload_wire.specs.Told.{IsTold, event_of, rules, sides};
-ghost use Rattle.upload_wire.specs.Inner.ConversationSteps.{IsRepliedTo, RefusedWith, standing};
+ghost use Rattle.upload_wire.specs.Inner.ConversationSteps.{IsRepliedTo, RefusedWith};
+ghost use Rattle.upload_wire.specs.Inner.ConversationSteps.{progress_of, styled};
 ghost use Rattle.upload_wire.specs.Inner.ToldSteps.{ReadsTold, GoesOnTold, StopsTold, listening, observed};
 
 use crate::desk::Desk;
@@ -79,8 +80,9 @@ pub fn serve_connection<S: ByteSource, W: ByteSink, D: Desk>(
     limits: Limits,
 ) -> ConnEnd
     requires { AreLawful limits }
-    ensures { IsConversation D.moves limits.max_body (S.state reader.old) (S.state reader.new)
-        desk.old desk.new (W.state writer.old) (W.state writer.new) result }
+    ensures { IsConversation D.moves limits.max_body
+        (connection (S.state reader.old) desk.old (W.state writer.old))
+        (connection (S.state reader.new) desk.new (W.state writer.new)) result }
 {
     let Ok(mut server) = ConnectionServer::new(alloc, limits) else {
         return ConnEnd::Fault(ConnFault::Wire(WireFault::NoMemory));
@@ -153,14 +155,14 @@ impl ConnectionServer {
         observer: &mut O,
     ) -> Option<ConnEnd>
         ensures goes_on { result ≡ None → GoesOnTold (rules D.moves O.told self.old.max_body)
-            (observed (standing self.old (S.state reader.old) desk.old (W.state writer.old))
+            (observed (progress_of self.old (S.state reader.old) desk.old (W.state writer.old))
             observer.old)
-            (observed (standing self.new (S.state reader.new) desk.new (W.state writer.new))
+            (observed (progress_of self.new (S.state reader.new) desk.new (W.state writer.new))
             observer.new) }
         ensures stops { IfSome result (StopsTold (rules D.moves O.told self.old.max_body)
-            (observed (standing self.old (S.state reader.old) desk.old (W.state writer.old))
+            (observed (progress_of self.old (S.state reader.old) desk.old (W.state writer.old))
             observer.old)
-            (observed (standing self.new (S.state reader.new) desk.new (W.state writer.new))
+            (observed (progress_of self.new (S.state reader.new) desk.new (W.state writer.new))
             observer.new)) }
         ensures limit { self.new.max_body ≡ self.old.max_body }
     {
@@ -222,8 +224,8 @@ impl ConnectionServer {
         answer: &Answer,
         style: Style,
     ) -> Option<ConnEnd>
-        ensures replies { IsRepliedTo self.old.answered answer.now style (W.state writer.old)
-            (W.state writer.new) result }
+        ensures replies { IsRepliedTo self.old.answered (styled answer.now style)
+            (W.state writer.old) (W.state writer.new) result }
         ensures counted { result ≡ None → self.new.answered ≡ self.old.answered + 1 }
         ensures held { self.new.held ≡ self.old.held }
         ensures limit { self.new.max_body ≡ self.old.max_body }

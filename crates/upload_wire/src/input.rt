@@ -11,6 +11,7 @@ ghost use Rattle.upload_wire.specs.Phases.{most_reads};
 ghost use Rattle.upload_wire.specs.RequestText.{ReadsNext};
 ghost use Rattle.upload_wire.specs.Told.{HasLine};
 
+use crate::body::Hashing;
 use crate::observer::RequestLine;
 use crate::request::{Next, describe, read_request};
 use http_wire::{
@@ -135,20 +136,21 @@ impl RequestInput {
         ensures limit { self.new.max_body ≡ self.old.max_body }
     {
         let mut input = Input::new(source, &mut self.buffer);
-        let (alloc, max_body) = (self.alloc, self.max_body);
-        read_behind(alloc, place, &mut input, parsed, max_body, self.filled)
+        let hashing = Hashing {
+            place,
+            filled: self.filled,
+        };
+        read_behind(self.alloc, &hashing, &mut input, parsed, self.max_body)
     }
 }
 
-/// Reads the request whose head was read and isn't taken, with a body of at most `max_body` bytes. `filled` is an
-/// upload that is known to have bytes.
+/// Reads the request whose head was read and isn't taken, with a body of at most `max_body` bytes.
 fn read_behind<S: ByteSource, P: HashPlace>(
     alloc: Global,
-    place: &P,
+    hashing: &Hashing<'_, P>,
     input: &mut Input<'_, S>,
     parsed: &ParsedRequest,
     max_body: u64,
-    filled: Option<UploadRef>,
 ) -> Result<Next, WireFault>
     requires limit { max_body ≤ 2 ^ 31 }
     requires head { IsHeadAtFront request_spans input.old.buffer.now parsed.now }
@@ -162,7 +164,7 @@ fn read_behind<S: ByteSource, P: HashPlace>(
     match describe(alloc, head, parsed, max_body)? {
         Ok(described) => {
             input.take(parsed.spans.len);
-            read_request(alloc, place, input, described, filled)
+            read_request(alloc, hashing, input, described)
         }
         Err(bad) => Ok(Next::Bad(bad)),
     }

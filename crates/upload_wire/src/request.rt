@@ -9,13 +9,13 @@ ghost use Rattle.http_wire.specs.Inner.HeadSpans.{request_spans};
 ghost use Rattle.upload_wire.specs.Inner.RequestReading.{Describes, FindsRequest};
 
 use crate::asks::{HeadAsk, ask_of};
-use crate::body::Incoming;
+use crate::body::{Hashing, Incoming};
 use http_wire::{
     Bad, BodyEnd, ByteSource, Framing, Input, Occurrence, ParsedRequest, WireFault, field_named,
     framing_of, keeps_connection, read_body,
 };
 use std::alloc::Global;
-use upload_names::{BodyBuilder, ByteRange, HashPlace, UploadRef};
+use upload_names::{BodyBuilder, ByteRange, HashPlace};
 use upload_service::{Ask, Extent};
 
 /// How a request wants its reply.
@@ -96,14 +96,12 @@ pub(crate) fn describe(
     }))
 }
 
-/// Reads the request whose head describes this, and was taken. `filled` is an upload that is known to have bytes. A
-/// body that is hashed as it comes is hashed at the place.
+/// Reads the request whose head describes this, and was taken. Its body is hashed as it comes if the hashing says so.
 pub(crate) fn read_request<S: ByteSource, P: HashPlace>(
     alloc: Global,
-    place: &P,
+    hashing: &Hashing<'_, P>,
     input: &mut Input<'_, S>,
     described: Described,
-    filled: Option<UploadRef>,
 ) -> Result<Next, WireFault>
     requires { most_of described.framing ≤ 2 ^ 31 }
     ensures found { FindsRequest described (input_of S.state input.old)
@@ -117,8 +115,8 @@ pub(crate) fn read_request<S: ByteSource, P: HashPlace>(
         framing,
     } = described;
     let mut incoming = Incoming {
-        body: BodyBuilder::new(alloc, ask.hash_wanted(framing, filled)),
-        place,
+        body: BodyBuilder::new(alloc, ask.hash_wanted(framing, hashing.filled)),
+        place: hashing.place,
     };
     match read_body(input, &mut incoming, framing)? {
         BodyEnd::Whole => {

@@ -24,8 +24,9 @@ use Rattle.http_wire.specs.declared.fault.Bad.TheVariants.{Head}
 use Rattle.http_wire.specs.declared.responses.framing.ResponseFraming.{ResponseFraming}
 use Rattle.http_wire.specs.declared.responses.framing.ResponseFraming.TheVariants.{Length, ToEnd}
 use Rattle.http_wire.specs.declared.writing.WriteFault.{WriteFault}
+use Rattle.upload_wire.specs.Conversation as conversation
 use Rattle.upload_wire.specs.Conversation.{Moves, WireExchange, IsKept, IsRead, EndsWith, last_style, messages, replies}
-use Rattle.upload_wire.specs.Conversation.{stand}
+use Rattle.upload_wire.specs.Conversation.{ConnectionState, stand}
 use Rattle.upload_wire.specs.ConnectionRuns.{answered, answered_last, unanswered, unanswered_last}
 use Rattle.upload_wire.specs.ReplyText.{reply}
 use Rattle.upload_wire.specs.RequestText.{IsBad, IsRequest}
@@ -892,20 +893,18 @@ one_more max count held sink after x more lost held_is read replied = record {
   asks_are = refl;
 }
 
-ending : {D : Type 0} (step : Moves D) (max count : ℕ) (held : List ℕ) (source : SourceState) (desk new : D)
-    (sink after : SinkState) (end : ConnEnd)
-    (e : EndsWith step max (stand count held source desk sink) new after end) → ((why : Bad) → IsBad max held why → ⊥)
-    → Ending max held sink after (answered_last step max (stand count held source desk sink) new after end e)
-    (unanswered_last step max (stand count held source desk sink) new after end e)
-ending step max count held source desk new sink after Clean e none = no_more max held sink after e.2.unwritten
-ending step max count held source desk new sink after AfterClose e none =
-    one_more max count held sink after e.0 e.1.more [] e.1.read e.1.request
-    (append-nil after.taken ∙ e.3.took.takes.told)
-ending step max count held source desk new sink after AfterBad e none = absurd (none e.0 e.1.bad)
-ending step max count held source desk new sink after TooMany e none =
-    one_more max count held sink after e.0 e.1.more [] e.1.read e.1.request
-    (append-nil after.taken ∙ e.4.took.takes.told)
-ending step max count held source desk new sink after DeskGone e none = record {
+ending : {D : Type 0} (step : Moves D) (max : ℕ) (s : conversation.Standing D) (new : ConnectionState D) (end : ConnEnd)
+    (e : EndsWith step max s new end) → ((why : Bad) → IsBad max s.held why → ⊥)
+    → Ending max s.held s.sink new.sink (answered_last step max s new end e) (unanswered_last step max s new end e)
+ending step max s new Clean e none = no_more max s.held s.sink new.sink e.2.unwritten
+ending step max s new AfterClose e none =
+    one_more max s.answered s.held s.sink new.sink e.0 e.1.more [] e.1.read e.1.request
+    (append-nil new.sink.taken ∙ e.3.took.takes.told)
+ending step max s new AfterBad e none = absurd (none e.0 e.1.bad)
+ending step max s new TooMany e none =
+    one_more max s.answered s.held s.sink new.sink e.0 e.1.more [] e.1.read e.1.request
+    (append-nil new.sink.taken ∙ e.4.took.takes.told)
+ending step max s new DeskGone e none = record {
   ts = [];
   us = record { message = e.0.message; ask = e.0.ask; style = e.0.style } ∷ [];
   rest = e.0.more;
@@ -914,17 +913,16 @@ ending step max count held source desk new sink after DeskGone e none = record {
   us_read = (e.0.request, tt);
   only = omega arith;
   held_is = e.0.read ∙ ap (λ t. t ++ e.0.more) (sym (append-nil e.0.message));
-  replied = ap (λ s. s.taken ++ []) e.1;
+  replied = ap (λ k. k.taken ++ []) e.1;
   answers = refl;
   asks_are = refl;
 }
-ending step max count held source desk new sink after (Fault (Conn.Wire fault)) e none =
-    no_more max held sink after e.1.unwritten
-ending step max count held source desk new sink after (Fault Conn.Write) (inl w) none =
-    one_more max count held sink after w.0 w.1.more w.2.back w.1.read w.1.request
-    (ap (λ t. t ++ w.2.back) w.2.takes.told ∙ append_assoc sink.taken w.2.front w.2.back
-    ∙ ap (λ t. sink.taken ++ t) (sym w.2.cut))
-ending step max count held source desk new sink after (Fault Conn.Write) (inr w) none = absurd (none w.0 w.1.bad)
+ending step max s new (Fault (Conn.Wire fault)) e none = no_more max s.held s.sink new.sink e.1.unwritten
+ending step max s new (Fault Conn.Write) (inl w) none =
+    one_more max s.answered s.held s.sink new.sink w.0 w.1.more w.2.back w.1.read w.1.request
+    (ap (λ t. t ++ w.2.back) w.2.takes.told ∙ append_assoc s.sink.taken w.2.front w.2.back
+    ∙ ap (λ t. s.sink.taken ++ t) (sym w.2.cut))
+ending step max s new (Fault Conn.Write) (inr w) none = absurd (none w.0 w.1.bad)
 
 later_known : (x : TransportCall) (xs ys : List TransportCall) → AllByRecursion (λ y. IsOneOf xs y.ask) ys
     → AllByRecursion (λ y. IsOneOf (x ∷ xs) y.ask) ys
@@ -936,23 +934,23 @@ all_known [] = tt
 all_known (x ∷ xs) = (inl refl, later_known x xs xs (all_known xs))
 
 pub connections_joined : {D : Type 0} (step : Moves D) → ConnectionsAreJoined step
-connections_joined {D} step max first left old new before after end c xs can wire wire' is_new turn may carries =
+connections_joined {D} step max old new end c xs can wire wire' is_new turn may carries =
     let all_kept : List Turn = kept_turns c.exchanges in
-    let left_is : left.given ≡ wire.writer.taken ++ (all_read all_kept ++ c.rest) =
+    let left_is : new.source.given ≡ wire.writer.taken ++ (all_read all_kept ++ c.rest) =
     c.gives.told ∙ ap (λ t. t ++ c.bytes) can.given ∙ c.served.read
     ∙ ap (λ t. t ++ c.rest) (sym (kept_read c.exchanges))
     ∙ ap (λ t. t ++ (all_read all_kept ++ c.rest)) (sym is_new.taken) in
     let all_were_read : AreRead max all_kept =
     subst (AreRead max) (append-nil all_kept) (turns_read max c.exchanges [] c.served.kept tt) in
-    let e = ending step max (length c.exchanges) c.rest left c.at new c.mid after end c.ended
-    (never_bad max wire.host c.rest left.given xs all_kept wire wire' turn refl may all_were_read left_is
+    let e = ending step max (stand (length c.exchanges) c.rest c.at c.mid) new end c.ended
+    (never_bad max wire.host c.rest new.source.given xs all_kept wire wire' turn refl may all_were_read left_is
     carries.there) in
     let ts : List Turn = kept_turns c.exchanges ++ e.ts in
     let tail : List ℕ = unanswered_read e.us ++ e.rest in
     let all_is : all_read ts ≡ messages c.exchanges ++ all_read e.ts =
     flat_map-append (λ (t : Turn). t.0.message) (kept_turns c.exchanges) e.ts
     ∙ ap (λ t. t ++ all_read e.ts) (kept_read c.exchanges) in
-    let read_is : left.given ≡ wire.writer.taken ++ (all_read ts ++ tail) =
+    let read_is : new.source.given ≡ wire.writer.taken ++ (all_read ts ++ tail) =
     c.gives.told ∙ ap (λ t. t ++ c.bytes) can.given ∙ c.served.read
     ∙ ap (λ t. messages c.exchanges ++ t) e.held_is
     ∙ sym (append_assoc (messages c.exchanges) (all_read e.ts) tail)
@@ -961,22 +959,22 @@ connections_joined {D} step max first left old new before after end c xs can wir
     let replies_are : all_replies ts ≡ replies c.exchanges ++ all_replies e.ts =
     flat_map-append reply_of (kept_turns c.exchanges) e.ts
     ∙ ap (λ t. t ++ all_replies e.ts) (kept_replies c.exchanges) in
-    let written_is : after.taken ++ e.lost ≡ wire.reader.input.source.given ++ all_replies ts =
+    let written_is : new.sink.taken ++ e.lost ≡ wire.reader.input.source.given ++ all_replies ts =
     e.replied
     ∙ ap (λ t. t ++ all_replies e.ts) (c.served.written.takes.told ∙ ap (λ t. t ++ replies c.exchanges) can.taken)
     ∙ sym replies_are
     ∙ ap (λ t. t ++ all_replies ts) (sym is_new.given) in
-    let back : IsPrefix wire'.reader.input.source.given (after.taken ++ e.lost) = (
+    let back : IsPrefix wire'.reader.input.source.given (new.sink.taken ++ e.lost) = (
       carries.back.0 ++ e.lost,
       ap (λ t. t ++ e.lost) carries.back.1 ∙ append_assoc wire'.reader.input.source.given carries.back.0 e.lost,
     ) in
-    let answers_are : map (λ (t : Turn). t.0) ts ≡ answered step max first left old new before after end c =
+    let answers_are : map (λ (t : Turn). t.0) ts ≡ answered step max old new end c =
     turns_answered c.exchanges e.ts ∙ ap (λ l. c.exchanges ++ l) e.answers in
     let all =
-    joined max (IsOneOf xs) wire.host e.rest left.given (after.taken ++ e.lost) e.us e.us_read e.only xs ts wire wire'
-    turn refl may (all_known xs)
+    joined max (IsOneOf xs) wire.host e.rest new.source.given (new.sink.taken ++ e.lost) e.us e.us_read e.only xs ts
+    wire wire' turn refl may (all_known xs)
     (turns_read max c.exchanges e.ts c.served.kept e.ts_read)
     (turns_audible (IsOneOf xs) ts (subst (AllByRecursion (MayBeHeard (IsOneOf xs))) (sym answers_are) can.audible))
     read_is (λ o. written_is) carries.there back in
-    subst (λ ys. AreJoined xs ys (unanswered step max first left old new before after end c)) answers_are
+    subst (λ ys. AreJoined xs ys (unanswered step max old new end c)) answers_are
     (subst (AreJoined xs (map (λ (t : Turn). t.0) ts)) e.asks_are all)

@@ -8,7 +8,7 @@ use Rattle.upload_service.specs.declared.ask.Ask.TheVariants as asks
 use Rattle.upload_service.specs.declared.answer.Answer.{Answer}
 use Rattle.http_wire.specs.States.{SourceState, SinkState}
 use Rattle.upload_wire.specs.ConnectionRuns.{answered, unanswered}
-use Rattle.upload_wire.specs.Conversation.{Moves, WireExchange, IsConversation}
+use Rattle.upload_wire.specs.Conversation.{Moves, WireExchange, ConnectionState, IsConversation}
 use Rattle.upload_wire.specs.declared.connection.ConnEnd.{ConnEnd}
 use Rattle.upload_client.specs.AnswerText.{max_answer}
 use Rattle.upload_client.specs.Heard.{reply_heard}
@@ -88,10 +88,8 @@ pub record CanBeJoined (xs : List TransportCall) (first : SourceState) (before :
 
 abbrev pub ConnectionsAreJoined : {D : Type 0} → Moves D → Type 0
 ConnectionsAreJoined {D} step =
-    (max_body : ℕ) (first left : SourceState) (old new : D) (before after : SinkState) (end : ConnEnd)
-    → (c : IsConversation step max_body first left old new before after end) (xs : List TransportCall)
-    → CanBeJoined xs first before (answered step max_body first left old new before after end c)
+    (max_body : ℕ) (old new : ConnectionState D) (end : ConnEnd) → (c : IsConversation step max_body old new end)
+    (xs : List TransportCall) → CanBeJoined xs old.source old.sink (answered step max_body old new end c)
     → (wire wire' : WireState) → IsUntouched wire → AsksInTurn wire xs wire'
-    → AllByRecursion (λ x. MayBeAsked max_body x.ask wire.host) xs → Transmits wire' left after
-    → AreJoined xs (answered step max_body first left old new before after end c)
-    (unanswered step max_body first left old new before after end c)
+    → AllByRecursion (λ x. MayBeAsked max_body x.ask wire.host) xs → Transmits wire' new.source new.sink
+    → AreJoined xs (answered step max_body old new end c) (unanswered step max_body old new end c)

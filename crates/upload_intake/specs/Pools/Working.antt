@@ -10,7 +10,7 @@ use Rattle.upload_intake.specs.Pools.Settled.{count_limit}
 use Rattle.upload_intake.specs.Notices.{Watching}
 use Rattle.upload_intake.specs.Watched.{IsWatched}
 use Rattle.http_wire.specs.States.{SourceState, SinkState}
-use Rattle.upload_wire.specs.Conversation.{Moves, WireExchange, IsConversation, stand}
+use Rattle.upload_wire.specs.Conversation.{Moves, WireExchange, ConnectionState, connection, IsConversation, stand}
 use Rattle.upload_wire.specs.Events.{Event, Telling, Hears}
 use Rattle.upload_wire.specs.Told.{TellsEach, TellsEnd}
 use Rattle.upload_wire.specs.ConnectionRuns.{answered, unanswered}
@@ -83,21 +83,22 @@ module _ {L : Lending} {S G O : Type 0} (m : Means L S G O) (max_body : ℕ) whe
     pub old : SeatState × S
     pub new : SeatState × S
     pub end : ConnEnd
-    pub conversation : IsConversation steps max_body
-        (L.reads reader) (L.reads reader_left) old new (L.writes writer) (L.writes writer_left) end
+    pub conversation : IsConversation steps max_body (connection (L.reads reader) old (L.writes writer))
+        (connection (L.reads reader_left) new (L.writes writer_left)) end
+
+  -- the connection as it was given, with the seat before it, and as it was left, with the seat behind it
+  abbrev pub connection_given : Talk → ConnectionState (SeatState × S)
+  connection_given t = connection (L.reads t.reader) t.old (L.writes t.writer)
+
+  abbrev pub connection_left : Talk → ConnectionState (SeatState × S)
+  connection_left t = connection (L.reads t.reader_left) t.new (L.writes t.writer_left)
 
   -- what was asked and answered on these connections, in order; and the request at which the desk was gone
   abbrev pub answered_on : Talk → List WireExchange
-  answered_on t =
-      answered steps max_body (L.reads t.reader) (L.reads t.reader_left) t.old t.new (L.writes t.writer)
-      (L.writes t.writer_left) t.end
-      t.conversation
+  answered_on t = answered steps max_body (connection_given t) (connection_left t) t.end t.conversation
 
   abbrev pub unanswered_on : Talk → List Ask
-  unanswered_on t =
-      unanswered steps max_body (L.reads t.reader) (L.reads t.reader_left) t.old t.new (L.writes t.writer)
-      (L.writes t.writer_left) t.end
-      t.conversation
+  unanswered_on t = unanswered steps max_body (connection_given t) (connection_left t) t.end t.conversation
 
   abbrev pub all_answered : List Talk → List WireExchange
   all_answered ts = flat_map answered_on ts
@@ -131,11 +132,8 @@ module _ {L : Lending} {S G O : Type 0} (m : Means L S G O) (max_body : ℕ) whe
     pub last : TellsEnd (record {
       moves = steps;
       max_body = max_body;
-      stood =
-          stand (length t.conversation.exchanges) t.conversation.rest (L.reads t.reader_left) t.conversation.at
-          t.conversation.mid;
-      desk = t.new;
-      sink = L.writes t.writer_left;
+      stood = stand (length t.conversation.exchanges) t.conversation.rest t.conversation.at t.conversation.mid;
+      left = connection_left t;
     }) t.end t.conversation.ended of_end
     pub events_are : events ≡ of_exchanges ++ of_end
 

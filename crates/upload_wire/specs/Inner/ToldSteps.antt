@@ -5,8 +5,8 @@ use Rattle.http_wire.specs.declared.fault.WireFault.{WireFault}
 use Rattle.upload_wire.specs.Events.{Event, Telling, Hears}
 use Rattle.upload_wire.specs.Told.{TellsHead, TellsLine, TellsExchange, TellsCut, TellsEnd, Rules}
 use Rattle.upload_wire.specs.RequestText.{ReadsNext}
-use Rattle.upload_wire.specs.Conversation.{Standing, stand}
-use Rattle.upload_wire.specs.Inner.ConversationSteps.{GoesOn, Stops}
+use Rattle.upload_wire.specs.Conversation.{connection, stand}
+use Rattle.upload_wire.specs.Inner.ConversationSteps.{Progress, GoesOn, Stops}
 use Rattle.upload_wire.specs.declared.request.Next.{Next}
 use Rattle.upload_wire.specs.declared.request.Next.TheVariants.{Request, Over}
 use Rattle.upload_wire.specs.declared.request.Next.TheVariants as nexts
@@ -39,32 +39,30 @@ pub record ReadsTold {O : Type 0} (telling : Telling O) (max_body : ℕ) (old ne
 
 -- ---- serving
 
--- where a connection stands, and its observer
+-- how far a server is with a connection, and the connection's observer
 pub record Observed (D O : Type 0) : Type 0 where
-  pub standing : Standing D
+  pub progress : Progress D
   pub observer : O
 
-abbrev pub observed : {D O : Type 0} → Standing D → O → Observed D O
-observed standing observer = record { standing = standing; observer = observer }
+abbrev pub observed : {D O : Type 0} → Progress D → O → Observed D O
+observed progress observer = record { progress = progress; observer = observer }
 
 -- the connection goes on behind a request that was told with its reply
 pub record GoesOnTold {D O : Type 0} (r : Rules D O) (old new : Observed D O) : Type 0 where
-  pub goes_on : GoesOn r.moves r.max_body old.standing new.standing
+  pub goes_on : GoesOn r.moves r.max_body old.progress new.progress
   pub events : List Event
   pub tells : TellsExchange goes_on.exchange events
   pub told : Hears r.told old.observer events new.observer
 
 -- what ended the connection was told
 pub record StopsTold {D O : Type 0} (r : Rules D O) (old new : Observed D O) (end : ConnEnd) : Type 0 where
-  pub stops : Stops r.moves r.max_body old.standing new.standing end
+  pub stops : Stops r.moves r.max_body old.progress new.progress end
   pub events : List Event
   pub tells : TellsEnd (record {
     moves = r.moves;
     max_body = r.max_body;
     stood =
-        stand old.standing.answered (old.standing.held ++ stops.given) new.standing.source old.standing.desk
-        old.standing.sink;
-    desk = new.standing.desk;
-    sink = new.standing.sink;
+        stand old.progress.answered (old.progress.held ++ stops.given) old.progress.desk old.progress.sink;
+    left = connection new.progress.source new.progress.desk new.progress.sink;
   }) end stops.ended events
   pub told : Hears r.told old.observer events new.observer

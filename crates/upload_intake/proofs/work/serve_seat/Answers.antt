@@ -51,7 +51,7 @@ loop-preserved g c =
     record {
       seat =
           same_seat_twice _ _ _ c.loop.invariant.seat
-          (gated_same g.S.Secrets.draws g.G.Gate.watches _ _ _ _ _ _ _ _ c.serve-ended.ensures.told.conversation);
+          (gated_same g.S.Secrets.draws g.G.Gate.watches _ _ _ _ c.serve-ended.ensures.told.conversation);
       working =
           talked m max c.args.worker c.args.seat at c.loop.invariant.working t next _ tells told.told
           (c.next_conn.new.self, c.in-Some-next_conn.ensures, c.take_back.ensures) refl refl c.count.ensures.conns
@@ -71,7 +71,7 @@ returns-clause-seat g c =
       | in-Some+in-Some-next_conn+then-is_gone w ↦
           let behind =
           same_seat_twice _ _ _ c.loop.invariant.seat
-          (gated_same g.S.Secrets.draws g.G.Gate.watches _ _ _ _ _ _ _ _ w.serve-ended.ensures.told.conversation) in
+          (gated_same g.S.Secrets.draws g.G.Gate.watches _ _ _ _ w.serve-ended.ensures.told.conversation) in
           search (rules, behind, w.desk-is)
     ] in
     search (rules, at_the_end, c.finish.ensures, c.into_parts-seat.ensures.seat)

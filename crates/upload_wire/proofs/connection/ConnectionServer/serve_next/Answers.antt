@@ -1,6 +1,6 @@
 use Rattle.std.proofs.Common.{◌≡◌, ◌+◌, ◌∙◌, ap, subst}
 use Rattle.std.specs.Prelude.{Ok}
-use Rattle.upload_wire.specs.Inner.ConversationSteps.{IsRepliedTo}
+use Rattle.upload_wire.specs.Inner.ConversationSteps.{IsRepliedTo, styled}
 use Rattle.http_wire.specs.States.{input_state}
 use Rattle.http_wire.specs.HeadText.{status_number}
 use Rattle.upload_wire.specs.Events.{Replied}
@@ -30,8 +30,8 @@ returns-in-Some-clause-goes_on g c =
     (subst (λ n. c.reply-end.new.self.answered ≡ n + 1) c.in-Ok-Request.ensures.answered
     (c.reply-end.ensures.counted none))
     c.reply-end.result
-    (subst (λ n. IsRepliedTo n c.in-Some.answer c.in-Ok-Request.style (g.W.ByteSink.state c.args.writer.now)
-    (g.W.ByteSink.state c.reply-end.new.writer) c.reply-end.result)
+    (subst (λ n. IsRepliedTo n (styled c.in-Some.answer c.in-Ok-Request.style)
+    (g.W.ByteSink.state c.args.writer.now) (g.W.ByteSink.state c.reply-end.new.writer) c.reply-end.result)
     c.in-Ok-Request.ensures.answered c.reply-end.ensures.replies)
     none
 
@@ -51,8 +51,8 @@ returns-in-Some-clause-stops g c =
     c.in-Some.answer (g.W.ByteSink.state c.reply-end.new.writer) c.tell_reply.new.observer c.tell_reply.ensures
     c.in-Some.ensures
     c.reply-end.new.self.held c.reply-end.new.self.answered c.reply-end.result
-    (subst (λ n. IsRepliedTo n c.in-Some.answer c.in-Ok-Request.style (g.W.ByteSink.state c.args.writer.now)
-    (g.W.ByteSink.state c.reply-end.new.writer) c.reply-end.result)
+    (subst (λ n. IsRepliedTo n (styled c.in-Some.answer c.in-Ok-Request.style)
+    (g.W.ByteSink.state c.args.writer.now) (g.W.ByteSink.state c.reply-end.new.writer) c.reply-end.result)
     c.in-Ok-Request.ensures.answered c.reply-end.ensures.replies)
 
 pub returns-in-None-clause-stops : goal.returns-in-None-clause-stops
