@@ -40,7 +40,7 @@ not_false false e = absurd (true≢false e)
 pub body_case : (P : Option Answer → Type 0) (max_blob : ℕ) (name at : List ℕ) (next : ℕ) (range : Span) (body : List ℕ)
     → P (Some (answers.Misplaced name at next)) → P (Some (answers.Refused refusals.WrongLength))
     → P (Some (answers.Refused refusals.TooLarge)) → (range.first ≡ next → P None)
-    → P (body_fault max_blob name at next (Given range) body)
+    → P (body_fault max_blob (record { name = name; at = at; next = next }) (Given range) body)
 body_case P max_blob name at next range body misplaced wrong large fits =
     cond_case P (not (range.first == next)) _ _
     (λ _. misplaced)

@@ -6,6 +6,7 @@ use Rattle.std.specs.FinMap as map
 use Rattle.upload_names.specs.Reference.{number_of}
 use Rattle.upload_service.specs.declared.limits.Limits.{Limits}
 use Rattle.upload_service.specs.declared.ask.Ask.{Ask}
+use Rattle.upload_service.specs.declared.answer.Answer.{Answer}
 use Rattle.upload_service.specs.Machine.{Session, State, Outcome, Replies, Begins, Takes, Commits, Stores, Mounts}
 use Rattle.upload_service.specs.Machine.{answer_of, state_after, outcome}
 use Rattle.std.specs.Prelude.{filter, map as list_map}
@@ -55,25 +56,32 @@ same_limits s now (Commits name to digest blob) = refl
 same_limits s now (Stores name digest blob) = refl
 same_limits s now (Mounts name digest) = refl
 
+pub limits_turn : (s : State) (ask : Ask) (secret : List ℕ) (now : ℕ) (answer : Answer) (t : State)
+    → Turn s ask secret now answer t → t.limits ≡ s.limits
+unfolding Turn
+limits_turn s ask secret now answer t (inl did) =
+    ap (λ q. q.limits) did.1 ∙ same_limits s now (outcome s ask secret now)
+limits_turn s ask secret now answer t (inr lacked) = ap (λ q. q.limits) lacked.2
+
 -- Where this holds of the run after an exchange, it holds of the run with it.
 abbrev pub SoFar : Limits → List ℕ → Life → List Exchange → Type 0
 SoFar limits at life xs =
     list_map (λ x. x.answer) (told xs at)
-    ≡ alone limits.max_blob limits.max_idle at life (list_map (λ x. (x.ask, x.now)) (told xs at))
+    ≡ alone limits at life (list_map (λ x. (x.ask, x.now)) (told xs at))
 
 one_more : (limits : Limits) (at : List ℕ) (life : Life) (x : Exchange) (xs : List Exchange)
-    → told (x ∷ xs) at ≡ x ∷ told xs at → x.answer ≡ alone_answer limits.max_blob limits.max_idle at life x.ask x.now
-    → SoFar limits at (alone_after limits.max_blob limits.max_idle life x.ask x.now) xs → SoFar limits at life (x ∷ xs)
+    → told (x ∷ xs) at ≡ x ∷ told xs at → x.answer ≡ alone_answer limits at life x.ask x.now
+    → SoFar limits at (alone_after limits life x.ask x.now) xs → SoFar limits at life (x ∷ xs)
 one_more limits at life x xs e a h =
     subst (λ ys. list_map (λ y. y.answer) ys
-    ≡ alone limits.max_blob limits.max_idle at life (list_map (λ y. (y.ask, y.now)) ys)) (sym e)
+    ≡ alone limits at life (list_map (λ y. (y.ask, y.now)) ys)) (sym e)
     (λ i. a i ∷ h i)
 
 none_more : (limits : Limits) (at : List ℕ) (life : Life) (x : Exchange) (xs : List Exchange)
     → told (x ∷ xs) at ≡ told xs at → SoFar limits at life xs → SoFar limits at life (x ∷ xs)
 none_more limits at life x xs e h =
     subst (λ ys. list_map (λ y. y.answer) ys
-    ≡ alone limits.max_blob limits.max_idle at life (list_map (λ y. (y.ask, y.now)) ys)) (sym e) h
+    ≡ alone limits at life (list_map (λ y. (y.ask, y.now)) ys)) (sym e) h
 
 -- one of two: the exchange is the session's own by its request or by its answer, or it is another's
 own_or_other : (at : List ℕ) (x : Exchange) → (carries at x.ask ≡ true)
@@ -106,10 +114,10 @@ by_own limits at x xs s mid t life m n e d p own later rest more =
     one_more limits at life x xs
     (told_own x xs at p
     (ap lacks_memory e ∙ has_memory s x.ask x.secret x.now o (outcome_sound s x.now x.ask x.secret)))
-    (e ∙ own.told ∙ ap (λ (k : Limits). alone_answer k.max_blob k.max_idle at life x.ask x.now) m)
+    (e ∙ own.told ∙ ap (λ (k : Limits). alone_answer k at life x.ask x.now) m)
     (more mid t x.now _ (ap (λ q. q.limits) d ∙ same_limits s x.now o ∙ m) n later rest
-    (subst (λ (k : Limits). Fits mid x.now at (alone_after k.max_blob k.max_idle life x.ask x.now)) m
-    (subst (λ q. Fits q x.now at (alone_after s.limits.max_blob s.limits.max_idle life x.ask x.now)) (sym d) own.fits)))
+    (subst (λ (k : Limits). Fits mid x.now at (alone_after k life x.ask x.now)) m
+    (subst (λ q. Fits q x.now at (alone_after s.limits life x.ask x.now)) (sym d) own.fits)))
 
 pub alone_so_far : (limits : Limits) (at : List ℕ) (xs : List Exchange) → Goal limits at xs
 unfolding Turn

@@ -26,7 +26,8 @@ CommitsItsChunks =
     → Moment start front before x after
     → (name at : List ℕ) (range : Extent) (asked : Option Digest) (body : List ℕ) (name' : List ℕ) (digest : Digest)
     → x.ask ≡ asks.Close name at range asked body → x.answer ≡ answers.Stored name' digest
-    → IsCommitted (received start (front ++ x ∷ []) at) name name' asked digest after
+    → IsCommitted name asked
+    (record { name = name'; digest = digest; blob = received start (front ++ x ∷ []) at }) after
 
 abbrev pub MissedChunkChangesNothing : Type 0
 MissedChunkChangesNothing =
@@ -66,7 +67,7 @@ BlobIsWhatWasStored =
     → Moment start front before x after
     → (name : List ℕ) (digest : Digest) (head : Bool) (of : Digest) (size : ℕ) (bytes : Option (List ℕ))
     → x.ask ≡ asks.Has name digest head → x.answer ≡ answers.Blob of size bytes
-    → IsHandedOut digest head (last_under digest (stored start front) (map.get start.blobs digest)) of size bytes
+    → IsHandedOut digest head (last_under digest (stored start front) (map.get start.blobs digest)) x.answer
 
 abbrev pub StaysLawful : Type 0
 StaysLawful = (start : State) (xs : List Exchange) (end : State) → IsLawful start → Run start xs end → IsLawful end

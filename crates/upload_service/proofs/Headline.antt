@@ -17,7 +17,7 @@ use Rattle.upload_service.specs.UploadView.{Act, Sends, AsksOffset, Closes, Uplo
 use Rattle.upload_service.specs.UploadView.{on_session, answer_view}
 use Rattle.upload_service.specs.Machine.{same, unless_idle, awake, Session, State, Outcome, Replies, Begins, Takes}
 use Rattle.upload_service.specs.Machine.{Commits, Stores, Mounts, answer_of, state_after, refused, size_fault}
-use Rattle.upload_service.specs.Machine.{body_fault, unless_fault, at_session, holds, outcome}
+use Rattle.upload_service.specs.Machine.{Progress, progress_of, body_fault, unless_fault, at_session, holds, outcome}
 use Rattle.upload_service.proofs.Keeping.Tables.{eq_from_same}
 use Rattle.std.specs.Prelude.{◌&&◌}
 use Rattle.std.specs.List.{list_any}
@@ -44,7 +44,8 @@ committed : (start : State) (front : List Exchange) (before : State) (x : Exchan
     → Run start front before → IsOutcome before x.ask x.secret x.now o → x.answer ≡ answer_of o
     → (name at : List ℕ) (range : Extent) (asked : Option Digest) (body : List ℕ) (name' : List ℕ) (digest : Digest)
     → x.ask ≡ asks.Close name at range asked body → x.answer ≡ answers.Stored name' digest
-    → IsCommitted (received start (front ++ x ∷ []) at) name name' asked digest (state_after before x.now o)
+    → IsCommitted name asked
+    (record { name = name'; digest = digest; blob = received start (front ++ x ∷ []) at }) (state_after before x.now o)
 unfolding Turn
 committed start front before x (Replies answer) lawful run f e name at range asked body name' digest a r =
     absurd (None≢Some (sym f.stored_none ∙ ap (λ b. (answer_view b).pair) (sym e ∙ r)))
@@ -89,21 +90,23 @@ unfolding Turn
 commits_its_chunks start front before x after m name at range asked body name' digest a r =
     elim m.turn [
       | inl did ↦
-          subst (IsCommitted (received start (front ++ x ∷ []) at) name name' asked digest) (sym did.1)
+          subst (IsCommitted name asked
+          (record { name = name'; digest = digest; blob = received start (front ++ x ∷ []) at })) (sym did.1)
           (committed start front before x (outcome before x.ask x.secret x.now) m.lawful m.so_far
           (outcome_sound before x.now x.ask x.secret) did.0 name at range asked body name' digest a r)
       | inr lacked ↦ let no : answers.NoMemory ≡ answers.Stored name' digest = sym lacked.1 ∙ r in cc
     ]
 
 -- a chunk that misses the offset
-misses_next : (max_blob : ℕ) (name at : List ℕ) (next : ℕ) (r : Span) (body : List ℕ) (o : Outcome) → r.first ≢ next
-    → unless_fault (body_fault max_blob name at next (Given r) body) o ≡ Replies (answers.Misplaced name at next)
-misses_next max_blob name at next r body o n =
-    let e : (r.first == next) ≡ false = false_from_ne_true _ (λ is. n (eqb-true _ _ is)) in
-    ap (λ b. unless_fault (if not b then Some (answers.Misplaced name at next)
+misses_next : (max_blob : ℕ) (upload : Progress) (r : Span) (body : List ℕ) (o : Outcome) → r.first ≢ upload.next
+    → unless_fault (body_fault max_blob upload (Given r) body) o
+    ≡ Replies (answers.Misplaced upload.name upload.at upload.next)
+misses_next max_blob upload r body o n =
+    let e : (r.first == upload.next) ≡ false = false_from_ne_true _ (λ is. n (eqb-true _ _ is)) in
+    ap (λ b. unless_fault (if not b then Some (answers.Misplaced upload.name upload.at upload.next)
     else if nat_lt r.last r.first
     || not (r.last - r.first + 1 == length body) then Some (answers.Refused refusals.WrongLength)
-    else size_fault max_blob next body) o) e
+    else size_fault max_blob upload.next body) o) e
 
 missed_act : (s : State) (now : ℕ) (aim : Aim) (session : Session) → awake s now aim.at ≡ Some session
     → session.name ≡ aim.name → aim.first ≢ length session.received → (name at : List ℕ) (act : Act)
@@ -114,14 +117,14 @@ missed_act s now aim session is_awake named miss name at (Sends (Given r) body) 
     let missed_r : r.first ≢ length session.received = λ q. miss (ap (λ (a : Aim). a.first) (sym is) ∙ q) in
     named_session s.limits.max_blob (awake s now at) session name at _
     (ap (λ (a : Aim). awake s now a.at) is ∙ is_awake) (named ∙ ap (λ (a : Aim). a.name) (sym is))
-    ∙ misses_next s.limits.max_blob name at (length session.received) r body _ missed_r
+    ∙ misses_next s.limits.max_blob (progress_of session name at) r body _ missed_r
     ∙ ap (λ (a : Aim). Replies (answers.Misplaced a.name a.at (length session.received))) is
 missed_act s now aim session is_awake named miss name at (Closes (Given r) digest body) e =
     let is : ◌≡◌ {A = Aim} (record { name = name; at = at; first = r.first }) aim = cc in
     let missed_r : r.first ≢ length session.received = λ q. miss (ap (λ (a : Aim). a.first) (sym is) ∙ q) in
     named_session s.limits.max_blob (awake s now at) session name at _
     (ap (λ (a : Aim). awake s now a.at) is ∙ is_awake) (named ∙ ap (λ (a : Aim). a.name) (sym is))
-    ∙ misses_next s.limits.max_blob name at (length session.received) r body _ missed_r
+    ∙ misses_next s.limits.max_blob (progress_of session name at) r body _ missed_r
     ∙ ap (λ (a : Aim). Replies (answers.Misplaced a.name a.at (length session.received))) is
 missed_act s now aim session is_awake named miss name at other e = cc
 

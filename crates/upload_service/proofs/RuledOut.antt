@@ -16,8 +16,8 @@ use Rattle.upload_service.specs.declared.answer.Answer.{Answer}
 use Rattle.upload_service.specs.declared.answer.Answer.TheVariants as answers
 use Rattle.upload_service.specs.UploadView.{Act, Sends, AsksOffset, Closes, upload_view, opened_under}
 use Rattle.upload_service.specs.Machine.{Session, State, Outcome, Takes, Commits, answer_of, refused, same, same_digest}
-use Rattle.upload_service.specs.Machine.{size_fault, body_fault, unless_fault, checked, in_session, at_session}
-use Rattle.upload_service.specs.Machine.{unless_idle}
+use Rattle.upload_service.specs.Machine.{Progress, progress_of, size_fault, body_fault, unless_fault, checked}
+use Rattle.upload_service.specs.Machine.{in_session, at_session, unless_idle}
 use Rattle.upload_service.specs.Run.{Exchange}
 use Rattle.upload_service.specs.Session.{carries, begins, is_part, part, is_taken, received}
 use Rattle.upload_service.specs.Alone.{Life, Unborn, Open, Gone, life_of, life_in, life_after, alone_outcome}
@@ -47,20 +47,22 @@ quiet_size max_blob next body at =
     elim (nat_lt max_blob (next + length body))
     as (λ b. Quiet at (cond b (Some (answers.Refused refusals.TooLarge)) None)) [ true ↦ refl | false ↦ tt ]
 
-quiet_fault : (max_blob : ℕ) (name to : List ℕ) (next : ℕ) (range : Extent) (body at : List ℕ)
-    → Quiet at (body_fault max_blob name to next range body)
+quiet_fault : (max_blob : ℕ) (upload : Progress) (range : Extent) (body at : List ℕ)
+    → Quiet at (body_fault max_blob upload range body)
 unfolding Quiet
-quiet_fault max_blob name to next Absent body at = quiet_size max_blob next body at
-quiet_fault max_blob name to next Bad body at = refl
-quiet_fault max_blob name to next (Given range) body at =
-    elim (not (range.first == next)) as (λ b. Quiet at (cond b (Some (answers.Misplaced name to next))
+quiet_fault max_blob upload Absent body at = quiet_size max_blob upload.next body at
+quiet_fault max_blob upload Bad body at = refl
+quiet_fault max_blob upload (Given range) body at =
+    elim (not (range.first == upload.next)) as (λ b. Quiet at (cond b
+    (Some (answers.Misplaced upload.name upload.at upload.next))
     (cond (nat_lt range.last range.first || not (range.last - range.first + 1 == length body))
-    (Some (answers.Refused refusals.WrongLength)) (size_fault max_blob next body)))) [
+    (Some (answers.Refused refusals.WrongLength)) (size_fault max_blob upload.next body)))) [
       | true ↦ refl
       | false ↦ elim (nat_lt range.last range.first || not (range.last - range.first + 1 == length body))
-          as (λ b. Quiet at (cond b (Some (answers.Refused refusals.WrongLength)) (size_fault max_blob next body))) [
+          as (λ b. Quiet at (cond b (Some (answers.Refused refusals.WrongLength))
+          (size_fault max_blob upload.next body))) [
             | true ↦ refl
-            | false ↦ quiet_size max_blob next body at
+            | false ↦ quiet_size max_blob upload.next body at
           ]
     ]
 
@@ -81,13 +83,13 @@ quiet_checked at (Some d) blob name to =
 quiet_in_session : (at : List ℕ) (max_blob : ℕ) (session : Session) (name to : List ℕ) (act : Act)
     → begins at (answer_of (in_session max_blob session name to act)) ≡ false
 quiet_in_session at max_blob session name to (Sends range body) =
-    quiet_unless at (body_fault max_blob name to (length session.received) range body)
+    quiet_unless at (body_fault max_blob (progress_of session name to) range body)
     (Takes name to (session.received ++ body))
-    (quiet_fault max_blob name to (length session.received) range body at) refl
+    (quiet_fault max_blob (progress_of session name to) range body at) refl
 quiet_in_session at max_blob session name to (Closes range digest body) =
-    quiet_unless at (body_fault max_blob name to (length session.received) range body)
+    quiet_unless at (body_fault max_blob (progress_of session name to) range body)
     (checked digest (session.received ++ body) (λ d. Commits name to d (session.received ++ body)))
-    (quiet_fault max_blob name to (length session.received) range body at)
+    (quiet_fault max_blob (progress_of session name to) range body at)
     (quiet_checked at digest (session.received ++ body) name to)
 quiet_in_session at max_blob session name to AsksOffset = refl
 
@@ -102,7 +104,7 @@ quiet_at_session at max_blob (Some session) name to act =
     ]
 
 quiet_alone : (at : List ℕ) (limits : Limits) (life : Life) (ask : Ask) (now : ℕ) → IsBorn life
-    → begins at (alone_answer limits.max_blob limits.max_idle at life ask now) ≡ false
+    → begins at (alone_answer limits at life ask now) ≡ false
 quiet_alone at limits Unborn ask now born = absurd born
 quiet_alone at limits (Open session) ask now born =
     on_each (λ o. begins at (answer_of o) ≡ false) (upload_view ask) (refused refusals.NoUpload) _ refl
@@ -115,10 +117,10 @@ born_after session now (Commits name at digest blob) = tt
 born_after session now other = tt
 
 stays_born : (at : List ℕ) (limits : Limits) (life : Life) (ask : Ask) (now : ℕ) → IsBorn life
-    → IsBorn (alone_after limits.max_blob limits.max_idle life ask now)
+    → IsBorn (alone_after limits life ask now)
 stays_born at limits Unborn ask now born = absurd born
 stays_born at limits (Open session) ask now born =
-    born_after session now (alone_outcome limits.max_blob limits.max_idle session ask now)
+    born_after session now (alone_outcome limits session ask now)
 stays_born at limits Gone ask now born = tt
 
 -- ---- over a list
@@ -144,23 +146,23 @@ lacking answer at e = ap (begins at) (lacking_is answer e)
 
 -- a list comes apart at its first exchange
 record Parted (limits : Limits) (at : List ℕ) (life : Life) (x : Exchange) (xs : List Exchange) : Type 0 where
-  pub first : x.answer ≡ alone_answer limits.max_blob limits.max_idle at life x.ask x.now
-  pub later : SoFar limits at (alone_after limits.max_blob limits.max_idle life x.ask x.now) xs
+  pub first : x.answer ≡ alone_answer limits at life x.ask x.now
+  pub later : SoFar limits at (alone_after limits life x.ask x.now) xs
 
 skip : (limits : Limits) (at : List ℕ) (life : Life) (x : Exchange) (xs : List Exchange) → told (x ∷ xs) at ≡ told xs at
     → SoFar limits at life (x ∷ xs) → SoFar limits at life xs
 skip limits at life x xs e h =
     subst (λ ys. list_map (λ y. y.answer) ys
-    ≡ alone limits.max_blob limits.max_idle at life (list_map (λ y. (y.ask, y.now)) ys)) e h
+    ≡ alone limits at life (list_map (λ y. (y.ask, y.now)) ys)) e h
 
 parted : (limits : Limits) (at : List ℕ) (life : Life) (x : Exchange) (xs : List Exchange)
     → told (x ∷ xs) at ≡ x ∷ told xs at → SoFar limits at life (x ∷ xs) → Parted limits at life x xs
 parted limits at life x xs e h =
     let both : x.answer ∷ list_map (λ y. y.answer) (told xs at)
-    ≡ alone_answer limits.max_blob limits.max_idle at life x.ask x.now ∷ alone limits.max_blob limits.max_idle at
-    (alone_after limits.max_blob limits.max_idle life x.ask x.now) (list_map (λ y. (y.ask, y.now)) (told xs at)) =
+    ≡ alone_answer limits at life x.ask x.now
+    ∷ alone limits at (alone_after limits life x.ask x.now) (list_map (λ y. (y.ask, y.now)) (told xs at)) =
     subst (λ ys. list_map (λ y. y.answer) ys
-    ≡ alone limits.max_blob limits.max_idle at life (list_map (λ y. (y.ask, y.now)) ys)) e h in
+    ≡ alone limits at life (list_map (λ y. (y.ask, y.now)) ys)) e h in
     record { first = cc; later = cc }
 
 again_from : (limits : Limits) (at : List ℕ) (xs : List Exchange) (life : Life) → IsBorn life → SoFar limits at life xs
@@ -189,13 +191,13 @@ IsAbsent (Open session) = ⊥
 IsAbsent Gone = Unit {0}
 
 absent_answer : (at : List ℕ) (limits : Limits) (life : Life) (ask : Ask) (now : ℕ) → IsAbsent life → carries at ask
-    ≡ true → alone_answer limits.max_blob limits.max_idle at life ask now ≡ answers.Refused refusals.NoUpload
+    ≡ true → alone_answer limits at life ask now ≡ answers.Refused refusals.NoUpload
 absent_answer at limits (Open session) ask now none c = absurd none
 absent_answer at limits Gone ask now none c = refl
 absent_answer at limits Unborn ask now none c = ap (λ v. first_answer at (opened_under v)) (carried at ask c).view
 
 absent_after : (at : List ℕ) (limits : Limits) (life : Life) (ask : Ask) (now : ℕ) → IsAbsent life
-    → carries at ask ≡ true → IsAbsent (alone_after limits.max_blob limits.max_idle life ask now)
+    → carries at ask ≡ true → IsAbsent (alone_after limits life ask now)
 absent_after at limits (Open session) ask now none c = absurd none
 absent_after at limits Gone ask now none c = tt
 absent_after at limits Unborn ask now none c =
@@ -247,7 +249,7 @@ told-skip (y ∷ ys) x rest at m =
 trace : (start : State) (front : List Exchange) (x : Exchange) (rest : List Exchange) (at : List ℕ)
     → x.answer ≡ answers.NoMemory → IsToldAsAlone start (front ++ x ∷ rest) at → IsToldAsAlone start (front ++ rest) at
 trace start front x rest at e h =
-    subst (λ ys. list_map (λ y. y.answer) ys ≡ alone start.limits.max_blob start.limits.max_idle at (life_in start at)
+    subst (λ ys. list_map (λ y. y.answer) ys ≡ alone start.limits at (life_in start at)
     (list_map (λ y. (y.ask, y.now)) ys)) (told-skip front x rest at (ap lacks_memory e)) h
 
 pub headline_rules_out : HeadlineRulesOut

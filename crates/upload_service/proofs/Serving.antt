@@ -1,26 +1,28 @@
 -- How a path through the code meets the machine.
-use Rattle.std.proofs.Common.{◌≡◌, ◌≢◌, ℕ, ◌+◌, ◌≤◌, List, ◌++◌, length, true, Option, Some, None, refl, sym, ◌∙◌, ap}
-use Rattle.std.proofs.Common.{subst, inl, inr, arith}
+use Rattle.std.proofs.Common.{◌≡◌, ◌≢◌, ℕ, ◌+◌, ◌≤◌, ◌<◌, ◌^◌, List, ◌++◌, length, true, Option, Some, None, refl, sym}
+use Rattle.std.proofs.Common.{◌∙◌, ap, subst, inl, inr, arith}
 use Rattle.std.specs.Prelude.{if◌then◌else◌}
 use Rattle.std.proofs.lemmas.Bool.{true≢false, le-ltb}
 use Rattle.std.specs.FinMap as map
 use Rattle.upload_names.specs.Digest.{Digest, digest_cmp, content_digest}
 use Rattle.upload_service.specs.declared.limits.Limits.{Limits}
-use Rattle.upload_service.specs.declared.ask.Extent.{Extent}
+use Rattle.upload_service.specs.declared.turn.Sent.{Sent}
 use Rattle.upload_service.specs.declared.answer.Refusal.TheVariants as refusals
 use Rattle.upload_service.specs.UploadView.{Act, Sends, Closes}
 use Rattle.upload_service.proofs.UploadView.{named}
 use Rattle.upload_service.specs.declared.answer.Answer.{Answer}
 use Rattle.upload_service.specs.declared.answer.Answer.TheVariants as answers
-use Rattle.upload_service.specs.Machine.{Session, State, Outcome, Replies, Takes, Commits, Stores, answer_of}
+use Rattle.upload_service.specs.Machine.{Session, State, Outcome, Takes, Commits, Stores, answer_of}
 use Rattle.upload_service.specs.Machine.{state_after, refused, size_fault, body_fault, unless_fault, checked}
-use Rattle.upload_service.specs.Machine.{in_session, at_session}
+use Rattle.upload_service.specs.Machine.{Progress, awake, in_session, at_session}
+use Rattle.upload_service.specs.Kept.Tables.{IsPlaced, IsTurnedAway}
 use Rattle.std.specs.Prelude.{IsSome, is_some}
 use Rattle.std.specs.FinSet as set
 use Rattle.std.specs.Ordering.{nat_cmp}
 use Rattle.std.specs.Cmp.Lexicographic.{slice_cmp}
 use Rattle.upload_service.specs.Machine.{Comes, IsLawful, may_lack_memory, empty_state, pair_cmp}
 use Rattle.upload_service.proofs.Keeping.Tables.{same_from_ne, same_digest_from_eq, same_digest_from_ne}
+use Rattle.upload_service.proofs.Steps.{awake_is_open, None≢Some}
 
 pub does : (s : State) (now : ℕ) (o p : Outcome) (answer : Answer) (t : State) → o ≡ p → answer ≡ answer_of p
     → t ≡ state_after s now p → Comes s now o answer t
@@ -42,9 +44,6 @@ none_named max_blob (Some session) name at act h =
     ap (λ b. if b then in_session max_blob session name at act else refused refusals.NoUpload)
     (same_from_ne session.name name (h session refl))
 
-None≢Some : {A : Type 0} {x : A} → None ≡ Some x → ⊥
-None≢Some e = cc
-
 nothing_there : (X : Type 0) (k : List ℕ) → IsSome (map.get (map.empty {X = X} {R = slice_cmp nat_cmp}) k) → ⊥
 nothing_there X k e = true≢false (sym e ∙ ap is_some (map.get-empty (slice_cmp nat_cmp) k))
 
@@ -59,49 +58,78 @@ empty_is_lawful limits issued =
       stored = λ n d e. absurd (true≢false (sym e ∙ set.contains-empty pair_cmp (n, d)));
     }
 
--- a body that is turned away, and one that fits
-pub chunk_turned_away : (max_blob : ℕ) (o : Option Session) (session : Session) (name at : List ℕ)
-    (range : Extent) (body : List ℕ) (next : ℕ) (answer : Answer) → o ≡ Some session → session.name ≡ name
-    → next ≡ length session.received → body_fault max_blob name at next range body ≡ Some answer
-    → at_session max_blob o name at (Sends range body) ≡ Replies answer
-chunk_turned_away max_blob o session name at range body next answer e n l f =
-    named max_blob o session name at _ e n
-    ∙ ap (λ k. unless_fault (body_fault max_blob name at k range body) (Takes name at (session.received ++ body)))
-    (sym l)
-    ∙ ap (λ q. unless_fault q (Takes name at (session.received ++ body))) f
+-- the upload of a body, behind so many bytes
+abbrev pub behind : Sent → ℕ → Progress
+behind sent next = record { name = sent.name; at = sent.at; next = next }
 
-pub chunk_fits : (max_blob : ℕ) (o : Option Session) (session : Session) (name at : List ℕ) (range : Extent)
-    (body : List ℕ) (next : ℕ) → o ≡ Some session
-    → session.name ≡ name → next ≡ length session.received → body_fault max_blob name at next range body ≡ None
-    → at_session max_blob o name at (Sends range body) ≡ Takes name at (session.received ++ body)
-chunk_fits max_blob o session name at range body next e n l f =
-    named max_blob o session name at _ e n
-    ∙ ap (λ k. unless_fault (body_fault max_blob name at k range body) (Takes name at (session.received ++ body)))
-    (sym l)
-    ∙ ap (λ q. unless_fault q (Takes name at (session.received ++ body))) f
+-- what comes of a request with a body, by what is wrong with the body
+met : (max_blob : ℕ) (sent : Sent) (received : List ℕ) (next : ℕ) (fault : Option Answer) (o : Outcome)
+    → next ≡ length received → body_fault max_blob (behind sent next) sent.range sent.body ≡ fault
+    → unless_fault (body_fault max_blob (behind sent (length received)) sent.range sent.body) o
+    ≡ unless_fault fault o
+met max_blob sent received next fault o l f =
+    ap (λ k. unless_fault (body_fault max_blob (behind sent k) sent.range sent.body) o) (sym l)
+    ∙ ap (λ q. unless_fault q o) f
 
-pub close_turned_away : (max_blob : ℕ) (o : Option Session) (session : Session) (name at : List ℕ) (range : Extent)
-    (digest : Option Digest) (body : List ℕ) (next : ℕ) (answer : Answer) → o ≡ Some session → session.name ≡ name
-    → next ≡ length session.received → body_fault max_blob name at next range body ≡ Some answer
-    → at_session max_blob o name at (Closes range digest body) ≡ Replies answer
-close_turned_away max_blob o session name at range digest body next answer e n l f =
-    named max_blob o session name at _ e n
-    ∙ ap (λ k. unless_fault (body_fault max_blob name at k range body)
-    (checked digest (session.received ++ body) (λ d. Commits name at d (session.received ++ body)))) (sym l)
-    ∙ ap (λ q.
-    unless_fault q (checked digest (session.received ++ body) (λ d. Commits name at d (session.received ++ body)))) f
+-- what is done with a body, at the close of a session
+abbrev closing : Sent → Session → Option Digest → Outcome
+closing sent session digest =
+    checked digest (session.received ++ sent.body) (λ d. Commits sent.name sent.at d (session.received ++ sent.body))
 
-pub close_fits : (max_blob : ℕ) (o : Option Session) (session : Session) (name at : List ℕ) (range : Extent)
-    (digest : Option Digest) (body : List ℕ) (next : ℕ) → o ≡ Some session → session.name ≡ name
-    → next ≡ length session.received → body_fault max_blob name at next range body ≡ None
-    → at_session max_blob o name at (Closes range digest body)
-    ≡ checked digest (session.received ++ body) (λ d. Commits name at d (session.received ++ body))
-close_fits max_blob o session name at range digest body next e n l f =
-    named max_blob o session name at _ e n
-    ∙ ap (λ k. unless_fault (body_fault max_blob name at k range body)
-    (checked digest (session.received ++ body) (λ d. Commits name at d (session.received ++ body)))) (sym l)
-    ∙ ap (λ q.
-    unless_fault q (checked digest (session.received ++ body) (λ d. Commits name at d (session.received ++ body)))) f
+-- a body for a session that is there under its name, and which is turned away
+pub turned_away_there : (s : State) (now : ℕ) (sent : Sent) (session : Session) (next : ℕ) (answer : Answer)
+    → awake s now sent.at ≡ Some session → session.name ≡ sent.name → next ≡ length session.received
+    → body_fault s.limits.max_blob (behind sent next) sent.range sent.body ≡ Some answer
+    → IsTurnedAway s now sent answer
+turned_away_there s now sent session next answer e n l f =
+    record {
+      chunk =
+          named s.limits.max_blob (awake s now sent.at) session sent.name sent.at (Sends sent.range sent.body) e n
+          ∙ met s.limits.max_blob sent session.received next (Some answer)
+          (Takes sent.name sent.at (session.received ++ sent.body)) l f;
+      close =
+          λ digest.
+          named s.limits.max_blob (awake s now sent.at) session sent.name sent.at (Closes sent.range digest sent.body) e
+          n
+          ∙ met s.limits.max_blob sent session.received next (Some answer) (closing sent session digest) l f;
+    }
+
+-- and one that fits
+pub placed_there : (s : State) (now : ℕ) (sent : Sent) (session : Session) (next : ℕ)
+    → awake s now sent.at ≡ Some session → session.name ≡ sent.name → next ≡ length session.received
+    → next + length sent.body < 2 ^ 64
+    → body_fault s.limits.max_blob (behind sent next) sent.range sent.body ≡ None
+    → IsPlaced s now sent (record { name = sent.name; at = sent.at; body = sent.body; next = next })
+placed_there s now sent session next e n l small f =
+    record {
+      session = session;
+      is_open = (awake_is_open s.limits.max_idle now (map.get s.sessions sent.at) session e).0;
+      named = n;
+      is_next = l;
+      fits = small;
+      chunk =
+          named s.limits.max_blob (awake s now sent.at) session sent.name sent.at (Sends sent.range sent.body) e n
+          ∙ met s.limits.max_blob sent session.received next None
+          (Takes sent.name sent.at (session.received ++ sent.body)) l f;
+      close =
+          λ digest.
+          named s.limits.max_blob (awake s now sent.at) session sent.name sent.at (Closes sent.range digest sent.body) e
+          n
+          ∙ met s.limits.max_blob sent session.received next None (closing sent session digest) l f;
+    }
+
+-- and one for a session that isn't there, or not under its name
+pub nowhere : (s : State) (now : ℕ) (sent : Sent)
+    → ((session : Session) → awake s now sent.at ≡ Some session → session.name ≢ sent.name)
+    → IsTurnedAway s now sent (answers.Refused refusals.NoUpload)
+nowhere s now sent none =
+    record {
+      chunk = none_named s.limits.max_blob (awake s now sent.at) sent.name sent.at (Sends sent.range sent.body) none;
+      close =
+          λ digest.
+          none_named s.limits.max_blob (awake s now sent.at) sent.name sent.at (Closes sent.range digest sent.body)
+          none;
+    }
 
 pub mismatch : (digest : Digest) (blob : List ℕ) (done : Digest → Outcome)
     → content_digest digest.algorithm blob ≢ digest → checked (Some digest) blob done ≡ refused refusals.Mismatch

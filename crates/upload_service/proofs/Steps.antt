@@ -19,8 +19,8 @@ use Rattle.upload_service.specs.UploadView.{Act, Sends, AsksOffset, Closes, OfSe
 use Rattle.upload_service.specs.UploadView.{opened_under, nothing_done, answer_view}
 use Rattle.upload_service.specs.Machine.{same, same_digest, is_idle, unless_idle, awake, all_awake, Session, State}
 use Rattle.upload_service.specs.Machine.{Outcome, Replies, Begins, Takes, Commits, Stores, Mounts, refused, size_fault}
-use Rattle.upload_service.specs.Machine.{body_fault, unless_fault, checked, in_session, at_session, last_number}
-use Rattle.upload_service.specs.Machine.{opening, blob_reply, holds, outcome}
+use Rattle.upload_service.specs.Machine.{Progress, progress_of, body_fault, unless_fault, checked, in_session}
+use Rattle.upload_service.specs.Machine.{at_session, last_number, opening, blob_reply, holds, outcome}
 use Rattle.upload_service.specs.Headline.{aim_of, aim_at, aim_by}
 use Rattle.upload_service.proofs.Keeping.Tables.{eq_from_same, eq_from_same_digest}
 
@@ -119,19 +119,20 @@ module _ (P : Outcome → Type 0) (refusals_do : (r : Refusal) → P (refused r)
       (λ _. refusals_do refusals.TooLarge)
       (λ e. fits (ltb-false max_blob (next + length body) e))
 
-  pub by_body : (max_blob : ℕ) (name at : List ℕ) (next : ℕ) (range : Extent) (body : List ℕ) (o : Outcome)
-      → ((r : Span) → range ≡ Given r → r.first ≢ next → P (Replies (answers.Misplaced name at next)))
-      → (next + length body ≤ max_blob → P o)
-      → P (unless_fault (body_fault max_blob name at next range body) o)
-  by_body max_blob name at next Absent body o misses fits = by_size max_blob next body o fits
-  by_body max_blob name at next Bad body o misses fits = refusals_do refusals.BadRange
-  by_body max_blob name at next (Given r) body o misses fits =
-      by_test (λ fault. P (unless_fault fault o)) (not (r.first == next)) _ _
+  pub by_body : (max_blob : ℕ) (upload : Progress) (range : Extent) (body : List ℕ) (o : Outcome)
+      → ((r : Span) → range ≡ Given r → r.first ≢ upload.next
+      → P (Replies (answers.Misplaced upload.name upload.at upload.next)))
+      → (upload.next + length body ≤ max_blob → P o)
+      → P (unless_fault (body_fault max_blob upload range body) o)
+  by_body max_blob upload Absent body o misses fits = by_size max_blob upload.next body o fits
+  by_body max_blob upload Bad body o misses fits = refusals_do refusals.BadRange
+  by_body max_blob upload (Given r) body o misses fits =
+      by_test (λ fault. P (unless_fault fault o)) (not (r.first == upload.next)) _ _
       (λ e. misses r refl (λ aligned. true≢false (sym e ∙ ap not (eq-eqb _ _ aligned))))
       (λ _. by_test (λ fault. P (unless_fault fault o))
       (nat_lt r.last r.first || not (r.last - r.first + 1 == length body)) _ _
       (λ _. refusals_do refusals.WrongLength)
-      (λ _. by_size max_blob next body o fits))
+      (λ _. by_size max_blob upload.next body o fits))
 
   pub by_digest : (asked : Option Digest) (blob : List ℕ) (done : Digest → Outcome)
       → ((digest : Digest) → asked ≡ Some digest → HasDigest blob digest → P (done digest))
@@ -243,10 +244,10 @@ module _ (s : State) (secret : List ℕ) (now : ℕ) (P : Ask → Outcome → Ty
       → aim_by name at act ≡ aim_at name at range
       → (length found.session.received + length body ≤ s.limits.max_blob → P (session_ask name at act) o)
       → P (session_ask name at act)
-      (unless_fault (body_fault s.limits.max_blob name at (length found.session.received) range body) o)
+      (unless_fault (body_fault s.limits.max_blob (progress_of found.session name at) range body) o)
   of_range name at act range body found o aims =
-      by_body (P (session_ask name at act)) (each.refusals (session_ask name at act)) s.limits.max_blob name at
-      (length found.session.received) range body o
+      by_body (P (session_ask name at act)) (each.refusals (session_ask name at act)) s.limits.max_blob
+      (progress_of found.session name at) range body o
       (λ r given missed. each.misses name at act found r.first (aims ∙ ap (aim_at name at) given) missed)
 
   of_act : (name at : List ℕ) (act : Act) (found : Found s now name at)

@@ -163,14 +163,14 @@ blob_is_what_was_stored start front before x after m name digest head of size by
           let has : asks.Has f.name of f.head ≡ asks.Has name digest head = sym f.asked ∙ a in
           let of_is : of ≡ digest = cc in
           let head_is : f.head ≡ head = cc in
+          let is_bytes : bytes ≡ (if head then None else Some f.blob) =
+          f.is_bytes ∙ ap (λ h. if h then None else Some f.blob) head_is in
           record {
-            own = of_is;
             content = f.blob;
             is_content =
                 sym (blobs_run front start [] start before m.lawful refl m.so_far digest)
                 ∙ ap (map.get before.blobs) (sym of_is) ∙ f.is_stored;
-            is_size = f.is_size;
-            is_bytes = f.is_bytes ∙ ap (λ h. if h then None else Some f.blob) head_is;
+            is_answer = r ∙ (λ i. answers.Blob (of_is i) (f.is_size i) (is_bytes i));
           }
       | inr lacked ↦ let bad : answers.NoMemory ≡ answers.Blob of size bytes = sym lacked.1 ∙ r in cc
     ]

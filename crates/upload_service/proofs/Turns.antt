@@ -165,28 +165,28 @@ open_after s ask secret now (Mounts name digest) f h at session e c = inl e
 
 -- the session's own exchange gives what it gives alone
 pub record Own (s : State) (ask : Ask) (now : ℕ) (o : Outcome) (at : List ℕ) (life : Life) : Type 0 where
-  pub told : answer_of o ≡ alone_answer s.limits.max_blob s.limits.max_idle at life ask now
-  pub fits : Fits (state_after s now o) now at (alone_after s.limits.max_blob s.limits.max_idle life ask now)
+  pub told : answer_of o ≡ alone_answer s.limits at life ask now
+  pub fits : Fits (state_after s now o) now at (alone_after s.limits life ask now)
 
 own_refused : (s : State) (ask : Ask) (now : ℕ) (o : Outcome) (at : List ℕ) (life : Life)
     → o ≡ refused refusals.NoUpload
-    → alone_answer s.limits.max_blob s.limits.max_idle at life ask now ≡ answers.Refused refusals.NoUpload
-    → alone_after s.limits.max_blob s.limits.max_idle life ask now ≡ life → Fits s now at life → Own s ask now o at life
+    → alone_answer s.limits at life ask now ≡ answers.Refused refusals.NoUpload
+    → alone_after s.limits life ask now ≡ life → Fits s now at life → Own s ask now o at life
 own_refused s ask now o at life e a l fits =
     record {
       told = ap answer_of e ∙ sym a;
       fits =
-          subst (λ q. Fits (state_after s now q) now at (alone_after s.limits.max_blob s.limits.max_idle life ask now))
+          subst (λ q. Fits (state_after s now q) now at (alone_after s.limits life ask now))
           (sym e) (subst (λ q. Fits s now at q) (sym l) fits);
     }
 
 -- what a request asks of this session, alone
-alone_act : (max_blob max_idle : ℕ) (session : Session) (ask : Ask) (now : ℕ) (name at : List ℕ) (act : Act)
-    → upload_view ask ≡ OfSession name at act → alone_outcome max_blob max_idle session ask now
-    ≡ at_session max_blob (unless_idle max_idle now (Some session)) name at act
-alone_act max_blob max_idle session ask now name at act view =
-    ap (λ v. on_session v (refused refusals.NoUpload) (at_session max_blob (unless_idle max_idle now (Some session))))
-    view
+alone_act : (limits : Limits) (session : Session) (ask : Ask) (now : ℕ) (name at : List ℕ) (act : Act)
+    → upload_view ask ≡ OfSession name at act → alone_outcome limits session ask now
+    ≡ at_session limits.max_blob (unless_idle limits.max_idle now (Some session)) name at act
+alone_act limits session ask now name at act view =
+    ap (λ v. on_session v (refused refusals.NoUpload)
+    (at_session limits.max_blob (unless_idle limits.max_idle now (Some session)))) view
 
 own_carried : (s : State) (ask : Ask) (secret : List ℕ) (from now : ℕ) (name at : List ℕ) (act : Act) (life : Life)
     → IsNumbered s → from ≤ now → upload_view ask ≡ OfSession name at act → carries at ask ≡ true → Fits s from at life
@@ -201,10 +201,10 @@ own_carried s ask secret from now name at act Gone h later view c fits =
     (outcome_of_view s ask secret now name at act view
     ∙ ap (λ x. at_session s.limits.max_blob (unless_idle s.limits.max_idle now x) name at act) fits.0) refl refl fits
 own_carried s ask secret from now name at act (Open session) h later view c (inl is_open) =
-    let e : outcome s ask secret now ≡ alone_outcome s.limits.max_blob s.limits.max_idle session ask now =
+    let e : outcome s ask secret now ≡ alone_outcome s.limits session ask now =
     outcome_of_view s ask secret now name at act view
     ∙ ap (λ x. at_session s.limits.max_blob (unless_idle s.limits.max_idle now x) name at act) is_open
-    ∙ sym (alone_act s.limits.max_blob s.limits.max_idle session ask now name at act view) in
+    ∙ sym (alone_act s.limits session ask now name at act view) in
     record {
       told = ap answer_of e;
       fits =
@@ -215,8 +215,8 @@ own_carried s ask secret from now name at act (Open session) h later view c (inl
 own_carried s ask secret from now name at act (Open session) h later view c (inr left) =
     let idle : is_idle s.limits.max_idle now session ≡ true =
     idle_later s.limits.max_idle from now session left.idle later in
-    let e : alone_outcome s.limits.max_blob s.limits.max_idle session ask now ≡ refused refusals.NoUpload =
-    alone_act s.limits.max_blob s.limits.max_idle session ask now name at act view
+    let e : alone_outcome s.limits session ask now ≡ refused refusals.NoUpload =
+    alone_act s.limits session ask now name at act view
     ∙ ap (λ x. at_session s.limits.max_blob x name at act) (idle_is_none s.limits.max_idle now session idle) in
     own_refused s ask now (outcome s ask secret now) at (Open session)
     (outcome_of_view s ask secret now name at act view

@@ -3,6 +3,7 @@ use Rattle.std.specs.Prelude.{◌≡◌, ℕ, not, nat_le, Bool, true, false, Li
 use Rattle.std.specs.Prelude.{Some, None}
 use Rattle.std.specs.FinMap as map
 use Rattle.upload_names.specs.Reference.{number_of}
+use Rattle.upload_service.specs.declared.limits.Limits.{Limits}
 use Rattle.upload_service.specs.declared.answer.Refusal.TheVariants as refusals
 use Rattle.upload_service.specs.declared.ask.Ask.{Ask}
 use Rattle.upload_service.specs.declared.answer.Answer.{Answer}
@@ -13,7 +14,8 @@ use Rattle.upload_service.specs.Machine.{Mounts, answer_of, refused, at_session}
 use Rattle.upload_service.specs.Run.{Exchange}
 use Rattle.upload_service.specs.Session.{part, received}
 
--- One session, with nothing else of the service but the largest size of a blob and the longest idle time.
+-- One session, with nothing else of the service but its limits, of which two count: the largest size of a blob and the
+-- longest idle time.
 pub data Life : Type 0 where
   Unborn : Life
   Open : (session : Session) → Life
@@ -38,10 +40,10 @@ life_after session now (Stores name digest blob) = Open session
 life_after session now (Mounts name digest) = Open session
 
 -- what a request to the session comes to
-abbrev pub alone_outcome : ℕ → ℕ → Session → Ask → ℕ → Outcome
-alone_outcome max_blob max_idle session ask now =
+abbrev pub alone_outcome : Limits → Session → Ask → ℕ → Outcome
+alone_outcome limits session ask now =
     on_session (upload_view ask) (refused refusals.NoUpload)
-    (at_session max_blob (unless_idle max_idle now (Some session)))
+    (at_session limits.max_blob (unless_idle limits.max_idle now (Some session)))
 
 -- the answer to a request, and the session after it, if the session isn't there yet: by the name under which the
 -- request asks for a new one
@@ -54,23 +56,21 @@ first_life (Some name) now = Open (record { name = name; received = []; seen = n
 first_life None now = Unborn
 
 -- the answer to a request, and the session after it, where the session is alone
-abbrev pub alone_answer : ℕ → ℕ → List ℕ → Life → Ask → ℕ → Answer
-alone_answer max_blob max_idle at Unborn ask now = first_answer at (opened_under (upload_view ask))
-alone_answer max_blob max_idle at (Open session) ask now = answer_of (alone_outcome max_blob max_idle session ask now)
-alone_answer max_blob max_idle at Gone ask now = answers.Refused refusals.NoUpload
+abbrev pub alone_answer : Limits → List ℕ → Life → Ask → ℕ → Answer
+alone_answer limits at Unborn ask now = first_answer at (opened_under (upload_view ask))
+alone_answer limits at (Open session) ask now = answer_of (alone_outcome limits session ask now)
+alone_answer limits at Gone ask now = answers.Refused refusals.NoUpload
 
-abbrev pub alone_after : ℕ → ℕ → Life → Ask → ℕ → Life
-alone_after max_blob max_idle Unborn ask now = first_life (opened_under (upload_view ask)) now
-alone_after max_blob max_idle (Open session) ask now =
-    life_after session now (alone_outcome max_blob max_idle session ask now)
-alone_after max_blob max_idle Gone ask now = Gone
+abbrev pub alone_after : Limits → Life → Ask → ℕ → Life
+alone_after limits Unborn ask now = first_life (opened_under (upload_view ask)) now
+alone_after limits (Open session) ask now = life_after session now (alone_outcome limits session ask now)
+alone_after limits Gone ask now = Gone
 
 -- the answers to the requests of one session that is alone, each at its moment
-abbrev pub alone : ℕ → ℕ → List ℕ → Life → List (Ask × ℕ) → List Answer
-alone max_blob max_idle at life [] = []
-alone max_blob max_idle at life ((ask, now) ∷ asked) =
-    alone_answer max_blob max_idle at life ask now
-    ∷ alone max_blob max_idle at (alone_after max_blob max_idle life ask now) asked
+abbrev pub alone : Limits → List ℕ → Life → List (Ask × ℕ) → List Answer
+alone limits at life [] = []
+alone limits at life ((ask, now) ∷ asked) =
+    alone_answer limits at life ask now ∷ alone limits at (alone_after limits life ask now) asked
 
 abbrev pub lacks_memory : Answer → Bool
 lacks_memory answer = (answer_view answer).no_memory
@@ -83,5 +83,4 @@ told xs at = filter (λ x. not (lacks_memory x.answer)) (part xs at)
 abbrev pub IsToldAsAlone : State → List Exchange → List ℕ → Type 0
 IsToldAsAlone start xs at =
     list_map (λ x. x.answer) (told xs at)
-    ≡ alone start.limits.max_blob start.limits.max_idle at (life_in start at)
-    (list_map (λ x. (x.ask, x.now)) (told xs at))
+    ≡ alone start.limits at (life_in start at) (list_map (λ x. (x.ask, x.now)) (told xs at))

@@ -14,7 +14,7 @@ use Rattle.upload_service.specs.Machine.{is_idle, awake, Session, State, Turn, I
 use Rattle.upload_service.specs.Run.{Exchange, Run, NeverFall}
 use Rattle.upload_service.specs.Session.{carries, received, session_is_closed}
 use Rattle.upload_service.specs.Alone.{IsToldAsAlone}
-use Rattle.upload_service.specs.Stored.{stored, last_under, IsStoreAfter, IsHandedOut}
+use Rattle.upload_service.specs.Stored.{Stored, stored, last_under, IsStoreAfter, IsHandedOut}
 
 -- Where a Given range is aimed: a session, and the first position.
 pub record Aim : Type 0 where
@@ -38,13 +38,13 @@ aim_of ask = on_session (upload_view ask) None aim_by
 abbrev pub IsAwake : State → ℕ → List ℕ → List ℕ → Type 0
 IsAwake s now name at = (session : Session) × (awake s now at ≡ Some session) × (session.name ≡ name)
 
--- What a session commits: the blob has the digest asked for, stands under it, and the repository has it.
-pub record IsCommitted (blob name name' : List ℕ) (asked : Option Digest) (digest : Digest) (new : State) : Type 0 where
-  pub named : name' ≡ name
-  pub asked_for : asked ≡ Some digest
-  pub own_digest : HasDigest blob digest
-  pub stored : map.get new.blobs digest ≡ Some blob
-  pub held : IsTrue (holds new name digest)
+-- What a session of this name commits: the blob has the digest asked for, stands under it, and the repository has it.
+pub record IsCommitted (name : List ℕ) (asked : Option Digest) (done : Stored) (new : State) : Type 0 where
+  pub named : done.name ≡ name
+  pub asked_for : asked ≡ Some done.digest
+  pub own_digest : HasDigest done.blob done.digest
+  pub stored : map.get new.blobs done.digest ≡ Some done.blob
+  pub held : IsTrue (holds new name done.digest)
 
 -- What holds of every exchange of a run, where front are the exchanges before it, and received start front at is what a
 -- session has received by then.
@@ -53,7 +53,8 @@ pub record IsOrderly (start : State) (front : List Exchange) (before : State) (x
   -- what a session commits is what it received, with the digest asked for, stored under it
   pub committed : (name at : List ℕ) (range : Extent) (asked : Option Digest) (body : List ℕ) (name' : List ℕ)
       (digest : Digest) → x.ask ≡ asks.Close name at range asked body → x.answer ≡ answers.Stored name' digest
-      → IsCommitted (received start (front ++ x ∷ []) at) name name' asked digest after
+      → IsCommitted name asked
+      (record { name = name'; digest = digest; blob = received start (front ++ x ∷ []) at }) after
   -- a chunk that misses the next offset is answered so, and changes nothing
   pub missed : (aim : Aim) → aim_of x.ask ≡ Some aim → IsAwake before x.now aim.name aim.at
       → aim.first ≢ length (received start front aim.at)
@@ -68,7 +69,7 @@ pub record IsOrderly (start : State) (front : List Exchange) (before : State) (x
   -- a blob that is handed out is the last that was stored there
   pub blob : (name : List ℕ) (digest : Digest) (head : Bool) (of : Digest) (size : ℕ) (bytes : Option (List ℕ))
       → x.ask ≡ asks.Has name digest head → x.answer ≡ answers.Blob of size bytes
-      → IsHandedOut digest head (last_under digest (stored start front) (map.get start.blobs digest)) of size bytes
+      → IsHandedOut digest head (last_under digest (stored start front) (map.get start.blobs digest)) x.answer
 
 -- The headline of a run: each exchange is orderly, each session is told what it would be told alone, and the store is
 -- what was stored.

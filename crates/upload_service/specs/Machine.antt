@@ -138,14 +138,20 @@ abbrev pub size_fault : ℕ → ℕ → List ℕ → Option Answer
 size_fault max_blob next body =
     if nat_lt max_blob (next + length body) then Some (answers.Refused refusals.TooLarge) else None
 
-abbrev pub body_fault : ℕ → List ℕ → List ℕ → ℕ → Extent → List ℕ → Option Answer
-body_fault max_blob name at next Absent body = size_fault max_blob next body
-body_fault max_blob name at next Bad body = Some (answers.Refused refusals.BadRange)
-body_fault max_blob name at next (Given range) body =
-    if not (range.first == next) then Some (answers.Misplaced name at next)
+-- how far an upload has come: its name, its reference, and how many bytes it has received
+pub record Progress : Type 0 where
+  pub name : List ℕ
+  pub at : List ℕ
+  pub next : ℕ
+
+abbrev pub body_fault : ℕ → Progress → Extent → List ℕ → Option Answer
+body_fault max_blob upload Absent body = size_fault max_blob upload.next body
+body_fault max_blob upload Bad body = Some (answers.Refused refusals.BadRange)
+body_fault max_blob upload (Given range) body =
+    if not (range.first == upload.next) then Some (answers.Misplaced upload.name upload.at upload.next)
     else if nat_lt range.last range.first
     || not (range.last - range.first + 1 == length body) then Some (answers.Refused refusals.WrongLength)
-    else size_fault max_blob next body
+    else size_fault max_blob upload.next body
 
 abbrev pub unless_fault : Option Answer → Outcome → Outcome
 unless_fault (Some answer) outcome = Replies answer
@@ -157,14 +163,17 @@ checked None blob done = refused refusals.NoDigest
 checked (Some digest) blob done =
     if same_digest (content_digest digest.algorithm blob) digest then done digest else refused refusals.Mismatch
 
+abbrev pub progress_of : Session → List ℕ → List ℕ → Progress
+progress_of session name at = record { name = name; at = at; next = length session.received }
+
 -- a request to an open session
 abbrev pub in_session : ℕ → Session → List ℕ → List ℕ → Act → Outcome
 in_session max_blob session name at (Sends range body) =
-    unless_fault (body_fault max_blob name at (length session.received) range body)
+    unless_fault (body_fault max_blob (progress_of session name at) range body)
     (Takes name at (session.received ++ body))
 in_session max_blob session name at AsksOffset = Replies (answers.Standing name at (length session.received))
 in_session max_blob session name at (Closes range digest body) =
-    unless_fault (body_fault max_blob name at (length session.received) range body)
+    unless_fault (body_fault max_blob (progress_of session name at) range body)
     (checked digest (session.received ++ body) (λ d. Commits name at d (session.received ++ body)))
 
 -- a request that names a session: the session has to be there, under that name

@@ -5,6 +5,7 @@ use Rattle.std.specs.FinMap as map
 use Rattle.upload_names.specs.Digest.{Digest}
 use Rattle.upload_service.specs.declared.ask.Ask.{Ask}
 use Rattle.upload_service.specs.declared.answer.Answer.{Answer}
+use Rattle.upload_service.specs.declared.answer.Answer.TheVariants as answers
 use Rattle.upload_service.specs.UploadView.{Act, Sends, AsksOffset, Closes, UploadView, OfSession, Opens, WholeBlob}
 use Rattle.upload_service.specs.UploadView.{Unrelated, upload_view, answer_view}
 use Rattle.upload_service.specs.Machine.{same_digest, State, holds, pair_cmp}
@@ -72,11 +73,7 @@ pub record IsStoreAfter (start : State) (xs : List Exchange) (end : State) : Typ
       → holds end name digest ≡ (holds start name digest || list_any (λ x. notes name digest x.answer) xs)
 
 -- what is handed out of a blob: its own digest, its length, and its bytes, but for a HEAD
-pub record IsHandedOut
-    (digest : Digest) (head : Bool) (blob : Option (List ℕ)) (of : Digest) (size : ℕ) (bytes : Option (List ℕ))
-    : Type 0 where
-  pub own : of ≡ digest
+pub record IsHandedOut (digest : Digest) (head : Bool) (blob : Option (List ℕ)) (answer : Answer) : Type 0 where
   pub content : List ℕ
   pub is_content : blob ≡ Some content
-  pub is_size : size ≡ length content
-  pub is_bytes : bytes ≡ (if head then None else Some content)
+  pub is_answer : answer ≡ answers.Blob digest (length content) (if head then None else Some content)

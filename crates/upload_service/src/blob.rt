@@ -22,6 +22,30 @@ pub struct Several {
     pub last: Part,
 }
 
+impl Several {
+    /// A last body alone, in a place where nothing has come before it yet.
+    pub fn of(alloc: Global, body: Body) -> Result<Box<Several>, AllocError>
+        ensures { IfOk result (λ place. body_in (box_value place) ≡ body) }
+    {
+        let Pieces { parts, last } = body.into_pieces();
+        let Ok(last) = Part::of(alloc, last) else {
+            return Err(AllocError);
+        };
+        let before = Segments::new(alloc);
+        match Box::new(
+            alloc,
+            Several {
+                before,
+                parts,
+                last,
+            },
+        ) {
+            Ok(place) => Ok(place),
+            Err(_) => Err(AllocError),
+        }
+    }
+}
+
 /// What a blob is kept in.
 #[derive(Drop)]
 pub enum Shape {

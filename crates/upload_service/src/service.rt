@@ -23,8 +23,6 @@ use upload_names::{Algorithm, BlobDigest, RepoName, UploadRef};
 /// limits are lawful wherever it is held.
 #[derive(Drop)]
 pub struct Service {
-    alloc: Global,
-    limits: Limits,
     tables: Tables,
 }
 
@@ -38,9 +36,9 @@ impl Model for Service {
 
     ghost use Rattle.upload_service.specs.Kept.Tables.{state_of, IsService};
 
-    ghost view = { λ a. state_of a.limits a.tables };
+    ghost view = { λ a. state_of a.tables };
 
-    ghost invariant = { λ a. IsService a.limits a.tables };
+    ghost invariant = { λ a. IsService a.tables };
 }
 
 impl Service {
@@ -58,9 +56,9 @@ impl Service {
         ensures { result ≡ empty_state limits issued }
     {
         Service {
-            alloc,
-            limits,
             tables: Tables {
+                alloc,
+                limits,
                 issued,
                 sessions: Sessions::new(alloc),
                 stock: Stock::new(alloc),
@@ -75,7 +73,7 @@ impl Service {
     pub fn keep_free(&mut self, bytes: usize)
         ensures { self.new ≡ self.old }
     {
-        self.tables.slack = Slack::of(self.alloc, bytes);
+        self.tables.slack = Slack::of(self.tables.alloc, bytes);
     }
 
     /// The limits that it keeps.
@@ -84,7 +82,7 @@ impl Service {
         ensures lawful_limits { AreLawful result }
         ensures lawful { IsLawful self.now }
     {
-        self.limits
+        self.tables.limits
     }
 
     /// Serves one request, at this moment in seconds: one turn of the machine. The secret is used only where the answer
@@ -94,7 +92,7 @@ impl Service {
         ensures turn { Turn self.old ask secret now result self.new }
         ensures lawful { IsLawful self.new }
     {
-        turn(self.alloc, self.limits, &mut self.tables, ask, secret, now)
+        turn(&mut self.tables, ask, secret, now)
     }
 
     /// Has the SHA-256 of an open session take in what the session received since it last did. A step hashes no chunk,
@@ -114,7 +112,9 @@ impl Service {
     pub fn catch_up_beside<R: Threads>(&mut self, rt: &R, at: &UploadRef)
         ensures { self.new ≡ self.old }
     {
-        self.tables.sessions.catch_up_beside(rt, self.alloc, at);
+        self.tables
+            .sessions
+            .catch_up_beside(rt, self.tables.alloc, at);
     }
 
     /// Prepares a close by this algorithm, so that it has little left to hash: the hash of an open session takes in
@@ -134,7 +134,7 @@ impl Service {
     {
         self.tables
             .sessions
-            .hash_for_close(rt, self.alloc, at, algorithm)
+            .hash_for_close(rt, self.tables.alloc, at, algorithm)
     }
 
     /// As `step`. A close waits for the thread that hashes for its session by the algorithm of its digest, and then
@@ -170,11 +170,10 @@ impl Service {
         else {
             return None;
         };
-        let sessions = &self.tables.sessions;
-        let session = sessions.find_awake(name, at, self.limits.max_idle, now)?;
+        let session = self.tables.find_awake(name, at, now)?;
+        let next = session.received.len();
         let size = body.len() as u64;
-        let verdict = judge(self.limits.max_blob, session.received.len(), *range, size);
-        match verdict {
+        match judge(self.tables.limits.max_blob, next, *range, size) {
             Verdict::Fits => Some((*at, digest.algorithm())),
             Verdict::Misplaced | Verdict::Refused(_) => None,
         }
@@ -222,7 +221,7 @@ impl Service {
         ensures err { OnErr result (self.new ≡ self.old) }
     {
         // Opens the service: that it is lawful is what the headline starts from.
-        let _ = &self.limits;
+        let _ = &self.tables;
         self.run_each(alloc, jobs)
     }
 

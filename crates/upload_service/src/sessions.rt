@@ -1,9 +1,9 @@
 //! The open sessions, by their references.
-ghost use Rattle.std.specs.Prelude.{◌≡◌, ◌≢◌, ◌↔◌, ◌+◌, ◌<◌, ◌≤◌, ◌^◌, ◌++◌, [], ℕ, length, filter, nat_le, Some, None};
+ghost use Rattle.std.specs.Prelude.{◌≡◌, ◌↔◌, ◌+◌, ◌<◌, ◌≤◌, ◌^◌, ◌++◌, [], ℕ, length, filter, nat_le, Some, None};
 ghost use Rattle.std.specs.Prelude.{IsTrue, IsSome, IfSome, IfNone, OnOk, OnErr};
 ghost use Rattle.std.specs.FinMap as map;
 ghost use Rattle.upload_names.specs.Digest.{HasDigest};
-ghost use Rattle.upload_service.specs.Machine.{Session, is_idle, unless_idle, awake_of, swept_of};
+ghost use Rattle.upload_service.specs.Machine.{Session, is_idle, awake_of, swept_of};
 ghost use Rattle.upload_service.specs.Kept.Entries.{session_of, is_kept};
 
 use crate::hash_end::HashEnd;
@@ -25,8 +25,19 @@ pub struct OpenSession {
 }
 
 impl OpenSession {
+    /// A session that is opened at this moment, with no bytes. It takes no memory.
+    pub fn new(alloc: Global, name: RepoName, now: u64) -> OpenSession
+        ensures { session_of result ≡ record { name = name; received = []; seen = now } }
+    {
+        OpenSession {
+            name,
+            received: Received::new(alloc),
+            seen: now,
+        }
+    }
+
     /// Whether it took nothing for more than `max_idle` seconds.
-    fn is_idle(&self, max_idle: u64, now: u64) -> bool
+    pub fn is_idle(&self, max_idle: u64, now: u64) -> bool
         ensures { result ≡ is_idle max_idle now (session_of self.now) }
     {
         now > self.seen && now - self.seen > max_idle
@@ -74,33 +85,6 @@ impl Sessions {
         self.open.get(at)
     }
 
-    /// The session of a reference, where it is open under this name and isn't idle.
-    pub fn find_awake(
-        &self,
-        name: &RepoName,
-        at: &UploadRef,
-        max_idle: u64,
-        now: u64,
-    ) -> Option<&OpenSession>
-        ensures found { IfSome result
-            (λ session. map.get self.now at.now ≡ Some (session_of session.now)) }
-        ensures awake { IfSome result (λ session. unless_idle max_idle now (map.get self.now at.now)
-            ≡ Some (session_of session.now)) }
-        ensures named { IfSome result (λ session. session.now.name ≡ name.now) }
-        ensures none { IfNone result
-            ((session : Session) → unless_idle max_idle now (map.get self.now at.now) ≡ Some session
-            → session.name ≢ name.now) }
-    {
-        let session = self.find(at)?;
-        if session.is_idle(max_idle, now) {
-            return None;
-        }
-        if !session.name.same(name) {
-            return None;
-        }
-        Some(session)
-    }
-
     /// Whether as many sessions as may be open are open and not idle. Where the table has room it looks at none.
     pub fn is_full(&self, limits: Limits, now: u64) -> bool
         ensures { result
@@ -112,26 +96,19 @@ impl Sessions {
         count_awake(&self.open, limits.max_idle, now) >= limits.max_open as usize
     }
 
-    /// Opens a session with no bytes. Where the table is full the idle ones leave it, once there is room.
+    /// Adds a session. Where the table is full those that are idle as it is opened leave, once there is room.
     pub fn begin(
         &mut self,
-        alloc: Global,
         limits: Limits,
         at: UploadRef,
-        name: RepoName,
-        now: u64,
+        session: OpenSession,
     ) -> Result<(), AllocError>
-        ensures ok { OnOk result (self.new ≡ map.insert (swept_of limits now self.old) at
-            (record { name = name; received = []; seen = now })) }
+        ensures ok { OnOk result (self.new
+            ≡ map.insert (swept_of limits session.seen self.old) at (session_of session)) }
         ensures err { OnErr result (self.new ≡ self.old) }
     {
         let full = self.open.len() >= limits.max_open as usize;
-        let received = Received::new(alloc);
-        let session = OpenSession {
-            name,
-            received,
-            seen: now,
-        };
+        let now = session.seen;
         let Ok(_) = self.open.insert(at, session) else {
             return Err(AllocError);
         };

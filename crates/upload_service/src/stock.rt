@@ -1,25 +1,21 @@
 //! The stored blobs by their digests, each with the repositories that have it. There is a tree for each algorithm, so
 //! that a SHA-256 takes no more room than its 32 bytes, and no digest is kept twice.
-ghost use Rattle.std.specs.Prelude.{◌≡◌, ◌+◌, ◌<◌, ◌^◌, ◌++◌, ◌||◌, ◌&&◌, cond, ℕ, List, length, box_value, Some, None};
+ghost use Rattle.std.specs.Prelude.{◌≡◌, ◌||◌, ◌&&◌, cond, ℕ, List, Some, None};
 ghost use Rattle.std.specs.Prelude.{IsSome, IsTrue, IfSome, IfNone, OnOk, OnErr};
 ghost use Rattle.std.specs.FinMap as map;
 ghost use Rattle.std.specs.FinSet as set;
 ghost use Rattle.std.specs.Arc.{arc_value};
 ghost use Rattle.std.specs.Map.{lookup};
-ghost use Rattle.upload_service.specs.Machine.{Session, same};
+ghost use Rattle.upload_service.specs.Machine.{same};
 ghost use Rattle.upload_service.specs.Kept.Stock.{blob_in, is_held, or_empty, digest_at};
-ghost use Rattle.upload_service.specs.Kept.Parts.{whole};
-ghost use Rattle.upload_service.specs.Kept.Blobs.{body_in};
 
-use crate::blob::{Blob, Several};
+use crate::blob::Blob;
 use crate::holders::{Holders, Names};
-use crate::segments::Segments;
-use crate::sessions::Sessions;
 use std::alloc::{AllocError, Global};
 use std::collections::BTreeMap;
 use std::marker::Model;
 use std::sync::Arc;
-use upload_names::{Algorithm, BlobDigest, Body, Part, Pieces, RepoName, UploadRef};
+use upload_names::{Algorithm, BlobDigest, RepoName};
 
 /// A stored blob and the repositories that have it.
 #[derive(Drop)]
@@ -129,52 +125,8 @@ impl Stock {
         Ok(())
     }
 
-    /// Closes an open session, stores what it received and a last body, and notes the pair. All growths come before
-    /// the first change that is seen.
-    pub fn commit(
-        &mut self,
-        sessions: &mut Sessions,
-        name: &RepoName,
-        at: &UploadRef,
-        digest: BlobDigest,
-        body: Body,
-    ) -> Result<(), AllocError>
-        requires open { IsSome (map.get sessions.old at.now) }
-        requires fits { (session : Session) → map.get sessions.old at.now ≡ Some session
-            → length session.received + length body < 2 ^ 64 }
-        ensures blobs { OnOk result
-            ((session : Session) → map.get sessions.old at.now ≡ Some session
-            → self.new.blobs ≡ map.insert self.old.blobs digest (session.received ++ body)) }
-        ensures sessions { OnOk result (sessions.new ≡ map.remove sessions.old at.now) }
-        ensures pairs { OnOk result
-            (self.new.pairs ≡ set.insert self.old.pairs (name.now, digest)) }
-        ensures err { OnErr result ((self.new ≡ self.old) × (sessions.new ≡ sessions.old)) }
-    {
-        let Pieces { parts, last } = body.into_pieces();
-        let Ok(last) = Part::of(self.alloc, last) else {
-            return Err(AllocError);
-        };
-        let before = Segments::new(self.alloc);
-        let Ok(place) = Box::new(
-            self.alloc,
-            Several {
-                before,
-                parts,
-                last,
-            },
-        ) else {
-            return Err(AllocError);
-        };
-        let Ok(()) = self.hold(name, digest) else {
-            return Err(AllocError);
-        };
-        let blob = blob_of(self.alloc, sessions, at, place);
-        self.put(digest, blob);
-        Ok(())
-    }
-
     /// Notes that a repository has the blob of a digest, which has no bytes where none is stored yet.
-    fn hold(&mut self, name: &RepoName, digest: BlobDigest) -> Result<(), AllocError>
+    pub fn hold(&mut self, name: &RepoName, digest: BlobDigest) -> Result<(), AllocError>
         ensures blobs { OnOk result (self.new.blobs
             ≡ map.insert self.old.blobs digest (or_empty (map.get self.old.blobs digest))) }
         ensures pairs { OnOk result
@@ -191,7 +143,7 @@ impl Stock {
     }
 
     /// Puts a blob in the place of the one under its digest. It takes no memory.
-    fn put(&mut self, digest: BlobDigest, blob: Blob)
+    pub fn put(&mut self, digest: BlobDigest, blob: Blob)
         requires { IsSome (map.get self.old.blobs digest) }
         ensures blobs { self.new.blobs ≡ map.insert self.old.blobs digest blob }
         ensures pairs { self.new.pairs ≡ self.old.pairs }
@@ -290,21 +242,4 @@ fn put_under<const N: usize>(items: &mut BTreeMap<[u8; N], Item>, key: &[u8; N],
         unreachable!();
     };
     item.blob = blob;
-}
-
-/// Closes an open session, and makes a blob of what it received and a last body, in a place where that body is
-/// already. It takes no memory.
-fn blob_of(alloc: Global, sessions: &mut Sessions, at: &UploadRef, place: Box<Several>) -> Blob
-    requires open { IsSome (map.get sessions.old at.now) }
-    requires fits { (session : Session) → map.get sessions.old at.now ≡ Some session
-        → length session.received + length (body_in (box_value place)) < 2 ^ 64 }
-    ensures blob { (session : Session) → map.get sessions.old at.now ≡ Some session
-        → result ≡ session.received ++ body_in (box_value place) }
-    ensures closed { sessions.new ≡ map.remove sessions.old at.now }
-{
-    let Some(session) = sessions.close(at) else {
-        unreachable!();
-    };
-    let segments = session.received.into_segments();
-    Blob::of_parts(alloc, segments, place)
 }

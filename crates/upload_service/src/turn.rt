@@ -1,32 +1,81 @@
 //! One turn of the service over its tables: a function for each kind of request. In each the growths come before
 //! the first change, so that a refused growth leaves the tables as they were.
-ghost use Rattle.std.specs.Prelude.{◌≡◌, ◌+◌, ◌≤◌, ◌<◌, ◌^◌, ◌++◌, List, ℕ, length, Some, IsSome};
+ghost use Rattle.std.specs.Prelude.{◌≡◌, ◌≢◌, ◌+◌, ◌≤◌, ◌<◌, ◌^◌, ◌++◌, List, ℕ, length, box_value, Some, IsSome};
+ghost use Rattle.std.specs.Prelude.{IfSome, IfNone, IfOk, IfErr};
 ghost use Rattle.std.specs.FinMap as map;
-ghost use Rattle.upload_service.specs.declared.limits.Limits.{Limits as LimitsOf};
-ghost use Rattle.upload_service.specs.UploadView.{Sends, AsksOffset, Closes};
-ghost use Rattle.upload_service.specs.Machine.{Session, Commits, Comes, Turn, IsLawful, opening as opening_of};
+ghost use Rattle.upload_service.specs.UploadView.{AsksOffset};
+ghost use Rattle.upload_service.specs.Machine.{Session, Commits, Mounts, Comes, Turn, opening as opening_of};
 ghost use Rattle.upload_service.specs.Machine.{at_session, awake};
-ghost use Rattle.upload_service.specs.Kept.Tables.{state_of, IsVerdict};
+ghost use Rattle.upload_service.specs.Kept.Blobs.{body_in};
+ghost use Rattle.upload_service.specs.Kept.Entries.{session_of};
+ghost use Rattle.upload_service.specs.Kept.Tables.{state_of, IsVerdict, chunk_of, close_of, IsPlaced, IsTurnedAway};
 
 use crate::answer::{Answer, Refusal};
 use crate::ask::{Ask, Extent};
-use crate::blob::Blob;
+use crate::blob::{Blob, Several};
 use crate::limits::Limits;
-use crate::sessions::Sessions;
+use crate::sessions::{OpenSession, Sessions};
 use crate::slack::Slack;
 use crate::stock::Stock;
 use std::alloc::Global;
 use upload_names::{BlobDigest, Body, RepoName, UploadRef};
 
-/// All that a service keeps, but for its limits.
+/// All that a service keeps.
 #[derive(Drop)]
 pub struct Tables {
+    pub alloc: Global,
+    pub limits: Limits,
     /// The last number that was given to a session.
     pub issued: u32,
     pub sessions: Sessions,
     pub stock: Stock,
     /// What stays free beside them, for answers that change nothing.
     pub slack: Slack,
+}
+
+impl Tables {
+    /// The session of a reference, where it is open under this name and isn't idle.
+    pub(crate) fn find_awake(
+        &self,
+        name: &RepoName,
+        at: &UploadRef,
+        now: u64,
+    ) -> Option<&OpenSession>
+        ensures found { IfSome result (λ session. awake (state_of self.now) now at.now
+            ≡ Some (session_of session.now)) }
+        ensures named { IfSome result (λ session. session.now.name ≡ name.now) }
+        ensures none { IfNone result
+            ((session : Session) → awake (state_of self.now) now at.now ≡ Some session
+            → session.name ≢ name.now) }
+    {
+        let session = self.sessions.find(at)?;
+        if session.is_idle(self.limits.max_idle, now) {
+            return None;
+        }
+        if !session.name.same(name) {
+            return None;
+        }
+        Some(session)
+    }
+}
+
+/// A body that was sent for an upload, with its range.
+#[derive(Drop)]
+struct Sent {
+    name: RepoName,
+    at: UploadRef,
+    range: Extent,
+    body: Body,
+}
+
+/// Such a body that fits.
+#[derive(Drop)]
+struct Placed {
+    name: RepoName,
+    at: UploadRef,
+    body: Body,
+    /// How many bytes the upload has received, behind which it goes.
+    next: u64,
 }
 
 /// What a body is judged to be.
@@ -60,14 +109,42 @@ pub(crate) fn judge(max_blob: u64, next: u64, range: Extent, size: u64) -> Verdi
     Verdict::Fits
 }
 
-/// Tells a session's offset.
-fn status(limits: Limits, tables: &Tables, name: RepoName, at: UploadRef, now: u64) -> Answer
-    ensures { Comes (state_of limits tables.now) now
-        (at_session limits.max_blob (awake (state_of limits tables.now) now at) name at AsksOffset)
-        result (state_of limits tables.now) }
+/// Finds where a body goes. An `Err` has the answer by which it is turned away.
+fn place(tables: &Tables, sent: Sent, now: u64) -> Result<Placed, Answer>
+    ensures ok { IfOk result (λ placed. IsPlaced (state_of tables.now) now sent placed) }
+    ensures err { IfErr result (λ answer. IsTurnedAway (state_of tables.now) now sent answer) }
 {
-    let sessions = &tables.sessions;
-    let Some(session) = sessions.find_awake(&name, &at, limits.max_idle, now) else {
+    let Sent {
+        name,
+        at,
+        range,
+        body,
+    } = sent;
+    let Some(session) = tables.find_awake(&name, &at, now) else {
+        return Err(Answer::Refused(Refusal::NoUpload));
+    };
+    let next = session.received.len();
+    let size = body.len() as u64;
+    match judge(tables.limits.max_blob, next, range, size) {
+        Verdict::Fits => Ok(Placed {
+            name,
+            at,
+            body,
+            next,
+        }),
+        Verdict::Misplaced => Err(Answer::Misplaced { name, at, next }),
+        Verdict::Refused(refusal) => Err(Answer::Refused(refusal)),
+    }
+}
+
+/// Tells a session's offset.
+fn status(tables: &Tables, name: RepoName, at: UploadRef, now: u64) -> Answer
+    ensures { Comes (state_of tables.now) now
+        (at_session tables.now.limits.max_blob (awake (state_of tables.now) now at) name at
+        AsksOffset)
+        result (state_of tables.now) }
+{
+    let Some(session) = tables.find_awake(&name, &at, now) else {
         return Answer::Refused(Refusal::NoUpload);
     };
     let next = session.received.len();
@@ -75,35 +152,24 @@ fn status(limits: Limits, tables: &Tables, name: RepoName, at: UploadRef, now: u
 }
 
 /// Has a session take a chunk.
-fn chunk(
-    limits: Limits,
-    tables: &mut Tables,
-    name: RepoName,
-    at: UploadRef,
-    range: Extent,
-    body: Body,
-    now: u64,
-) -> Answer
-    ensures { Comes (state_of limits tables.old) now
-        (at_session limits.max_blob (awake (state_of limits tables.old) now at) name at
-        (Sends range body))
-        result (state_of limits tables.new) }
+fn chunk(tables: &mut Tables, sent: Sent, now: u64) -> Answer
+    ensures { Comes (state_of tables.old) now (chunk_of (state_of tables.old) now sent) result
+        (state_of tables.new) }
 {
-    let sessions = &tables.sessions;
-    let Some(session) = sessions.find_awake(&name, &at, limits.max_idle, now) else {
-        return Answer::Refused(Refusal::NoUpload);
+    let placed = match place(tables, sent, now) {
+        Ok(placed) => placed,
+        Err(answer) => return answer,
     };
-    let next = session.received.len();
-    let size = body.len() as u64;
-    match judge(limits.max_blob, next, range, size) {
-        Verdict::Misplaced => return Answer::Misplaced { name, at, next },
-        Verdict::Refused(refusal) => return Answer::Refused(refusal),
-        Verdict::Fits => {}
-    }
+    let Placed {
+        name,
+        at,
+        body,
+        next,
+    } = placed;
     let Ok(()) = tables.slack.renew() else {
         return Answer::NoMemory;
     };
-    let next = next + size;
+    let next = next + body.len() as u64;
     match tables.sessions.append(&at, body, now) {
         Ok(()) => Answer::Taken { name, at, next },
         Err(_) => Answer::NoMemory,
@@ -111,93 +177,83 @@ fn chunk(
 }
 
 /// Closes a session: what it received and a last body are stored where they have the digest.
-fn close(
-    limits: Limits,
-    tables: &mut Tables,
-    name: RepoName,
-    at: UploadRef,
-    range: Extent,
-    digest: Option<BlobDigest>,
-    body: Body,
-    now: u64,
-) -> Answer
-    ensures { Comes (state_of limits tables.old) now
-        (at_session limits.max_blob (awake (state_of limits tables.old) now at) name at
-        (Closes range digest body))
-        result (state_of limits tables.new) }
+fn close(tables: &mut Tables, sent: Sent, digest: Option<BlobDigest>, now: u64) -> Answer
+    ensures { Comes (state_of tables.old) now (close_of (state_of tables.old) now sent digest)
+        result (state_of tables.new) }
 {
-    let sessions = &tables.sessions;
-    let Some(session) = sessions.find_awake(&name, &at, limits.max_idle, now) else {
-        return Answer::Refused(Refusal::NoUpload);
+    let last = match place(tables, sent, now) {
+        Ok(placed) => placed,
+        Err(answer) => return answer,
     };
-    let next = session.received.len();
-    let size = body.len() as u64;
-    match judge(limits.max_blob, next, range, size) {
-        Verdict::Misplaced => return Answer::Misplaced { name, at, next },
-        Verdict::Refused(refusal) => return Answer::Refused(refusal),
-        Verdict::Fits => {}
-    }
     let Some(digest) = digest else {
         return Answer::Refused(Refusal::NoDigest);
     };
-    if !tables.sessions.has_digest(&at, &digest, &body) {
+    if !tables.sessions.has_digest(&last.at, &digest, &last.body) {
         return Answer::Refused(Refusal::Mismatch);
     }
-    commit(tables, name, at, digest, body)
+    commit(tables, last, digest)
 }
 
 /// Closes an open session, stores what it received and a last body, and notes the pair.
-fn commit(
-    tables: &mut Tables,
-    name: RepoName,
-    at: UploadRef,
-    digest: BlobDigest,
-    body: Body,
-) -> Answer
-    requires open { IsSome (map.get tables.old.sessions at) }
-    requires fits { (session : Session) → map.get tables.old.sessions at ≡ Some session
-        → length session.received + length body < 2 ^ 64 }
-    ensures { (limits : LimitsOf) (now : ℕ) (session : Session)
-        → map.get tables.old.sessions at ≡ Some session →
-        Comes (state_of limits tables.old) now (Commits name at digest (session.received ++ body))
-        result (state_of limits tables.new) }
+fn commit(tables: &mut Tables, last: Placed, digest: BlobDigest) -> Answer
+    requires open { IsSome (map.get tables.old.sessions last.at) }
+    requires fits { (session : Session) → map.get tables.old.sessions last.at ≡ Some session
+        → length session.received + length last.body < 2 ^ 64 }
+    ensures { (now : ℕ) (session : Session) → map.get tables.old.sessions last.at ≡ Some session
+        → Comes (state_of tables.old) now
+        (Commits last.name last.at digest (session.received ++ last.body)) result
+        (state_of tables.new) }
 {
+    let Placed { name, at, body, .. } = last;
     let Ok(()) = tables.slack.renew() else {
         return Answer::NoMemory;
     };
-    let Ok(()) = tables
-        .stock
-        .commit(&mut tables.sessions, &name, &at, digest, body)
-    else {
+    let Ok(place) = Several::of(tables.alloc, body) else {
         return Answer::NoMemory;
     };
+    let Ok(()) = tables.stock.hold(&name, digest) else {
+        return Answer::NoMemory;
+    };
+    let blob = blob_of(tables.alloc, &mut tables.sessions, &at, place);
+    tables.stock.put(digest, blob);
     Answer::Stored { name, digest }
 }
 
-/// Opens a session.
-fn opening(
-    alloc: Global,
-    limits: Limits,
-    tables: &mut Tables,
-    name: RepoName,
-    secret: [u8; 12],
-    now: u64,
-) -> Answer
-    ensures { Comes (state_of limits tables.old) now
-        (opening_of (state_of limits tables.old) name secret now) result
-        (state_of limits tables.new) }
+/// Closes an open session, and makes a blob of what it received and a last body, in a place where that body is
+/// already. It takes no memory.
+fn blob_of(alloc: Global, sessions: &mut Sessions, at: &UploadRef, place: Box<Several>) -> Blob
+    requires open { IsSome (map.get sessions.old at.now) }
+    requires fits { (session : Session) → map.get sessions.old at.now ≡ Some session
+        → length session.received + length (body_in (box_value place)) < 2 ^ 64 }
+    ensures blob { (session : Session) → map.get sessions.old at.now ≡ Some session
+        → result ≡ session.received ++ body_in (box_value place) }
+    ensures closed { sessions.new ≡ map.remove sessions.old at.now }
 {
-    if tables.sessions.is_full(limits, now) || tables.issued == u32::MAX {
+    let Some(session) = sessions.close(at) else {
+        unreachable!();
+    };
+    let segments = session.received.into_segments();
+    Blob::of_parts(alloc, segments, place)
+}
+
+/// Opens a session.
+fn opening(tables: &mut Tables, name: RepoName, secret: [u8; 12], now: u64) -> Answer
+    ensures { Comes (state_of tables.old) now
+        (opening_of (state_of tables.old) name secret now) result
+        (state_of tables.new) }
+{
+    if tables.sessions.is_full(tables.limits, now) || tables.issued == u32::MAX {
         return Answer::Refused(Refusal::TooMany);
     }
     let Ok(()) = tables.slack.renew() else {
         return Answer::NoMemory;
     };
-    let Ok(kept) = name.copy(alloc) else {
+    let Ok(kept) = name.copy(tables.alloc) else {
         return Answer::NoMemory;
     };
     let at = UploadRef::make(tables.issued + 1, secret);
-    match tables.sessions.begin(alloc, limits, at, kept, now) {
+    let session = OpenSession::new(tables.alloc, kept, now);
+    match tables.sessions.begin(tables.limits, at, session) {
         Ok(()) => {
             tables.issued += 1;
             Answer::Begun { name, at }
@@ -208,17 +264,10 @@ fn opening(
 
 /// Hands out a blob of a repository, or its size alone.
 #[tactic(auto, unfolding(crate::specs::Machine::Turn))]
-fn has(
-    alloc: Global,
-    limits: Limits,
-    tables: &Tables,
-    name: RepoName,
-    digest: BlobDigest,
-    head: bool,
-) -> Answer
+fn has(tables: &Tables, name: RepoName, digest: BlobDigest, head: bool) -> Answer
     ensures { (secret : List ℕ) (now : ℕ)
-        → Turn (state_of limits tables.now) (Ask.Has name digest head) secret now result
-        (state_of limits tables.now) }
+        → Turn (state_of tables.now) (Ask.Has name digest head) secret now result
+        (state_of tables.now) }
 {
     if !tables.stock.contains(&name, &digest) {
         return Answer::Refused(Refusal::NoBlob);
@@ -234,7 +283,7 @@ fn has(
             bytes: None,
         };
     }
-    match blob.share(alloc) {
+    match blob.share(tables.alloc) {
         Ok(bytes) => Answer::Blob {
             digest,
             size,
@@ -246,19 +295,12 @@ fn has(
 
 /// Stores a blob of one body.
 #[tactic(auto, unfolding(crate::specs::Machine::Turn))]
-fn single(
-    alloc: Global,
-    limits: Limits,
-    tables: &mut Tables,
-    name: RepoName,
-    digest: Option<BlobDigest>,
-    body: Body,
-) -> Answer
+fn single(tables: &mut Tables, name: RepoName, digest: Option<BlobDigest>, body: Body) -> Answer
     ensures { (secret : List ℕ) (now : ℕ)
-        → Turn (state_of limits tables.old) (Ask.Single name digest body) secret now result
-        (state_of limits tables.new) }
+        → Turn (state_of tables.old) (Ask.Single name digest body) secret now result
+        (state_of tables.new) }
 {
-    if body.len() as u64 > limits.max_blob {
+    if body.len() as u64 > tables.limits.max_blob {
         return Answer::Refused(Refusal::TooLarge);
     }
     let Some(digest) = digest else {
@@ -271,7 +313,7 @@ fn single(
     let Ok(()) = tables.slack.renew() else {
         return Answer::NoMemory;
     };
-    let Ok(blob) = Blob::of(alloc, body) else {
+    let Ok(blob) = Blob::of(tables.alloc, body) else {
         return Answer::NoMemory;
     };
     let Ok(()) = tables.stock.store(&name, digest, blob) else {
@@ -280,24 +322,12 @@ fn single(
     Answer::Stored { name, digest }
 }
 
-/// Notes that a repository has a blob of another one, or opens a session where that one doesn't have it.
-#[tactic(auto, unfolding(crate::specs::Machine::Turn))]
-fn mount(
-    alloc: Global,
-    limits: Limits,
-    tables: &mut Tables,
-    name: RepoName,
-    digest: BlobDigest,
-    source: RepoName,
-    secret: [u8; 12],
-    now: u64,
-) -> Answer
-    ensures { Turn (state_of limits tables.old) (Ask.Mount name digest source) secret now result
-        (state_of limits tables.new) }
+/// Notes that a repository has a stored blob.
+fn mount(tables: &mut Tables, name: RepoName, digest: BlobDigest) -> Answer
+    requires { IsSome (map.get tables.old.stock.blobs digest) }
+    ensures { (now : ℕ) → Comes (state_of tables.old) now (Mounts name digest) result
+        (state_of tables.new) }
 {
-    if !tables.stock.contains(&source, &digest) {
-        return opening(alloc, limits, tables, name, secret, now);
-    }
     let Ok(()) = tables.slack.renew() else {
         return Answer::NoMemory;
     };
@@ -307,42 +337,57 @@ fn mount(
     Answer::Stored { name, digest }
 }
 
-/// One turn.
+/// One turn. A mount of a blob that the other repository doesn't have opens a session.
 #[tactic(auto, unfolding(crate::specs::Machine::Turn))]
-pub fn turn(
-    alloc: Global,
-    limits: Limits,
-    tables: &mut Tables,
-    ask: Ask,
-    secret: [u8; 12],
-    now: u64,
-) -> Answer
-    ensures { Turn (state_of limits tables.old) ask secret now result (state_of limits tables.new) }
+pub fn turn(tables: &mut Tables, ask: Ask, secret: [u8; 12], now: u64) -> Answer
+    ensures { Turn (state_of tables.old) ask secret now result (state_of tables.new) }
 {
     match ask {
         Ask::Base => Answer::Base,
         Ask::Refused(refusal) => Answer::Refused(refusal),
-        Ask::Has { name, digest, head } => has(alloc, limits, tables, name, digest, head),
-        Ask::Opening { name } => opening(alloc, limits, tables, name, secret, now),
+        Ask::Has { name, digest, head } => has(tables, name, digest, head),
+        Ask::Opening { name } => opening(tables, name, secret, now),
         Ask::Mount {
             name,
             digest,
             source,
-        } => mount(alloc, limits, tables, name, digest, source, secret, now),
-        Ask::Single { name, digest, body } => single(alloc, limits, tables, name, digest, body),
+        } => {
+            if tables.stock.contains(&source, &digest) {
+                mount(tables, name, digest)
+            } else {
+                opening(tables, name, secret, now)
+            }
+        }
+        Ask::Single { name, digest, body } => single(tables, name, digest, body),
         Ask::Chunk {
             name,
             at,
             range,
             body,
-        } => chunk(limits, tables, name, at, range, body, now),
-        Ask::Status { name, at } => status(limits, tables, name, at, now),
+        } => {
+            let sent = Sent {
+                name,
+                at,
+                range,
+                body,
+            };
+            chunk(tables, sent, now)
+        }
+        Ask::Status { name, at } => status(tables, name, at, now),
         Ask::Close {
             name,
             at,
             range,
             digest,
             body,
-        } => close(limits, tables, name, at, range, digest, body, now),
+        } => {
+            let sent = Sent {
+                name,
+                at,
+                range,
+                body,
+            };
+            close(tables, sent, digest, now)
+        }
     }
 }

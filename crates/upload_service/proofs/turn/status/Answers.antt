@@ -10,11 +10,12 @@ use Rattle.upload_service.proofs.turn.status.Goals as goal
 pub returns-in_default : goal.returns-in_default
 returns-in_default c =
     does _ _ _ (refused refusals.NoUpload) _ _
-    (none_named c.args.limits.max_blob _ c.args.name c.args.at _ c.in_default.ensures.none) refl refl
+    (none_named c.args.tables.now.limits.max_blob _ c.args.name c.args.at _ c.in_default.ensures.none) refl refl
 
 pub returns : goal.returns
 returns c =
     let session : Session = session_of c.in-Some.session.now in
     does _ _ _ (Replies (answers.Standing c.args.name c.args.at c.len-next.result)) _ _
-    (named c.args.limits.max_blob _ session c.args.name c.args.at _ c.in-Some.ensures.awake c.in-Some.ensures.named
+    (named c.args.tables.now.limits.max_blob _ session c.args.name c.args.at _ c.in-Some.ensures.found
+    c.in-Some.ensures.named
     ∙ ap (λ n. Replies (answers.Standing c.args.name c.args.at n)) (sym c.len-next.ensures)) refl refl

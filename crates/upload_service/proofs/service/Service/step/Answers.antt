@@ -1,16 +1,23 @@
+use Rattle.std.proofs.Common.{sym, subst}
+use Rattle.upload_service.specs.Machine.{AreLawful}
 use Rattle.upload_service.specs.Kept.Tables.{state_of}
+use Rattle.upload_service.proofs.Alone.{limits_turn}
 use Rattle.upload_service.proofs.Lawful.{lawful_turn}
 use Rattle.upload_service.proofs.service.Service.step.Goals as goal
 
 pub invariant_of-self : goal.invariant_of-self
 invariant_of-self c = record {
-  bounds = c.self.invariant.bounds;
+  bounds =
+      subst AreLawful
+      (sym
+      (limits_turn (state_of c.self.inside.tables) c.args.ask c.args.secret c.args.now c.turn.result _ c.turn.ensures))
+      c.self.invariant.bounds;
   state =
-      lawful_turn (state_of c.self.inside.limits c.self.inside.tables) c.args.ask c.args.secret c.args.now c.turn.result
-      _ c.self.invariant.state c.turn.ensures;
+      lawful_turn (state_of c.self.inside.tables) c.args.ask c.args.secret c.args.now c.turn.result _
+      c.self.invariant.state c.turn.ensures;
 }
 
 pub returns-clause-lawful : goal.returns-clause-lawful
 returns-clause-lawful c =
-    lawful_turn (state_of c.self.inside.limits c.self.inside.tables) c.args.ask c.args.secret c.args.now c.turn.result _
+    lawful_turn (state_of c.self.inside.tables) c.args.ask c.args.secret c.args.now c.turn.result _
     c.self.invariant.state c.turn.ensures

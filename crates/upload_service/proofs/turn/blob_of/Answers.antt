@@ -2,7 +2,7 @@ use Rattle.std.proofs.Common.{◌≡◌, ◌+◌, ◌<◌, ◌^◌, ◌++◌, le
 use Rattle.std.specs.Prelude.{box_value}
 use Rattle.upload_service.specs.Kept.Blobs.{body_in}
 use Rattle.upload_service.specs.Kept.Entries.{session_of}
-use Rattle.upload_service.proofs.stock.blob_of.Goals as goal
+use Rattle.upload_service.proofs.turn.blob_of.Goals as goal
 
 pub of_parts-requires : goal.of_parts-requires
 of_parts-requires c =
