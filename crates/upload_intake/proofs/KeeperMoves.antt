@@ -25,8 +25,8 @@ use Rattle.upload_intake.specs.Pools.Served.{KeeperState, IsSameKeeper, IsServed
 use Rattle.upload_intake.specs.Told.{Told, Grows}
 use Rattle.upload_intake.specs.declared.log.Entry.{Entry}
 use Rattle.upload_intake.specs.Pools.Settled.{count_limit}
-use Rattle.upload_intake.specs.Kept.{taken_in, add_job, has_finish, Outlet, outlet_of, Replied, Replies, Keeps}
-use Rattle.upload_intake.specs.Kept.{KeepsSeat, Receives, TookFinish, AreOfSeats, IsKeeping}
+use Rattle.upload_intake.specs.Kept.{taken_in, add_job, has_finish, Outlet, outlet_of, Replied, Replies, Ledger}
+use Rattle.upload_intake.specs.Kept.{Keeps, KeepsSeat, Receives, TookFinish, AreOfSeats, IsKeeping}
 use Rattle.upload_intake.specs.Kept.Replies.{Sent, Closed}
 use Rattle.upload_intake.proofs.LineMoves.{same, is_either, items_of-append, of_own, seat_below}
 
@@ -168,9 +168,8 @@ each_set F lines at line inside mine others seat d below =
     (others seat d (let n = length-set lines at line in omega arith) e))
     (is_either (seat == at))
 
-module _ (start service : State) (now count : ℕ) (j j' : LineView Message) (lines : List ReplyLine)
-    (old : List Step) (k : IsKeeping start service now count old j lines) (x : Item Message)
-    (took : (j' ≡ with_taken x j) × IsOfAnother j x) where
+module _ (old : Ledger) (j j' : LineView Message) (lines : List ReplyLine) (k : IsKeeping old j lines)
+    (x : Item Message) (took : (j' ≡ with_taken x j) × IsOfAnother j x) where
   -- the item is of a seat of the keeper's
   pub inside : x.seat < length lines
   inside = less_unless x.seat (length lines) (seat_below (length lines) k.receives.taken j x k.receives.is_taker took.1)
@@ -184,79 +183,85 @@ module _ (start service : State) (now count : ℕ) (j j' : LineView Message) (li
       ∙ has_finish-append (items_of seat j.taken) (items_of seat (x ∷ [])) f
 
   -- what is kept of the seats, where the line of one was set
-  after : (service' : State) (now' count' : ℕ) (steps : List Step)
-      (line : ReplyLine) (log : List Step) (lines' : List ReplyLine) → lines' ≡ set lines x.seat line → log ≡ steps
-      → Keeps start service' now' count' steps j'.taken → AreOfSeats (length lines) steps
-      → KeepsSeat x.seat steps j' line → ((seat : ℕ) (d : ReplyLine) → seat < length lines → (seat == x.seat) ≡ false
-      → KeepsSeat seat steps j' (get_or lines seat d)) → IsKeeping start service' now' count' log j' lines'
-  after service' now' count' steps line log lines' put grown keeps seated mine others =
-      subst (λ (y : List ReplyLine × List Step). IsKeeping start service' now' count' y.1 j' y.0)
+  after : (new : Ledger) (line : ReplyLine) (log : List Step) (lines' : List ReplyLine) → lines' ≡ set lines x.seat line
+      → log ≡ new.steps → Keeps new j'.taken → AreOfSeats (length lines) new.steps → KeepsSeat x.seat new.steps j' line
+      → ((seat : ℕ) (d : ReplyLine) → seat < length lines → (seat == x.seat) ≡ false
+      → KeepsSeat seat new.steps j' (get_or lines seat d)) → IsKeeping (record new { steps = log }) j' lines'
+  after new line log lines' put grown keeps seated mine others =
+      subst (λ (y : List ReplyLine × List Step). IsKeeping (record new { steps = y.1 }) j' y.0)
       (λ i. (sym put i, sym grown i)) record {
         keeps = keeps;
         receives = subst (λ n. Receives n j') (sym (length-set lines x.seat line)) taken_more;
-        seated = subst (λ n. AreOfSeats n steps) (sym (length-set lines x.seat line)) seated;
-        each = each_set (λ seat y. KeepsSeat seat steps j' y) lines x.seat line inside mine others;
+        seated = subst (λ n. AreOfSeats n new.steps) (sym (length-set lines x.seat line)) seated;
+        each = each_set (λ seat y. KeepsSeat seat new.steps j' y) lines x.seat line inside mine others;
       }
 
   -- a job was served
   module _ (ask : Ask) (secret : List ℕ) (a : Answer) (now' : ℕ) (service' : State) (count' : ℕ)
-      (job : x.what ≡ message.Job ask secret) (later : now ≤ now') (turn : Turn service ask secret now' a service')
-      (counted : count' ≡ min (count + 1) count_limit) where
+      (job : x.what ≡ message.Job ask secret) (later : old.now ≤ now')
+      (turn : Turn old.service ask secret now' a service') (counted : count' ≡ min (old.count + 1) count_limit) where
     abbrev pub step : Step
     step = record { seat = x.seat; exchange = record { ask = ask; secret = secret; now = now'; answer = a } }
 
-    abbrev pub steps : List Step
-    steps = old ++ step ∷ []
+    -- the ledger with that step
+    abbrev pub with_step : Ledger
+    with_step = record {
+      start = old.start;
+      service = service';
+      now = now';
+      count = count';
+      steps = old.steps ++ step ∷ [];
+    }
 
-    is_taken : taken_by steps ≡ taken_in j'.taken
+    is_taken : taken_by with_step.steps ≡ taken_in j'.taken
     is_taken =
-        map-append (λ (s : Step). record { seat = s.seat; job = job_of s.exchange }) old (step ∷ [])
+        map-append (λ (s : Step). record { seat = s.seat; job = job_of s.exchange }) old.steps (step ∷ [])
         ∙ (λ i. k.keeps.is_taken i ++ add_job x.seat (sym job i) [])
         ∙ sym (taken_in-append j.taken (x ∷ [])) ∙ ap (λ v. taken_in v.taken) (sym took.0)
 
-    keeps : Keeps start service' now' count' steps j'.taken
+    keeps : Keeps with_step j'.taken
     keeps =
-        let e = exchanges_of-more old step in
+        let e = exchanges_of-more old.steps step in
         record {
           lawful = k.keeps.lawful;
           run =
-              subst (λ xs. Run start xs service') (sym e)
-              (run_more (exchanges_of old) step.exchange start service service' k.keeps.run turn);
+              subst (λ xs. Run old.start xs service') (sym e)
+              (run_more (exchanges_of old.steps) step.exchange old.start old.service service' k.keeps.run turn);
           moments =
               subst (λ xs. NeverBefore 0 xs) (sym e)
-              (never_before_more 0 (exchanges_of old) step.exchange k.keeps.moments (rw k.keeps.last later));
-          last = ap (last_moment 0) e ∙ last_moment-more 0 (exchanges_of old) step.exchange;
+              (never_before_more 0 (exchanges_of old.steps) step.exchange k.keeps.moments (rw k.keeps.last later));
+          last = ap (last_moment 0) e ∙ last_moment-more 0 (exchanges_of old.steps) step.exchange;
           is_taken = is_taken;
-          counted = let n = k.keeps.counted in let m = length-append old (step ∷ []) in omega arith;
+          counted = let n = k.keeps.counted in let m = length-append old.steps (step ∷ []) in omega arith;
         }
 
     pub served_seat : (was line : ReplyLine)
         → was ≡ get_or lines x.seat was → Replies a (outlet_of was) (outlet_of line) → line.is_done ≡ was.is_done
-        → (lines' : List ReplyLine) → lines' ≡ set lines x.seat line → (log : List Step) → log ≡ steps
-        → IsKeeping start service' now' count' log j' lines'
+        → (lines' : List ReplyLine) → lines' ≡ set lines x.seat line → (log : List Step) → log ≡ with_step.steps
+        → IsKeeping (record with_step { steps = log }) j' lines'
     served_seat was line was_is m is_done lines' put log grown =
-        let kept = subst (λ y. KeepsSeat x.seat old j y) (sym was_is) (k.each x.seat was inside) in
-        after service' now' count' steps line log lines' put grown keeps
-        (all_more (λ (s : Step). s.seat < length lines) old step k.seated inside)
+        let kept = subst (λ y. KeepsSeat x.seat old.steps j y) (sym was_is) (k.each x.seat was inside) in
+        after with_step line log lines' put grown keeps
+        (all_more (λ (s : Step). s.seat < length lines) old.steps step k.seated inside)
         (record {
-          replied = replied_more x.seat old step (same x.seat) (outlet_of was) (outlet_of line) kept.replied m;
+          replied = replied_more x.seat old.steps step (same x.seat) (outlet_of was) (outlet_of line) kept.replied m;
           finish = λ p. finish_stays x.seat (kept.finish (sym is_done ∙ p));
         })
         (λ seat d below apart.
         let kept' = k.each seat d below in
         record {
-          replied = replied_other seat old step apart (outlet_of (get_or lines seat d)) kept'.replied;
+          replied = replied_other seat old.steps step apart (outlet_of (get_or lines seat d)) kept'.replied;
           finish = λ p. finish_stays seat (kept'.finish p);
         })
 
   -- an item was taken that is no job
   module _ (no_job : add_job x.seat x.what [] ≡ []) where
-    none_taken : taken_by old ≡ taken_in j'.taken
+    none_taken : taken_by old.steps ≡ taken_in j'.taken
     none_taken =
         k.keeps.is_taken ∙ sym (append-nil (taken_in j.taken)) ∙ ap (λ l. taken_in j.taken ++ l) (sym no_job)
         ∙ sym (taken_in-append j.taken (x ∷ [])) ∙ ap (λ v. taken_in v.taken) (sym took.0)
 
-    still : Keeps start service now count old j'.taken
+    still : Keeps old j'.taken
     still = record {
       lawful = k.keeps.lawful;
       run = k.keeps.run;
@@ -266,15 +271,16 @@ module _ (start service : State) (now count : ℕ) (j j' : LineView Message) (li
       counted = k.keeps.counted;
     }
 
-    keeps_seat_still : (seat : ℕ) (line : ReplyLine) → KeepsSeat seat old j line → KeepsSeat seat old j' line
+    keeps_seat_still : (seat : ℕ) (line : ReplyLine) → KeepsSeat seat old.steps j line
+        → KeepsSeat seat old.steps j' line
     keeps_seat_still seat line kept = record { replied = kept.replied; finish = λ p. finish_stays seat (kept.finish p) }
 
   -- a wish was taken, which the service seems not to have heard
   pub wish_taken : (at : List ℕ) (by : Algorithm) → x.what ≡ message.Hash at by → (service' : State)
-      → service' ≡ service → IsKeeping start service' now count old j' lines
+      → service' ≡ old.service → IsKeeping (record old { service = service' }) j' lines
   wish_taken at by wish service' same =
       let no_job : add_job x.seat x.what [] ≡ [] = ap (λ m. add_job x.seat m []) wish in
-      subst (λ s. IsKeeping start s now count old j' lines) (sym same) record {
+      subst (λ s. IsKeeping (record old { service = s }) j' lines) (sym same) record {
         keeps = still no_job;
         receives = taken_more;
         seated = k.seated;
@@ -290,24 +296,24 @@ module _ (start service : State) (now count : ℕ) (j j' : LineView Message) (li
         ∙ has_finish-last (items_of x.seat j.taken)
 
     pub finished_seat : (was line : ReplyLine) → was ≡ get_or lines x.seat was → outlet_of line ≡ outlet_of was
-        → (lines' : List ReplyLine) → lines' ≡ set lines x.seat line → IsKeeping start service now count old j' lines'
+        → (lines' : List ReplyLine) → lines' ≡ set lines x.seat line → IsKeeping old j' lines'
     finished_seat was line was_is same_outlet lines' put =
-        let kept = subst (λ y. KeepsSeat x.seat old j y) (sym was_is) (k.each x.seat was inside) in
+        let kept = subst (λ y. KeepsSeat x.seat old.steps j y) (sym was_is) (k.each x.seat was inside) in
         let no_job : add_job x.seat x.what [] ≡ [] = ap (λ m. add_job x.seat m []) finish in
-        after service now count old line old lines' put refl (still no_job) k.seated
+        after old line old.steps lines' put refl (still no_job) k.seated
         (record {
-          replied = subst (λ o. Replied x.seat old o) (sym same_outlet) kept.replied;
+          replied = subst (λ o. Replied x.seat old.steps o) (sym same_outlet) kept.replied;
           finish = λ p. took_finish;
         })
         (λ seat d below apart. keeps_seat_still no_job seat (get_or lines seat d) (k.each seat d below))
 
 -- what a keeper kept is a run of which the headline holds
-pub served : HeadlineHolds → (start service : State) (now count : ℕ) (steps : List Step) (taken : List (Item Message))
-    (k : Keeps start service now count steps taken) → IsServed start (exchanges_of steps) service
-served law start service now count steps taken k = record {
+pub served : HeadlineHolds → (ledger : Ledger) (taken : List (Item Message)) → Keeps ledger taken
+    → IsServed ledger.start (exchanges_of ledger.steps) ledger.service
+served law ledger taken k = record {
   run = k.run;
   moments = k.moments;
-  headline = law start (exchanges_of steps) service k.lawful k.moments k.run;
+  headline = law ledger.start (exchanges_of ledger.steps) ledger.service k.lawful k.moments k.run;
 }
 
 -- one entry more is one step more

@@ -1,5 +1,5 @@
 -- Each move of a line keeps its rule, whatever the other threads did.
-use Rattle.std.proofs.Common.{◌≡◌, ◌≢◌, ℕ, zero, suc, ◌+◌, ◌≤◌, ◌==◌, Bool, true, false, true≢false, cond, ◌||◌, List}
+use Rattle.std.proofs.Common.{◌≡◌, ◌≢◌, ℕ, zero, suc, ◌+◌, ◌≤◌, ◌==◌, Bool, true, false, true≢false, cond, List}
 use Rattle.std.proofs.Common.{[], ◌∷◌, ◌++◌, length, length-append, map, filter, set, sym, refl, ap, ◌∙◌, subst, inl}
 use Rattle.std.proofs.Common.{inr, ◌⊎◌, ⊎_elim, append_assoc, append-nil, arith}
 use Rattle.std.proofs.lemmas.List.{map-append}
@@ -7,14 +7,14 @@ use Rattle.std.proofs.lemmas.List.Elements.{filter-append}
 use Rattle.std.proofs.lemmas.Bool.{eq-eqb, eqb-true, le-leb, leb-true}
 use mathlib.Core.Option.{some, some-injective, some-ne-none}
 use lib.ListN.{get_elem?}
-use Rattle.crossbeam_channel.specs.Fifo.{Pushes, Pops, Forks, Merges, Learns}
+use Rattle.crossbeam_channel.specs.Fifo.{Pushes, Pops, Forks, Merges}
 use Rattle.atomic_table.proofs.Lists.{at_set}
 use Rattle.upload_intake.specs.declared.line.Item.{Item}
 use Rattle.upload_intake.specs.declared.line.Sending.{Sending}
 use Rattle.upload_intake.specs.declared.line.Sending.TheVariants.{Nothing, One, AllFrom}
 use Rattle.upload_intake.specs.declared.line.LineView.{LineView}
-use Rattle.upload_intake.specs.Line.{items_of, sends, is_sender, sent, Fits, InOrder, Waits, IsOfAnother, unused, idle}
-use Rattle.upload_intake.specs.Line.{after, next, more, without_next, next_alone, joined, with_sent, with_taken}
+use Rattle.upload_intake.specs.Line.{Ports, items_of, sends, is_sender, sent, Fits, InOrder, IsOfAnother, unused}
+use Rattle.upload_intake.specs.Line.{idle, after, next, more, without_next, next_alone, joined, with_sent, with_taken}
 use Rattle.upload_intake.specs.Passes.{taker_view}
 
 pub same : (n : ℕ) → (n == n) ≡ true
@@ -66,8 +66,8 @@ module _ {T : Type 0} where
 
   pub begins : InOrder {T = T} [] (unused ∷ [])
   begins =
-      let z : ℕ = 0 in
-      ((λ _. z), z, [], each_one (Fits (λ _. z) z [] []) unused ((λ seat _. (refl, refl)), λ _. (refl, refl)))
+      let ports : Ports = record { sender = λ _. 0; taker = 0 } in
+      (ports, [], each_one (Fits ports [] []) unused ((λ seat _. (refl, refl)), λ _. (refl, refl)))
 
   -- what a seat sent, with one item more behind all
   grown : (seat : ℕ) (x : Item T) (taken items : List (Item T))
@@ -106,33 +106,32 @@ module _ {T : Type 0} where
       → Pushes InOrder n port v x (λ w. w ≡ with_sent x v)
   sending n port v x may items views room h at =
       let w : LineView T = with_sent x v in
-      let mine = h.3 port v at in
+      let mine = h.2 port v at in
       let first = mine.0 x.seat (is_sending x.seat v.sending may) in (
         w,
         (
           h.0,
           h.1,
-          h.2,
-          each_set (Fits h.0 h.1 h.2 (items ++ x ∷ [])) views port w (
+          each_set (Fits h.0 h.1 (items ++ x ∷ [])) views port w (
             (λ s p.
                 let was = more_sends s x.what v.sending p in
                 let own = eq-eqb s x.seat (only x.seat s v.sending may was) in (
                   (mine.0 s was).0,
                   more_sent x.seat x.what v.sending may ∙ (λ i. (mine.0 s was).1 i ++ sym (of_own s x own) i)
-                      ∙ sym (grown s x h.2 items),
+                      ∙ sym (grown s x h.1 items),
                 )),
             mine.1,
           )
               (λ j u other e. (
                 (λ s p.
-                    let it = (h.3 j u e).0 s p in
+                    let it = (h.2 j u e).0 s p in
                     let apart : (s == x.seat) ≡ false =
-                    differ s x.seat (λ q. other (it.0 ∙ ap h.0 q ∙ sym first.0)) in (
+                    differ s x.seat (λ q. other (it.0 ∙ ap h.0.sender q ∙ sym first.0)) in (
                       it.0,
-                      it.1 ∙ sym (append-nil (items_of s (h.2 ++ items)))
-                          ∙ (λ i. items_of s (h.2 ++ items) ++ sym (of_other s x apart) i) ∙ sym (grown s x h.2 items),
+                      it.1 ∙ sym (append-nil (items_of s (h.1 ++ items)))
+                          ∙ (λ i. items_of s (h.1 ++ items) ++ sym (of_other s x apart) i) ∙ sym (grown s x h.1 items),
                     )),
-                (h.3 j u e).1,
+                (h.2 j u e).1,
               )),
         ),
         refl,
@@ -152,25 +151,24 @@ module _ {T : Type 0} where
       → Pops InOrder port v (λ x w. (w ≡ with_taken x v) × IsOfAnother v x)
   taking port v may x items views h at =
       let w : LineView T = with_taken x v in
-      let mine = h.3 port v at in
-      let taken : List (Item T) = h.2 ++ x ∷ [] in
-      let as_one : (s : ℕ) → items_of s (h.2 ++ x ∷ items) ≡ items_of s (taken ++ items) =
-      λ s. ap (items_of s) (sym (append_assoc h.2 (x ∷ []) items)) in (
+      let mine = h.2 port v at in
+      let taken : List (Item T) = h.1 ++ x ∷ [] in
+      let as_one : (s : ℕ) → items_of s (h.1 ++ x ∷ items) ≡ items_of s (taken ++ items) =
+      λ s. ap (items_of s) (sym (append_assoc h.1 (x ∷ []) items)) in (
         w,
         (
           h.0,
-          h.1,
           taken,
-          each_set (Fits h.0 h.1 taken items) views port w (
+          each_set (Fits h.0 taken items) views port w (
             (λ s p. ((mine.0 s p).0, (mine.0 s p).1 ∙ as_one s)),
             λ _. ((mine.1 may).0, ap (λ l. l ++ x ∷ []) (mine.1 may).1),
           )
               (λ j u other e. (
-                (λ s p. (((h.3 j u e).0 s p).0, ((h.3 j u e).0 s p).1 ∙ as_one s)),
-                λ p. absurd (other (((h.3 j u e).1 p).0 ∙ sym (mine.1 may).0)),
+                (λ s p. (((h.2 j u e).0 s p).0, ((h.2 j u e).0 s p).1 ∙ as_one s)),
+                λ p. absurd (other (((h.2 j u e).1 p).0 ∙ sym (mine.1 may).0)),
               )),
         ),
-        (refl, λ may_send empty. never_none x h.2 items (sym (mine.0 x.seat may_send).1 ∙ empty)),
+        (refl, λ may_send empty. never_none x h.1 items (sym (mine.0 x.seat may_send).1 ∙ empty)),
       )
 
   -- an item of a list with one more at the end, and where it is
@@ -206,28 +204,29 @@ module _ {T : Type 0} where
   cuts_next port v items views h at =
       let l : LineView T = without_next v in
       let r : LineView T = next_alone v in
-      let mine = h.3 port v at in
+      let mine = h.2 port v at in
       let vs : List (LineView T) = set views port l in
       let n : ℕ = length vs in
-      let sender : ℕ → ℕ = λ s. cond (sends s r.sending) n (h.0 s) in (
-        sender,
+      let before : ℕ → ℕ = h.0.sender in
+      let ports : Ports = record { sender = λ s. cond (sends s r.sending) n (before s); taker = h.0.taker } in (
+        ports,
         h.1,
-        h.2,
-        each_more (Fits sender h.1 h.2 items) vs r
-            (each_set (Fits sender h.1 h.2 items) views port l (
+        each_more (Fits ports h.1 items) vs r
+            (each_set (Fits ports h.1 items) views port l (
               (λ s p. let k = kept s v.sending p in
-                  ((mine.0 s k.0).0 ∙ sym (stays (sends s r.sending) n (h.0 s) k.2), k.1 ∙ (mine.0 s k.0).1)),
+                  ((mine.0 s k.0).0 ∙ sym (stays (sends s r.sending) n (before s) k.2), k.1 ∙ (mine.0 s k.0).1)),
               mine.1,
             )
             (λ j u other e. (
-              (λ s p. let it = (h.3 j u e).0 s p in (
+              (λ s p. let it = (h.2 j u e).0 s p in (
                 it.0 ∙ sym
-                    (stays (sends s r.sending) n (h.0 s) (λ q. other (it.0 ∙ sym (mine.0 s (cut s v.sending q).0).0))),
+                    (stays (sends s r.sending) n (before s)
+                    (λ q. other (it.0 ∙ sym (mine.0 s (cut s v.sending q).0).0))),
                 it.1,
               )),
-              (h.3 j u e).1,
+              (h.2 j u e).1,
             ))) (
-              (λ s p. let c = cut s v.sending p in (sym (ap (λ b. cond b n (h.0 s)) p), c.1 ∙ (mine.0 s c.0).1)),
+              (λ s p. let c = cut s v.sending p in (sym (ap (λ b. cond b n (before s)) p), c.1 ∙ (mine.0 s c.0).1)),
               λ p. none p,
             ),
       )
@@ -236,31 +235,26 @@ module _ {T : Type 0} where
       → Merges InOrder port v other u (joined v u) idle
   merging port v other u items views h at two at' =
       let both : LineView T = joined v u in
-      let mine = h.3 port v at in
+      let mine = h.2 port v at in
       let vs : List (LineView T) = set views port both in
       let was : get_elem? views other ≡ some u =
       ⊎_elim (λ x. absurd (two x.0)) (λ x. x.1) (at_set views port other both u at') in
-      let theirs = h.3 other u was in
-      let sender : ℕ → ℕ = λ s. cond (sends s u.sending) port (h.0 s) in
-      let Now : ℕ → LineView T → Type 0 = λ j y. j ≢ other → Fits sender h.1 h.2 items j y in
+      let theirs = h.2 other u was in
+      let before : ℕ → ℕ = h.0.sender in
+      let ports : Ports = record { sender = λ s. cond (sends s u.sending) port (before s); taker = h.0.taker } in
+      let Now : ℕ → LineView T → Type 0 = λ j y. j ≢ other → Fits ports h.1 items j y in
       let now : Each Now vs = each_set Now views port both
-      (λ _. ((λ s q. (sym (ap (λ b. cond b port (h.0 s)) q), (theirs.0 s q).1)), mine.1))
+      (λ _. ((λ s q. (sym (ap (λ b. cond b port (before s)) q), (theirs.0 s q).1)), mine.1))
       (λ j y _ e apart. (
-        (λ s p. let it = (h.3 j y e).0 s p in
-            (it.0 ∙ sym (stays (sends s u.sending) port (h.0 s) (λ q. apart (it.0 ∙ sym (theirs.0 s q).0))), it.1)),
-        (h.3 j y e).1,
+        (λ s p. let it = (h.2 j y e).0 s p in
+            (it.0 ∙ sym (stays (sends s u.sending) port (before s) (λ q. apart (it.0 ∙ sym (theirs.0 s q).0))), it.1)),
+        (h.2 j y e).1,
       )) in (
-        sender,
+        ports,
         h.1,
-        h.2,
-        each_set (Fits sender h.1 h.2 items) vs other idle ((λ s p. none p), λ p. none p)
+        each_set (Fits ports h.1 items) vs other idle ((λ s p. none p), λ p. none p)
             (λ j y apart e. now j y e apart),
       )
-
-  pub learning : (port : ℕ) (v : LineView T) → Learns InOrder port v (Waits v)
-  learning port v items views h at =
-      let mine = h.3 port v at in
-      λ takes s may. (mine.0 s may).1 ∙ ap (λ l. items_of s (l ++ items)) (sym (mine.1 takes).1)
 
   -- a taken item is of a seat that was cut off
   pub seat_below : (seats : ℕ) (taken : List (Item T)) (v : LineView T) (x : Item T) → v ≡ taker_view seats taken

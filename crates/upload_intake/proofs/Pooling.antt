@@ -1,21 +1,20 @@
 -- What a served pool comes to, from the ends of its threads.
-use Rattle.std.proofs.Common.{◌≡◌, ℕ, zero, suc, ◌<◌, List, [], ◌∷◌, ◌++◌, arith, length, map, get_or, refl, sym, ap}
+use Rattle.std.proofs.Common.{◌≡◌, ℕ, zero, suc, ◌<◌, List, [], ◌∷◌, ◌++◌, arith, length, get_or, sym, ap}
 use Rattle.std.proofs.Common.{◌∙◌, subst}
 use Rattle.std.specs.Prelude.{All}
 use Rattle.std.specs.List.{AllByRecursion}
 use Rattle.upload_intake.specs.declared.work.Leaving.{Leaving}
-use Rattle.upload_service.specs.declared.limits.Limits.{Limits}
 use Rattle.upload_service.specs.Machine.{State}
 use Rattle.upload_intake.specs.declared.work.Station.{Station}
 use Rattle.upload_intake.specs.declared.work.WorkerEnd.{WorkerEnd}
-use Rattle.upload_intake.specs.Log.{Step, exchanges_of, taken_by, jobs_of, last_moment}
+use Rattle.upload_intake.specs.Log.{Step, exchanges_of, last_moment}
 use Rattle.upload_intake.specs.Seats.{SeatState, IsFresh, IsSameSeat}
 use Rattle.upload_intake.specs.Pools.Served.{KeeperState, IsSameKeeper, IsServed, IsSeatOf, AreOfOneCall}
-use Rattle.upload_intake.specs.Pools.Settled.{Heard, IsSettled, IsSettledSeat}
+use Rattle.upload_intake.specs.Pools.Settled.{IsSettled, IsSettledSeat}
 use Rattle.upload_intake.specs.Pools.Stations.{seats_of, workers_of, limits_of, Works, AllLeft, EachWorks}
 use Rattle.upload_intake.specs.Told.{Told, Grows}
 use Rattle.upload_intake.specs.Pools.Working.{Lending, Means, Lent, IsWorked, all_answered, all_unanswered}
-use Rattle.upload_intake.specs.Pools.ServedPool.{Given, Left, HasPart, IsServedPool}
+use Rattle.upload_intake.specs.Pools.ServedPool.{HasPart, IsServedPool}
 use Rattle.upload_intake.proofs.Working.{adds_all}
 use Rattle.upload_intake.proofs.Carrying.{carries}
 use Rattle.std.proofs.lemmas.List.{length-map}

@@ -6,7 +6,6 @@ use Rattle.std.proofs.lemmas.List.{length-map}
 use Rattle.std.specs.List.{AllByRecursion}
 use Rattle.upload_service.specs.Headline.{HeadlineHolds}
 use Rattle.upload_service.specs.declared.answer.Answer.{Answer}
-use Rattle.upload_service.specs.Machine.{State}
 use Rattle.upload_intake.specs.declared.line.Item.{Item}
 use Rattle.upload_intake.specs.declared.line.LineView.{LineView}
 use Rattle.upload_intake.specs.declared.message.Message.{Message}
@@ -22,7 +21,7 @@ use Rattle.crossbeam_channel.specs.Claims.{view as known}
 use Rattle.upload_intake.specs.Log.{TakenJob, Step, exchanges_of, taken_by, jobs_of, answers_to}
 use Rattle.upload_intake.specs.Passes.{LineId, sender_view, taker_view, whats}
 use Rattle.upload_intake.specs.Kept.{jobs_in, taken_in, add_job, has_finish, is_empty, is_closed, Outlet, outlet_of}
-use Rattle.upload_intake.specs.Kept.{Replied, SatToTheEnd, IsKeeping, AreDone, TookFinish}
+use Rattle.upload_intake.specs.Kept.{Ledger, Replied, SatToTheEnd, IsKeeping, AreDone, TookFinish}
 use Rattle.upload_intake.proofs.KeeperMoves.{served}
 use Rattle.upload_intake.proofs.LineMoves.{same, items_of-append}
 use Rattle.upload_intake.proofs.Opening.{get_or-map, get_or-mid, mid_below}
@@ -129,9 +128,8 @@ heard seat steps outlet gone replies got sent h is_taker of_one waits whole all 
     )
 
 -- One seat's end is settled, with the keeper's pass of the jobs and the seat's passes, which were joined.
-pub settled_seat : (start service : State) (now count : ℕ) (j : LineView Message)
-    (lines : List ReplyLine) (steps : List Step) → IsKeeping start service now count steps j lines → AreDone lines
-    → (seat : ℕ) (line : ReplyLine) → seat < length lines → line ≡ get_or lines seat line
+pub settled_seat : (ledger : Ledger) (j : LineView Message) (lines : List ReplyLine) → IsKeeping ledger j lines
+    → AreDone lines → (seat : ℕ) (line : ReplyLine) → seat < length lines → line ≡ get_or lines seat line
     → (number : ℕ) (gone : Bool) (sj : LineView Message) (sr : LineView Answer) → number ≡ seat
     → SatToTheEnd number gone sj sr → (jt : LineView Message) → jt.takes ≡ true → jt.taken ≡ j.taken
     → ((waiting : List (Item Message)) × Waits (joined jt sj) waiting)
@@ -143,9 +141,10 @@ pub settled_seat : (start service : State) (now count : ℕ) (j : LineView Messa
       sent = jobs_in (sent sj.sending);
       heard = whats sr.taken;
       gone = gone;
-    } ≡ end → IsSettledSeat seat steps end
-settled_seat start service now count j lines steps k done seat line below line_is number gone sj sr number_is sat jt
-    takes taken jobs_wait replies_wait jobs replies end is =
+    } ≡ end → IsSettledSeat seat ledger.steps end
+settled_seat ledger j lines k done seat line below line_is number gone sj sr number_is sat jt takes taken jobs_wait
+    replies_wait jobs replies end is =
+    let steps : List Step = ledger.steps in
     let kept = k.each seat line below in
     let finish : TookFinish seat j = kept.finish (done seat line below) in
     let its_view : sj ≡ sender_view seat sat.sent = sat.knows.jobs_view ∙ ap (λ n. sender_view n sat.sent) number_is in
@@ -187,42 +186,40 @@ its_line keeper lines are done rest line e number number_is end seat =
     ∙ get_or-map replies_on lines (length done) line (replies_on line) (mid_below done line rest lines e)
     ∙ ap replies_on (get_or-mid done line rest lines line e)
 
-pub next_settled : (start service : State) (now count : ℕ) (steps : List Step) (j : LineView Message)
-    (lines : List ReplyLine) → IsKeeping start service now count steps j lines × AreDone lines → (jt : LineView Message)
-    → jt.takes ≡ true → jt.taken ≡ j.taken → (done rest : List ReplyLine) (line : ReplyLine)
+pub next_settled : (ledger : Ledger) (j : LineView Message) (lines : List ReplyLine)
+    → IsKeeping ledger j lines × AreDone lines → (jt : LineView Message) → jt.takes ≡ true → jt.taken ≡ j.taken
+    → (done rest : List ReplyLine) (line : ReplyLine)
     → done ++ line ∷ rest ≡ lines → (number : ℕ) → number ≡ length done → (end : SeatState) → end.seat ≡ number
-    → Settles jt line end → (log : List Step) → steps ≡ log → IsSettledSeat number log end
-next_settled start service now count steps j lines k jt takes taken done rest line e number number_is end seat
-    settles log log_is =
+    → Settles jt line end → (log : List Step) → ledger.steps ≡ log → IsSettledSeat number log end
+next_settled ledger j lines k jt takes taken done rest line e number number_is end seat settles log log_is =
     let b = mid_below done line rest lines e in
     let below : end.seat < length lines = omega (arith, seat, number_is, b) in
     let here : line ≡ get_or lines end.seat line =
     sym (get_or-mid done line rest lines line e) ∙ ap (λ n. get_or lines n line) (sym (seat ∙ number_is)) in
     subst (λ (x : ℕ × List Step). IsSettledSeat x.0 x.1 end) (λ i. (seat i, log_is i))
-    (settles start service now count steps j lines k.0 k.1 takes taken below here)
+    (settles ledger j lines k.0 k.1 takes taken below here)
 
-pub all_settled : HeadlineHolds
-    → (start service : State) (now count : ℕ) (steps : List Step) (j : LineView Message) (lines : List ReplyLine)
-    → (k : IsKeeping start service now count steps j lines) → (keeper : KeeperState) (jobs : LineId Message) → record {
+pub all_settled : HeadlineHolds → (ledger : Ledger) (j : LineView Message) (lines : List ReplyLine)
+    → IsKeeping ledger j lines → (keeper : KeeperState) (jobs : LineId Message) → record {
       jobs = jobs;
       replies = map replies_on lines;
-      start = start;
-      service = service;
-      log = steps;
+      start = ledger.start;
+      service = ledger.service;
+      log = ledger.steps;
     } ≡ keeper → (ends : List SeatState) → AreOfOneCall keeper ends
     → ((number : ℕ) (d : SeatState) → number < length ends → IsSettledSeat number keeper.log (get_or ends number d))
-    → IsSettled keeper ends service count
-all_settled holds start service now count steps j lines k keeper jobs is ends one each =
+    → IsSettled keeper ends ledger.service ledger.count
+all_settled holds ledger j lines k keeper jobs is ends one each =
     let count_is : length ends ≡ length lines =
     one.count ∙ ap (λ (x : KeeperState). length x.replies) (sym is) ∙ length-map lines replies_on in
     record {
       each = each;
       seated =
           subst (λ (x : KeeperState). AllByRecursion (λ (s : Step). s.seat < length ends) x.log) is
-          (subst (λ n. AllByRecursion (λ (s : Step). s.seat < n) steps) (sym count_is) k.seated);
+          (subst (λ n. AllByRecursion (λ (s : Step). s.seat < n) ledger.steps) (sym count_is) k.seated);
       same = ap (λ (x : KeeperState). x.service) is;
       served =
-          subst (λ (x : KeeperState). IsServed x.start (exchanges_of x.log) service) is
-          (served holds _ _ _ _ _ _ k.keeps);
+          subst (λ (x : KeeperState). IsServed x.start (exchanges_of x.log) ledger.service) is
+          (served holds ledger j.taken k.keeps);
       counted = k.keeps.counted ∙ ap (λ (x : KeeperState). min (length x.log) count_limit) is;
     }

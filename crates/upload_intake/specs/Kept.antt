@@ -4,15 +4,19 @@ use Rattle.std.specs.List.{AllByRecursion}
 use Rattle.upload_service.specs.declared.answer.Answer.{Answer}
 use Rattle.upload_service.specs.Machine.{State, IsLawful}
 use Rattle.upload_service.specs.Run.{Run, NeverFall}
+use Rattle.upload_intake.specs.declared.keeper.Books.{Books}
 use Rattle.upload_intake.specs.declared.line.Item.{Item}
 use Rattle.upload_intake.specs.declared.line.LineView.{LineView}
 use Rattle.upload_intake.specs.declared.message.Message.{Message}
 use Rattle.upload_intake.specs.declared.message.Message.TheVariants as message
 use Rattle.upload_intake.specs.declared.reply.ReplyLine.{ReplyLine}
+use Rattle.upload_intake.specs.declared.seat.Place.{Place}
 use Rattle.crossbeam_channel.specs.Claims.{view}
-use Rattle.upload_intake.specs.Line.{items_of}
-use Rattle.upload_intake.specs.Log.{Job, TakenJob, Step, exchanges_of, taken_by, answers_to, last_moment}
-use Rattle.upload_intake.specs.Passes.{sender_view, taker_view, whats}
+use Rattle.crossbeam_channel.specs.Ends.{sends_on, receives_on}
+use Rattle.upload_intake.specs.Line.{items_of, sent}
+use Rattle.upload_intake.specs.Log.{Job, TakenJob, Step, steps_of, exchanges_of, taken_by, answers_to, last_moment}
+use Rattle.upload_intake.specs.Passes.{line_of, sender_view, taker_view, whats}
+use Rattle.upload_intake.specs.Seats.{SeatState}
 use Rattle.upload_intake.specs.Pools.Settled.{count_limit}
 
 -- the jobs among what lies on a line
@@ -47,6 +51,17 @@ is_closed [] = true
 is_closed (message.Finish ∷ ms) = is_empty ms
 is_closed (message.Job ask secret ∷ ms) = is_closed ms
 is_closed (message.Hash at algorithm ∷ ms) = is_closed ms
+
+-- the seat at this place
+abbrev pub seat_at : Place → SeatState
+seat_at place = record {
+  jobs = line_of (sends_on place.jobs.sender);
+  replies = line_of (receives_on place.replies.receiver);
+  seat = place.seat;
+  sent = jobs_in (sent (view place.jobs.pass).sending);
+  heard = whats (view place.replies.pass).taken;
+  gone = place.gone;
+}
 
 -- What a seat's passes know: what it sent, what it got, and that a seat which isn't gone got a reply to each job.
 pub record Knows (seat : ℕ) (gone : Bool) (jobs : LineView Message) (replies : LineView Answer)
@@ -94,15 +109,23 @@ pub record KeepsSeat (seat : ℕ) (steps : List Step) (jobs : LineView Message) 
   pub replied : Replied seat steps (outlet_of line)
   pub finish : line.is_done ≡ true → TookFinish seat jobs
 
--- what a keeper keeps of its service, over the steps in its log
-pub record Keeps (start service : State) (now count : ℕ) (steps : List Step)
-    (taken : List (Item Message)) : Type 0 where
-  pub lawful : IsLawful start
-  pub run : Run start (exchanges_of steps) service
-  pub moments : NeverFall (exchanges_of steps)
-  pub last : last_moment 0 (exchanges_of steps) ≡ now
-  pub is_taken : taken_by steps ≡ taken_in taken
-  pub counted : count ≡ min (length steps) count_limit
+-- A keeper's account of its service: the one that it was given and the one that it has, the moment of the last step,
+-- how many steps it counted, and the steps in its log.
+pub record Ledger : Type 0 where
+  pub start : State
+  pub service : State
+  pub now : ℕ
+  pub count : ℕ
+  pub steps : List Step
+
+-- what a keeper keeps of its service, over what its pass took
+pub record Keeps (ledger : Ledger) (taken : List (Item Message)) : Type 0 where
+  pub lawful : IsLawful ledger.start
+  pub run : Run ledger.start (exchanges_of ledger.steps) ledger.service
+  pub moments : NeverFall (exchanges_of ledger.steps)
+  pub last : last_moment 0 (exchanges_of ledger.steps) ≡ ledger.now
+  pub is_taken : taken_by ledger.steps ≡ taken_in taken
+  pub counted : ledger.count ≡ min (length ledger.steps) count_limit
 
 -- a pass receives from so many seats
 pub record Receives (seats : ℕ) (view : LineView Message) : Type 0 where
@@ -113,12 +136,24 @@ abbrev pub AreOfSeats : ℕ → List Step → Type 0
 AreOfSeats seats steps = AllByRecursion (λ (s : Step). s.seat < seats) steps
 
 -- a keeper that runs, with a reply line for each seat
-pub record IsKeeping (start service : State) (now count : ℕ) (steps : List Step) (jobs : LineView Message)
-    (lines : List ReplyLine) : Type 0 where
-  pub keeps : Keeps start service now count steps jobs.taken
+pub record IsKeeping (ledger : Ledger) (jobs : LineView Message) (lines : List ReplyLine) : Type 0 where
+  pub keeps : Keeps ledger jobs.taken
   pub receives : Receives (length lines) jobs
-  pub seated : AreOfSeats (length lines) steps
-  pub each : (seat : ℕ) (d : ReplyLine) → seat < length lines → KeepsSeat seat steps jobs (get_or lines seat d)
+  pub seated : AreOfSeats (length lines) ledger.steps
+  pub each : (seat : ℕ) (d : ReplyLine) → seat < length lines → KeepsSeat seat ledger.steps jobs (get_or lines seat d)
+
+-- what a keeper's books say of its service, and the books of one that runs
+abbrev pub ledger_of : Books → Ledger
+ledger_of books = record {
+  start = books.start.value;
+  service = books.service;
+  now = books.now;
+  count = books.count;
+  steps = steps_of books.log;
+}
+
+abbrev pub AreKept : Books → Type 0
+AreKept books = IsKeeping (ledger_of books) (view books.jobs.pass) books.lines.items
 
 abbrev pub AreDone : List ReplyLine → Type 0
 AreDone lines = (seat : ℕ) (d : ReplyLine) → seat < length lines → (get_or lines seat d).is_done ≡ true

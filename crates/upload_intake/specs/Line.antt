@@ -8,6 +8,11 @@ use Rattle.upload_intake.specs.declared.line.Sending.{Sending}
 use Rattle.upload_intake.specs.declared.line.Sending.TheVariants.{Nothing, One, AllFrom}
 use Rattle.upload_intake.specs.declared.line.LineView.{LineView}
 
+-- at which port a line's sender of each seat is, and at which its receiver
+pub record Ports : Type 0 where
+  pub sender : ℕ → ℕ
+  pub taker : ℕ
+
 module _ {T : Type 0} where
   -- what one seat sent, of these items, in their order
   abbrev pub items_of : ℕ → List (Item T) → List T
@@ -30,17 +35,17 @@ module _ {T : Type 0} where
   sent (AllFrom first) = []
 
   -- The pass at a port agrees with the line. There is one port at most for each seat, and one that receives.
-  abbrev pub Fits : (ℕ → ℕ) → ℕ → List (Item T) → List (Item T) → ℕ → LineView T → Type 0
-  Fits sender taker taken items port v =
+  abbrev pub Fits : Ports → List (Item T) → List (Item T) → ℕ → LineView T → Type 0
+  Fits ports taken items port v =
       ((seat : ℕ) → sends seat v.sending ≡ true
-      → (port ≡ sender seat) × (sent v.sending ≡ items_of seat (taken ++ items)))
-      × (v.takes ≡ true → (port ≡ taker) × (v.taken ≡ taken))
+      → (port ≡ ports.sender seat) × (sent v.sending ≡ items_of seat (taken ++ items)))
+      × (v.takes ≡ true → (port ≡ ports.taker) × (v.taken ≡ taken))
 
   -- what a line's items and the views of its passes have in common, at every moment
   abbrev pub InOrder : List (Item T) → List (LineView T) → Type 0
   InOrder items views =
-      (sender : ℕ → ℕ) × (taker : ℕ) × (taken : List (Item T))
-      × ((port : ℕ) (v : LineView T) → get_elem? views port ≡ some v → Fits sender taker taken items port v)
+      (ports : Ports) × (taken : List (Item T))
+      × ((port : ℕ) (v : LineView T) → get_elem? views port ≡ some v → Fits ports taken items port v)
 
   -- what a pass that also receives knows of the items that wait
   abbrev pub Waits : LineView T → List (Item T) → Type 0

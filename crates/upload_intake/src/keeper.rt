@@ -17,49 +17,9 @@ use std::thread::Threads;
 use upload_names::UploadRef;
 use upload_service::{Answer, Service, headline_holds};
 
-/// The owner of the service. Contracts see its service, the one that it was given, and the jobs that it took.
+/// What a keeper has, while it runs and when it has ended.
 #[derive(Drop)]
-pub struct Keeper {
-    service: Service,
-    now: u64,
-    count: u64,
-    jobs: TakeEnd<Message>,
-    lines: Vec<ReplyLine>,
-    start: Snapshot<Service>,
-    log: History<Entry>,
-}
-
-impl Model for Keeper {
-    ghost use Rattle.std.specs.Prelude.{map};
-    ghost use Rattle.std.specs.Coded.{codes};
-    ghost use Rattle.crossbeam_channel.specs.Claims.{view as known};
-    ghost use Rattle.crossbeam_channel.specs.Ends.{receives_on};
-    ghost use Rattle.upload_service.specs.Codes.{state_code};
-    ghost use Rattle.upload_intake.specs.Passes.{line_of};
-    ghost use Rattle.upload_intake.specs.Replies.{replies_on};
-    ghost use Rattle.upload_intake.specs.Pools.Served.{KeeperState};
-    ghost use Rattle.upload_intake.specs.Log.{steps_of};
-    ghost use Rattle.upload_intake.specs.Kept.{IsKeeping};
-
-    ghost Value = { KeeperState };
-
-    ghost coded = { Prim.hlevel (codes, state_code) };
-
-    ghost view = { λ k. record {
-      jobs = line_of (receives_on k.jobs.receiver);
-      replies = map replies_on k.lines.items;
-      start = k.start.value;
-      service = k.service;
-      log = steps_of k.log;
-    } };
-
-    ghost invariant = { λ k. IsKeeping k.start.value k.service k.now k.count (steps_of k.log)
-        (known k.jobs.pass) k.lines.items };
-}
-
-/// What a keeper leaves when all seats have finished. Contracts see the same of it.
-#[derive(Drop)]
-pub struct Served {
+pub(crate) struct Books {
     pub(crate) service: Service,
     pub(crate) now: u64,
     pub(crate) count: u64,
@@ -69,33 +29,46 @@ pub struct Served {
     pub(crate) log: History<Entry>,
 }
 
-impl Model for Served {
-    ghost use Rattle.std.specs.Prelude.{map};
+/// The owner of the service. Contracts see its service, the one that it was given, and the jobs that it took.
+#[derive(Drop)]
+pub struct Keeper {
+    books: Books,
+}
+
+impl Model for Keeper {
     ghost use Rattle.std.specs.Coded.{codes};
-    ghost use Rattle.crossbeam_channel.specs.Claims.{view as known};
-    ghost use Rattle.crossbeam_channel.specs.Ends.{receives_on};
     ghost use Rattle.upload_service.specs.Codes.{state_code};
-    ghost use Rattle.upload_intake.specs.Passes.{line_of};
-    ghost use Rattle.upload_intake.specs.Replies.{replies_on};
-    ghost use Rattle.upload_intake.specs.Pools.Served.{KeeperState};
-    ghost use Rattle.upload_intake.specs.Log.{steps_of};
-    ghost use Rattle.upload_intake.specs.Kept.{IsKeeping, AreDone};
+    ghost use Rattle.upload_intake.specs.Pools.Served.{KeeperState, keeper_with};
+    ghost use Rattle.upload_intake.specs.Kept.{AreKept};
 
     ghost Value = { KeeperState };
 
     ghost coded = { Prim.hlevel (codes, state_code) };
 
-    ghost view = { λ k. record {
-      jobs = line_of (receives_on k.jobs.receiver);
-      replies = map replies_on k.lines.items;
-      start = k.start.value;
-      service = k.service;
-      log = steps_of k.log;
-    } };
+    ghost view = { λ k. keeper_with k.books };
 
-    ghost invariant = { λ k. IsKeeping k.start.value k.service k.now k.count (steps_of k.log)
-        (known k.jobs.pass) k.lines.items
-        × AreDone k.lines.items };
+    ghost invariant = { λ k. AreKept k.books };
+}
+
+/// What a keeper leaves when all seats have finished. Contracts see the same of it.
+#[derive(Drop)]
+pub struct Served {
+    pub(crate) books: Books,
+}
+
+impl Model for Served {
+    ghost use Rattle.std.specs.Coded.{codes};
+    ghost use Rattle.upload_service.specs.Codes.{state_code};
+    ghost use Rattle.upload_intake.specs.Pools.Served.{KeeperState, keeper_with};
+    ghost use Rattle.upload_intake.specs.Kept.{AreKept, AreDone};
+
+    ghost Value = { KeeperState };
+
+    ghost coded = { Prim.hlevel (codes, state_code) };
+
+    ghost view = { λ s. keeper_with s.books };
+
+    ghost invariant = { λ s. AreKept s.books × AreDone s.books.lines.items };
 }
 
 impl ReplyLine {
@@ -131,7 +104,7 @@ impl Keeper {
     ghost use Rattle.upload_service.specs.Machine.{IsLawful};
     ghost use Rattle.upload_intake.specs.Passes.{line_of, taker_view};
     ghost use Rattle.upload_intake.specs.Replies.{replies_on, BeginsReplies};
-    ghost use Rattle.upload_intake.specs.Pools.Served.{IsSameKeeper, Serves};
+    ghost use Rattle.upload_intake.specs.Pools.Served.{IsSameKeeper, LogIsServed};
     ghost use Rattle.upload_intake.specs.Told.{Grows};
 
     pub(crate) fn new(service: Service, jobs: TakeEnd<Message>, lines: Vec<ReplyLine>) -> Keeper
@@ -148,7 +121,7 @@ impl Keeper {
         // Each service is lawful, and this call says so.
         let _ = service.limits();
         let start = Snapshot::of(&service);
-        Keeper {
+        let books = Books {
             service,
             now: 0,
             count: 0,
@@ -156,7 +129,8 @@ impl Keeper {
             lines,
             start,
             log: History::none(),
-        }
+        };
+        Keeper { books }
     }
 
     // Takes one message, does what it asks, and tells which session took a chunk.
@@ -164,37 +138,40 @@ impl Keeper {
         ensures same { IsSameKeeper self.old self.new }
         ensures grows { Grows M.tells self.old moments.old self.new moments.new }
     {
-        let Some(item) = self.jobs.take(rt) else {
+        let Some(item) = self.books.jobs.take(rt) else {
             thread::yield_now();
             return None;
         };
         let Item { seat, what } = item;
         match what {
             Message::Job(ask, secret) => {
-                self.now = self.now.max(moments.now());
+                self.books.now = self.books.now.max(moments.now());
                 let asked = Snapshot::of(&ask);
-                let answer = self.service.step_joining(rt, ask, secret, self.now);
+                let answer = self
+                    .books
+                    .service
+                    .step_joining(rt, ask, secret, self.books.now);
                 let entry = Entry {
                     seat,
                     ask: asked,
                     secret,
-                    now: self.now,
+                    now: self.books.now,
                     answer: Snapshot::of(&answer),
                 };
-                self.log = self.log.and(&entry);
-                self.count = self.count.saturating_add(1);
+                self.books.log = self.books.log.and(&entry);
+                self.books.count = self.books.count.saturating_add(1);
                 let taken = session_that_took(&answer);
-                self.lines[seat].reply(rt, answer);
+                self.books.lines[seat].reply(rt, answer);
                 taken
             }
             Message::Hash(at, algorithm) => {
-                let end = self.service.hash_for_close(rt, &at, algorithm);
+                let end = self.books.service.hash_for_close(rt, &at, algorithm);
                 // A seat that doesn't hear it is gone.
-                let _ = self.lines[seat].ends.send(rt, end);
+                let _ = self.books.lines[seat].ends.send(rt, end);
                 None
             }
             Message::Finish => {
-                self.lines[seat].is_done = true;
+                self.books.lines[seat].is_done = true;
                 None
             }
         }
@@ -204,7 +181,7 @@ impl Keeper {
     fn catch_up<R: Threads>(&mut self, rt: &R, at: &UploadRef)
         ensures { self.new ≡ self.old }
     {
-        self.service.catch_up_beside(rt, at);
+        self.books.service.catch_up_beside(rt, at);
     }
 
     /// Serves requests until all seats have finished, each at the greater of the moment told and the moment before.
@@ -212,32 +189,16 @@ impl Keeper {
     pub fn run<R: Threads + Wait, M: Moments>(self, rt: &R, moments: &mut M) -> Served
         ensures same { IsSameKeeper self result }
         ensures grows { Grows M.tells self moments.old result moments.new }
-        ensures served { Serves result }
+        ensures served { LogIsServed result }
         ensures lawful { IsLawful result.service }
     {
         // The law over all runs, of which this one will be one. The call does nothing.
         headline_holds();
         let mut keeper = self;
         for _ in rt.forever() {
-            if are_done(&keeper.lines) {
-                let Keeper {
-                    service,
-                    now,
-                    count,
-                    jobs,
-                    lines,
-                    start,
-                    log,
-                } = keeper;
-                return Served {
-                    service,
-                    now,
-                    count,
-                    jobs,
-                    lines,
-                    start,
-                    log,
-                };
+            if are_done(&keeper.books.lines) {
+                let Keeper { books } = keeper;
+                return Served { books };
             }
             if let Some(at) = keeper.turn(rt, moments) {
                 keeper.catch_up(rt, &at);

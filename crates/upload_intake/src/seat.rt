@@ -17,67 +17,53 @@ use upload_service::{Answer, Ask, HashEnd};
 /// comes meanwhile: for the thread that was at work, and for the one that takes the rest in.
 const MOST_WAITS: u32 = 4;
 
-/// One of the places from which the keeper is asked. Contracts see what it sent and heard.
+/// What a seat has, before and after its finish: its number, its ends of the lines, and whether a call of it ended
+/// `Gone`.
 #[derive(Drop)]
-pub struct Seat {
-    seat: usize,
-    jobs: SendEnd<Message>,
-    replies: TakeEnd<Answer>,
-    ends: Receiver<Option<HashEnd>>,
-    gone: bool,
-}
-
-impl Model for Seat {
-    ghost use Rattle.crossbeam_channel.specs.Claims.{view as known};
-    ghost use Rattle.crossbeam_channel.specs.Ends.{sends_on, receives_on};
-    ghost use Rattle.upload_intake.specs.Line.{sent};
-    ghost use Rattle.upload_intake.specs.Passes.{line_of, whats};
-    ghost use Rattle.upload_intake.specs.Seats.{SeatState};
-    ghost use Rattle.upload_intake.specs.Kept.{Sits, jobs_in};
-
-    ghost Value = { SeatState };
-
-    ghost view = { λ s. record {
-      jobs = line_of (sends_on s.jobs.sender);
-      replies = line_of (receives_on s.replies.receiver);
-      seat = s.seat;
-      sent = jobs_in (sent (known s.jobs.pass).sending);
-      heard = whats (known s.replies.pass).taken;
-      gone = s.gone;
-    } };
-
-    ghost invariant = { λ s. Sits s.seat s.gone (known s.jobs.pass) (known s.replies.pass) };
-}
-
-/// A seat that asks no more. Contracts see the same of it.
-#[derive(Drop)]
-pub struct SeatEnd {
+pub(crate) struct Place {
     pub(crate) seat: usize,
     pub(crate) jobs: SendEnd<Message>,
     pub(crate) replies: TakeEnd<Answer>,
     pub(crate) gone: bool,
 }
 
-impl Model for SeatEnd {
+/// One of the places from which the keeper is asked. Contracts see what it sent and heard.
+#[derive(Drop)]
+pub struct Seat {
+    place: Place,
+    ends: Receiver<Option<HashEnd>>,
+}
+
+impl Model for Seat {
     ghost use Rattle.crossbeam_channel.specs.Claims.{view as known};
-    ghost use Rattle.crossbeam_channel.specs.Ends.{sends_on, receives_on};
-    ghost use Rattle.upload_intake.specs.Line.{sent};
-    ghost use Rattle.upload_intake.specs.Passes.{line_of, whats};
     ghost use Rattle.upload_intake.specs.Seats.{SeatState};
-    ghost use Rattle.upload_intake.specs.Kept.{SatToTheEnd, jobs_in};
+    ghost use Rattle.upload_intake.specs.Kept.{Sits, seat_at};
 
     ghost Value = { SeatState };
 
-    ghost view = { λ s. record {
-      jobs = line_of (sends_on s.jobs.sender);
-      replies = line_of (receives_on s.replies.receiver);
-      seat = s.seat;
-      sent = jobs_in (sent (known s.jobs.pass).sending);
-      heard = whats (known s.replies.pass).taken;
-      gone = s.gone;
-    } };
+    ghost view = { λ s. seat_at s.place };
 
-    ghost invariant = { λ s. SatToTheEnd s.seat s.gone (known s.jobs.pass) (known s.replies.pass) };
+    ghost invariant = { λ s. Sits s.place.seat s.place.gone
+        (known s.place.jobs.pass) (known s.place.replies.pass) };
+}
+
+/// A seat that asks no more. Contracts see the same of it.
+#[derive(Drop)]
+pub struct SeatEnd {
+    pub(crate) place: Place,
+}
+
+impl Model for SeatEnd {
+    ghost use Rattle.crossbeam_channel.specs.Claims.{view as known};
+    ghost use Rattle.upload_intake.specs.Seats.{SeatState};
+    ghost use Rattle.upload_intake.specs.Kept.{SatToTheEnd, seat_at};
+
+    ghost Value = { SeatState };
+
+    ghost view = { λ s. seat_at s.place };
+
+    ghost invariant = { λ s. SatToTheEnd s.place.seat s.place.gone
+        (known s.place.jobs.pass) (known s.place.replies.pass) };
 }
 
 impl Seat {
@@ -104,13 +90,13 @@ impl Seat {
           gone = false;
         } }
     {
-        Seat {
+        let place = Place {
             seat,
             jobs,
             replies,
-            ends,
             gone: false,
-        }
+        };
+        Seat { place, ends }
     }
 
     /// Sends a request to the keeper, and waits for the answer. Before a close with a digest it waits for the hash of
@@ -134,7 +120,7 @@ impl Seat {
                 at,
                 digest: Some(digest),
                 ..
-            } if !self.gone => Some((*at, digest.algorithm())),
+            } if !self.place.gone => Some((*at, digest.algorithm())),
             _ => None,
         }
     }
@@ -157,12 +143,12 @@ impl Seat {
     fn wish<R: Wait>(&mut self, rt: &R, at: UploadRef, algorithm: Algorithm) -> Option<HashEnd>
         ensures { self.new ≡ self.old }
     {
-        let seat = self.seat;
+        let seat = self.place.seat;
         let wish = Item {
             seat,
             what: Message::Hash(at, algorithm),
         };
-        let Ok(()) = self.jobs.send(rt, wish) else {
+        let Ok(()) = self.place.jobs.send(rt, wish) else {
             return None;
         };
         match self.ends.recv(rt) {
@@ -175,21 +161,21 @@ impl Seat {
     fn ask_at_once<R: Wait>(&mut self, rt: &R, ask: Ask, secret: [u8; 12]) -> Result<Answer, Gone>
         ensures { Asks self.old ask secret result self.new }
     {
-        if self.gone {
+        if self.place.gone {
             return Err(Gone::NotSent(ask));
         }
         let job = Item {
-            seat: self.seat,
+            seat: self.place.seat,
             what: Message::Job(ask, secret),
         };
-        if let Err(back) = self.jobs.send(rt, job) {
-            self.gone = true;
+        if let Err(back) = self.place.jobs.send(rt, job) {
+            self.place.gone = true;
             return Err(Gone::NotSent(ask_of(back)));
         }
-        match self.replies.take(rt) {
+        match self.place.replies.take(rt) {
             Some(reply) => Ok(reply.what),
             None => {
-                self.gone = true;
+                self.place.gone = true;
                 Err(Gone::NoAnswer)
             }
         }
@@ -199,24 +185,13 @@ impl Seat {
     pub fn finish<R: Wait>(self, rt: &R) -> SeatEnd
         ensures { result ≡ self }
     {
-        let Seat {
-            seat,
-            mut jobs,
-            replies,
-            ends: _,
-            gone,
-        } = self;
+        let Seat { mut place, .. } = self;
         let finish = Item {
-            seat,
+            seat: place.seat,
             what: Message::Finish,
         };
-        let _ = jobs.send(rt, finish);
-        SeatEnd {
-            seat,
-            jobs,
-            replies,
-            gone,
-        }
+        let _ = place.jobs.send(rt, finish);
+        SeatEnd { place }
     }
 }
 

@@ -11,10 +11,10 @@ ghost use Rattle.upload_intake.specs.Pools.Settled.{IsSettled};
 ghost use Rattle.upload_intake.specs.Pools.Settles.{Settles};
 
 use crate::ends::{TakeEnd, next_sender, open_line, reply_line, settle_line};
-use crate::keeper::{Keeper, Served};
+use crate::keeper::{Books, Keeper, Served};
 use crate::message::Message;
 use crate::reply::ReplyLine;
-use crate::seat::{Seat, SeatEnd};
+use crate::seat::{Place, Seat, SeatEnd};
 use crossbeam_channel::bounded;
 use std::alloc::{AllocError, Global};
 use upload_service::{Service, headline_holds};
@@ -91,12 +91,12 @@ fn settle_seat(jobs: &mut TakeEnd<Message>, line: ReplyLine, end: SeatEnd)
     ensures taken { (view jobs.new.pass).taken ≡ (view jobs.old.pass).taken }
     ensures settled { Settles (view jobs.old.pass) line end }
 {
-    let SeatEnd {
-        seat: _,
+    let SeatEnd { place } = end;
+    let Place {
         jobs: sender,
         mut replies,
-        gone: _,
-    } = end;
+        ..
+    } = place;
     settle_line(sender, jobs);
     settle_line(line.replies, &mut replies);
 }
@@ -110,15 +110,14 @@ pub(crate) fn settle_all(served: Served, ends: Vec<SeatEnd>) -> Settled
 {
     // The law over all runs, of which this was one. The call does nothing.
     headline_holds();
-    let Served {
+    let Served { books } = served;
+    let Books {
         service,
-        now: _,
         count: log_length,
         mut jobs,
         lines,
-        start: _,
-        log: _,
-    } = served;
+        ..
+    } = books;
     let mut lines = lines.into_iter();
     for end in ends {
         let Some(line) = lines.next() else {
@@ -143,15 +142,14 @@ pub fn settle(served: Served, left: SeatEnd, right: SeatEnd) -> Settled
 {
     // The law over all runs, of which this was one. The call does nothing.
     headline_holds();
-    let Served {
+    let Served { books } = served;
+    let Books {
         service,
-        now: _,
         count,
         mut jobs,
         lines,
-        start: _,
-        log: _,
-    } = served;
+        ..
+    } = books;
     let mut lines = lines.into_iter();
     let (Some(to_left), Some(to_right)) = (lines.next(), lines.next()) else {
         unreachable!()

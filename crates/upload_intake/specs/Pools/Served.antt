@@ -1,12 +1,15 @@
 -- A keeper: its lines, the service that it was given and the one that it has now, and the steps by which it came there.
-use Rattle.std.specs.Prelude.{◌≡◌, ◌<◌, ℕ, List, length, get_or}
+use Rattle.std.specs.Prelude.{◌≡◌, ◌<◌, ℕ, List, map, length, get_or}
+use Rattle.crossbeam_channel.specs.Ends.{receives_on}
 use Rattle.upload_service.specs.declared.answer.Answer.{Answer}
 use Rattle.upload_service.specs.Machine.{State}
 use Rattle.upload_service.specs.Run.{Exchange, Run, NeverFall}
 use Rattle.upload_service.specs.Headline.{Headline}
+use Rattle.upload_intake.specs.declared.keeper.Books.{Books}
 use Rattle.upload_intake.specs.declared.message.Message.{Message}
-use Rattle.upload_intake.specs.Log.{Step, exchanges_of}
-use Rattle.upload_intake.specs.Passes.{LineId}
+use Rattle.upload_intake.specs.Log.{Step, steps_of, exchanges_of}
+use Rattle.upload_intake.specs.Passes.{LineId, line_of}
+use Rattle.upload_intake.specs.Replies.{replies_on}
 use Rattle.upload_intake.specs.Seats.{SeatState}
 
 pub record KeeperState : Type 0 where
@@ -15,6 +18,16 @@ pub record KeeperState : Type 0 where
   pub start : State
   pub service : State
   pub log : List Step
+
+-- a keeper with these books
+abbrev pub keeper_with : Books → KeeperState
+keeper_with books = record {
+  jobs = line_of (receives_on books.jobs.receiver);
+  replies = map replies_on books.lines.items;
+  start = books.start.value;
+  service = books.service;
+  log = steps_of books.log;
+}
 
 -- the same lines, and the same service at the start
 pub record IsSameKeeper (old new : KeeperState) : Type 0 where
@@ -29,8 +42,8 @@ pub record IsServed (start : State) (exchanges : List Exchange) (service : State
   pub headline : Headline start exchanges service
 
 -- the keeper's log is a run from the service that it was given to the one that it has
-abbrev pub Serves : KeeperState → Type 0
-Serves keeper = IsServed keeper.start (exchanges_of keeper.log) keeper.service
+abbrev pub LogIsServed : KeeperState → Type 0
+LogIsServed keeper = IsServed keeper.start (exchanges_of keeper.log) keeper.service
 
 -- a seat is the keeper's, with this number
 pub record IsSeatOf (keeper : KeeperState) (number : ℕ) (seat : SeatState) : Type 0 where

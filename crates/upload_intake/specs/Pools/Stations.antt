@@ -1,5 +1,5 @@
 -- The workers at their seats, and what their threads promise and leave.
-use Rattle.std.specs.Prelude.{◌≡◌, ◌<◌, ℕ, List, map, length, get_or}
+use Rattle.std.specs.Prelude.{◌<◌, ℕ, List, map, length, get_or}
 use Rattle.std.specs.declared.thread.PromisedHandle.{PromisedHandle}
 use Rattle.upload_intake.specs.declared.work.Leaving.{Leaving}
 use Rattle.upload_intake.specs.declared.work.Station.{Station}

@@ -1,4 +1,4 @@
-use Rattle.upload_intake.proofs.LineMoves.{merging, learning}
+use Rattle.upload_intake.proofs.LineMoves.{merging}
 use Rattle.upload_intake.proofs.ends.settle_line.Goals as goal
 
 pub absorb-requires-clause-rule : goal.absorb-requires-clause-rule

@@ -1,7 +1,6 @@
-use Rattle.std.proofs.Common.{◌≡◌, ◌<◌, ℕ, List, [], ◌∷◌, ◌++◌, ap, ◌∙◌, sym, subst, length, get_or, arith}
+use Rattle.std.proofs.Common.{◌≡◌, ◌<◌, ℕ, ◌++◌, ap, ◌∙◌, sym, subst, length, get_or, arith}
 use Rattle.std.proofs.lemmas.List.{map-append}
 use Rattle.std.specs.Vec.Iter.{into_iter_items}
-use Rattle.upload_intake.specs.declared.work.Station.{Station}
 use Rattle.upload_intake.specs.Pools.Stations.{seats_of, workers_of, limits_of}
 use Rattle.upload_intake.proofs.Opening.{all_done, each_push, step_on}
 use Rattle.upload_intake.proofs.pool.stations.Goals as goal

@@ -1,4 +1,4 @@
-use Rattle.std.proofs.Common.{◌≡◌, ◌<◌, [], ◌∷◌, ap, ◌∙◌, sym, subst, length, get_or, arith}
+use Rattle.std.proofs.Common.{◌≡◌, ◌<◌, ◌∷◌, ap, ◌∙◌, sym, subst, length, get_or, arith}
 use Rattle.std.specs.Vec.Iter.{into_iter_items}
 use Rattle.upload_intake.specs.Seats.{IsFresh}
 use Rattle.upload_intake.proofs.settlement.lines.Goals as goal

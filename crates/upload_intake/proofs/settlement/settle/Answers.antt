@@ -1,4 +1,4 @@
-use Rattle.std.proofs.Common.{◌≡◌, ◌<◌, ℕ, [], ◌∷◌, ap, ◌∙◌, sym, refl, length, arith}
+use Rattle.std.proofs.Common.{◌≡◌, ℕ, [], ◌∷◌, ap, ◌∙◌, sym, refl, arith}
 use Rattle.crossbeam_channel.specs.Claims.{view}
 use Rattle.crossbeam_channel.specs.Ends.{receives_on}
 use Rattle.std.specs.Vec.Iter.{into_iter_items}
@@ -26,9 +26,9 @@ settle_seat-requires-clause-replies c =
     let first : into_iter_items c.into_iter-lines.result ≡ to_left ∷ into_iter_items c.next.new.self =
     (let a = c.in-Some-Some.ensures.cases.0 in let b = c.in-Some-Some.to_left-is in cc) in
     let second : into_iter_items c.next.new.self ≡ to_right ∷ rest = c.in-Some-Some.ensures'.cases.0 in
-    let lines : c.served.inside.lines.items ≡ to_left ∷ to_right ∷ rest =
+    let lines : c.served.inside.books.lines.items ≡ to_left ∷ to_right ∷ rest =
     sym c.into_iter-lines.ensures.rest ∙ first ∙ ap (λ l. to_left ∷ l) second in
-    its_line c.args.served c.served.inside.lines.items (ap (λ (k : KeeperState). k.replies) c.served.view_is) []
+    its_line c.args.served c.served.inside.books.lines.items (ap (λ (k : KeeperState). k.replies) c.served.view_is) []
     (to_right ∷ rest) to_left (sym lines) 0 refl left
     (next_seat c.args.served (left ∷ right ∷ []) c.requires [] (right ∷ []) left refl)
 
@@ -49,9 +49,9 @@ settle_seat-requires-2-clause-replies c =
     let first : into_iter_items c.into_iter-lines.result ≡ to_left ∷ into_iter_items c.next.new.self =
     (let a = c.in-Some-Some.ensures.cases.0 in let b = c.in-Some-Some.to_left-is in cc) in
     let second : into_iter_items c.next.new.self ≡ to_right ∷ rest = c.in-Some-Some.ensures'.cases.0 in
-    let lines : c.served.inside.lines.items ≡ to_left ∷ to_right ∷ rest =
+    let lines : c.served.inside.books.lines.items ≡ to_left ∷ to_right ∷ rest =
     sym c.into_iter-lines.ensures.rest ∙ first ∙ ap (λ l. to_left ∷ l) second in
-    its_line c.args.served c.served.inside.lines.items (ap (λ (k : KeeperState). k.replies) c.served.view_is)
+    its_line c.args.served c.served.inside.books.lines.items (ap (λ (k : KeeperState). k.replies) c.served.view_is)
     (to_left ∷ []) rest to_right (sym lines) 1 refl right
     (next_seat c.args.served (left ∷ right ∷ []) c.requires (left ∷ []) [] right refl)
 
@@ -65,22 +65,22 @@ returns-clause-settled c =
     let first : into_iter_items c.into_iter-lines.result ≡ to_left ∷ into_iter_items c.next.new.self =
     (let a = c.in-Some-Some.ensures.cases.0 in let b = c.in-Some-Some.to_left-is in cc) in
     let second : into_iter_items c.next.new.self ≡ to_right ∷ rest = c.in-Some-Some.ensures'.cases.0 in
-    let lines : c.served.inside.lines.items ≡ to_left ∷ to_right ∷ rest =
+    let lines : c.served.inside.books.lines.items ≡ to_left ∷ to_right ∷ rest =
     sym c.into_iter-lines.ensures.rest ∙ first ∙ ap (λ l. to_left ∷ l) second in
     let takes = ap (λ v. v.takes) c.served.invariant.0.receives.is_taker in
     let log = ap (λ (k : KeeperState). k.log) c.served.view_is in
     let one : IsSettledSeat 0 c.args.served.log left =
-    next_settled _ _ _ _ _ _ c.served.inside.lines.items c.served.invariant (view c.served.inside.jobs.pass) takes refl
-    [] (to_right ∷ rest) to_left (sym lines) 0 refl left
+    next_settled _ _ c.served.inside.books.lines.items c.served.invariant (view c.served.inside.books.jobs.pass) takes
+    refl [] (to_right ∷ rest) to_left (sym lines) 0 refl left
     (next_seat c.args.served (left ∷ right ∷ []) c.requires [] (right ∷ []) left refl).number_is
     c.settle_seat.ensures.settled c.args.served.log log in
     let two : IsSettledSeat 1 c.args.served.log right =
-    next_settled _ _ _ _ _ _ c.served.inside.lines.items c.served.invariant (view c.settle_seat.new.jobs.pass)
+    next_settled _ _ c.served.inside.books.lines.items c.served.invariant (view c.settle_seat.new.jobs.pass)
     (c.settle_seat.ensures.takes ∙ takes) c.settle_seat.ensures.taken (to_left ∷ []) rest to_right
     (sym lines) 1 refl right
     (next_seat c.args.served (left ∷ right ∷ []) c.requires (left ∷ []) [] right refl).number_is
     c.settle_seat-2.ensures.settled c.args.served.log log in
     let F = λ (k : ℕ) (s : SeatState). IsSettledSeat k c.args.served.log s in
-    all_settled c.headline_holds.ensures _ _ _ _ _ _ c.served.inside.lines.items c.served.invariant.0 c.args.served _
+    all_settled c.headline_holds.ensures _ _ c.served.inside.books.lines.items c.served.invariant.0 c.args.served _
     c.served.view_is (left ∷ right ∷ []) c.requires
     (each_push F (left ∷ []) right (each_push F [] left (λ k d below. absurd (omega (arith, below))) one) two)

@@ -1,12 +1,10 @@
 use Rattle.std.proofs.Common.{◌≡◌, ◌<◌, ◌+◌, ℕ, List, [], ◌∷◌, ◌++◌, ap, ◌∙◌, sym, subst, length, length-append, get_or}
-use Rattle.std.proofs.Common.{arith}
 use Rattle.crossbeam_channel.specs.Claims.{view}
 use Rattle.crossbeam_channel.specs.Ends.{receives_on}
 use Rattle.std.specs.Vec.Iter.{into_iter_items}
 use Rattle.upload_intake.specs.Passes.{line_of}
-use Rattle.upload_intake.specs.declared.reply.ReplyLine.{ReplyLine}
 use Rattle.upload_intake.specs.Seats.{SeatState}
-use Rattle.upload_intake.specs.Pools.Served.{KeeperState, IsSeatOf}
+use Rattle.upload_intake.specs.Pools.Served.{KeeperState}
 use Rattle.upload_intake.specs.Pools.Settled.{IsSettledSeat}
 use Rattle.upload_intake.proofs.Opening.{all_done, each_push, step_on}
 use Rattle.upload_intake.proofs.Settling.{next_seat, its_line, next_settled, all_settled}
@@ -26,7 +24,7 @@ settle_seat-requires-clause-replies c =
     let seat =
     next_seat c.args.served c.args.ends.items c.requires was.done (into_iter_items c.next.new.self) c.in-Some.end
     (ap (λ l. was.done ++ l) (sym c.in-Some.ensures.steps.0) ∙ was.ends) in
-    its_line c.args.served c.served.inside.lines.items (ap (λ (k : KeeperState). k.replies) c.served.view_is)
+    its_line c.args.served c.served.inside.books.lines.items (ap (λ (k : KeeperState). k.replies) c.served.view_is)
     was.done_lines (into_iter_items c.next-in-loop-end.new.self) c.in-Some-next.line
     (ap (λ l. was.done_lines ++ l) (sym c.in-Some-next.ensures.cases.0) ∙ was.lines ∙ c.into_iter-lines.ensures.rest)
     (length was.done) was.same c.in-Some.end seat
@@ -55,7 +53,7 @@ loop-end-preserved c =
       takes = c.settle_seat.ensures.takes ∙ was.takes;
       taken = c.settle_seat.ensures.taken ∙ was.taken;
       settled = each_push (λ k (e : SeatState). IsSettledSeat k c.args.served.log e) was.done c.in-Some.end was.settled
-          (next_settled _ _ _ _ _ _ c.served.inside.lines.items c.served.invariant (view c.loop-end.jobs.pass) was.takes
+          (next_settled _ _ c.served.inside.books.lines.items c.served.invariant (view c.loop-end.jobs.pass) was.takes
           was.taken was.done_lines lines_left c.in-Some-next.line
           (ap (λ l. was.done_lines ++ l) (sym c.in-Some-next.ensures.cases.0) ∙ was.lines
           ∙ c.into_iter-lines.ensures.rest)
@@ -69,7 +67,7 @@ returns-clause-settled c =
     let all : was.done ≡ c.args.ends.items =
     all_done was.done (into_iter_items c.loop-end.end-iterator) c.args.ends.items was.ends
     (sym c.loop-end.end-iterator.rest.ok.0 ∙ c.in-None.ensures.steps.0) in
-    all_settled c.headline_holds.ensures _ _ _ _ _ _ c.served.inside.lines.items c.served.invariant.0 c.args.served _
+    all_settled c.headline_holds.ensures _ _ c.served.inside.books.lines.items c.served.invariant.0 c.args.served _
     c.served.view_is c.args.ends.items c.requires
     (subst (λ (l : List SeatState). (k : ℕ) (d : SeatState) → k < length l
     → IsSettledSeat k c.args.served.log (get_or l k d)) all was.settled)

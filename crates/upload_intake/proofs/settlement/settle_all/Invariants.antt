@@ -1,5 +1,5 @@
-use Rattle.std.specs.Prelude.{◌≡◌, ◌<◌, ℕ, true, [], ◌++◌, List, length, get_or}
-use Rattle.std.specs.Vec.Iter.{into_iter_items, into_iter_len}
+use Rattle.std.specs.Prelude.{◌≡◌, ◌<◌, ℕ, true, ◌++◌, List, length, get_or}
+use Rattle.std.specs.Vec.Iter.{into_iter_items}
 use Rattle.crossbeam_channel.specs.Claims.{view}
 use Rattle.crossbeam_channel.specs.Ends.{receives_on}
 use Rattle.upload_intake.specs.Passes.{line_of}

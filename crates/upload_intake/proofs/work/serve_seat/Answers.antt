@@ -1,5 +1,5 @@
-use Rattle.std.proofs.Common.{◌≡◌, refl, sym, ap, ◌∙◌, subst, rules, true≢false}
-use Rattle.upload_intake.specs.Desks.{seat_of, secrets_of}
+use Rattle.std.proofs.Common.{refl, sym, ◌∙◌, subst, rules, true≢false}
+use Rattle.upload_intake.specs.Desks.{seat_of}
 use Rattle.upload_intake.specs.Seats.{SeatState, IsSameSeat}
 use Rattle.upload_intake.specs.Pools.Working.{lending, means}
 use Rattle.upload_intake.proofs.Conversations.{same_seat, gated_same, same_seat_twice}

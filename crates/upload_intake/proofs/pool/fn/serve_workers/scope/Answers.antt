@@ -1,4 +1,4 @@
-use Rattle.std.proofs.Common.{◌≡◌, ℕ, List, ap, ◌∙◌, sym, subst, length}
+use Rattle.std.proofs.Common.{◌≡◌, ap, ◌∙◌, sym, subst, length}
 use Rattle.std.proofs.lemmas.List.{length-map}
 use Rattle.std.specs.Vec.Iter.{into_iter_items}
 use denote.Param.Send.{sendable}
