@@ -13,6 +13,8 @@ A small library, loaded before the C library, refuses the Nth allocation of a pr
   without that request. If the reader was, the connection ends with status 3 after the replies to the requests before.
   The expected replies are those of undisturbed runs. If there is no memory for the words of its command line, the
   program says so: `fault: memory`, status 3.
+- A push to a server that has all the memory it wants ends well, since a connection is made again; or it says
+  `fault: memory`, or `fault: file` if there is no memory for the file, with status 3.
 
 Prints how many growths there were, and 'N passed, M failed' as the last. Without a C compiler nothing is run.
 """
@@ -205,6 +207,27 @@ class Growths(unittest.TestCase):
         )
         with self.subTest("what is answered 503"):
             self.assertEqual({"GET", "PATCH", "POST", "PUT"}, set(refused))
+
+    def test_push(self):
+        digest = running.sha256(b"abc")
+        pushed, refused = (f"pushed {digest}\n".encode(), 0), (b"fault: memory\n", 3)
+        # the reply to a close may be what there was no memory for: what is there is found then
+        right = {pushed, refused, (f"already {digest}\n".encode(), 0), (b"fault: file\n", 3)}
+        ends, met = collections.Counter(), True
+        with running.Server() as server, tempfile.NamedTemporaryFile() as file:
+            file.write(b"abc")
+            file.flush()
+            while met and ends.total() < MOST_GROWTHS:
+                # each is to a repository that hasn't the blob
+                number = ends.total() + 1
+                command = [running.PROGRAM, "push", server.addr, f"lib/{number}", file.name, "2"]
+                *end, met = run_refused(self.library, command, b"", number)
+                ends[tuple(end)] += 1
+                with self.subTest(f"growth {number} refused"):
+                    self.assertIn(tuple(end), right)
+        print(f"{ends.total() - 1} growths: a push; {ends[refused]} times out of memory")
+        with self.subTest("how pushes end"):
+            self.assertEqual(right, set(ends))
 
 
 if __name__ == "__main__":

@@ -589,11 +589,22 @@ def first_references():
 
 
 def secrets_are_drawn():
-    """Each reference has its number, a UUID's version and variant, and a secret of its own."""
-    with Server(4) as server:
-        places = [opened(server, "lib/a").removeprefix("/v2/lib/a/blobs/uploads/") for _ in range(4)]
+    """Each reference has its number, a UUID's version and variant, and a secret of its own, whichever worker it is
+    of."""
+    with Server() as server, contextlib.ExitStack() as kept:
+        clients = [kept.enter_context(contextlib.closing(server.client())) for _ in range(2)]
+        # each keeps a worker
+        begun = [client.ask("GET", "/v2/")[0] for client in clients]
+        uploads = "/v2/lib/a/blobs/uploads/"
+        places = [
+            client.ask("POST", uploads)[1]["Location"].removeprefix(uploads) for client in clients for _ in range(2)
+        ]
         numbers = [place[:8] for place in places]
-        check("the numbers of references", numbers == [f"{number:08x}" for number in range(1, 5)], places)
+        check(
+            "the numbers of references",
+            (begun, numbers) == ([200, 200], [f"{number:08x}" for number in range(1, 5)]),
+            (begun, places),
+        )
         check(
             "the layout of references", all(len(p) == 36 and p[14] == "8" and p[19] in "89ab" for p in places), places
         )

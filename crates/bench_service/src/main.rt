@@ -29,7 +29,7 @@ fn read_word(text: &str) -> Option<Word> {
     }
 }
 
-/// The first word of the command line, where it is one.
+/// The first word of the command line, if it is one.
 fn first_word(rt: &HostRuntime) -> io::Result<Option<Word>> {
     let word = env::args(rt)?.nth(1);
     Ok(word.and_then(|word| read_word(word.as_str())))

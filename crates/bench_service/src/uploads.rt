@@ -6,7 +6,7 @@ use std::io;
 use upload_names::{BlobDigest, Body, NameFault, RepoName, UploadRef};
 use upload_service::{Answer, Ask, Extent, Limits, Service};
 
-/// The error where the service answers what it must not.
+/// The error if the service answers what it must not.
 fn unexpected() -> io::Error {
     io::Error::from(io::ErrorKind::InvalidData)
 }

@@ -59,7 +59,7 @@ abbrev pub log_state : List ℕ → Option LogLines → Option LogState
 log_state head None = None
 log_state head (Some lines) = Some (record { head = head; handed = lines.handed.lines; lost = lines.lost })
 
--- where there is none, none comes of what is told
+-- if there is none, none comes of what is told
 abbrev pub RequestLogTold : Option LogState → Event → Option LogState → Type 0
 RequestLogTold None event new = new ≡ None
 RequestLogTold (Some old) event new = IsSomeAnd new (λ log. LogTold old event log)

@@ -29,7 +29,7 @@ use Rattle.blobd.specs.Status.{IsPrinted, line}
 abbrev pub is_word : List ℕ → Bool
 is_word text = nat_lt 0 (length text) && list_all is_ascii_graphic text
 
--- an error code as it is printed: itself where it is a word, and else a hyphen
+-- an error code as it is printed: itself if it is a word, and else a hyphen
 abbrev pub shown_code : Option (List ℕ) → List ℕ
 shown_code None = codes "-"
 shown_code (Some code) = if is_word code then code else codes "-"
@@ -45,8 +45,8 @@ why_text (Refused status code) = codes "refused: " ++ (decimal status ++ (codes 
 why_text BadServer = codes "refused: bad server"
 why_text OutOfTries = codes "refused: out of tries"
 
--- what is printed of a push of this digest that ended in this phase, and the exit status: 0 where it ended well, 1
--- where it was given up
+-- what is printed of a push of this digest that ended in this phase, and the exit status: 0 if it ended well, 1
+-- if it was given up
 abbrev pub PrintsPush : Digest → Phase → ℕ → List ℕ → Type 0
 PrintsPush digest (Done outcome) status text =
     (status ≡ 0) × (text ≡ outcome_word outcome ++ (codes " " ++ digest_text digest))
@@ -95,7 +95,7 @@ pub record IsPushLine {host : List ℕ} (p : Push) (look : Look host p.name p.di
   pub last : Option WireState
   pub over : Leads (AsksDialed host) look.kept (log_of p heard) last
   pub text : List ℕ
-  -- where nothing was heard, as where no connection could be made, the line tells no status: it says that the tries are
+  -- if nothing was heard, as if no connection could be made, the line tells no status: it says that the tries are
   -- used up
   pub unheard : AreUnheard heard → (status ≡ 1) × (text ≡ why_text OutOfTries)
   pub told : PrintsPush p.digest (after_all p heard).phase status text

@@ -28,7 +28,7 @@ step_behind error =
 abbrev pub longer : ℕ → ℕ
 longer pause = max 100 (min 2000 (pause * 2))
 
--- how long to wait before the next request, where that was `before` this one: longer after nothing or 503, and else not
+-- how long to wait before the next request, if that was `before` this one: longer after nothing or 503, and else not
 -- at all
 abbrev pub pause_after : Option Heard → ℕ → ℕ
 pause_after None before = longer before

@@ -168,7 +168,7 @@ impl<'a, R: Clock + Eprint + Wait + Sync> Conns for Accepted<'a, R> {
     // The connection isn't kept, and as many are left as before.
     ghost takes_back = { λ old halves new. (new.stream ≡ None) × (new.left ≡ old.left) };
 
-    /// Waits for the next connection. None where as many as were asked for are served, or where one couldn't be taken,
+    /// Waits for the next connection. None if as many as were asked for are served, or if one couldn't be taken,
     /// which is told on standard error.
     fn next_conn(&mut self) -> Option<(Reader<'a, R>, Writer<'a, R>)> {
         let left = self.left.checked_sub(1)?;

@@ -30,7 +30,7 @@ fn unit_of(bytes: u64) -> (u64, &'static str)
     }
 }
 
-/// A count of bytes as it is told, with a tenth where it isn't told in bytes.
+/// A count of bytes as it is told, with a tenth if it isn't told in bytes.
 #[derive(Clone, Copy)]
 struct Told(u64);
 
@@ -96,7 +96,7 @@ pub struct Bar<'r, R> {
     size: u64,
     /// What is done with them.
     word: &'static str,
-    /// Since when; none where the clock can't be read.
+    /// Since when; none if the clock can't be read.
     begun: Option<Instant>,
     /// Until when the line stands, in milliseconds from then.
     stands: u64,
@@ -129,7 +129,7 @@ impl<'r, R: Clock + Eprint> Bar<'r, R> {
         }
     }
 
-    /// So many bytes are done. The line is drawn again, but not where it was drawn a moment ago.
+    /// So many bytes are done. The line is drawn again, but not if it was drawn a moment ago.
     pub fn reached(&mut self, done: u64)
         ensures unseen { self.old.seen ≡ false → self.new ≡ self.old }
         ensures same { (self.new.seen ≡ self.old.seen) × (self.new.size ≡ self.old.size) }

@@ -131,7 +131,7 @@ impl<'r, R: Net<Stream = TcpStream>> Dialer<'r, R> {
         }
     }
 
-    /// The reply to a request over the connection, or over a new one where there is none.
+    /// The reply to a request over the connection, or over a new one if there is none.
     fn exchange(&mut self, ask: Ask) -> Option<Heard>
         requires { CanBeWritten ask }
         ensures asked { AsksDialed (string_bytes self.old.host) self.old.wire ask

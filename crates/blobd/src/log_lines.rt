@@ -64,7 +64,7 @@ pub struct Log {
 }
 
 impl Log {
-    /// Starts the thread. `None` comes where there is no memory for the lines, or no thread can be made.
+    /// Starts the thread. `None` comes if there is no memory for the lines, or no thread can be made.
     pub fn start<R>(rt: &R, alloc: Global) -> Option<Log>
     where
         R: Threads + Wait + Eprint + Copy + Send + 'static,

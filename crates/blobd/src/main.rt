@@ -57,7 +57,7 @@ use std::sync::Wait;
 use std::thread::Threads;
 use std::{env, fs, io};
 
-/// The exit status where the words are no command.
+/// The exit status if the words are no command.
 const NO_COMMAND: u8 = 2;
 
 /// The most bytes of a file that is pushed.
@@ -69,7 +69,7 @@ const DEMAND: Demand = Demand {
     least: 61_440,
 };
 
-/// The variable of the environment that is 1 where a server is to log its requests.
+/// The variable of the environment that is 1 if a server is to log its requests.
 const LOG: &str = "BLOBD_LOG";
 
 /// The variable of the environment that says how many workers a server has.

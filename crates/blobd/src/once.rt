@@ -9,7 +9,7 @@ use std::alloc::Global;
 use upload_service::{Service, headline_holds};
 use upload_wire::{ConnEnd, ServiceDesk, connections_run_the_service, serve_connection};
 
-/// The exit status of a connection's end: 0 where the client ended it, 1 where the service did, 3 after a fault.
+/// The exit status of a connection's end: 0 if the client ended it, 1 if the service did, 3 after a fault.
 fn status_of(end: ConnEnd) -> u8
     ensures { result ≡ status_of end }
 {

@@ -71,7 +71,7 @@ impl<'a, R: Clock> Watch<'a, R> {
         Instant::now(self.rt).ok()
     }
 
-    /// For how many microseconds a call that began then waited for the client; 0 where no time can be told. The system
+    /// For how many microseconds a call that began then waited for the client; 0 if no time can be told. The system
     /// ends a call that waits for longer than it may. So one that lasted a second longer didn't wait for the client:
     /// the program was stopped meanwhile.
     fn waited_since(&self, begun: Option<Instant>) -> u64 {
@@ -225,7 +225,7 @@ impl<'a, R: Clock> Write for PacedWriter<'a, R> {
 }
 
 /// The two halves of a connection of which nothing was read yet; no other connection uses this turn any more. What is
-/// written leaves as it is written: a head and a small body are one write. An error comes where the system has no
+/// written leaves as it is written: a head and a small body are one write. An error comes if the system has no
 /// further handle for the stream.
 pub fn halves<'a, R: Clock>(
     rt: &'a R,

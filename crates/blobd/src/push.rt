@@ -25,7 +25,7 @@ const TRIES: u32 = 5;
 /// How many bytes are hashed between two looks at the clock.
 const PIECE: usize = 1_048_576;
 
-/// The code as it is printed: `-` where there is none, where it is empty, or where it isn't visible ASCII, since a
+/// The code as it is printed: `-` if there is none, if it is empty, or if it isn't visible ASCII, since a
 /// server could else write more lines than one.
 fn printable(code: &Option<Bytes>) -> &str
     ensures { result.now ≡ shown_code code.now }
@@ -144,10 +144,10 @@ fn tell_why<R: Eprint>(rt: &R, addr: SocketAddr, why: &Why, course: Course, trou
 ///
 /// - `pushed` or `already` and the digest, 0: what each is worth is said at [`push`]. `already` comes too if a HEAD
 ///   before the push was answered 200: then nothing is sent;
-/// - `refused: name` where `name` isn't one, and nothing is sent; `refused:` and the status and the error code of the
+/// - `refused: name` if `name` isn't one, and nothing is sent; `refused:` and the status and the error code of the
 ///   reply that ended the push; `refused: bad server` after a reply that no such service gives; `refused: out of
 ///   tries` after too many asks that weren't heard; 1;
-/// - `fault: memory`, 3; and 3 where the line can't be printed.
+/// - `fault: memory`, 3; and 3 if the line can't be printed.
 ///
 /// Standard error says more of what was refused. If it is a terminal, and so `seen`, a bar stands there meanwhile.
 pub fn run_push<R, W>(

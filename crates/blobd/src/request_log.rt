@@ -22,12 +22,12 @@ const NO_HEAD: &str = "-";
 pub struct RequestLog<'a, R> {
     rt: &'a R,
     alloc: Global,
-    /// Where lines go, where any are wanted.
+    /// Where lines go, if any are wanted.
     lines: Option<LogLines>,
-    /// The method and the target of the head that came last; none where it can't be read, or there was no memory for
+    /// The method and the target of the head that came last; none if it can't be read, or there was no memory for
     /// them.
     head: Option<String>,
-    /// Since when; none where the clock couldn't be read.
+    /// Since when; none if the clock couldn't be read.
     heard: Option<Instant>,
 }
 
@@ -42,7 +42,7 @@ impl<'a, R> Model for RequestLog<'a, R> {
 }
 
 impl<'a, R: Clock + Wait> RequestLog<'a, R> {
-    /// A log of requests to come, where there is a place for its lines.
+    /// A log of requests to come, if there is a place for its lines.
     pub fn new(rt: &'a R, alloc: Global, lines: Option<LogLines>) -> RequestLog<'a, R>
         ensures { result ≡ log_state no_head lines }
     {
@@ -80,7 +80,7 @@ impl<'a, R: Clock + Wait> Observer for RequestLog<'a, R> {
     }
 }
 
-/// The milliseconds since a moment, or 0 where no time can be told.
+/// The milliseconds since a moment, or 0 if no time can be told.
 fn millis_since<R: Clock>(rt: &R, start: Option<Instant>) -> u64 {
     let Some(start) = start else {
         return 0;

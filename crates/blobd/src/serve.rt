@@ -37,7 +37,7 @@ const SLACK: usize = 4_194_304;
 /// Secrets of the system's random numbers.
 type SystemSecrets = DrawnSecrets<StdRng>;
 
-/// Whole seconds since a start; 0 where the clock can't be read, which the keeper takes as no time passed.
+/// Whole seconds since a start; 0 if the clock can't be read, which the keeper takes as no time passed.
 #[derive(Drop)]
 struct SinceStart<'a, R> {
     rt: &'a R,
@@ -133,6 +133,8 @@ fn conns_of<'a, R>(
 ) -> Result<Accepted<'a, R>, Lack>
 where
     R: AllocGlobal + Clock + Eprint + Wait,
+    ensures { IfOk result
+        (λ conns. (conns.left ≡ terms.count) × (conns.demand ≡ terms.demand)) }
 {
     let lines = lines_of(log)?;
     let Ok(closing) = closer.place() else {
@@ -205,7 +207,7 @@ fn took_all(ends: &Vec<WorkerEnd>, count: u64) -> bool
     true
 }
 
-/// How the workers ended: `Ok(true)` where each took all of its connections, and `Ok(false)` where one couldn't be
+/// How the workers ended: `Ok(true)` if each took all of its connections, and `Ok(false)` if one couldn't be
 /// taken.
 fn serve_all<'a, R>(
     rt: &'a R,
@@ -242,11 +244,11 @@ where
 /// Before it returns, the last connections are closed, for which it waits six seconds at most, and the lines of a log
 /// that still wait are written, for which it waits two.
 ///
-/// A fault is printed in place of the line that would come next, and has status 3: `fault: listen` where the local
-/// address can't be told, `fault: log` where a log is wanted and its thread can't be made or its lines find no memory,
-/// `fault: random` where a generator of secrets can't be made, `fault: workers` where the workers couldn't be started
+/// A fault is printed in place of the line that would come next, and has status 3: `fault: listen` if the local
+/// address can't be told, `fault: log` if a log is wanted and its thread can't be made or its lines find no memory,
+/// `fault: random` if a generator of secrets can't be made, `fault: workers` if the workers couldn't be started
 /// (once those that were started have ended, which each does behind the first request that comes to it), and
-/// `fault: accept` where a worker couldn't take a connection, once the others have ended too; that one is told on
+/// `fault: accept` if a worker couldn't take a connection, once the others have ended too; that one is told on
 /// standard error at once. A line that can't be printed ends the program with status 3.
 pub fn run_serve<'a, R, W>(rt: &'a R, listener: &'a TcpListener, terms: Terms, out: &mut W) -> u8
 where

@@ -22,7 +22,7 @@ const LINGER_ROOM: usize = 16_384;
 /// More reads than fit in that time.
 const LINGER_READS: u64 = 100_000_000;
 
-/// A socket whose reads are made again where a signal interrupted them.
+/// A socket whose reads are made again if a signal interrupted them.
 #[derive(Drop)]
 struct Resumed(TcpStream);
 

@@ -7,13 +7,13 @@ use std::fmt::Display;
 use std::io;
 use std::io::Write;
 
-/// The exit status where what the words asked for was done.
+/// The exit status if what the words asked for was done.
 pub const DONE: u8 = 0;
 
-/// The exit status where it was refused.
+/// The exit status if it was refused.
 pub const REFUSED: u8 = 1;
 
-/// The exit status where something that isn't the other side's answer went wrong.
+/// The exit status if something that isn't the other side's answer went wrong.
 pub const FAULT: u8 = 3;
 
 fn put_line<W: Write, D: Display + Drop>(out: &mut W, text: D) -> io::Result<()>
@@ -24,7 +24,7 @@ fn put_line<W: Write, D: Display + Drop>(out: &mut W, text: D) -> io::Result<()>
     out.flush()
 }
 
-/// Prints a text as a line, and gives the exit status that goes with it: this one, or [`FAULT`] where the line can't be
+/// Prints a text as a line, and gives the exit status that goes with it: this one, or [`FAULT`] if the line can't be
 /// printed.
 pub fn print_line<W: Write, D: Display + Drop>(out: &mut W, text: D, status: u8) -> u8
     ensures { IsPrinted (D.output text) (W.contents out.old) (W.contents out.new) status result }

@@ -27,7 +27,7 @@ fn hold_lowest(rt: &HostRuntime, options: &OpenOptions) -> io::Result<()> {
 /// Holds the numbers of the standard streams that are closed. Else the next socket got such a number, and what is
 /// written to standard error would go to a client. Reads and writes of a stream that was closed fail as before.
 ///
-/// An error comes where `/dev/null` can't be opened for a stream that is closed.
+/// An error comes if `/dev/null` can't be opened for a stream that is closed.
 pub fn hold_standard_streams(rt: &HostRuntime) -> io::Result<()> {
     // In this order the number of each is the lowest that is free.
     if is_closed(&rt.stdin()) {

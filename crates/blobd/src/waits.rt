@@ -80,7 +80,7 @@ const LONGEST_PAUSE: u64 = 2_000;
 /// The status of a server that can't serve now, which counts as nothing heard.
 const UNAVAILABLE: u16 = 503;
 
-/// How long to wait before the next request, in milliseconds, where that was `before` this one: not at all once
+/// How long to wait before the next request, in milliseconds, if that was `before` this one: not at all once
 /// something is heard, and else twice as long.
 pub fn pause_after(heard: &Option<Heard>, before: u64) -> u64
     ensures { result ≡ pause_after heard.now before }

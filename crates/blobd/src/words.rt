@@ -6,7 +6,7 @@ ghost use Rattle.blobd.specs.Words.{IsCount, IsSwitch, Makes};
 use crate::size::{USUAL_CHUNK, read_size};
 use std::net::SocketAddr;
 
-/// What is printed on standard error where the words are no command.
+/// What is printed on standard error if the words are no command.
 pub const USAGE: &str = "usage: blobd once | serve ADDR COUNT | push ADDR NAME FILE CHUNK";
 
 /// The most connections that one worker serves.
@@ -20,7 +20,7 @@ const MOST_WORKERS: u64 = 256;
 pub enum Command<'w> {
     /// One connection over standard input and output.
     Once,
-    /// Workers, each of which takes `count` connections at `addr`, or all that come where there is no count.
+    /// Workers, each of which takes `count` connections at `addr`, or all that come if there is no count.
     Serve {
         addr: SocketAddr,
         count: Option<u64>,
@@ -53,7 +53,7 @@ fn read_count(word: &str, most: u64) -> Option<u64>
     }
 }
 
-/// How many workers a server has, where the environment says so: from 1 to 256.
+/// How many workers a server has, if the environment says so: from 1 to 256.
 pub fn read_workers(value: &str) -> Option<u64>
     ensures { MatchOption result ((number : ℕ) → ¬ (IsCount 256 value.now number))
         (IsCount 256 value.now) }
@@ -69,7 +69,7 @@ fn read_addr(word: &str) -> Option<SocketAddr>
     word.parse().ok()
 }
 
-/// The command that the words behind the program's name make, or `None` where they make none. Nothing is opened.
+/// The command that the words behind the program's name make, or `None` if they make none. Nothing is opened.
 #[tactic(auto, using(crate::proofs::WordFacts::no_size))]
 pub fn read_words<'w>(words: &[&'w str]) -> Option<Command<'w>>
     ensures { MatchOption result ((command : Command) → ¬ (Makes words.now command))

@@ -28,7 +28,7 @@ fn reads_of(rt: &impl Abort, alloc: Global, text: &[u8], step: usize) -> (u64, C
     (reader.reads, end)
 }
 
-/// How long the body of one request is, and the reads that it takes where all of it has come: a read gives at most
+/// How long the body of one request is, and the reads that it takes if all of it has come: a read gives at most
 /// 65,536 bytes.
 static BODIES: [(usize, u64); 5] = [(0, 1), (3, 1), (65_000, 1), (65_536, 2), (200_000, 4)];
 

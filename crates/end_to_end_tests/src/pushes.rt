@@ -23,7 +23,7 @@ use upload_push::{Outcome, PushFault, Why, has_blob, push};
 use upload_service::{Answer, Ask, BlobBytes, Limits, Service};
 use upload_wire::NoObserver;
 
-/// Fails the test where a case doesn't hold. The macro's expansion is proved once, here.
+/// Fails the test if a case doesn't hold. The macro's expansion is proved once, here.
 fn check(rt: &impl Abort, holds: bool, premise: &str, case: &str) {
     assert!(rt; holds, "{premise}: {case}");
 }

@@ -55,7 +55,7 @@ read_nothing old more end fits =
     let len : length (take end old) ≡ end = omega (arith, length-take end old) in
     ap (λ k. take (k + 0) (take end old ++ more)) (sym len) ∙ take-append-add (take end old) more 0
 
--- the buffer's fields, where its window has these bytes
+-- the buffer's fields, if its window has these bytes
 pub record IsWindow (x : Inside) (held : List ℕ) : Type 0 where
   pub window : slice_range x.bytes.items x.start x.end ≡ held
   pub order : x.start ≤ x.end
@@ -88,7 +88,7 @@ window_grows x held new given n at more =
     grown x.bytes.items new given x.start x.end n at.order (omega (arith, fits, whole)) more
     ∙ ap (λ t. t ++ given) at.window
 
--- the window where the first bytes stayed
+-- the window if the first bytes stayed
 pub window_stays : (x : Inside) (held new : List ℕ) → IsWindow x held → take x.end new ≡ take x.end x.bytes.items
     → slice_range new x.start x.end ≡ held
 window_stays x held new at same =

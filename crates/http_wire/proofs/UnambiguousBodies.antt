@@ -116,7 +116,7 @@ no_proper_front t body more other x y some =
 
 -- ---- whole, refused and cut short
 
--- where the chunks and what was taken before keep the limit, no size line goes over it
+-- if the chunks and what was taken before keep the limit, no size line goes over it
 within_limit : (max have : ℕ) (cs ds : List Chunk) (zs digits a rest : List ℕ) → All IsChunk cs
     → All IsChunk ds → IsZero zs → IsSize digits → text_of cs zs ++ a ≡ chunks_text ds ++ (digits ++ (13 ∷ 10 ∷ rest))
     → have + length (chunks_data cs) ≤ max → max < have + (length (chunks_data ds) + digits_value 16 digits) → ⊥

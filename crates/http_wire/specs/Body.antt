@@ -19,7 +19,7 @@ use Rattle.http_wire.specs.declared.framing.Framing.TheVariants.{Length, Chunked
 unfoldable pub is_number : List ℕ → Bool
 is_number value = nat_lt 0 (length value) && list_all is_ascii_digit value
 
--- the number of the digits; unreadable where they are none, and too large above the limit
+-- the number of the digits; unreadable if they are none, and too large above the limit
 abbrev pub length_of : ℕ → List ℕ → Result ℕ Bad
 length_of max_body value =
     if is_number value then
@@ -126,7 +126,7 @@ pub record ExceedsLimit (max_body : ℕ) (text : List ℕ) : Type 0 where
   pub cut : text ≡ chunks_text chunks ++ (digits ++ (crlf_bytes ++ rest))
   pub over : max_body < length (chunks_data chunks) + digits_value 16 digits
 
--- a byte after which no continuation is a chunked text, where the bytes before it had one
+-- a byte after which no continuation is a chunked text, if the bytes before it had one
 pub record IsBroken (max_body : ℕ) (text : List ℕ) : Type 0 where
   pub before : List ℕ
   pub byte : ℕ

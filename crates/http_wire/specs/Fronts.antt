@@ -53,7 +53,7 @@ abbrev pub HasOnlyLongHeads : Words → List ℕ → Type 0
 HasOnlyLongHeads w text =
     (head : w.Head) (rest : List ℕ) → Reads w text head rest → max_fields < length (w.fields head)
 
--- A front that ends in a line feed may be refused where it has no head however it goes on, and where
+-- A front that ends in a line feed may be refused if it has no head however it goes on, and if
 -- it has over 65 line feeds and no head of at most 64 fields.
 abbrev pub MayBeRefused : Words → List ℕ → Type 0
 MayBeRefused w front =

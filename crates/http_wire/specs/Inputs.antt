@@ -21,7 +21,7 @@ pub record StaysOver {S : Type 0} (old new : Input S) : Type 0 where
   pub same_source : new.source.ghost_name ≡ old.source.ghost_name
   pub same_buffer : new.buffer.ghost_name ≡ old.buffer.ghost_name
 
--- it is over the same source and buffer, and there were at most so many reads; one failed where this holds, and none
+-- it is over the same source and buffer, and there were at most so many reads; one failed if this holds, and none
 -- else
 pub record ReadsAtMost {S : Type 0} (state : S → SourceState) (most : ℕ) (fails : Type 0)
     (old new : Input S) : Type 0 where

@@ -28,7 +28,7 @@ pub record Gave (old : InputState) (new : SourceState) (text : List ℕ) : Type 
   pub gives : Gives old.source new given
   pub joined : text ≡ old.held ++ given
 
--- there were at most so many reads; one failed where this holds, and none else
+-- there were at most so many reads; one failed if this holds, and none else
 pub record Costs (most : ℕ) (fails : Type 0) (old new : SourceState) : Type 0 where
   pub reads : CountsAtMost old.reads new.reads most
   pub failed : fails → CountsUp old.failed_reads new.failed_reads

@@ -19,7 +19,7 @@ BeginsWith w text (head h rest) = ReadsHead w text h rest
 BeginsWith w text long = IsTooLong w text
 BeginsWith w text unfinished = IsUnfinished w text
 
--- A text begins in one way. It may be refused too, but not where it begins with a head of at most 66 lines; one with
+-- A text begins in one way. It may be refused too, but not if it begins with a head of at most 66 lines; one with
 -- more has empty ones in front.
 pub record HeadsAreUnambiguous (w : Words) : Type 0 where
   pub one : (text : List ℕ) (parse other : HeadParse w) → BeginsWith w text parse

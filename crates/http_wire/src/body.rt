@@ -69,7 +69,7 @@ fn read_part<S: ByteSource, B: BodyBuffer>(
     Ok(count)
 }
 
-/// Moves so many bytes to the end of a body, which grows as they come, or all up to the end of the input where that
+/// Moves so many bytes to the end of a body, which grows as they come, or all up to the end of the input if that
 /// comes before them, which is `Truncated`.
 pub fn read_bytes<S: ByteSource, B: BodyBuffer>(
     input: &mut Input<'_, S>,

@@ -29,7 +29,7 @@ impl std::error::Error for Failed {}
 
 /// Where requests and replies are read from.
 pub trait ByteSource {
-    // The bytes that its reads have given, those that reads will give from here on, where they are known, and the
+    // The bytes that its reads have given, those that reads will give from here on, if they are known, and the
     // counts of its reads.
     ghost state: { Self → SourceState };
 
@@ -49,11 +49,11 @@ pub trait ByteSource {
 
 /// Where requests and replies are written to.
 pub trait ByteSink {
-    // The bytes that its writes have taken, those that it holds, where they are known, the counts of its writes and
-    // flushes, and whether all that was written was handed on, which is so at all times where it keeps nothing back.
+    // The bytes that its writes have taken, those that it holds, if they are known, the counts of its writes and
+    // flushes, and whether all that was written was handed on, which is so at all times if it keeps nothing back.
     ghost state: { Self → SinkState };
 
-    /// Writes some bytes from the front of `buf`, at least one where there is one, and says how many.
+    /// Writes some bytes from the front of `buf`, at least one if there is one, and says how many.
     /// `Failed` is any error of the write, and a write that takes none of the bytes that it is given.
     fn write(&mut self, buf: &[u8]) -> Result<usize, Failed>
         ensures bound { IfOk result (λ n. n ≤ length buf.now) }

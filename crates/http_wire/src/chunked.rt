@@ -48,7 +48,7 @@ pub enum ChunkRead {
     More,
     /// The end.
     Last,
-    /// Neither: `TooLarge` where its size takes the body over the limit, and else `Chunks`.
+    /// Neither: `TooLarge` if its size takes the body over the limit, and else `Chunks`.
     Refused(Bad),
 }
 

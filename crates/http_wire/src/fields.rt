@@ -11,7 +11,7 @@ use crate::elements::Elements;
 use crate::requests::ParsedRequest;
 use httparse::spans::HeaderSpan;
 
-/// How often a field stands in a head, with its value where it stands there once.
+/// How often a field stands in a head, with its value if it stands there once.
 #[derive(Clone, Copy)]
 pub enum Occurrence<'b> {
     Absent,
@@ -146,7 +146,7 @@ fn with_first<'b>(
     }
 }
 
-/// The value of the first field of that name, where there is one.
+/// The value of the first field of that name, if there is one.
 pub fn first_among<'b>(head: &'b [u8], headers: &[HeaderSpan], name: &[u8]) -> Option<&'b [u8]>
     requires { All (IsHeaderWithin (length head.now)) headers.now }
     ensures { option_map (λ v. v.now) result

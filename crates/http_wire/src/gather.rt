@@ -1,4 +1,4 @@
-//! The head of a message, gathered so that it leaves in one write where it is short.
+//! The head of a message, gathered so that it leaves in one write if it is short.
 ghost use Rattle.std.specs.Prelude.{◌≡◌, ◌++◌, ℕ, List, [], false, decimal, flat_map, IsTrue, OnOk};
 ghost use Rattle.http_wire.specs.States.{SinkState};
 ghost use Rattle.httparse.specs.Ascii.{crlf_bytes};
@@ -85,7 +85,7 @@ impl Gather {
         self.put(writer, b"\r\n");
     }
 
-    /// Puts the field that closes the connection, where it closes, and the empty line.
+    /// Puts the field that closes the connection, if it closes, and the empty line.
     pub fn put_end<W: ByteSink>(&mut self, writer: &mut W, keep: bool)
         ensures { Puts (W.state writer.old) self.old
             (W.state writer.new) self.new

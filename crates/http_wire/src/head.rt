@@ -52,8 +52,8 @@ pub trait Grammar {
         ensures { Judges spans front.now result };
 }
 
-/// The verdict on the front that ends at a byte, where so many lines ended before it. A head ends in a line
-/// feed, and one of 64 fields has 66 of them where no empty line stands in front of it: a front with as many
+/// The verdict on the front that ends at a byte, if so many lines ended before it. A head ends in a line
+/// feed, and one of 64 fields has 66 of them if no empty line stands in front of it: a front with as many
 /// that is no head is given up, so that a hostile head costs at most 66 verdicts.
 fn judge_at<G: Grammar>(text: &[u8], at: usize, lines: usize) -> Verdict<G::Parsed>
     requires lawful { AreLawful G.spans }
@@ -76,7 +76,7 @@ fn judge_at<G: Grammar>(text: &[u8], at: usize, lines: usize) -> Verdict<G::Pars
     }
 }
 
-/// How many lines ended up to a byte, where so many ended before it.
+/// How many lines ended up to a byte, if so many ended before it.
 pub fn lines_after(text: &[u8], at: usize, lines: usize) -> usize
     requires in_range { at < length text.now }
     requires short { at < MAX_HEAD }

@@ -22,7 +22,7 @@ impl fmt::Display for WriteFault {
 
 impl std::error::Error for WriteFault {}
 
-/// Writes all the bytes, in one write where the writer takes them so.
+/// Writes all the bytes, in one write if the writer takes them so.
 pub fn write_all<W: ByteSink>(writer: &mut W, bytes: &[u8]) -> Result<(), WriteFault>
     ensures { Wrote (W.state writer.old) (W.state writer.new) bytes.now result }
 {

@@ -184,7 +184,7 @@ struct Flags {
     left_answered: AtomicU64,
     right_called: AtomicU64,
     right_answered: AtomicU64,
-    /// Up where a gate gave up.
+    /// Up if a gate gave up.
     late: AtomicU64,
 }
 

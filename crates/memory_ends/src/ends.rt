@@ -17,7 +17,7 @@ pub struct MemorySource<'a> {
 }
 
 impl<'a> MemorySource<'a> {
-    /// The bytes, given at most `step` at a time; where `fails`, each read after them fails.
+    /// The bytes, given at most `step` at a time; if `fails`, each read after them fails.
     pub fn new(left: &'a [u8], step: usize, fails: bool) -> MemorySource<'a>
         requires { 0 < step }
         ensures left { result.left.now ≡ left.now }

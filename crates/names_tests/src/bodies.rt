@@ -128,7 +128,7 @@ fn read_at<P: HashPlace>(
     Ok(body.finish(place))
 }
 
-/// Whether a body is the content, and carries its hash where it was asked for.
+/// Whether a body is the content, and carries its hash if it was asked for.
 fn is_hashed(body: &Body, hashed: Option<Algorithm>, content: &[u8]) -> bool {
     carries(body, hashed)
         && holds(body, content)

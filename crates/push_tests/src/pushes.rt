@@ -20,7 +20,7 @@ use upload_push::{
 };
 use upload_service::{Answer, Ask, BlobBytes, Extent, Limits, Service};
 
-/// Fails the test where a case doesn't hold. The macro's expansion is proved once, here.
+/// Fails the test if a case doesn't hold. The macro's expansion is proved once, here.
 fn check(rt: &impl Abort, holds: bool, case: &str) {
     assert!(rt; holds, "{case}");
 }
@@ -195,7 +195,7 @@ fn held(alloc: Global, world: LossyWorld, digest: BlobDigest) -> Result<Option<V
     }
 }
 
-/// Whether the world's repository has the file where a push of it ended well. Beside other clients it has bytes of the
+/// Whether the world's repository has the file if a push of it ended well. Beside other clients it has bytes of the
 /// file's digest.
 fn is_as_promised(
     alloc: Global,
@@ -244,7 +244,7 @@ struct Scripted {
     end: End,
 }
 
-/// Whether a push asks and ends as its row says, and its file is there where the push says so.
+/// Whether a push asks and ends as its row says, and its file is there if the push says so.
 fn goes_by_script(alloc: Global, row: &Scripted) -> Result<bool, Fail> {
     if row.file.len() > 100 || row.tries > 10 {
         return Ok(false);

@@ -184,7 +184,7 @@ fn range(first: u64, last: u64) -> Option<ByteRange> {
     Some(ByteRange { first, last })
 }
 
-/// The request of a line. Its body, where it has one, carries a hash of that algorithm.
+/// The request of a line. Its body, if it has one, carries a hash of that algorithm.
 pub fn ask_of(alloc: Global, hashed: Hashed, line: Line) -> Result<Ask, Unmade> {
     let name = name(alloc, line.name)?;
     match line.word {

@@ -324,7 +324,7 @@ impl Watched {
         Ok(self.service.run_all(self.alloc, again)?)
     }
 
-    /// Whether the blob is stored, or the upload open, just where the answer tells it.
+    /// Whether the blob is stored, or the upload open, just if the answer tells it.
     fn is_as_answered(&self, answer: &Answer, line: Line) -> bool {
         let seen = self.look();
         let is_done = match line.told {

@@ -621,6 +621,20 @@ fn bodies_of_several_parts_are_one_blob(rt: HostRuntime) -> Result<(), Fail> {
     Ok(())
 }
 
+/// What a hash has caught up with is no work for a thread: there is nothing to wait for.
+#[test]
+fn a_hash_that_has_caught_up_is_done(rt: HostRuntime) -> Result<(), Fail> {
+    let alloc = rt.alloc();
+    let content = pattern(alloc, 900_000)?;
+    let mut upload = Upload::begin(alloc, WAYS[0])?;
+    assert!(rt; upload.takes(content.as_slice())?);
+    let at = reference(ONE);
+    upload.service.catch_up(&at);
+    let end = upload.service.hash_for_close(&rt, &at, Algorithm::Sha256);
+    assert!(rt; end.is_none());
+    Ok(())
+}
+
 #[test]
 fn a_hash_that_is_waited_for_is_done(rt: HostRuntime) -> Result<(), Fail> {
     let alloc = rt.alloc();

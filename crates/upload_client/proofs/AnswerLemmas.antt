@@ -242,9 +242,9 @@ module _ (h : Bool) (held body : List ℕ) (old : SourceState) (new : InputState
             }) said kept;
       }
 
--- ---- the same, where the head was sliced and then taken out of the buffer
+-- ---- the same, if the head was sliced and then taken out of the buffer
 
--- where the framing of the sliced head is that of the head at the front
+-- if the framing of the sliced head is that of the head at the front
 framing_at : (h : Bool) (held slice : List ℕ) (p : ParsedResponse) (r : Result ResponseFraming FramingFault)
     → slice ≡ held
     → r ≡ response_framing_of max_answer h p.spans.code (fields_of response_spans (take p.spans.len slice) p)

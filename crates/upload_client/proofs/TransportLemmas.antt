@@ -20,7 +20,7 @@ hears_same (Err fault) true head old mid new heard same h =
     (h.0, subst (λ r. ReadsReply head r h.0 new.reader) same h.1, h.2, h.3)
 hears_same (Err fault) false head old mid new heard same h = (h.0, h.1 ∙ same, h.2)
 
--- a request that was written and what was heard behind it, where the host and the body were sliced
+-- a request that was written and what was heard behind it, if the host and the body were sliced
 pub exchanges : (old mid between new : WireState) (ask : Ask) (host body : List ℕ) (goes empty head : Bool)
     (sent : SinkState) (written : Result ⊤ WriteFault) (heard : Option Heard)
     → mid ≡ old → goes ≡ stays_open old → goes ≡ true → host ≡ mid.host → new.host ≡ mid.host

@@ -51,7 +51,7 @@ abbrev pub code_in : Data → Option (List ℕ)
 code_in d =
     option_and_then as_str (option_and_then (get (codes "code")) (option_and_then (at 0) (get (codes "errors") d)))
 
--- the first error code of a body, where it is JSON
+-- the first error code of a body, if it is JSON
 abbrev pub code_of : List ℕ → Option (List ℕ)
 code_of body = if is_utf8 body then option_and_then code_in (read body) else None
 
@@ -140,7 +140,7 @@ abbrev pub HoldsNoReply : Bool → List ℕ → Type 0
 HoldsNoReply head_only text =
     IsUnfinished responses text ⊎ (HasCutReplyBody head_only text ⊎ HasOpenBody head_only text)
 
--- What was found in the text, where the reader's input is left as new. Behind a fault nothing is said of whether the
+-- What was found in the text, if the reader's input is left as new. Behind a fault nothing is said of whether the
 -- connection stays.
 abbrev pub FindsAnswer : Bool → List ℕ → InputState → Result Heard HeardFault → Bool → Type 0
 FindsAnswer head_only text new (Ok heard) keep = TellsHeard head_only text new heard keep

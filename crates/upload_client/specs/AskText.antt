@@ -57,7 +57,7 @@ ask_body_fields body = (codes "Content-Type", codes "application/octet-stream") 
 abbrev pub range_text : Span → List ℕ
 range_text range = decimal range.first ++ (codes "-" ++ decimal range.last)
 
--- Content-Range, where a range is given
+-- Content-Range, if a range is given
 abbrev pub content_range_fields : Extent → List HeadField
 content_range_fields Absent = []
 content_range_fields Bad = []
@@ -68,7 +68,7 @@ abbrev pub digest_or_nothing : Option Digest → List ℕ
 digest_or_nothing None = []
 digest_or_nothing (Some digest) = digest_text digest
 
--- digest=<digest>, where there is one
+-- digest=<digest>, if there is one
 abbrev pub digest_query : Option Digest → Option (List ℕ)
 digest_query None = None
 digest_query (Some digest) = Some (codes "digest=" ++ digest_text digest)

@@ -16,7 +16,7 @@ use Rattle.upload_texts.specs.Errors.{refusal_status, refusal_code, code_text}
 use Rattle.upload_texts.specs.declared.error.ErrorCode.TheVariants.{BlobUploadInvalid}
 use Rattle.upload_client.specs.declared.heard.Heard.{Heard}
 
--- the last position below the next offset, where there is one
+-- the last position below the next offset, if there is one
 abbrev pub last_below : ℕ → Option ℕ
 last_below next = if next == 0 then None else Some (next - 1)
 

@@ -66,7 +66,7 @@ awaited (Err fault) true = a_refusal
 awaited (Err fault) false = no_reply
 
 -- What is heard of what is awaited. One reply is read and heard, and a fault of it breaks the transport. If a write
--- failed the transport is broken in any case; where a refusal is awaited one reply is read all the same, and a refusal
+-- failed the transport is broken in any case; if a refusal is awaited one reply is read all the same, and a refusal
 -- is heard and nothing else.
 abbrev pub HearsBehind : Awaited → Bool → WireState → Option Heard → WireState → Type 0
 HearsBehind a_reply head_only old heard new =
@@ -77,7 +77,7 @@ HearsBehind a_refusal head_only old heard new =
     × (new.broken ≡ true)
 HearsBehind no_reply head_only old heard new = (heard ≡ None) × (new.reader ≡ old.reader) × (new.broken ≡ true)
 
--- the request was written and handed on, or a front of it was written where a write failed, and this was heard behind
+-- the request was written and handed on, or a front of it was written if a write failed, and this was heard behind
 -- it
 pub record Exchanges (old : WireState) (ask : Ask) (heard : Option Heard) (new : WireState) : Type 0 where
   pub written : Result ⊤ WriteFault
@@ -90,7 +90,7 @@ pub record Exchanges (old : WireState) (ask : Ask) (heard : Option Heard) (new :
 abbrev pub broken_of : WireState → WireState
 broken_of wire = record { reader = wire.reader; writer = wire.writer; host = wire.host; broken = true }
 
--- where more can't be asked nothing is written, read or heard, and the transport is broken
+-- if more can't be asked nothing is written, read or heard, and the transport is broken
 abbrev pub AsksWhere : Bool → WireState → Ask → Option Heard → WireState → Type 0
 AsksWhere true old ask heard new = Exchanges old ask heard new
 AsksWhere false old ask heard new = (heard ≡ None) × (new ≡ broken_of old)

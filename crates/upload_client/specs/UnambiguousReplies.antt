@@ -16,7 +16,7 @@ pub data ReplyParse : Type 0 where
   too_large : ReplyParse
   cut : ReplyParse
 
--- The text is read so, as the reply to a HEAD or to another request, where the source is left as new.
+-- The text is read so, as the reply to a HEAD or to another request, if the source is left as new.
 abbrev pub ParsesAsReply : Bool → List ℕ → SourceState → ReplyParse → Type 0
 ParsesAsReply head_only text new (heard what keep rest) = TellsHeard head_only text (input_state rest new) what keep
 ParsesAsReply head_only text new refused = IsRefused responses text
@@ -27,7 +27,7 @@ ParsesAsReply head_only text new too_large =
     IsTooLong responses text ⊎ (HasFramingFault head_only text Fault.TooLarge ⊎ HasLongBody head_only text)
 ParsesAsReply head_only text new cut = IsUnfinished responses text ⊎ HasCutReplyBody head_only text
 
--- A text is read in one way, but that its head may be refused too; and it is not where it begins with one of at most 66
+-- A text is read in one way, but that its head may be refused too; and it is not if it begins with one of at most 66
 -- lines.
 pub record RepliesAreUnambiguous : Type 0 where
   pub one : (head_only : Bool) (text : List ℕ) (new : SourceState) (parse other : ReplyParse)

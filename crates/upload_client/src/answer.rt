@@ -221,7 +221,7 @@ impl<S: ByteSource> AnswerReader<S> {
         })
     }
 
-    /// Reads the reply to one request, whose method was HEAD where `head`, and takes just its bytes.
+    /// Reads the reply to one request, whose method was HEAD if `head`, and takes just its bytes.
     /// The faults come in this order, and after one every call answers `Ended` and reads nothing:
     ///
     /// - `Unreadable`, `TooLarge` or `Truncated` for a head that is none, that has over 16,384 bytes,
@@ -232,8 +232,8 @@ impl<S: ByteSource> AnswerReader<S> {
     ///   length that goes on behind 65,536;
     /// - `Unreadable` for a Location that is no URI, and then for a Range that isn't one from 0.
     ///
-    /// `Read` comes only where a read failed in this call, before the reply had come whole, and
-    /// `NoMemory` where a growth was refused.
+    /// `Read` comes only if a read failed in this call, before the reply had come whole, and
+    /// `NoMemory` if a growth was refused.
     pub fn next_answer(&mut self, head: bool) -> Result<Heard, HeardFault>
         ensures ended { self.old.ended ≡ true
             → (result ≡ Err HeardFault.Ended) × (self.new ≡ self.old) }

@@ -15,7 +15,7 @@ use upload_service::{Ask, Extent};
 use upload_texts::put_parts;
 
 /// Writes an ask as a request to the host, and flushes it. The head leaves in one write if it has at most 1,024 bytes,
-/// with the body if that fits too, and a larger body from its own memory. `WriteFault` comes only where a write or the
+/// with the body if that fits too, and a larger body from its own memory. `WriteFault` comes only if a write or the
 /// flush failed; what was written then is a front of the request. It takes no memory.
 ///
 /// The ask isn't `Refused`, its range isn't `Bad`, and the host has at least one byte, all of them
@@ -242,7 +242,7 @@ fn put_mounted<W: ByteSink>(
     head.put(writer, source.as_str().as_bytes());
 }
 
-/// Puts the query of a close, where it has a digest.
+/// Puts the query of a close, if it has a digest.
 fn put_query<W: ByteSink>(head: &mut Gather, writer: &mut W, digest: &Option<BlobDigest>)
     ensures { Puts (W.state writer.old) head.old
         (W.state writer.new) head.new (query_text (digest_query digest.now)) }
@@ -295,7 +295,7 @@ fn put_upload_section<W: ByteSink>(head: &mut Gather, writer: &mut W, range: &Ex
     put_body_fields(head, writer, len)
 }
 
-/// Puts the field of a range, where one is given.
+/// Puts the field of a range, if one is given.
 fn put_range_field<W: ByteSink>(head: &mut Gather, writer: &mut W, range: &Extent)
     requires { IsAbsentOrGiven range.now }
     ensures { Puts (W.state writer.old) head.old

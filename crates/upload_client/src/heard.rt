@@ -15,11 +15,11 @@ use upload_texts::{ErrorCode, refusal_code, refusal_status};
 pub struct Heard {
     /// The status, from 200 to 999.
     pub status: u16,
-    /// The path of the Location, where there is one.
+    /// The path of the Location, if there is one.
     pub place: Option<Bytes>,
-    /// The last position of a Range that begins at 0, where there is one.
+    /// The last position of a Range that begins at 0, if there is one.
     pub upto: Option<u64>,
-    /// The first error code of the body, where there is one.
+    /// The first error code of the body, if there is one.
     pub code: Option<Bytes>,
 }
 
@@ -204,7 +204,7 @@ fn path_of(alloc: Global, name: &RepoName, kind: &[u8], tail: &[u8]) -> Result<B
     Ok(Bytes::of(path))
 }
 
-/// The reference in a path of the form `/v2/<name>/blobs/uploads/<reference>`, where the name is this
+/// The reference in a path of the form `/v2/<name>/blobs/uploads/<reference>`, if the name is this
 /// one and the reference is readable; else `None`. It takes no memory.
 pub fn read_place(path: &[u8], name: &RepoName) -> Option<UploadRef>
     ensures { result ≡ place_in path.now name.now }

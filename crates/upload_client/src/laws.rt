@@ -8,7 +8,7 @@ pub fn written_places_are_read()
 {}
 
 /// A text is read in one way: as one reply, of which one thing is heard, and what stands behind it, or as unreadable,
-/// too large or cut short. Only its head may be refused too, and not where it begins with one of at most 66 lines.
+/// too large or cut short. Only its head may be refused too, and not if it begins with one of at most 66 lines.
 pub fn replies_are_unambiguous()
     ensures { RepliesAreUnambiguous }
 {}

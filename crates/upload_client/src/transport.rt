@@ -42,7 +42,7 @@ pub trait Transport {
     // What one ask may do: the state before it, the ask, what is heard, and the state after it.
     ghost asked: { Self → Ask → Option Heard → Self → Type 0 };
 
-    /// Asks, and says what was heard, or `None` where no reply was. The ask isn't `Refused`, and its
+    /// Asks, and says what was heard, or `None` if no reply was. The ask isn't `Refused`, and its
     /// range isn't `Bad`.
     fn ask(&mut self, ask: Ask) -> Option<Heard>
         requires { CanBeWritten ask }

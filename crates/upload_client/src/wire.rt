@@ -17,11 +17,11 @@ use upload_names::Bytes;
 use upload_service::Ask;
 
 /// Asks as requests over a writer, and hears the replies of a reader. After a fault of either, behind a reply that
-/// doesn't keep the connection, and where a byte was read before the next request was written, it writes nothing and
+/// doesn't keep the connection, and if a byte was read before the next request was written, it writes nothing and
 /// hears nothing.
 ///
-/// A server may refuse a request before it was sent whole, and close. So where a write failed of a request with a body,
-/// one reply is read all the same, and heard where it is a refusal: 4xx, but neither 408 nor 416.
+/// A server may refuse a request before it was sent whole, and close. So if a write failed of a request with a body,
+/// one reply is read all the same, and heard if it is a refusal: 4xx, but neither 408 nor 416.
 #[derive(Drop)]
 pub struct WireTransport<S: ByteSource, W: ByteSink> {
     reader: AnswerReader<S>,

@@ -150,7 +150,7 @@ all_more P (y ∷ ys) x h p = (h.0, all_more P ys x h.1 p)
 less_unless : (a b : ℕ) → (b ≤ a → ⊥) → a < b
 less_unless a b never = ⊎_elim (λ t. absurd (never (leb-true b a t))) (λ f. leb-false b a f) (is_either (leb b a))
 
--- a fact of each place and its line, where one line was set
+-- a fact of each place and its line, if one line was set
 each_set : (F : ℕ → ReplyLine → Type 0) (lines : List ReplyLine) (at : ℕ) (line : ReplyLine)
     → at < length lines → F at line
     → ((seat : ℕ) (d : ReplyLine) → seat < length lines → (seat == at) ≡ false → F seat (get_or lines seat d))
@@ -182,7 +182,7 @@ module _ (old : Ledger) (j j' : LineView Message) (lines : List ReplyLine) (k : 
       ap (λ v. has_finish (items_of seat v.taken)) took.0 ∙ ap has_finish (items_of-append seat j.taken (x ∷ []))
       ∙ has_finish-append (items_of seat j.taken) (items_of seat (x ∷ [])) f
 
-  -- what is kept of the seats, where the line of one was set
+  -- what is kept of the seats, if the line of one was set
   after : (new : Ledger) (line : ReplyLine) (log : List Step) (lines' : List ReplyLine) → lines' ≡ set lines x.seat line
       → log ≡ new.steps → Keeps new j'.taken → AreOfSeats (length lines) new.steps → KeepsSeat x.seat new.steps j' line
       → ((seat : ℕ) (d : ReplyLine) → seat < length lines → (seat == x.seat) ≡ false

@@ -186,7 +186,7 @@ module _ {T : Type 0} where
       (λ (x : (j ≡ length views) × (w ≡ u)). subst (λ (y : ℕ × LineView T). F y.0 y.1) (λ i. (sym x.0 i, x.1 i)) new)
       (at_more views w u j e)
 
-  -- what is kept where the next seat's sender is cut off, and what is cut off
+  -- what is kept if the next seat's sender is cut off, and what is cut off
   kept : (seat : ℕ) (k : Sending T) → sends seat (after k) ≡ true
       → (sends seat k ≡ true) × (sent (after k) ≡ sent k) × (sends seat (next k) ≡ true → ⊥)
   kept seat (AllFrom first) p =

@@ -38,7 +38,7 @@ nothing_after (message.Job a s ∷ xs) ys f c = nothing_after xs ys f c
 nothing_after (message.Hash a b ∷ xs) ys f c = nothing_after xs ys f c
 nothing_after (message.Finish ∷ xs) ys f c = empty xs ys c
 
--- where the finish was taken, everything was
+-- if the finish was taken, everything was
 all_taken : (seat : ℕ) (taken waiting : List (Item Message)) (sent : List Message)
     → sent ≡ items_of seat (taken ++ waiting) → is_closed sent ≡ true → has_finish (items_of seat taken) ≡ true
     → items_of seat taken ≡ sent

@@ -59,7 +59,7 @@ module _ {G D : Type 0} (watches : Watching G) (step : Moves D) (gate : D → Ga
       (by_answers c.exchanges old.desk c.at c.served.answered)
       (by_end max_body (stand (length c.exchanges) c.rest c.at c.mid) new end c.ended there)
 
-  -- what is told where the desk was gone
+  -- what is told if the desk was gone
   abbrev pub Lost : D → List WireExchange → List Ask → D → Type 0
   Lost old xs asks new =
       (mid : GateAt G) × WatchesEach watches (gate old) xs mid × WatchesLast watches mid asks (gate new).gate

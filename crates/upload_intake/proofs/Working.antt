@@ -218,7 +218,7 @@ module _ {D : Type 0} (step : Moves D) (max_body : ℕ) (s : wire.Standing D) (n
 -- ---- the history
 
 module _ {L : Lending} {S G O : Type 0} (m : Means L S G O) (max_body : ℕ) where
-  -- what a worker has served where it goes on
+  -- what a worker has served if it goes on
   abbrev pub SoFar : L.Conns → SeatState × S → List (Talk m max_body) → L.Conns → SeatState × S → Type 0
   SoFar conns desk [] conns' desk' = (conns' ≡ conns) × (desk' ≡ desk)
   SoFar conns desk (t ∷ ts) conns' desk' =

@@ -19,8 +19,8 @@ abbrev pub HaveMemory : List Step → Type 0
 HaveMemory steps = AllByRecursion (λ (s : Step). s.exchange.answer ≢ NoMemory) steps
 
 -- What two services from the same state served in the same order: the same answers were given, and the same service is
--- left, where memory wasn't wanting. What two workers of one seat read and replied on all their connections is the same
--- where the same steps are theirs, and no desk was gone.
+-- left, if memory wasn't wanting. What two workers of one seat read and replied on all their connections is the same
+-- if the same steps are theirs, and no desk was gone.
 pub record ServedOrdersAreDetermined : Type 0 where
   pub by_order : (start one two : State) (steps others : List Step)
       → IsServed start (exchanges_of steps) one → IsServed start (exchanges_of others) two

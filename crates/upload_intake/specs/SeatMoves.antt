@@ -5,7 +5,7 @@ use Rattle.upload_service.specs.declared.answer.Answer.{Answer}
 use Rattle.upload_intake.specs.declared.gone.Gone.{Gone}
 use Rattle.upload_intake.specs.Seats.{SeatState, Asks}
 
--- one call of the seat with a drawn secret, over a seat with its secrets; the answer is none where the call ended Gone
+-- one call of the seat with a drawn secret, over a seat with its secrets; the answer is none if the call ended Gone
 abbrev pub AsksWithDrawn : {S : Type 0} → (S → List ℕ → S → Type 0) → SeatState × S → Ask → Option Answer
     → SeatState × S → Type 0
 AsksWithDrawn draws old ask (Some answer) new =

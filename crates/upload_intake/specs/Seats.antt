@@ -18,7 +18,7 @@ pub record SeatState : Type 0 where
   pub heard : List Answer
   pub gone : Bool
 
--- One call of `ask`. An answer comes only where no call ended Gone; it adds the job and the answer. NotSent gives the
+-- One call of `ask`. An answer comes only if no call ended Gone; it adds the job and the answer. NotSent gives the
 -- same ask back and adds nothing. NoAnswer adds the job alone. After both the seat is gone.
 abbrev pub Asks : SeatState → Ask → List ℕ → Result Answer Gone → SeatState → Type 0
 Asks old ask secret (Ok answer) new =

@@ -17,7 +17,7 @@ pub record GateAt (G : Type 0) : Type 0 where
   pub turn : ℕ
 
 module _ {G : Type 0} (watches : Watching G) where
-  -- One request: the gate is told of it at the next turn, and of its answer where there is one.
+  -- One request: the gate is told of it at the next turn, and of its answer if there is one.
   abbrev pub WatchesOne : GateAt G → Ask → Option Answer → GateAt G → Type 0
   WatchesOne old ask (Some answer) new =
       (new.turn ≡ next_turn old.turn)

@@ -10,13 +10,13 @@ pub trait Conns {
     /// What the replies are written to.
     type Out: ByteSink + Send + Drop;
 
-    // Holds of the state before, the connection that is given, or none where no more come, and the state after.
+    // Holds of the state before, the connection that is given, or none if no more come, and the state after.
     ghost gives: { Self → Option (Self.In × Self.Out) → Self → Type 0 };
 
     // Holds of the state before, the connection that is given back, and the state after.
     ghost takes_back: { Self → Self.In × Self.Out → Self → Type 0 };
 
-    /// The next connection, or None where no more come.
+    /// The next connection, or None if no more come.
     fn next_conn(&mut self) -> Option<(Self::In, Self::Out)>
         ensures { gives self.old result self.new };
 

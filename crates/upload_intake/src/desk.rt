@@ -5,7 +5,7 @@ use std::sync::Wait;
 use upload_service::{Answer, Ask};
 use upload_wire::Desk;
 
-/// A seat that is asked with drawn secrets. It answers None where the seat's call ended `Gone`.
+/// A seat that is asked with drawn secrets. It answers None if the seat's call ended `Gone`.
 #[derive(Drop)]
 pub struct SeatDesk<'a, R: Wait, S> {
     rt: &'a R,

@@ -220,7 +220,7 @@ fn are_done(lines: &Vec<ReplyLine>) -> bool
     true
 }
 
-// The session whose chunk was taken, where the answer says so.
+// The session whose chunk was taken, if the answer says so.
 fn session_that_took(answer: &Answer) -> Option<UploadRef> {
     match answer {
         Answer::Taken { at, .. } => Some(*at),

@@ -10,7 +10,7 @@ use crate::secrets::Secrets;
 use upload_wire::Observer;
 
 /// Of every conversation over a seat with these secrets: its asks, in order, are what was added to what the seat sent,
-/// and its answers are what was added to what it heard. The last ask was given back unsent, or got no answer, where the
+/// and its answers are what was added to what it heard. The last ask was given back unsent, or got no answer, if the
 /// desk was gone.
 pub fn conversations_fill_the_seat<S: Secrets>()
     ensures { ConversationsFillTheSeat S.draws }
@@ -26,7 +26,7 @@ pub fn transcripts_tell_connections<C: Conns, S: Secrets, G: Gate, O: Observer>(
 
 /// Two services that begin in the same state, and serve the same jobs of the same seats in the same order, with the
 /// same secrets and at the same moments, give the same answers and are left the same, unless memory was wanting. So
-/// what a worker's conversations asked and were answered is determined by that order, where its desk wasn't gone.
+/// what a worker's conversations asked and were answered is determined by that order, if its desk wasn't gone.
 pub fn served_orders_are_determined()
     ensures { ServedOrdersAreDetermined }
 {}

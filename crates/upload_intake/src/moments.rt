@@ -6,7 +6,7 @@ pub trait Moments {
     // Holds of the state before the clock is asked, the moment that it tells, and the state after.
     ghost tells: { Self → ℕ → Self → Type 0 };
 
-    /// The moment, in seconds from a start of one's own. A keeper never goes back: where this falls, it stays at the
+    /// The moment, in seconds from a start of one's own. A keeper never goes back: if this falls, it stays at the
     /// moment before.
     fn now(&mut self) -> u64
         ensures { tells self.old result self.new };

@@ -220,8 +220,8 @@ where
 /// and handed back, as is all that each worker was lent. What a worker reads through is taken before, once for all its
 /// connections.
 ///
-/// `NoMemory` comes where the workers' buffers or the lines found no memory: no worker was started. All memory that the
-/// pool itself needs is taken before the first one is, so that what was served isn't lost. `NoThread` comes where a
+/// `NoMemory` comes if the workers' buffers or the lines found no memory: no worker was started. All memory that the
+/// pool itself needs is taken before the first one is, so that what was served isn't lost. `NoThread` comes if a
 /// worker couldn't be started, once those that were started have ended. They may wait for a connection: the first that
 /// asks something ends `DeskGone`, and its worker takes no more. After either the service, the clock and the workers
 /// are dropped.

@@ -102,8 +102,8 @@ impl Seat {
     /// Sends a request to the keeper, and waits for the answer. Before a close with a digest it waits for the hash of
     /// what the upload received, while the keeper serves others.
     ///
-    /// `NotSent` comes only where the line handed the request back or an earlier call ended `Gone`. `NoAnswer` comes
-    /// only where no answer came after the request was sent.
+    /// `NotSent` comes only if the line handed the request back or an earlier call ended `Gone`. `NoAnswer` comes
+    /// only if no answer came after the request was sent.
     pub fn ask<R: Wait>(&mut self, rt: &R, ask: Ask, secret: [u8; 12]) -> Result<Answer, Gone>
         ensures { Asks self.old ask secret result self.new }
     {

@@ -17,7 +17,7 @@ range_cap = 10 ^ 18
 abbrev pub IsSpan : Span → Type 0
 IsSpan span = (span.first ≤ range_cap) × (span.last ≤ range_cap)
 
--- how many positions a range has, or None where its last is before its first
+-- how many positions a range has, or None if its last is before its first
 abbrev pub span_length : Span → Option ℕ
 span_length span = if nat_lt span.last span.first then None else Some (span.last - span.first + 1)
 
@@ -26,7 +26,7 @@ pub record IsNumeral (text : List ℕ) : Type 0 where
   pub filled : 0 < length text
   pub digits : IsTrue (list_all is_ascii_digit text)
 
--- the number that digits spell, or the largest that a range keeps where they spell a larger one
+-- the number that digits spell, or the largest that a range keeps if they spell a larger one
 abbrev pub capped_value : List ℕ → ℕ
 capped_value digits = min (digits_value 10 digits) range_cap
 

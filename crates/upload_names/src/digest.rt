@@ -174,7 +174,7 @@ fn are_lower_digits(text: &[u8]) -> bool
     text.iter().all(|byte| is_lower_digit(*byte))
 }
 
-/// What stands behind the prefix, where the text has it.
+/// What stands behind the prefix, if the text has it.
 fn behind<'t>(prefix: &[u8], text: &'t [u8]) -> Option<&'t [u8]>
     ensures { MatchOption result ((rest : List ℕ) → text.now ≢ prefix.now ++ rest)
         (λ rest. text.now ≡ prefix.now ++ rest.now) }
@@ -182,7 +182,7 @@ fn behind<'t>(prefix: &[u8], text: &'t [u8]) -> Option<&'t [u8]>
     text.strip_prefix(prefix)
 }
 
-/// The bytes that lower case digits spell, where they spell exactly `N`.
+/// The bytes that lower case digits spell, if they spell exactly `N`.
 fn read_digits<const N: usize>(digits: &[u8]) -> Option<[u8; N]>
     ensures { result ≡ digits_read N digits.now }
 {

@@ -161,7 +161,7 @@ impl RepoName {
 }
 
 /// The law that the tests of `specs/NamePass.antt` decide the definitions: a text is of the grammar, or a name,
-/// exactly where the computed test is true.
+/// exactly if the computed test is true.
 pub fn names_are_decided()
     ensures grammar { (text : List ℕ) → IsTrue (is_in_grammar text) ↔ IsInGrammar text }
     ensures names { (text : List ℕ) → IsTrue (is_name text) ↔ IsName text }

@@ -89,7 +89,7 @@ impl FromStr for ByteRange {
     }
 }
 
-/// The number that digits spell, or the largest that a range keeps where they spell a larger one. `None`: the text
+/// The number that digits spell, or the largest that a range keeps if they spell a larger one. `None`: the text
 /// isn't one or more digits.
 fn read_number(digits: &[u8]) -> Option<u64>
     ensures { result ≡ numeral_value digits.now }
@@ -125,7 +125,7 @@ impl ByteRange {
         Some(ByteRange { first, last })
     }
 
-    /// How many positions the range has, or `None` where its last is before its first.
+    /// How many positions the range has, or `None` if its last is before its first.
     pub fn length(&self) -> Option<u64>
         ensures { result ≡ span_length self.now }
     {

@@ -103,7 +103,7 @@ unheard_falls p s (Done outcome) is lawful within =
 unheard_falls p s (GaveUp why) is lawful within =
     let same = ap (left_in_try p) is in omega (arith, same)
 
--- what is left where the server names an offset
+-- what is left if the server names an offset
 pub send_from_left : (p : Plan) (at : List ℕ) (offset : ℕ) → IsLawfulPlan p
     → left_in_try p (send_from p at offset) ≤ chunks p.size p.chunk + 1
 send_from_left p at offset lawful =

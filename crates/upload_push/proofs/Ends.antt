@@ -25,7 +25,7 @@ some_is : {A : Type 0} (o : Option A) → IsSome o → (x : A) × (o ≡ Some x)
 some_is None e = cc
 some_is (Some x) e = (x, refl)
 
--- where a lawful service has the pair, the bytes have the digest
+-- if a lawful service has the pair, the bytes have the digest
 pub there_by_pair : (p : Push) (s : State) → IsLawful s → IsTrue (holds s p.name p.digest) → IsThere p s
 there_by_pair p s lawful pair =
     let found = some_is (map.get s.blobs p.digest) (lawful.stored p.name p.digest pair) in
@@ -89,7 +89,7 @@ close_leaves_pair p s now secret at answer new turn is_201 =
     close_shows p s now secret at answer new (λ t. IsTrue (holds t p.name p.digest))
     (λ session is. contains-insert_same s.pairs (p.name, p.digest)) turn is_201
 
--- where the upload is the push's own, the file is there
+-- if the upload is the push's own, the file is there
 pub close_leaves_file : (p : Push) (s : State) (now : ℕ) (secret at : List ℕ) (offset : ℕ) (answer : Answer)
     (new : State) → IsUpload p.file s (Some at) offset → offset ≡ length p.file
     → Turn s (asks.Close p.name at Absent (Some p.digest) []) secret now answer new → (reply_heard answer).status ≡ 201

@@ -25,18 +25,18 @@ new_wire host remaining contents = record {
 abbrev pub IsNew : List ℕ → WireState → Type 0
 IsNew host wire = (remaining contents : Option (List ℕ)) × (wire ≡ new_wire host remaining contents)
 
--- The connection for one ask: the one that was kept, or else a new one, or none where it can't be made.
+-- The connection for one ask: the one that was kept, or else a new one, or none if it can't be made.
 abbrev pub Connects : List ℕ → Option WireState → Option WireState → Type 0
 Connects host (Some wire) found = found ≡ Some wire
 Connects host None (Some wire) = IsNew host wire
 Connects host None None = ⊤
 
--- a connection is kept where more can be asked over it; else there is what was there before
+-- a connection is kept if more can be asked over it; else there is what was there before
 abbrev pub kept_or : Option WireState → WireState → Option WireState
 kept_or before wire = if stays_open wire then Some wire else before
 
 -- One ask of a push, from the connection that was kept before it to the one that is kept behind it. Where there is a
--- connection, this was heard over it; where there is none, nothing was heard.
+-- connection, this was heard over it; if there is none, nothing was heard.
 abbrev pub AsksDialed : List ℕ → Option WireState → Ask → Option Heard → Option WireState → Type 0
 AsksDialed host before ask heard behind =
     ((wire new : WireState) × Connects host before (Some wire) × AsksOverWire wire ask heard new

@@ -54,7 +54,7 @@ AreOwn [] = Unit {0}
 AreOwn (Other ask ∷ events) = ⊥
 AreOwn (event ∷ events) = AreOwn events
 
--- where there is no other client, the premise holds
+-- if there is no other client, the premise holds
 abbrev pub AloneIsQuiet : Type 0
 AloneIsQuiet = (name : List ℕ) (events : List Event) (log : List Attempt) → AreOwn events → IsQuiet name events log
 

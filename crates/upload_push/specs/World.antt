@@ -37,7 +37,7 @@ abbrev pub world_later : World → ℕ → List Event → World
 world_later w seconds events =
     record { service = w.service; secret = w.secret; now = moment_after w.now seconds; events = events }
 
--- a reply is heard as what it says, or, where memory is wanting, not at all
+-- a reply is heard as what it says, or, if memory is wanting, not at all
 abbrev pub Reaches : Answer → Option Heard → Type 0
 Reaches answer heard = (heard ≡ Some (reply_heard answer)) ⊎ (heard ≡ None)
 
@@ -69,7 +69,7 @@ AskedBy w [] ask heard new = IsDelivered w [] ask heard new
 abbrev pub Asked : World → Ask → Option Heard → World → Type 0
 Asked w ask heard new = AskedBy w w.events ask heard new
 
--- what becomes of a request, where nothing stands in front of it any more
+-- what becomes of a request, if nothing stands in front of it any more
 abbrev pub Meets : Fate → World → Ask → Option Heard → World → Type 0
 Meets fates.Delivered w ask heard new = IsDelivered w w.events ask heard new
 Meets fates.ReplyLost w ask heard new = IsReplyLost w w.events ask heard new

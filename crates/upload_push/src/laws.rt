@@ -15,7 +15,7 @@ use upload_service::{headline_holds, others_leave_a_session};
 
 /// Whatever is heard: each request is sound, a push ends well only after the reply that says so, and it makes no more
 /// requests than (tries + 1) * (chunks of the file + 2). Where it ends refused, the last reply had that status and that
-/// code; where nothing is heard it waits for its opening, or is out of tries. Once it has ended, nothing that is heard
+/// code; if nothing is heard it waits for its opening, or is out of tries. Once it has ended, nothing that is heard
 /// changes it.
 pub fn every_push()
     ensures sound { (p : Push) (heard : List (Option Heard)) → IsLawfulPush p

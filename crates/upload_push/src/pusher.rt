@@ -167,7 +167,7 @@ impl Pusher {
         }
     }
 
-    /// Takes what was heard to the last ask, or None where nothing was. After the push has ended nothing changes.
+    /// Takes what was heard to the last ask, or None if nothing was. After the push has ended nothing changes.
     pub fn heard(&mut self, heard: Option<Heard>)
         ensures { self.new ≡ standing_at self.old (turn self.old.plan self.old.stand heard) }
     {
@@ -196,7 +196,7 @@ impl Pusher {
         }
     }
 
-    /// Takes a try where nothing was heard: what became of a chunk or of a close is asked first.
+    /// Takes a try if nothing was heard: what became of a chunk or of a close is asked first.
     fn unheard(&mut self)
         ensures { self.new ≡ standing_at self.old (unheard self.old.stand self.old.stand.phase) }
     {
@@ -274,7 +274,7 @@ impl Pusher {
         }
     }
 
-    /// Sending from what the server has: behind the last position, or from the start where there is none. A position
+    /// Sending from what the server has: behind the last position, or from the start if there is none. A position
     /// beyond the file is given up.
     fn send_from(&self, at: UploadRef, upto: Option<u64>) -> Phase
         ensures value { result ≡ send_from self.now.plan at (count_to upto) }

@@ -82,7 +82,7 @@ pub fn push_with<T: Transport>(
 
 /// Pushes a file of at most 2^40 bytes under a name and a digest, which should be the file's, in chunks of at most
 /// `chunk` bytes (1 to 2^31), and answers how that ended. The transport is asked what one run of the pusher asks, and
-/// nothing else. `GaveUp` comes with the reason of that run's end, `NoMemory` only where a growth was refused.
+/// nothing else. `GaveUp` comes with the reason of that run's end, `NoMemory` only if a growth was refused.
 pub fn push_under<T: Transport>(
     alloc: Global,
     transport: &mut T,
@@ -121,7 +121,7 @@ pub fn push_under<T: Transport>(
 }
 
 /// Asks what a pusher asks, with the name, the digest and the bytes of the file, which are lent. An error is out of
-/// memory for a copy of the name, or of the bytes where the transport wants one; nothing was asked then.
+/// memory for a copy of the name, or of the bytes if the transport wants one; nothing was asked then.
 fn ask_once<T: Transport>(
     alloc: Global,
     transport: &mut T,

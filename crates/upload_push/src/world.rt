@@ -73,7 +73,7 @@ fn serve(service: &mut Service, ask: Ask, secret: [u8; 12], now: u64)
     let _ = service.step(ask, secret, now);
 }
 
-/// Serves a request, and hears its reply where there is memory for it.
+/// Serves a request, and hears its reply if there is memory for it.
 fn reply(
     alloc: Global,
     service: &mut Service,
@@ -148,7 +148,7 @@ impl LossyWorld {
 impl Transport for LossyWorld {
     ghost asked = { λ w ask heard new. Asked w ask heard new };
 
-    /// None where the request or its reply was lost, or where memory was wanting for the reply.
+    /// None if the request or its reply was lost, or if memory was wanting for the reply.
     fn ask(&mut self, ask: Ask) -> Option<Heard> {
         match self.next_fate() {
             Fate::NotDelivered => None,

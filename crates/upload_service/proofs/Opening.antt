@@ -70,7 +70,7 @@ awake_within max_idle now (Some s) x e =
     elim (is_idle max_idle now s)
     as (λ b. cond b None (Some s) ≡ Some x → Some s ≡ Some x) [ true ↦ λ no. absurd (None≢Some no) | false ↦ λ q. q ] e
 
--- where a session is idle, fewer are awake than are open
+-- if a session is idle, fewer are awake than are open
 pub fewer_awake : (max_idle now : ℕ) (m : Table Session) (k : List ℕ) (x : Session) → map.get m k ≡ Some x
     → is_idle max_idle now x ≡ true → map.len (awake_of max_idle now m) < map.len m
 fewer_awake max_idle now m k x e idle =
@@ -87,7 +87,7 @@ fewer_awake max_idle now m k x e idle =
     let one : map.len (map.remove m k) + 1 ≡ map.len m = len_removed m k x e in
     omega arith
 
--- where none is idle, all are awake
+-- if none is idle, all are awake
 pub all_are_awake : (max_idle now : ℕ) (m : Table Session)
     → ((k : List ℕ) (x : Session) → map.get m k ≡ Some x → is_idle max_idle now x ≡ false) → awake_of max_idle now m ≡ m
 all_are_awake max_idle now m none =
@@ -96,7 +96,7 @@ all_are_awake max_idle now m none =
     ∙ elim (map.get m q) as (λ o. map.get m q ≡ o → unless_idle max_idle now o ≡ o)
     [ None ↦ λ _. refl | Some x ↦ λ e. ap (λ b. cond b None (Some x)) (none q x e) ] refl)
 
--- an opening of a full table, where numbers are left: refused where none is idle, else the idle ones leave
+-- an opening of a full table, if numbers are left: refused if none is idle, else the idle ones leave
 pub full_and_none_idle : (s : State) (name secret : List ℕ) (now : ℕ) → map.len s.sessions ≡ s.limits.max_open
     → ((k : List ℕ) (x : Session) → map.get s.sessions k ≡ Some x → is_idle s.limits.max_idle now x ≡ false)
     → opening s name secret now ≡ refused refusals.TooMany

@@ -81,7 +81,7 @@ pub record LeftIdle (s : State) (now : ℕ) (at : List ℕ) (session : Session) 
   pub gone : IsGone s at
   pub idle : session.seen + s.limits.max_idle < now
 
--- what a session is in a state, where no moment to come is before this one
+-- what a session is in a state, if no moment to come is before this one
 abbrev pub Fits : State → ℕ → List ℕ → Life → Type 0
 Fits s now at Unborn = map.get s.sessions at ≡ None
 Fits s now at (Open session) = (map.get s.sessions at ≡ Some session) ⊎ LeftIdle s now at session

@@ -55,7 +55,7 @@ abbrev pub first_life : Option (List ℕ) → ℕ → Life
 first_life (Some name) now = Open (record { name = name; received = []; seen = now })
 first_life None now = Unborn
 
--- the answer to a request, and the session after it, where the session is alone
+-- the answer to a request, and the session after it, if the session is alone
 abbrev pub alone_answer : Limits → List ℕ → Life → Ask → ℕ → Answer
 alone_answer limits at Unborn ask now = first_answer at (opened_under (upload_view ask))
 alone_answer limits at (Open session) ask now = answer_of (alone_outcome limits session ask now)

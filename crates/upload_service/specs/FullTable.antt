@@ -23,13 +23,13 @@ OneIsIdle s now =
     × (is_idle s.limits.max_idle now session ≡ true)
 
 pub record OpeningsMeetTheTable : Type 0 where
-  -- an opening is refused where all numbers were given out
+  -- an opening is refused if all numbers were given out
   pub used_up : (s : State) (name secret : List ℕ) (now : ℕ)
       → last_number ≤ s.issued → opening s name secret now ≡ refused refusals.TooMany
-  -- and where the table is full and none of its sessions is idle
+  -- and if the table is full and none of its sessions is idle
   pub full : (s : State) (name secret : List ℕ) (now : ℕ)
       → IsFull s → NoneIsIdle s now → opening s name secret now ≡ refused refusals.TooMany
-  -- else it begins a session: where one of them is idle, and where the table has room
+  -- else it begins a session: if one of them is idle, and if the table has room
   pub idle : (s : State) (name secret : List ℕ) (now : ℕ)
       → s.issued < last_number → IsFull s → OneIsIdle s now
       → opening s name secret now ≡ Begins name (reference (s.issued + 1) secret)

@@ -82,7 +82,7 @@ pub record Headline (start : State) (xs : List Exchange) (end : State) : Type 0 
   pub store : IsStoreAfter start xs end
   pub lawful : IsLawful end
 
--- The headline holds of every run from every lawful state, where the moments don't fall.
+-- The headline holds of every run from every lawful state, if the moments don't fall.
 abbrev pub HeadlineHolds : Type 0
 HeadlineHolds =
     (start : State) (xs : List Exchange) (end : State) → IsLawful start → NeverFall xs → Run start xs end

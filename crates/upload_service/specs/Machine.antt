@@ -74,7 +74,7 @@ abbrev pub unless_idle : ℕ → ℕ → Option Session → Option Session
 unless_idle max_idle now None = None
 unless_idle max_idle now (Some session) = if is_idle max_idle now session then None else Some session
 
--- the session of a reference, where it is open and isn't idle then
+-- the session of a reference, if it is open and isn't idle then
 abbrev pub awake : State → ℕ → List ℕ → Option Session
 awake s now at = unless_idle s.limits.max_idle now (map.get s.sessions at)
 
@@ -86,7 +86,7 @@ awake_of max_idle now sessions =
 abbrev pub all_awake : State → ℕ → Table Session
 all_awake s now = awake_of s.limits.max_idle now s.sessions
 
--- the sessions beside which one more is opened: where the table is full, the idle ones leave
+-- the sessions beside which one more is opened: if the table is full, the idle ones leave
 abbrev pub swept_of : Limits → ℕ → Table Session → Table Session
 swept_of limits now sessions =
     if nat_le limits.max_open (map.len sessions) then awake_of limits.max_idle now sessions else sessions
@@ -133,7 +133,7 @@ state_after s now (Mounts name digest) = record s { pairs = set.insert s.pairs (
 abbrev pub refused : Refusal → Outcome
 refused refusal = Replies (answers.Refused refusal)
 
--- why a body isn't taken behind `next` bytes, by the first cause that applies; None where it is
+-- why a body isn't taken behind `next` bytes, by the first cause that applies; None if it is
 abbrev pub size_fault : ℕ → ℕ → List ℕ → Option Answer
 size_fault max_blob next body =
     if nat_lt max_blob (next + length body) then Some (answers.Refused refusals.TooLarge) else None
@@ -157,7 +157,7 @@ abbrev pub unless_fault : Option Answer → Outcome → Outcome
 unless_fault (Some answer) outcome = Replies answer
 unless_fault None outcome = outcome
 
--- a blob under the digest asked for: what is done with it where the digest is the blob's own
+-- a blob under the digest asked for: what is done with it if the digest is the blob's own
 abbrev pub checked : Option Digest → List ℕ → (Digest → Outcome) → Outcome
 checked None blob done = refused refusals.NoDigest
 checked (Some digest) blob done =

@@ -57,7 +57,7 @@ pub enum Answer {
         digest: BlobDigest,
         /// How many bytes the blob has.
         size: u64,
-        /// The blob's bytes, or None where the size alone was asked for.
+        /// The blob's bytes, or None if the size alone was asked for.
         bytes: Option<BlobBytes>,
     },
     /// A session was opened.

@@ -107,7 +107,7 @@ impl Blob {
         }
     }
 
-    /// A blob of one part, whose bytes it takes out where they are few and have no other owner. It takes no memory.
+    /// A blob of one part, whose bytes it takes out if they are few and have no other owner. It takes no memory.
     fn of_part(alloc: Global, mut part: Part) -> Blob
         ensures { result ≡ part }
     {

@@ -42,7 +42,7 @@ impl Names {
         }
     }
 
-    /// A name that blobs share, where there is one. It takes no memory.
+    /// A name that blobs share, if there is one. It takes no memory.
     pub fn find(&self, name: &RepoName) -> Option<&Arc<RepoName, Global>>
         ensures found { IfSome result (λ shared. arc_value shared.now ≡ name.now) }
         ensures none { IfNone result (list_any (same name.now) self.now ≡ false) }
@@ -50,7 +50,7 @@ impl Names {
         self.shared.get(name)
     }
 
-    /// One more owner of a name, which is copied where it is the first. It is among the names then, and no other that
+    /// One more owner of a name, which is copied if it is the first. It is among the names then, and no other that
     /// wasn't. An `Err` changes nothing.
     pub fn share(&mut self, name: &RepoName) -> Result<Arc<RepoName, Global>, AllocError>
         ensures shared { IfOk result (λ shared. arc_value shared ≡ name.now) }
@@ -116,7 +116,7 @@ impl Holders {
         }
     }
 
-    /// Puts a repository beside them. It takes no memory where that one is among them. An `Err` changes nothing.
+    /// Puts a repository beside them. It takes no memory if that one is among them. An `Err` changes nothing.
     pub fn add(&mut self, alloc: Global, name: Arc<RepoName, Global>) -> Result<(), AllocError>
         ensures ok { OnOk result ((q : List ℕ) → list_any (same q) self.new
             ≡ (same q (arc_value name) || list_any (same q) self.old)) }

@@ -3,7 +3,7 @@ ghost use Rattle.upload_service.specs.FullTable.{OpeningsMeetTheTable};
 ghost use Rattle.upload_service.specs.Headline.{HeadlineHolds, OthersLeaveIt};
 ghost use Rattle.upload_service.specs.RuledOut.{HeadlineRulesOut};
 
-/// Over every list of requests, of any clients in any order, from every lawful state, where the moments don't
+/// Over every list of requests, of any clients in any order, from every lawful state, if the moments don't
 /// fall: a blob that a session commits is that session's accepted chunks joined in the order taken, each once, and
 /// has the digest asked for; a chunk that misses the next offset is answered so and changes nothing; a closed
 /// session takes nothing more; every session's replies are those that it would get alone, refusals for memory left
@@ -18,7 +18,7 @@ pub fn others_leave_a_session()
     ensures { OthersLeaveIt }
 {}
 
-/// An opening is refused where all numbers were given out, or where the table is full and no session is idle, and
+/// An opening is refused if all numbers were given out, or if the table is full and no session is idle, and
 /// nowhere else but for memory. Of a full table the idle sessions leave, and no others.
 pub fn openings_meet_the_table()
     ensures { OpeningsMeetTheTable }

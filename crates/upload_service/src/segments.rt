@@ -20,7 +20,7 @@ pub struct Segments {
     alloc: Global,
     /// The segments that stay as they are.
     settled: Vec<Part>,
-    /// The last segment, which small bodies are joined to. It is empty where there is none.
+    /// The last segment, which small bodies are joined to. It is empty if there is none.
     tail: Vec<u8>,
     /// How many bytes there are in all.
     total: u64,
@@ -72,7 +72,7 @@ impl Segments {
         self.tail.as_slice()
     }
 
-    /// Moves the last segment to an empty part behind the segments. It takes no memory, and where that part has other
+    /// Moves the last segment to an empty part behind the segments. It takes no memory, and if that part has other
     /// owners it does nothing.
     pub fn hand_over(&mut self, last: &mut Part)
         requires { last.old ≡ [] }
@@ -186,7 +186,7 @@ fn settle_tail(alloc: Global, settled: &mut Vec<Part>, tail: &mut Vec<u8>) -> Re
     }
 }
 
-/// Makes a part a segment that stays as it is, where it isn't empty.
+/// Makes a part a segment that stays as it is, if it isn't empty.
 fn settle(settled: &mut Vec<Part>, part: Part)
     requires { vec_len settled.old + 1 ≤ vec_capacity settled.old }
     ensures items { settled.new.items ≡ with_part settled.old.items part }

@@ -85,7 +85,7 @@ impl Service {
         self.tables.limits
     }
 
-    /// Serves one request, at this moment in seconds: one turn of the machine. The secret is used only where the answer
+    /// Serves one request, at this moment in seconds: one turn of the machine. The secret is used only if the answer
     /// is Begun. The answer is NoMemory only if memory was refused, at a change or as the bytes of a blob are handed
     /// out, and nothing has changed then. A refusal, a status, `/v2/` and a HEAD of a blob are never answered so.
     pub fn step(&mut self, ask: Ask, secret: [u8; 12], now: u64) -> Answer
@@ -119,7 +119,7 @@ impl Service {
 
     /// Prepares a close by this algorithm, so that it has little left to hash: the hash of an open session takes in
     /// what the session received, in a thread as with `catch_up_beside`. Gives the end of the thread that is at that,
-    /// so that the caller can wait for it where nobody else has to. Behind it there may be more to take in, if chunks
+    /// so that the caller can wait for it if nobody else has to. Behind it there may be more to take in, if chunks
     /// came meanwhile or the thread was at work already, so the caller then asks again. `None` says that there is
     /// nothing to wait for: all that is worth a thread is taken in, the reference is of no open session, or no thread
     /// could be made and all was taken in here. Only this and a close have a SHA-512 take in anything. Nothing that is
@@ -186,7 +186,7 @@ impl Service {
         self.tables.sessions.bring_home(rt, at, algorithm);
     }
 
-    /// How many bytes a session has received, or None where no such session is open. One that is idle counts
+    /// How many bytes a session has received, or None if no such session is open. One that is idle counts
     /// as open until it leaves the table. It takes no memory.
     pub fn next_of(&self, at: &UploadRef) -> Option<u64>
         ensures { result
@@ -206,7 +206,7 @@ impl Service {
     }
 
     /// Serves requests in order, each with a secret and at a moment in seconds: one answer for each. The
-    /// answers and the service after them are a run of the machine, and where the moments don't fall the
+    /// answers and the service after them are a run of the machine, and if the moments don't fall the
     /// headline holds of it. The list of answers is reserved first: an `Err` changes nothing.
     pub fn run_all(
         &mut self,

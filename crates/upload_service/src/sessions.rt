@@ -141,7 +141,7 @@ impl Sessions {
         Ok(())
     }
 
-    /// Has the running hash of an open session catch up with what it received, where there is such a session. Nothing
+    /// Has the running hash of an open session catch up with what it received, if there is such a session. Nothing
     /// that is seen changes.
     pub fn catch_up(&mut self, at: &UploadRef)
         ensures { self.new ≡ self.old }
@@ -152,7 +152,7 @@ impl Sessions {
         session.received.catch_up();
     }
 
-    /// Has the running hash of an open session catch up beside what goes on, in a thread, where there is such a
+    /// Has the running hash of an open session catch up beside what goes on, in a thread, if there is such a
     /// session. Nothing that is seen changes.
     pub fn catch_up_beside<R: Threads>(&mut self, rt: &R, alloc: Global, at: &UploadRef)
         ensures { self.new ≡ self.old }
@@ -163,7 +163,7 @@ impl Sessions {
         session.received.catch_up_beside(rt, alloc);
     }
 
-    /// Has the hash of an open session by an algorithm catch up so, where there is such a session. Gives the end of the
+    /// Has the hash of an open session by an algorithm catch up so, if there is such a session. Gives the end of the
     /// thread that is at that, if there is one. Nothing that is seen changes.
     pub fn hash_for_close<R: Threads>(
         &mut self,
@@ -180,7 +180,7 @@ impl Sessions {
         session.received.hash_for_close(rt, alloc, algorithm)
     }
 
-    /// Waits for the thread that has the hash of an open session by an algorithm, where there is such a session and one
+    /// Waits for the thread that has the hash of an open session by an algorithm, if there is such a session and one
     /// has it. Nothing that is seen changes.
     pub fn bring_home<R: Threads>(&mut self, rt: &R, at: &UploadRef, algorithm: Algorithm)
         ensures { self.new ≡ self.old }

@@ -125,7 +125,7 @@ impl Stock {
         Ok(())
     }
 
-    /// Notes that a repository has the blob of a digest, which has no bytes where none is stored yet.
+    /// Notes that a repository has the blob of a digest, which has no bytes if none is stored yet.
     pub fn hold(&mut self, name: &RepoName, digest: BlobDigest) -> Result<(), AllocError>
         ensures blobs { OnOk result (self.new.blobs
             ≡ map.insert self.old.blobs digest (or_empty (map.get self.old.blobs digest))) }
@@ -202,7 +202,7 @@ fn has_holder<const N: usize>(
     }
 }
 
-/// Notes that a repository has the blob under a key, which has no bytes where there was none.
+/// Notes that a repository has the blob under a key, which has no bytes if there was none.
 fn hold_under<const N: usize>(
     alloc: Global,
     items: &mut BTreeMap<[u8; N], Item>,

@@ -34,7 +34,7 @@ pub struct Tables {
 }
 
 impl Tables {
-    /// The session of a reference, where it is open under this name and isn't idle.
+    /// The session of a reference, if it is open under this name and isn't idle.
     pub(crate) fn find_awake(
         &self,
         name: &RepoName,
@@ -176,7 +176,7 @@ fn chunk(tables: &mut Tables, sent: Sent, now: u64) -> Answer
     }
 }
 
-/// Closes a session: what it received and a last body are stored where they have the digest.
+/// Closes a session: what it received and a last body are stored if they have the digest.
 fn close(tables: &mut Tables, sent: Sent, digest: Option<BlobDigest>, now: u64) -> Answer
     ensures { Comes (state_of tables.old) now (close_of (state_of tables.old) now sent digest)
         result (state_of tables.new) }

@@ -247,7 +247,7 @@ module _ {D : Type 0} (step : Moves D) (max : ℕ) (s : Standing D) (new : Conne
   ends (Fault (Conn.Wire fault)) e decided = ends_wire fault e decided
   ends (Fault Conn.Write) e decided = absurd (decided tt)
 
-  -- where a request stands that keeps the connection, and more may come, no conversation ends but by a desk that is
+  -- if a request stands that keeps the connection, and more may come, no conversation ends but by a desk that is
   -- gone
   goes_on : (end : ConnEnd) → EndsWith step max s new end → ¬ (IsUndecided max s.held end)
       → s.answered + 1 < max_requests → (end ≡ DeskGone → FindsNoDesk step max s new.desk → ⊥)

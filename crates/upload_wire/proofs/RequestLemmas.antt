@@ -214,7 +214,7 @@ request_next max old held new p d (Err Fault.NoMemory) f says b =
     record { given = b.gave.given; gives = b.gave.gives; found = tt }
 request_next max old held new p d (Err Fault.Ended) f says b = absurd b
 
--- what is found behind a head where its body stopped
+-- what is found behind a head if its body stopped
 pub body_fault : (d : Described) (old new : InputState) (body : List ℕ) (e : BodyFault)
     → FindsBody d.framing old new body (Err e) → FindsRequest d old new (Err (wire_of_body e))
 body_fault d old new body Body.Truncated b = b

@@ -16,7 +16,7 @@ use mathlib.Core.Logic.{⊎_elim}
 -- ---- what a conversation asked
 
 module _ {D : Type 0} (step : Moves D) (max_body : ℕ) (s : Standing D) (new : ConnectionState D) where
-  -- the exchange inside an end: the request behind all others, where it was answered
+  -- the exchange inside an end: the request behind all others, if it was answered
   abbrev pub answered_last : (end : ConnEnd) → EndsWith step max_body s new end → List WireExchange
   answered_last Clean e = []
   answered_last AfterClose e = e.0 ∷ []

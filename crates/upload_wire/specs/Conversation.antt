@@ -25,7 +25,7 @@ use Rattle.upload_wire.specs.declared.connection.ConnFault.TheVariants as Conn
 abbrev pub max_requests : ℕ
 max_requests = 10000
 
--- how a desk moves: its state, an ask, an answer or none where it is gone, and its new state
+-- how a desk moves: its state, an ask, an answer or none if it is gone, and its new state
 abbrev pub Moves : Type 0 → Type 1
 Moves D = D → Ask → Option Answer → D → Type 0
 

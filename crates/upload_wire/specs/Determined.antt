@@ -46,7 +46,7 @@ IsUndecided max_body rest other = ⊥
 abbrev pub IsDecided : {D : Type 0} (step : Moves D) (max_body : ℕ) → Dialogue step max_body → Type 0
 IsDecided step max_body d = ¬ (IsUndecided max_body d.is.rest d.end)
 
--- where memory isn't wanting an ask has one answer, or none, and leaves one state
+-- if memory isn't wanting an ask has one answer, or none, and leaves one state
 abbrev pub IsDeterministic : {D : Type 0} → Moves D → Type 0
 IsDeterministic {D} step =
     (old : D) (ask : Ask) (answer other : Option Answer) (new another : D) → step old ask answer new
@@ -72,7 +72,7 @@ pub record AreTheSame {D : Type 0} (step : Moves D) (max_body : ℕ) (d e : Dial
   pub taken_too : TookAll e.old.sink e.new.sink written
 
 -- Of two conversations over the same bytes, whose ends these decide: what is asked is the same, whatever the desk
--- answers, unless it was gone. What is answered and written, and how the desk is left, is the same too where the desk
+-- answers, unless it was gone. What is answered and written, and how the desk is left, is the same too if the desk
 -- is deterministic and stood at the same state, and no answer was out of memory.
 pub record ConversationsAreDetermined {D : Type 0} (step : Moves D) : Type 0 where
   pub by_bytes : (max_body : ℕ) (d e : Dialogue step max_body) → d.is.bytes ≡ e.is.bytes → IsDecided step max_body d

@@ -24,7 +24,7 @@ methods forms.Blob = codes "GET, HEAD"
 methods forms.Uploads = codes "POST"
 methods forms.Upload = codes "GET, HEAD, PATCH, PUT"
 
--- Allow, where the method is not of the form
+-- Allow, if the method is not of the form
 abbrev pub allow_fields : Refusal → List HeadField
 allow_fields (refusals.Method form) = (codes "Allow", methods form) ∷ []
 allow_fields other = []
@@ -36,7 +36,7 @@ upload_location name at = upload_path name (reference_text at)
 abbrev pub blob_location : List ℕ → Digest → List ℕ
 blob_location name digest = blob_path name (digest_text digest)
 
--- Range: 0-<last>, where there are bytes
+-- Range: 0-<last>, if there are bytes
 abbrev pub range_fields : ℕ → List HeadField
 range_fields next = if next == 0 then [] else (codes "Range", codes "0-" ++ decimal (next - 1)) ∷ []
 

@@ -82,7 +82,7 @@ pub record ReadsOne (max_body : ℕ) (text rest : List ℕ) (ask : Ask) (style :
   pub cut : text ≡ message ++ rest
   pub request : IsRequest max_body message ask style
 
--- what the reader found in the text, where its input is left as new
+-- what the reader found in the text, if its input is left as new
 abbrev pub FindsNext : ℕ → List ℕ → InputState → Result Next WireFault → Type 0
 FindsNext max_body text new (Ok (Request ask style)) = ReadsOne max_body text new.held ask style
 FindsNext max_body text new (Ok Over) = (text ≡ []) × (new.held ≡ []) × HasEnded new.source

@@ -67,7 +67,7 @@ pub record TellsRefusal (text : List ℕ) (why : Bad) (events : List Event) : Ty
   pub tells : TellsHead text first
   pub events_are : events ≡ first ∷ Replied (status_number (bad_status why)) 0 ∷ []
 
--- the head that the text begins with, and nothing where it begins with none
+-- the head that the text begins with, and nothing if it begins with none
 abbrev pub TellsCut : List ℕ → List Event → Type 0
 TellsCut text events = (((text ≡ []) ⊎ IsCutHead requests text) × (events ≡ [])) ⊎ TellsLine text events
 

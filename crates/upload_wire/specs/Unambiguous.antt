@@ -22,7 +22,7 @@ ParsesAsRequest max_body text (bad why) = IsBad max_body text why
 ParsesAsRequest max_body text cut = IsTruncated max_body text
 ParsesAsRequest max_body text nothing = text ≡ []
 
--- Under one limit a text is read in one way, but that its head may be refused too; and it is not where it begins with
+-- Under one limit a text is read in one way, but that its head may be refused too; and it is not if it begins with
 -- one of at most 66 lines.
 pub record RequestsAreUnambiguous : Type 0 where
   pub one : (max_body : ℕ) (text : List ℕ) (parse other : RequestParse) → ParsesAsRequest max_body text parse

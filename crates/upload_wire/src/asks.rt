@@ -30,7 +30,7 @@ pub enum Method {
 pub enum HeadAsk {
     /// This, whatever the body: it is dropped.
     Ready(Ask),
-    /// This, where the body is empty.
+    /// This, if the body is empty.
     IfBodiless(Ask),
     /// POST of a whole blob, which is the body.
     Single {
@@ -126,7 +126,7 @@ fn blob_ask(alloc: Global, method: Method, name: &[u8], tail: &[u8]) -> Result<H
     }
 }
 
-/// A mount, or an opening where its digest or its source is unreadable.
+/// A mount, or an opening if its digest or its source is unreadable.
 fn mount_ask(
     alloc: Global,
     name: RepoName,
@@ -150,7 +150,7 @@ fn mount_ask(
     }))
 }
 
-/// POST to a repository's uploads: a mount, a whole blob where the query has its digest, and else an opening.
+/// POST to a repository's uploads: a mount, a whole blob if the query has its digest, and else an opening.
 fn uploads_ask(alloc: Global, name: &[u8], parts: &Parts<'_>) -> Result<HeadAsk, AllocError>
     ensures { IfOk result
         (λ ask. ask ≡ uploads_ask (named name.now) parts.now.method parts.now.query.now) }
@@ -281,7 +281,7 @@ impl HeadAsk {
         }
     }
 
-    /// By what the body is hashed as it comes: where it is large, and the service may want the hash of just its bytes.
+    /// By what the body is hashed as it comes: if it is large, and the service may want the hash of just its bytes.
     /// A small body, and one that comes behind others, the service hashes with what is around it; `filled` is an upload
     /// that is known to have bytes. What a chunk will be asked for, its close says; most say SHA-256.
     pub fn hash_wanted(&self, framing: Framing, filled: Option<UploadRef>) -> Option<Algorithm> {

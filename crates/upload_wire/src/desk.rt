@@ -7,10 +7,10 @@ use upload_service::{Answer, Ask, Service};
 
 /// What answers the requests of a connection, one after another.
 pub trait Desk {
-    // How it moves: from a state, by an ask, with an answer or none where it is gone, to a new state.
+    // How it moves: from a state, by an ask, with an answer or none if it is gone, to a new state.
     ghost moves: { Self → AskModel → Option AnswerModel → Self → Type 0 };
 
-    /// The answer, or `None` where the desk is gone.
+    /// The answer, or `None` if the desk is gone.
     fn ask(&mut self, ask: Ask) -> Option<Answer>
         ensures { moves self.old ask result self.new };
 }

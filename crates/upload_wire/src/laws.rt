@@ -22,14 +22,14 @@ pub fn transcripts_tell_conversations<D: Desk>()
 {}
 
 /// A text is read in one way: as one request and what stands behind it, or as bad for one reason, or as cut short. Only
-/// its head may be refused too, and not where it begins with one of at most 66 lines.
+/// its head may be refused too, and not if it begins with one of at most 66 lines.
 pub fn requests_are_unambiguous()
     ensures { RequestsAreUnambiguous }
 {}
 
 /// What is asked on a connection is determined by the bytes that were read, whatever the desk answers, unless it was
-/// gone. What is answered and written is so too, where the desk is deterministic and memory wasn't wanting. Neither is
-/// said where a request wanted memory, a write failed, or a head was refused.
+/// gone. What is answered and written is so too, if the desk is deterministic and memory wasn't wanting. Neither is
+/// said if a request wanted memory, a write failed, or a head was refused.
 pub fn conversations_are_determined<D: Desk>()
     ensures { ConversationsAreDetermined D.moves }
 {}

@@ -68,8 +68,8 @@ impl<S: ByteSource + Drop> RequestReader<S> {
 impl<S: ByteSource> RequestReader<S> {
     /// What comes next in the input: a request, read whole; the end of the input, which is answered again
     /// when asked again; or what is bad in it. After that or a fault it answers `Ended` and reads nothing.
-    /// `Read` comes only where a read failed in this call, before a request had come whole. `Truncated` comes
-    /// where the input ended inside a request, `NoMemory` where a growth was refused.
+    /// `Read` comes only if a read failed in this call, before a request had come whole. `Truncated` comes
+    /// if the input ended inside a request, `NoMemory` if a growth was refused.
     pub fn next_request(&mut self) -> Result<Next, WireFault>
         ensures ready { self.old.phase ≡ Phase.Ready
             → ReadsNext self.old.max_body self.old.input self.new.input result }

@@ -17,8 +17,8 @@ mod refusal;
 
 pub(crate) use head::status_of;
 
-/// Writes the reply to an answer, and flushes it: its head in one write, with its body where that is short,
-/// and a longer body out of its own memory. It takes no memory. `Ok` comes only where all of it was written and
+/// Writes the reply to an answer, and flushes it: its head in one write, with its body if that is short,
+/// and a longer body out of its own memory. It takes no memory. `Ok` comes only if all of it was written and
 /// handed on, and no call of the writer failed; else a front of it was written.
 pub fn write_reply<W: ByteSink>(
     writer: &mut W,
@@ -63,7 +63,7 @@ pub fn reply_status(answer: &Answer) -> u16
     status_of(answer).number()
 }
 
-/// How many bytes of body the reply to an answer has, where it isn't one to a HEAD.
+/// How many bytes of body the reply to an answer has, if it isn't one to a HEAD.
 pub fn body_size(answer: &Answer) -> u64
     ensures { result ≡ body_size answer.now }
 {

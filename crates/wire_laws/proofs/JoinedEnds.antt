@@ -132,7 +132,7 @@ unanswered_read us = flat_map (λ (u : Unanswered). u.message) us
 abbrev AreUnansweredRead : ℕ → List Unanswered → Type 0
 AreUnansweredRead max us = AllByRecursion (λ (u : Unanswered). IsRequest max u.message u.ask u.style) us
 
--- where nothing more was written, nothing more was read as a request
+-- if nothing more was written, nothing more was read as a request
 none_read : (max : ℕ) (written : List ℕ) (ts : List Turn) (rest back : List ℕ) → AreRead max ts
     → written ≡ (written ++ (all_read ts ++ rest)) ++ back → ts ≡ []
 none_read max written [] rest back kept e = refl
@@ -234,7 +234,7 @@ more_behind head_only text more new what keep t n sized =
       keeps = t.keeps;
     }
 
--- what is heard where the text begins with the reply to an answer, and what stands behind it
+-- what is heard if the text begins with the reply to an answer, and what stands behind it
 record IsHeardAs (answer : Answer) (what : Heard) (behind rest : List ℕ) : Type 0 where
   code : Option (List ℕ)
   is : what ≡ said answer code
@@ -397,7 +397,7 @@ stays_closed old new (x ∷ xs) closed turn =
     let more = stays_closed turn.0 new xs (ap stays_open here.1) turn.2 in
     record { unheard = (here.0, more.unheard); writer = more.writer ∙ ap (λ w. w.writer) here.1 }
 
--- nothing is heard where nothing was read
+-- nothing is heard if nothing was read
 none_heard : (reply : Result Heard HeardFault) (head_only : Bool) (old new : AnswerReaderState)
     (r : ReadsReply head_only old reply new) → old.input.held ≡ [] → r.read.given ≡ []
     → (result_ok reply ≡ None) × (refusal_in reply ≡ None)
@@ -416,7 +416,7 @@ nothing_heard (Err fault) true head_only old new told h held none =
     h.2 ∙ (none_heard h.0 head_only old.reader new.reader h.1 held none).1
 nothing_heard (Err fault) false head_only old new told h held none = h.0
 
--- where more can be asked no byte is held, and no fault broke it
+-- if more can be asked no byte is held, and no fault broke it
 and_true : (a b : Bool) → (a && b) ≡ true → (a ≡ true) × (b ≡ true)
 and_true true b e = (refl, e)
 and_true false b e = absurd (true≢false (sym e))
@@ -435,7 +435,7 @@ unheard_one true old new ask told is asked none =
     nothing_heard asked.written (has_body ask) (wants_head ask) old new told asked.hears (none_held old is) none
 unheard_one false old new ask told is asked none = asked.0
 
--- where nothing more was read nothing more was heard
+-- if nothing more was read nothing more was heard
 silent : (xs : List TransportCall) (old new : WireState) (more : List ℕ) → AsksInTurn old xs new
     → old.reader.input.source.given ≡ new.reader.input.source.given ++ more → AllByRecursion (λ x. x.heard ≡ None) xs
 silent [] old new more turn e = tt
@@ -741,7 +741,7 @@ no_empty_bad max text why (inr (inl x)) none =
 no_empty_bad max text why (inr (inr (inl x))) none = no_empty_head text x.head x.rest x.reads none
 no_empty_bad max text why (inr (inr (inr x))) none = no_empty_head text x.head x.rest x.reads none
 
--- where it was asked, a front of what was written is completed to the ask
+-- if it was asked, a front of what was written is completed to the ask
 completed : (written : Result ⊤ WriteFault) (old new : SinkState) (whole rest there later : List ℕ)
     (w : Wrote old new whole written) → (is_err written ≡ true → later ≡ [])
     → rest ++ there ≡ (wrote_front written old new whole w).0 ++ later
@@ -758,7 +758,7 @@ completed (Err fault) old new whole rest there later w ends e = (
 )
 
 module _ (max : ℕ) (host rest read : List ℕ) where
-  -- where no more was written nothing is left
+  -- if no more was written nothing is left
   none_behind : (ts : List Turn) (old new : WireState) → AreRead max ts → new.writer ≡ old.writer
       → read ≡ old.writer.taken ++ (all_read ts ++ rest) → IsPrefix read new.writer.taken → rest ≡ []
   none_behind ts old new kept same is there =

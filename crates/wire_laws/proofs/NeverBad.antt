@@ -148,7 +148,7 @@ not_bad max message behind ask style h rest is reads few why (inr (inr (inr x)))
     (subst (λ f. IsBadBody f (is.rest ++ behind) why) (sym framings)
     (subst (λ t. IsBadBody x.framing t why) (sym same.rests) x.refused))
 
--- A text isn't bad where it and more are an ask that is written, and more.
+-- A text isn't bad if it and more are an ask that is written, and more.
 pub asked_not_bad : (max : ℕ) (ask : Ask) (host text more behind : List ℕ) → MayBeAsked max ask host
     → text ++ more ≡ ask_text ask host ++ behind → (why : Bad) → IsBad max text why → ⊥
 asked_not_bad max ask host text more behind may is why bad =

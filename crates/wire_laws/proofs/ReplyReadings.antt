@@ -1,4 +1,4 @@
--- What a reader of replies gives where a text is read in one way.
+-- What a reader of replies gives if a text is read in one way.
 use Rattle.std.proofs.Common.{◌≡◌, ◌≢◌, ℕ, Bool, List, refl, ◌∙◌, sym, subst, Ok, Err}
 use Rattle.std.specs.Prelude.{Result, ⊤}
 use Rattle.httparse.specs.Grammar.{ResponseHead, status_code}

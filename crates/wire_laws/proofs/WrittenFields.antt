@@ -180,7 +180,7 @@ body_read max_body host body h fits limit =
       range_is = refl;
     }
 
--- a range where it is given, and the fields of a body
+-- a range if it is given, and the fields of a body
 pub upload_read : (max_body : ℕ) (host : List ℕ) (range : Extent) (body : List ℕ) → is_host host ≡ true
     → IsAbsentOrGiven range → HasSpan range → length body ≤ max_body → max_body < 2 ^ 64
     → AreRead max_body ((codes "Host", host) ∷ (content_range_fields range ++ ask_body_fields body)) (length body) range

@@ -290,7 +290,7 @@ whole_heard answer keep rest new s =
     (heard_only false sent (reply_of answer).body rest new what s.whole
     (record { status_is = s.said.status_is; place_is = refl; upto_is = refl; code = s.code }))
 
--- a blob's bytes are read as the body, where there are not too many
+-- a blob's bytes are read as the body, if there are not too many
 blob_heard : (digest : Digest) (content : List ℕ) (keep : Bool) (rest : List ℕ) (new : SourceState) → IsDigest digest
     → length content < 2 ^ 64
     → IsReply (Blob digest (length content) (Some content)) false keep rest new (blob_read content keep rest)

@@ -54,7 +54,7 @@ body_text ask = (message_of ask).body
 abbrev pub written_style : Ask → Style
 written_style ask = record { head = wants_head ask; keep = true }
 
--- An ask that may be written is read as the same ask, where its head and its body keep the limits of the reader.
+-- An ask that may be written is read as the same ask, if its head and its body keep the limits of the reader.
 abbrev pub AsksAreReadBack : Type 0
 AsksAreReadBack =
     (max_body : ℕ) (ask : Ask) (host : List ℕ) → max_body < 2 ^ 64 → CanBeWritten ask → HasLawfulParts ask

@@ -623,7 +623,7 @@ fn requests_are_written(rt: HostRuntime) -> Result<(), Fail> {
     Ok(())
 }
 
-/// The statuses of what is heard of asks, one after another, where anything is.
+/// The statuses of what is heard of asks, one after another, if anything is.
 fn hears(
     rt: &impl Abort,
     transport: &mut impl Transport,

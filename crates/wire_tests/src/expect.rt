@@ -4,7 +4,7 @@
 use std::fmt::{Debug, Display};
 use std::process::Abort;
 
-/// Ends the test where the value found isn't the one wanted, and says at what.
+/// Ends the test if the value found isn't the one wanted, and says at what.
 pub fn same<T: PartialEq + Debug + Copy>(rt: &impl Abort, found: T, wanted: T, at: &impl Display) {
     assert_eq!(rt; found, wanted, "{at}");
 }
@@ -14,7 +14,7 @@ pub fn same_bytes(rt: &impl Abort, found: &[u8], wanted: &[u8], at: &impl Displa
     assert_eq!(rt; found, wanted, "{at}");
 }
 
-/// Ends the test where something doesn't hold, and says of what.
+/// Ends the test if something doesn't hold, and says of what.
 pub fn holds(rt: &impl Abort, is_so: bool, at: &impl Display) {
     assert!(rt; is_so, "{at}");
 }

@@ -22,7 +22,7 @@ const REQUESTS: &[u8] = b"POST /v2/lib/a/blobs/uploads/ HTTP/1.1\r\n\r\n\
     PATCH /v2/lib/a/blobs/uploads/00000001-0000-8000-8000-000000000000 HTTP/1.1\r\nContent-Range: 1-8\r\n\
     Content-Length: 8\r\n\r\nbcdefghi";
 
-/// What they are answered where no growth is refused: the last PATCH comes too late.
+/// What they are answered if no growth is refused: the last PATCH comes too late.
 const REPLIES: &[u8] =
     b"HTTP/1.1 202 Accepted\r\nLocation: /v2/lib/a/blobs/uploads/00000001-0000-8000-8000-000000000000\r\n\
       Content-Length: 0\r\n\r\n\
@@ -107,7 +107,7 @@ fn go_on(rt: &impl Abort, alloc: Global, service: Service, written: &[u8]) -> Re
     Ok(())
 }
 
-/// Whether a connection that was served to its end was answered so, where the first upload is so far.
+/// Whether a connection that was served to its end was answered so, if the first upload is so far.
 fn is_answered(written: &[u8], next: Option<u64>) -> bool {
     match next {
         None => written == OPENING_REFUSED,

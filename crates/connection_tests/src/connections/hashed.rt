@@ -1,5 +1,5 @@
 //! Uploads whose bodies are hashed as they are read, which are those of over 65,536 bytes and the chunked ones:
-//! whatever the service takes over of that, a close is let through exactly where it names the digest of all the bytes.
+//! whatever the service takes over of that, a close is let through exactly if it names the digest of all the bytes.
 ghost use Rattle.std.specs.Prelude.{◌<◌};
 
 use super::{LIMITS, served};

@@ -27,7 +27,7 @@ impl Model for Notes {
 }
 
 impl Notes {
-    /// Writes down some more; where there is no memory for it, what was written is lost.
+    /// Writes down some more; if there is no memory for it, what was written is lost.
     fn note(&mut self, more: &str) {
         if let Ok(lines) = format!(in self.alloc; "{}{more}", self.lines) {
             self.lines = lines;

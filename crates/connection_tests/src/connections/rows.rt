@@ -18,7 +18,7 @@ pub(super) const BLOB_LIMIT: (&str, &str) = (
      Content-Length: 0\r\n\r\n",
 );
 
-/// A second opening where one session may be open.
+/// A second opening if one session may be open.
 pub(super) const ONE_SESSION: (&str, &str) = (
     "POST /v2/lib/a/blobs/uploads/ HTTP/1.1\r\nHost: h\r\nContent-Length: 0\r\n\r\n\
      POST /v2/lib/a/blobs/uploads/ HTTP/1.1\r\nHost: h\r\nContent-Length: 0\r\n\r\n\

@@ -36,7 +36,7 @@ empty_of (y ∷ x) h = absurd (omega arith)
 pub chunk_flat : (c : Chunk) (t : List ℕ) → print_chunk c ++ t ≡ c.digits ++ (13 ∷ 10 ∷ (c.data_bytes ++ (13 ∷ 10 ∷ t)))
 chunk_flat c t = simp append_assoc
 
--- what follows a chunk, where the whole is a chunked text
+-- what follows a chunk, if the whole is a chunked text
 pub record FollowsChunk (c : Chunk) (t body : List ℕ) : Type 0 where
   pub after : List ℕ
   pub chunked : IsChunked t after

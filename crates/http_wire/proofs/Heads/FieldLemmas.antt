@@ -19,7 +19,7 @@ use Rattle.http_wire.specs.Fields.{Fields, same_word, values_of, lists_close}
 use Rattle.http_wire.specs.declared.fault.Bad.TheVariants as bads
 use Rattle.http_wire.specs.Body.{is_number, length_of}
 
--- the value of a field, where it has the name
+-- the value of a field, if it has the name
 abbrev value_if : List ℕ → List ℕ × List ℕ → List (List ℕ)
 value_if name f = map (λ g. g.1) (cond (same_word f.0 name) (f ∷ []) [])
 

@@ -74,7 +74,7 @@ EndsInLineFeed w = (h : w.Head) → (front : List ℕ) × (w.print h ≡ front +
 abbrev pub HasLines : Words → Type 0
 HasLines w = (h : w.Head) → length (w.fields h) + 2 ≤ line_feeds (w.print h)
 
--- where the front has no head, a head of one byte more is all of it
+-- if the front has no head, a head of one byte more is all of it
 pub only_whole : (w : Words) (front : List ℕ) (b : ℕ) (h : w.Head) (rest : List ℕ) → HasNone w front
     → Reads w (front ++ b ∷ []) h rest → rest ≡ []
 only_whole w front b h rest none x =

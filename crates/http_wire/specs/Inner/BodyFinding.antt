@@ -17,7 +17,7 @@ pub record TakesBody (framing : Framing) (old new : InputState) (body : List ℕ
   pub gave : Gave old new.source (text ++ new.held)
   pub written : IsBodyText framing text body
 
--- what came is refused as a body, where the source is left as new
+-- what came is refused as a body, if the source is left as new
 pub record RefusesBodyText (framing : Framing) (old : InputState) (new : SourceState) (why : Bad) : Type 0 where
   pub text : List ℕ
   pub gave : Gave old new text

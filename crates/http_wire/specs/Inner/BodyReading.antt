@@ -20,7 +20,7 @@ pub record Moved (old new : BodyState) (count : ℕ) : Type 0 where
   pub joined : new.body ≡ old.body ++ bytes
   pub counted : length bytes ≡ count
 
--- no byte was moved, where the source is left as new
+-- no byte was moved, if the source is left as new
 pub record MovedNone (old : InputState) (new : SourceState) : Type 0 where
   pub text : List ℕ
   pub gave : Gave old new text

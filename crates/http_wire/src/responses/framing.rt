@@ -27,7 +27,7 @@ pub enum FramingFault {
     TooLarge,
 }
 
-/// How far a body of a said length goes, where the response has one.
+/// How far a body of a said length goes, if the response has one.
 fn sized(value: &[u8], max_body: u64, empty: bool) -> Result<ResponseFraming, FramingFault>
     requires { max_body ≤ 2 ^ 31 }
     ensures framed { result ≡ response_framing_by_length max_body empty (value.now ∷ []) }
@@ -46,7 +46,7 @@ fn sized(value: &[u8], max_body: u64, empty: bool) -> Result<ResponseFraming, Fr
     }
 }
 
-/// How far the body behind a head goes (RFC 9112, section 6.3), where the request was a HEAD or another. `Unreadable`:
+/// How far the body behind a head goes (RFC 9112, section 6.3), if the request was a HEAD or another. `Unreadable`:
 /// a status below 200, a coding, or a length that is unreadable or said twice. `TooLarge`: a length over the limit, of
 /// a response that has a body.
 pub fn response_framing(

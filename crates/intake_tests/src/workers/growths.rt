@@ -67,7 +67,7 @@ fn name_for(alloc: Global, text: &[u8]) -> Result<RepoName, NameFault> {
     }
 }
 
-/// Each connection is served, and where it ends well its blob is held: one of its two requests had the memory. At least
+/// Each connection is served, and if it ends well its blob is held: one of its two requests had the memory. At least
 /// so many of the two end well.
 fn look(
     rt: &impl Abort,

@@ -152,7 +152,7 @@ fn served<'a, R: Threads + Wait + Sync>(
     serve_pair(rt, alloc, service, left, right, moments)
 }
 
-/// The statuses where the clock tells these moments.
+/// The statuses if the clock tells these moments.
 fn statuses_at<R>(rt: &R, told: &[u64]) -> Result<u64, Fail>
 where
     R: Threads + Wait + Sync + AllocGlobal + Abort,

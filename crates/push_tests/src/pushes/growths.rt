@@ -17,7 +17,7 @@ struct Follower {
     open: Option<u64>,
 }
 
-/// How many bytes an upload has by a reply to this ask, or None where it isn't open.
+/// How many bytes an upload has by a reply to this ask, or None if it isn't open.
 fn open_after(open: Option<u64>, kind: Asked, reply: &Heard) -> Option<u64> {
     match (kind, reply.status) {
         (Asked::Opening | Asked::Chunk(..), 202) | (Asked::Status, 204) => {
@@ -88,7 +88,7 @@ fn followed(alloc: Global, name: &RepoName, events: Vec<Event>) -> (End, bool, S
     (end, is_as_heard, service)
 }
 
-/// Whether with memory the same push over the same service ends well, where it wanted memory.
+/// Whether with memory the same push over the same service ends well, if it wanted memory.
 fn ends_well_again(alloc: Global, end: End, name: &RepoName, service: Service) -> bool {
     if end != End::NoMemory {
         return true;
@@ -99,7 +99,7 @@ fn ends_well_again(alloc: Global, end: End, name: &RepoName, service: Service) -
     again == End::Pushed && is_held
 }
 
-/// Pushes over a script of events. What was asked is known from the replies where none was lost.
+/// Pushes over a script of events. What was asked is known from the replies if none was lost.
 fn push_over(rt: &impl Abort, alloc: Global, script: &str) -> Result<(), Fail> {
     let name = name_for(alloc)?;
     let events = events_for(alloc, script.as_bytes())?;

@@ -49,7 +49,7 @@ fn replies_to(alloc: Global, requests: &[u8]) -> (Vec<u8>, ConnEnd) {
     (writer.into_inner(), end)
 }
 
-/// How many bytes the first reply has, of replies without a body; all that there are, where it is cut.
+/// How many bytes the first reply has, of replies without a body; all that there are, if it is cut.
 fn first_reply(replies: &[u8]) -> usize
     ensures within { result ≤ length replies.now }
     ensures some { 0 < length replies.now → 0 < result }
@@ -101,7 +101,7 @@ fn ended_over<S: ByteSource + Drop, W: ByteSink + Drop>(
     Ok(end_of(&push(alloc, &mut transport, b"abc", &name, 2, 5)))
 }
 
-/// How it ends where it hears these replies. What it writes is sent.
+/// How it ends if it hears these replies. What it writes is sent.
 fn pushed_over_wire(alloc: Global, replies: &[u8], sent: &mut Vec<u8>) -> Result<End, Fail> {
     let source = OneByOne {
         left: replies,
@@ -171,7 +171,7 @@ const OPENED: &str =
 const OPENING: &str =
     "POST /v2/lib/a/blobs/uploads/ HTTP/1.1\r\nHost: h\r\nContent-Length: 0\r\n\r\n";
 
-/// What a server sent before it closed, where the first chunk breaks off at its last byte, and how the push ends.
+/// What a server sent before it closed, if the first chunk breaks off at its last byte, and how the push ends.
 static REPLIES_TO_A_PART: [(&str, End); 8] = [
     (
         "HTTP/1.1 413 -\r\nContent-Length: 0\r\n\r\n",

@@ -32,7 +32,7 @@ abbrev pub asks : List Step → List Ask
 asks steps = map (λ (s : Step). s.exchange.ask) steps
 
 -- One seat's steps are the exchanges of its conversations, in order, each once; and behind them at most the request at
--- which the desk was gone, where that one was sent: nobody heard its answer.
+-- which the desk was gone, if that one was sent: nobody heard its answer.
 pub record Carries (seat : ℕ) (steps : List Step) (answered : List WireExchange) (unanswered : List Ask) : Type 0 where
   pub unheard : List Step
   pub in_order : map asked_and_answered (of_seat seat steps)

@@ -12,7 +12,7 @@ use Rattle.upload_intake.specs.Pools.Served.{KeeperState, IsServed}
 abbrev pub count_limit : ℕ
 count_limit = 18446744073709551615
 
--- what a seat heard begins the answers to its jobs, and is all of them where no call of it ended Gone
+-- what a seat heard begins the answers to its jobs, and is all of them if no call of it ended Gone
 pub record Heard (number : ℕ) (steps : List Step) (seat : SeatState) : Type 0 where
   pub unheard : List Answer
   pub in_order : answers_to number steps ≡ seat.heard ++ unheard

@@ -63,7 +63,7 @@ abbrev pub is_gone : ConnEnd → Bool
 is_gone DeskGone = true
 is_gone other = false
 
--- of two facts the one that has to hold behind such an end: the first where the desk was gone
+-- of two facts the one that has to hold behind such an end: the first if the desk was gone
 abbrev pub Behind : ConnEnd → Type 0 → Type 0 → Type 0
 Behind DeskGone gone on = gone
 Behind other gone on = on
@@ -115,7 +115,7 @@ module _ {L : Lending} {S G O : Type 0} (m : Means L S G O) (max_body : ℕ) whe
   IsLast back t ts left new = (ts ≡ []) × (left ≡ back) × (new ≡ t.new)
 
   -- From this seat on: no more comes; or the next connection that is given is served from where the seat stands, and
-  -- taken back as its conversation left it, and so on, but where the desk was gone: behind that connection none is
+  -- taken back as its conversation left it, and so on, but if the desk was gone: behind that connection none is
   -- taken.
   abbrev pub Serves : L.Conns → SeatState × S → List Talk → L.Conns → SeatState × S → Type 0
   Serves conns desk [] left new = L.gives conns None left × (new ≡ desk)

@@ -277,7 +277,7 @@ put_back m d h = elim (map.get m d) as (λ o. map.get m d ≡ o → is_some o �
   | Some blob ↦ λ e _. put_itself m d blob e
 ] refl h
 
--- what a new item under a key does to the look-ups, where `before` was under it
+-- what a new item under a key does to the look-ups, if `before` was under it
 module _ (es es' : Items) (key : List ℕ) (item : Item) (before : Option Item) (has : before ≡ lookup (same key) es)
     (h : (q : List ℕ) → lookup (same q) es' ≡ cond (same key q) (Some item) (lookup (same q) es)) where
   at_key : (q : List ℕ) → q ≡ key → lookup (same q) es' ≡ Some item

@@ -17,16 +17,16 @@ use Rattle.upload_service.specs.Machine.{same, same_digest, pair_cmp}
 use Rattle.upload_service.specs.Codes.{bytes_code, digest_code, pair_code}
 use Rattle.upload_service.specs.Kept.Entries.{kept_as}
 
--- the blob of an item, where there is one
+-- the blob of an item, if there is one
 abbrev pub blob_in : Option Item → Option (List ℕ)
 blob_in = option_map (λ item. item.blob)
 
--- whether a repository has the item, where there is one
+-- whether a repository has the item, if there is one
 abbrev pub is_held : List ℕ → Option Item → Bool
 is_held name None = false
 is_held name (Some item) = list_any (same name) item.holders
 
--- the blob, or no bytes where there is none
+-- the blob, or no bytes if there is none
 abbrev pub or_empty : Option (List ℕ) → List ℕ
 or_empty None = []
 or_empty (Some blob) = blob

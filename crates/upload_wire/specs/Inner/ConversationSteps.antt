@@ -24,7 +24,7 @@ pub record StyledAnswer : Type 0 where
 abbrev pub styled : Answer → Style → StyledAnswer
 styled answer style = record { answer = answer; style = style }
 
--- How a request behind `count` others was replied to; None where the connection goes on.
+-- How a request behind `count` others was replied to; None if the connection goes on.
 abbrev pub IsRepliedTo : ℕ → StyledAnswer → SinkState → SinkState → Option ConnEnd → Type 0
 IsRepliedTo count a mid after None =
     HandedOn mid after (reply a.answer a.style) × (a.style.keep ≡ true) × (count + 1 < max_requests)

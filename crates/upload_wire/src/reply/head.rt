@@ -47,7 +47,7 @@ fn put_blob_location<W: ByteSink>(
     head.put(writer, b"\r\n");
 }
 
-/// Adds how many bytes an upload has, where it has some.
+/// Adds how many bytes an upload has, if it has some.
 fn put_range<W: ByteSink>(head: &mut Gather, writer: &mut W, next: u64)
     ensures { Puts (W.state writer.old) head.old
         (W.state writer.new) head.new (flat_map print_field (range_fields next)) }
@@ -87,7 +87,7 @@ fn put_error<W: ByteSink>(head: &mut Gather, writer: &mut W, code: ErrorCode)
     head.put_length(writer, code.body().len() as u64);
 }
 
-/// Adds the methods of the form, where a method was refused.
+/// Adds the methods of the form, if a method was refused.
 fn put_allow<W: ByteSink>(head: &mut Gather, writer: &mut W, refusal: Refusal)
     ensures { Puts (W.state writer.old) head.old
         (W.state writer.new) head.new (flat_map print_field (allow_fields refusal)) }

@@ -1,5 +1,5 @@
 //! Which bodies carry the hash of their bytes, and by which algorithm. No contract says it: a hash that is there is
-//! right, and where there is none the service makes it, so that only speed hangs on it.
+//! right, and if there is none the service makes it, so that only speed hangs on it.
 ghost use Rattle.std.specs.Prelude.{◌<◌};
 
 use super::{DIGEST, OPENING, UPLOAD};
@@ -131,7 +131,7 @@ fn request_of(alloc: Global, row: &Row) -> Result<Vec<u8>, Fail> {
     Ok(text)
 }
 
-/// By what the body of a request was hashed, where it has one.
+/// By what the body of a request was hashed, if it has one.
 fn hash_of(ask: &Ask) -> Option<Algorithm> {
     match ask {
         Ask::Single { body, .. } | Ask::Chunk { body, .. } | Ask::Close { body, .. } => {

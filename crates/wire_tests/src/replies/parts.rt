@@ -24,7 +24,7 @@ const LIMITS: Limits = Limits {
 
 /// The chunks of an upload and the body of its close, by their sizes, and the writes that a reply with the blob takes.
 /// The service keeps a chunk of over 65,536 bytes as a part of its own, joins small ones up to that, and keeps the body
-/// of the close apart. A head has 176 bytes where the length has three digits, so that 848 bytes fit behind it. What
+/// of the close apart. A head has 176 bytes if the length has three digits, so that 848 bytes fit behind it. What
 /// is short behind a long part is gathered too, and leaves in one write.
 static KEPT_IN_PARTS: [(&[usize], usize, u64); 10] = [
     (&[], 0, 1),
@@ -143,7 +143,7 @@ fn parts_go_out_whole_and_in_order(rt: HostRuntime) -> Result<(), Fail> {
     Ok(())
 }
 
-/// The reply to an end with so much room: a front of it, and a failed write where the room is too small.
+/// The reply to an end with so much room: a front of it, and a failed write if the room is too small.
 fn is_cut(rt: &impl Abort, alloc: Global, fetched: &Fetched, room: usize) {
     let mut writer = MemorySink::new(Vec::new(alloc), 50_000, room);
     let is_whole = write_reply(&mut writer, &fetched.answer, KEPT).is_ok();
