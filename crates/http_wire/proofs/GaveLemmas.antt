@@ -46,7 +46,7 @@ gave_both a b c text g h = record {
   joined = h.joined ∙ ap (λ r. r ++ h.given) g.joined ∙ append_assoc a.held g.given h.given;
 }
 
--- a read behind the part that is left, after a front of the text was taken
+-- a read behind the part that is left, after a prefix of the text was taken
 pub gave_after : (a b : InputState) (c : SourceState) (front text : List ℕ) → Gave a b.source (front ++ b.held)
     → Gave b c text
     → Gave a c (front ++ text)

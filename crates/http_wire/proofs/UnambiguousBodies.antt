@@ -107,7 +107,7 @@ same_body t u body other a b x y e =
     (ap (λ m. m ++ a) (sym x.cut) ∙ e ∙ ap (λ m. m ++ b) y.cut) in
     record { text = x.cut ∙ s.text ∙ sym y.cut; joined = x.joined ∙ s.joined ∙ sym y.joined; rest = s.rest }
 
--- no chunked text is a front of another
+-- no chunked text is a prefix of another
 no_proper_front : (t body more other : List ℕ) → IsChunked t body → IsChunked (t ++ more) other → 0 < length more → ⊥
 no_proper_front t body more other x y some =
     let s = same_body t (t ++ more) body other more [] x y (sym (append-nil (t ++ more))) in
@@ -163,7 +163,7 @@ broken_never max text more body y x =
     (ap (λ t. t ++ more) (y.cut ∙ sym (append_assoc y.before (y.byte ∷ []) y.rest))
     ∙ append_assoc (y.before ++ y.byte ∷ []) y.rest more) x)
 
--- a text that is longer than a front has the byte behind it
+-- a text that is longer than a prefix has the byte behind it
 has_byte : (before rest text a : List ℕ) (byte : ℕ) → text ++ a ≡ before ++ byte ∷ rest → length before < length text
     → (more : List ℕ) × (text ≡ (before ++ byte ∷ []) ++ more)
 has_byte before rest text a byte e longer =

@@ -10,7 +10,7 @@ use Rattle.http_wire.specs.Unambiguous.{HeadParse, head, long, unfinished, Begin
 use Rattle.http_wire.proofs.Heads.HeadLemmas.{snoc_cases, snoc_inj, line_feeds-append, EndsInLineFeed}
 use Rattle.http_wire.proofs.Heads.HeadLaws.{request_ends, response_ends}
 
--- the longer of two fronts goes on behind the shorter
+-- the longer of two prefixes goes on behind the shorter
 pub longer_front : (a b c d : List ℕ) → a ++ b ≡ c ++ d → length a ≤ length c
     → (more : List ℕ) × (c ≡ a ++ more) × (b ≡ more ++ d)
 longer_front [] b c d e le = (c, refl, e)
@@ -54,7 +54,7 @@ one_parse w law text unfinished (head k q) x y = absurd (x.none k q y.reads)
 one_parse w law text unfinished long x y = absurd (long_not_short w text y x)
 one_parse w law text unfinished unfinished x y = refl
 
--- a head that is longer than a front has a line feed behind it
+-- a head that is longer than a prefix has a line feed behind it
 one_more_line : (w : Words) → EndsInLineFeed w → (front m : List ℕ) (h : w.Head) → w.print h ≡ front ++ m → 0 < length m
     → line_feeds front < line_feeds (w.print h)
 one_more_line w ends front m h e some = elim (snoc_cases m) [

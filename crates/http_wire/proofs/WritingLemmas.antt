@@ -42,7 +42,7 @@ pub takes_kept : (a b c : SinkState) (xs : List ℕ) → Takes a b xs → c.take
 takes_kept a b c xs h told kept =
     record { told = told ∙ h.told; grown = appends_kept a.contents b.contents c.contents xs h.grown kept }
 
--- the front that one more write makes
+-- the prefix that one more write makes
 pub taken_more : (xs : List ℕ) (i n : ℕ) → take (i + n) xs ≡ take i xs ++ take n (take (length xs - i) (drop i xs))
 taken_more xs i n =
     take-add i n xs

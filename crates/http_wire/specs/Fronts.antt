@@ -53,13 +53,13 @@ abbrev pub HasOnlyLongHeads : Words → List ℕ → Type 0
 HasOnlyLongHeads w text =
     (head : w.Head) (rest : List ℕ) → Reads w text head rest → max_fields < length (w.fields head)
 
--- A front that ends in a line feed may be refused if it has no head however it goes on, and if
+-- A prefix that ends in a line feed may be refused if it has no head however it goes on, and if
 -- it has over 65 line feeds and no head of at most 64 fields.
 abbrev pub MayBeRefused : Words → List ℕ → Type 0
 MayBeRefused w front =
     NeverHas w front ⊎ ((max_fields + 1 < line_feeds front) × HasOnlyLongHeads w front)
 
--- A front of the text that ends in a line feed may be refused, and nothing before it is a head.
+-- A prefix of the text that ends in a line feed may be refused, and nothing before it is a head.
 pub record IsRefused (w : Words) (text : List ℕ) : Type 0 where
   pub before : List ℕ
   pub rest : List ℕ

@@ -29,7 +29,7 @@ pub record HeadsAreUnambiguous (w : Words) : Type 0 where
 
 -- ---- bodies
 
--- what stands behind a head: a whole body and then rest, one that is refused, or a front of one
+-- what stands behind a head: a whole body and then rest, one that is refused, or a prefix of one
 pub data BodyParse : Type 0 where
   whole : List ℕ → List ℕ → BodyParse
   refused : Bad → BodyParse

@@ -19,7 +19,7 @@ pub record TookAll (old new : SinkState) (text : List ℕ) : Type 0 where
   pub takes : Takes old new text
   pub unfailed : new.failed_writes ≡ old.failed_writes
 
--- the sink took a front of the text, and then a call failed
+-- the sink took a prefix of the text, and then a call failed
 pub record TookFront (old new : SinkState) (text : List ℕ) : Type 0 where
   pub front : List ℕ
   pub back : List ℕ
@@ -27,7 +27,7 @@ pub record TookFront (old new : SinkState) (text : List ℕ) : Type 0 where
   pub takes : Takes old new front
   pub failed : CountsUp old.failed_writes new.failed_writes
 
--- the sink took the text, or a front of it if a call failed
+-- the sink took the text, or a prefix of it if a call failed
 abbrev pub Wrote : SinkState → SinkState → List ℕ → Result ⊤ WriteFault → Type 0
 Wrote old new text (Ok u) = TookAll old new text
 Wrote old new text (Err fault) = TookFront old new text

@@ -15,7 +15,7 @@ pub const MAX_HEAD: usize = 16_384;
 /// The most fields of a head.
 pub const MAX_FIELDS: usize = 64;
 
-/// What a front of the input is.
+/// What a prefix of the input is.
 #[derive(Clone, Copy)]
 pub enum Verdict<P> {
     /// It is a head.
@@ -47,13 +47,13 @@ pub trait Grammar {
     // What the parser answers.
     ghost spans: { Spans Self.Parsed };
 
-    /// Asks the parser for a verdict on a front of the input.
+    /// Asks the parser for a verdict on a prefix of the input.
     fn judge(front: &[u8]) -> Verdict<Self::Parsed>
         ensures { Judges spans front.now result };
 }
 
-/// The verdict on the front that ends at a byte, if so many lines ended before it. A head ends in a line
-/// feed, and one of 64 fields has 66 of them if no empty line stands in front of it: a front with as many
+/// The verdict on the prefix that ends at a byte, if so many lines ended before it. A head ends in a line
+/// feed, and one of 64 fields has 66 of them if no empty line stands in front of it: a prefix with as many
 /// that is no head is given up, so that a hostile head costs at most 66 verdicts.
 fn judge_at<G: Grammar>(text: &[u8], at: usize, lines: usize) -> Verdict<G::Parsed>
     requires lawful { AreLawful G.spans }

@@ -23,7 +23,7 @@ pub fn bad_status(why: Bad) -> Status
 
 /// Writes the response to what is no request, by what is bad in it, and flushes it: it has no body, and closes the
 /// connection. It takes no memory. `Ok` comes only if all of it was written and handed on, and no call of the writer
-/// failed; else a front of it was written.
+/// failed; else a prefix of it was written.
 pub fn write_bad<W: ByteSink>(writer: &mut W, why: Bad) -> Result<(), WriteFault>
     ensures wrote { Wrote (W.state writer.old) (W.state writer.new) (bad why) result }
     ensures flushed { OnOk result (IsTrue ((W.state writer.new).flushed)) }

@@ -6,7 +6,7 @@ ghost use Rattle.http_wire.specs.Writing.{Wrote};
 use crate::bytes::ByteSink;
 use std::fmt;
 
-/// A write or a flush failed. What was written up to then is a front of the text.
+/// A write or a flush failed. What was written up to then is a prefix of the text.
 #[derive(Clone, Copy, Debug, Drop, PartialEq, Eq)]
 pub struct WriteFault;
 

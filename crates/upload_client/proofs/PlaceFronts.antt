@@ -1,4 +1,4 @@
--- What stands behind a front of a text.
+-- What stands behind a prefix of a text.
 use Rattle.std.proofs.Common.{◌≡◌, ◌≢◌, ℕ, ◌+◌, Bool, true, false, List, ◌++◌, length, drop, refl, sym, ap, ◌∙◌}
 use Rattle.std.proofs.Common.{append_assoc, if◌then◌else◌}
 use Rattle.std.specs.Prelude.{Option, Some, None, option_and_then, nat_eq}
@@ -9,7 +9,7 @@ use Rattle.std.proofs.lemmas.Slice.Eq.{starts_is}
 use Rattle.std.proofs.lemmas.List.{append_cancel_left}
 use Rattle.upload_client.specs.Heard.{after_front}
 
--- what stands behind the front, or that the text hasn't that front
+-- what stands behind the prefix, or that the text hasn't that prefix
 abbrev pub IsAfter : List ℕ → List ℕ → Option (List ℕ) → Type 0
 IsAfter front text None = (rest : List ℕ) → text ≢ front ++ rest
 IsAfter front text (Some rest) = text ≡ front ++ rest
@@ -36,7 +36,7 @@ then_after a b text (Some m) h = go (after_front b m) (after_front_is b m) where
   go None k = λ rest cut. k rest (append_cancel_left a m (b ++ rest) (sym h ∙ cut ∙ append_assoc a b rest))
   go (Some rest) k = h ∙ ap (λ t. a ++ t) k ∙ sym (append_assoc a b rest)
 
--- a front of two parts is taken one part after the other
+-- a prefix of two parts is taken one part after the other
 pub after_front-append : (a b text : List ℕ)
     → after_front (a ++ b) text ≡ option_and_then (after_front b) (after_front a text)
 after_front-append a b text =

@@ -55,7 +55,7 @@ reply_heard (Misplaced name at next) = record (of_upload 416 name at next) { cod
 reply_heard (Refused refusal) = of_refusal refusal
 reply_heard NoMemory = bare 503
 
--- what stands behind this front of a text
+-- what stands behind this prefix of a text
 abbrev pub after_front : List ℕ → List ℕ → Option (List ℕ)
 after_front front text = if starts_with nat_eq text front then Some (drop (length front) text) else None
 

@@ -77,7 +77,7 @@ HearsBehind a_refusal head_only old heard new =
     × (new.broken ≡ true)
 HearsBehind no_reply head_only old heard new = (heard ≡ None) × (new.reader ≡ old.reader) × (new.broken ≡ true)
 
--- the request was written and handed on, or a front of it was written if a write failed, and this was heard behind
+-- the request was written and handed on, or a prefix of it was written if a write failed, and this was heard behind
 -- it
 pub record Exchanges (old : WireState) (ask : Ask) (heard : Option Heard) (new : WireState) : Type 0 where
   pub written : Result ⊤ WriteFault

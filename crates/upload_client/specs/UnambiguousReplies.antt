@@ -8,7 +8,7 @@ use Rattle.upload_client.specs.declared.heard.Heard.{Heard}
 use Rattle.http_wire.specs.declared.responses.framing.FramingFault.TheVariants as Fault
 
 -- what a text holds first: a reply of which this is heard, whether it keeps the connection, and then rest; one that is
--- unreadable, by its head or behind it; one that is too large; or a front of one
+-- unreadable, by its head or behind it; one that is too large; or a prefix of one
 pub data ReplyParse : Type 0 where
   heard : Heard → Bool → List ℕ → ReplyParse
   refused : ReplyParse

@@ -16,7 +16,7 @@ use upload_texts::put_parts;
 
 /// Writes an ask as a request to the host, and flushes it. The head leaves in one write if it has at most 1,024 bytes,
 /// with the body if that fits too, and a larger body from its own memory. `WriteFault` comes only if a write or the
-/// flush failed; what was written then is a front of the request. It takes no memory.
+/// flush failed; what was written then is a prefix of the request. It takes no memory.
 ///
 /// The ask isn't `Refused`, its range isn't `Bad`, and the host has at least one byte, all of them
 /// visible ASCII.

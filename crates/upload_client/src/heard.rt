@@ -215,7 +215,7 @@ pub fn read_place(path: &[u8], name: &RepoName) -> Option<UploadRef>
     UploadRef::read(reference)
 }
 
-/// What stands behind a front of a text.
+/// What stands behind a prefix of a text.
 fn behind<'t>(front: &[u8], text: &'t [u8]) -> Option<&'t [u8]>
     ensures { option_copied result ≡ after_front front.now text.now }
 {

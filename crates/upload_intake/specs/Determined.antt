@@ -19,7 +19,7 @@ abbrev pub HaveMemory : List Step → Type 0
 HaveMemory steps = AllByRecursion (λ (s : Step). s.exchange.answer ≢ NoMemory) steps
 
 -- What two services from the same state served in the same order: the same answers were given, and the same service is
--- left, if memory wasn't wanting. What two workers of one seat read and replied on all their connections is the same
+-- left, if memory wasn't out. What two workers of one seat read and replied on all their connections is the same
 -- if the same steps are theirs, and no desk was gone.
 pub record ServedOrdersAreDetermined : Type 0 where
   pub by_order : (start one two : State) (steps others : List Step)

@@ -25,7 +25,7 @@ pub fn transcripts_tell_connections<C: Conns, S: Secrets, G: Gate, O: Observer>(
 {}
 
 /// Two services that begin in the same state, and serve the same jobs of the same seats in the same order, with the
-/// same secrets and at the same moments, give the same answers and are left the same, unless memory was wanting. So
+/// same secrets and at the same moments, give the same answers and are left the same, unless memory was out. So
 /// what a worker's conversations asked and were answered is determined by that order, if its desk wasn't gone.
 pub fn served_orders_are_determined()
     ensures { ServedOrdersAreDetermined }

@@ -28,7 +28,7 @@ pub struct Settled {
 }
 
 /// A keeper that has the service, and so many seats. At most `capacity` jobs wait on their line, and one reply on each
-/// of the others. Where memory is wanting the service is dropped.
+/// of the others. If memory is out, the service is dropped.
 pub(crate) fn lines_of(
     alloc: Global,
     service: Service,
@@ -61,7 +61,7 @@ pub(crate) fn lines_of(
 }
 
 /// A keeper that has the service, and the left and the right seat: those of two. At most `capacity` jobs wait on their
-/// line, and one reply on each of the two others. Where memory is wanting the service is dropped.
+/// line, and one reply on each of the two others. If memory is out, the service is dropped.
 pub fn lines(
     alloc: Global,
     service: Service,

@@ -124,7 +124,7 @@ impl<'a, R: Wait, S: Secrets, G: Gate> Desk for GatedDesk<'a, R, S, G> {
 }
 
 /// Serves a worker's connections one after the other, none behind one that ended `DeskGone`, and finishes its seat. One
-/// server serves them all, so that none is turned away for want of a buffer. A large body is hashed in threads, beside
+/// server serves them all, so that none is turned away for lack of one. A large body is hashed in threads, beside
 /// its reading.
 fn serve_seat<R, C, S, G, O>(
     rt: &R,

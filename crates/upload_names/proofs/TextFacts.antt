@@ -22,7 +22,7 @@ behind_found text prefix (Some x) h =
     ∙ ap (λ front. front ++ drop (length prefix) text) (same_text (take (length prefix) text) prefix (sym h.0))
     ∙ ap (λ rest. prefix ++ rest) (sym h.1)
 
--- a text written behind a front of seven bytes, to the end of the room
+-- a text written behind a prefix of seven bytes, to the end of the room
 pub put_behind : (prefix front rest text out : List ℕ) → front ≡ prefix → length prefix ≡ 7 → out ≡ text
     → put_mid 7 (length (front ++ rest) - 7) (front ++ rest) out ≡ prefix ++ text
 put_behind prefix front rest text out is_front seven is_text =
@@ -35,7 +35,7 @@ put_behind prefix front rest text out is_front seven is_text =
     ∙ ap (λ t. front ++ t) (append-nil out ∙ is_text)
     ∙ ap (λ f. f ++ text) is_front
 
--- the room behind a front of seven bytes
+-- the room behind a prefix of seven bytes
 pub room_behind : (front text : List ℕ) (room : ℕ) → length front ≡ 7 → length text ≡ 7 + room
     → length (take (length (front ++ drop 7 text) - 7) (drop 7 (front ++ drop 7 text))) ≡ room
 room_behind front text room seven long =

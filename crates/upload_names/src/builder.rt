@@ -91,7 +91,7 @@ impl BodyBuilder {
         Ok(())
     }
 
-    /// Makes a part of what came behind the last one and a front of a piece, and has the rest of the piece come behind
+    /// Makes a part of what came behind the last one and a prefix of a piece, and has the rest of the piece come behind
     /// it, which makes `len` bytes. An `Err` changes nothing that is seen.
     fn roll_over(&mut self, len: usize, front: &[u8], rest: &[u8]) -> Result<(), AllocError>
         requires { len ≡ length (self.old ++ front.now ++ rest.now) }

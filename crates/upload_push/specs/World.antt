@@ -37,7 +37,7 @@ abbrev pub world_later : World → ℕ → List Event → World
 world_later w seconds events =
     record { service = w.service; secret = w.secret; now = moment_after w.now seconds; events = events }
 
--- a reply is heard as what it says, or, if memory is wanting, not at all
+-- a reply is heard as what it says, or, if memory is out, not at all
 abbrev pub Reaches : Answer → Option Heard → Type 0
 Reaches answer heard = (heard ≡ Some (reply_heard answer)) ⊎ (heard ≡ None)
 

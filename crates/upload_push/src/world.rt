@@ -148,7 +148,7 @@ impl LossyWorld {
 impl Transport for LossyWorld {
     ghost asked = { λ w ask heard new. Asked w ask heard new };
 
-    /// None if the request or its reply was lost, or if memory was wanting for the reply.
+    /// None if the request or its reply was lost, or if memory was out for the reply.
     fn ask(&mut self, ask: Ask) -> Option<Heard> {
         match self.next_fate() {
             Fate::NotDelivered => None,

@@ -36,7 +36,7 @@ pub record ReadRequest : Type 0 where
 abbrev pub asked : WireExchange → ReadRequest
 asked x = record { message = x.message; ask = x.ask; style = x.style }
 
--- An end that the bytes don't decide: memory was wanting, a write failed, or the head that stands there may be refused.
+-- An end that the bytes don't decide: memory was out, a write failed, or the head that stands there may be refused.
 abbrev pub IsUndecided : ℕ → List ℕ → ConnEnd → Type 0
 IsUndecided max_body rest AfterBad = IsBad max_body rest Head
 IsUndecided max_body rest (Fault (Conn.Wire Wire.NoMemory)) = ⊤
@@ -46,7 +46,7 @@ IsUndecided max_body rest other = ⊥
 abbrev pub IsDecided : {D : Type 0} (step : Moves D) (max_body : ℕ) → Dialogue step max_body → Type 0
 IsDecided step max_body d = ¬ (IsUndecided max_body d.is.rest d.end)
 
--- if memory isn't wanting an ask has one answer, or none, and leaves one state
+-- if memory isn't out, an ask has one answer, or none, and leaves one state
 abbrev pub IsDeterministic : {D : Type 0} → Moves D → Type 0
 IsDeterministic {D} step =
     (old : D) (ask : Ask) (answer other : Option Answer) (new another : D) → step old ask answer new

@@ -8,7 +8,7 @@ use Rattle.http_wire.specs.declared.fault.Bad.TheVariants.{Head}
 use Rattle.upload_wire.specs.RequestText.{IsBad, IsTruncated, ReadsOne}
 use Rattle.upload_wire.specs.declared.request.Style.{Style}
 
--- what a text holds first: a request and then rest, something bad, a front of a request, or nothing
+-- what a text holds first: a request and then rest, something bad, a prefix of a request, or nothing
 pub data RequestParse : Type 0 where
   request : Ask → Style → List ℕ → RequestParse
   bad : Bad → RequestParse

@@ -32,7 +32,7 @@ const MAX_REQUESTS: usize = 10_000;
 pub enum ConnFault {
     /// No further request could be read. Nothing was replied to what was read of it.
     Wire(WireFault),
-    /// A write or a flush of a reply failed. The writer holds the replies before it, and a front of it.
+    /// A write or a flush of a reply failed. The writer holds the replies before it, and a prefix of it.
     Write,
 }
 

@@ -28,7 +28,7 @@ pub fn requests_are_unambiguous()
 {}
 
 /// What is asked on a connection is determined by the bytes that were read, whatever the desk answers, unless it was
-/// gone. What is answered and written is so too, if the desk is deterministic and memory wasn't wanting. Neither is
+/// gone. What is answered and written is so too, if the desk is deterministic and memory wasn't out. Neither is
 /// said if a request wanted memory, a write failed, or a head was refused.
 pub fn conversations_are_determined<D: Desk>()
     ensures { ConversationsAreDetermined D.moves }

@@ -19,7 +19,7 @@ pub(crate) use head::status_of;
 
 /// Writes the reply to an answer, and flushes it: its head in one write, with its body if that is short,
 /// and a longer body out of its own memory. It takes no memory. `Ok` comes only if all of it was written and
-/// handed on, and no call of the writer failed; else a front of it was written.
+/// handed on, and no call of the writer failed; else a prefix of it was written.
 pub fn write_reply<W: ByteSink>(
     writer: &mut W,
     answer: &Answer,

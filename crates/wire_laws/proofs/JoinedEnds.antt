@@ -741,7 +741,7 @@ no_empty_bad max text why (inr (inl x)) none =
 no_empty_bad max text why (inr (inr (inl x))) none = no_empty_head text x.head x.rest x.reads none
 no_empty_bad max text why (inr (inr (inr x))) none = no_empty_head text x.head x.rest x.reads none
 
--- if it was asked, a front of what was written is completed to the ask
+-- if it was asked, a prefix of what was written is completed to the ask
 completed : (written : Result ⊤ WriteFault) (old new : SinkState) (whole rest there later : List ℕ)
     (w : Wrote old new whole written) → (is_err written ≡ true → later ≡ [])
     → rest ++ there ≡ (wrote_front written old new whole w).0 ++ later

@@ -83,7 +83,7 @@ reply_read answer style rest =
 
 -- ---- the law
 
--- what a reader of replies gives if the text is read so, unless memory was wanting; it holds `left` then
+-- what a reader of replies gives if the text is read so, unless memory was out; it holds `left` then
 abbrev pub ReaderGives : ReplyParse → List ℕ → Result Heard HeardFault → Bool → Type 0
 ReaderGives (heard what goes_on rest) left given keep = (given ≡ Ok what) × (left ≡ rest) × (keep ≡ goes_on)
 ReaderGives refused left given keep = given ≡ Err Reply.Unreadable

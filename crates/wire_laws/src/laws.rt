@@ -14,7 +14,7 @@ pub fn written_asks_are_read()
 
 /// What the service writes to answer is read, by the definition of replies, as what the answer says, whether the
 /// connection goes on, and what follows. It is read in no other way, and a reader of replies gives just that, unless
-/// memory was wanting. In the reply to a HEAD no code is heard. A blob's bytes are read as a body of errors would be,
+/// memory was out. In the reply to a HEAD no code is heard. A blob's bytes are read as a body of errors would be,
 /// and more than 65,536 of them are too large. The numbers of bytes that an answer tells are at most 10^18 + 1, and an
 /// answer without the bytes of its blob is one to a HEAD.
 pub fn written_replies_are_heard()

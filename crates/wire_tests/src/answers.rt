@@ -21,7 +21,7 @@ pub enum Said {
     NoMemory,
 }
 
-/// The name `lib/a`: nothing but memory can be wanting.
+/// The name `lib/a`: only memory can run out.
 pub fn lib_a(alloc: Global) -> Result<RepoName, AllocError> {
     RepoName::read(alloc, b"lib/a").map_err(|_| AllocError)
 }

@@ -21,7 +21,7 @@ enum Framed {
 /// A body of the next so many bytes of the content, and how it is sent.
 type Body = (usize, Framed);
 
-/// An upload of the front of the content.
+/// An upload of the prefix of the content.
 #[derive(Clone, Copy)]
 struct Upload {
     /// The body of each PATCH. None: all goes up in one POST.
@@ -31,7 +31,7 @@ struct Upload {
     content: Content,
 }
 
-/// A front of the content, of so many bytes, and its digests, as `sha256sum` and `sha512sum` print them.
+/// A prefix of the content, of so many bytes, and its digests, as `sha256sum` and `sha512sum` print them.
 #[derive(Clone, Copy)]
 struct Content {
     size: usize,

@@ -17,7 +17,7 @@ lines_same ds es r q d e cut =
     let tail = s.2 in
     (s.0, cc)
 
--- two fronts of one length
+-- two prefixes of one length
 pub same_front : (a b r q : List ℕ) → length a ≡ length b → a ++ r ≡ b ++ q → (a ≡ b) × (r ≡ q)
 same_front [] [] r q l e = (refl, e)
 same_front [] (y ∷ b) r q l e = absurd (omega arith)
@@ -121,7 +121,7 @@ never_after (c ∷ chunks) text each never more body h =
     let f = chunk_first c ((chunks_text chunks ++ text) ++ more) body is moved in
     never_after chunks text (All-tail IsChunk c chunks each) never more f.after f.chunked
 
--- the front of a chunked text, behind chunks
+-- the prefix of a chunked text, behind chunks
 pub front_after : (chunks : List Chunk) (text : List ℕ) → All IsChunk chunks → IsFrontOfChunked text
     → IsFrontOfChunked (chunks_text chunks ++ text)
 front_after [] text each front = front

@@ -1,4 +1,4 @@
--- How a front of a chunked text can go on.
+-- How a prefix of a chunked text can go on.
 use Rattle.std.proofs.Common.{◌≡◌, ℕ, zero, suc, ◌-◌, ◌<◌, ◌≤◌, List, [], ◌∷◌, ◌++◌, length, refl, arith, ◌∙◌, sym, ap}
 use Rattle.std.proofs.Common.{subst, append-nil, append_assoc, length-append, inl, inr}
 use Rattle.std.proofs.lemmas.List.Elements.{All-nil}
@@ -40,7 +40,7 @@ last_chunked = record {
 pub front_start : IsFrontOfChunked []
 front_start = record { more = 48 ∷ 13 ∷ 10 ∷ 13 ∷ 10 ∷ []; body = []; some = omega arith; chunked = last_chunked }
 
--- a shorter front
+-- a shorter prefix
 pub front_shorter : (a b : List ℕ) → IsFrontOfChunked (a ++ b) → IsFrontOfChunked a
 front_shorter a b f =
     let some = f.some in

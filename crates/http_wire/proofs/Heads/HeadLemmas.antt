@@ -74,7 +74,7 @@ EndsInLineFeed w = (h : w.Head) → (front : List ℕ) × (w.print h ≡ front +
 abbrev pub HasLines : Words → Type 0
 HasLines w = (h : w.Head) → length (w.fields h) + 2 ≤ line_feeds (w.print h)
 
--- if the front has no head, a head of one byte more is all of it
+-- if the prefix has no head, a head of one byte more is all of it
 pub only_whole : (w : Words) (front : List ℕ) (b : ℕ) (h : w.Head) (rest : List ℕ) → HasNone w front
     → Reads w (front ++ b ∷ []) h rest → rest ≡ []
 only_whole w front b h rest none x =
@@ -149,7 +149,7 @@ pub refused_by_fields : (w : Words) → HasLines w → (text : List ℕ) → Ove
 refused_by_fields w law text over exceeds =
     inr (exceeds_line_feeds w law max_fields text exceeds, overflows_now w max_fields text over)
 
--- an error of the parser refuses the front
+-- an error of the parser refuses the prefix
 pub refused_by_error : (w : Words) → HasLines w → (text : List ℕ) (e : Error)
     → (e ≢ TooManyHeaders → NeverHas w text) → Overflows w max_fields text
     → (e ≡ TooManyHeaders → Exceeds w max_fields text) → MayBeRefused w text
@@ -172,7 +172,7 @@ pub none_at_next : (w : Words) → EndsInLineFeed w → (text : List ℕ) (at : 
 none_at_next w law text at lt none other =
     subst (HasNone w) (sym (take-next text at lt)) (none_more w law (take at text) (get_or text at 0) none other)
 
--- a front that may be refused, with no head before its line feed
+-- a prefix that may be refused, with no head before its line feed
 pub refused_at : (w : Words) (text : List ℕ) (at : ℕ) → at < length text → at < 16384 → HasNone w (take at text)
     → get_or text at 0 ≡ line_feed → MayBeRefused w (take (at + 1) text) → IsRefused w text
 refused_at w text at lt short none same may =
@@ -187,7 +187,7 @@ refused_at w text at lt short none same may =
       refused = subst (MayBeRefused w) next may;
     }
 
--- a head that the parser finds there is all of the front
+-- a head that the parser finds there is all of the prefix
 pub head_at : {P : Type 0} (s : Spans P) → AreLawful s → (text : List ℕ) (at : ℕ) (p : P) → at < length text
     → at < 16384 → HasNone s.words (take at text) → s.IsHeadOf (take (at + 1) text) p → IsHeadAtFront s text p
 head_at s laws text at p lt short none found =

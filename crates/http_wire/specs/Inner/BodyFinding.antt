@@ -23,7 +23,7 @@ pub record RefusesBodyText (framing : Framing) (old : InputState) (new : SourceS
   pub gave : Gave old new text
   pub bad : IsBadBody framing text why
 
--- what came is the front of a body
+-- what came is a prefix of a body
 pub record CutsBody (framing : Framing) (old : InputState) (new : SourceState) : Type 0 where
   pub text : List ℕ
   pub gave : Gave old new text

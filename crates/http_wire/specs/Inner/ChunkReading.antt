@@ -24,7 +24,7 @@ pub record TakesLine (old new : InputState) (value : ℕ) : Type 0 where
   pub is_line : IsLine line value
   pub gave : Gave old new.source (line ++ new.held)
 
--- at a byte the input stops being the front of a size line
+-- at a byte the input stops being a prefix of a size line
 pub record BreaksLine (old : InputState) (new : SourceState) : Type 0 where
   pub before : List ℕ
   pub byte : ℕ
@@ -34,7 +34,7 @@ pub record BreaksLine (old : InputState) (new : SourceState) : Type 0 where
   pub stands : StandsAt before state
   pub never : NeverLine (before ++ byte ∷ [])
 
--- what came is the front of a size line
+-- what came is a prefix of a size line
 pub record CutsLine (old : InputState) (new : SourceState) : Type 0 where
   pub text : List ℕ
   pub gave : Gave old new text
@@ -51,7 +51,7 @@ FindsLine old new (Err Input.Read) = CutsLine old new.source
 abbrev pub NeverEnd : List ℕ → Type 0
 NeverEnd text = (more rest : List ℕ) → text ++ more ≢ crlf_bytes ++ rest
 
--- at a byte the input stops being the front of CR LF
+-- at a byte the input stops being a prefix of CR LF
 pub record BreaksEnd (old : InputState) (new : SourceState) : Type 0 where
   pub before : List ℕ
   pub byte : ℕ
@@ -60,7 +60,7 @@ pub record BreaksEnd (old : InputState) (new : SourceState) : Type 0 where
   pub front : (before ≡ []) ⊎ (before ≡ 13 ∷ [])
   pub never : NeverEnd (before ++ byte ∷ [])
 
--- what came is the front of CR LF
+-- what came is a prefix of CR LF
 pub record CutsEnd (old : InputState) (new : SourceState) : Type 0 where
   pub text : List ℕ
   pub gave : Gave old new text
@@ -93,7 +93,7 @@ pub record RefusesChunk (room : ℕ) (old : InputState) (new : SourceState) (why
   pub gave : Gave old new text
   pub bad : IsBadBody (Chunked room) text why
 
--- what came is the front of a chunked text of so many bytes
+-- what came is a prefix of a chunked text of so many bytes
 pub record CutsChunk (room : ℕ) (old : InputState) (new : SourceState) : Type 0 where
   pub text : List ℕ
   pub gave : Gave old new text

@@ -12,7 +12,8 @@ abbrev pub GatheredUnless : Bool → SinkState → SinkState → List ℕ → Li
 GatheredUnless true start now bytes text = TookFront start now text
 GatheredUnless false start now bytes text = (written : List ℕ) × TookAll start now written × (text ≡ written ++ bytes)
 
--- Since the start the text was put: the sink took all but the bytes that are held, or a front of it and a write failed.
+-- Since the start the text was put: the sink took all but the bytes that are held, or a prefix of it and a write
+-- failed.
 abbrev pub Gathered : SinkState → SinkState → Held → List ℕ → Type 0
 Gathered start now held text = GatheredUnless held.failed start now held.bytes text
 

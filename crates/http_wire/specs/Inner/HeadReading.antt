@@ -33,7 +33,7 @@ pub record AreLawful {P : Type 0} (s : Spans P) : Type 0 where
 abbrev pub fields_of : {P : Type 0} → Spans P → List ℕ → P → Fields
 fields_of s head p = map (header_bytes head) (s.headers p)
 
--- what the verdict says of a front
+-- what the verdict says of a prefix
 abbrev pub Judges : {P : Type 0} → Spans P → List ℕ → Verdict P → Type 0
 Judges s front (Complete p) = s.IsHeadOf front p
 Judges s front Refused = MayBeRefused s.words front
@@ -45,7 +45,7 @@ pub record IsHeadAtFront {P : Type 0} (s : Spans P) (text : List ℕ) (p : P) : 
   pub in_range : s.len p ≤ length text
   pub head : s.IsHeadOf (take (s.len p) text) p
 
--- what the verdict on the front that ends at an index says of the text
+-- what the verdict on the prefix that ends at an index says of the text
 abbrev pub JudgesAt : {P : Type 0} → Spans P → List ℕ → ℕ → Verdict P → Type 0
 JudgesAt s text at (Complete p) = IsHeadAtFront s text p
 JudgesAt s text at Refused = IsRefused s.words text

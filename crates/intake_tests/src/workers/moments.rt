@@ -55,7 +55,7 @@ struct Statuses<'a> {
     writes: u64,
 }
 
-/// The status of a reply, of which a front is written.
+/// The status of a reply, of which a prefix is written.
 fn status_of(text: &[u8]) -> u64 {
     text.iter().skip(9).take(3).fold(0, |number: u64, digit| {
         number.wrapping_mul(10).wrapping_add(u64::from(digit & 15))

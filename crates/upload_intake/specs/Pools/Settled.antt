@@ -19,7 +19,7 @@ pub record Heard (number : ℕ) (steps : List Step) (seat : SeatState) : Type 0 
   pub all : seat.gone ≡ false → unheard ≡ []
 
 -- the jobs of the steps are, of this seat, exactly those that it sent, in its order, each once; and what it heard is in
--- order a front of the answers to them
+-- order a prefix of the answers to them
 pub record IsSettledSeat (number : ℕ) (steps : List Step) (seat : SeatState) : Type 0 where
   pub sent : jobs_of number (taken_by steps) ≡ seat.sent
   pub heard : Heard number steps seat

@@ -143,7 +143,7 @@ fn parts_go_out_whole_and_in_order(rt: HostRuntime) -> Result<(), Fail> {
     Ok(())
 }
 
-/// The reply to an end with so much room: a front of it, and a failed write if the room is too small.
+/// The reply to an end with so much room: a prefix of it, and a failed write if the room is too small.
 fn is_cut(rt: &impl Abort, alloc: Global, fetched: &Fetched, room: usize) {
     let mut writer = MemorySink::new(Vec::new(alloc), 50_000, room);
     let is_whole = write_reply(&mut writer, &fetched.answer, KEPT).is_ok();
