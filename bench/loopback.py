@@ -121,7 +121,7 @@ class Measured:
 
 
 class Blobd(Measured):
-    """`blobd serve` with so many workers; its name says how many where they aren't two."""
+    """`blobd serve` with so many workers; its name says how many if they aren't two."""
 
     name = "blobd"
     stderr = None

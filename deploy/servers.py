@@ -106,7 +106,7 @@ class Service:
         raise RuntimeError(f"{self.name} doesn't listen on {address}:\n{told}")
 
     def end(self, by=signal.SIGTERM):
-        """Ends it, by force where it doesn't go within five seconds."""
+        """Ends it, by force if it doesn't go within five seconds."""
         if self.process is None:
             return
         self.process.send_signal(by)
@@ -270,7 +270,7 @@ class Adapter(Service):
 
 
 class DockerRegistry(Service):
-    """Debian's docker-registry, with its files in the folder; with logins of Apache's form where they are given."""
+    """Debian's docker-registry, with its files in the folder; with logins of Apache's form if they are given."""
 
     def __init__(self, folder, tls=False, htpasswd=None):
         self.address = free_address()

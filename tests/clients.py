@@ -66,11 +66,11 @@ class Client:
         told = reply.status if reply else "nothing"
         self.seen[f"{method} {told}"] += 1
         self.past.append(f"{method} {target}: {told}")
-        demand(self.is_refused or (reply and reply.status != 503), "no reply where nothing is wrong")
+        demand(self.is_refused or (reply and reply.status != 503), "no reply although nothing is wrong")
         return None if reply and reply.status == 503 else reply
 
     def ask(self, method, target, body=b"", fields=()):
-        """The reply to a request, or nothing where memory was refused."""
+        """The reply to a request, or nothing if memory was refused."""
         self.sent += len(body)
         connection = self.connected()
         connection.send(request_text(method, target, body, fields, is_chunked=self.often(0.2)))

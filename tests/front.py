@@ -70,7 +70,7 @@ def sha512(content):
 
 
 def wanted(name, *packages):
-    """Whether the packages of a part are there; the part is told where they aren't."""
+    """Whether the packages of a part are there; the part is told if they aren't."""
     absent = servers.missing(*packages)
     if absent:
         print(f"skipped: {name}: {', '.join(absent)} isn't installed", flush=True)
@@ -78,7 +78,7 @@ def wanted(name, *packages):
 
 
 def needs(*packages):
-    """A case that is skipped where packages of it aren't there."""
+    """A case that is skipped if packages of it aren't there."""
 
     def of(case):
         @functools.wraps(case)
@@ -108,7 +108,7 @@ def is_refused(name, heard, status, code, word):
 
 
 class Client(wire.Client):
-    """A client of the service or of a reverse proxy: over TLS where it has certificates, and with a login if it is
+    """A client of the service or of a reverse proxy: over TLS if it has certificates, and with a login if it is
     given one."""
 
     def __init__(self, address, login=None, certificates=None):
@@ -117,7 +117,7 @@ class Client(wire.Client):
         self.tls = certificates and ssl.create_default_context(cafile=certificates)
         # whether each request has a connection of its own
         self.fresh = False
-        # how many bytes the system takes for a client that doesn't read, where that isn't left to it
+        # how many bytes the system takes for a client that doesn't read, if that isn't left to it
         self.room = None
 
     def connect(self):
@@ -476,7 +476,7 @@ class Repository:
         return self.client.ask("DELETE", f"{self.home}/manifests/{reference}")[0]
 
     def tags(self, query=""):
-        """The tags, or the status where there are none, and the link to the rest."""
+        """The tags, or the status if there are none, and the link to the rest."""
         status, fields, body = self.client.ask("GET", f"{self.home}/tags/list{query}")
         return json.loads(body)["tags"] if status == 200 else status, fields.get("Link", "")
 
@@ -968,7 +968,7 @@ def an_image_by_skopeo(site, address):
 
 
 def an_image_by_docker(site):
-    """As `docker` does it, where its engine runs; it takes any certificate from the loopback address."""
+    """As `docker` does it, if its engine runs; it takes any certificate from the loopback address."""
     there = f"{site.haproxy.tls}/lib/docker:one"
     archive = os.path.join(site.folder, "image.tar")
     ran = skopeo(site, "copy", "oci:image:one", f"docker-archive:{archive}:{there}")
@@ -1137,7 +1137,7 @@ class Uploads:
         self.work = [self.pool.submit(self.push_on, name, name in fresh) for name in self.told]
 
     def push_on(self, name, fresh):
-        """Notes the statuses of each upload, and `cut` where a connection ended without a reply."""
+        """Notes the statuses of each upload, and `cut` if a connection ended without a reply."""
         client, number = self.site.client(), 0
         client.fresh = fresh
         while not self.ending.is_set():

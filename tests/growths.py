@@ -140,7 +140,7 @@ def right_ends(requests):
 
 
 def conversations():
-    """Connections: a name, the requests, and how one of the runs has to end, where that is known."""
+    """Connections: a name, the requests, and how one of the runs has to end, if that is known."""
     small, small_taken = patch(0, b"a")
     more, more_taken = patch(1, b"bcdefghi")
     large, large_taken = patch(0, b"x" * 70_000)

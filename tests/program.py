@@ -416,7 +416,7 @@ STRANGE = [
 
 
 def logs_requests():
-    """A line for each request on standard error, as it came, where the environment asks for it, and none where it
+    """A line for each request on standard error, as it came, if the environment asks for it, and none if it
     doesn't."""
     missing, long = sha256(b"nothing"), "/" + "a" * 5_000
     for value in (None, "", "0", "1"):

@@ -34,7 +34,7 @@ from harness.wire import Connection, request_text
 REFUSED_GROWTHS, GROWTHS_BEFORE = 150, 1_000
 # Steps of each client at least, so that a slow machine meets as much.
 LEAST_STEPS = 100
-# What the clients have to meet, and where growths are refused some of these.
+# What the clients have to meet, and some of these if growths are refused.
 MET = {"committed", "cut", "unheard", "PATCH 202", "PATCH 416", "PUT 201", "PUT 400", "PUT 404"}
 REFUSED = {f"{method} {told}" for method in ("GET", "PATCH", "POST", "PUT") for told in ("503", "nothing")}
 

@@ -102,7 +102,7 @@ class Runner:
 
 
 def main(description, **options):
-    """Runs the calling script's cases, and ends it: with status 1 where one failed. Its options have a default and a
+    """Runs the calling script's cases, and ends it: with status 1 if one failed. Its options have a default and a
     meaning each, and are in `OPTIONS`."""
     parser = argparse.ArgumentParser(description=description, formatter_class=argparse.RawDescriptionHelpFormatter)
     parser.add_argument("program", help="the built program, crates/blobd/out/blobd")
@@ -116,7 +116,7 @@ def main(description, **options):
 
 
 def in_a_folder(function):
-    """The function with a folder of its own, where it takes one."""
+    """The function with a folder of its own, if it takes one."""
 
     @functools.wraps(function)
     def run():
@@ -138,7 +138,7 @@ def cases(*functions):
 
 
 def check(name, holds, told=""):
-    """Counts a check of a case, which goes on where one fails."""
+    """Counts a check of a case, which goes on if one fails."""
     if holds:
         COUNT.passes()
     else:

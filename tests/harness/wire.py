@@ -149,7 +149,7 @@ class Connection(Client):
             self.close()
 
     def hear(self, method):
-        """The reply, or nothing where the connection ended first."""
+        """The reply, or nothing if the connection ended first."""
         if not self.is_open:
             return None
         try:
