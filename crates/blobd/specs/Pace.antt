@@ -1,7 +1,7 @@
 -- How slow a client may be.
 use Rattle.std.specs.Prelude.{ℕ, ◌+◌, ◌-◌, ◌^◌, min, not, ◌&&◌, nat_lt, Bool, true, Option, Some, None, if◌then◌else◌}
-use Rattle.blobd.specs.declared.pace.Demand.{Demand}
-use Rattle.blobd.specs.declared.pace.Pace.{Pace}
+use Rattle.blobd.specs.declared.paced.Demand.{Demand}
+use Rattle.blobd.specs.declared.paced.Pace.{Pace}
 
 -- a count stays here once it is reached
 abbrev pub most : ℕ

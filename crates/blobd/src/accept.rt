@@ -4,8 +4,7 @@ ghost use Rattle.blobd.specs.Halves.{AreUnused};
 
 use crate::closing::Closing;
 use crate::log_lines::LogLines;
-use crate::pace::Demand;
-use crate::paced::{Reader, Turn, Writer, halves};
+use crate::paced::{Demand, Reader, Turn, Writer, halves};
 use crate::waits::{Step, step_behind};
 use std::alloc::{AllocError, Global};
 use std::io::{Eprint, ErrorKind};

@@ -295,7 +295,7 @@ where
 #[cfg(test)]
 mod tests {
     use super::*;
-    use crate::pace::Demand;
+    use crate::paced::Demand;
     use std::io::Read;
     use std::net::TcpStream;
     use std::test::Fail;

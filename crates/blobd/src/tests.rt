@@ -2,7 +2,7 @@
 ghost use Rattle.std.specs.Thread.{IsSync};
 
 use crate::accept::Terms;
-use crate::pace::Demand;
+use crate::paced::Demand;
 use crate::push::run_push;
 use crate::serve::run_serve;
 use std::io::{Eprint, Read, Write};

@@ -4,7 +4,7 @@ use Rattle.std.proofs.Common.{arith, length-take, length-drop}
 use Rattle.std.specs.List.{copy_within}
 use Rattle.std.specs.Prelude.{Vec}
 use Rattle.std.specs.declared.alloc.Global.{Global}
-use Rattle.http_wire.specs.declared.buffer.ReadBuffer.TheInside.{Inside}
+use Rattle.http_wire.specs.declared.input.ReadBuffer.TheInside.{Inside}
 use Rattle.std.proofs.lemmas.List.{drop-take, drop-append-le, drop-drop, take-append-le}
 use Rattle.std.proofs.lemmas.List.Edits.{take-paste}
 use Rattle.std.proofs.Math.Seq.{take-append-add}

@@ -8,7 +8,7 @@ use Rattle.std.specs.Str.Parse.{digits_value}
 use Rattle.http_wire.specs.Body.{IsSize, Chunk, print_chunk, IsChunk, IsZero, chunks_text, chunks_data, IsChunked}
 use Rattle.http_wire.specs.Body.{IsFrontOfChunked, ExceedsLimit, IsBroken, IsBadBody, IsCutBody}
 use Rattle.http_wire.specs.Unambiguous.{BodyParse, whole, refused, cut, IsReadAs, BodiesAreUnambiguous}
-use Rattle.http_wire.specs.declared.framing.Framing.TheVariants.{Length, Chunked}
+use Rattle.http_wire.specs.declared.body.Framing.TheVariants.{Length, Chunked}
 use Rattle.http_wire.specs.declared.fault.Bad.{Bad}
 use Rattle.http_wire.proofs.Bodies.ChunkLemmas.{lines_same, same_front, chunk_flat, front_after}
 use Rattle.http_wire.proofs.Heads.FrontLemmas.{front_data}

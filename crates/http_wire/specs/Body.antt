@@ -10,8 +10,8 @@ use Rattle.httparse.specs.Grammar.{AllPass, RequestHead}
 use Rattle.http_wire.specs.Fields.{Fields, head_fields, same_word, values_of}
 use Rattle.http_wire.specs.declared.fault.Bad.{Bad}
 use Rattle.http_wire.specs.declared.fault.Bad.TheVariants as bads
-use Rattle.http_wire.specs.declared.framing.Framing.{Framing}
-use Rattle.http_wire.specs.declared.framing.Framing.TheVariants.{Length, Chunked}
+use Rattle.http_wire.specs.declared.body.Framing.{Framing}
+use Rattle.http_wire.specs.declared.body.Framing.TheVariants.{Length, Chunked}
 
 -- ---- framing
 

@@ -7,10 +7,10 @@ use Rattle.http_wire.specs.States.{InputState}
 use Rattle.http_wire.specs.Reading.{HasEnded}
 use Rattle.http_wire.specs.Fields.{Fields, values_of, keeps_connection}
 use Rattle.http_wire.specs.Body.{is_number}
-use Rattle.http_wire.specs.declared.responses.framing.ResponseFraming.{ResponseFraming}
-use Rattle.http_wire.specs.declared.responses.framing.ResponseFraming.TheVariants.{Length, ToEnd}
-use Rattle.http_wire.specs.declared.responses.framing.FramingFault.{FramingFault}
-use Rattle.http_wire.specs.declared.responses.framing.FramingFault.TheVariants as Fault
+use Rattle.http_wire.specs.declared.responses.body.ResponseFraming.{ResponseFraming}
+use Rattle.http_wire.specs.declared.responses.body.ResponseFraming.TheVariants.{Length, ToEnd}
+use Rattle.http_wire.specs.declared.responses.body.FramingFault.{FramingFault}
+use Rattle.http_wire.specs.declared.responses.body.FramingFault.TheVariants as Fault
 
 -- ---- framing
 

@@ -2,7 +2,7 @@
 use Rattle.std.specs.Prelude.{◌≡◌, ℕ, ◌+◌, ◌<◌, List, ◌++◌}
 use Rattle.http_wire.specs.Fronts.{Words, ReadsHead, IsRefused, IsTooLong, IsUnfinished, line_feeds, max_fields}
 use Rattle.http_wire.specs.Body.{IsBodyText, IsBadBody, IsCutBody}
-use Rattle.http_wire.specs.declared.framing.Framing.{Framing}
+use Rattle.http_wire.specs.declared.body.Framing.{Framing}
 use Rattle.http_wire.specs.declared.fault.Bad.{Bad}
 
 -- ---- heads

@@ -10,10 +10,9 @@ ghost use Rattle.http_wire.specs.Inner.ChunkReading.{FindsLine, FindsEnd, FindsC
 ghost use Rattle.http_wire.specs.Inner.BodyFinding.{FindsBody};
 ghost use Rattle.http_wire.specs.Inner.BodyReading.{body_state};
 
-use crate::body::{BodyBuffer, BodyEnd, read_bytes};
+use crate::body::{BodyBuffer, BodyEnd, Framing, read_bytes};
 use crate::bytes::ByteSource;
 use crate::fault::{Bad, BodyFault, InputFault};
-use crate::framing::Framing;
 use crate::input::Input;
 
 /// What was read of a size line.

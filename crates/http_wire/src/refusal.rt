@@ -5,9 +5,8 @@ ghost use Rattle.http_wire.specs.Writing.{Wrote};
 
 use crate::bytes::ByteSink;
 use crate::fault::Bad;
-use crate::gather::Gather;
 use crate::status::Status;
-use crate::writing::WriteFault;
+use crate::writing::{Gather, WriteFault};
 
 /// The status of the response to what is no request.
 pub fn bad_status(why: Bad) -> Status

@@ -1,13 +1,14 @@
-//! Responses: the grammar of their heads, and how far their bodies go.
+//! Responses: the grammar of their heads, and their bodies.
 ghost use Rattle.http_wire.specs.Inner.HeadSpans.{response_spans};
 
 mod body;
-mod framing;
 mod parsed;
 
 use crate::head::{Grammar, MAX_FIELDS, Verdict};
-pub use body::{ResponseBodyEnd, read_response_body};
-pub use framing::{FramingFault, ResponseFraming, response_framing, response_keeps_connection};
+pub use body::{
+    FramingFault, ResponseBodyEnd, ResponseFraming, read_response_body, response_framing,
+    response_keeps_connection,
+};
 use httparse::Status;
 use httparse::spans::{EMPTY_HEADER_SPAN, parse_response};
 pub use parsed::ParsedResponse;

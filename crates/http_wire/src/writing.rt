@@ -1,10 +1,117 @@
-//! Writes of whole texts.
-ghost use Rattle.std.specs.Prelude.{◌≡◌, ◌++◌, List, ℕ, IsTrue, OnOk};
+//! Whole texts written, and heads, which are gathered first.
+ghost use Rattle.std.specs.Prelude.{◌≡◌, ◌++◌, List, ℕ, IsTrue, OnOk, [], false, decimal, flat_map};
 ghost use Rattle.http_wire.specs.States.{SinkState};
 ghost use Rattle.http_wire.specs.Writing.{Wrote};
+ghost use Rattle.httparse.specs.Ascii.{crlf_bytes};
+ghost use Rattle.http_wire.specs.HeadText.{closing_fields, length_field, print_field};
+ghost use Rattle.http_wire.specs.Inner.Gathering.{Gathered, Puts};
 
 use crate::bytes::ByteSink;
+use arrayvec::ArrayVec;
+use itoa::Buffer;
 use std::fmt;
+use std::marker::Model;
+
+/// The bytes of a head that were not written yet, at most 1,024, and whether a write failed. After
+/// that nothing more is written.
+#[derive(Drop)]
+pub struct Gather {
+    bytes: ArrayVec<u8, 1024>,
+    failed: bool,
+}
+
+impl Model for Gather {
+    ghost use Rattle.http_wire.specs.Inner.Gathering.{Held};
+
+    ghost Value = { Held };
+
+    ghost view = { λ g. record { bytes = g.bytes.items; failed = g.failed } };
+}
+
+impl Gather {
+    /// Nothing yet.
+    pub fn new() -> Gather
+        ensures { result ≡ record { bytes = []; failed = false } }
+    {
+        Gather {
+            bytes: ArrayVec::new(),
+            failed: false,
+        }
+    }
+
+    /// Puts bytes behind those that it has. Where they don't fit, what it has is written first.
+    pub fn put<W: ByteSink>(&mut self, writer: &mut W, text: &[u8])
+        ensures { Puts (W.state writer.old) self.old (W.state writer.new) self.new text.now }
+    {
+        if self.failed {
+            return;
+        }
+        if self.bytes.try_extend_from_slice(text).is_ok() {
+            return;
+        }
+        let done = write_all(writer, self.bytes.as_slice());
+        self.bytes.clear();
+        self.failed = then_write(done, writer, text).is_err();
+    }
+
+    /// Puts the decimal digits of a number.
+    pub fn put_number<W: ByteSink>(&mut self, writer: &mut W, number: u64)
+        ensures { Puts (W.state writer.old) self.old (W.state writer.new) self.new
+            (decimal number) }
+    {
+        let mut digits = Buffer::new();
+        let text = digits.format(number);
+        self.put(writer, text.as_bytes());
+    }
+
+    /// Puts a field.
+    pub fn put_field<W: ByteSink>(&mut self, writer: &mut W, name: &[u8], value: &[u8])
+        ensures { Puts (W.state writer.old) self.old (W.state writer.new) self.new
+            (print_field (name.now, value.now)) }
+    {
+        self.put(writer, name);
+        self.put(writer, b": ");
+        self.put(writer, value);
+        self.put(writer, b"\r\n");
+    }
+
+    /// Puts the length of the body.
+    pub fn put_length<W: ByteSink>(&mut self, writer: &mut W, size: u64)
+        ensures { Puts (W.state writer.old) self.old (W.state writer.new) self.new
+            (print_field (length_field size)) }
+    {
+        self.put(writer, b"Content-Length: ");
+        self.put_number(writer, size);
+        self.put(writer, b"\r\n");
+    }
+
+    /// Puts the field that closes the connection, if it closes, and the empty line.
+    pub fn put_end<W: ByteSink>(&mut self, writer: &mut W, keep: bool)
+        ensures { Puts (W.state writer.old) self.old
+            (W.state writer.new) self.new
+            (flat_map print_field (closing_fields keep) ++ crlf_bytes) }
+    {
+        if !keep {
+            self.put_field(writer, b"Connection", b"close");
+        }
+        self.put(writer, b"\r\n");
+    }
+
+    /// Writes what it has and the body behind it, and flushes.
+    pub fn finish<W: ByteSink>(self, writer: &mut W, body: &[u8]) -> Result<(), WriteFault>
+        ensures wrote { (start : SinkState) (before : List ℕ)
+            → Gathered start (W.state writer.old) self before
+            → Wrote start (W.state writer.new) (before ++ body.now) result }
+        ensures flushed { OnOk result (IsTrue ((W.state writer.new).flushed)) }
+    {
+        if self.failed {
+            return Err(WriteFault);
+        }
+        let done = write_all(writer, self.bytes.as_slice());
+        let done = then_write(done, writer, body);
+        then_flush(done, writer)
+    }
+}
 
 /// A write or a flush failed. What was written up to then is a prefix of the text.
 #[derive(Clone, Copy, Debug, Drop, PartialEq, Eq)]

@@ -20,10 +20,10 @@ use Rattle.http_wire.specs.Inner.ResponseBodyFinding.{FindsResponseBody, FindsBo
 use Rattle.upload_client.specs.Inner.AnswerReading.{FindsReply, Says, heard_of_input, heard_of_body, heard_of_framing}
 use Rattle.upload_client.specs.Inner.AnswerReading.{heard_of_said}
 use Rattle.http_wire.specs.declared.responses.parsed.ParsedResponse.{ParsedResponse}
-use Rattle.http_wire.specs.declared.responses.framing.ResponseFraming.{ResponseFraming}
-use Rattle.http_wire.specs.declared.responses.framing.ResponseFraming.TheVariants.{Length, ToEnd}
-use Rattle.http_wire.specs.declared.responses.framing.FramingFault.{FramingFault}
-use Rattle.http_wire.specs.declared.responses.framing.FramingFault.TheVariants as Framing
+use Rattle.http_wire.specs.declared.responses.body.ResponseFraming.{ResponseFraming}
+use Rattle.http_wire.specs.declared.responses.body.ResponseFraming.TheVariants.{Length, ToEnd}
+use Rattle.http_wire.specs.declared.responses.body.FramingFault.{FramingFault}
+use Rattle.http_wire.specs.declared.responses.body.FramingFault.TheVariants as Framing
 use Rattle.http_wire.specs.declared.responses.body.ResponseBodyEnd.TheVariants.{Whole, TooLarge}
 use Rattle.upload_client.specs.declared.answer.ReplyRead.{ReplyRead}
 use Rattle.upload_client.specs.declared.heard.Heard.{Heard}

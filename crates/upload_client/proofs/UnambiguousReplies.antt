@@ -15,11 +15,11 @@ use Rattle.upload_client.specs.AnswerText.{HasFramingFault}
 use Rattle.upload_client.specs.UnambiguousReplies.{ReplyParse, heard, refused, unreadable, too_large, cut}
 use Rattle.upload_client.specs.UnambiguousReplies.{ParsesAsReply}
 use Rattle.upload_client.specs.UnambiguousReplies.{RepliesAreUnambiguous}
-use Rattle.http_wire.specs.declared.responses.framing.ResponseFraming.{ResponseFraming}
-use Rattle.http_wire.specs.declared.responses.framing.ResponseFraming.TheVariants.{Length, ToEnd}
+use Rattle.http_wire.specs.declared.responses.body.ResponseFraming.{ResponseFraming}
+use Rattle.http_wire.specs.declared.responses.body.ResponseFraming.TheVariants.{Length, ToEnd}
 use Rattle.upload_client.specs.declared.heard.Heard.{Heard}
-use Rattle.http_wire.specs.declared.responses.framing.FramingFault.{FramingFault}
-use Rattle.http_wire.specs.declared.responses.framing.FramingFault.TheVariants as Fault
+use Rattle.http_wire.specs.declared.responses.body.FramingFault.{FramingFault}
+use Rattle.http_wire.specs.declared.responses.body.FramingFault.TheVariants as Fault
 use Rattle.upload_client.specs.declared.heard.SaidFault.TheVariants as Said
 use Rattle.upload_texts.proofs.UriTexts.{path_unique}
 

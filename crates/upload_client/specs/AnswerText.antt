@@ -14,10 +14,10 @@ use Rattle.http_wire.specs.Reading.{Gives, HasEnded}
 use Rattle.http_wire.specs.Fields.{Fields, first_of, values_of, head_fields}
 use Rattle.http_wire.specs.ResponseBody.{IsBody, response_framing_of, keeps_on}
 use Rattle.http_wire.specs.Fronts.{IsRefused, IsTooLong, IsUnfinished, ReadsHead, responses}
-use Rattle.http_wire.specs.declared.responses.framing.ResponseFraming.{ResponseFraming}
-use Rattle.http_wire.specs.declared.responses.framing.ResponseFraming.TheVariants.{Length, ToEnd}
-use Rattle.http_wire.specs.declared.responses.framing.FramingFault.{FramingFault}
-use Rattle.http_wire.specs.declared.responses.framing.FramingFault.TheVariants as Framing
+use Rattle.http_wire.specs.declared.responses.body.ResponseFraming.{ResponseFraming}
+use Rattle.http_wire.specs.declared.responses.body.ResponseFraming.TheVariants.{Length, ToEnd}
+use Rattle.http_wire.specs.declared.responses.body.FramingFault.{FramingFault}
+use Rattle.http_wire.specs.declared.responses.body.FramingFault.TheVariants as Framing
 use Rattle.upload_client.specs.declared.heard.Heard.{Heard}
 use Rattle.upload_client.specs.declared.heard.SaidFault.{SaidFault}
 use Rattle.upload_client.specs.declared.heard.SaidFault.TheVariants as Said

@@ -5,7 +5,7 @@ use Rattle.http_wire.specs.Fronts.{line_feeds, max_fields, IsRefused, IsTooLong,
 use Rattle.http_wire.specs.States.{SourceState, input_state}
 use Rattle.upload_client.specs.AnswerText.{TellsHeard, TellsMisplaced, HasFramingFault, HasLongBody, HasCutReplyBody}
 use Rattle.upload_client.specs.declared.heard.Heard.{Heard}
-use Rattle.http_wire.specs.declared.responses.framing.FramingFault.TheVariants as Fault
+use Rattle.http_wire.specs.declared.responses.body.FramingFault.TheVariants as Fault
 
 -- what a text holds first: a reply of which this is heard, whether it keeps the connection, and then rest; one that is
 -- unreadable, by its head or behind it; one that is too large; or a prefix of one

@@ -8,7 +8,7 @@ use Rattle.upload_service.specs.declared.answer.Answer.{Answer}
 use Rattle.upload_intake.specs.Seats.{SeatState}
 use Rattle.upload_intake.specs.Watched.{GateAt, WatchesEach, WatchesLast}
 use Rattle.upload_intake.specs.Desks.{seat_of, secrets_of}
-use Rattle.upload_intake.specs.declared.work.GatedDesk.{GatedDesk}
+use Rattle.upload_intake.specs.declared.desk.GatedDesk.{GatedDesk}
 use Rattle.upload_intake.specs.declared.work.WorkerEnd.{WorkerEnd}
 use Rattle.upload_intake.specs.Pools.Settled.{count_limit}
 use Rattle.upload_intake.specs.SeatConversations.{Adds}

@@ -1,6 +1,6 @@
 //! A seat as a desk, which a connection asks.
+use crate::lent::{Gate, Secrets};
 use crate::seat::Seat;
-use crate::secrets::Secrets;
 use std::sync::Wait;
 use upload_service::{Answer, Ask};
 use upload_wire::Desk;
@@ -48,5 +48,33 @@ impl<'a, R: Wait, S: Secrets> Desk for SeatDesk<'a, R, S> {
     fn ask(&mut self, ask: Ask) -> Option<Answer> {
         let secret = self.secrets.draw();
         self.seat.ask(self.rt, ask, secret).ok()
+    }
+}
+
+/// A seat's desk behind a gate, and how many requests were asked there.
+#[derive(Drop)]
+pub(crate) struct GatedDesk<'a, R: Wait, S, G> {
+    pub(crate) desk: SeatDesk<'a, R, S>,
+    pub(crate) gate: G,
+    pub(crate) turn: u64,
+}
+
+impl<'a, R: Wait, S: Secrets, G: Gate> Desk for GatedDesk<'a, R, S, G> {
+    ghost use Rattle.upload_intake.specs.Desks.{seat_of, secrets_of};
+    ghost use Rattle.upload_intake.specs.SeatMoves.{AsksWithDrawn};
+    ghost use Rattle.upload_intake.specs.Watched.{WatchesOne};
+
+    ghost moves = { λ old ask answer new.
+        AsksWithDrawn S.draws (seat_of old.desk, secrets_of old.desk) ask answer
+        (seat_of new.desk, secrets_of new.desk)
+        × WatchesOne G.watches (record { gate = old.gate; turn = old.turn }) ask answer
+        (record { gate = new.gate; turn = new.turn }) };
+
+    fn ask(&mut self, ask: Ask) -> Option<Answer> {
+        self.turn = self.turn.saturating_add(1);
+        self.gate.before_ask(self.turn, &ask);
+        let answer = self.desk.ask(ask)?;
+        self.gate.after_answer(self.turn, &answer);
+        Some(answer)
     }
 }

@@ -3,10 +3,10 @@ ghost use Rattle.std.specs.Prelude.{◌≡◌, true};
 ghost use Rattle.upload_intake.specs.Kept.{AreDone};
 
 use crate::ends::TakeEnd;
+use crate::lent::Moments;
 use crate::line::Item;
 use crate::log::Entry;
 use crate::message::Message;
-use crate::moments::Moments;
 use crate::reply::ReplyLine;
 use http_wire::History;
 use std::marker::Model;

@@ -4,9 +4,7 @@ ghost use Rattle.upload_intake.specs.SeatConversations.{ConversationsFillTheSeat
 ghost use Rattle.upload_intake.specs.Transcripts.{TranscriptsTellConnections};
 ghost use Rattle.upload_intake.specs.Pools.Working.{lending, means};
 
-use crate::conns::Conns;
-use crate::gate::Gate;
-use crate::secrets::Secrets;
+use crate::lent::{Conns, Gate, Secrets};
 use upload_wire::Observer;
 
 /// Of every conversation over a seat with these secrets: its asks, in order, are what was added to what the seat sent,

@@ -8,12 +8,9 @@ ghost use Rattle.upload_intake.specs.Pools.Working.{lending, means};
 ghost use Rattle.upload_intake.specs.Pools.ServedPool.{IsServedPool};
 ghost use Rattle.upload_intake.specs.Pools.Stations.{seats_of, workers_of, limits_of, promised, EachWorks};
 
-use crate::conns::Conns;
-use crate::gate::Gate;
 use crate::keeper::Keeper;
-use crate::moments::Moments;
+use crate::lent::{Conns, Gate, Moments, Secrets};
 use crate::seat::{Seat, SeatEnd};
-use crate::secrets::Secrets;
 use crate::settlement::{Settled, lines_of, settle_all};
 use crate::work::{Leaving, Station, Work, Worker, WorkerEnd, serve_station};
 use core::thread::Stack;

@@ -5,17 +5,14 @@ ghost use Rattle.upload_intake.specs.Pools.Settled.{count_limit};
 ghost use Rattle.upload_intake.specs.Pools.Stations.{Works};
 ghost use Rattle.upload_intake.specs.Pools.Working.{IsWorked, is_clean, is_gone, lending, means};
 
-use crate::conns::Conns;
-use crate::desk::SeatDesk;
-use crate::gate::Gate;
+use crate::desk::{GatedDesk, SeatDesk};
+use crate::lent::{Conns, Gate, Secrets};
 use crate::seat::{Seat, SeatEnd};
-use crate::secrets::Secrets;
 use std::snapshot::Snapshot;
 use std::sync::Wait;
 use std::thread::{Promise, Threads};
 use upload_names::InThreads;
-use upload_service::{Answer, Ask};
-use upload_wire::{ConnEnd, ConnectionServer, Desk, Observer};
+use upload_wire::{ConnEnd, ConnectionServer, Observer};
 
 /// What a worker serves, with which secrets, and who is told of it.
 #[derive(Drop)]
@@ -93,34 +90,6 @@ impl<C: Conns, S: Secrets, G: Gate, O: Observer> Promise<Leaving<C, S, G, O>> fo
     ghost kept_by = { λ promise leaving.
         Works (means (lending C.gives C.takes_back C.In.state C.Out.state) S.draws G.watches O.told)
         promise.station.value leaving };
-}
-
-// A seat's desk behind a gate, and how many requests were asked there.
-#[derive(Drop)]
-struct GatedDesk<'a, R: Wait, S, G> {
-    desk: SeatDesk<'a, R, S>,
-    gate: G,
-    turn: u64,
-}
-
-impl<'a, R: Wait, S: Secrets, G: Gate> Desk for GatedDesk<'a, R, S, G> {
-    ghost use Rattle.upload_intake.specs.Desks.{seat_of, secrets_of};
-    ghost use Rattle.upload_intake.specs.SeatMoves.{AsksWithDrawn};
-    ghost use Rattle.upload_intake.specs.Watched.{WatchesOne};
-
-    ghost moves = { λ old ask answer new.
-        AsksWithDrawn S.draws (seat_of old.desk, secrets_of old.desk) ask answer
-        (seat_of new.desk, secrets_of new.desk)
-        × WatchesOne G.watches (record { gate = old.gate; turn = old.turn }) ask answer
-        (record { gate = new.gate; turn = new.turn }) };
-
-    fn ask(&mut self, ask: Ask) -> Option<Answer> {
-        self.turn = self.turn.saturating_add(1);
-        self.gate.before_ask(self.turn, &ask);
-        let answer = self.desk.ask(ask)?;
-        self.gate.after_answer(self.turn, &answer);
-        Some(answer)
-    }
 }
 
 /// Serves a worker's connections one after the other, none behind one that ended `DeskGone`, and finishes its seat. One

@@ -8,8 +8,8 @@ use Rattle.std.proofs.lemmas.Str.{IsUtf8-from_ascii}
 use Rattle.std.proofs.lemmas.Str.Ascii.{IsAscii-nil, IsAscii-cons}
 use Rattle.std.proofs.lemmas.Bool.{cases_lt, and_parts, or_cases, cases_Bool, eqb-true, leb-true, le-leb}
 use Rattle.std.proofs.lemmas.List.Elements.{All-cons, All-nil, All-head, All-tail}
-use Rattle.upload_names.specs.declared.grammar.Place.{Place}
-use Rattle.upload_names.specs.declared.grammar.Place.TheVariants.{WordStart, InWord, BehindUnderscore, BehindHyphen}
+use Rattle.upload_names.specs.declared.name.Place.{Place}
+use Rattle.upload_names.specs.declared.name.Place.TheVariants.{WordStart, InWord, BehindUnderscore, BehindHyphen}
 use Rattle.upload_names.specs.Name.{is_word_byte, hyphen, slash, IsWord, IsSeparator, Joint, IsJoint, joint_text}
 use Rattle.upload_names.specs.Name.{IsComponent, behind_slash, IsInGrammar, IsName, longest_name}
 use Rattle.upload_names.specs.NameBytes.{dot, underscore}

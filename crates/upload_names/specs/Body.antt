@@ -1,7 +1,7 @@
 -- The pieces of a body.
 use Rattle.std.specs.Prelude.{ℕ, List, Option, ◌≡◌, ◌++◌, length}
 use Rattle.std.specs.List.{concat}
-use Rattle.upload_names.specs.declared.running.Running.{Running}
+use Rattle.upload_names.specs.declared.hashing.Running.{Running}
 use Rattle.upload_names.specs.declared.body.Pieces.{Pieces}
 use Rattle.upload_names.specs.Running.{HoldsIfCarried}
 

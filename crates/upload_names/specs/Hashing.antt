@@ -1,7 +1,7 @@
 -- Which bytes the hash of a body stands for, here or in a thread.
 use Rattle.std.specs.Prelude.{ℕ, List, Option, Some, None, ⊤, ◌≡◌, ◌≤◌, ◌++◌, length, take}
 use Rattle.std.specs.List.{concat}
-use Rattle.upload_names.specs.declared.running.Running.{Running}
+use Rattle.upload_names.specs.declared.hashing.Running.{Running}
 use Rattle.upload_names.specs.declared.hashing.Hashing.{Hashing}
 use Rattle.upload_names.specs.declared.hashing.Hashing.TheVariants.{Here, Away}
 use Rattle.upload_names.specs.Running.{Holds}

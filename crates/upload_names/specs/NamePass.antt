@@ -1,8 +1,8 @@
 -- Names as a pass over their bytes, which computes whether a text is one.
 use Rattle.std.specs.Prelude.{ℕ, ◌==◌, ◌||◌, ◌&&◌, nat_le, Bool, true, false, List, [], ◌∷◌, length, Option, Some, None}
 use Rattle.std.specs.Prelude.{if◌then◌else◌}
-use Rattle.upload_names.specs.declared.grammar.Place.{Place}
-use Rattle.upload_names.specs.declared.grammar.Place.TheVariants.{WordStart, InWord, BehindUnderscore, BehindHyphen}
+use Rattle.upload_names.specs.declared.name.Place.{Place}
+use Rattle.upload_names.specs.declared.name.Place.TheVariants.{WordStart, InWord, BehindUnderscore, BehindHyphen}
 use Rattle.upload_names.specs.NameBytes.{is_word_byte, dot, underscore, hyphen, slash, longest_name}
 
 -- where a byte that belongs to no word leads, if a name may go on with it

@@ -1,8 +1,8 @@
 -- Which bytes a running hash holds.
 use Rattle.std.specs.Prelude.{ℕ, List, Option, Some, None, ⊤}
 use Rattle.sha2.specs.Hashers.{Holds256, Holds512}
-use Rattle.upload_names.specs.declared.running.Running.{Running}
-use Rattle.upload_names.specs.declared.running.Running.TheVariants as runs
+use Rattle.upload_names.specs.declared.hashing.Running.{Running}
+use Rattle.upload_names.specs.declared.hashing.Running.TheVariants as runs
 
 -- the hash holds these bytes
 abbrev pub Holds : Running → List ℕ → Type 0

@@ -1,13 +1,18 @@
-//! Bodies of requests, in the parts that they were read in.
-ghost use Rattle.std.specs.Prelude.{◌≡◌, ◌++◌, List, ℕ, length, IfSome};
+//! Bodies of requests, in the parts that they were read in, and what a body is read into.
+ghost use Rattle.std.specs.Prelude.{◌≡◌, ◌++◌, List, ℕ, length, IfSome, [], OnOk, OnErr};
 ghost use Rattle.sha2.specs.Hashers.{Holds256, Holds512};
 ghost use Rattle.upload_names.specs.Body.{bytes_in, IsBody};
+ghost use Rattle.std.specs.List.{concat};
+ghost use Rattle.upload_names.specs.Running.{HoldsIfCarried};
+ghost use Rattle.upload_names.specs.Hashing.{Stands, StandsFor};
 
+use crate::digest::Algorithm;
+use crate::hashing::{HashPlace, Hashing, Running};
 use crate::part::{Part, take_in};
-use crate::running::Running;
 use sha2::{Digest, Sha256, Sha512};
-use std::alloc::Global;
+use std::alloc::{AllocError, Global};
 use std::marker::Model;
+use std::mem;
 
 /// The pieces of a body: parts that have come whole, and what came behind them.
 #[derive(Drop)]
@@ -117,4 +122,176 @@ impl Body {
         let Body { pieces, .. } = self;
         pieces
     }
+}
+
+/// The bytes of a part, unless a longer piece comes at once: with what the C library puts before it, a part fills two
+/// huge pages.
+const PART_SIZE: usize = 4_194_240;
+
+/// The bytes of a body as far as they came: the parts that came whole, and what came behind them. If the body is hashed
+/// as it comes, a hash stands for the first ones of the parts.
+#[derive(Drop)]
+pub struct BodyBuilder {
+    alloc: Global,
+    parts: Vec<Part>,
+    last: Vec<u8>,
+    /// How many bytes there are in all.
+    size: usize,
+    hash: Option<Hashing>,
+    /// How many parts the hash stands for.
+    hashed: usize,
+}
+
+impl Model for BodyBuilder {
+    ghost use Rattle.std.specs.Prelude.{List, ℕ, ◌++◌};
+    ghost use Rattle.std.specs.List.{concat};
+
+    ghost Value = { List ℕ };
+
+    ghost use Rattle.upload_names.specs.Hashing.{IsBuilt};
+
+    ghost view = { λ a. concat a.parts.items ++ a.last.items };
+
+    ghost invariant = { λ a. IsBuilt a.hash a.hashed a.size a.parts.items a.last.items };
+}
+
+impl BodyBuilder {
+    /// No bytes. What they are extended by is hashed as it comes, if that is asked for. It takes no memory.
+    pub fn new(alloc: Global, hashed: Option<Algorithm>) -> BodyBuilder
+        ensures { result ≡ [] }
+    {
+        let hash = match hashed {
+            Some(algorithm) => Some(Hashing::Here(Running::new(algorithm))),
+            None => None,
+        };
+        BodyBuilder {
+            alloc,
+            parts: Vec::new(alloc),
+            last: Vec::new(alloc),
+            size: 0,
+            hash,
+            hashed: 0,
+        }
+    }
+
+    /// How many bytes came.
+    pub fn len(&self) -> usize
+        ensures { result ≡ length self.now }
+    {
+        self.size
+    }
+
+    /// Puts a piece behind the bytes. A part that has come whole is hashed at that place, and moves no more. An `Err`
+    /// changes nothing that is seen.
+    pub fn extend<P: HashPlace>(&mut self, place: &P, piece: &[u8]) -> Result<(), AllocError>
+        ensures ok { OnOk result (self.new ≡ self.old ++ piece.now) }
+        ensures err { OnErr result (self.new ≡ self.old) }
+    {
+        let Some(len) = self.size.checked_add(piece.len()) else {
+            return Err(AllocError);
+        };
+        let room = PART_SIZE.saturating_sub(self.last.len());
+        if piece.len() > room {
+            let (front, rest) = piece.split_at(room);
+            self.roll_over(len, front, rest)?;
+            self.catch_up(place);
+        } else {
+            self.last.extend_from_slice(piece)?;
+            self.size = len;
+        }
+        Ok(())
+    }
+
+    /// Makes a part of what came behind the last one and a prefix of a piece, and has the rest of the piece come behind
+    /// it, which makes `len` bytes. An `Err` changes nothing that is seen.
+    fn roll_over(&mut self, len: usize, front: &[u8], rest: &[u8]) -> Result<(), AllocError>
+        requires { len ≡ length (self.old ++ front.now ++ rest.now) }
+        ensures ok { OnOk result (self.new ≡ self.old ++ front.now ++ rest.now) }
+        ensures err { OnErr result (self.new ≡ self.old) }
+    {
+        let mut next = Vec::new(self.alloc);
+        // What follows is likely to fill a part too, and then needn't be moved as it grows.
+        let _ = next.reserve(PART_SIZE);
+        next.extend_from_slice(rest)?;
+        self.parts.reserve(1)?;
+        let before = self.last.len();
+        self.last.extend_from_slice(front)?;
+        self.last.shrink_to_fit();
+        match Part::of(self.alloc, mem::replace(&mut self.last, next)) {
+            Ok(part) => {
+                let Ok(()) = self.parts.push(part) else {
+                    unreachable!();
+                };
+                self.size = len;
+                Ok(())
+            }
+            Err(back) => {
+                self.last = back;
+                self.last.truncate(before);
+                Err(AllocError)
+            }
+        }
+    }
+
+    /// Has the hash take in the parts that it lacks, unless it is away in a thread: what it lacks then is for the next
+    /// thread. Nothing that is seen changes.
+    fn catch_up<P: HashPlace>(&mut self, place: &P)
+        ensures { self.new ≡ self.old }
+    {
+        let Some(hash) = mem::replace(&mut self.hash, None) else {
+            return;
+        };
+        if hash.is_at_work() {
+            self.hash = Some(hash);
+            return;
+        }
+        self.hash = hash_on(place, self.alloc, hash, &self.parts[self.hashed..]);
+        self.hashed = self.parts.len();
+    }
+
+    /// The body, with the hash of all its bytes if they were hashed. Spare room that is left from growing goes back, if
+    /// the allocator takes it.
+    pub fn finish<P: HashPlace>(self, place: &P) -> Body
+        ensures { result ≡ self }
+    {
+        let BodyBuilder {
+            mut parts,
+            mut last,
+            size,
+            hash,
+            hashed,
+            ..
+        } = self;
+        parts.shrink_to_fit();
+        last.shrink_to_fit();
+        let running = hash_of_all(place, hash, &parts[hashed..], last.as_slice());
+        Body::carrying(Pieces { parts, last }, size, running)
+    }
+}
+
+/// Has a hash take parts in.
+fn hash_on<P: HashPlace>(place: &P, alloc: Global, hash: Hashing, parts: &[Part]) -> Option<Hashing>
+    ensures { (bytes : List ℕ) → Stands hash bytes
+        → StandsFor result (bytes ++ concat parts.now) }
+{
+    place.go_on(alloc, hash, parts)
+}
+
+/// The hash of a body, from that of its first parts, the other parts, and what came behind them.
+fn hash_of_all<P: HashPlace>(
+    place: &P,
+    hash: Option<Hashing>,
+    parts: &[Part],
+    last: &[u8],
+) -> Option<Running>
+    ensures { (bytes : List ℕ) → StandsFor hash bytes
+        → HoldsIfCarried result (bytes ++ concat parts.now ++ last.now) }
+{
+    let Some(hash) = hash else {
+        return None;
+    };
+    let Some(running) = place.come_home(hash) else {
+        return None;
+    };
+    Some(running.with_parts(parts).with(last))
 }

@@ -4,24 +4,19 @@
 #![tactic(auto)]
 
 mod body;
-mod builder;
 mod bytes;
 mod digest;
-mod grammar;
 mod hashing;
 mod name;
 mod part;
 mod range;
 mod reference;
-mod running;
 
-pub use body::{Body, Pieces};
-pub use builder::BodyBuilder;
+pub use body::{Body, BodyBuilder, Pieces};
 pub use bytes::Bytes;
 pub use digest::{Algorithm, BlobDigest, DigestText, NotADigest, digests_are_decided};
-pub use hashing::{Away, Behind, HashPlace, Hashing, InPlace, InThreads};
+pub use hashing::{Away, Behind, HashPlace, Hashing, InPlace, InThreads, Running};
 pub use name::{NameFault, RepoName, names_are_decided};
 pub use part::{Part, share_all, share_into, take_in};
 pub use range::{ByteRange, NotARange, ranges_are_decided};
 pub use reference::{NotAReference, UploadRef, references_read_back};
-pub use running::Running;

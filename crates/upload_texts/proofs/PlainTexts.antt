@@ -12,8 +12,8 @@ use Rattle.std.specs.List.{list_all}
 use Rattle.httparse.specs.Grammar.{AllPass, is_uri_byte}
 use Rattle.http_uri.specs.ByteClasses.{is_path_byte, is_query_byte}
 use Rattle.hex.specs.Hex.{encode_with, encode_lower, lower_digits}
-use Rattle.upload_names.specs.declared.grammar.Place.{Place}
-use Rattle.upload_names.specs.declared.grammar.Place.TheVariants.{WordStart, InWord, BehindUnderscore, BehindHyphen}
+use Rattle.upload_names.specs.declared.name.Place.{Place}
+use Rattle.upload_names.specs.declared.name.Place.TheVariants.{WordStart, InWord, BehindUnderscore, BehindHyphen}
 use Rattle.upload_names.specs.NameBytes.{is_word_byte, longest_name}
 use Rattle.upload_names.specs.NamePass.{is_name, is_in_grammar, passes, place_behind, place_behind_joint}
 use Rattle.upload_names.specs.declared.digest.Algorithm.{Algorithm}

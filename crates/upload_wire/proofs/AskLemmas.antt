@@ -12,7 +12,7 @@ use Rattle.upload_names.proofs.NameFacts.{IsName-from}
 use Rattle.upload_service.specs.declared.ask.Extent.{Extent}
 use Rattle.upload_wire.specs.declared.asks.HeadAsk.{HeadAsk}
 use Rattle.upload_wire.specs.declared.asks.Method.{Method}
-use Rattle.upload_wire.specs.declared.target.PathForm.{PathForm}
+use Rattle.upload_wire.specs.declared.asks.PathForm.{PathForm}
 use Rattle.upload_wire.specs.Target.{IsFormOf, named, method_of, ask_of_form, AsksAt, HeadAsks}
 
 pub named_none : (text : List ℕ) → (IsName text → ⊥) → None ≡ named text

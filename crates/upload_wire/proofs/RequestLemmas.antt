@@ -19,7 +19,7 @@ use Rattle.upload_wire.specs.Inner.RequestReading.{DescribesAll, FindsRequest}
 use Rattle.upload_wire.specs.Told.{HasLine}
 use Rattle.upload_wire.specs.RequestText.{style_of, HasCutBody, FindsNext, ReadsNext}
 use Rattle.http_wire.specs.declared.requests.parsed.ParsedRequest.{ParsedRequest}
-use Rattle.http_wire.specs.declared.framing.Framing.{Framing}
+use Rattle.http_wire.specs.declared.body.Framing.{Framing}
 use Rattle.http_wire.specs.declared.fault.Bad.{Bad}
 use Rattle.http_wire.specs.Inner.HeadReading.{FindsHead, IsHeadAtFront, fields_of}
 use Rattle.http_wire.specs.Faults.{wire_of_input, wire_of_body}

@@ -8,7 +8,7 @@ use Rattle.std.proofs.lemmas.Slice.Eq.{bytes_eq-Decides}
 use Rattle.http_wire.proofs.Heads.FieldLemmas.{not_both}
 use Rattle.std.proofs.Common.{true, false}
 use Rattle.std.specs.Prelude.{Option, Some, None, MatchOption, bytes_eq}
-use Rattle.upload_wire.specs.declared.target.PathForm.TheVariants.{NoForm}
+use Rattle.upload_wire.specs.declared.asks.PathForm.TheVariants.{NoForm}
 use Rattle.upload_wire.specs.Target.{HasNoSlash, IsFormOf}
 
 -- the text, cut at an index

@@ -11,8 +11,8 @@ use Rattle.http_wire.specs.Fields.{same_word, values_of, head_fields}
 use Rattle.http_wire.specs.Body.{is_number, sized, framing_by, head_framing, IsBadBody}
 use Rattle.http_wire.specs.Unambiguous.{HeadParse, head, long, unfinished, BeginsWith, BodyParse, whole, refused}
 use Rattle.http_wire.specs.Unambiguous.{IsReadAs, cut as cut_body}
-use Rattle.http_wire.specs.declared.framing.Framing.{Framing}
-use Rattle.http_wire.specs.declared.framing.Framing.TheVariants.{Length, Chunked}
+use Rattle.http_wire.specs.declared.body.Framing.{Framing}
+use Rattle.http_wire.specs.declared.body.Framing.TheVariants.{Length, Chunked}
 use Rattle.http_wire.specs.declared.fault.Bad.{Bad}
 use Rattle.http_wire.specs.declared.fault.Bad.TheVariants as bads
 use Rattle.http_wire.proofs.Heads.HeadLemmas.{none_at_start}

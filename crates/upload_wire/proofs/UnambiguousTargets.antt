@@ -15,8 +15,8 @@ use Rattle.upload_texts.specs.Paths.{blob_path, upload_path}
 use Rattle.upload_names.specs.Reference.{reference_of}
 use Rattle.upload_wire.specs.declared.asks.Method.{Method}
 use Rattle.upload_wire.specs.declared.asks.HeadAsk.{HeadAsk}
-use Rattle.upload_wire.specs.declared.target.PathForm.{PathForm}
-use Rattle.upload_wire.specs.declared.target.PathForm.TheVariants as Path
+use Rattle.upload_wire.specs.declared.asks.PathForm.{PathForm}
+use Rattle.upload_wire.specs.declared.asks.PathForm.TheVariants as Path
 use Rattle.upload_wire.proofs.TargetLemmas.{cut_unique}
 
 -- ---- paths

@@ -8,7 +8,7 @@ use Rattle.http_wire.specs.Fronts.{IsCutHead, IsRefused, IsTooLong, ReadsHead, r
 use Rattle.http_wire.specs.Fields.{head_fields, keeps_connection}
 use Rattle.http_wire.specs.Body.{head_framing, IsBodyText, IsBadBody, IsCutBody}
 use Rattle.upload_wire.specs.Target.{AsksWhole}
-use Rattle.http_wire.specs.declared.framing.Framing.{Framing}
+use Rattle.http_wire.specs.declared.body.Framing.{Framing}
 use Rattle.http_wire.specs.declared.fault.Bad.{Bad}
 use Rattle.http_wire.specs.declared.fault.Bad.TheVariants as bads
 use Rattle.http_wire.specs.declared.fault.WireFault.{WireFault}

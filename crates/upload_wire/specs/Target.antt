@@ -25,8 +25,8 @@ use Rattle.upload_wire.specs.declared.asks.Method.TheVariants.{Get, Head, Post, 
 use Rattle.upload_wire.specs.declared.asks.HeadAsk.{HeadAsk}
 use Rattle.upload_wire.specs.declared.asks.HeadAsk.TheVariants.{Ready, IfBodiless}
 use Rattle.upload_wire.specs.declared.asks.HeadAsk.TheVariants as heads
-use Rattle.upload_wire.specs.declared.target.PathForm.{PathForm}
-use Rattle.upload_wire.specs.declared.target.PathForm.TheVariants as Path
+use Rattle.upload_wire.specs.declared.asks.PathForm.{PathForm}
+use Rattle.upload_wire.specs.declared.asks.PathForm.TheVariants as Path
 
 -- ---- paths
 

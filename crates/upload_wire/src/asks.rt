@@ -1,17 +1,86 @@
 //! What a request asks, by its path, method, query and range, and then by its body.
-ghost use Rattle.std.specs.Prelude.{◌≡◌, IfOk, option_and_then, codes};
+ghost use Rattle.std.specs.Prelude.{◌≡◌, IfOk, option_and_then, codes, ◌≢◌, ℕ, List, ◌∷◌, ◌++◌, MatchOption};
 ghost use Rattle.upload_names.specs.Digest.{digest_of};
 ghost use Rattle.upload_names.specs.Reference.{reference_of};
 ghost use Rattle.http_wire.specs.Query.{parameter};
 ghost use Rattle.upload_wire.specs.Target.{method_of, named, base_ask, blob_ask, mount_ask, uploads_ask, upload_ask};
-ghost use Rattle.upload_wire.specs.Target.{with_body, AsksAt, HeadAsks};
+ghost use Rattle.upload_wire.specs.Target.{with_body, AsksAt, HeadAsks, HasNoSlash, IsFormOf};
 
-use crate::target::{PathForm, form_of};
 use http_uri::{Uri, UriError};
 use http_wire::{Framing, parameter};
 use std::alloc::{AllocError, Global};
 use upload_names::{Algorithm, BlobDigest, Body, NameFault, RepoName, UploadRef};
 use upload_service::{Ask, Extent, Form, Refusal};
+
+/// The forms of a path, with their parts.
+#[derive(Clone, Copy)]
+pub enum PathForm<'p> {
+    /// `/v2/`
+    Base,
+    /// A repository's name, and the text of a digest.
+    Blob(&'p [u8], &'p [u8]),
+    /// A repository's name.
+    Uploads(&'p [u8]),
+    /// A repository's name, and the text of a reference.
+    Upload(&'p [u8], &'p [u8]),
+    /// None of these.
+    NoForm,
+}
+
+/// The text before the last slash, and the text after it.
+fn cut_last(text: &[u8]) -> Option<(&[u8], &[u8])>
+    ensures { MatchOption result (HasNoSlash text.now)
+        (λ p. (text.now ≡ p.0.now ++ 47 ∷ p.1.now) × HasNoSlash p.1.now) }
+{
+    for i in (0..text.len()).rev() {
+        if text[i] == b'/' {
+            return Some((&text[..i], &text[i + 1..]));
+        }
+    }
+    None
+}
+
+/// What follows the prefix.
+fn after<'t>(text: &'t [u8], prefix: &[u8]) -> Option<&'t [u8]>
+    ensures { MatchOption result ((rest : List ℕ) → text.now ≢ prefix.now ++ rest)
+        (λ rest. text.now ≡ prefix.now ++ rest.now) }
+{
+    text.strip_prefix(prefix)
+}
+
+/// What stands before the suffix.
+fn before<'t>(text: &'t [u8], suffix: &[u8]) -> Option<&'t [u8]>
+    ensures { MatchOption result ((front : List ℕ) → text.now ≢ front ++ suffix.now)
+        (λ front. text.now ≡ front.now ++ suffix.now) }
+{
+    text.strip_suffix(suffix)
+}
+
+/// The form of a path, which is cut at its last slash and not decoded.
+pub fn form_of(path: &[u8]) -> PathForm<'_>
+    ensures { IsFormOf path.now result }
+{
+    let Some(rest) = after(path, b"/v2/") else {
+        return PathForm::NoForm;
+    };
+    if rest.is_empty() {
+        return PathForm::Base;
+    }
+    let Some((front, tail)) = cut_last(rest) else {
+        return PathForm::NoForm;
+    };
+    if let Some(name) = before(front, b"/blobs/uploads") {
+        if tail.is_empty() {
+            PathForm::Uploads(name)
+        } else {
+            PathForm::Upload(name, tail)
+        }
+    } else if let Some(name) = before(front, b"/blobs") {
+        PathForm::Blob(name, tail)
+    } else {
+        PathForm::NoForm
+    }
+}
 
 /// The methods that requests of the service have.
 #[derive(Clone, Copy)]

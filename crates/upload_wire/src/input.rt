@@ -11,9 +11,8 @@ ghost use Rattle.upload_wire.specs.Phases.{most_reads};
 ghost use Rattle.upload_wire.specs.RequestText.{ReadsNext};
 ghost use Rattle.upload_wire.specs.Told.{HasLine};
 
-use crate::body::Hashing;
 use crate::observer::RequestLine;
-use crate::request::{Next, describe, read_request};
+use crate::request::{Hashing, Next, describe, read_request};
 use http_wire::{
     Bad, ByteSource, HeadRead, Input, InputFault, ParsedRequest, ReadBuffer, Requests, WireFault,
     read_head,

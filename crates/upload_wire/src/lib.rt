@@ -1,12 +1,11 @@
 //! HTTP/1.1 requests and replies of the blob-upload service, from bytes and to bytes.
 //!
-//! Requests come through `input`, which has `http_wire` read a head, and `request` reads what that asks (`target`,
-//! `asks`) and its body (`body`). `connection` asks a `desk`, tells an `observer`, and `reply` gathers the head of the
-//! reply and has it written with its body.
+//! Requests come through `input`, which has `http_wire` read a head, and `request` reads what that asks (`asks`) and
+//! its body. `connection` asks a `desk`, tells an `observer`, and `reply` gathers the head of the reply and has it
+//! written with its body.
 #![tactic(auto)]
 
 mod asks;
-mod body;
 mod connection;
 mod desk;
 mod input;
@@ -15,7 +14,6 @@ mod observer;
 mod reader;
 mod reply;
 mod request;
-mod target;
 
 pub use connection::{ConnEnd, ConnFault, ConnectionServer, serve_connection};
 pub use desk::{Desk, ServiceDesk};

@@ -1,4 +1,4 @@
-//! A request: what its head describes, and its body behind it.
+//! A request: what its head describes, and its body behind it, which is put into its parts as it is read.
 ghost use Rattle.std.specs.Prelude.{◌≡◌, ◌+◌, ◌*◌, ◌^◌, ◌≤◌, Err, IfOk, codes};
 ghost use Rattle.http_wire.specs.Body.{most_of};
 ghost use Rattle.http_wire.specs.Inputs.{ReadsAtMost, input_of};
@@ -9,14 +9,41 @@ ghost use Rattle.http_wire.specs.Inner.HeadSpans.{request_spans};
 ghost use Rattle.upload_wire.specs.Inner.RequestReading.{Describes, FindsRequest};
 
 use crate::asks::{HeadAsk, ask_of};
-use crate::body::{Hashing, Incoming};
 use http_wire::{
-    Bad, BodyEnd, ByteSource, Framing, Input, Occurrence, ParsedRequest, WireFault, field_named,
-    framing_of, keeps_connection, read_body,
+    Bad, BodyBuffer, BodyEnd, ByteSource, Framing, Input, Occurrence, ParsedRequest, WireFault,
+    field_named, framing_of, keeps_connection, read_body,
 };
-use std::alloc::Global;
-use upload_names::{BodyBuilder, ByteRange, HashPlace};
+use std::alloc::{AllocError, Global};
+use upload_names::{BodyBuilder, ByteRange, HashPlace, UploadRef};
 use upload_service::{Ask, Extent};
+
+/// Which bodies are hashed as they come, and where.
+#[derive(Drop)]
+pub struct Hashing<'a, P: HashPlace> {
+    pub place: &'a P,
+    /// An upload that is known to have bytes: the hash of a further body alone is of no use to it.
+    pub filled: Option<UploadRef>,
+}
+
+/// The body of a request, as far as it came, and where it is hashed.
+#[derive(Drop)]
+pub struct Incoming<'a, P: HashPlace> {
+    pub body: BodyBuilder,
+    pub place: &'a P,
+}
+
+impl<'a, P: HashPlace> BodyBuffer for Incoming<'a, P> {
+    ghost bytes = { λ i. i.body };
+
+    fn extend(&mut self, piece: &[u8]) -> Result<(), AllocError> {
+        self.body.extend(self.place, piece)?;
+        Ok(())
+    }
+
+    fn len(&self) -> usize {
+        self.body.len()
+    }
+}
 
 /// How a request wants its reply.
 #[derive(Clone, Copy, Debug, PartialEq, Eq)]

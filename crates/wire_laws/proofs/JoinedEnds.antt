@@ -21,8 +21,8 @@ use Rattle.http_wire.specs.States.{SourceState, InputState, SinkState, input_sta
 use Rattle.http_wire.specs.Writing.{Wrote}
 use Rattle.http_wire.specs.ResponseBody.{IsBody}
 use Rattle.http_wire.specs.declared.fault.Bad.TheVariants.{Head}
-use Rattle.http_wire.specs.declared.responses.framing.ResponseFraming.{ResponseFraming}
-use Rattle.http_wire.specs.declared.responses.framing.ResponseFraming.TheVariants.{Length, ToEnd}
+use Rattle.http_wire.specs.declared.responses.body.ResponseFraming.{ResponseFraming}
+use Rattle.http_wire.specs.declared.responses.body.ResponseFraming.TheVariants.{Length, ToEnd}
 use Rattle.http_wire.specs.declared.writing.WriteFault.{WriteFault}
 use Rattle.upload_wire.specs.Conversation as conversation
 use Rattle.upload_wire.specs.Conversation.{Moves, WireExchange, IsKept, IsRead, EndsWith, last_style, messages, replies}

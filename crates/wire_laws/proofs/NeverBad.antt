@@ -9,8 +9,8 @@ use Rattle.http_wire.specs.Fronts.{line_feeds, max_fields, ReadsHead, requests}
 use Rattle.http_wire.specs.Unambiguous.{HeadParse, head, long, whole, refused}
 use Rattle.http_wire.specs.declared.fault.Bad.{Bad}
 use Rattle.http_wire.specs.declared.fault.Bad.TheVariants as bads
-use Rattle.http_wire.specs.declared.framing.Framing.{Framing}
-use Rattle.http_wire.specs.declared.framing.Framing.TheVariants.{Length, Chunked}
+use Rattle.http_wire.specs.declared.body.Framing.{Framing}
+use Rattle.http_wire.specs.declared.body.Framing.TheVariants.{Length, Chunked}
 use Rattle.http_wire.proofs.UnambiguousBodies.{bodies_unambiguous}
 use Rattle.http_wire.proofs.UnambiguousHeads.{requests_unambiguous}
 use Rattle.upload_wire.specs.RequestText.{IsBad, IsRequest}

@@ -6,9 +6,9 @@ use Rattle.http_wire.specs.ResponseBody.{response_framing_of}
 use Rattle.http_wire.specs.Fields.{head_fields}
 use Rattle.http_wire.specs.Fronts.{responses}
 use Rattle.http_wire.specs.Unambiguous.{HeadParse, head, long, unfinished}
-use Rattle.http_wire.specs.declared.responses.framing.ResponseFraming.{ResponseFraming}
-use Rattle.http_wire.specs.declared.responses.framing.ResponseFraming.TheVariants.{ToEnd}
-use Rattle.http_wire.specs.declared.responses.framing.FramingFault.{FramingFault}
+use Rattle.http_wire.specs.declared.responses.body.ResponseFraming.{ResponseFraming}
+use Rattle.http_wire.specs.declared.responses.body.ResponseFraming.TheVariants.{ToEnd}
+use Rattle.http_wire.specs.declared.responses.body.FramingFault.{FramingFault}
 use Rattle.http_wire.proofs.UnambiguousHeads.{responses_unambiguous}
 use Rattle.upload_client.specs.AnswerText.{HasOpenBody, ReadsFramed, max_answer}
 use Rattle.upload_client.specs.UnambiguousReplies.{ReplyParse, heard, refused, unreadable, too_large, cut}

@@ -9,8 +9,8 @@ use Rattle.http_wire.specs.Fronts.{IsRefused, responses}
 use Rattle.http_wire.specs.ResponseBody.{response_framing_by_length, response_framing_of, framing_without_coding}
 use Rattle.http_wire.specs.ResponseBody.{has_no_body, keeps_on}
 use Rattle.http_wire.specs.States.{SourceState, input_state}
-use Rattle.http_wire.specs.declared.responses.framing.ResponseFraming.TheVariants.{Length, ToEnd}
-use Rattle.http_wire.specs.declared.responses.framing.FramingFault.TheVariants as Fault
+use Rattle.http_wire.specs.declared.responses.body.ResponseFraming.TheVariants.{Length, ToEnd}
+use Rattle.http_wire.specs.declared.responses.body.FramingFault.TheVariants as Fault
 use Rattle.http_wire.specs.declared.status.Status.{Status}
 use Rattle.http_wire.specs.declared.status.Status.TheVariants as statuses
 use Rattle.upload_client.specs.AnswerText.{FindsAnswer, HasOpenBody, IsHeard, HasFramingFault, IsPlaceOf, ReadsFramed}

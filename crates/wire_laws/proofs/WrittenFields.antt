@@ -17,7 +17,7 @@ use Rattle.upload_service.specs.declared.ask.Extent.{Extent}
 use Rattle.upload_service.specs.declared.ask.Extent.TheVariants.{Absent, Bad, Given}
 use Rattle.http_wire.specs.Fields.{Fields, values_of, keeps_connection}
 use Rattle.http_wire.specs.Body.{framing_of, is_number, length_of}
-use Rattle.http_wire.specs.declared.framing.Framing.TheVariants.{Length}
+use Rattle.http_wire.specs.declared.body.Framing.TheVariants.{Length}
 use Rattle.upload_wire.specs.Target.{extent_of, given_range}
 use Rattle.upload_client.specs.AskText.{is_host, range_text, content_range_fields, ask_body_fields, IsAbsentOrGiven}
 use Rattle.http_wire.specs.HeadText.{length_field}

@@ -24,8 +24,8 @@ use Rattle.http_wire.specs.Body.{is_number}
 use Rattle.http_wire.specs.HeadText.{closing_fields, status_number}
 use Rattle.http_wire.specs.ResponseBody.{response_framing_by_length, has_no_body}
 use Rattle.http_wire.specs.States.{SourceState}
-use Rattle.http_wire.specs.declared.responses.framing.ResponseFraming.TheVariants.{Length}
-use Rattle.http_wire.specs.declared.responses.framing.FramingFault.TheVariants as Fault
+use Rattle.http_wire.specs.declared.responses.body.ResponseFraming.TheVariants.{Length}
+use Rattle.http_wire.specs.declared.responses.body.FramingFault.TheVariants as Fault
 use Rattle.upload_texts.specs.Errors.{code_text, error_body, refusal_code, refusal_status}
 use Rattle.upload_texts.specs.declared.error.ErrorCode.{ErrorCode}
 use Rattle.upload_texts.specs.declared.error.ErrorCode.TheVariants as errors

@@ -23,9 +23,9 @@ use Rattle.upload_service.specs.declared.ask.Ask.TheVariants.{Base, Has, Opening
 use Rattle.upload_service.specs.declared.ask.Ask.TheVariants.{Refused}
 use Rattle.upload_service.specs.declared.ask.Extent.{Extent}
 use Rattle.upload_service.specs.declared.ask.Extent.TheVariants.{Absent}
-use Rattle.upload_wire.specs.declared.target.PathForm.{PathForm}
-use Rattle.upload_wire.specs.declared.target.PathForm.TheVariants as Path
-use Rattle.http_wire.specs.declared.framing.Framing.TheVariants.{Length}
+use Rattle.upload_wire.specs.declared.asks.PathForm.{PathForm}
+use Rattle.upload_wire.specs.declared.asks.PathForm.TheVariants as Path
+use Rattle.http_wire.specs.declared.body.Framing.TheVariants.{Length}
 use Rattle.http_wire.specs.Fronts.{max_fields, max_head, line_feeds, ReadsHead, requests}
 use Rattle.http_wire.specs.HeadText.{print_field}
 use Rattle.http_wire.proofs.Heads.HeadLemmas.{line_feeds-append}

@@ -15,7 +15,7 @@ use Rattle.http_wire.specs.Inner.ChunkReading.{TakesLine, BreaksLine, CutsLine, 
 use Rattle.http_wire.specs.Inner.ChunkReading.{TakesChunk, TakesLast, RefusesChunk, CutsChunk, FindsChunk}
 use Rattle.http_wire.specs.Inner.ChunksRead.{AreTaken}
 use Rattle.http_wire.specs.Inner.BodyFinding.{TakesBody, RefusesBodyText, CutsBody, FindsBody}
-use Rattle.http_wire.specs.declared.framing.Framing.TheVariants.{Length, Chunked}
+use Rattle.http_wire.specs.declared.body.Framing.TheVariants.{Length, Chunked}
 use Rattle.http_wire.specs.declared.fault.Bad.{Bad}
 use Rattle.http_wire.specs.declared.fault.Bad.TheVariants as bads
 use Rattle.http_wire.specs.Faults.{body_of_input}

@@ -5,8 +5,8 @@ use Rattle.http_wire.specs.States.{InputState}
 use Rattle.http_wire.specs.Reading.{HasEnded}
 use Rattle.http_wire.specs.Inner.BodyReading.{Moved, MovedNone, MovedAll, ReadsBytes, body_state}
 use Rattle.http_wire.specs.Inner.ResponseBodyFinding.{FindsResponseBody, end_of}
-use Rattle.http_wire.specs.declared.responses.framing.ResponseFraming.{ResponseFraming}
-use Rattle.http_wire.specs.declared.responses.framing.ResponseFraming.TheVariants.{Length, ToEnd}
+use Rattle.http_wire.specs.declared.responses.body.ResponseFraming.{ResponseFraming}
+use Rattle.http_wire.specs.declared.responses.body.ResponseFraming.TheVariants.{Length, ToEnd}
 use Rattle.http_wire.specs.declared.responses.body.ResponseBodyEnd.TheVariants.{Whole, TooLarge}
 use Rattle.http_wire.specs.declared.fault.BodyFault.{BodyFault}
 use Rattle.http_wire.specs.declared.fault.BodyFault.TheVariants as Fault

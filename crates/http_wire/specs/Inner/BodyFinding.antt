@@ -4,7 +4,7 @@ use Rattle.http_wire.specs.States.{SourceState, InputState}
 use Rattle.http_wire.specs.Reading.{Gave, HasEnded}
 use Rattle.http_wire.specs.Inner.BodyReading.{MovedNone}
 use Rattle.http_wire.specs.Body.{IsBodyText, IsBadBody, IsCutBody}
-use Rattle.http_wire.specs.declared.framing.Framing.{Framing}
+use Rattle.http_wire.specs.declared.body.Framing.{Framing}
 use Rattle.http_wire.specs.declared.body.BodyEnd.{BodyEnd}
 use Rattle.http_wire.specs.declared.body.BodyEnd.TheVariants.{Whole, Refused}
 use Rattle.http_wire.specs.declared.fault.Bad.{Bad}

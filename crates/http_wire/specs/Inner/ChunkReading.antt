@@ -6,7 +6,7 @@ use Rattle.http_wire.specs.Reading.{Gave, HasEnded}
 use Rattle.http_wire.specs.Inner.BodyReading.{BodyState, MovedNone}
 use Rattle.http_wire.specs.Body.{Chunk, IsChunk, print_chunk, IsZero, IsBadBody, IsCutBody}
 use Rattle.http_wire.specs.Inner.SizeLines.{StandsAt, IsLine, NeverLine}
-use Rattle.http_wire.specs.declared.framing.Framing.TheVariants.{Chunked}
+use Rattle.http_wire.specs.declared.body.Framing.TheVariants.{Chunked}
 use Rattle.http_wire.specs.declared.chunked.LineState.{LineState}
 use Rattle.http_wire.specs.declared.chunked.LineRead.{LineRead}
 use Rattle.http_wire.specs.declared.chunked.LineRead.TheVariants.{Size, Broken}

@@ -3,8 +3,8 @@ use Rattle.std.specs.Prelude.{◌≡◌, ℕ, Bool, List, Option, Result, Ok, Er
 use Rattle.http_wire.specs.Fields.{Fields}
 use Rattle.http_wire.specs.States.{InputState}
 use Rattle.upload_client.specs.AnswerText.{IsHeard, IsMisplaced, IsPlaceOf, ReadsAnswer, location, range, upto_of}
-use Rattle.http_wire.specs.declared.responses.framing.FramingFault.{FramingFault}
-use Rattle.http_wire.specs.declared.responses.framing.FramingFault.TheVariants as Framing
+use Rattle.http_wire.specs.declared.responses.body.FramingFault.{FramingFault}
+use Rattle.http_wire.specs.declared.responses.body.FramingFault.TheVariants as Framing
 use Rattle.upload_client.specs.declared.answer.ReplyRead.{ReplyRead}
 use Rattle.upload_client.specs.declared.heard.Heard.{Heard}
 use Rattle.upload_client.specs.declared.heard.SaidFault.{SaidFault}

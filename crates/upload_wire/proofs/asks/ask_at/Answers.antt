@@ -1,6 +1,6 @@
 use Rattle.std.proofs.Common.{subst}
 use Rattle.upload_wire.specs.Target.{IsFormOf}
-use Rattle.upload_wire.specs.declared.target.PathForm.TheVariants.{Blob, Uploads, Upload}
+use Rattle.upload_wire.specs.declared.asks.PathForm.TheVariants.{Blob, Uploads, Upload}
 use Rattle.upload_wire.proofs.AskLemmas.{by_form}
 use Rattle.upload_wire.proofs.asks.ask_at.Goals as goal
 
