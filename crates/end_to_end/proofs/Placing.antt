@@ -46,12 +46,17 @@ own_harmless p (Some at) log ask sound =
       chunk =
           λ to range body place next.
           by_reference p at (asks.Chunk p.name to (Given range) body) to refl
-          (λ is. (refl, is, part_of_next p (heard_offset log) range body next));
-      status = λ to place. by_reference p at (asks.Status p.name to) to refl (λ is. (refl, is, tt));
+          (λ is. (refl, is, inl (record {
+            range = range;
+            body = body;
+            is = refl;
+            part = part_of_next p (heard_offset log) range body next;
+          })));
+      status = λ to place. by_reference p at (asks.Status p.name to) to refl (λ is. (refl, is, inr (inl refl)));
       close =
           λ to place all.
           by_reference p at (asks.Close p.name to Absent (Some p.digest) []) to refl
-          (λ is. (refl, is, record { no_range = refl; own_digest = refl; no_body = refl }));
+          (λ is. (refl, is, inr (inr refl)));
       head = inl refl;
     })
     ask sound

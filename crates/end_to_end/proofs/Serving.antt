@@ -1,12 +1,12 @@
 -- A push whose steps are marked in the run of a pool left its file there.
 use Rattle.std.proofs.Common.{◌≡◌, ℕ, ◌<◌, Bool, true, false, List, [], ◌∷◌, ◌++◌, length, map, refl, sym, ap, subst}
-use Rattle.std.proofs.Common.{◌∙◌, append_assoc, arith, inl, inr, Option}
+use Rattle.std.proofs.Common.{◌∙◌, append_assoc, arith, inl, inr, Option, Some, None}
 use Rattle.std.specs.Prelude.{◌==◌, IsTrue, get_or, ◌||◌, Ok}
 use Rattle.std.specs.List.{AllByRecursion, flat_map}
 use Rattle.std.proofs.lemmas.List.{map-append}
+use Rattle.std.specs.FinSet as set
 use Rattle.upload_names.specs.Digest.{Digest}
-use Rattle.upload_service.specs.Machine.{State, Outcome, Replies, Begins, Takes, Commits, Stores, Mounts, state_after}
-use Rattle.upload_service.specs.Machine.{outcome, holds, Turn, AreLawful, IsLawful}
+use Rattle.upload_service.specs.Machine.{State, effect, pairs_with, outcome, holds, Turn, AreLawful, IsLawful}
 use Rattle.upload_service.specs.Run as served
 use Rattle.upload_service.specs.Run.{NeverFall, Run}
 use Rattle.upload_service.specs.Headline.{Headline}
@@ -42,17 +42,11 @@ or_right : (a b : Bool) → IsTrue b → IsTrue (a || b)
 or_right true b is = refl
 or_right false b is = is
 
-held_after : (s : State) (now : ℕ) (o : Outcome) (name : List ℕ) (digest : Digest) → IsTrue (holds s name digest)
-    → IsTrue (holds (state_after s now o) name digest)
-held_after s now (Replies answer) name digest held = held
-held_after s now (Begins n at) name digest held = held
-held_after s now (Takes n at got) name digest held = held
-held_after s now (Commits n at d blob) name digest held =
-    subst IsTrue (sym (contains-insert s.pairs (n, d) (name, digest))) (or_right _ (holds s name digest) held)
-held_after s now (Stores n d blob) name digest held =
-    subst IsTrue (sym (contains-insert s.pairs (n, d) (name, digest))) (or_right _ (holds s name digest) held)
-held_after s now (Mounts n d) name digest held =
-    subst IsTrue (sym (contains-insert s.pairs (n, d) (name, digest))) (or_right _ (holds s name digest) held)
+held_with : (s : State) (pair : Option (List ℕ × Digest)) (name : List ℕ) (digest : Digest)
+    → IsTrue (holds s name digest) → IsTrue (set.contains (pairs_with s.pairs pair) (name, digest))
+held_with s None name digest held = held
+held_with s (Some pair) name digest held =
+    subst IsTrue (sym (contains-insert s.pairs pair (name, digest))) (or_right _ (holds s name digest) held)
 
 held_by_turn : (s : State) (x : served.Exchange) (t : State) (name : List ℕ) (digest : Digest)
     → Turn s x.ask x.secret x.now x.answer t → IsTrue (holds s name digest) → IsTrue (holds t name digest)
@@ -60,7 +54,7 @@ held_by_turn s x t name digest turn held =
     turn_case (λ a u. IsTrue (holds u name digest)) s x.ask x.secret x.now x.answer t
     (λ a u comes. elim comes [
       | inl c ↦ subst (λ (v : State). IsTrue (holds v name digest)) (sym c.1)
-          (held_after s x.now (outcome s x.ask x.secret x.now) name digest held)
+          (held_with s (effect (outcome s x.ask x.secret x.now)).pair name digest held)
       | inr c ↦ subst (λ (v : State). IsTrue (holds v name digest)) (sym c.2) held
     ]) turn
 
@@ -70,20 +64,12 @@ held_by_run s [] t name digest run held = subst (λ (v : State). IsTrue (holds v
 held_by_run s (x ∷ xs) t name digest run held =
     held_by_run run.0 xs t name digest run.2 (held_by_turn s x run.0 name digest run.1 held)
 
-limits_after : (s : State) (now : ℕ) (o : Outcome) → (state_after s now o).limits ≡ s.limits
-limits_after s now (Replies answer) = refl
-limits_after s now (Begins n at) = refl
-limits_after s now (Takes n at got) = refl
-limits_after s now (Commits n at d blob) = refl
-limits_after s now (Stores n d blob) = refl
-limits_after s now (Mounts n d) = refl
-
 limits_by_turn : (s : State) (x : served.Exchange) (t : State) → Turn s x.ask x.secret x.now x.answer t
     → t.limits ≡ s.limits
 limits_by_turn s x t turn =
     turn_case (λ a u. u.limits ≡ s.limits) s x.ask x.secret x.now x.answer t
     (λ a u comes. elim comes [
-      | inl c ↦ ap (λ (v : State). v.limits) c.1 ∙ limits_after s x.now (outcome s x.ask x.secret x.now)
+      | inl c ↦ ap (λ (v : State). v.limits) c.1
       | inr c ↦ ap (λ (v : State). v.limits) c.2
     ]) turn
 

@@ -12,10 +12,10 @@ use Rattle.upload_service.specs.declared.answer.Answer.{Answer}
 use Rattle.upload_service.specs.declared.answer.Answer.TheVariants as answers
 use Rattle.upload_service.specs.declared.answer.Refusal.TheVariants as refusals
 use Rattle.upload_service.specs.UploadView.{Act}
-use Rattle.upload_service.specs.Machine.{same, is_idle, unless_idle, awake, Session, State, Outcome, Replies, Begins}
-use Rattle.upload_service.specs.Machine.{Takes, Commits, Stores, Mounts, state_after, refused, size_fault, body_fault}
-use Rattle.upload_service.specs.Machine.{in_session, at_session, last_number, opening, outcome, Comes, Turn, IsLawful}
-use Rattle.upload_service.specs.Machine.{all_awake}
+use Rattle.upload_service.specs.Machine.{same, is_idle, unless_idle, awake, all_awake, Session, State, Outcome, Begins}
+use Rattle.upload_service.specs.Machine.{SessionChange, AllStay, OneBegins, OneTakes, OneLeaves, effect, issued_with}
+use Rattle.upload_service.specs.Machine.{refused, size_fault, body_fault, in_session, at_session, last_number, opening}
+use Rattle.upload_service.specs.Machine.{outcome, Comes, Turn, IsLawful}
 use Rattle.upload_service.specs.Run.{Exchange}
 use Rattle.upload_service.specs.Headline.{HeadlineHolds}
 use Rattle.upload_push.proofs.Cases.{cond_case}
@@ -91,13 +91,11 @@ lawful_turn headline s ask secret now answer new lawful turn =
     (headline s (x ∷ []) new lawful (omega arith, tt) (new, turn, refl)).lawful
 
 -- numbers that were issued stay issued
-issued_after : (s : State) (now : ℕ) (o : Outcome) → s.issued ≤ (state_after s now o).issued
-issued_after s now (Replies answer) = omega arith
-issued_after s now (Begins name at) = omega arith
-issued_after s now (Takes name at received) = omega arith
-issued_after s now (Commits name at digest blob) = omega arith
-issued_after s now (Stores name digest blob) = omega arith
-issued_after s now (Mounts name digest) = omega arith
+issued_stay : (issued : ℕ) (change : SessionChange) → issued ≤ issued_with issued change
+issued_stay issued AllStay = omega arith
+issued_stay issued (OneBegins name at) = omega arith
+issued_stay issued (OneTakes name at received) = omega arith
+issued_stay issued (OneLeaves at) = omega arith
 
 pub issued_turn : (s : State) (ask : Ask) (secret : List ℕ) (now : ℕ) (answer : Answer) (new : State)
     → Turn s ask secret now answer new → s.issued ≤ new.issued
@@ -105,6 +103,7 @@ issued_turn s ask secret now answer new turn =
     let Q : Answer → State → Type 0 = λ a t. s.issued ≤ t.issued in
     turn_case Q s ask secret now answer new
     (λ a t comes. elim comes [
-      | inl c ↦ subst (λ (x : State). s.issued ≤ x.issued) (sym c.1) (issued_after s now (outcome s ask secret now))
+      | inl c ↦ subst (λ (x : State). s.issued ≤ x.issued) (sym c.1) 
+          (issued_stay s.issued (effect (outcome s ask secret now)).sessions)
       | inr c ↦ subst (λ (x : State). s.issued ≤ x.issued) (sym c.2) (omega arith)
     ]) turn

@@ -1,18 +1,20 @@
 -- The way of a push through a run of the service, and what its end is worth.
 use Rattle.std.proofs.Common.{refl, ◌≡◌, ℕ, inl, inr, true, List, [], ◌∷◌, Option, Some, None, ap, subst, sym, ◌∙◌}
-use Rattle.std.specs.Prelude.{Result, Ok, IsTrue}
+use Rattle.std.specs.Prelude.{Result, Ok, IsTrue, if◌then◌else◌}
 use Rattle.upload_service.specs.declared.ask.Ask.{Ask}
 use Rattle.upload_service.specs.declared.ask.Ask.TheVariants as asks
-use Rattle.upload_service.specs.declared.ask.Extent.TheVariants.{Absent, Bad, Given}
+use Rattle.upload_service.specs.declared.ask.Extent.{Extent}
+use Rattle.upload_service.specs.declared.ask.Extent.TheVariants.{Absent, Given}
 use Rattle.upload_service.specs.declared.answer.Answer.{Answer}
 use Rattle.upload_service.specs.Machine.{State, Turn, IsLawful, holds}
 use Rattle.upload_service.specs.Headline.{HeadlineHolds, OthersLeaveIt}
 use Rattle.upload_service.specs.Run as served
 use Rattle.upload_service.specs.Run.{Run}
-use Rattle.upload_service.specs.UploadView.{Act, Sends, AsksOffset, Closes, UploadView, OfSession, Opens, WholeBlob}
-use Rattle.upload_service.specs.UploadView.{Unrelated, upload_view}
+use Rattle.upload_service.specs.UploadView.{Act, act_view, UploadView, OfSession, Opens, WholeBlob, Unrelated}
+use Rattle.upload_service.specs.UploadView.{upload_view}
 use Rattle.upload_client.specs.Heard.{reply_heard}
 use Rattle.upload_push.specs.Slices.{Push, Attempt, after_all, log_of, heard_offset, heard_place, offset_by}
+use Rattle.upload_push.specs.Slices.{offset_told}
 use Rattle.upload_push.specs.Slices.{offset_after, place_after, IsSound, IsSoundAsk, LastIsAnswered, IsClose, IsHead}
 use Rattle.upload_push.specs.Slices.{HeardStatus, Leads, IsEnd}
 use Rattle.upload_push.specs.World.{IsSecret}
@@ -28,7 +30,7 @@ use Rattle.upload_push.specs.declared.pushing.PushFault.{PushFault}
 use Rattle.upload_push.proofs.Sound.{all_sound, pushed_last, already_last}
 use Rattle.upload_push.proofs.Turns.{lawful_turn, None≢Some, same_inside}
 use Rattle.upload_service.proofs.Steps.{session_ask}
-use Rattle.upload_push.proofs.Requests.{by_sound, own_act, own_close, own_head, whole_close}
+use Rattle.upload_push.proofs.Requests.{by_sound, own_act, own_close, own_head}
 use Rattle.upload_push.proofs.Uploads.{IsUpload, IsKept, PlacesReadBack, others_keep, part_of_next, chunk_keeps}
 use Rattle.upload_push.proofs.Uploads.{status_keeps, close_keeps, opening_keeps, has_keeps}
 use Rattle.upload_push.proofs.Ends.{there_by_pair, close_leaves_pair, close_leaves_file, head_finds_pair}
@@ -51,16 +53,17 @@ lawful_run laws old (x ∷ xs) new lawful run =
 act_keeps : Laws → (p : Push) (s : State) (secret : List ℕ) (now : ℕ) (at : List ℕ) (offset : ℕ) (act : Act)
     (answer : Answer) (new : State) → IsLawful s → IsActOf p act → IsUpload p.file s (Some at) offset
     → Turn s (session_ask p.name at act) secret now answer new → IsUpload p.file new (Some at) offset
-act_keeps laws p s secret now at offset (Sends (Given range) body) answer new lawful own up turn =
-    (chunk_keeps laws.reads p s now secret at offset range body answer new own up turn).0
-act_keeps laws p s secret now at offset (Sends Absent body) answer new lawful own up turn = absurd own
-act_keeps laws p s secret now at offset (Sends Bad body) answer new lawful own up turn = absurd own
-act_keeps laws p s secret now at offset AsksOffset answer new lawful own up turn =
-    (status_keeps p s now secret at offset answer new up turn).0
-act_keeps laws p s secret now at offset (Closes range digest body) answer new lawful own up turn =
-    (close_keeps p s now secret at offset answer new lawful up
-    (subst (λ a. Turn s a secret now answer new)
-    (whole_close p at range digest body own.no_range own.own_digest own.no_body) turn)).0
+act_keeps laws p s secret now at offset act answer new lawful own up turn =
+    let T : Act → Type 0 = λ a. Turn s (session_ask p.name at a) secret now answer new in
+    elim own [
+      | inl sent ↦
+          (chunk_keeps laws.reads p s now secret at offset sent.range sent.body answer new sent.part up
+          (subst T sent.is turn)).0
+      | inr rest ↦ elim rest [
+        | inl is ↦ (status_keeps p s now secret at offset answer new up (subst T is turn)).0
+        | inr is ↦ (close_keeps p s now secret at offset answer new lawful up (subst T is turn)).0
+      ]
+    ]
 
 late_keeps : Laws → (p : Push) (s : State) (secret : List ℕ) (now : ℕ) (at : List ℕ) (offset : ℕ) (ask : Ask)
     (answer : Answer) (new : State) → IsLawful s → IsRequestOf p at (upload_view ask)
@@ -134,11 +137,15 @@ came_lawful laws s ask heard new lawful comes =
     ]
 
 -- no code that is heard says how far an upload is
+told_apart : (chunk : Option (Extent × List ℕ)) (h : Heard) (code : Option (List ℕ)) (offset : ℕ)
+    → offset_told chunk (record h { code = code }) offset ≡ offset_told chunk h offset
+told_apart (Some chunk) h code offset = refl
+told_apart None h code offset = refl
+
 code_apart : (view : UploadView) (h : Heard) (code : Option (List ℕ)) (offset : ℕ)
     → offset_by view (record h { code = code }) offset ≡ offset_by view h offset
-code_apart (OfSession name at (Sends range body)) h code offset = refl
-code_apart (OfSession name at AsksOffset) h code offset = refl
-code_apart (OfSession name at (Closes range digest body)) h code offset = refl
+code_apart (OfSession name at act) h code offset =
+    ap (λ n. if (act_view act).closes then offset else n) (told_apart (act_view act).chunk h code offset)
 code_apart (Opens name) h code offset = refl
 code_apart (WholeBlob body) h code offset = refl
 code_apart Unrelated h code offset = refl

@@ -3,20 +3,18 @@
 use Rattle.std.specs.Prelude.{Result, Ok, ◌≡◌, ℕ, ◌+◌, ◌<◌, ◌≤◌, ◌⊎◌, List, [], ◌∷◌, length, slice_range, Option, Some}
 use Rattle.std.specs.Prelude.{None, ⊤}
 use Rattle.upload_names.specs.ByteRange.{Span}
-use Rattle.upload_names.specs.Digest.{Digest}
 use Rattle.upload_service.specs.Machine.{State, Turn, IsLawful}
 use Rattle.upload_service.specs.Run as served
 use Rattle.upload_service.specs.Run.{Run}
 use Rattle.upload_service.specs.UploadView.{Act, Sends, AsksOffset, Closes, UploadView, OfSession, Opens, WholeBlob}
 use Rattle.upload_service.specs.UploadView.{Unrelated, upload_view}
 use Rattle.upload_service.specs.declared.ask.Ask.{Ask}
-use Rattle.upload_service.specs.declared.ask.Extent.{Extent}
-use Rattle.upload_service.specs.declared.ask.Extent.TheVariants.{Absent}
+use Rattle.upload_service.specs.declared.ask.Extent.TheVariants.{Absent, Given}
 use Rattle.upload_service.specs.declared.answer.Answer.{Answer}
 use Rattle.upload_client.specs.Heard.{reply_heard}
 use Rattle.upload_client.specs.declared.heard.Heard.{Heard}
 use Rattle.upload_push.specs.Promise.{Avoids, IsStored, IsThere}
-use Rattle.upload_push.specs.Slices.{Push, IsLawfulPush, Attempt, IsGiven, Leads, IsPush, heard_place, log_of}
+use Rattle.upload_push.specs.Slices.{Push, IsLawfulPush, Attempt, Leads, IsPush, heard_place, log_of}
 use Rattle.upload_push.specs.World.{IsSecret}
 use Rattle.upload_push.specs.declared.pusher.Outcome.{Outcome}
 use Rattle.upload_push.specs.declared.pusher.Outcome.TheVariants.{Pushed, Already}
@@ -54,17 +52,16 @@ pub record IsPart (p : Push) (range : Span) (body : List ℕ) : Type 0 where
   pub within : range.last < length p.file
   pub bytes : body ≡ slice_range p.file range.first (range.last + 1)
 
--- a close under the push's digest, without a body of its own
-pub record IsCloseOf (p : Push) (range : Extent) (digest : Option Digest) (body : List ℕ) : Type 0 where
-  pub no_range : range ≡ Absent
-  pub own_digest : digest ≡ Some p.digest
-  pub no_body : body ≡ []
+-- that its upload take such bytes
+pub record SendsPart (p : Push) (act : Act) : Type 0 where
+  pub range : Span
+  pub body : List ℕ
+  pub is : act ≡ Sends (Given range) body
+  pub part : IsPart p range body
 
--- what a push asks of its upload
+-- what a push asks of its upload: a part, the offset, or a close under the push's digest, without a body of its own
 abbrev pub IsActOf : Push → Act → Type 0
-IsActOf p (Sends range body) = IsGiven range (λ r. IsPart p r body)
-IsActOf p AsksOffset = ⊤
-IsActOf p (Closes range digest body) = IsCloseOf p range digest body
+IsActOf p act = SendsPart p act ⊎ ((act ≡ AsksOffset) ⊎ (act ≡ Closes Absent (Some p.digest) []))
 
 -- a request that the push made of this upload, or could have made
 abbrev pub IsRequestOf : Push → List ℕ → UploadView → Type 0

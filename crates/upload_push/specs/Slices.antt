@@ -9,8 +9,7 @@ use Rattle.upload_service.specs.declared.ask.Extent.{Extent}
 use Rattle.upload_service.specs.declared.ask.Extent.TheVariants.{Absent, Given}
 use Rattle.upload_service.specs.declared.ask.Ask.{Ask}
 use Rattle.upload_service.specs.declared.ask.Ask.TheVariants.{Has, Opening, Chunk, Status, Close}
-use Rattle.upload_service.specs.UploadView.{Act, Sends, AsksOffset, Closes, UploadView, OfSession, Opens, WholeBlob}
-use Rattle.upload_service.specs.UploadView.{Unrelated, upload_view}
+use Rattle.upload_service.specs.UploadView.{act_view, UploadView, OfSession, Opens, WholeBlob, Unrelated, upload_view}
 use Rattle.upload_push.specs.Steps.{Plan, Stand, turn, ask_at, count_to, place_of}
 use Rattle.upload_client.specs.declared.heard.Heard.{Heard}
 use Rattle.upload_push.specs.declared.pusher.PushAsk.{PushAsk}
@@ -81,14 +80,14 @@ log_of p (heard ∷ earlier) = logged p (ask_at (plan_of p) (after_all p earlier
 
 -- The heard offset: the offset that the server named last. It is 0 after the opening's 202, and one more than the
 -- last position (0 without one) after a chunk's 202 or 416 or a status' 204.
-abbrev pub offset_told : Act → Heard → ℕ → ℕ
-offset_told (Sends range body) h offset =
+abbrev pub offset_told : Option (Extent × List ℕ) → Heard → ℕ → ℕ
+offset_told (Some chunk) h offset =
     if h.status == 202 then count_to h.upto else if h.status == 416 then count_to h.upto else offset
-offset_told AsksOffset h offset = if h.status == 204 then count_to h.upto else offset
-offset_told (Closes range digest body) h offset = offset
+offset_told None h offset = if h.status == 204 then count_to h.upto else offset
 
 abbrev pub offset_by : UploadView → Heard → ℕ → ℕ
-offset_by (OfSession name at act) h offset = offset_told act h offset
+offset_by (OfSession name at act) h offset =
+    if (act_view act).closes then offset else offset_told (act_view act).chunk h offset
 offset_by (Opens name) h offset = if h.status == 202 then 0 else offset
 offset_by (WholeBlob body) h offset = offset
 offset_by Unrelated h offset = offset

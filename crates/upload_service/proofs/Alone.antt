@@ -7,8 +7,7 @@ use Rattle.upload_names.specs.Reference.{number_of}
 use Rattle.upload_service.specs.declared.limits.Limits.{Limits}
 use Rattle.upload_service.specs.declared.ask.Ask.{Ask}
 use Rattle.upload_service.specs.declared.answer.Answer.{Answer}
-use Rattle.upload_service.specs.Machine.{Session, State, Outcome, Replies, Begins, Takes, Commits, Stores, Mounts}
-use Rattle.upload_service.specs.Machine.{answer_of, state_after, outcome}
+use Rattle.upload_service.specs.Machine.{Session, State, Outcome, answer_of, state_after, outcome}
 use Rattle.std.specs.Prelude.{filter, map as list_map}
 use Rattle.std.proofs.lemmas.Bool.{leb-true}
 use Rattle.upload_service.specs.Machine.{Turn, IsLawful}
@@ -17,6 +16,7 @@ use Rattle.upload_service.specs.Run.{Exchange, NeverBefore, Run}
 use Rattle.upload_service.specs.Session.{carries, begins, is_part, part}
 use Rattle.upload_service.specs.Alone.{Life, life_of, life_in, alone_answer, alone_after, alone, lacks_memory, told}
 use Rattle.upload_service.proofs.Steps.{IsOutcome, outcome_sound}
+use Rattle.upload_service.proofs.Effects.{has_memory}
 use Rattle.upload_service.proofs.Turns.{IsNumbered, numbered_after, Fits, fits_by, others_leave, Own, own_by_reference}
 use Rattle.upload_service.proofs.Turns.{own_by_opening}
 
@@ -39,28 +39,11 @@ told_own x xs at e m =
     ap (λ b. filter (λ y. not (lacks_memory y.answer)) (cond b (x ∷ part xs at) (part xs at))) e
     ∙ ap (λ b. cond (not b) (x ∷ told xs at) (told xs at)) m
 
-pub has_memory : (s : State) (ask : Ask) (secret : List ℕ) (now : ℕ) (o : Outcome) → IsOutcome s ask secret now o
-    → lacks_memory (answer_of o) ≡ false
-has_memory s ask secret now (Replies answer) f = f.has_memory
-has_memory s ask secret now (Begins name new) f = refl
-has_memory s ask secret now (Takes name to received) f = refl
-has_memory s ask secret now (Commits name to digest blob) f = refl
-has_memory s ask secret now (Stores name digest blob) f = refl
-has_memory s ask secret now (Mounts name digest) f = refl
-
-pub same_limits : (s : State) (now : ℕ) (o : Outcome) → (state_after s now o).limits ≡ s.limits
-same_limits s now (Replies answer) = refl
-same_limits s now (Begins name new) = refl
-same_limits s now (Takes name to received) = refl
-same_limits s now (Commits name to digest blob) = refl
-same_limits s now (Stores name digest blob) = refl
-same_limits s now (Mounts name digest) = refl
-
 pub limits_turn : (s : State) (ask : Ask) (secret : List ℕ) (now : ℕ) (answer : Answer) (t : State)
     → Turn s ask secret now answer t → t.limits ≡ s.limits
 unfolding Turn
 limits_turn s ask secret now answer t (inl did) =
-    ap (λ q. q.limits) did.1 ∙ same_limits s now (outcome s ask secret now)
+    ap (λ q. q.limits) did.1
 limits_turn s ask secret now answer t (inr lacked) = ap (λ q. q.limits) lacked.2
 
 -- Where this holds of the run after an exchange, it holds of the run with it.
@@ -115,7 +98,7 @@ by_own limits at x xs s mid t life m n e d p own later rest more =
     (told_own x xs at p
     (ap lacks_memory e ∙ has_memory s x.ask x.secret x.now o (outcome_sound s x.now x.ask x.secret)))
     (e ∙ own.told ∙ ap (λ (k : Limits). alone_answer k at life x.ask x.now) m)
-    (more mid t x.now _ (ap (λ q. q.limits) d ∙ same_limits s x.now o ∙ m) n later rest
+    (more mid t x.now _ (ap (λ q. q.limits) d ∙ m) n later rest
     (subst (λ (k : Limits). Fits mid x.now at (alone_after k life x.ask x.now)) m
     (subst (λ q. Fits q x.now at (alone_after s.limits life x.ask x.now)) (sym d) own.fits)))
 
@@ -141,7 +124,7 @@ alone_so_far limits at (x ∷ xs) s t from life m h (later, never) (mid, turn, r
                       none_more limits at life x xs
                       (told_other x xs at (ap (λ b. b || begins at x.answer) none.0 ∙ none.1))
                       (alone_so_far limits at xs mid t x.now life
-                      (ap (λ q. q.limits) did.1 ∙ same_limits s x.now o ∙ m) n never rest
+                      (ap (λ q. q.limits) did.1 ∙ m) n never rest
                       (subst (λ q. Fits q x.now at life) (sym did.1) (others_leave s x.ask x.secret from x.now o f h
                       later at life none.0 (sym (ap (begins at) did.0) ∙ none.1) fits)))
                 ]

@@ -6,21 +6,21 @@ use Rattle.std.specs.FinMap as map
 use Rattle.upload_names.specs.Reference.{number_of}
 use Rattle.upload_service.specs.declared.ask.Ask.{Ask}
 use Rattle.upload_service.specs.declared.answer.Answer.{Answer}
-use Rattle.upload_service.specs.UploadView.{Act, Sends, AsksOffset, Closes, upload_view}
-use Rattle.upload_service.specs.Machine.{same, swept, Session, State, Outcome, Replies, Begins, Takes, Commits, Stores}
-use Rattle.upload_service.specs.Machine.{Mounts, answer_of, state_after, outcome}
-use Rattle.std.specs.Prelude.{flat_map, is_some}
+use Rattle.upload_service.specs.Machine.{swept, Session, State, SessionChange, AllStay, OneBegins}
+use Rattle.upload_service.specs.Machine.{OneTakes, OneLeaves, issued_with, sessions_with, state_after}
+use Rattle.upload_service.specs.Machine.{outcome}
+use Rattle.std.specs.Prelude.{flat_map}
 use Rattle.std.proofs.Common.{append_assoc}
 use Rattle.std.proofs.lemmas.List.{append-nil}
 use Rattle.std.proofs.lemmas.List.Elements.{filter-append}
 use Rattle.upload_service.specs.Machine.{Turn}
 use Rattle.upload_service.specs.Run.{Exchange, Run}
-use Rattle.upload_service.specs.Session.{carries, begins, is_part, part, is_taken, is_stored, accepted_by, accepted_of}
+use Rattle.upload_service.specs.Session.{carries, is_same, begins, is_part, part, is_taken, is_stored, accepted_of}
 use Rattle.upload_service.specs.Session.{accepted, taken, joined_chunks, bytes_of, received}
 use Rattle.upload_service.proofs.Keeping.Tables.{one_or_two, get-insert_same, get-insert_other, get-remove_same}
 use Rattle.upload_service.proofs.Keeping.Tables.{get-remove_other, same_from_eq, same_from_ne}
-use Rattle.upload_service.proofs.UploadView.{on_each}
-use Rattle.upload_service.proofs.Steps.{IsOutcome, outcome_sound, None≢Some}
+use Rattle.upload_service.proofs.Steps.{outcome_sound, None≢Some}
+use Rattle.upload_service.proofs.Effects.{FitsChange, turn_fits, state_with, not_accepted}
 use Rattle.upload_service.proofs.Sweeps.{kept_or_left, none_there}
 use Rattle.upload_service.proofs.Turns.{IsNumbered, numbered_after, IsGone, not_new}
 
@@ -70,18 +70,6 @@ received-push s xs x at =
     ∙ sym
     (append_assoc (bytes_of (map.get s.sessions at)) (joined_chunks (taken xs at)) (joined_chunks (gave at x)))
 
--- what is answered otherwise gives nothing
-not_accepted_by : (act : Act) (answer : Answer) → is_taken answer ≡ false → is_stored answer ≡ false
-    → accepted_by act answer ≡ []
-not_accepted_by (Sends range body) answer t s = ap (λ b. cond b (body ∷ []) []) t
-not_accepted_by AsksOffset answer t s = refl
-not_accepted_by (Closes range digest body) answer t s = ap (λ b. cond b (body ∷ []) []) s
-
-not_accepted : (ask : Ask) (answer : Answer) → is_taken answer ≡ false → is_stored answer ≡ false
-    → accepted_of ask answer ≡ []
-not_accepted ask answer t s =
-    on_each (λ bodies. bodies ≡ []) (upload_view ask) [] _ refl (λ name at act. not_accepted_by act answer t s)
-
 gave_none : (x : Exchange) (at : List ℕ) → accepted x ≡ [] → gave at x ≡ []
 gave_none x at e = elim (is_part at x) as (λ b. cond b (accepted x) [] ≡ []) [ true ↦ e | false ↦ refl ]
 
@@ -106,21 +94,21 @@ nothing_yet : (s : State) (at : List ℕ) (o : Option Session) → map.get s.ses
 nothing_yet s at None e n = refl
 nothing_yet s at (Some session) e n = absurd (n session refl)
 
-grows : (s : State) (x : Exchange) (o : Outcome) → IsOutcome s x.ask x.secret x.now o → IsNumbered s
-    → x.answer ≡ answer_of o → (at : List ℕ) → IsGone (state_after s x.now o) at ⊎ Grew s (state_after s x.now o) at x
-grows s x (Replies answer) f h e at =
-    inr (kept s s at x refl
-    (gave_none x at (not_accepted x.ask x.answer (ap is_taken e ∙ f.took_none)
-    (ap is_stored e ∙ ap is_some f.stored_none))))
-grows s x (Begins name new) f h e at =
-    let g : gave at x ≡ [] = gave_none x at (not_accepted x.ask x.answer (ap is_taken e) (ap is_stored e)) in
-    let t : State = state_after s x.now (Begins name new) in
+grows_with : (s : State) (x : Exchange) (change : SessionChange) (rest : State)
+    → FitsChange s x.ask x.secret x.now x.answer change → IsNumbered s → (at : List ℕ)
+    → IsGone (state_with s x.now change rest) at ⊎ Grew s (state_with s x.now change rest) at x
+grows_with s x AllStay rest f h at =
+    inr (kept s (state_with s x.now AllStay rest) at x refl (gave_none x at f.accepts_none))
+grows_with s x (OneBegins name new) rest f h at =
+    let g : gave at x ≡ [] =
+    gave_none x at (not_accepted x.ask x.answer (ap is_taken f.1) (ap is_stored f.1)) in
+    let t : State = state_with s x.now (OneBegins name new) rest in
     elim (one_or_two at new) [
       | inl same ↦
           inr (ap bytes_of (ap (map.get t.sessions) same ∙ get-insert_same (swept s x.now) new _)
           ∙ sym (ap (λ c. bytes_of (map.get s.sessions at) ++ joined_chunks c) g ∙ append_none _
           ∙ nothing_yet s at (map.get s.sessions at) refl
-          (λ session o. not_new s x.secret at new f.is_new f.numbers_left (h at session o) same)))
+          (λ session o. not_new s x.secret at new f.0.is_new f.0.numbers_left (h at session o) same)))
       | inr other ↦
           elim (kept_or_left s x.now at) [
             | inl still ↦ inr (kept s t at x (get-insert_other (swept s x.now) new _ at other ∙ still) g)
@@ -130,66 +118,61 @@ grows s x (Begins name new) f h e at =
             )
           ]
     ]
-grows s x (Takes name to got) f h e at =
+grows_with s x (OneTakes name to got) rest f h at =
+    let t : State = state_with s x.now (OneTakes name to got) rest in
     elim (one_or_two at to) [
       | inl same ↦
-          let g : gave at x ≡ f.body ∷ [] =
-          gave_own x at (ap (carries at) f.asked ∙ same_from_eq at to same) ∙ (λ i. accepted_of (f.asked i) (e i)) in
-          inr (ap bytes_of
-          (ap (map.get (state_after s x.now (Takes name to got)).sessions) same ∙ get-insert_same s.sessions to _)
-          ∙ f.grown
+          let g : gave at x ≡ f.0.body ∷ [] =
+          gave_own x at (ap (carries at) f.0.asked ∙ same_from_eq at to same)
+          ∙ (λ i. accepted_of (f.0.asked i) (f.1 i)) in
+          inr (ap bytes_of (ap (map.get t.sessions) same ∙ get-insert_same s.sessions to _)
+          ∙ f.0.grown
           ∙ sym
           (ap (λ c. bytes_of (map.get s.sessions at) ++ joined_chunks c) g ∙ ap (λ b. bytes_of (map.get s.sessions at)
-          ++ b) (append_none f.body) ∙ ap (λ o. bytes_of o ++ f.body) (ap (map.get s.sessions) same ∙ f.found.is_open)))
+          ++ b) (append_none f.0.body)
+          ∙ ap (λ o. bytes_of o ++ f.0.body) (ap (map.get s.sessions) same ∙ f.0.found.is_open)))
       | inr other ↦
-          inr (kept s (state_after s x.now (Takes name to got)) at x (get-insert_other s.sessions to _ at other)
-          (gave_other x at (ap (carries at) f.asked ∙ same_from_ne at to other) (ap (begins at) e)))
+          inr (kept s t at x (get-insert_other s.sessions to _ at other)
+          (gave_other x at (ap (carries at) f.0.asked ∙ same_from_ne at to other) (ap (begins at) f.1)))
     ]
-grows s x (Commits name to digest blob) f h e at =
+grows_with s x (OneLeaves to) rest f h at =
     elim (one_or_two at to) [
       | inl same ↦ inl (
         ap (map.get (map.remove s.sessions to)) same ∙ get-remove_same s.sessions to,
         h at f.found.session (ap (map.get s.sessions) same ∙ f.found.is_open),
       )
       | inr other ↦
-          inr (kept s (state_after s x.now (Commits name to digest blob)) at x (get-remove_other s.sessions to at other)
-          (gave_other x at (ap (carries at) f.asked ∙ same_from_ne at to other) (ap (begins at) e)))
+          inr (kept s (state_with s x.now (OneLeaves to) rest) at x (get-remove_other s.sessions to at other)
+          (gave_other x at (f.carried at ∙ same_from_ne at to other) (ap (is_same at) f.begins_none)))
     ]
-grows s x (Stores name digest blob) f h e at =
-    inr (kept s (state_after s x.now (Stores name digest blob)) at x refl
-    (gave_none x at (ap (λ a. accepted_of a x.answer) f.asked)))
-grows s x (Mounts name digest) f h e at =
-    inr (kept s (state_after s x.now (Mounts name digest)) at x refl
-    (gave_none x at (ap (λ a. accepted_of a x.answer) f.asked)))
 
 -- a session that has left the table doesn't come back
-gone_after : (s : State) (ask : Ask) (secret : List ℕ) (now : ℕ) (o : Outcome) → IsOutcome s ask secret now o
-    → (at : List ℕ) → IsGone s at → IsGone (state_after s now o) at
-gone_after s ask secret now (Replies answer) f at g = g
-gone_after s ask secret now (Begins name new) f at g = (
-  get-insert_other (swept s now) new _ at (not_new s secret at new f.is_new f.numbers_left g.1)
+gone_with : (s : State) (ask : Ask) (secret : List ℕ) (now : ℕ) (answer : Answer) (change : SessionChange)
+    → FitsChange s ask secret now answer change → (at : List ℕ) → IsGone s at
+    → (map.get (sessions_with s now change) at ≡ None) × (number_of at ≤ issued_with s.issued change)
+gone_with s ask secret now answer AllStay f at g = g
+gone_with s ask secret now answer (OneBegins name new) f at g = (
+  get-insert_other (swept s now) new _ at (not_new s secret at new f.0.is_new f.0.numbers_left g.1)
       ∙ none_there s now at g.0,
   let le : number_of at ≤ s.issued = g.1 in omega arith,
 )
-gone_after s ask secret now (Takes name to got) f at g = (
-  get-insert_other s.sessions to _ at (λ same. None≢Some (sym g.0 ∙ ap (map.get s.sessions) same ∙ f.found.is_open))
-      ∙ g.0,
+gone_with s ask secret now answer (OneTakes name to got) f at g = (
+  get-insert_other s.sessions to _ at
+      (λ same. None≢Some (sym g.0 ∙ ap (map.get s.sessions) same ∙ f.0.found.is_open)) ∙ g.0,
   g.1,
 )
-gone_after s ask secret now (Commits name to digest blob) f at g = (
+gone_with s ask secret now answer (OneLeaves to) f at g = (
   get-remove_other s.sessions to at (λ same. None≢Some (sym g.0 ∙ ap (map.get s.sessions) same ∙ f.found.is_open))
       ∙ g.0,
   g.1,
 )
-gone_after s ask secret now (Stores name digest blob) f at g = g
-gone_after s ask secret now (Mounts name digest) f at g = g
 
 pub gone_turn : (s : State) (x : Exchange) (t : State) (at : List ℕ) → Turn s x.ask x.secret x.now x.answer t
     → IsGone s at → IsGone t at
 unfolding Turn
 gone_turn s x t at (inl did) g =
     subst (λ q. IsGone q at) (sym did.1)
-    (gone_after s x.ask x.secret x.now (outcome s x.ask x.secret x.now) (outcome_sound s x.now x.ask x.secret) at g)
+    (gone_with s x.ask x.secret x.now x.answer _ (turn_fits s x.ask x.secret x.now x.answer did.0) at g)
 gone_turn s x t at (inr lacked) g = subst (λ q. IsGone q at) (sym lacked.2) g
 
 pub gone_run : (xs : List Exchange) (s t : State) (at : List ℕ) → Run s xs t → IsGone s at → IsGone t at
@@ -215,7 +198,8 @@ grew_turn : (s : State) (x : Exchange) (t : State) (at : List ℕ) → Turn s x.
 unfolding Turn
 grew_turn s x t at (inl did) h =
     subst (λ q. IsGone q at ⊎ Grew s q at x) (sym did.1)
-    (grows s x (outcome s x.ask x.secret x.now) (outcome_sound s x.now x.ask x.secret) h did.0 at)
+    (grows_with s x _ (state_after s x.now (outcome s x.ask x.secret x.now))
+    (turn_fits s x.ask x.secret x.now x.answer did.0) h at)
 grew_turn s x t at (inr lacked) h =
     inr (kept s t at x (ap (λ q. map.get q.sessions at) lacked.2)
     (gave_none x at (not_accepted x.ask x.answer (ap is_taken lacked.1) (ap is_stored lacked.1))))

@@ -1,9 +1,11 @@
 -- The headline: what a session commits, what a chunk that misses does, and what a closed session takes.
-use Rattle.std.proofs.Common.{◌≡◌, ◌≢◌, ℕ, ◌+◌, ◌-◌, List, [], ◌∷◌, ◌++◌, length, Bool, true, false, Option, Some, None}
+use Rattle.std.proofs.Common.{◌≡◌, ◌≢◌, ℕ, ◌+◌, ◌-◌, ◌≤◌, List, [], ◌∷◌, ◌++◌, length, true, false, Option, Some, None}
 use Rattle.std.proofs.Common.{refl, sym, ◌∙◌, ap, subst, inl, inr, not}
-use Rattle.std.specs.Prelude.{◌||◌, ◌==◌, nat_lt, is_some, if◌then◌else◌}
+use Rattle.std.specs.Prelude.{◌||◌, ◌==◌, nat_lt, if◌then◌else◌}
 use Rattle.std.proofs.lemmas.Bool.{true≢false}
 use Rattle.std.specs.FinMap as map
+use Rattle.std.specs.FinSet as set
+use Rattle.upload_names.specs.Reference.{number_of}
 use Rattle.upload_names.specs.ByteRange.{Span}
 use Rattle.upload_names.specs.Digest.{Digest, HasDigest}
 use Rattle.upload_service.specs.declared.ask.Extent.{Extent}
@@ -13,25 +15,27 @@ use Rattle.upload_service.specs.declared.ask.Ask.{Ask}
 use Rattle.upload_service.specs.declared.ask.Ask.TheVariants as asks
 use Rattle.upload_service.specs.declared.answer.Answer.{Answer}
 use Rattle.upload_service.specs.declared.answer.Answer.TheVariants as answers
-use Rattle.upload_service.specs.UploadView.{Act, Sends, AsksOffset, Closes, UploadView, OfSession, upload_view}
+use Rattle.upload_service.specs.UploadView.{Act, Sends, Closes, UploadView, OfSession, upload_view}
 use Rattle.upload_service.specs.UploadView.{on_session, answer_view}
-use Rattle.upload_service.specs.Machine.{same, unless_idle, awake, Session, State, Outcome, Replies, Begins, Takes}
-use Rattle.upload_service.specs.Machine.{Commits, Stores, Mounts, answer_of, state_after, refused, size_fault}
-use Rattle.upload_service.specs.Machine.{Progress, progress_of, body_fault, unless_fault, at_session, holds, outcome}
+use Rattle.upload_service.specs.Machine.{unless_idle, awake, Session, State, Outcome, Replies, SessionChange, AllStay}
+use Rattle.upload_service.specs.Machine.{OneBegins, OneTakes, OneLeaves, effect, answer_of, issued_with, sessions_with}
+use Rattle.upload_service.specs.Machine.{blobs_with, pairs_with, state_after, refused, size_fault, Progress}
+use Rattle.upload_service.specs.Machine.{progress_of, body_fault, unless_fault, at_session, outcome}
 use Rattle.upload_service.proofs.Keeping.Tables.{eq_from_same}
-use Rattle.std.specs.Prelude.{◌&&◌}
 use Rattle.std.specs.List.{list_any}
 use Rattle.std.proofs.lemmas.Bool.{eqb-true, false_from_ne_true}
 use Rattle.upload_service.specs.Machine.{Turn, IsLawful, may_lack_memory}
 use Rattle.upload_service.proofs.Claims.{CommitsItsChunks, MissedChunkChangesNothing, MisplacedOnlyThere}
 use Rattle.upload_service.proofs.Claims.{ClosedTakesNothing}
 use Rattle.upload_service.specs.Run.{Exchange, Run}
-use Rattle.upload_service.specs.Session.{carries, is_stored, accepted_of, joined_chunks, received, closed_by, closes_of}
+use Rattle.upload_service.specs.Session.{carries, is_stored, accepted_of, joined_chunks, received, closes_of}
 use Rattle.upload_service.specs.Headline.{Aim, aim_by, aim_of, IsCommitted}
 use Rattle.upload_service.proofs.Keeping.Tables.{get-remove_same, same_itself, blob-insert_same, contains-insert_same}
-use Rattle.upload_service.proofs.UploadView.{on_each, named as named_session, carried}
+use Rattle.upload_service.proofs.UploadView.{named as named_session, carried}
 use Rattle.upload_service.proofs.Steps.{IsMisplaced, IsOutcome, outcome_of_view, outcome_sound, awake_is_open}
 use Rattle.upload_service.proofs.Steps.{None≢Some}
+use Rattle.upload_service.proofs.Effects.{FitsChange, FitsStore, turn_fits, store_fits, pair_told, state_with}
+use Rattle.upload_service.proofs.Effects.{not_closed, closes_carried, misplaced_fact}
 use Rattle.upload_service.proofs.Turns.{IsNumbered, IsGone}
 use Rattle.upload_service.proofs.Alone.{numbered_if_lawful}
 use Rattle.upload_service.specs.Session.{is_lapsed, seen_of}
@@ -40,22 +44,29 @@ use Rattle.upload_service.proofs.Chunks.{append_none, gave, gave_own, received-p
 use Rattle.upload_service.proofs.Chunks.{numbered_run, numbered_turn, open_is_received}
 
 -- committed by a session
-committed : (start : State) (front : List Exchange) (before : State) (x : Exchange) (o : Outcome) → IsLawful start
-    → Run start front before → IsOutcome before x.ask x.secret x.now o → x.answer ≡ answer_of o
+committed_with : (start : State) (front : List Exchange) (before : State) (x : Exchange) (change : SessionChange)
+    (stored : Option (Digest × List ℕ)) (pair : Option (List ℕ × Digest)) → IsLawful start → Run start front before
+    → FitsStore before x.now x.ask stored pair → (answer_view x.answer).pair ≡ pair
     → (name at : List ℕ) (range : Extent) (asked : Option Digest) (body : List ℕ) (name' : List ℕ) (digest : Digest)
     → x.ask ≡ asks.Close name at range asked body → x.answer ≡ answers.Stored name' digest
     → IsCommitted name asked
-    (record { name = name'; digest = digest; blob = received start (front ++ x ∷ []) at }) (state_after before x.now o)
+    (record { name = name'; digest = digest; blob = received start (front ++ x ∷ []) at })
+    (state_with before x.now change
+    (record before { blobs = blobs_with before.blobs stored; pairs = pairs_with before.pairs pair }))
 unfolding Turn
-committed start front before x (Replies answer) lawful run f e name at range asked body name' digest a r =
-    absurd (None≢Some (sym f.stored_none ∙ ap (λ b. (answer_view b).pair) (sym e ∙ r)))
-committed start front before x (Begins n to) lawful run f e name at range asked body name' digest a r =
-    let no : answers.Begun n to ≡ answers.Stored name' digest = sym e ∙ r in cc
-committed start front before x (Takes n to got) lawful run f e name at range asked body name' digest a r =
-    let no : answers.Taken n to (length got) ≡ answers.Stored name' digest = sym e ∙ r in cc
-committed start front before x (Commits n to d blob) lawful run f e name at range asked body name' digest a r =
-    let ds : answers.Stored n d ≡ answers.Stored name' digest = sym e ∙ r in
-    let d_is : d ≡ digest = cc in
+committed_with start front before x change stored None lawful run f t name at range asked body name' digest a r =
+    absurd (None≢Some (sym t ∙ ap (λ b. (answer_view b).pair) r))
+committed_with start front before x change None (Some (n, d)) lawful run f t name at range asked body name' digest a r =
+    let no : asks.Mount n d f.source ≡ asks.Close name at range asked body = sym f.asked ∙ a in cc
+committed_with start front before x change (Some (of, blob)) (Some (n, d)) lawful run (is_of, inr f) t name at range
+    asked body name' digest a r =
+    let no : asks.Single n (Some d) blob ≡ asks.Close name at range asked body = sym f.asked ∙ a in cc
+committed_with start front before x change (Some (of, blob)) (Some (n, d)) lawful run (is_of, inl (to, f)) t name at
+    range asked body name' digest a r =
+    let ds : ◌≡◌ {A = Option (List ℕ × Digest)} (Some (n, d)) (Some (name', digest)) =
+    sym t ∙ ap (λ b. (answer_view b).pair) r in
+    let told : ◌≡◌ {A = List ℕ × Digest} (n, d) (name', digest) = cc in
+    let d_is : d ≡ digest = ap (λ (p : List ℕ × Digest). p.1) told in
     let fields : asks.Close n to f.range (Some d) f.body ≡ asks.Close name at range asked body = sym f.asked ∙ a in
     let n_is : n ≡ name = cc in
     let to_is : to ≡ at = cc in
@@ -71,19 +82,16 @@ committed start front before x (Commits n to d blob) lawful run f e name at rang
     f.grown ∙ (λ i. had i ++ body_is i)
     ∙ sym (received-push start front x at ∙ ap (λ c. received start front at ++ joined_chunks c) g
     ∙ ap (λ b. received start front at ++ b) (append_none body)) in
-    let new : State = state_after before x.now (Commits n to d blob) in
-    let n'_is : n ≡ name' = cc in
+    let blobs = map.insert before.blobs of blob in
+    let pairs = set.insert before.pairs (n, d) in
+    let n'_is : n ≡ name' = ap (λ (p : List ℕ × Digest). p.0) told in
     record {
       named = sym n'_is ∙ n_is;
       asked_for = sym some_is ∙ ap Some d_is;
       own_digest = subst (λ b. HasDigest b digest) blob_is (subst (HasDigest blob) d_is f.own_digest);
-      stored = ap (map.get new.blobs) (sym d_is) ∙ blob-insert_same before.blobs d blob ∙ ap Some blob_is;
-      held = (λ i. holds new (sym n_is i) (sym d_is i)) ∙ contains-insert_same before.pairs (n, d);
+      stored = ap (map.get blobs) (sym d_is ∙ sym is_of) ∙ blob-insert_same before.blobs of blob ∙ ap Some blob_is;
+      held = (λ i. set.contains pairs (sym n_is i, sym d_is i)) ∙ contains-insert_same before.pairs (n, d);
     }
-committed start front before x (Stores n d blob) lawful run f e name at range asked body name' digest a r =
-    let no : asks.Single n (Some d) blob ≡ asks.Close name at range asked body = sym f.asked ∙ a in cc
-committed start front before x (Mounts n d) lawful run f e name at range asked body name' digest a r =
-    let no : asks.Mount n d f.source ≡ asks.Close name at range asked body = sym f.asked ∙ a in cc
 
 pub commits_its_chunks : CommitsItsChunks
 unfolding Turn
@@ -92,8 +100,12 @@ commits_its_chunks start front before x after m name at range asked body name' d
       | inl did ↦
           subst (IsCommitted name asked
           (record { name = name'; digest = digest; blob = received start (front ++ x ∷ []) at })) (sym did.1)
-          (committed start front before x (outcome before x.ask x.secret x.now) m.lawful m.so_far
-          (outcome_sound before x.now x.ask x.secret) did.0 name at range asked body name' digest a r)
+          (let o : Outcome = outcome before x.ask x.secret x.now in
+          let f : IsOutcome before x.ask x.secret x.now o = outcome_sound before x.now x.ask x.secret in
+          committed_with start front before x (effect o).sessions (effect o).blob (effect o).pair m.lawful m.so_far
+          (store_fits before x.ask x.secret x.now o f)
+          (ap (λ b. (answer_view b).pair) did.0 ∙ pair_told before x.ask x.secret x.now o f)
+          name at range asked body name' digest a r)
       | inr lacked ↦ let no : answers.NoMemory ≡ answers.Stored name' digest = sym lacked.1 ∙ r in cc
     ]
 
@@ -161,15 +173,6 @@ missed_chunk_changes_nothing start front before x after m aim aimed (session, is
     ∙ ap (λ b. Replies (answers.Misplaced aim.name aim.at (length b))) had in
     plain_turn before x after _ m.turn e refl
 
-misplaced_fact : (s : State) (ask : Ask) (secret : List ℕ) (now : ℕ) (o : Outcome) (name at : List ℕ) (next : ℕ)
-    → IsOutcome s ask secret now o → answer_of o ≡ answers.Misplaced name at next → IsMisplaced s now ask name at next
-misplaced_fact s ask secret now (Replies answer) name at next f e = f.misplaced name at next e
-misplaced_fact s ask secret now (Begins n to) name at next f e = cc
-misplaced_fact s ask secret now (Takes n to got) name at next f e = cc
-misplaced_fact s ask secret now (Commits n to d blob) name at next f e = cc
-misplaced_fact s ask secret now (Stores n d blob) name at next f e = cc
-misplaced_fact s ask secret now (Mounts n d) name at next f e = cc
-
 pub misplaced_only_there : MisplacedOnlyThere
 unfolding Turn
 misplaced_only_there start front before x after m name at next r =
@@ -186,47 +189,28 @@ misplaced_only_there start front before x after m name at next r =
     ]
 
 -- closed
-and_true : (a b : Bool) → (a && b) ≡ true → (a ≡ true) × (b ≡ true)
-and_true true b e = (refl, e)
-and_true false b e = absurd (true≢false (sym e))
-
-closed_is_stored : (act : Act) (answer : Answer) → closed_by act answer ≡ true → is_stored answer ≡ true
-closed_is_stored (Sends range body) answer e = absurd (true≢false (sym e))
-closed_is_stored AsksOffset answer e = absurd (true≢false (sym e))
-closed_is_stored (Closes range digest body) answer e = e
-
-closing_is_stored : (at : List ℕ) (ask : Ask) (answer : Answer) → closes_of at ask answer ≡ true
-    → is_stored answer ≡ true
-closing_is_stored at ask answer e =
-    on_each (λ b. b ≡ true → is_stored answer ≡ true) (upload_view ask) false _ (λ c. absurd (true≢false (sym c)))
-    (λ name to act c. closed_is_stored act answer (and_true (same at to) _ c).1) e
-
-closing : (s : State) (x : Exchange) (o : Outcome) (at : List ℕ) → IsOutcome s x.ask x.secret x.now o → IsNumbered s
-    → x.answer ≡ answer_of o → closes_of at x.ask x.answer ≡ true → IsGone (state_after s x.now o) at
-closing s x (Replies answer) at f h e c =
-    absurd (true≢false
-    (sym (closing_is_stored at x.ask x.answer c) ∙ ap is_stored e ∙ ap is_some f.stored_none))
-closing s x (Begins n to) at f h e c =
-    absurd (true≢false (sym (closing_is_stored at x.ask x.answer c) ∙ ap is_stored e))
-closing s x (Takes n to got) at f h e c =
-    absurd (true≢false (sym (closing_is_stored at x.ask x.answer c) ∙ ap is_stored e))
-closing s x (Commits n to d blob) at f h e c =
-    let is : at ≡ to =
-    eq_from_same at to (and_true (same at to) _ (sym (ap (λ a. closes_of at a x.answer) f.asked) ∙ c)).0 in (
+closing_with : (s : State) (x : Exchange) (change : SessionChange) (at : List ℕ)
+    → FitsChange s x.ask x.secret x.now x.answer change → IsNumbered s → closes_of at x.ask x.answer ≡ true
+    → (map.get (sessions_with s x.now change) at ≡ None) × (number_of at ≤ issued_with s.issued change)
+closing_with s x AllStay at f h c = absurd (true≢false (sym c ∙ f.closes_none at))
+closing_with s x (OneBegins n to) at f h c =
+    absurd (true≢false (sym c ∙ not_closed at x.ask x.answer (ap is_stored f.1)))
+closing_with s x (OneTakes n to got) at f h c =
+    absurd (true≢false (sym c ∙ not_closed at x.ask x.answer (ap is_stored f.1)))
+closing_with s x (OneLeaves to) at f h c =
+    let is : at ≡ to = eq_from_same at to (sym (f.carried at) ∙ closes_carried at x.ask x.answer c) in (
       ap (map.get (map.remove s.sessions to)) is ∙ get-remove_same s.sessions to,
       h at f.found.session (ap (map.get s.sessions) is ∙ f.found.is_open),
     )
-closing s x (Stores n d blob) at f h e c = absurd (true≢false (sym c ∙ ap (λ a. closes_of at a x.answer) f.asked))
-closing s x (Mounts n d) at f h e c = absurd (true≢false (sym c ∙ ap (λ a. closes_of at a x.answer) f.asked))
 
 closing_turn : (s : State) (x : Exchange) (t : State) (at : List ℕ) → Turn s x.ask x.secret x.now x.answer t
     → IsNumbered s → closes_of at x.ask x.answer ≡ true → IsGone t at
 unfolding Turn
 closing_turn s x t at (inl did) h c =
     subst (λ q. IsGone q at) (sym did.1)
-    (closing s x (outcome s x.ask x.secret x.now) at (outcome_sound s x.now x.ask x.secret) h did.0 c)
+    (closing_with s x _ at (turn_fits s x.ask x.secret x.now x.answer did.0) h c)
 closing_turn s x t at (inr lacked) h c =
-    absurd (true≢false (sym (closing_is_stored at x.ask x.answer c) ∙ ap is_stored lacked.1))
+    absurd (true≢false (sym c ∙ not_closed at x.ask x.answer (ap is_stored lacked.1)))
 
 closed_is_gone : (xs : List Exchange) (s t : State) (at : List ℕ) → Run s xs t → IsNumbered s
     → list_any (λ x. closes_of at x.ask x.answer) xs ≡ true → IsGone t at

@@ -1,5 +1,5 @@
 -- Sessions that fell idle, and what other requests leave of a session.
-use Rattle.std.proofs.Common.{◌≡◌, ℕ, ◌+◌, ◌<◌, ◌≤◌, List, [], ◌∷◌, ◌++◌, Bool, true, false, Option, Some, None, refl}
+use Rattle.std.proofs.Common.{◌≡◌, ℕ, ◌+◌, ◌<◌, ◌≤◌, List, [], ◌∷◌, ◌++◌, true, false, Option, Some, None, refl}
 use Rattle.std.proofs.Common.{sym, ◌∙◌, ap, subst, ◌⊎◌, inl, inr, cond, arith}
 use Rattle.std.specs.Prelude.{◌||◌, ◌&&◌, IsTrue}
 use Rattle.std.proofs.lemmas.Bool.{true≢false, ltb-true}
@@ -7,17 +7,20 @@ use Rattle.std.specs.FinMap as map
 use Rattle.upload_names.specs.Reference.{number_of}
 use Rattle.upload_service.specs.declared.limits.Limits.{Limits}
 use Rattle.upload_service.specs.declared.ask.Ask.{Ask}
-use Rattle.upload_service.specs.Machine.{same, is_idle, unless_idle, awake, swept, Session, State, Outcome, Replies}
-use Rattle.upload_service.specs.Machine.{Begins, Takes, Commits, Stores, Mounts, answer_of, state_after, outcome, Turn}
+use Rattle.upload_service.specs.declared.answer.Answer.{Answer}
+use Rattle.upload_service.specs.Machine.{same, is_idle, unless_idle, awake, swept, Session, State}
+use Rattle.upload_service.specs.Machine.{SessionChange, AllStay, OneBegins, OneTakes, OneLeaves}
+use Rattle.upload_service.specs.Machine.{sessions_with, state_after, outcome, Turn}
 use Rattle.upload_service.specs.Run.{Exchange, Run, NeverBefore}
 use Rattle.upload_service.specs.Session.{carries, is_same, begins, is_taken, touches, seen_of, is_late, is_lapsed}
 use Rattle.upload_service.specs.Headline.{OthersLeaveIt}
 use Rattle.upload_service.proofs.Keeping.Tables.{one_or_two, get-insert_same, get-insert_other, get-remove_same}
 use Rattle.upload_service.proofs.Keeping.Tables.{get-remove_other, same_from_eq, same_from_ne, ne_from_same}
-use Rattle.upload_service.proofs.Steps.{IsOutcome, outcome_sound, None≢Some}
+use Rattle.upload_service.proofs.Steps.{None≢Some}
+use Rattle.upload_service.proofs.Effects.{and_false, FitsChange, turn_fits, state_with}
 use Rattle.upload_service.proofs.Sweeps.{kept_or_left, was_there, idle_later}
 use Rattle.upload_service.proofs.Turns.{IsNumbered, new_number, not_new}
-use Rattle.upload_service.proofs.Alone.{same_limits, numbered_if_lawful}
+use Rattle.upload_service.proofs.Alone.{numbered_if_lawful}
 use Rattle.upload_service.proofs.Chunks.{numbered_turn}
 
 -- a session that no request reaches from this moment on
@@ -43,44 +46,43 @@ over_by s t from now at there le k later over =
           omega arith,
     )
 
-over_after : (s : State) (ask : Ask) (secret : List ℕ) (from now : ℕ) (o : Outcome) → IsOutcome s ask secret now o
-    → from ≤ now → (at : List ℕ) → IsOver s from at → IsOver (state_after s now o) now at
-over_after s ask secret from now (Replies answer) f later at over = over_later s from now at later over
-over_after s ask secret from now (Begins name new) f later at over =
-    over_by s (state_after s now (Begins name new)) from now at
+over_with : (s : State) (ask : Ask) (secret : List ℕ) (from now : ℕ) (answer : Answer) (change : SessionChange)
+    (rest : State) → FitsChange s ask secret now answer change
+    → from ≤ now → (at : List ℕ) → IsOver s from at → IsOver (state_with s now change rest) now at
+over_with s ask secret from now answer AllStay rest f later at over =
+    over_by s (state_with s now AllStay rest) from now at (λ session e. e) (omega arith) refl later over
+over_with s ask secret from now answer (OneBegins name new) rest f later at over =
+    over_by s (state_with s now (OneBegins name new) rest) from now at
     (λ session e. was_there s now at session
-    (sym (get-insert_other (swept s now) new _ at (not_new s secret at new f.is_new f.numbers_left over.0)) ∙ e))
+    (sym (get-insert_other (swept s now) new _ at (not_new s secret at new f.0.is_new f.0.numbers_left over.0)) ∙ e))
     (omega arith) refl later over
-over_after s ask secret from now (Takes name to got) f later at over =
-    over_by s (state_after s now (Takes name to got)) from now at
+over_with s ask secret from now answer (OneTakes name to got) rest f later at over =
+    over_by s (state_with s now (OneTakes name to got) rest) from now at
     (λ session e. elim (one_or_two at to) [
       | inl same ↦
-          let idle : is_idle s.limits.max_idle now f.found.session ≡ true =
-          idle_later s.limits.max_idle from now f.found.session
-          (over.1 f.found.session (ap (map.get s.sessions) same ∙ f.found.is_open)) later in
-          absurd (true≢false (sym idle ∙ f.found.not_idle))
+          let idle : is_idle s.limits.max_idle now f.0.found.session ≡ true =
+          idle_later s.limits.max_idle from now f.0.found.session
+          (over.1 f.0.found.session (ap (map.get s.sessions) same ∙ f.0.found.is_open)) later in
+          absurd (true≢false (sym idle ∙ f.0.found.not_idle))
       | inr other ↦ sym (get-insert_other s.sessions to _ at other) ∙ e
     ])
     (omega arith) refl later over
-over_after s ask secret from now (Commits name to digest blob) f later at over =
-    over_by s (state_after s now (Commits name to digest blob)) from now at
+over_with s ask secret from now answer (OneLeaves to) rest f later at over =
+    over_by s (state_with s now (OneLeaves to) rest) from now at
     (λ session e. elim (one_or_two at to) [
       | inl same ↦ absurd
           (None≢Some (sym (get-remove_same s.sessions to) ∙ ap (map.get (map.remove s.sessions to)) (sym same) ∙ e))
       | inr other ↦ sym (get-remove_other s.sessions to at other) ∙ e
     ])
     (omega arith) refl later over
-over_after s ask secret from now (Stores name digest blob) f later at over =
-    over_by s (state_after s now (Stores name digest blob)) from now at (λ session e. e) (omega arith) refl later over
-over_after s ask secret from now (Mounts name digest) f later at over =
-    over_by s (state_after s now (Mounts name digest)) from now at (λ session e. e) (omega arith) refl later over
 
 over_turn : (s : State) (x : Exchange) (t : State) (from : ℕ) (at : List ℕ) → from ≤ x.now
     → Turn s x.ask x.secret x.now x.answer t → IsOver s from at → IsOver t x.now at
 unfolding Turn
 over_turn s x t from at later (inl did) over =
-    subst (λ q. IsOver q x.now at) (sym did.1) (over_after s x.ask x.secret from x.now (outcome s x.ask x.secret x.now)
-    (outcome_sound s x.now x.ask x.secret) later at over)
+    subst (λ q. IsOver q x.now at) (sym did.1)
+    (over_with s x.ask x.secret from x.now x.answer _ (state_after s x.now (outcome s x.ask x.secret x.now))
+    (turn_fits s x.ask x.secret x.now x.answer did.0) later at over)
 over_turn s x t from at later (inr lacked) over =
     subst (λ q. IsOver q x.now at) (sym lacked.2) (over_later s from x.now at later over)
 
@@ -144,70 +146,61 @@ tracks_new t x at touched own number name received is =
       issued = λ moment e. number;
     })
 
-and_false : (a : Bool) → (a && false) ≡ false
-and_false true = refl
-and_false false = refl
-
 touches_none : (at : List ℕ) (x : Exchange) → begins at x.answer ≡ false → is_taken x.answer ≡ false
     → touches at x ≡ false
 touches_none at x b t = (λ i. b i || (carries at x.ask && t i)) ∙ and_false (carries at x.ask)
 
-tracks_after : (s : State) (x : Exchange) (o : Outcome) → IsOutcome s x.ask x.secret x.now o → IsNumbered s
-    → x.answer ≡ answer_of o → (at : List ℕ) (touched : Option ℕ) → Tracks s at touched
-    → Tracks (state_after s x.now o) at (touched_by at x touched)
-tracks_after s x (Replies answer) f h e at touched tracks =
-    tracks_kept s s x at touched (touches_none at x (ap (begins at) e ∙ ap (is_same at) f.begins_none)
-    (ap is_taken e ∙ f.took_none)) (λ session q. q) (omega arith) tracks
-tracks_after s x (Begins name new) f h e at touched tracks =
-    let t : State = state_after s x.now (Begins name new) in
+tracks_with : (s : State) (x : Exchange) (change : SessionChange) (rest : State)
+    → FitsChange s x.ask x.secret x.now x.answer change → IsNumbered s → (at : List ℕ)
+    (touched : Option ℕ) → Tracks s at touched → Tracks (state_with s x.now change rest) at (touched_by at x touched)
+tracks_with s x AllStay rest f h at touched tracks =
+    tracks_kept s (state_with s x.now AllStay rest) x at touched
+    (touches_none at x (ap (is_same at) f.begins_none) f.took_none) (λ session q. q) (omega arith) tracks
+tracks_with s x (OneBegins name new) rest f h at touched tracks =
+    let t : State = state_with s x.now (OneBegins name new) rest in
     elim (one_or_two at new) [
       | inl same ↦
-          let n : number_of new ≡ s.issued + 1 = new_number s x.secret new f.is_new f.numbers_left in
+          let n : number_of new ≡ s.issued + 1 = new_number s x.secret new f.0.is_new f.0.numbers_left in
           let m : number_of at ≡ number_of new = ap number_of same in
           tracks_new t x at touched
-          (ap (λ b. b || (carries at x.ask && is_taken x.answer)) (ap (begins at) e ∙ same_from_eq at new same))
+          (ap (λ b. b || (carries at x.ask && is_taken x.answer)) (ap (begins at) f.1 ∙ same_from_eq at new same))
           (omega arith) name [] (ap (map.get t.sessions) same ∙ get-insert_same (swept s x.now) new _)
       | inr other ↦
           tracks_kept s t x at touched
-          (touches_none at x (ap (begins at) e ∙ same_from_ne at new other) (ap is_taken e))
+          (touches_none at x (ap (begins at) f.1 ∙ same_from_ne at new other) (ap is_taken f.1))
           (λ session q. was_there s x.now at session (sym (get-insert_other (swept s x.now) new _ at other) ∙ q))
           (omega arith) tracks
     ]
-tracks_after s x (Takes name to got) f h e at touched tracks =
-    let t : State = state_after s x.now (Takes name to got) in
+tracks_with s x (OneTakes name to got) rest f h at touched tracks =
+    let t : State = state_with s x.now (OneTakes name to got) rest in
+    let touches_to : touches at x ≡ (same at to && true) =
+    (λ i. begins at (f.1 i) || (carries at (f.0.asked i) && is_taken (f.1 i))) in
     elim (one_or_two at to) [
       | inl same ↦
-          tracks_new t x at touched ((λ i. begins at (e i) || (carries at (f.asked i) && is_taken (e i)))
-          ∙ ap (λ b. b && true) (same_from_eq at to same))
-          (h at f.found.session (ap (map.get s.sessions) same ∙ f.found.is_open)) name got
+          tracks_new t x at touched (touches_to ∙ ap (λ b. b && true) (same_from_eq at to same))
+          (h at f.0.found.session (ap (map.get s.sessions) same ∙ f.0.found.is_open)) name got
           (ap (map.get t.sessions) same ∙ get-insert_same s.sessions to _)
       | inr other ↦
-          tracks_kept s t x at touched ((λ i. begins at (e i) || (carries at (f.asked i) && is_taken (e i)))
-          ∙ ap (λ b. b && true) (same_from_ne at to other))
+          tracks_kept s t x at touched (touches_to ∙ ap (λ b. b && true) (same_from_ne at to other))
           (λ session q. sym (get-insert_other s.sessions to _ at other) ∙ q) (omega arith) tracks
     ]
-tracks_after s x (Commits name to digest blob) f h e at touched tracks =
-    tracks_kept s (state_after s x.now (Commits name to digest blob)) x at touched
-    (touches_none at x (ap (begins at) e) (ap is_taken e))
+tracks_with s x (OneLeaves to) rest f h at touched tracks =
+    tracks_kept s (state_with s x.now (OneLeaves to) rest) x at touched
+    (touches_none at x (ap (is_same at) f.begins_none) f.took_none)
     (λ session q. elim (one_or_two at to) [
       | inl same ↦ absurd
           (None≢Some (sym (get-remove_same s.sessions to) ∙ ap (map.get (map.remove s.sessions to)) (sym same) ∙ q))
       | inr other ↦ sym (get-remove_other s.sessions to at other) ∙ q
     ])
     (omega arith) tracks
-tracks_after s x (Stores name digest blob) f h e at touched tracks =
-    tracks_kept s (state_after s x.now (Stores name digest blob)) x at touched
-    (touches_none at x (ap (begins at) e) (ap is_taken e)) (λ session q. q) (omega arith) tracks
-tracks_after s x (Mounts name digest) f h e at touched tracks =
-    tracks_kept s (state_after s x.now (Mounts name digest)) x at touched
-    (touches_none at x (ap (begins at) e) (ap is_taken e)) (λ session q. q) (omega arith) tracks
 
 tracks_turn : (s : State) (x : Exchange) (t : State) (at : List ℕ) (touched : Option ℕ) → IsNumbered s
     → Turn s x.ask x.secret x.now x.answer t → Tracks s at touched → Tracks t at (touched_by at x touched)
 unfolding Turn
 tracks_turn s x t at touched h (inl did) tracks =
     subst (λ q. Tracks q at (touched_by at x touched)) (sym did.1)
-    (tracks_after s x (outcome s x.ask x.secret x.now) (outcome_sound s x.now x.ask x.secret) h did.0 at touched tracks)
+    (tracks_with s x _ (state_after s x.now (outcome s x.ask x.secret x.now))
+    (turn_fits s x.ask x.secret x.now x.answer did.0) h at touched tracks)
 tracks_turn s x t at touched h (inr lacked) tracks =
     tracks_kept s t x at touched (touches_none at x (ap (begins at) lacked.1) (ap is_taken lacked.1))
     (λ session q. sym (ap (λ q. map.get q.sessions at) lacked.2) ∙ q)
@@ -215,7 +208,7 @@ tracks_turn s x t at touched h (inr lacked) tracks =
 
 limits_turn : (s : State) (x : Exchange) (t : State) → Turn s x.ask x.secret x.now x.answer t → t.limits ≡ s.limits
 unfolding Turn
-limits_turn s x t (inl did) = ap (λ q. q.limits) did.1 ∙ same_limits s x.now (outcome s x.ask x.secret x.now)
+limits_turn s x t (inl did) = ap (λ q. q.limits) did.1
 limits_turn s x t (inr lacked) = ap (λ q. q.limits) lacked.2
 
 -- a late exchange finds the session over
@@ -256,13 +249,14 @@ Stays s now t at session =
     (map.get t.sessions at ≡ Some session)
     ⊎ (IsTrue (is_idle s.limits.max_idle now session) × (map.get t.sessions at ≡ None))
 
-stays_after : (s : State) (ask : Ask) (secret : List ℕ) (now : ℕ) (o : Outcome) → IsOutcome s ask secret now o
+stays_with : (s : State) (ask : Ask) (secret : List ℕ) (now : ℕ) (answer : Answer) (change : SessionChange)
+    (rest : State) → FitsChange s ask secret now answer change
     → IsNumbered s → (at : List ℕ) (session : Session) → map.get s.sessions at ≡ Some session → carries at ask ≡ false
-    → Stays s now (state_after s now o) at session
-stays_after s ask secret now (Replies answer) f h at session e c = inl e
-stays_after s ask secret now (Begins name new) f h at session e c =
-    let there : map.get (state_after s now (Begins name new)).sessions at ≡ map.get (swept s now) at =
-    get-insert_other (swept s now) new _ at (not_new s secret at new f.is_new f.numbers_left (h at session e)) in
+    → Stays s now (state_with s now change rest) at session
+stays_with s ask secret now answer AllStay rest f h at session e c = inl e
+stays_with s ask secret now answer (OneBegins name new) rest f h at session e c =
+    let there : map.get (sessions_with s now (OneBegins name new)) at ≡ map.get (swept s now) at =
+    get-insert_other (swept s now) new _ at (not_new s secret at new f.0.is_new f.0.numbers_left (h at session e)) in
     elim (kept_or_left s now at) [
       | inl kept ↦ inl (there ∙ kept ∙ e)
       | inr left ↦
@@ -270,17 +264,16 @@ stays_after s ask secret now (Begins name new) f h at session e c =
           let is : left.session ≡ session = cc in
           inr (ap (is_idle s.limits.max_idle now) (sym is) ∙ left.idle, there ∙ left.left)
     ]
-stays_after s ask secret now (Takes name to got) f h at session e c =
-    inl (get-insert_other s.sessions to _ at (ne_from_same at to (sym (ap (carries at) f.asked) ∙ c)) ∙ e)
-stays_after s ask secret now (Commits name to digest blob) f h at session e c =
-    inl (get-remove_other s.sessions to at (ne_from_same at to (sym (ap (carries at) f.asked) ∙ c)) ∙ e)
-stays_after s ask secret now (Stores name digest blob) f h at session e c = inl e
-stays_after s ask secret now (Mounts name digest) f h at session e c = inl e
+stays_with s ask secret now answer (OneTakes name to got) rest f h at session e c =
+    inl (get-insert_other s.sessions to _ at (ne_from_same at to (sym (ap (carries at) f.0.asked) ∙ c)) ∙ e)
+stays_with s ask secret now answer (OneLeaves to) rest f h at session e c =
+    inl (get-remove_other s.sessions to at (ne_from_same at to (sym (f.carried at) ∙ c)) ∙ e)
 
 pub others_leave_it : OthersLeaveIt
 unfolding Turn
 others_leave_it s ask secret now answer t lawful (inl did) at session e c =
-    subst (λ q. Stays s now q at session) (sym did.1) (stays_after s ask secret now (outcome s ask secret now)
-    (outcome_sound s now ask secret) (numbered_if_lawful s lawful) at session e c)
+    subst (λ q. Stays s now q at session) (sym did.1)
+    (stays_with s ask secret now answer _ (state_after s now (outcome s ask secret now))
+    (turn_fits s ask secret now answer did.0) (numbered_if_lawful s lawful) at session e c)
 others_leave_it s ask secret now answer t lawful (inr lacked) at session e c =
     inl (ap (λ q. map.get q.sessions at) lacked.2 ∙ e)

@@ -9,10 +9,12 @@ use Rattle.upload_names.specs.Digest.{Digest, digest_cmp, HasDigest}
 use Rattle.upload_names.specs.Reference.{number_of}
 use Rattle.upload_service.specs.declared.ask.Ask.{Ask}
 use Rattle.upload_service.specs.declared.answer.Answer.{Answer}
-use Rattle.upload_service.specs.Machine.{same, swept, Table, Session, State, Outcome, Replies, Begins, Takes, Commits}
-use Rattle.upload_service.specs.Machine.{Stores, Mounts, state_after, last_number, holds, outcome}
-use Rattle.std.specs.Prelude.{IsSome, is_some}
+use Rattle.upload_service.specs.Machine.{swept, Table, Session, State, Outcome, SessionChange, AllStay, OneBegins}
+use Rattle.upload_service.specs.Machine.{OneTakes, OneLeaves, effect, answer_of, issued_with, sessions_with, blobs_with}
+use Rattle.upload_service.specs.Machine.{pairs_with, state_after, last_number, holds, outcome}
+use Rattle.std.specs.Prelude.{IsSome, is_some, IsTrue}
 use Rattle.std.specs.FinSet as set
+use Rattle.std.specs.FinSet.{FinSet}
 use Rattle.std.specs.Ordering.{eq_by_cmp}
 use Rattle.std.specs.FinMap.{len-insert, len-remove, contains_key}
 use Rattle.std.specs.Cmp.Lexicographic.{nat_list_cmp_total}
@@ -22,6 +24,7 @@ use Rattle.upload_service.proofs.Keeping.Tables.{one_or_two, one_or_two_digests,
 use Rattle.upload_service.proofs.Keeping.Tables.{get-insert_same, get-insert_other, get-remove_same, get-remove_other}
 use Rattle.upload_service.proofs.Keeping.Tables.{contains-insert, pair_from_same}
 use Rattle.upload_service.proofs.Steps.{IsOutcome, outcome_sound, by_test, None≢Some}
+use Rattle.upload_service.proofs.Effects.{FitsChange, change_fits, FitsStore, store_fits}
 use Rattle.upload_service.proofs.Sweeps.{was_there, swept_has_room}
 use Rattle.upload_service.proofs.Turns.{number_of-reference}
 
@@ -154,13 +157,22 @@ stored_insert s n digest blob h name d e =
       | inr had ↦ is_stored_insert s.blobs digest blob d (h.stored name d had)
     ]
 
-lawful_after : (s : State) (ask : Ask) (secret : List ℕ) (now : ℕ) (o : Outcome) → IsOutcome s ask secret now o
-    → IsLawful s → IsLawful (state_after s now o)
-lawful_after s ask secret now (Replies answer) f h = h
-lawful_after s ask secret now (Begins name new) f h =
+-- what a lawful state says of its sessions
+record AreLawfulSessions (s : State) (issued : ℕ) (sessions : Table Session) : Type 0 where
+  numbered : (at : List ℕ) (session : Session) → map.get sessions at ≡ Some session → IsNumberIn issued at session
+  different : AreDifferent sessions
+  few : map.len sessions ≤ s.limits.max_open
+  small : (at : List ℕ) (session : Session) → map.get sessions at ≡ Some session → IsSmall s.limits.max_blob at session
+
+sessions_after : (s : State) (ask : Ask) (secret : List ℕ) (now : ℕ) (answer : Answer) (change : SessionChange)
+    → FitsChange s ask secret now answer change → IsLawful s
+    → AreLawfulSessions s (issued_with s.issued change) (sessions_with s now change)
+sessions_after s ask secret now answer AllStay f h =
+    record { numbered = h.numbered; different = h.different; few = h.few; small = h.small }
+sessions_after s ask secret now answer (OneBegins name new) f h =
     let n : number_of new ≡ s.issued + 1 =
-    ap number_of f.is_new ∙ number_of-reference (s.issued + 1) secret
-    (let left : s.issued < last_number = f.numbers_left in omega arith) in
+    ap number_of f.0.is_new ∙ number_of-reference (s.issued + 1) secret
+    (let left : s.issued < last_number = f.0.numbers_left in omega arith) in
     record {
       numbered = each_insert (swept s now) new _ (IsNumberIn (s.issued + 1)) (omega arith, omega arith) (λ at session e.
           let was = h.numbered at session (was_there s now at session e) in let old : number_of at ≤ s.issued = was.1 in
@@ -169,26 +181,23 @@ lawful_after s ask secret now (Begins name new) f h =
           let found = some_is (map.get (swept s now) at) some in let old : number_of at ≤ s.issued =
           (h.numbered at found.0 (was_there s now at found.0 found.1)).1 in omega arith)
           (λ a b p q. h.different a b (some_before_sweep s now a p) (some_before_sweep s now b q));
-      few = len_under (swept s now) new _ s.limits.max_open (swept_has_room s now f.room);
+      few = len_under (swept s now) new _ s.limits.max_open (swept_has_room s now f.0.room);
       small =
           each_insert (swept s now) new _ (IsSmall s.limits.max_blob) (omega arith)
           (λ at session e. h.small at session (was_there s now at session e));
-      own_digest = h.own_digest;
-      stored = h.stored;
     }
-lawful_after s ask secret now (Takes name to got) f h =
+sessions_after s ask secret now answer (OneTakes name to got) f h =
+    let found = f.0.found in
     record {
       numbered =
-          each_insert s.sessions to _ (IsNumberIn s.issued) (h.numbered to f.found.session f.found.is_open) h.numbered;
+          each_insert s.sessions to _ (IsNumberIn s.issued) (h.numbered to found.session found.is_open) h.numbered;
       different =
           different_insert s.sessions to _
-          (λ at other some same. other (h.different at to some (ap is_some f.found.is_open) same)) h.different;
-      few = subst (λ n. n ≤ s.limits.max_open) (sym (len_again s.sessions to f.found.session _ f.found.is_open)) h.few;
-      small = each_insert s.sessions to _ (IsSmall s.limits.max_blob) f.small h.small;
-      own_digest = h.own_digest;
-      stored = h.stored;
+          (λ at other some same. other (h.different at to some (ap is_some found.is_open) same)) h.different;
+      few = subst (λ n. n ≤ s.limits.max_open) (sym (len_again s.sessions to found.session _ found.is_open)) h.few;
+      small = each_insert s.sessions to _ (IsSmall s.limits.max_blob) f.0.small h.small;
     }
-lawful_after s ask secret now (Commits name to digest blob) f h =
+sessions_after s ask secret now answer (OneLeaves to) f h =
     record {
       numbered = each_remove s.sessions to (IsNumberIn s.issued) h.numbered;
       different =
@@ -197,29 +206,52 @@ lawful_after s ask secret now (Commits name to digest blob) f h =
           let less : map.len (map.remove s.sessions to) ≤ map.len s.sessions = len_less s.sessions to in
           let few : map.len s.sessions ≤ s.limits.max_open = h.few in omega arith;
       small = each_remove s.sessions to (IsSmall s.limits.max_blob) h.small;
-      own_digest = own_digest_insert s digest blob h f.own_digest;
-      stored = stored_insert s name digest blob h;
     }
-lawful_after s ask secret now (Stores name digest blob) f h =
+
+-- and what it says of its blobs
+record IsLawfulStore (blobs : FinMap digest_cmp (List ℕ)) (pairs : FinSet pair_cmp) : Type 0 where
+  own_digest : (digest : Digest) (blob : List ℕ) → map.get blobs digest ≡ Some blob → HasDigest blob digest
+  stored : (name : List ℕ) (digest : Digest) → IsTrue (set.contains pairs (name, digest))
+      → IsSome (map.get blobs digest)
+
+-- a blob of its own digest is stored, under the pair that its repository gets
+store_insert : (s : State) (n : List ℕ) (of digest : Digest) (blob : List ℕ) → of ≡ digest → HasDigest blob digest
+    → IsLawful s → IsLawfulStore (map.insert s.blobs of blob) (set.insert s.pairs (n, digest))
+store_insert s n of digest blob is own h =
+    subst (λ d. IsLawfulStore (map.insert s.blobs d blob) (set.insert s.pairs (n, digest))) (sym is)
+    (record { own_digest = own_digest_insert s digest blob h own; stored = stored_insert s n digest blob h })
+
+store_after : (s : State) (now : ℕ) (ask : Ask) (blob : Option (Digest × List ℕ)) (pair : Option (List ℕ × Digest))
+    → FitsStore s now ask blob pair → IsLawful s
+    → IsLawfulStore (blobs_with s.blobs blob) (pairs_with s.pairs pair)
+store_after s now ask None None f h = record { own_digest = h.own_digest; stored = h.stored }
+store_after s now ask (Some stored) None f h = absurd f
+store_after s now ask None (Some (name, digest)) f h =
     record {
-      numbered = h.numbered;
-      different = h.different;
-      few = h.few;
-      small = h.small;
-      own_digest = own_digest_insert s digest blob h f.own_digest;
-      stored = stored_insert s name digest blob h;
-    }
-lawful_after s ask secret now (Mounts name digest) f h =
-    record {
-      numbered = h.numbered;
-      different = h.different;
-      few = h.few;
-      small = h.small;
       own_digest = h.own_digest;
       stored = λ n d e. elim (held_insert s name digest n d e) [
         | inl is ↦ ap (λ q. is_some (map.get s.blobs q)) is ∙ h.stored f.source digest f.held
         | inr had ↦ h.stored n d had
       ];
+    }
+store_after s now ask (Some (of, blob)) (Some (name, digest)) (is, inl (at, f)) h =
+    store_insert s name of digest blob is f.own_digest h
+store_after s now ask (Some (of, blob)) (Some (name, digest)) (is, inr f) h =
+    store_insert s name of digest blob is f.own_digest h
+
+lawful_after : (s : State) (ask : Ask) (secret : List ℕ) (now : ℕ) (o : Outcome) → IsOutcome s ask secret now o
+    → IsLawful s → IsLawful (state_after s now o)
+lawful_after s ask secret now o f h =
+    let sessions =
+    sessions_after s ask secret now (answer_of o) (effect o).sessions (change_fits s ask secret now o f) h in
+    let store = store_after s now ask (effect o).blob (effect o).pair (store_fits s ask secret now o f) h in
+    record {
+      numbered = sessions.numbered;
+      different = sessions.different;
+      few = sessions.few;
+      small = sessions.small;
+      own_digest = store.own_digest;
+      stored = store.stored;
     }
 
 pub lawful_turn : (s : State) (ask : Ask) (secret : List ℕ) (now : ℕ) (answer : Answer) (t : State) → IsLawful s

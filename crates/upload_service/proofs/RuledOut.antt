@@ -1,31 +1,31 @@
 -- What the headline's claims rule out.
 use Rattle.std.proofs.Common.{◌≡◌, ℕ, ◌<◌, List, [], ◌∷◌, ◌++◌, length, Bool, true, false, not, Option, Some, None}
 use Rattle.std.proofs.Common.{refl, sym, ◌∙◌, ap, subst, ◌⊎◌, inl, inr, cond, arith, filter, map as list_map}
-use Rattle.std.specs.Prelude.{◌||◌, ◌==◌, ◌+◌, ◌-◌, All, nat_le, nat_lt}
+use Rattle.std.specs.Prelude.{◌||◌, All, nat_le}
 use Rattle.std.specs.FinMap as map
 use Rattle.std.proofs.lemmas.Bool.{true≢false}
 use Rattle.std.proofs.lemmas.List.Elements.{All-nil, All-cons, All-head, All-tail}
-use Rattle.upload_names.specs.Digest.{Digest, content_digest}
 use Rattle.upload_names.specs.Reference.{number_of}
 use Rattle.upload_service.specs.declared.limits.Limits.{Limits}
-use Rattle.upload_service.specs.declared.ask.Extent.{Extent}
-use Rattle.upload_service.specs.declared.ask.Extent.TheVariants.{Absent, Bad, Given}
 use Rattle.upload_service.specs.declared.ask.Ask.{Ask}
 use Rattle.upload_service.specs.declared.answer.Refusal.TheVariants as refusals
 use Rattle.upload_service.specs.declared.answer.Answer.{Answer}
 use Rattle.upload_service.specs.declared.answer.Answer.TheVariants as answers
-use Rattle.upload_service.specs.UploadView.{Act, Sends, AsksOffset, Closes, upload_view, opened_under}
-use Rattle.upload_service.specs.Machine.{Session, State, Outcome, Takes, Commits, answer_of, refused, same, same_digest}
-use Rattle.upload_service.specs.Machine.{Progress, progress_of, size_fault, body_fault, unless_fault, checked}
-use Rattle.upload_service.specs.Machine.{in_session, at_session, unless_idle}
+use Rattle.upload_service.specs.UploadView.{UploadView, OfSession, Opens, WholeBlob, Unrelated, upload_view, on_session}
+use Rattle.upload_service.specs.UploadView.{opened_under}
+use Rattle.upload_service.specs.Machine.{Session, State, empty_state, SessionChange, AllStay, OneBegins, OneTakes}
+use Rattle.upload_service.specs.Machine.{OneLeaves, effect, answer_of, refused, at_session, unless_idle, outcome}
 use Rattle.upload_service.specs.Run.{Exchange}
-use Rattle.upload_service.specs.Session.{carries, begins, is_part, part, is_taken, received}
-use Rattle.upload_service.specs.Alone.{Life, Unborn, Open, Gone, life_of, life_in, life_after, alone_outcome}
+use Rattle.upload_service.specs.Session.{carries, is_same, begins, is_part, part, is_taken, received}
+use Rattle.upload_service.specs.Alone.{Life, Unborn, Open, Gone, life_of, life_in, life_with, alone_outcome}
 use Rattle.upload_service.specs.Alone.{first_answer, first_life, alone_answer, alone_after, alone, lacks_memory, told}
 use Rattle.upload_service.specs.Alone.{IsToldAsAlone}
 use Rattle.upload_service.specs.Headline.{Aim, aim_of, IsAwake, IsOrderly}
 use Rattle.upload_service.specs.RuledOut.{IsBorn, HeadlineRulesOut}
-use Rattle.upload_service.proofs.UploadView.{on_each, carried}
+use Rattle.upload_service.proofs.UploadView.{carried}
+use Rattle.upload_service.proofs.Keeping.Tables.{get-insert_same}
+use Rattle.upload_service.proofs.Steps.{None≢Some, outcome_of_view}
+use Rattle.upload_service.proofs.Effects.{FitsChange, turn_fits}
 use Rattle.upload_service.proofs.Alone.{told_other, told_none, told_own, SoFar}
 
 overlap : (start : State) (front : List Exchange) (before : State) (x : Exchange) (after : State)
@@ -37,90 +37,53 @@ overlap start front before x after orderly aim e awake lt =
 
 -- ---- what a request to a session is never answered
 
-Quiet : List ℕ → Option Answer → Type 0
-Quiet at None = Unit {0}
-Quiet at (Some answer) = begins at answer ≡ false
+-- what doesn't ask to begin a session isn't answered that one was begun
+quiet_turn : (s : State) (ask : Ask) (secret : List ℕ) (now : ℕ) (at : List ℕ) → opened_under (upload_view ask) ≡ None
+    → begins at (answer_of (outcome s ask secret now)) ≡ false
+quiet_turn s ask secret now at none =
+    by_change (answer_of (outcome s ask secret now)) _ (turn_fits s ask secret now _ refl)
+  where
+    by_change : (answer : Answer) (change : SessionChange) → FitsChange s ask secret now answer change
+        → begins at answer ≡ false
+    by_change answer AllStay f = ap (is_same at) f.begins_none
+    by_change answer (OneBegins name new) f = absurd (None≢Some (sym none ∙ f.0.asked))
+    by_change answer (OneTakes name to received) f = ap (begins at) f.1
+    by_change answer (OneLeaves to) f = ap (is_same at) f.begins_none
 
-quiet_size : (max_blob next : ℕ) (body at : List ℕ) → Quiet at (size_fault max_blob next body)
-unfolding Quiet
-quiet_size max_blob next body at =
-    elim (nat_lt max_blob (next + length body))
-    as (λ b. Quiet at (cond b (Some (answers.Refused refusals.TooLarge)) None)) [ true ↦ refl | false ↦ tt ]
-
-quiet_fault : (max_blob : ℕ) (upload : Progress) (range : Extent) (body at : List ℕ)
-    → Quiet at (body_fault max_blob upload range body)
-unfolding Quiet
-quiet_fault max_blob upload Absent body at = quiet_size max_blob upload.next body at
-quiet_fault max_blob upload Bad body at = refl
-quiet_fault max_blob upload (Given range) body at =
-    elim (not (range.first == upload.next)) as (λ b. Quiet at (cond b
-    (Some (answers.Misplaced upload.name upload.at upload.next))
-    (cond (nat_lt range.last range.first || not (range.last - range.first + 1 == length body))
-    (Some (answers.Refused refusals.WrongLength)) (size_fault max_blob upload.next body)))) [
-      | true ↦ refl
-      | false ↦ elim (nat_lt range.last range.first || not (range.last - range.first + 1 == length body))
-          as (λ b. Quiet at (cond b (Some (answers.Refused refusals.WrongLength))
-          (size_fault max_blob upload.next body))) [
-            | true ↦ refl
-            | false ↦ quiet_size max_blob upload.next body at
-          ]
-    ]
-
-quiet_unless : (at : List ℕ) (fault : Option Answer) (o : Outcome) → Quiet at fault → begins at (answer_of o) ≡ false
-    → begins at (answer_of (unless_fault fault o)) ≡ false
-unfolding Quiet
-quiet_unless at None o q h = h
-quiet_unless at (Some answer) o q h = q
-
-quiet_checked : (at : List ℕ) (asked : Option Digest) (blob name to : List ℕ)
-    → begins at (answer_of (checked asked blob (λ d. Commits name to d blob))) ≡ false
-quiet_checked at None blob name to = refl
-quiet_checked at (Some d) blob name to =
-    elim (same_digest (content_digest d.algorithm blob) d)
-    as (λ b. begins at (answer_of (cond b (Commits name to d blob) (refused refusals.Mismatch))) ≡ false)
-    [ true ↦ refl | false ↦ refl ]
-
-quiet_in_session : (at : List ℕ) (max_blob : ℕ) (session : Session) (name to : List ℕ) (act : Act)
-    → begins at (answer_of (in_session max_blob session name to act)) ≡ false
-quiet_in_session at max_blob session name to (Sends range body) =
-    quiet_unless at (body_fault max_blob (progress_of session name to) range body)
-    (Takes name to (session.received ++ body))
-    (quiet_fault max_blob (progress_of session name to) range body at) refl
-quiet_in_session at max_blob session name to (Closes range digest body) =
-    quiet_unless at (body_fault max_blob (progress_of session name to) range body)
-    (checked digest (session.received ++ body) (λ d. Commits name to d (session.received ++ body)))
-    (quiet_fault max_blob (progress_of session name to) range body at)
-    (quiet_checked at digest (session.received ++ body) name to)
-quiet_in_session at max_blob session name to AsksOffset = refl
-
-quiet_at_session : (at : List ℕ) (max_blob : ℕ) (o : Option Session) (name to : List ℕ) (act : Act)
-    → begins at (answer_of (at_session max_blob o name to act)) ≡ false
-quiet_at_session at max_blob None name to act = refl
-quiet_at_session at max_blob (Some session) name to act =
-    elim (same session.name name) as (λ b.
-    begins at (answer_of (cond b (in_session max_blob session name to act) (refused refusals.NoUpload))) ≡ false) [
-      | true ↦ quiet_in_session at max_blob session name to act
-      | false ↦ refl
-    ]
+-- a service that has just this session, under this reference
+abbrev with_one : Limits → List ℕ → Session → State
+with_one limits to session = record (empty_state limits 0) { sessions = map.insert map.empty to session }
 
 quiet_alone : (at : List ℕ) (limits : Limits) (life : Life) (ask : Ask) (now : ℕ) → IsBorn life
     → begins at (alone_answer limits at life ask now) ≡ false
 quiet_alone at limits Unborn ask now born = absurd born
-quiet_alone at limits (Open session) ask now born =
-    on_each (λ o. begins at (answer_of o) ≡ false) (upload_view ask) (refused refusals.NoUpload) _ refl
-    (λ name to act. quiet_at_session at limits.max_blob (unless_idle limits.max_idle now (Some session)) name to act)
+quiet_alone at limits (Open session) ask now born = by_view (upload_view ask) refl
+  where
+    by_view : (v : UploadView) → upload_view ask ≡ v → begins at (answer_of (on_session v (refused refusals.NoUpload)
+        (at_session limits.max_blob (unless_idle limits.max_idle now (Some session))))) ≡ false
+    by_view (OfSession name to act) is =
+        let s : State = with_one limits to session in
+        ap (λ o. begins at (answer_of o))
+        (sym (outcome_of_view s ask [] now name to act is
+        ∙ ap (λ o. at_session limits.max_blob (unless_idle limits.max_idle now o) name to act)
+        (get-insert_same map.empty to session)))
+        ∙ quiet_turn s ask [] now at (ap opened_under is)
+    by_view (Opens name) is = refl
+    by_view (WholeBlob body) is = refl
+    by_view Unrelated is = refl
 quiet_alone at limits Gone ask now born = refl
 
-born_after : (session : Session) (now : ℕ) (o : Outcome) → IsBorn (life_after session now o)
-born_after session now (Takes name at received) = tt
-born_after session now (Commits name at digest blob) = tt
-born_after session now other = tt
+born_with : (session : Session) (now : ℕ) (change : SessionChange) → IsBorn (life_with session now change)
+born_with session now AllStay = tt
+born_with session now (OneBegins name at) = tt
+born_with session now (OneTakes name at received) = tt
+born_with session now (OneLeaves at) = tt
 
 stays_born : (at : List ℕ) (limits : Limits) (life : Life) (ask : Ask) (now : ℕ) → IsBorn life
     → IsBorn (alone_after limits life ask now)
 stays_born at limits Unborn ask now born = absurd born
 stays_born at limits (Open session) ask now born =
-    born_after session now (alone_outcome limits session ask now)
+    born_with session now (effect (alone_outcome limits session ask now)).sessions
 stays_born at limits Gone ask now born = tt
 
 -- ---- over a list

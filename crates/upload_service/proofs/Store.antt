@@ -1,23 +1,24 @@
 -- The store after a run.
 use Rattle.std.proofs.Common.{◌≡◌, ℕ, List, [], ◌∷◌, ◌++◌, Bool, true, false, Option, Some, None, refl, sym, ◌∙◌, ap}
 use Rattle.std.proofs.Common.{subst, inl, inr, cond}
-use Rattle.std.specs.Prelude.{◌||◌, if◌then◌else◌}
+use Rattle.std.specs.Prelude.{◌||◌, is_some, if◌then◌else◌}
 use Rattle.std.specs.FinMap as map
+use Rattle.std.specs.FinSet as set
 use Rattle.upload_names.specs.Digest.{Digest}
-use Rattle.upload_service.specs.declared.ask.Ask.{Ask}
 use Rattle.upload_service.specs.declared.ask.Ask.TheVariants as asks
 use Rattle.upload_service.specs.declared.answer.Answer.TheVariants as answers
-use Rattle.upload_service.specs.Machine.{same_digest, State, Outcome, Replies, Begins, Takes, Commits, Stores, Mounts}
-use Rattle.upload_service.specs.Machine.{answer_of, state_after, holds, outcome}
+use Rattle.upload_service.specs.Machine.{same_digest, State, Outcome, effect, answer_of, blobs_with, pairs_with, holds}
+use Rattle.upload_service.specs.Machine.{outcome}
 use Rattle.std.specs.List.{list_any}
 use Rattle.upload_service.specs.Machine.{Turn, IsLawful}
 use Rattle.upload_service.proofs.Claims.{StoreIsWhatWasStored, BlobIsWhatWasStored}
 use Rattle.upload_service.specs.Run.{Exchange, Run}
 use Rattle.upload_service.specs.Session.{carries, accepted_of, joined_chunks, received}
-use Rattle.upload_service.specs.UploadView.{upload_view}
+use Rattle.upload_service.specs.UploadView.{upload_view, answer_view}
 use Rattle.upload_service.specs.Stored.{Stored, stored_as, stored_by, stored_from, last_under, is_pair, notes}
 use Rattle.upload_service.proofs.Keeping.Tables.{same_itself, blob-insert, contains-insert}
 use Rattle.upload_service.proofs.Steps.{IsBlob, IsCommit, IsOutcome, outcome_sound}
+use Rattle.upload_service.proofs.Effects.{FitsStore, store_fits, pair_told, blob_fact}
 use Rattle.upload_service.proofs.Alone.{numbered_if_lawful}
 use Rattle.upload_service.proofs.Chunks.{append_none, gave, gave_own, received-push, open_is_received}
 
@@ -35,64 +36,66 @@ last_under-append d (x ∷ xs) ys had = last_under-append d xs ys _
 -- the blob of a commit is what its session received
 pub commit_blob : (start : State) (front : List Exchange) (before : State) (x : Exchange) (name at : List ℕ)
     (digest : Digest) (blob : List ℕ) → IsLawful start → Run start front before
-    → IsCommit before x.now x.ask name at digest blob → x.answer ≡ answers.Stored name digest
+    → IsCommit before x.now x.ask name at digest blob → (answer_view x.answer).pair ≡ Some (name, digest)
     → blob ≡ received start (front ++ x ∷ []) at
 unfolding Turn
 commit_blob start front before x name at digest blob lawful run f e =
     let carried : carries at x.ask ≡ true = ap (carries at) f.asked ∙ same_itself at in
-    let g : gave at x ≡ f.body ∷ [] = gave_own x at carried ∙ (λ i. accepted_of (f.asked i) (e i)) in
+    let g : gave at x ≡ f.body ∷ [] =
+    gave_own x at carried ∙ ap (λ a. accepted_of a x.answer) f.asked
+    ∙ ap (λ p. if is_some p then f.body ∷ [] else []) e in
     let had : f.found.session.received ≡ received start front at =
     open_is_received front start before at f.found.session run (numbered_if_lawful start lawful) f.found.is_open in
     f.grown ∙ ap (λ b. b ++ f.body) had
     ∙ sym (received-push start front x at ∙ ap (λ c. received start front at ++ joined_chunks c) g
     ∙ ap (λ b. received start front at ++ b) (append_none f.body))
 
-blobs_after : (start : State) (front : List Exchange) (s : State) (x : Exchange) (o : Outcome) → IsLawful start
-    → Run start front s → IsOutcome s x.ask x.secret x.now o → x.answer ≡ answer_of o → (d : Digest)
-    → map.get (state_after s x.now o).blobs d
+blobs_after : (start : State) (front : List Exchange) (s : State) (x : Exchange) (blob : Option (Digest × List ℕ))
+    (pair : Option (List ℕ × Digest)) → IsLawful start → Run start front s → FitsStore s x.now x.ask blob pair
+    → (answer_view x.answer).pair ≡ pair → (d : Digest)
+    → map.get (blobs_with s.blobs blob) d
     ≡ last_under d (stored_by start (front ++ x ∷ []) x.ask x.answer) (map.get s.blobs d)
 unfolding Turn
-blobs_after start front s x (Replies answer) lawful run f e d =
-    sym (ap (λ xs. last_under d xs (map.get s.blobs d))
-    (ap (stored_by start (front ++ x ∷ []) x.ask) e
-    ∙ ap (stored_as start (front ++ x ∷ []) (upload_view x.ask)) f.stored_none))
-blobs_after start front s x (Begins n to) lawful run f e d =
-    sym (ap (λ a. last_under d (stored_by start (front ++ x ∷ []) x.ask a) (map.get s.blobs d)) e)
-blobs_after start front s x (Takes n to got) lawful run f e d =
-    sym (ap (λ a. last_under d (stored_by start (front ++ x ∷ []) x.ask a) (map.get s.blobs d)) e)
-blobs_after start front s x (Commits n to digest blob) lawful run f e d =
-    blob-insert s.blobs digest blob d
-    ∙ ap (λ b. cond (same_digest d digest) (Some b) (map.get s.blobs d))
-    (commit_blob start front s x n to digest blob lawful run f e)
-    ∙ sym (λ i. last_under d (stored_by start (front ++ x ∷ []) (f.asked i) (e i)) (map.get s.blobs d))
-blobs_after start front s x (Stores n digest blob) lawful run f e d =
-    blob-insert s.blobs digest blob d
-    ∙ sym (λ i. last_under d (stored_by start (front ++ x ∷ []) (f.asked i) (e i)) (map.get s.blobs d))
-blobs_after start front s x (Mounts n digest) lawful run f e d =
-    sym (λ i. last_under d (stored_by start (front ++ x ∷ []) (f.asked i) (e i)) (map.get s.blobs d))
+blobs_after start front s x None None lawful run f t d =
+    sym (ap (λ p. last_under d (stored_as start (front ++ x ∷ []) (upload_view x.ask) p) (map.get s.blobs d)) t)
+blobs_after start front s x (Some stored) None lawful run f t d = absurd f
+blobs_after start front s x None (Some (n, digest)) lawful run f t d =
+    sym (λ i. last_under d (stored_as start (front ++ x ∷ []) (upload_view (f.asked i)) (t i)) (map.get s.blobs d))
+blobs_after start front s x (Some (of, blob)) (Some (n, digest)) lawful run (is, inl (to, f)) t d =
+    blob-insert s.blobs of blob d
+    ∙ (λ i. cond (same_digest d (is i)) (Some (commit_blob start front s x n to digest blob lawful run f t i))
+    (map.get s.blobs d))
+    ∙ sym (λ i. last_under d (stored_as start (front ++ x ∷ []) (upload_view (f.asked i)) (t i)) (map.get s.blobs d))
+blobs_after start front s x (Some (of, blob)) (Some (n, digest)) lawful run (is, inr f) t d =
+    blob-insert s.blobs of blob d
+    ∙ ap (λ q. cond (same_digest d q) (Some blob) (map.get s.blobs d)) is
+    ∙ sym (λ i. last_under d (stored_as start (front ++ x ∷ []) (upload_view (f.asked i)) (t i)) (map.get s.blobs d))
 
-pairs_after : (s : State) (x : Exchange) (o : Outcome) → IsOutcome s x.ask x.secret x.now o → x.answer ≡ answer_of o
+pairs_after : (s : State) (x : Exchange) (pair : Option (List ℕ × Digest)) → (answer_view x.answer).pair ≡ pair
     → (name : List ℕ) (digest : Digest)
-    → holds (state_after s x.now o) name digest ≡ (notes name digest x.answer || holds s name digest)
-pairs_after s x (Replies answer) f e name digest =
-    sym
-    (ap (λ b. b || holds s name digest) (ap (notes name digest) e ∙ ap (is_pair (name, digest)) f.stored_none))
-pairs_after s x (Begins n to) f e name digest = sym (ap (λ a. notes name digest a || holds s name digest) e)
-pairs_after s x (Takes n to got) f e name digest = sym (ap (λ a. notes name digest a || holds s name digest) e)
-pairs_after s x (Commits n to d blob) f e name digest =
-    contains-insert s.pairs (n, d) (name, digest) ∙ sym (ap (λ a. notes name digest a || holds s name digest) e)
-pairs_after s x (Stores n d blob) f e name digest =
-    contains-insert s.pairs (n, d) (name, digest) ∙ sym (ap (λ a. notes name digest a || holds s name digest) e)
-pairs_after s x (Mounts n d) f e name digest =
-    contains-insert s.pairs (n, d) (name, digest) ∙ sym (ap (λ a. notes name digest a || holds s name digest) e)
+    → set.contains (pairs_with s.pairs pair) (name, digest) ≡ (notes name digest x.answer || holds s name digest)
+pairs_after s x None t name digest = sym (ap (λ p. is_pair (name, digest) p || holds s name digest) t)
+pairs_after s x (Some pair) t name digest =
+    contains-insert s.pairs pair (name, digest)
+    ∙ sym (ap (λ p. is_pair (name, digest) p || holds s name digest) t)
+
+-- the answer of a turn tells of the pair
+told_pair : (s : State) (x : Exchange) → x.answer ≡ answer_of (outcome s x.ask x.secret x.now)
+    → (answer_view x.answer).pair ≡ (effect (outcome s x.ask x.secret x.now)).pair
+told_pair s x e =
+    ap (λ a. (answer_view a).pair) e
+    ∙ pair_told s x.ask x.secret x.now (outcome s x.ask x.secret x.now) (outcome_sound s x.now x.ask x.secret)
 
 blobs_turn : (start : State) (front : List Exchange) (s : State) (x : Exchange) (t : State) → IsLawful start
     → Run start front s → Turn s x.ask x.secret x.now x.answer t → (d : Digest)
     → map.get t.blobs d ≡ last_under d (stored_by start (front ++ x ∷ []) x.ask x.answer) (map.get s.blobs d)
 unfolding Turn
 blobs_turn start front s x t lawful run (inl did) d =
-    ap (λ q. map.get q.blobs d) did.1 ∙ blobs_after start front s x (outcome s x.ask x.secret x.now) lawful run
-    (outcome_sound s x.now x.ask x.secret) did.0 d
+    let o : Outcome = outcome s x.ask x.secret x.now in
+    let f : IsOutcome s x.ask x.secret x.now o = outcome_sound s x.now x.ask x.secret in
+    ap (λ q. map.get q.blobs d) did.1
+    ∙ blobs_after start front s x (effect o).blob (effect o).pair lawful run (store_fits s x.ask x.secret x.now o f)
+    (told_pair s x did.0) d
 blobs_turn start front s x t lawful run (inr lacked) d =
     ap (λ q. map.get q.blobs d) lacked.2
     ∙ sym (ap (λ a. last_under d (stored_by start (front ++ x ∷ []) x.ask a) (map.get s.blobs d)) lacked.1)
@@ -102,7 +105,7 @@ pairs_turn : (s : State) (x : Exchange) (t : State) → Turn s x.ask x.secret x.
 unfolding Turn
 pairs_turn s x t (inl did) name digest =
     ap (λ q. holds q name digest) did.1
-    ∙ pairs_after s x (outcome s x.ask x.secret x.now) (outcome_sound s x.now x.ask x.secret) did.0 name digest
+    ∙ pairs_after s x (effect (outcome s x.ask x.secret x.now)).pair (told_pair s x did.0) name digest
 pairs_turn s x t (inr lacked) name digest =
     ap (λ q. holds q name digest) lacked.2 ∙ sym (ap (λ a. notes name digest a || holds s name digest) lacked.1)
 
@@ -141,16 +144,6 @@ pub store_is_what_was_stored : StoreIsWhatWasStored
 unfolding Turn
 store_is_what_was_stored start xs end lawful run =
     record { blobs = blobs_run xs start [] start end lawful refl run; pairs = pairs_run xs start end run }
-
-blob_fact : (s : State) (ask : Ask) (secret : List ℕ) (now : ℕ) (o : Outcome) (digest : Digest)
-    (size : ℕ) (bytes : Option (List ℕ)) → IsOutcome s ask secret now o → answer_of o ≡ answers.Blob digest size bytes
-    → IsBlob s ask digest size bytes
-blob_fact s ask secret now (Replies answer) digest size bytes f e = f.blob digest size bytes e
-blob_fact s ask secret now (Begins n to) digest size bytes f e = cc
-blob_fact s ask secret now (Takes n to got) digest size bytes f e = cc
-blob_fact s ask secret now (Commits n to d blob) digest size bytes f e = cc
-blob_fact s ask secret now (Stores n d blob) digest size bytes f e = cc
-blob_fact s ask secret now (Mounts n d) digest size bytes f e = cc
 
 pub blob_is_what_was_stored : BlobIsWhatWasStored
 unfolding Turn

@@ -7,21 +7,23 @@ use Rattle.upload_names.specs.Reference.{reference, number_of}
 use Rattle.upload_service.specs.declared.limits.Limits.{Limits}
 use Rattle.upload_service.specs.declared.answer.Refusal.TheVariants as refusals
 use Rattle.upload_service.specs.declared.ask.Ask.{Ask}
+use Rattle.upload_service.specs.declared.answer.Answer.{Answer}
 use Rattle.upload_service.specs.declared.answer.Answer.TheVariants as answers
 use Rattle.upload_service.specs.UploadView.{Act, OfSession, upload_view, on_session, opened_under}
-use Rattle.upload_service.specs.Machine.{is_idle, unless_idle, swept, Session, State, Outcome, Replies, Begins, Takes}
-use Rattle.upload_service.specs.Machine.{Commits, Stores, Mounts, answer_of, state_after, refused, at_session}
-use Rattle.upload_service.specs.Machine.{last_number, outcome}
+use Rattle.upload_service.specs.Machine.{is_idle, unless_idle, swept, Session, State, Outcome, SessionChange}
+use Rattle.upload_service.specs.Machine.{AllStay, OneBegins, OneTakes, OneLeaves, effect, answer_of, issued_with}
+use Rattle.upload_service.specs.Machine.{sessions_with, state_after, refused, at_session, last_number, outcome}
 use Rattle.upload_service.specs.Session.{carries, is_same, begins}
-use Rattle.upload_service.specs.Alone.{Life, Unborn, Open, Gone, life_after, alone_outcome, first_answer, first_life}
-use Rattle.upload_service.specs.Alone.{alone_answer, alone_after}
+use Rattle.upload_service.specs.Alone.{Life, Unborn, Open, Gone, life_with, life_after, alone_outcome, first_answer}
+use Rattle.upload_service.specs.Alone.{first_life, alone_answer, alone_after}
 use Rattle.upload_service.proofs.Keeping.Tables.{eq_from_same}
 use Rattle.std.proofs.lemmas.Nat.{from_be_bytes-to_be_bytes_4}
 use Rattle.upload_service.proofs.Keeping.Tables.{one_or_two, get-insert_same, get-insert_other, get-remove_same}
 use Rattle.upload_service.proofs.Keeping.Tables.{get-remove_other, ne_from_same}
 use Rattle.upload_service.proofs.UploadView.{carried}
-use Rattle.upload_service.proofs.Steps.{IsOutcome, AsksToBegin, outcome_of_view, outcome_sound, None≢Some}
+use Rattle.upload_service.proofs.Steps.{IsOutcome, AsksToBegin, outcome_of_view, None≢Some}
 use Rattle.upload_service.proofs.Steps.{idle_is_none}
+use Rattle.upload_service.proofs.Effects.{FitsChange, change_fits, turn_fits, state_with}
 use Rattle.upload_service.proofs.Sweeps.{kept_or_left, was_there, idle_later, idle_from}
 
 pub number_of-reference : (n : ℕ) (secret : List ℕ) → n < 2 ^ 32 → number_of (reference n secret) ≡ n
@@ -43,34 +45,39 @@ not_new s secret at new e h le same =
     let n : number_of new ≡ s.issued + 1 = new_number s secret new e h in
     let m : number_of at ≡ number_of new = ap number_of same in omega arith
 
-pub numbered_after : (s : State) (ask : Ask) (secret : List ℕ) (now : ℕ) (o : Outcome) → IsOutcome s ask secret now o
-    → IsNumbered s → IsNumbered (state_after s now o)
-numbered_after s ask secret now (Replies answer) f h = h
-numbered_after s ask secret now (Begins name new) f h = λ at session e.
+numbered_with : (s : State) (ask : Ask) (secret : List ℕ) (now : ℕ) (answer : Answer) (change : SessionChange)
+    → FitsChange s ask secret now answer change → IsNumbered s
+    → (at : List ℕ) (session : Session) → map.get (sessions_with s now change) at ≡ Some session
+    → number_of at ≤ issued_with s.issued change
+numbered_with s ask secret now answer AllStay f h at session e = h at session e
+numbered_with s ask secret now answer (OneBegins name new) f h at session e =
     elim (one_or_two at new) [
       | inl same ↦
-          let n : number_of new ≡ s.issued + 1 = new_number s secret new f.is_new f.numbers_left in
+          let n : number_of new ≡ s.issued + 1 = new_number s secret new f.0.is_new f.0.numbers_left in
           let m : number_of at ≡ number_of new = ap number_of same in omega arith
       | inr other ↦
           let le : number_of at ≤ s.issued =
           h at session (was_there s now at session (sym (get-insert_other (swept s now) new _ at other) ∙ e)) in
           omega arith
     ]
-numbered_after s ask secret now (Takes name to received) f h = λ at session e.
+numbered_with s ask secret now answer (OneTakes name to received) f h at session e =
     elim (one_or_two at to) [
       | inl same ↦
           let m : number_of at ≡ number_of to = ap number_of same in
-          let le : number_of to ≤ s.issued = h to f.found.session f.found.is_open in omega arith
+          let le : number_of to ≤ s.issued = h to f.0.found.session f.0.found.is_open in omega arith
       | inr other ↦ h at session (sym (get-insert_other s.sessions to _ at other) ∙ e)
     ]
-numbered_after s ask secret now (Commits name to digest blob) f h = λ at session e.
+numbered_with s ask secret now answer (OneLeaves to) f h at session e =
     elim (one_or_two at to) [
       | inl same ↦ absurd
           (None≢Some (sym (get-remove_same s.sessions to) ∙ ap (map.get (map.remove s.sessions to)) (sym same) ∙ e))
       | inr other ↦ h at session (sym (get-remove_other s.sessions to at other) ∙ e)
     ]
-numbered_after s ask secret now (Stores name digest blob) f h = h
-numbered_after s ask secret now (Mounts name digest) f h = h
+
+pub numbered_after : (s : State) (ask : Ask) (secret : List ℕ) (now : ℕ) (o : Outcome) → IsOutcome s ask secret now o
+    → IsNumbered s → IsNumbered (state_after s now o)
+numbered_after s ask secret now o f h =
+    numbered_with s ask secret now (answer_of o) (effect o).sessions (change_fits s ask secret now o f) h
 
 -- an issued reference that isn't in the table
 abbrev pub IsGone : State → List ℕ → Type 0
@@ -117,51 +124,55 @@ fits_left s t from now at Gone h session was idle none le k f =
     (none, let g : number_of at ≤ s.issued = f.1 in omega arith)
 
 -- an exchange that isn't the session's leaves the session
-pub others_leave : (s : State) (ask : Ask) (secret : List ℕ) (from now : ℕ) (o : Outcome) → IsOutcome s ask secret now o
-    → IsNumbered s → from ≤ now → (at : List ℕ) (life : Life) → carries at ask ≡ false → begins at (answer_of o) ≡ false
-    → Fits s from at life → Fits (state_after s now o) now at life
-others_leave s ask secret from now (Replies answer) f h later at life c b fits =
-    fits_by s s from now at life refl (omega arith) refl later fits
-others_leave s ask secret from now (Begins name new) f h later at life c b fits =
-    let t : State = state_after s now (Begins name new) in
+others_leave_with : (s : State) (ask : Ask) (secret : List ℕ) (from now : ℕ) (answer : Answer) (change : SessionChange)
+    (rest : State) → FitsChange s ask secret now answer change
+    → IsNumbered s → from ≤ now → (at : List ℕ) (life : Life) → carries at ask ≡ false → begins at answer ≡ false
+    → Fits s from at life → Fits (state_with s now change rest) now at life
+others_leave_with s ask secret from now answer AllStay rest f h later at life c b fits =
+    fits_by s (state_with s now AllStay rest) from now at life refl (omega arith) refl later fits
+others_leave_with s ask secret from now answer (OneBegins name new) rest f h later at life c b fits =
+    let t : State = state_with s now (OneBegins name new) rest in
     let there : map.get t.sessions at ≡ map.get (swept s now) at =
-    get-insert_other (swept s now) new _ at (ne_from_same at new b) in
+    get-insert_other (swept s now) new _ at (ne_from_same at new (sym (ap (begins at) f.1) ∙ b)) in
     elim (kept_or_left s now at) [
       | inl kept ↦ fits_by s t from now at life (there ∙ kept) (omega arith) refl later fits
       | inr left ↦ fits_left s t from now at life h left.session left.was_open left.idle (there ∙ left.left)
           (omega arith) refl fits
     ]
-others_leave s ask secret from now (Takes name to received) f h later at life c b fits =
-    fits_by s (state_after s now (Takes name to received)) from now at life
-    (get-insert_other s.sessions to _ at (ne_from_same at to (sym (ap (carries at) f.asked) ∙ c)))
+others_leave_with s ask secret from now answer (OneTakes name to received) rest f h later at life c b fits =
+    fits_by s (state_with s now (OneTakes name to received) rest) from now at life
+    (get-insert_other s.sessions to _ at (ne_from_same at to (sym (ap (carries at) f.0.asked) ∙ c)))
     (omega arith) refl later fits
-others_leave s ask secret from now (Commits name to digest blob) f h later at life c b fits =
-    fits_by s (state_after s now (Commits name to digest blob)) from now at life
-    (get-remove_other s.sessions to at (ne_from_same at to (sym (ap (carries at) f.asked) ∙ c)))
+others_leave_with s ask secret from now answer (OneLeaves to) rest f h later at life c b fits =
+    fits_by s (state_with s now (OneLeaves to) rest) from now at life
+    (get-remove_other s.sessions to at (ne_from_same at to (sym (f.carried at) ∙ c)))
     (omega arith) refl later fits
-others_leave s ask secret from now (Stores name digest blob) f h later at life c b fits =
-    fits_by s (state_after s now (Stores name digest blob)) from now at life refl (omega arith) refl later fits
-others_leave s ask secret from now (Mounts name digest) f h later at life c b fits =
-    fits_by s (state_after s now (Mounts name digest)) from now at life refl (omega arith) refl later fits
+
+pub others_leave : (s : State) (ask : Ask) (secret : List ℕ) (from now : ℕ) (o : Outcome) → IsOutcome s ask secret now o
+    → IsNumbered s → from ≤ now → (at : List ℕ) (life : Life) → carries at ask ≡ false → begins at (answer_of o) ≡ false
+    → Fits s from at life → Fits (state_after s now o) now at life
+others_leave s ask secret from now o f h later at life c b fits =
+    others_leave_with s ask secret from now (answer_of o) (effect o).sessions (state_after s now o)
+    (change_fits s ask secret now o f) h later at life c b fits
 
 -- what carries a reference doesn't ask to begin
 no_opening_carries : (name at : List ℕ) (ask : Ask) → AsksToBegin name ask → carries at ask ≡ true → ⊥
 no_opening_carries name at ask a c = None≢Some (sym (ap opened_under (carried at ask c).view) ∙ a)
 
 -- an open session after a request that carries its reference
-open_after : (s : State) (ask : Ask) (secret : List ℕ) (now : ℕ) (o : Outcome) → IsOutcome s ask secret now o
+open_with : (s : State) (ask : Ask) (secret : List ℕ) (now : ℕ) (answer : Answer) (change : SessionChange)
+    (rest : State) → FitsChange s ask secret now answer change
     → IsNumbered s → (at : List ℕ) (session : Session) → map.get s.sessions at ≡ Some session → carries at ask ≡ true
-    → Fits (state_after s now o) now at (life_after session now o)
-open_after s ask secret now (Replies answer) f h at session e c = inl e
-open_after s ask secret now (Begins name new) f h at session e c = absurd (no_opening_carries name at ask f.asked c)
-open_after s ask secret now (Takes name to received) f h at session e c =
-    let is : at ≡ to = eq_from_same at to (sym (ap (carries at) f.asked) ∙ c) in
-    inl (ap (map.get (state_after s now (Takes name to received)).sessions) is ∙ get-insert_same s.sessions to _)
-open_after s ask secret now (Commits name to digest blob) f h at session e c =
-    let is : at ≡ to = eq_from_same at to (sym (ap (carries at) f.asked) ∙ c) in
+    → Fits (state_with s now change rest) now at (life_with session now change)
+open_with s ask secret now answer AllStay rest f h at session e c = inl e
+open_with s ask secret now answer (OneBegins name new) rest f h at session e c =
+    absurd (no_opening_carries name at ask f.0.asked c)
+open_with s ask secret now answer (OneTakes name to received) rest f h at session e c =
+    let is : at ≡ to = eq_from_same at to (sym (ap (carries at) f.0.asked) ∙ c) in
+    inl (ap (map.get (sessions_with s now (OneTakes name to received))) is ∙ get-insert_same s.sessions to _)
+open_with s ask secret now answer (OneLeaves to) rest f h at session e c =
+    let is : at ≡ to = eq_from_same at to (sym (f.carried at) ∙ c) in
     (ap (map.get (map.remove s.sessions to)) is ∙ get-remove_same s.sessions to, h at session e)
-open_after s ask secret now (Stores name digest blob) f h at session e c = inl e
-open_after s ask secret now (Mounts name digest) f h at session e c = inl e
 
 -- the session's own exchange gives what it gives alone
 pub record Own (s : State) (ask : Ask) (now : ℕ) (o : Outcome) (at : List ℕ) (life : Life) : Type 0 where
@@ -209,8 +220,8 @@ own_carried s ask secret from now name at act (Open session) h later view c (inl
       told = ap answer_of e;
       fits =
           subst (λ q. Fits (state_after s now (outcome s ask secret now)) now at (life_after session now q)) e
-          (open_after s ask secret now (outcome s ask secret now) (outcome_sound s now ask secret) h at
-          session is_open c);
+          (open_with s ask secret now _ _ (state_after s now (outcome s ask secret now))
+          (turn_fits s ask secret now _ refl) h at session is_open c);
     }
 own_carried s ask secret from now name at act (Open session) h later view c (inr left) =
     let idle : is_idle s.limits.max_idle now session ≡ true =
@@ -230,31 +241,46 @@ pub own_by_reference : (s : State) (ask : Ask) (secret : List ℕ) (from now : �
 own_by_reference s ask secret from now at life h later c fits =
     let to = carried at ask c in own_carried s ask secret from now to.name at to.act life h later to.view c fits
 
-begun_alone : (s : State) (ask : Ask) (now : ℕ) (name at new : List ℕ) → at ≡ new → AsksToBegin name ask
-    → Own s ask now (Begins name new) at Unborn
-begun_alone s ask now name at new is a =
-    let t : State = state_after s now (Begins name new) in
-    record {
-      told = ap (answers.Begun name) (sym is) ∙ sym (ap (first_answer at) a);
-      fits =
-          subst (λ o. Fits t now at (first_life o now)) (sym a)
-          (inl (ap (map.get t.sessions) is ∙ get-insert_same (swept s now) new _));
-    }
+-- what a request that asks to begin it is told, and what the session is then
+begun_alone : (s : State) (ask : Ask) (now : ℕ) (name at new : List ℕ) (rest : State) → at ≡ new → AsksToBegin name ask
+    → (answers.Begun name new ≡ alone_answer s.limits at Unborn ask now)
+    × Fits (state_with s now (OneBegins name new) rest) now at (alone_after s.limits Unborn ask now)
+begun_alone s ask now name at new rest is a = (
+  ap (answers.Begun name) (sym is) ∙ sym (ap (first_answer at) a),
+  subst (λ o. Fits (state_with s now (OneBegins name new) rest) now at (first_life o now)) (sym a)
+      (inl (ap (map.get (sessions_with s now (OneBegins name new))) is ∙ get-insert_same (swept s now) new _)),
+)
+
+own_with : (s : State) (ask : Ask) (secret : List ℕ) (from now : ℕ) (answer : Answer) (change : SessionChange)
+    (rest : State) → FitsChange s ask secret now answer change
+    → (at : List ℕ) (life : Life) → IsNumbered s → begins at answer ≡ true → Fits s from at life
+    → (answer ≡ alone_answer s.limits at life ask now)
+    × Fits (state_with s now change rest) now at (alone_after s.limits life ask now)
+own_with s ask secret from now answer AllStay rest f at life h b fits =
+    absurd (true≢false (sym b ∙ ap (is_same at) f.begins_none))
+own_with s ask secret from now answer (OneBegins name new) rest f at Unborn h b fits =
+    let own =
+    begun_alone s ask now name at new rest (eq_from_same at new (sym (ap (begins at) f.1) ∙ b)) f.0.asked in
+    (f.1 ∙ own.0, own.1)
+own_with s ask secret from now answer (OneBegins name new) rest f at (Open session) h b (inl fits) =
+    absurd (not_new s secret at new f.0.is_new f.0.numbers_left (h at session fits)
+    (eq_from_same at new (sym (ap (begins at) f.1) ∙ b)))
+own_with s ask secret from now answer (OneBegins name new) rest f at (Open session) h b (inr left) =
+    absurd (not_new s secret at new f.0.is_new f.0.numbers_left left.gone.1
+    (eq_from_same at new (sym (ap (begins at) f.1) ∙ b)))
+own_with s ask secret from now answer (OneBegins name new) rest f at Gone h b fits =
+    absurd (not_new s secret at new f.0.is_new f.0.numbers_left fits.1
+    (eq_from_same at new (sym (ap (begins at) f.1) ∙ b)))
+own_with s ask secret from now answer (OneTakes name to received) rest f at life h b fits =
+    absurd (true≢false (sym b ∙ ap (begins at) f.1))
+own_with s ask secret from now answer (OneLeaves to) rest f at life h b fits =
+    absurd (true≢false (sym b ∙ ap (is_same at) f.begins_none))
 
 pub own_by_opening : (s : State) (ask : Ask) (secret : List ℕ) (from now : ℕ) (o : Outcome)
     → IsOutcome s ask secret now o → (at : List ℕ) (life : Life) → IsNumbered s → begins at (answer_of o) ≡ true
     → Fits s from at life → Own s ask now o at life
-own_by_opening s ask secret from now (Replies answer) f at life h b fits =
-    absurd (true≢false (sym b ∙ ap (is_same at) f.begins_none))
-own_by_opening s ask secret from now (Begins name new) f at Unborn h b fits =
-    begun_alone s ask now name at new (eq_from_same at new b) f.asked
-own_by_opening s ask secret from now (Begins name new) f at (Open session) h b (inl fits) =
-    absurd (not_new s secret at new f.is_new f.numbers_left (h at session fits) (eq_from_same at new b))
-own_by_opening s ask secret from now (Begins name new) f at (Open session) h b (inr left) =
-    absurd (not_new s secret at new f.is_new f.numbers_left left.gone.1 (eq_from_same at new b))
-own_by_opening s ask secret from now (Begins name new) f at Gone h b fits =
-    absurd (not_new s secret at new f.is_new f.numbers_left fits.1 (eq_from_same at new b))
-own_by_opening s ask secret from now (Takes name to received) f at life h b fits = absurd (true≢false (sym b))
-own_by_opening s ask secret from now (Commits name to digest blob) f at life h b fits = absurd (true≢false (sym b))
-own_by_opening s ask secret from now (Stores name digest blob) f at life h b fits = absurd (true≢false (sym b))
-own_by_opening s ask secret from now (Mounts name digest) f at life h b fits = absurd (true≢false (sym b))
+own_by_opening s ask secret from now o f at life h b fits =
+    let own =
+    own_with s ask secret from now (answer_of o) (effect o).sessions (state_after s now o)
+    (change_fits s ask secret now o f) at life h b fits in
+    record { told = own.0; fits = own.1 }

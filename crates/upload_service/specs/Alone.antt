@@ -9,8 +9,8 @@ use Rattle.upload_service.specs.declared.ask.Ask.{Ask}
 use Rattle.upload_service.specs.declared.answer.Answer.{Answer}
 use Rattle.upload_service.specs.declared.answer.Answer.TheVariants as answers
 use Rattle.upload_service.specs.UploadView.{upload_view, on_session, opened_under, answer_view}
-use Rattle.upload_service.specs.Machine.{unless_idle, Session, State, Outcome, Replies, Begins, Takes, Commits, Stores}
-use Rattle.upload_service.specs.Machine.{Mounts, answer_of, refused, at_session}
+use Rattle.upload_service.specs.Machine.{unless_idle, Session, State, Outcome, SessionChange, AllStay, OneBegins}
+use Rattle.upload_service.specs.Machine.{OneTakes, OneLeaves, effect, answer_of, refused, at_session}
 use Rattle.upload_service.specs.Run.{Exchange}
 use Rattle.upload_service.specs.Session.{part, received}
 
@@ -30,14 +30,15 @@ life_of None false = Unborn
 abbrev pub life_in : State → List ℕ → Life
 life_in s at = life_of (map.get s.sessions at) (nat_le (number_of at) s.issued)
 
--- an open session after what a request came to
+-- an open session after a change of just this one, and after what a request came to
+abbrev pub life_with : Session → ℕ → SessionChange → Life
+life_with session now AllStay = Open session
+life_with session now (OneBegins name at) = Open session
+life_with session now (OneTakes name at received) = Open (record { name = name; received = received; seen = now })
+life_with session now (OneLeaves at) = Gone
+
 abbrev pub life_after : Session → ℕ → Outcome → Life
-life_after session now (Takes name at received) = Open (record { name = name; received = received; seen = now })
-life_after session now (Commits name at digest blob) = Gone
-life_after session now (Replies answer) = Open session
-life_after session now (Begins name at) = Open session
-life_after session now (Stores name digest blob) = Open session
-life_after session now (Mounts name digest) = Open session
+life_after session now o = life_with session now (effect o).sessions
 
 -- what a request to the session comes to
 abbrev pub alone_outcome : Limits → Session → Ask → ℕ → Outcome

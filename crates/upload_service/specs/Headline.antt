@@ -9,7 +9,7 @@ use Rattle.upload_service.specs.declared.ask.Ask.{Ask}
 use Rattle.upload_service.specs.declared.ask.Ask.TheVariants as asks
 use Rattle.upload_service.specs.declared.answer.Answer.{Answer}
 use Rattle.upload_service.specs.declared.answer.Answer.TheVariants as answers
-use Rattle.upload_service.specs.UploadView.{Act, Sends, AsksOffset, Closes, upload_view, on_session}
+use Rattle.upload_service.specs.UploadView.{Act, act_view, upload_view, on_session}
 use Rattle.upload_service.specs.Machine.{is_idle, awake, Session, State, Turn, IsLawful, holds}
 use Rattle.upload_service.specs.Run.{Exchange, Run, NeverFall}
 use Rattle.upload_service.specs.Session.{carries, received, session_is_closed}
@@ -26,10 +26,12 @@ abbrev pub aim_at : List ℕ → List ℕ → Extent → Option Aim
 aim_at name at (Given range) = Some (record { name = name; at = at; first = range.first })
 aim_at name at other = None
 
+abbrev pub aim_with : List ℕ → List ℕ → Option (Extent × List ℕ) → Option Aim
+aim_with name at None = None
+aim_with name at (Some (range, body)) = aim_at name at range
+
 abbrev pub aim_by : List ℕ → List ℕ → Act → Option Aim
-aim_by name at (Sends range body) = aim_at name at range
-aim_by name at AsksOffset = None
-aim_by name at (Closes range digest body) = aim_at name at range
+aim_by name at act = aim_with name at (act_view act).chunk
 
 abbrev pub aim_of : Ask → Option Aim
 aim_of ask = on_session (upload_view ask) None aim_by

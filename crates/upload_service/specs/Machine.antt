@@ -103,32 +103,70 @@ pub data Outcome : Type 0 where
   Stores : (name : List ℕ) (digest : Digest) (blob : List ℕ) → Outcome  -- a blob is stored without a session
   Mounts : (name : List ℕ) (digest : Digest) → Outcome  -- the repository has the blob too
 
+-- what becomes of the open sessions: all stay, or one begins, takes a chunk, or leaves
+pub data SessionChange : Type 0 where
+  AllStay : SessionChange
+  OneBegins : (name at : List ℕ) → SessionChange
+  OneTakes : (name at received : List ℕ) → SessionChange
+  OneLeaves : (at : List ℕ) → SessionChange
+
+-- what an outcome is answered, and what it changes
+pub record Effect : Type 0 where
+  pub answer : Answer
+  pub sessions : SessionChange
+  pub blob : Option (Digest × List ℕ)  -- this one is stored
+  pub pair : Option (List ℕ × Digest)  -- this repository has this blob
+
+abbrev pub no_change : Answer → Effect
+no_change answer = record { answer = answer; sessions = AllStay; blob = None; pair = None }
+
+abbrev pub gets : List ℕ → Digest → Effect
+gets name digest = record (no_change (answers.Stored name digest)) { pair = Some (name, digest) }
+
+abbrev pub effect : Outcome → Effect
+effect (Replies answer) = no_change answer
+effect (Begins name at) = record (no_change (answers.Begun name at)) { sessions = OneBegins name at }
+effect (Takes name at received) =
+    record (no_change (answers.Taken name at (length received))) { sessions = OneTakes name at received }
+effect (Commits name at digest blob) = record (gets name digest) { sessions = OneLeaves at; blob = Some (digest, blob) }
+effect (Stores name digest blob) = record (gets name digest) { blob = Some (digest, blob) }
+effect (Mounts name digest) = gets name digest
+
 abbrev pub answer_of : Outcome → Answer
-answer_of (Replies answer) = answer
-answer_of (Begins name at) = answers.Begun name at
-answer_of (Takes name at received) = answers.Taken name at (length received)
-answer_of (Commits name at digest blob) = answers.Stored name digest
-answer_of (Stores name digest blob) = answers.Stored name digest
-answer_of (Mounts name digest) = answers.Stored name digest
+answer_of o = (effect o).answer
+
+abbrev pub issued_with : ℕ → SessionChange → ℕ
+issued_with issued AllStay = issued
+issued_with issued (OneBegins name at) = issued + 1
+issued_with issued (OneTakes name at received) = issued
+issued_with issued (OneLeaves at) = issued
+
+-- the sessions with this change, at this moment
+abbrev pub sessions_with : State → ℕ → SessionChange → Table Session
+sessions_with s now AllStay = s.sessions
+sessions_with s now (OneBegins name at) =
+    map.insert (swept s now) at (record { name = name; received = []; seen = now })
+sessions_with s now (OneTakes name at received) =
+    map.insert s.sessions at (record { name = name; received = received; seen = now })
+sessions_with s now (OneLeaves at) = map.remove s.sessions at
+
+-- the blobs with this one, and the pairs with this one, if there is one
+abbrev pub blobs_with : FinMap digest_cmp (List ℕ) → Option (Digest × List ℕ) → FinMap digest_cmp (List ℕ)
+blobs_with blobs None = blobs
+blobs_with blobs (Some (digest, blob)) = map.insert blobs digest blob
+
+abbrev pub pairs_with : FinSet pair_cmp → Option (List ℕ × Digest) → FinSet pair_cmp
+pairs_with pairs None = pairs
+pairs_with pairs (Some pair) = set.insert pairs pair
 
 -- the state after it, at this moment
 abbrev pub state_after : State → ℕ → Outcome → State
-state_after s now (Replies answer) = s
-state_after s now (Begins name at) = record s {
-  issued = s.issued + 1;
-  sessions = map.insert (swept s now) at (record { name = name; received = []; seen = now });
+state_after s now o = record s {
+  issued = issued_with s.issued (effect o).sessions;
+  sessions = sessions_with s now (effect o).sessions;
+  blobs = blobs_with s.blobs (effect o).blob;
+  pairs = pairs_with s.pairs (effect o).pair;
 }
-state_after s now (Takes name at received) = record s {
-  sessions = map.insert s.sessions at (record { name = name; received = received; seen = now });
-}
-state_after s now (Commits name at digest blob) = record s {
-  sessions = map.remove s.sessions at;
-  blobs = map.insert s.blobs digest blob;
-  pairs = set.insert s.pairs (name, digest);
-}
-state_after s now (Stores name digest blob) =
-    record s { blobs = map.insert s.blobs digest blob; pairs = set.insert s.pairs (name, digest) }
-state_after s now (Mounts name digest) = record s { pairs = set.insert s.pairs (name, digest) }
 
 abbrev pub refused : Refusal → Outcome
 refused refusal = Replies (answers.Refused refusal)

@@ -4,8 +4,9 @@ use Rattle.std.specs.Prelude.{ℕ, ◌+◌, ◌||◌, ◌&&◌, nat_lt, Bool, fa
 use Rattle.std.specs.Prelude.{Option, Some, None, is_some, if◌then◌else◌}
 use Rattle.std.specs.FinMap as map
 use Rattle.upload_service.specs.declared.ask.Ask.{Ask}
+use Rattle.upload_service.specs.declared.ask.Extent.{Extent}
 use Rattle.upload_service.specs.declared.answer.Answer.{Answer}
-use Rattle.upload_service.specs.UploadView.{Act, Sends, AsksOffset, Closes, upload_view, on_session, answer_view}
+use Rattle.upload_service.specs.UploadView.{Act, act_view, upload_view, on_session, answer_view}
 use Rattle.upload_service.specs.Machine.{same, Session, State}
 use Rattle.upload_service.specs.Run.{Exchange}
 
@@ -35,11 +36,14 @@ is_taken answer = (answer_view answer).took
 abbrev pub is_stored : Answer → Bool
 is_stored answer = is_some (answer_view answer).pair
 
+abbrev pub chunk_if : Bool → Option (Extent × List ℕ) → List (List ℕ)
+chunk_if accepted None = []
+chunk_if accepted (Some (range, body)) = if accepted then body ∷ [] else []
+
 -- the body that a session takes: a chunk answered Taken, or a close answered Stored
 abbrev pub accepted_by : Act → Answer → List (List ℕ)
-accepted_by (Sends range body) answer = if is_taken answer then body ∷ [] else []
-accepted_by AsksOffset answer = []
-accepted_by (Closes range digest body) answer = if is_stored answer then body ∷ [] else []
+accepted_by act answer =
+    chunk_if (if (act_view act).closes then is_stored answer else is_taken answer) (act_view act).chunk
 
 abbrev pub accepted_of : Ask → Answer → List (List ℕ)
 accepted_of ask answer = on_session (upload_view ask) [] (λ name at act. accepted_by act answer)
@@ -64,9 +68,7 @@ received s xs at = bytes_of (map.get s.sessions at) ++ joined_chunks (taken xs a
 
 -- the session was closed by this request
 abbrev pub closed_by : Act → Answer → Bool
-closed_by (Sends range body) answer = false
-closed_by AsksOffset answer = false
-closed_by (Closes range digest body) answer = is_stored answer
+closed_by act answer = (act_view act).closes && is_stored answer
 
 abbrev pub closes_of : List ℕ → Ask → Answer → Bool
 closes_of at ask answer = on_session (upload_view ask) false (λ name to act. same at to && closed_by act answer)

@@ -6,8 +6,8 @@ use Rattle.upload_names.specs.Digest.{Digest}
 use Rattle.upload_service.specs.declared.ask.Ask.{Ask}
 use Rattle.upload_service.specs.declared.answer.Answer.{Answer}
 use Rattle.upload_service.specs.declared.answer.Answer.TheVariants as answers
-use Rattle.upload_service.specs.UploadView.{Act, Sends, AsksOffset, Closes, UploadView, OfSession, Opens, WholeBlob}
-use Rattle.upload_service.specs.UploadView.{Unrelated, upload_view, answer_view}
+use Rattle.upload_service.specs.UploadView.{act_view, UploadView, OfSession, Opens, WholeBlob, Unrelated, upload_view}
+use Rattle.upload_service.specs.UploadView.{answer_view}
 use Rattle.upload_service.specs.Machine.{same_digest, State, holds, pair_cmp}
 use Rattle.std.specs.Ordering.{eq_by_cmp}
 use Rattle.upload_service.specs.Run.{Exchange}
@@ -19,16 +19,10 @@ pub record Stored : Type 0 where
   pub digest : Digest
   pub blob : List ℕ
 
--- what a request to a session stores, if it is answered Stored: this, if it is a close
-abbrev pub stored_act : Act → Stored → List Stored
-stored_act (Sends range body) stored = []
-stored_act AsksOffset stored = []
-stored_act (Closes range digest body) stored = stored ∷ []
-
 -- what a request that was answered Stored stored, where upto are the exchanges up to it and with it
 abbrev pub blob_of : State → List Exchange → List ℕ → Digest → UploadView → List Stored
 blob_of start upto name digest (OfSession n at act) =
-    stored_act act (record { name = name; digest = digest; blob = received start upto at })
+    if (act_view act).closes then record { name = name; digest = digest; blob = received start upto at } ∷ [] else []
 blob_of start upto name digest (Opens n) = []
 blob_of start upto name digest (WholeBlob body) = record { name = name; digest = digest; blob = body } ∷ []
 blob_of start upto name digest Unrelated = []

@@ -14,6 +14,16 @@ pub data Act : Type 0 where
   AsksOffset : Act  -- how many bytes it has
   Closes : (range : Extent) (digest : Option Digest) (body : List ℕ) → Act  -- that it take a last chunk and be stored
 
+-- what it brings the session, and whether the session is to be closed
+pub record ActView : Type 0 where
+  pub chunk : Option (Extent × List ℕ)  -- a chunk of this range
+  pub closes : Bool
+
+abbrev pub act_view : Act → ActView
+act_view (Sends range body) = record { chunk = Some (range, body); closes = false }
+act_view AsksOffset = record { chunk = None; closes = false }
+act_view (Closes range digest body) = record { chunk = Some (range, body); closes = true }
+
 pub data UploadView : Type 0 where
   OfSession : (name at : List ℕ) (act : Act)
       → UploadView  -- something of the session of this reference, under this name
