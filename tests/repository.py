@@ -60,7 +60,7 @@ NO_OTHER_BODY = {
 
 # Functions of which no clause says anything, since none can speak of another thread. Tests stand for them.
 NO_CLAUSE = {
-    "upload_service": {"HashEnd::wait"},
+    "upload_names": {"HashEnd::wait", "Hashing::end", "Hashing::is_at_work"},
 }
 
 

@@ -1,10 +1,10 @@
 //! Bodies of requests, in the parts that they were read in, and what a body is read into.
-ghost use Rattle.std.specs.Prelude.{◌≡◌, ◌++◌, List, ℕ, length, IfSome, [], OnOk, OnErr};
+ghost use Rattle.std.specs.Prelude.{◌≡◌, ◌++◌, List, ℕ, length, Some, IfSome, [], OnOk, OnErr};
 ghost use Rattle.sha2.specs.Hashers.{Holds256, Holds512};
 ghost use Rattle.upload_names.specs.Body.{bytes_in, IsBody};
 ghost use Rattle.std.specs.List.{concat};
 ghost use Rattle.upload_names.specs.Running.{HoldsIfCarried};
-ghost use Rattle.upload_names.specs.Hashing.{Stands, StandsFor};
+ghost use Rattle.upload_names.specs.Hashing.{StandsFor};
 
 use crate::digest::Algorithm;
 use crate::hashing::{HashPlace, Hashing, Running};
@@ -271,7 +271,7 @@ impl BodyBuilder {
 
 /// Has a hash take parts in.
 fn hash_on<P: HashPlace>(place: &P, alloc: Global, hash: Hashing, parts: &[Part]) -> Option<Hashing>
-    ensures { (bytes : List ℕ) → Stands hash bytes
+    ensures { (bytes : List ℕ) → StandsFor (Some hash) bytes
         → StandsFor result (bytes ++ concat parts.now) }
 {
     place.go_on(alloc, hash, parts)

@@ -6,6 +6,7 @@
 mod body;
 mod bytes;
 mod digest;
+mod hash_end;
 mod hashing;
 mod name;
 mod part;
@@ -15,6 +16,7 @@ mod reference;
 pub use body::{Body, BodyBuilder, Pieces};
 pub use bytes::Bytes;
 pub use digest::{Algorithm, BlobDigest, DigestText, NotADigest, digests_are_decided};
+pub use hash_end::HashEnd;
 pub use hashing::{Away, Behind, HashPlace, Hashing, InPlace, InThreads, Running};
 pub use name::{NameFault, RepoName, names_are_decided};
 pub use part::{Part, share_all, share_into, take_in};

@@ -1,7 +1,6 @@
 -- What the tables, the segments and the hashes of a service stand for. Nothing here is part of what it promises.
 pub mod Blobs
 pub mod Entries
-pub mod Hashes
 pub mod Holders
 pub mod Parts
 pub mod Running

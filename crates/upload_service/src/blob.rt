@@ -3,8 +3,7 @@ ghost use Rattle.std.specs.Prelude.{◌≡◌, ◌+◌, ◌<◌, ◌^◌, ◌++�
 ghost use Rattle.upload_service.specs.Kept.Parts.{whole};
 ghost use Rattle.upload_service.specs.Kept.Blobs.{body_in};
 
-use crate::running::size_of;
-use crate::segments::Segments;
+use crate::segments::{Segments, size_of};
 use crate::shared::BlobBytes;
 use std::alloc::{AllocError, Global};
 use std::marker::Model;

@@ -5,25 +5,22 @@
 
 pub use answer::{Answer, Form, Refusal};
 pub use ask::{Ask, Extent};
-pub use hash_end::HashEnd;
 pub use laws::{
     headline_holds, headline_rules_out, openings_meet_the_table, others_leave_a_session,
 };
 pub use limits::Limits;
 pub use service::Service;
 pub use shared::BlobBytes;
+pub use upload_names::HashEnd;
 
 mod answer;
 mod ask;
 mod blob;
-mod either_hash;
-mod hash_end;
 mod holders;
 mod laws;
 mod limits;
 mod prefix_hash;
 mod received;
-mod running;
 mod segments;
 mod service;
 mod sessions;

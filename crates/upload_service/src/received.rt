@@ -6,15 +6,13 @@ ghost use Rattle.upload_names.specs.Digest.{HasDigest};
 ghost use Rattle.std.specs.List.{concat};
 ghost use Rattle.upload_service.specs.Kept.Parts.{whole};
 
-use crate::either_hash::EitherHash;
-use crate::hash_end::HashEnd;
 use crate::prefix_hash::PrefixHash;
 use crate::segments::Segments;
 use sha2::Digest;
 use std::alloc::{AllocError, Global};
 use std::marker::Model;
 use std::thread::Threads;
-use upload_names::{Algorithm, BlobDigest, Body};
+use upload_names::{Algorithm, BlobDigest, Body, HashEnd, Running};
 
 /// The bytes that a session received, and two hashes that each hold a prefix of them. `catch_up` and `catch_up_beside`
 /// have the SHA-256 take in what came since, so that a close has little left to hash. The SHA-512 catches up only when
@@ -73,7 +71,7 @@ impl Received {
         self.segments.append(body)?;
         if let Some(hash) = carried {
             if first && self.segments.tail().is_empty() {
-                let hash = EitherHash::Sha256(hash);
+                let hash = Running::Sha256(hash);
                 self.sha256 = PrefixHash::of_all(hash, self.segments.settled());
             }
         }
@@ -162,8 +160,8 @@ impl Received {
         }
         let settled = self.segments.settled();
         match self.sha256.of_settled(Algorithm::Sha256, settled) {
-            EitherHash::Sha256(hash) => finish(hash, &self.segments, body),
-            EitherHash::Sha512(_) => unreachable!(),
+            Running::Sha256(hash) => finish(hash, &self.segments, body),
+            Running::Sha512(_) => unreachable!(),
         }
     }
 
@@ -179,8 +177,8 @@ impl Received {
         }
         let settled = self.segments.settled();
         match self.sha512.of_settled(Algorithm::Sha512, settled) {
-            EitherHash::Sha512(hash) => finish(hash, &self.segments, body),
-            EitherHash::Sha256(_) => unreachable!(),
+            Running::Sha512(hash) => finish(hash, &self.segments, body),
+            Running::Sha256(_) => unreachable!(),
         }
     }
 

@@ -1,7 +1,7 @@
 //! Bodies one after another. Each is kept as it came, moved in and not copied, but that small ones are joined
 //! into one segment, so that a session which is fed a byte at a time takes little more than its bytes.
-ghost use Rattle.std.specs.Prelude.{◌≡◌, ◌+◌, ◌<◌, ◌≤◌, ◌^◌, ◌++◌, ◌∷◌, [], ℕ, List, length, take, vec_len};
-ghost use Rattle.std.specs.Prelude.{vec_capacity, IfOk, OnOk, OnErr};
+ghost use Rattle.std.specs.Prelude.{◌≡◌, ◌+◌, ◌-◌, ◌<◌, ◌≤◌, ◌^◌, ◌++◌, ◌∷◌, [], ℕ, List, length, take, min};
+ghost use Rattle.std.specs.Prelude.{vec_len, vec_capacity, IfOk, OnOk, OnErr};
 ghost use Rattle.std.specs.List.{concat};
 ghost use Rattle.upload_names.specs.Body.{bytes_in};
 ghost use Rattle.upload_service.specs.Kept.Parts.{with_part, whole};
@@ -214,4 +214,15 @@ fn settle_all(settled: &mut Vec<Part>, parts: Vec<Part>)
             Err(_) => unreachable!(),
         }
     }
+}
+
+/// How many bytes these parts have, or the greatest number there is if they have more.
+pub fn size_of(parts: &[Part]) -> u64
+    ensures { result ≡ min (length (concat parts.now)) (2 ^ 64 - 1) }
+{
+    let mut size: u64 = 0;
+    for part in parts {
+        size = size.saturating_add(part.as_slice().len() as u64);
+    }
+    size
 }

@@ -8,7 +8,6 @@ ghost use Rattle.upload_service.specs.Headline.{Headline};
 
 use crate::answer::Answer;
 use crate::ask::Ask;
-use crate::hash_end::HashEnd;
 use crate::limits::Limits;
 use crate::sessions::Sessions;
 use crate::slack::Slack;
@@ -17,7 +16,7 @@ use crate::turn::{Tables, Verdict, judge, turn};
 use std::alloc::{AllocError, Global};
 use std::marker::Model;
 use std::thread::Threads;
-use upload_names::{Algorithm, BlobDigest, RepoName, UploadRef};
+use upload_names::{Algorithm, BlobDigest, HashEnd, RepoName, UploadRef};
 
 /// The upload service: the open sessions, the stored blobs, and which repository has which blob. It and its
 /// limits are lawful wherever it is held.

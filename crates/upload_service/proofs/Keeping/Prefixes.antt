@@ -4,18 +4,19 @@ use Rattle.std.proofs.lemmas.List.{nil_from_length, take-take}
 use Rattle.std.proofs.Math.Seq.{take-length}
 use Rattle.upload_names.specs.declared.digest.Algorithm.{Algorithm as By}
 use Rattle.upload_service.specs.declared.prefix_hash.PrefixHash.{PrefixHash}
-use Rattle.upload_service.specs.declared.running.Running.{Running}
+use Rattle.upload_names.specs.declared.hashing.Hashing.{Hashing}
+use Rattle.upload_names.specs.Hashing.{StandsBy}
 use Rattle.std.specs.List.{concat}
 use Rattle.upload_service.specs.Kept.Parts.{Parts, whole}
-use Rattle.upload_service.specs.Kept.Running.{RunningHolds, HoldsPrefix}
+use Rattle.upload_service.specs.Kept.Running.{HoldsPrefix}
 use Rattle.upload_names.proofs.Parts.{concat-take_rest}
 
 -- it took in all behind those that it held
-pub holds_all : (by : By) (settled : List (List ℕ)) (held : ℕ) (new : Running)
-    → RunningHolds by new (concat (take held settled) ++ concat (take (length settled - held) (drop held settled)))
+pub holds_all : (by : By) (settled : List (List ℕ)) (held : ℕ) (new : Hashing)
+    → StandsBy by new (concat (take held settled) ++ concat (take (length settled - held) (drop held settled)))
     → HoldsPrefix by settled (record { running = new; held = length settled })
 holds_all by settled held new rest = record {
-  holds = subst (RunningHolds by new) (concat-take_rest held settled ∙ ap concat (sym (take-length settled))) rest;
+  holds = subst (StandsBy by new) (concat-take_rest held settled ∙ ap concat (sym (take-length settled))) rest;
   within = omega arith;
 }
 
@@ -27,7 +28,7 @@ holds_of_more by old new hash front longer h =
     ap (take hash.held) (sym front) ∙ take-take hash.held (length old) new h.within in
     let within = h.within in
     record {
-      holds = subst (λ (p : List (List ℕ)). RunningHolds by hash.running (concat p)) same h.holds;
+      holds = subst (λ (p : List (List ℕ)). StandsBy by hash.running (concat p)) same h.holds;
       within = omega (arith, within, longer);
     }
 

@@ -1,7 +1,7 @@
 use Rattle.std.proofs.Common.{List, ℕ, take, subst}
-use Rattle.upload_service.specs.declared.running.Running.TheVariants.{Here}
+use Rattle.upload_names.specs.declared.hashing.Hashing.TheVariants.{Here}
 use Rattle.std.specs.List.{concat}
-use Rattle.upload_service.specs.Kept.Running.{RunningHolds}
+use Rattle.upload_names.specs.Hashing.{StandsBy}
 use Rattle.upload_service.proofs.Keeping.Prefixes.{holds_all}
 use Rattle.upload_service.proofs.prefix_hash.PrefixHash.catch_up.Goals as goal
 
@@ -11,4 +11,4 @@ returns-in-Here-clause-prefix c = λ by before.
     let held : ℕ = c.args.self.now.held in
     holds_all by settled held (Here c.take_in.new.self)
     (c.take_in.ensures by (concat (take held settled))
-    (subst (λ r. RunningHolds by r (concat (take held settled))) c.in-Here.is before.holds))
+    (subst (λ r. StandsBy by r (concat (take held settled))) c.in-Here.is before.holds))

@@ -1,6 +1,6 @@
 use Rattle.std.proofs.Common.{List, ℕ, take, drop, length, ◌++◌, ◌-◌, sym, subst}
 use Rattle.std.specs.List.{concat}
-use Rattle.upload_service.specs.Kept.Running.{RunningHolds}
+use Rattle.upload_names.specs.Hashing.{StandsBy}
 use Rattle.upload_service.proofs.Keeping.Prefixes.{holds_all}
 use Rattle.upload_service.proofs.prefix_hash.PrefixHash.catch_up_beside.Goals as goal
 
@@ -10,7 +10,7 @@ returns g c = λ by before.
     let held : ℕ = c.args.self.now.held in
     let front : List ℕ = concat (take held settled) in
     holds_all by settled held c.go_on.result
-    (subst (λ (n : ℕ). RunningHolds by c.go_on.result (front ++ concat (take (length settled - n) (drop n settled))))
+    (subst (λ (n : ℕ). StandsBy by c.go_on.result (front ++ concat (take (length settled - n) (drop n settled))))
     c.take_running-running.ensures.held
     (c.go_on.ensures by front
-    (subst (λ r. RunningHolds by r front) (sym c.take_running-running.ensures.taken) before.holds)))
+    (subst (λ r. StandsBy by r front) (sym c.take_running-running.ensures.taken) before.holds)))

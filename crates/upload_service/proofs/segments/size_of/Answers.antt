@@ -2,7 +2,7 @@ use Rattle.std.proofs.Common.{◌≡◌, ◌+◌, List, ℕ, length, ap, sym, �
 use Rattle.std.proofs.lemmas.List.{length-append}
 use Rattle.std.specs.List.{concat}
 use Rattle.upload_names.proofs.Parts.{concat-take_next}
-use Rattle.upload_service.proofs.running.size_of.Goals as goal
+use Rattle.upload_service.proofs.segments.size_of.Goals as goal
 
 pub loop-part-preserved : goal.loop-part-preserved
 loop-part-preserved c =
