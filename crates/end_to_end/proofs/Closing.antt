@@ -9,10 +9,13 @@ use Rattle.upload_service.specs.Run.{NeverBefore, NeverFall, Run}
 use Rattle.upload_service.specs.Session.{received}
 use Rattle.upload_service.specs.declared.answer.Answer.{Answer}
 use Rattle.upload_service.specs.declared.answer.Answer.TheVariants as answers
+use Rattle.upload_service.specs.declared.answer.Refusal.{Refusal}
 use Rattle.upload_service.specs.declared.answer.Refusal.TheVariants as refusals
 use Rattle.upload_service.specs.declared.ask.Ask.{Ask}
 use Rattle.upload_service.specs.declared.ask.Ask.TheVariants as asks
 use Rattle.upload_service.specs.declared.ask.Extent.TheVariants.{Absent}
+use Rattle.http_wire.specs.HeadText.{status_number}
+use Rattle.upload_texts.specs.Errors.{refusal_status}
 use Rattle.upload_client.specs.Heard.{reply_heard}
 use Rattle.upload_client.specs.declared.heard.Heard.{Heard}
 use Rattle.upload_intake.specs.Log.{Step}
@@ -68,30 +71,17 @@ status_told answer h status reaches is =
       | inr told ↦ sym (ap (λ (x : Heard). x.status) (same_inside told.1)) ∙ is
     ]
 
--- nothing but a blob that was stored is answered 201
+-- no refusal is answered 201
+no_refusal : (refusal : Refusal) → status_number (refusal_status refusal) ≡ 201 → ⊥
+no_refusal refusals.NoForm is = omega (arith, is)
+no_refusal other is = omega (arith, is)
+
+-- nothing but a blob that was stored is answered so
 stored_is : (answer : Answer) → (reply_heard answer).status ≡ 201
     → (name : List ℕ) × (digest : Digest) × (answer ≡ answers.Stored name digest)
 stored_is (answers.Stored name digest) is = (name, digest, refl)
-stored_is answers.Base is = absurd (omega (arith, is))
-stored_is (answers.Blob digest size bytes) is = absurd (omega (arith, is))
-stored_is (answers.Begun name at) is = absurd (omega (arith, is))
-stored_is (answers.Taken name at next) is = absurd (omega (arith, is))
-stored_is (answers.Standing name at next) is = absurd (omega (arith, is))
-stored_is (answers.Misplaced name at next) is = absurd (omega (arith, is))
-stored_is (answers.Refused refusals.NoForm) is = absurd (omega (arith, is))
-stored_is (answers.Refused refusals.BadName) is = absurd (omega (arith, is))
-stored_is (answers.Refused (refusals.Method form)) is = absurd (omega (arith, is))
-stored_is (answers.Refused refusals.NoUpload) is = absurd (omega (arith, is))
-stored_is (answers.Refused refusals.BadRange) is = absurd (omega (arith, is))
-stored_is (answers.Refused refusals.WrongLength) is = absurd (omega (arith, is))
-stored_is (answers.Refused refusals.TooLarge) is = absurd (omega (arith, is))
-stored_is (answers.Refused refusals.NoDigest) is = absurd (omega (arith, is))
-stored_is (answers.Refused refusals.Mismatch) is = absurd (omega (arith, is))
-stored_is (answers.Refused refusals.HasBody) is = absurd (omega (arith, is))
-stored_is (answers.Refused refusals.TooMany) is = absurd (omega (arith, is))
-stored_is (answers.Refused refusals.NoBlob) is = absurd (omega (arith, is))
-stored_is (answers.Refused refusals.BadDigest) is = absurd (omega (arith, is))
-stored_is answers.NoMemory is = absurd (omega (arith, is))
+stored_is (answers.Refused refusal) is = absurd (no_refusal refusal is)
+stored_is other is = absurd (omega (arith, is))
 
 -- ---- what the upload had received
 

@@ -1,5 +1,5 @@
 -- The texts of requests, from the pieces that are written.
-use Rattle.std.proofs.Common.{◌≡◌, ℕ, List, [], ◌++◌, append_assoc, ap, refl, ◌∙◌}
+use Rattle.std.proofs.Common.{◌≡◌, ℕ, List, [], ◌++◌, append_assoc, refl}
 use Rattle.std.specs.Prelude.{Option, Some, codes, decimal, flat_map}
 use Rattle.std.proofs.lemmas.List.{append-nil}
 use Rattle.std.proofs.lemmas.Grind.{flat_map-append}
@@ -7,11 +7,13 @@ use Rattle.upload_names.specs.Digest.{Digest}
 use Rattle.upload_names.specs.ByteRange.{Span}
 use Rattle.upload_names.specs.Reference.{reference_text}
 use Rattle.upload_service.specs.declared.ask.Ask.{Ask}
-use Rattle.upload_service.specs.declared.ask.Ask.TheVariants.{Single, Mount, Chunk, Status, Close}
+use Rattle.upload_service.specs.declared.ask.Ask.TheVariants.{Single, Mount, Chunk, Close}
 use Rattle.upload_service.specs.declared.ask.Extent.{Extent}
 use Rattle.upload_service.specs.declared.ask.Extent.TheVariants.{Given}
-use Rattle.upload_client.specs.AskText.{message_of, request_line, query_text, digest_or_nothing, digest_query}
-use Rattle.upload_client.specs.AskText.{section_text, content_range_fields, ask_body_fields, ask_text, host_text}
+use Rattle.upload_client.specs.AskText.{bare_message, message_of, request_line, query_text, digest_or_nothing}
+use Rattle.upload_client.specs.AskText.{digest_query, section_text, content_range_fields, ask_body_fields, ask_text}
+use Rattle.upload_client.specs.AskText.{host_text}
+use Rattle.upload_texts.specs.Paths.{upload_path}
 use Rattle.http_wire.specs.HeadText.{print_field}
 
 pub single_line : (name : List ℕ) (digest : Option Digest) (body : List ℕ)
@@ -26,21 +28,16 @@ pub mount_put : (before name : List ℕ) (digest : Digest) (source : List ℕ)
     ≡ before ++ request_line (message_of (Mount name digest source))
 mount_put before name digest source = simp append_assoc
 
-pub chunk_line : (name at : List ℕ) (range : Extent) (body text : List ℕ) → text ≡ reference_text at
-    → codes "PATCH" ++ (codes " /v2/" ++ (name ++ (codes "/blobs/uploads/" ++ text)))
-    ≡ request_line (message_of (Chunk name at range body))
-chunk_line name at range body text e = rw e (simp (append_assoc, append-nil))
+pub upload_line : (method name at text : List ℕ) → text ≡ reference_text at
+    → method ++ (codes " /v2/" ++ (name ++ (codes "/blobs/uploads/" ++ text)))
+    ≡ request_line (bare_message method (upload_path name (reference_text at)))
+upload_line method name at text e = rw e (simp (append_assoc, append-nil))
 
-pub status_line : (name at text : List ℕ) → text ≡ reference_text at
-    → codes "GET" ++ (codes " /v2/" ++ (name ++ (codes "/blobs/uploads/" ++ text)))
-    ≡ request_line (message_of (Status name at))
-status_line name at text e = rw e (simp (append_assoc, append-nil))
-
-pub close_line : (before name at : List ℕ) (range : Extent) (digest : Option Digest) (body text : List ℕ) → text
-    ≡ reference_text at → (before ++ (codes "PUT" ++ (codes " /v2/" ++ (name ++ (codes "/blobs/uploads/" ++ text)))))
+pub close_line : (before name at : List ℕ) (range : Extent) (digest : Option Digest) (body : List ℕ)
+    → (before ++ request_line (bare_message (codes "PUT") (upload_path name (reference_text at))))
     ++ query_text (digest_query digest)
     ≡ before ++ request_line (message_of (Close name at range digest body))
-close_line before name at range digest body text e = rw e (simp append_assoc)
+close_line before name at range digest body = simp (append_assoc, append-nil)
 
 pub range_text_is : (before : List ℕ) (range : Span) (first last : ℕ) → first ≡ range.first → last ≡ range.last
     → ((((before ++ codes "Content-Range: ") ++ decimal first) ++ codes "-") ++ decimal last) ++ codes "\r\n"
@@ -57,12 +54,8 @@ pub whole_text : (ask : Ask) (host body : List ℕ) → body ≡ (message_of ask
     ≡ ask_text ask host
 whole_text ask host body e = rw e (simp append_assoc)
 
-pub whole_chunk : (name at : List ℕ) (range : Extent) (body host text : List ℕ) → text ≡ reference_text at
-    → (([] ++ (codes "PATCH" ++ (codes " /v2/" ++ (name ++ (codes "/blobs/uploads/" ++ text))))) ++ host_text host)
+pub whole_chunk : (name at : List ℕ) (range : Extent) (body host : List ℕ)
+    → (([] ++ request_line (bare_message (codes "PATCH") (upload_path name (reference_text at)))) ++ host_text host)
     ++ section_text (content_range_fields range ++ ask_body_fields body) ++ body
     ≡ ask_text (Chunk name at range body) host
-whole_chunk name at range body host text e =
-    ap (λ (line : List ℕ). (([] ++ line) ++ host_text host)
-    ++ section_text (content_range_fields range ++ ask_body_fields body) ++ body)
-    (chunk_line name at range body text e)
-    ∙ whole_text (Chunk name at range body) host body refl
+whole_chunk name at range body host = whole_text (Chunk name at range body) host body refl

@@ -4,13 +4,16 @@ ghost use Rattle.std.specs.Prelude.{flat_map};
 ghost use Rattle.http_wire.specs.Writing.{Wrote};
 ghost use Rattle.http_wire.specs.Inner.Gathering.{Puts};
 ghost use Rattle.upload_client.specs.AskText.{CanBeWritten, IsAbsentOrGiven, ask_of_chunk, ask_text, ask_body_fields};
+ghost use Rattle.upload_client.specs.AskText.{bare_message};
 ghost use Rattle.upload_client.specs.AskText.{digest_or_nothing, digest_query, host_text, is_host, look_method};
 ghost use Rattle.upload_client.specs.AskText.{message_of, query_text, content_range_fields, request_line, section_text};
 ghost use Rattle.http_wire.specs.HeadText.{print_field};
+ghost use Rattle.upload_names.specs.Reference.{reference_text};
+ghost use Rattle.upload_texts.specs.Paths.{upload_path};
 
 use crate::transport::LentChunk;
 use http_wire::{ByteSink, Gather, WriteFault};
-use upload_names::{BlobDigest, Body, RepoName};
+use upload_names::{BlobDigest, Body, RepoName, UploadRef};
 use upload_service::{Ask, Extent};
 use upload_texts::put_parts;
 
@@ -48,13 +51,7 @@ pub(crate) fn write_chunk<W: ByteSink>(
     ensures flushed { OnOk result (IsTrue ((W.state writer.new).flushed)) }
 {
     let mut head = Gather::new();
-    let text = chunk.at.text();
-    let upload = Target {
-        name: chunk.name,
-        kind: b"/blobs/uploads/",
-        behind: &text,
-    };
-    put_target(&mut head, writer, b"PATCH", upload);
+    put_upload(&mut head, writer, b"PATCH", chunk.name, &chunk.at);
     put_host(&mut head, writer, host);
     put_upload_section(&mut head, writer, &chunk.range, chunk.body.len());
     head.finish(writer, chunk.body)
@@ -146,37 +143,15 @@ fn put_request_line<W: ByteSink>(head: &mut Gather, writer: &mut W, ask: &Ask)
             put_target(head, writer, b"POST", uploads);
             put_mounted(head, writer, digest, source)
         }
-        Ask::Chunk { name, at, .. } => {
-            let text = at.text();
-            let upload = Target {
-                name,
-                kind: b"/blobs/uploads/",
-                behind: &text,
-            };
-            put_target(head, writer, b"PATCH", upload)
-        }
-        Ask::Status { name, at } => {
-            let text = at.text();
-            let upload = Target {
-                name,
-                kind: b"/blobs/uploads/",
-                behind: &text,
-            };
-            put_target(head, writer, b"GET", upload)
-        }
+        Ask::Chunk { name, at, .. } => put_upload(head, writer, b"PATCH", name, at),
+        Ask::Status { name, at } => put_upload(head, writer, b"GET", name, at),
         Ask::Close {
             name,
             at,
             digest,
             ..
         } => {
-            let text = at.text();
-            let upload = Target {
-                name,
-                kind: b"/blobs/uploads/",
-                behind: &text,
-            };
-            put_target(head, writer, b"PUT", upload);
+            put_upload(head, writer, b"PUT", name, at);
             put_query(head, writer, digest)
         }
         Ask::Refused(_) => unreachable!(),
@@ -201,6 +176,26 @@ fn put_target<W: ByteSink>(head: &mut Gather, writer: &mut W, method: &[u8], tar
     head.put(writer, target.name.as_str().as_bytes());
     head.put(writer, target.kind);
     head.put(writer, target.behind);
+}
+
+/// Puts a method and the path of an upload.
+fn put_upload<W: ByteSink>(
+    head: &mut Gather,
+    writer: &mut W,
+    method: &[u8],
+    name: &RepoName,
+    at: &UploadRef,
+)
+    ensures { Puts (W.state writer.old) head.old (W.state writer.new) head.new
+        (request_line (bare_message method.now (upload_path name.now (reference_text at.now)))) }
+{
+    let text = at.text();
+    let upload = Target {
+        name,
+        kind: b"/blobs/uploads/",
+        behind: &text,
+    };
+    put_target(head, writer, method, upload)
 }
 
 /// Puts the line of a single POST.

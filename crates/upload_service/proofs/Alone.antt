@@ -15,8 +15,8 @@ use Rattle.upload_service.proofs.Claims.{AnsweredAsAlone}
 use Rattle.upload_service.specs.Run.{Exchange, NeverBefore, Run}
 use Rattle.upload_service.specs.Session.{carries, begins, is_part, part}
 use Rattle.upload_service.specs.Alone.{Life, life_of, life_in, alone_answer, alone_after, alone, lacks_memory, told}
-use Rattle.upload_service.proofs.Steps.{IsOutcome, outcome_sound}
-use Rattle.upload_service.proofs.Effects.{has_memory}
+use Rattle.upload_service.proofs.Steps.{outcome_sound}
+use Rattle.upload_service.proofs.Effects.{IsOutcome}
 use Rattle.upload_service.proofs.Turns.{IsNumbered, numbered_after, Fits, fits_by, others_leave, Own, own_by_reference}
 use Rattle.upload_service.proofs.Turns.{own_by_opening}
 
@@ -96,7 +96,7 @@ by_own limits at x xs s mid t life m n e d p own later rest more =
     let o : Outcome = outcome s x.ask x.secret x.now in
     one_more limits at life x xs
     (told_own x xs at p
-    (ap lacks_memory e ∙ has_memory s x.ask x.secret x.now o (outcome_sound s x.now x.ask x.secret)))
+    (ap lacks_memory e ∙ (outcome_sound s x.now x.ask x.secret).has_memory))
     (e ∙ own.told ∙ ap (λ (k : Limits). alone_answer k at life x.ask x.now) m)
     (more mid t x.now _ (ap (λ q. q.limits) d ∙ m) n later rest
     (subst (λ (k : Limits). Fits mid x.now at (alone_after k life x.ask x.now)) m

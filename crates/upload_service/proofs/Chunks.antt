@@ -19,8 +19,8 @@ use Rattle.upload_service.specs.Session.{carries, is_same, begins, is_part, part
 use Rattle.upload_service.specs.Session.{accepted, taken, joined_chunks, bytes_of, received}
 use Rattle.upload_service.proofs.Keeping.Tables.{one_or_two, get-insert_same, get-insert_other, get-remove_same}
 use Rattle.upload_service.proofs.Keeping.Tables.{get-remove_other, same_from_eq, same_from_ne}
-use Rattle.upload_service.proofs.Steps.{outcome_sound, None≢Some}
-use Rattle.upload_service.proofs.Effects.{FitsChange, turn_fits, state_with, not_accepted}
+use Rattle.upload_service.proofs.Steps.{outcome_sound, None≢Some, turn_fits}
+use Rattle.upload_service.proofs.Effects.{FitsChange, state_with, not_accepted}
 use Rattle.upload_service.proofs.Sweeps.{kept_or_left, none_there}
 use Rattle.upload_service.proofs.Turns.{IsNumbered, numbered_after, IsGone, not_new}
 

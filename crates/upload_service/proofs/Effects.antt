@@ -1,23 +1,88 @@
--- What is known of a request and its answer by what its outcome changes, so that few proofs go through all outcomes.
-use Rattle.std.proofs.Common.{◌≡◌, ℕ, List, [], Bool, true, false, Option, Some, None, refl, sym, ◌∙◌, ap}
-use Rattle.std.proofs.Common.{subst, ◌⊎◌, inl, inr, length}
-use Rattle.std.specs.Prelude.{◌&&◌, is_some, if◌then◌else◌}
+-- What an outcome says of the request and the state that it came from, by what it changes and what it answers: so no
+-- proof behind `Steps` goes through all outcomes.
+use Rattle.std.proofs.Common.{◌≡◌, ◌≢◌, ℕ, ◌+◌, ◌<◌, ◌≤◌, List, [], ◌++◌, length, Bool, true, false, Option, Some, None}
+use Rattle.std.proofs.Common.{refl, sym, ◌∙◌, ap, ◌⊎◌}
+use Rattle.std.specs.Prelude.{◌&&◌, if◌then◌else◌}
 use Rattle.std.proofs.lemmas.Bool.{true≢false}
-use Rattle.upload_names.specs.Digest.{Digest}
+use Rattle.std.specs.FinMap as map
+use Rattle.upload_names.specs.Digest.{Digest, HasDigest}
+use Rattle.upload_names.specs.Reference.{reference}
 use Rattle.upload_service.specs.declared.ask.Ask.{Ask}
+use Rattle.upload_service.specs.declared.ask.Ask.TheVariants as asks
 use Rattle.upload_service.specs.declared.ask.Extent.{Extent}
 use Rattle.upload_service.specs.declared.answer.Answer.{Answer}
 use Rattle.upload_service.specs.declared.answer.Answer.TheVariants as answers
 use Rattle.upload_service.specs.UploadView.{act_view, UploadView, OfSession, Opens, WholeBlob, Unrelated, upload_view}
-use Rattle.upload_service.specs.UploadView.{on_session, answer_view}
-use Rattle.upload_service.specs.Machine.{same, State, Outcome, Replies, Begins, Takes, Commits, Stores, Mounts}
-use Rattle.upload_service.specs.Machine.{SessionChange, AllStay, OneBegins, OneTakes, OneLeaves, effect, answer_of}
-use Rattle.upload_service.specs.Machine.{issued_with, sessions_with, outcome}
+use Rattle.upload_service.specs.UploadView.{on_session, opened_under, answer_view}
+use Rattle.upload_service.specs.Machine.{same, is_idle, awake, all_awake, Session, State, Outcome, SessionChange}
+use Rattle.upload_service.specs.Machine.{AllStay, OneBegins, OneTakes, OneLeaves, effect, answer_of, issued_with}
+use Rattle.upload_service.specs.Machine.{sessions_with, last_number, holds}
 use Rattle.upload_service.specs.Session.{carries, is_taken, is_stored, chunk_if, accepted_of, closed_by, closes_of}
 use Rattle.upload_service.specs.Alone.{lacks_memory}
+use Rattle.upload_service.specs.Headline.{aim_of}
 use Rattle.upload_service.proofs.UploadView.{on_each}
-use Rattle.upload_service.proofs.Steps.{Found, IsMisplaced, IsBlob, IsBegun, IsTaken, IsCommit, IsStore, IsMount}
-use Rattle.upload_service.proofs.Steps.{IsOutcome, outcome_sound}
+
+-- ---- what is said of each change
+
+-- the session that a request names: open and not idle, and under that name
+pub record Found (s : State) (now : ℕ) (name at : List ℕ) : Type 0 where
+  pub session : Session
+  pub is_awake : awake s now at ≡ Some session
+  pub is_open : map.get s.sessions at ≡ Some session
+  pub not_idle : is_idle s.limits.max_idle now session ≡ false
+  pub named : session.name ≡ name
+
+pub record IsMisplaced (s : State) (now : ℕ) (ask : Ask) (name at : List ℕ) (next : ℕ) : Type 0 where
+  pub found : Found s now name at
+  pub first : ℕ
+  pub aimed : aim_of ask ≡ Some (record { name = name; at = at; first = first })
+  pub is_next : next ≡ length found.session.received
+  pub missed : first ≢ next
+
+pub record IsBlob (s : State) (ask : Ask) (digest : Digest) (size : ℕ) (bytes : Option (List ℕ)) : Type 0 where
+  pub name : List ℕ
+  pub head : Bool
+  pub blob : List ℕ
+  pub asked : ask ≡ asks.Has name digest head
+  pub held : holds s name digest ≡ true
+  pub is_stored : map.get s.blobs digest ≡ Some blob
+  pub is_size : size ≡ length blob
+  pub is_bytes : bytes ≡ (if head then None else Some blob)
+
+abbrev pub AsksToBegin : List ℕ → Ask → Type 0
+AsksToBegin name ask = opened_under (upload_view ask) ≡ Some name
+
+pub record IsBegun (s : State) (ask : Ask) (secret : List ℕ) (now : ℕ) (name at : List ℕ) : Type 0 where
+  pub asked : AsksToBegin name ask
+  pub is_new : at ≡ reference (s.issued + 1) secret
+  pub numbers_left : s.issued < last_number
+  pub room : map.len (all_awake s now) < s.limits.max_open
+
+pub record IsTaken (s : State) (now : ℕ) (ask : Ask) (name at received : List ℕ) : Type 0 where
+  pub found : Found s now name at
+  pub range : Extent
+  pub body : List ℕ
+  pub asked : ask ≡ asks.Chunk name at range body
+  pub grown : received ≡ found.session.received ++ body
+  pub small : length received ≤ s.limits.max_blob
+
+pub record IsCommit (s : State) (now : ℕ) (ask : Ask) (name at : List ℕ) (digest : Digest)
+    (blob : List ℕ) : Type 0 where
+  pub found : Found s now name at
+  pub range : Extent
+  pub body : List ℕ
+  pub asked : ask ≡ asks.Close name at range (Some digest) body
+  pub grown : blob ≡ found.session.received ++ body
+  pub own_digest : HasDigest blob digest
+
+pub record IsStore (s : State) (ask : Ask) (name : List ℕ) (digest : Digest) (blob : List ℕ) : Type 0 where
+  pub asked : ask ≡ asks.Single name (Some digest) blob
+  pub own_digest : HasDigest blob digest
+
+pub record IsMount (s : State) (ask : Ask) (name : List ℕ) (digest : Digest) : Type 0 where
+  pub source : List ℕ
+  pub asked : ask ≡ asks.Mount name digest source
+  pub held : holds s source digest ≡ true
 
 -- ---- what an answer says that isn't Taken or Stored
 
@@ -46,7 +111,7 @@ not_accepted ask answer t s =
     ∙ chunk_if_not (act_view act).chunk)
 
 -- no session was closed
-pub not_closed : (at : List ℕ) (ask : Ask) (answer : Answer) → is_stored answer ≡ false
+pub not_closed : (at : List ℕ) (ask : Ask) (answer : Answer) → (answer_view answer).closed ≡ false
     → closes_of at ask answer ≡ false
 not_closed at ask answer s =
     on_each (λ b. b ≡ false) (upload_view ask) false _ refl (λ name to act.
@@ -99,49 +164,6 @@ FitsChange s ask secret now answer (OneTakes name at received) =
     IsTaken s now ask name at received × (answer ≡ answers.Taken name at (length received))
 FitsChange s ask secret now answer (OneLeaves at) = Removes s now ask answer at
 
-pub change_fits : (s : State) (ask : Ask) (secret : List ℕ) (now : ℕ) (o : Outcome) → IsOutcome s ask secret now o
-    → FitsChange s ask secret now (answer_of o) (effect o).sessions
-change_fits s ask secret now (Replies answer) f =
-    record {
-      begins_none = f.begins_none;
-      took_none = f.took_none;
-      accepts_none = not_accepted ask answer f.took_none (ap is_some f.stored_none);
-      closes_none = λ at. not_closed at ask answer (ap is_some f.stored_none);
-    }
-change_fits s ask secret now (Begins name at) f = (f, refl)
-change_fits s ask secret now (Takes name at received) f = (f, refl)
-change_fits s ask secret now (Commits name at digest blob) f =
-    record {
-      name = name;
-      found = f.found;
-      carried = λ to. ap (carries to) f.asked;
-      begins_none = refl;
-      took_none = refl;
-    }
-change_fits s ask secret now (Stores name digest blob) f =
-    record {
-      begins_none = refl;
-      took_none = refl;
-      accepts_none = ap (λ a. accepted_of a (answers.Stored name digest)) f.asked;
-      closes_none = λ at. ap (λ a. closes_of at a (answers.Stored name digest)) f.asked;
-    }
-change_fits s ask secret now (Mounts name digest) f =
-    record {
-      begins_none = refl;
-      took_none = refl;
-      accepts_none = ap (λ a. accepted_of a (answers.Stored name digest)) f.asked;
-      closes_none = λ at. ap (λ a. closes_of at a (answers.Stored name digest)) f.asked;
-    }
-
--- the same of a turn whose answer is its outcome's
-pub turn_fits : (s : State) (ask : Ask) (secret : List ℕ) (now : ℕ) (answer : Answer)
-    → answer ≡ answer_of (outcome s ask secret now)
-    → FitsChange s ask secret now answer (effect (outcome s ask secret now)).sessions
-turn_fits s ask secret now answer e =
-    let o : Outcome = outcome s ask secret now in
-    subst (λ a. FitsChange s ask secret now a (effect o).sessions) (sym e)
-    (change_fits s ask secret now o (outcome_sound s now ask secret))
-
 -- ---- the blobs and the pairs
 
 -- a blob is stored by a commit or as a whole, and under the pair that its repository gets; a pair alone, by a mount
@@ -152,51 +174,18 @@ FitsStore s now ask None (Some (name, digest)) = IsMount s ask name digest
 FitsStore s now ask (Some (of, blob)) (Some (name, digest)) =
     (of ≡ digest) × (((at : List ℕ) × IsCommit s now ask name at digest blob) ⊎ IsStore s ask name digest blob)
 
-pub store_fits : (s : State) (ask : Ask) (secret : List ℕ) (now : ℕ) (o : Outcome) → IsOutcome s ask secret now o
-    → FitsStore s now ask (effect o).blob (effect o).pair
-store_fits s ask secret now (Replies answer) f = tt
-store_fits s ask secret now (Begins name at) f = tt
-store_fits s ask secret now (Takes name at received) f = tt
-store_fits s ask secret now (Commits name at digest blob) f = (refl, inl (at, f))
-store_fits s ask secret now (Stores name digest blob) f = (refl, inr f)
-store_fits s ask secret now (Mounts name digest) f = f
+-- ---- an outcome
 
--- the answer tells of the pair
-pub pair_told : (s : State) (ask : Ask) (secret : List ℕ) (now : ℕ) (o : Outcome) → IsOutcome s ask secret now o
-    → (answer_view (answer_of o)).pair ≡ (effect o).pair
-pair_told s ask secret now (Replies answer) f = f.stored_none
-pair_told s ask secret now (Begins name at) f = refl
-pair_told s ask secret now (Takes name at received) f = refl
-pair_told s ask secret now (Commits name at digest blob) f = refl
-pair_told s ask secret now (Stores name digest blob) f = refl
-pair_told s ask secret now (Mounts name digest) f = refl
+-- a blob is handed out, and a body misses the offset, if the answer says so
+abbrev pub FitsAnswer : State → ℕ → Ask → Answer → Type 0
+FitsAnswer s now ask (answers.Blob digest size bytes) = IsBlob s ask digest size bytes
+FitsAnswer s now ask (answers.Misplaced name at next) = IsMisplaced s now ask name at next
+FitsAnswer s now ask other = Unit {0}
 
--- ---- the answer
-
-pub has_memory : (s : State) (ask : Ask) (secret : List ℕ) (now : ℕ) (o : Outcome) → IsOutcome s ask secret now o
-    → lacks_memory (answer_of o) ≡ false
-has_memory s ask secret now (Replies answer) f = f.has_memory
-has_memory s ask secret now (Begins name at) f = refl
-has_memory s ask secret now (Takes name at received) f = refl
-has_memory s ask secret now (Commits name at digest blob) f = refl
-has_memory s ask secret now (Stores name digest blob) f = refl
-has_memory s ask secret now (Mounts name digest) f = refl
-
-pub misplaced_fact : (s : State) (ask : Ask) (secret : List ℕ) (now : ℕ) (o : Outcome) (name at : List ℕ) (next : ℕ)
-    → IsOutcome s ask secret now o → answer_of o ≡ answers.Misplaced name at next → IsMisplaced s now ask name at next
-misplaced_fact s ask secret now (Replies answer) name at next f e = f.misplaced name at next e
-misplaced_fact s ask secret now (Begins n to) name at next f e = cc
-misplaced_fact s ask secret now (Takes n to got) name at next f e = cc
-misplaced_fact s ask secret now (Commits n to d blob) name at next f e = cc
-misplaced_fact s ask secret now (Stores n d blob) name at next f e = cc
-misplaced_fact s ask secret now (Mounts n d) name at next f e = cc
-
-pub blob_fact : (s : State) (ask : Ask) (secret : List ℕ) (now : ℕ) (o : Outcome) (digest : Digest)
-    (size : ℕ) (bytes : Option (List ℕ)) → IsOutcome s ask secret now o → answer_of o ≡ answers.Blob digest size bytes
-    → IsBlob s ask digest size bytes
-blob_fact s ask secret now (Replies answer) digest size bytes f e = f.blob digest size bytes e
-blob_fact s ask secret now (Begins n to) digest size bytes f e = cc
-blob_fact s ask secret now (Takes n to got) digest size bytes f e = cc
-blob_fact s ask secret now (Commits n to d blob) digest size bytes f e = cc
-blob_fact s ask secret now (Stores n d blob) digest size bytes f e = cc
-blob_fact s ask secret now (Mounts n d) digest size bytes f e = cc
+-- what its change of the sessions and of the store says of the request, and what its answer says
+pub record IsOutcome (s : State) (ask : Ask) (secret : List ℕ) (now : ℕ) (o : Outcome) : Type 0 where
+  pub change : FitsChange s ask secret now (answer_of o) (effect o).sessions
+  pub store : FitsStore s now ask (effect o).blob (effect o).pair
+  pub pair_told : (answer_view (answer_of o)).pair ≡ (effect o).pair
+  pub has_memory : lacks_memory (answer_of o) ≡ false
+  pub answered : FitsAnswer s now ask (answer_of o)

@@ -28,14 +28,13 @@ use Rattle.upload_service.specs.Machine.{Turn, IsLawful, may_lack_memory}
 use Rattle.upload_service.proofs.Claims.{CommitsItsChunks, MissedChunkChangesNothing, MisplacedOnlyThere}
 use Rattle.upload_service.proofs.Claims.{ClosedTakesNothing}
 use Rattle.upload_service.specs.Run.{Exchange, Run}
-use Rattle.upload_service.specs.Session.{carries, is_stored, accepted_of, joined_chunks, received, closes_of}
+use Rattle.upload_service.specs.Session.{carries, accepted_of, joined_chunks, received, closes_of}
 use Rattle.upload_service.specs.Headline.{Aim, aim_by, aim_of, IsCommitted}
 use Rattle.upload_service.proofs.Keeping.Tables.{get-remove_same, same_itself, blob-insert_same, contains-insert_same}
 use Rattle.upload_service.proofs.UploadView.{named as named_session, carried}
-use Rattle.upload_service.proofs.Steps.{IsMisplaced, IsOutcome, outcome_of_view, outcome_sound, awake_is_open}
-use Rattle.upload_service.proofs.Steps.{None≢Some}
-use Rattle.upload_service.proofs.Effects.{FitsChange, FitsStore, turn_fits, store_fits, pair_told, state_with}
-use Rattle.upload_service.proofs.Effects.{not_closed, closes_carried, misplaced_fact}
+use Rattle.upload_service.proofs.Steps.{outcome_of_view, outcome_sound, awake_is_open, None≢Some, turn_fits}
+use Rattle.upload_service.proofs.Effects.{IsMisplaced, FitsChange, FitsStore, IsOutcome, state_with, not_closed}
+use Rattle.upload_service.proofs.Effects.{closes_carried, FitsAnswer}
 use Rattle.upload_service.proofs.Turns.{IsNumbered, IsGone}
 use Rattle.upload_service.proofs.Alone.{numbered_if_lawful}
 use Rattle.upload_service.specs.Session.{is_lapsed, seen_of}
@@ -103,8 +102,8 @@ commits_its_chunks start front before x after m name at range asked body name' d
           (let o : Outcome = outcome before x.ask x.secret x.now in
           let f : IsOutcome before x.ask x.secret x.now o = outcome_sound before x.now x.ask x.secret in
           committed_with start front before x (effect o).sessions (effect o).blob (effect o).pair m.lawful m.so_far
-          (store_fits before x.ask x.secret x.now o f)
-          (ap (λ b. (answer_view b).pair) did.0 ∙ pair_told before x.ask x.secret x.now o f)
+          f.store
+          (ap (λ b. (answer_view b).pair) did.0 ∙ f.pair_told)
           name at range asked body name' digest a r)
       | inr lacked ↦ let no : answers.NoMemory ≡ answers.Stored name' digest = sym lacked.1 ∙ r in cc
     ]
@@ -179,8 +178,7 @@ misplaced_only_there start front before x after m name at next r =
     elim m.turn [
       | inl did ↦
           let f : IsMisplaced before x.now x.ask name at next =
-          misplaced_fact before x.ask x.secret x.now (outcome before x.ask x.secret x.now) name at next
-          (outcome_sound before x.now x.ask x.secret) (sym did.0 ∙ r) in
+          subst (FitsAnswer before x.now x.ask) (sym did.0 ∙ r) (outcome_sound before x.now x.ask x.secret).answered in
           let had : f.found.session.received ≡ received start front at =
           open_is_received front start before at f.found.session m.so_far (numbered_if_lawful start m.lawful)
           f.found.is_open in
@@ -194,9 +192,9 @@ closing_with : (s : State) (x : Exchange) (change : SessionChange) (at : List �
     → (map.get (sessions_with s x.now change) at ≡ None) × (number_of at ≤ issued_with s.issued change)
 closing_with s x AllStay at f h c = absurd (true≢false (sym c ∙ f.closes_none at))
 closing_with s x (OneBegins n to) at f h c =
-    absurd (true≢false (sym c ∙ not_closed at x.ask x.answer (ap is_stored f.1)))
+    absurd (true≢false (sym c ∙ not_closed at x.ask x.answer (ap (λ a. (answer_view a).closed) f.1)))
 closing_with s x (OneTakes n to got) at f h c =
-    absurd (true≢false (sym c ∙ not_closed at x.ask x.answer (ap is_stored f.1)))
+    absurd (true≢false (sym c ∙ not_closed at x.ask x.answer (ap (λ a. (answer_view a).closed) f.1)))
 closing_with s x (OneLeaves to) at f h c =
     let is : at ≡ to = eq_from_same at to (sym (f.carried at) ∙ closes_carried at x.ask x.answer c) in (
       ap (map.get (map.remove s.sessions to)) is ∙ get-remove_same s.sessions to,
@@ -210,7 +208,7 @@ closing_turn s x t at (inl did) h c =
     subst (λ q. IsGone q at) (sym did.1)
     (closing_with s x _ at (turn_fits s x.ask x.secret x.now x.answer did.0) h c)
 closing_turn s x t at (inr lacked) h c =
-    absurd (true≢false (sym c ∙ not_closed at x.ask x.answer (ap is_stored lacked.1)))
+    absurd (true≢false (sym c ∙ not_closed at x.ask x.answer (ap (λ a. (answer_view a).closed) lacked.1)))
 
 closed_is_gone : (xs : List Exchange) (s t : State) (at : List ℕ) → Run s xs t → IsNumbered s
     → list_any (λ x. closes_of at x.ask x.answer) xs ≡ true → IsGone t at

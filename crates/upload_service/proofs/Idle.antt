@@ -16,8 +16,8 @@ use Rattle.upload_service.specs.Session.{carries, is_same, begins, is_taken, tou
 use Rattle.upload_service.specs.Headline.{OthersLeaveIt}
 use Rattle.upload_service.proofs.Keeping.Tables.{one_or_two, get-insert_same, get-insert_other, get-remove_same}
 use Rattle.upload_service.proofs.Keeping.Tables.{get-remove_other, same_from_eq, same_from_ne, ne_from_same}
-use Rattle.upload_service.proofs.Steps.{None≢Some}
-use Rattle.upload_service.proofs.Effects.{and_false, FitsChange, turn_fits, state_with}
+use Rattle.upload_service.proofs.Steps.{None≢Some, turn_fits}
+use Rattle.upload_service.proofs.Effects.{and_false, FitsChange, state_with}
 use Rattle.upload_service.proofs.Sweeps.{kept_or_left, was_there, idle_later}
 use Rattle.upload_service.proofs.Turns.{IsNumbered, new_number, not_new}
 use Rattle.upload_service.proofs.Alone.{numbered_if_lawful}

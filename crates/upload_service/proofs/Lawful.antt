@@ -23,8 +23,8 @@ use Rattle.upload_service.proofs.Claims.{StaysLawful}
 use Rattle.upload_service.proofs.Keeping.Tables.{one_or_two, one_or_two_digests, blob-insert_same, blob-insert_other}
 use Rattle.upload_service.proofs.Keeping.Tables.{get-insert_same, get-insert_other, get-remove_same, get-remove_other}
 use Rattle.upload_service.proofs.Keeping.Tables.{contains-insert, pair_from_same}
-use Rattle.upload_service.proofs.Steps.{IsOutcome, outcome_sound, by_test, None≢Some}
-use Rattle.upload_service.proofs.Effects.{FitsChange, change_fits, FitsStore, store_fits}
+use Rattle.upload_service.proofs.Steps.{outcome_sound, by_test, None≢Some}
+use Rattle.upload_service.proofs.Effects.{FitsChange, FitsStore, IsOutcome}
 use Rattle.upload_service.proofs.Sweeps.{was_there, swept_has_room}
 use Rattle.upload_service.proofs.Turns.{number_of-reference}
 
@@ -243,8 +243,8 @@ lawful_after : (s : State) (ask : Ask) (secret : List ℕ) (now : ℕ) (o : Outc
     → IsLawful s → IsLawful (state_after s now o)
 lawful_after s ask secret now o f h =
     let sessions =
-    sessions_after s ask secret now (answer_of o) (effect o).sessions (change_fits s ask secret now o f) h in
-    let store = store_after s now ask (effect o).blob (effect o).pair (store_fits s ask secret now o f) h in
+    sessions_after s ask secret now (answer_of o) (effect o).sessions f.change h in
+    let store = store_after s now ask (effect o).blob (effect o).pair f.store h in
     record {
       numbered = sessions.numbered;
       different = sessions.different;

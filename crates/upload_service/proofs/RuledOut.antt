@@ -24,8 +24,8 @@ use Rattle.upload_service.specs.Headline.{Aim, aim_of, IsAwake, IsOrderly}
 use Rattle.upload_service.specs.RuledOut.{IsBorn, HeadlineRulesOut}
 use Rattle.upload_service.proofs.UploadView.{carried}
 use Rattle.upload_service.proofs.Keeping.Tables.{get-insert_same}
-use Rattle.upload_service.proofs.Steps.{None≢Some, outcome_of_view}
-use Rattle.upload_service.proofs.Effects.{FitsChange, turn_fits}
+use Rattle.upload_service.proofs.Steps.{None≢Some, outcome_of_view, turn_fits}
+use Rattle.upload_service.proofs.Effects.{FitsChange}
 use Rattle.upload_service.proofs.Alone.{told_other, told_none, told_own, SoFar}
 
 overlap : (start : State) (front : List Exchange) (before : State) (x : Exchange) (after : State)

@@ -1,7 +1,7 @@
--- What each outcome says of the request and the state that it came from.
+-- Each request comes to what is said of its outcome.
 use Rattle.std.proofs.Common.{◌≡◌, ◌≢◌, ℕ, ◌+◌, ◌-◌, ◌<◌, ◌≤◌, List, ◌++◌, length, Bool, true, false, Option, Some}
-use Rattle.std.proofs.Common.{None, refl, sym, ◌∙◌, ap, subst, cond, not, length-append}
-use Rattle.std.specs.Prelude.{◌||◌, ◌==◌, nat_lt, nat_le, if◌then◌else◌}
+use Rattle.std.proofs.Common.{None, refl, sym, ◌∙◌, ap, subst, cond, not, inl, inr, length-append}
+use Rattle.std.specs.Prelude.{◌||◌, ◌==◌, is_some, nat_lt, nat_le, if◌then◌else◌}
 use Rattle.std.proofs.lemmas.Bool.{true≢false, ltb-false, leb-false, eq-eqb}
 use Rattle.std.specs.FinMap as map
 use Rattle.upload_names.specs.ByteRange.{Span}
@@ -16,92 +16,16 @@ use Rattle.upload_service.specs.declared.ask.Ask.TheVariants as asks
 use Rattle.upload_service.specs.declared.answer.Answer.{Answer}
 use Rattle.upload_service.specs.declared.answer.Answer.TheVariants as answers
 use Rattle.upload_service.specs.UploadView.{Act, Sends, AsksOffset, Closes, OfSession, upload_view, on_session}
-use Rattle.upload_service.specs.UploadView.{opened_under, nothing_done, answer_view}
+use Rattle.upload_service.specs.UploadView.{answer_view}
 use Rattle.upload_service.specs.Machine.{same, same_digest, is_idle, unless_idle, awake, all_awake, Session, State}
 use Rattle.upload_service.specs.Machine.{Outcome, Replies, Begins, Takes, Commits, Stores, Mounts, refused, size_fault}
 use Rattle.upload_service.specs.Machine.{Progress, progress_of, body_fault, unless_fault, checked, in_session}
-use Rattle.upload_service.specs.Machine.{at_session, last_number, opening, blob_reply, holds, outcome}
+use Rattle.upload_service.specs.Machine.{at_session, last_number, opening, blob_reply, holds, outcome, effect}
+use Rattle.upload_service.specs.Machine.{answer_of}
 use Rattle.upload_service.specs.Headline.{aim_of, aim_at, aim_by}
 use Rattle.upload_service.proofs.Keeping.Tables.{eq_from_same, eq_from_same_digest}
-
--- the session that a request names: open and not idle, and under that name
-pub record Found (s : State) (now : ℕ) (name at : List ℕ) : Type 0 where
-  pub session : Session
-  pub is_awake : awake s now at ≡ Some session
-  pub is_open : map.get s.sessions at ≡ Some session
-  pub not_idle : is_idle s.limits.max_idle now session ≡ false
-  pub named : session.name ≡ name
-
-pub record IsMisplaced (s : State) (now : ℕ) (ask : Ask) (name at : List ℕ) (next : ℕ) : Type 0 where
-  pub found : Found s now name at
-  pub first : ℕ
-  pub aimed : aim_of ask ≡ Some (record { name = name; at = at; first = first })
-  pub is_next : next ≡ length found.session.received
-  pub missed : first ≢ next
-
-pub record IsBlob (s : State) (ask : Ask) (digest : Digest) (size : ℕ) (bytes : Option (List ℕ)) : Type 0 where
-  pub name : List ℕ
-  pub head : Bool
-  pub blob : List ℕ
-  pub asked : ask ≡ asks.Has name digest head
-  pub held : holds s name digest ≡ true
-  pub is_stored : map.get s.blobs digest ≡ Some blob
-  pub is_size : size ≡ length blob
-  pub is_bytes : bytes ≡ (if head then None else Some blob)
-
--- a reply, which changes nothing: it says that nothing was done, but that a blob was handed out
-pub record IsReply (s : State) (now : ℕ) (ask : Ask) (answer : Answer) : Type 0 where
-  pub begins_none : (answer_view answer).begun ≡ None
-  pub took_none : (answer_view answer).took ≡ false
-  pub stored_none : (answer_view answer).pair ≡ None
-  pub has_memory : (answer_view answer).no_memory ≡ false
-  pub blob : (digest : Digest) (size : ℕ) (bytes : Option (List ℕ)) → answer ≡ answers.Blob digest size bytes
-      → IsBlob s ask digest size bytes
-  pub misplaced : (name at : List ℕ) (next : ℕ) → answer ≡ answers.Misplaced name at next
-      → IsMisplaced s now ask name at next
-
-abbrev pub AsksToBegin : List ℕ → Ask → Type 0
-AsksToBegin name ask = opened_under (upload_view ask) ≡ Some name
-
-pub record IsBegun (s : State) (ask : Ask) (secret : List ℕ) (now : ℕ) (name at : List ℕ) : Type 0 where
-  pub asked : AsksToBegin name ask
-  pub is_new : at ≡ reference (s.issued + 1) secret
-  pub numbers_left : s.issued < last_number
-  pub room : map.len (all_awake s now) < s.limits.max_open
-
-pub record IsTaken (s : State) (now : ℕ) (ask : Ask) (name at received : List ℕ) : Type 0 where
-  pub found : Found s now name at
-  pub range : Extent
-  pub body : List ℕ
-  pub asked : ask ≡ asks.Chunk name at range body
-  pub grown : received ≡ found.session.received ++ body
-  pub small : length received ≤ s.limits.max_blob
-
-pub record IsCommit (s : State) (now : ℕ) (ask : Ask) (name at : List ℕ) (digest : Digest)
-    (blob : List ℕ) : Type 0 where
-  pub found : Found s now name at
-  pub range : Extent
-  pub body : List ℕ
-  pub asked : ask ≡ asks.Close name at range (Some digest) body
-  pub grown : blob ≡ found.session.received ++ body
-  pub own_digest : HasDigest blob digest
-
-pub record IsStore (s : State) (ask : Ask) (name : List ℕ) (digest : Digest) (blob : List ℕ) : Type 0 where
-  pub asked : ask ≡ asks.Single name (Some digest) blob
-  pub own_digest : HasDigest blob digest
-
-pub record IsMount (s : State) (ask : Ask) (name : List ℕ) (digest : Digest) : Type 0 where
-  pub source : List ℕ
-  pub asked : ask ≡ asks.Mount name digest source
-  pub held : holds s source digest ≡ true
-
-abbrev pub IsOutcome : State → Ask → List ℕ → ℕ → Outcome → Type 0
-IsOutcome s ask secret now (Replies answer) = IsReply s now ask answer
-IsOutcome s ask secret now (Begins name at) = IsBegun s ask secret now name at
-IsOutcome s ask secret now (Takes name at received) = IsTaken s now ask name at received
-IsOutcome s ask secret now (Commits name at digest blob) = IsCommit s now ask name at digest blob
-IsOutcome s ask secret now (Stores name digest blob) = IsStore s ask name digest blob
-IsOutcome s ask secret now (Mounts name digest) = IsMount s ask name digest
+use Rattle.upload_service.proofs.Effects.{Found, AsksToBegin, not_accepted, not_closed}
+use Rattle.upload_service.proofs.Effects.{FitsChange, FitsAnswer, IsOutcome}
 
 -- a fact of what follows a test is one of both branches
 pub by_test : {A : Type 0} (P : A → Type 0) (b : Bool) (x y : A) → (b ≡ true → P x) → (b ≡ false → P y) → P (cond b x y)
@@ -297,112 +221,131 @@ module _ (s : State) (secret : List ℕ) (now : ℕ) (P : Ask → Outcome → Ty
 
 -- ---- what each outcome says
 
--- a reply of which nothing more is said
-plain : (s : State) (now : ℕ) (ask : Ask) (answer : Answer) → answer_view answer ≡ nothing_done
-    → ((digest : Digest) (size : ℕ) (bytes : Option (List ℕ)) → answer ≢ answers.Blob digest size bytes)
-    → ((name at : List ℕ) (next : ℕ) → answer ≢ answers.Misplaced name at next) → IsReply s now ask answer
-plain s now ask answer nothing no_blob in_place =
+-- a reply, whose answer says that nothing was done
+replied : (s : State) (secret : List ℕ) (now : ℕ) (ask : Ask) (answer : Answer) → (answer_view answer).begun ≡ None
+    → (answer_view answer).took ≡ false → (answer_view answer).closed ≡ false → (answer_view answer).pair ≡ None
+    → (answer_view answer).no_memory ≡ false → FitsAnswer s now ask answer → IsOutcome s ask secret now (Replies answer)
+replied s secret now ask answer begun took closed pair memory fits =
     record {
-      begins_none = ap (λ v. v.begun) nothing;
-      took_none = ap (λ v. v.took) nothing;
-      stored_none = ap (λ v. v.pair) nothing;
-      has_memory = ap (λ v. v.no_memory) nothing;
-      blob = λ digest size bytes is. absurd (no_blob digest size bytes is);
-      misplaced = λ name at next is. absurd (in_place name at next is);
+      change = record {
+        begins_none = begun;
+        took_none = took;
+        accepts_none = not_accepted ask answer took (ap is_some pair);
+        closes_none = λ at. not_closed at ask answer closed;
+      };
+      store = tt;
+      pair_told = pair;
+      has_memory = memory;
+      answered = fits;
     }
 
 begins_soundly : (s : State) (ask : Ask) (name secret : List ℕ) (now : ℕ) → AsksToBegin name ask → HasRoom s now
-    → IsBegun s ask secret now name (reference (s.issued + 1) secret)
+    → IsOutcome s ask secret now (Begins name (reference (s.issued + 1) secret))
 begins_soundly s ask name secret now asked has =
-    record { asked = asked; is_new = refl; numbers_left = has.numbers_left; room = has.room }
+    record {
+      change = (
+        record { asked = asked; is_new = refl; numbers_left = has.numbers_left; room = has.room },
+        refl,
+      );
+      store = tt;
+      pair_told = refl;
+      has_memory = refl;
+      answered = tt;
+    }
 
 aim_of_act : (name at : List ℕ) (act : Act) → aim_of (session_ask name at act) ≡ aim_by name at act
 aim_of_act name at (Sends range body) = refl
 aim_of_act name at AsksOffset = refl
 aim_of_act name at (Closes range digest body) = refl
 
-blob_soundly : (s : State) (name : List ℕ) (digest : Digest) (head : Bool) (blob : List ℕ) → holds s name digest ≡ true
-    → map.get s.blobs digest ≡ Some blob → (d : Digest) (size : ℕ) (bytes : Option (List ℕ))
-    → answers.Blob digest (length blob) (if head then None else Some blob) ≡ answers.Blob d size bytes
-    → IsBlob s (asks.Has name digest head) d size bytes
-blob_soundly s name digest head blob held is d size bytes same =
-    let digests : digest ≡ d = cc in
-    let sizes : length blob ≡ size = cc in
-    let contents : (if head then None else Some blob) ≡ bytes = cc in
-    record {
-      name = name;
-      head = head;
-      blob = blob;
-      asked = ap (λ x. asks.Has name x head) digests;
-      held = ap (holds s name) (sym digests) ∙ held;
-      is_stored = ap (map.get s.blobs) (sym digests) ∙ is;
-      is_size = sym sizes;
-      is_bytes = sym contents;
-    }
-
-misplaced_soundly : (s : State) (now : ℕ) (ask : Ask) (name at : List ℕ) (next : ℕ)
-    → IsMisplaced s now ask name at next → (n a : List ℕ) (x : ℕ)
-    → answers.Misplaced name at next ≡ answers.Misplaced n a x → IsMisplaced s now ask n a x
-misplaced_soundly s now ask name at next is n a x same =
-    let names : name ≡ n = cc in
-    let places : at ≡ a = cc in
-    let nexts : next ≡ x = cc in
-    subst (λ q. IsMisplaced s now ask n a q) nexts
-    (subst (λ q. IsMisplaced s now ask n q next) places (subst (λ q. IsMisplaced s now ask q at next) names is))
-
 sound_each : (s : State) (secret : List ℕ) (now : ℕ)
     → HoldsOfEach s secret now (λ ask o. IsOutcome s ask secret now o)
 sound_each s secret now =
     record {
-      refusals = λ ask refusal. plain s now ask (answers.Refused refusal) refl (λ d n b e. cc) (λ n a x e. cc);
-      base = plain s now asks.Base answers.Base refl (λ d n b e. cc) (λ n a x e. cc);
-      blobs = λ name digest head blob held is. record {
-        begins_none = refl;
-        took_none = refl;
-        stored_none = refl;
-        has_memory = refl;
-        blob = λ d size bytes same. blob_soundly s name digest head blob held is d size bytes same;
-        misplaced = λ n a x same. absurd (let no : ⊥ = cc in no);
-      };
+      refusals = λ ask refusal. replied s secret now ask (answers.Refused refusal) refl refl refl refl refl tt;
+      base = replied s secret now asks.Base answers.Base refl refl refl refl refl tt;
+      blobs =
+          λ name digest head blob held is.
+          replied s secret now (asks.Has name digest head)
+          (answers.Blob digest (length blob) (if head then None else Some blob)) refl refl refl refl refl
+          (record {
+            name = name;
+            head = head;
+            blob = blob;
+            asked = refl;
+            held = held;
+            is_stored = is;
+            is_size = refl;
+            is_bytes = refl;
+          });
       openings = λ name has. begins_soundly s (asks.Opening name) name secret now refl has;
       unmounted = λ name digest source has. begins_soundly s (asks.Mount name digest source) name secret now refl has;
-      mounts = λ name digest source held. record { source = source; asked = refl; held = held };
-      stores = λ name digest body own. record { asked = refl; own_digest = own };
-      standing =
-          λ name at found. plain s now (asks.Status name at) (answers.Standing name at (length found.session.received))
-          refl (λ d n b e. cc) (λ n a x e. cc);
-      misses = λ name at act found first aims missed. record {
-        begins_none = refl;
-        took_none = refl;
-        stored_none = refl;
+      mounts = λ name digest source held. record {
+        change = record { begins_none = refl; took_none = refl; accepts_none = refl; closes_none = λ at. refl };
+        store = record { source = source; asked = refl; held = held };
+        pair_told = refl;
         has_memory = refl;
-        blob = λ d size bytes same. absurd (let no : ⊥ = cc in no);
-        misplaced =
-            λ n a next same. misplaced_soundly s now (session_ask name at act) name at (length found.session.received)
-            (record {
-              found = found;
-              first = first;
-              aimed = aim_of_act name at act ∙ aims;
-              is_next = refl;
-              missed = missed;
-            })
-            n a next same;
+        answered = tt;
       };
+      stores = λ name digest body own. record {
+        change = record { begins_none = refl; took_none = refl; accepts_none = refl; closes_none = λ at. refl };
+        store = (refl, inr (record { asked = refl; own_digest = own }));
+        pair_told = refl;
+        has_memory = refl;
+        answered = tt;
+      };
+      standing =
+          λ name at found.
+          replied s secret now (asks.Status name at) (answers.Standing name at (length found.session.received)) refl
+          refl refl refl refl tt;
+      misses =
+          λ name at act found first aims missed.
+          replied s secret now (session_ask name at act)
+          (answers.Misplaced name at (length found.session.received)) refl refl refl refl refl
+          (record {
+            found = found;
+            first = first;
+            aimed = aim_of_act name at act ∙ aims;
+            is_next = refl;
+            missed = missed;
+          });
       takes = λ name at range body found fits. record {
-        found = found;
-        range = range;
-        body = body;
-        asked = refl;
-        grown = refl;
-        small = simp length-append fits;
+        change = (
+          record {
+            found = found;
+            range = range;
+            body = body;
+            asked = refl;
+            grown = refl;
+            small = simp length-append fits;
+          },
+          refl,
+        );
+        store = tt;
+        pair_told = refl;
+        has_memory = refl;
+        answered = tt;
       };
       commits = λ name at range digest body found own. record {
-        found = found;
-        range = range;
-        body = body;
-        asked = refl;
-        grown = refl;
-        own_digest = own;
+        change =
+            record { name = name; found = found; carried = λ to. refl; begins_none = refl; took_none = refl };
+        store = (
+          refl,
+          inl (
+            at,
+            record {
+              found = found;
+              range = range;
+              body = body;
+              asked = refl;
+              grown = refl;
+              own_digest = own;
+            },
+          ),
+        );
+        pair_told = refl;
+        has_memory = refl;
+        answered = tt;
       };
     }
 
@@ -410,3 +353,11 @@ pub outcome_sound : (s : State) (now : ℕ) (ask : Ask) (secret : List ℕ)
     → IsOutcome s ask secret now (outcome s ask secret now)
 outcome_sound s now ask secret =
     by_ask s secret now (λ a o. IsOutcome s a secret now o) (sound_each s secret now) ask
+
+-- the change that a turn makes, if its answer is its outcome's
+pub turn_fits : (s : State) (ask : Ask) (secret : List ℕ) (now : ℕ) (answer : Answer)
+    → answer ≡ answer_of (outcome s ask secret now)
+    → FitsChange s ask secret now answer (effect (outcome s ask secret now)).sessions
+turn_fits s ask secret now answer e =
+    subst (λ a. FitsChange s ask secret now a (effect (outcome s ask secret now)).sessions) (sym e)
+    (outcome_sound s now ask secret).change

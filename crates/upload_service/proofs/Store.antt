@@ -17,8 +17,8 @@ use Rattle.upload_service.specs.Session.{carries, accepted_of, joined_chunks, re
 use Rattle.upload_service.specs.UploadView.{upload_view, answer_view}
 use Rattle.upload_service.specs.Stored.{Stored, stored_as, stored_by, stored_from, last_under, is_pair, notes}
 use Rattle.upload_service.proofs.Keeping.Tables.{same_itself, blob-insert, contains-insert}
-use Rattle.upload_service.proofs.Steps.{IsBlob, IsCommit, IsOutcome, outcome_sound}
-use Rattle.upload_service.proofs.Effects.{FitsStore, store_fits, pair_told, blob_fact}
+use Rattle.upload_service.proofs.Steps.{outcome_sound}
+use Rattle.upload_service.proofs.Effects.{IsBlob, IsCommit, FitsStore, FitsAnswer, IsOutcome}
 use Rattle.upload_service.proofs.Alone.{numbered_if_lawful}
 use Rattle.upload_service.proofs.Chunks.{append_none, gave, gave_own, received-push, open_is_received}
 
@@ -84,7 +84,7 @@ told_pair : (s : State) (x : Exchange) → x.answer ≡ answer_of (outcome s x.a
     → (answer_view x.answer).pair ≡ (effect (outcome s x.ask x.secret x.now)).pair
 told_pair s x e =
     ap (λ a. (answer_view a).pair) e
-    ∙ pair_told s x.ask x.secret x.now (outcome s x.ask x.secret x.now) (outcome_sound s x.now x.ask x.secret)
+    ∙ (outcome_sound s x.now x.ask x.secret).pair_told
 
 blobs_turn : (start : State) (front : List Exchange) (s : State) (x : Exchange) (t : State) → IsLawful start
     → Run start front s → Turn s x.ask x.secret x.now x.answer t → (d : Digest)
@@ -94,7 +94,7 @@ blobs_turn start front s x t lawful run (inl did) d =
     let o : Outcome = outcome s x.ask x.secret x.now in
     let f : IsOutcome s x.ask x.secret x.now o = outcome_sound s x.now x.ask x.secret in
     ap (λ q. map.get q.blobs d) did.1
-    ∙ blobs_after start front s x (effect o).blob (effect o).pair lawful run (store_fits s x.ask x.secret x.now o f)
+    ∙ blobs_after start front s x (effect o).blob (effect o).pair lawful run f.store
     (told_pair s x did.0) d
 blobs_turn start front s x t lawful run (inr lacked) d =
     ap (λ q. map.get q.blobs d) lacked.2
@@ -151,8 +151,7 @@ blob_is_what_was_stored start front before x after m name digest head of size by
     elim m.turn [
       | inl did ↦
           let f : IsBlob before x.ask of size bytes =
-          blob_fact before x.ask x.secret x.now (outcome before x.ask x.secret x.now) of size bytes
-          (outcome_sound before x.now x.ask x.secret) (sym did.0 ∙ r) in
+          subst (FitsAnswer before x.now x.ask) (sym did.0 ∙ r) (outcome_sound before x.now x.ask x.secret).answered in
           let has : asks.Has f.name of f.head ≡ asks.Has name digest head = sym f.asked ∙ a in
           let of_is : of ≡ digest = cc in
           let head_is : f.head ≡ head = cc in

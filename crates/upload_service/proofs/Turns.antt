@@ -21,9 +21,9 @@ use Rattle.std.proofs.lemmas.Nat.{from_be_bytes-to_be_bytes_4}
 use Rattle.upload_service.proofs.Keeping.Tables.{one_or_two, get-insert_same, get-insert_other, get-remove_same}
 use Rattle.upload_service.proofs.Keeping.Tables.{get-remove_other, ne_from_same}
 use Rattle.upload_service.proofs.UploadView.{carried}
-use Rattle.upload_service.proofs.Steps.{IsOutcome, AsksToBegin, outcome_of_view, None≢Some}
+use Rattle.upload_service.proofs.Steps.{outcome_of_view, None≢Some, turn_fits}
 use Rattle.upload_service.proofs.Steps.{idle_is_none}
-use Rattle.upload_service.proofs.Effects.{FitsChange, change_fits, turn_fits, state_with}
+use Rattle.upload_service.proofs.Effects.{AsksToBegin, FitsChange, IsOutcome, state_with}
 use Rattle.upload_service.proofs.Sweeps.{kept_or_left, was_there, idle_later, idle_from}
 
 pub number_of-reference : (n : ℕ) (secret : List ℕ) → n < 2 ^ 32 → number_of (reference n secret) ≡ n
@@ -77,7 +77,7 @@ numbered_with s ask secret now answer (OneLeaves to) f h at session e =
 pub numbered_after : (s : State) (ask : Ask) (secret : List ℕ) (now : ℕ) (o : Outcome) → IsOutcome s ask secret now o
     → IsNumbered s → IsNumbered (state_after s now o)
 numbered_after s ask secret now o f h =
-    numbered_with s ask secret now (answer_of o) (effect o).sessions (change_fits s ask secret now o f) h
+    numbered_with s ask secret now (answer_of o) (effect o).sessions f.change h
 
 -- an issued reference that isn't in the table
 abbrev pub IsGone : State → List ℕ → Type 0
@@ -153,7 +153,7 @@ pub others_leave : (s : State) (ask : Ask) (secret : List ℕ) (from now : ℕ) 
     → Fits s from at life → Fits (state_after s now o) now at life
 others_leave s ask secret from now o f h later at life c b fits =
     others_leave_with s ask secret from now (answer_of o) (effect o).sessions (state_after s now o)
-    (change_fits s ask secret now o f) h later at life c b fits
+    f.change h later at life c b fits
 
 -- what carries a reference doesn't ask to begin
 no_opening_carries : (name at : List ℕ) (ask : Ask) → AsksToBegin name ask → carries at ask ≡ true → ⊥
@@ -282,5 +282,5 @@ pub own_by_opening : (s : State) (ask : Ask) (secret : List ℕ) (from now : ℕ
 own_by_opening s ask secret from now o f at life h b fits =
     let own =
     own_with s ask secret from now (answer_of o) (effect o).sessions (state_after s now o)
-    (change_fits s ask secret now o f) at life h b fits in
+    f.change at life h b fits in
     record { told = own.0; fits = own.1 }

@@ -68,7 +68,7 @@ received s xs at = bytes_of (map.get s.sessions at) ++ joined_chunks (taken xs a
 
 -- the session was closed by this request
 abbrev pub closed_by : Act → Answer → Bool
-closed_by act answer = (act_view act).closes && is_stored answer
+closed_by act answer = (act_view act).closes && (answer_view answer).closed
 
 abbrev pub closes_of : List ℕ → Ask → Answer → Bool
 closes_of at ask answer = on_session (upload_view ask) false (λ name to act. same at to && closed_by act answer)

@@ -60,18 +60,20 @@ opened_under Unrelated = None
 pub record AnswerView : Type 0 where
   pub begun : Option (List ℕ)  -- a session of this reference was begun
   pub took : Bool  -- the session took the chunk
+  pub closed : Bool  -- the session, if the request asked to close one, is closed
   pub pair : Option (List ℕ × Digest)  -- the repository of this name got the blob of this digest
   pub bytes : Option (List ℕ)  -- these bytes of a blob were handed out
   pub no_memory : Bool  -- nothing, since memory was out
 
 abbrev pub nothing_done : AnswerView
-nothing_done = record { begun = None; took = false; pair = None; bytes = None; no_memory = false }
+nothing_done =
+    record { begun = None; took = false; closed = false; pair = None; bytes = None; no_memory = false }
 
 abbrev pub answer_view : Answer → AnswerView
 answer_view answers.Base = nothing_done
 answer_view (answers.Blob digest size bytes) = record nothing_done { bytes = bytes }
 answer_view (answers.Begun name at) = record nothing_done { begun = Some at }
-answer_view (answers.Stored name digest) = record nothing_done { pair = Some (name, digest) }
+answer_view (answers.Stored name digest) = record nothing_done { closed = true; pair = Some (name, digest) }
 answer_view (answers.Taken name at next) = record nothing_done { took = true }
 answer_view (answers.Standing name at next) = nothing_done
 answer_view (answers.Misplaced name at next) = nothing_done

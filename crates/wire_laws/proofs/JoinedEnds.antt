@@ -15,8 +15,7 @@ use Rattle.http_wire.specs.declared.fault.Bad.{Bad}
 use Rattle.http_wire.proofs.Heads.HeadLaws.{request_ends, response_ends}
 use Rattle.upload_service.specs.declared.ask.Ask.{Ask}
 use Rattle.upload_service.specs.declared.answer.Answer.{Answer}
-use Rattle.upload_service.specs.declared.answer.Answer.TheVariants.{Base, Blob, Begun, Stored, Taken, Standing}
-use Rattle.upload_service.specs.declared.answer.Answer.TheVariants.{Misplaced, Refused, NoMemory}
+use Rattle.upload_service.specs.declared.answer.Answer.TheVariants.{Blob}
 use Rattle.http_wire.specs.States.{SourceState, InputState, SinkState, input_state}
 use Rattle.http_wire.specs.Writing.{Wrote}
 use Rattle.http_wire.specs.ResponseBody.{IsBody}
@@ -165,16 +164,8 @@ blob_said content keep rest short = rw (le-ltb max_answer (length content) short
 
 whole_said : (answer : Answer) (keep : Bool) (rest : List ℕ) → IsShort answer
     → (code : Option (List ℕ)) × (read_whole answer keep rest ≡ heard (said answer code) keep rest)
-whole_said Base keep rest short = (None, refl)
 whole_said (Blob digest size (Some content)) keep rest short = (code_of content, blob_said content keep rest short)
-whole_said (Blob digest size None) keep rest short = (None, refl)
-whole_said (Begun name at) keep rest short = (None, refl)
-whole_said (Stored name digest) keep rest short = (None, refl)
-whole_said (Taken name at next) keep rest short = (None, refl)
-whole_said (Standing name at next) keep rest short = (None, refl)
-whole_said (Misplaced name at next) keep rest short = ((reply_heard (Misplaced name at next)).code, refl)
-whole_said (Refused refusal) keep rest short = ((reply_heard (Refused refusal)).code, refl)
-whole_said NoMemory keep rest short = (None, refl)
+whole_said other keep rest short = ((reply_heard other).code, refl)
 
 read_as_said : (answer : Answer) (head keep : Bool) (rest : List ℕ) → IsShort answer
     → (code : Option (List ℕ))

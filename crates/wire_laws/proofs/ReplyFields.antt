@@ -102,10 +102,10 @@ allowed value v kept short = record {
 
 allow_short : (form : Form) → IsShortField (codes "Allow", methods form)
 unfolding is_token_byte trim_ows
-allow_short forms.Base = allowed (codes "GET, HEAD") refl refl (lit≤ tt)
-allow_short forms.Blob = allowed (codes "GET, HEAD") refl refl (lit≤ tt)
-allow_short forms.Uploads = allowed (codes "POST") refl refl (lit≤ tt)
-allow_short forms.Upload = allowed (codes "GET, HEAD, PATCH, PUT") refl refl (lit≤ tt)
+allow_short forms.Base = allowed (methods forms.Base) refl refl (lit≤ tt)
+allow_short forms.Blob = allowed (methods forms.Blob) refl refl (lit≤ tt)
+allow_short forms.Uploads = allowed (methods forms.Uploads) refl refl (lit≤ tt)
+allow_short forms.Upload = allowed (methods forms.Upload) refl refl (lit≤ tt)
 
 -- ---- paths
 
@@ -287,7 +287,8 @@ taken_says name at next n le =
     upload_says name at next (length_field 0 ∷ []) (decimal 0 ∷ []) n le (omega arith)
     (length_says 0 (omega arith)) refl refl
 
-nothing_says : Says [] [] None None
+-- no fields
+pub nothing_says : Says [] [] None None
 unfolding values_of
 nothing_says = record {
   short = no_fields;

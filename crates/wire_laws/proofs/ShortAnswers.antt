@@ -1,42 +1,34 @@
 -- To an ask that is no GET no bytes of a blob are answered.
-use Rattle.std.proofs.Common.{ℕ, Bool, true, false, List, length, sym, subst, Some, None, inl, inr, refl}
+use Rattle.std.proofs.Common.{◌≡◌, ℕ, Bool, true, false, List, sym, ◌∙◌, ap, subst, Option, Some, None, inl, inr, refl}
 use Rattle.std.specs.Prelude.{if◌then◌else◌}
 use Rattle.upload_names.specs.Digest.{Digest}
-use Rattle.upload_service.specs.Machine.{Outcome, Replies, State, Turn, answer_of}
+use Rattle.upload_service.specs.Machine.{State, Turn, answer_of, outcome}
 use Rattle.upload_service.specs.declared.ask.Ask.{Ask}
 use Rattle.upload_service.specs.declared.ask.Ask.TheVariants as asks
 use Rattle.upload_service.specs.declared.answer.Answer.{Answer}
 use Rattle.upload_service.specs.declared.answer.Answer.TheVariants as answers
-use Rattle.upload_service.proofs.Steps.{HoldsOfEach, by_ask}
+use Rattle.upload_service.proofs.Effects.{IsBlob, FitsAnswer}
+use Rattle.upload_service.proofs.Steps.{None≢Some, outcome_sound}
 use Rattle.wire_laws.specs.Joined.{IsNoGet, IsShort}
 
-abbrev IsShortly : Ask → Outcome → Type 0
-IsShortly ask o = IsNoGet ask → IsShort (answer_of o)
+handed_out : (s : State) (ask : Ask) (digest : Digest) (size : ℕ) (content : List ℕ) → IsNoGet ask
+    → IsBlob s ask digest size (Some content) → ⊥
+handed_out s ask digest size content no_get is = by_head is.head refl
+  where
+    by_head : (head : Bool) → is.head ≡ head → ⊥
+    by_head true e = None≢Some (sym (is.is_bytes ∙ ap (λ h. if h then None else Some is.blob) e))
+    by_head false e = no_get is.name digest (is.asked ∙ ap (asks.Has is.name digest) e)
 
-handed_out : (name : List ℕ) (digest : Digest) (head : Bool) (blob : List ℕ) → IsShortly (asks.Has name digest head)
-    (Replies (answers.Blob digest (length blob) (if head then None else Some blob)))
-handed_out name digest true blob no_get = tt
-handed_out name digest false blob no_get = absurd (no_get name digest refl)
-
-each : (s : State) (secret : List ℕ) (now : ℕ) → HoldsOfEach s secret now IsShortly
-each s secret now =
-    record {
-      refusals = λ ask refusal no_get. tt;
-      base = λ no_get. tt;
-      blobs = λ name digest head blob held is. handed_out name digest head blob;
-      openings = λ name has no_get. tt;
-      unmounted = λ name digest source has no_get. tt;
-      mounts = λ name digest source held no_get. tt;
-      stores = λ name digest body own no_get. tt;
-      standing = λ name at found no_get. tt;
-      misses = λ name at act found first aims missed no_get. tt;
-      takes = λ name at range body found fits no_get. tt;
-      commits = λ name at range digest body found own no_get. tt;
-    }
+short : (s : State) (now : ℕ) (ask : Ask) → IsNoGet ask → (answer : Answer) → FitsAnswer s now ask answer
+    → IsShort answer
+short s now ask no_get (answers.Blob digest size (Some content)) is =
+    absurd (handed_out s ask digest size content no_get is)
+short s now ask no_get other is = tt
 
 pub short_answers : (s : State) (secret : List ℕ) (now : ℕ) (ask : Ask) (answer : Answer) (after : State) → IsNoGet ask
     → Turn s ask secret now answer after → IsShort answer
 unfolding Turn
 short_answers s secret now ask answer after no_get (inl does) =
-    subst IsShort (sym does.0) (by_ask s secret now IsShortly (each s secret now) ask no_get)
+    subst IsShort (sym does.0)
+    (short s now ask no_get (answer_of (outcome s ask secret now)) (outcome_sound s now ask secret).answered)
 short_answers s secret now ask answer after no_get (inr lacks) = subst IsShort (sym lacks.1) tt

@@ -10,7 +10,8 @@ use Rattle.upload_service.specs.declared.ask.Ask.{Ask}
 use Rattle.upload_service.specs.declared.ask.Ask.TheVariants as asks
 use Rattle.upload_service.specs.declared.answer.Answer.{Answer}
 use Rattle.upload_service.specs.declared.answer.Answer.TheVariants as answers
-use Rattle.upload_service.proofs.Steps.{Found, HoldsOfEach, by_ask, session_ask}
+use Rattle.upload_service.proofs.Effects.{Found}
+use Rattle.upload_service.proofs.Steps.{HoldsOfEach, by_ask, session_ask}
 use Rattle.upload_client.specs.AskText.{wants_head}
 use Rattle.wire_laws.specs.WrittenAsks.{HasLawfulParts, written_style}
 use Rattle.wire_laws.specs.WrittenExchanges.{ExchangesAreHeard, HasSize}

@@ -5,8 +5,8 @@ use Rattle.upload_names.specs.NamePass.{is_name}
 use Rattle.upload_names.specs.Digest.{IsDigest}
 use Rattle.upload_names.specs.ByteRange.{range_cap}
 use Rattle.upload_service.specs.declared.answer.Answer.{Answer}
-use Rattle.upload_service.specs.declared.answer.Answer.TheVariants.{Base, Blob, Begun, Stored, Taken, Standing}
-use Rattle.upload_service.specs.declared.answer.Answer.TheVariants.{Misplaced, Refused, NoMemory}
+use Rattle.upload_service.specs.declared.answer.Answer.TheVariants.{Blob, Begun, Stored, Taken, Standing}
+use Rattle.upload_service.specs.declared.answer.Answer.TheVariants.{Misplaced}
 use Rattle.http_wire.specs.States.{SourceState, input_state}
 use Rattle.upload_wire.specs.ReplyText.{reply}
 use Rattle.upload_wire.specs.declared.request.Style.{Style}
@@ -24,9 +24,8 @@ use Rattle.upload_client.specs.declared.heard.HeardFault.TheVariants as Reply
 abbrev pub most_told : ℕ
 most_told = range_cap + 1
 
--- The names, digests, sizes and offsets of an answer are those of their types.
+-- The names, digests, sizes and offsets of an answer are those of their types. Other answers have none.
 abbrev pub HasLawfulValues : Answer → Type 0
-HasLawfulValues Base = ⊤
 HasLawfulValues (Blob digest size bytes) =
     IsDigest digest × (size < 2 ^ 64) × IfSome bytes (λ content. length content ≡ size)
 HasLawfulValues (Begun name at) = IsTrue (is_name name)
@@ -34,21 +33,12 @@ HasLawfulValues (Stored name digest) = IsTrue (is_name name) × IsDigest digest
 HasLawfulValues (Taken name at next) = IsTrue (is_name name) × (next ≤ most_told)
 HasLawfulValues (Standing name at next) = IsTrue (is_name name) × (next ≤ most_told)
 HasLawfulValues (Misplaced name at next) = IsTrue (is_name name) × (next ≤ most_told)
-HasLawfulValues (Refused refusal) = ⊤
-HasLawfulValues NoMemory = ⊤
+HasLawfulValues other = ⊤
 
 -- A blob without its bytes answers a HEAD alone.
 abbrev pub FitsMethod : Answer → Bool → Type 0
-FitsMethod Base head = ⊤
-FitsMethod (Blob digest size (Some content)) head = ⊤
 FitsMethod (Blob digest size None) head = IsTrue head
-FitsMethod (Begun name at) head = ⊤
-FitsMethod (Stored name digest) head = ⊤
-FitsMethod (Taken name at next) head = ⊤
-FitsMethod (Standing name at next) head = ⊤
-FitsMethod (Misplaced name at next) head = ⊤
-FitsMethod (Refused refusal) head = ⊤
-FitsMethod NoMemory head = ⊤
+FitsMethod other head = ⊤
 
 -- ---- what is heard
 
@@ -65,16 +55,8 @@ blob_read content keep rest =
 
 -- how the reply to another method is read, in front of rest
 abbrev pub read_whole : Answer → Bool → List ℕ → ReplyParse
-read_whole Base keep rest = heard (reply_heard Base) keep rest
 read_whole (Blob digest size (Some content)) keep rest = blob_read content keep rest
-read_whole (Blob digest size None) keep rest = heard (bare 200) keep rest  -- never written, by FitsMethod
-read_whole (Begun name at) keep rest = heard (reply_heard (Begun name at)) keep rest
-read_whole (Stored name digest) keep rest = heard (reply_heard (Stored name digest)) keep rest
-read_whole (Taken name at next) keep rest = heard (reply_heard (Taken name at next)) keep rest
-read_whole (Standing name at next) keep rest = heard (reply_heard (Standing name at next)) keep rest
-read_whole (Misplaced name at next) keep rest = heard (reply_heard (Misplaced name at next)) keep rest
-read_whole (Refused refusal) keep rest = heard (reply_heard (Refused refusal)) keep rest
-read_whole NoMemory keep rest = heard (reply_heard NoMemory) keep rest
+read_whole other keep rest = heard (reply_heard other) keep rest
 
 -- how the reply is read, in front of rest
 abbrev pub reply_read : Answer → Style → List ℕ → ReplyParse

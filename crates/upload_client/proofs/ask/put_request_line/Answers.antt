@@ -1,7 +1,7 @@
 use Rattle.std.proofs.Common.{◌∙◌, sym, ap, subst, ◌++◌}
 use Rattle.http_wire.specs.Inner.Gathering.{Gathered}
 use Rattle.upload_client.specs.AskText.{request_line, message_of}
-use Rattle.upload_client.proofs.AskTextLemmas.{single_line, mount_put, chunk_line, status_line, close_line}
+use Rattle.upload_client.proofs.AskTextLemmas.{single_line, mount_put, close_line}
 use Rattle.upload_client.proofs.ask.put_request_line.Goals as goal
 
 pub returns-in-Single : goal.returns-in-Single
@@ -17,26 +17,9 @@ returns-in-Mount g c = λ start before held.
     (mount_put before c.in-Mount.name c.in-Mount.digest c.in-Mount.source
     ∙ ap (λ a. before ++ request_line (message_of a)) (sym c.in-Mount.is)) put
 
-pub returns-in-Chunk : goal.returns-in-Chunk
-returns-in-Chunk g c = λ start before held.
-    subst (λ t.
-    Gathered start (g.W.ByteSink.state c.put_target-in-Chunk.new.writer) c.put_target-in-Chunk.new.head (before ++ t))
-    (chunk_line c.in-Chunk.name c.in-Chunk.at c.in-Chunk.range c.in-Chunk.body c.text-text-in-Chunk.result
-    c.text-text-in-Chunk.ensures.text ∙ ap (λ a. request_line (message_of a)) (sym c.in-Chunk.is))
-    (c.put_target-in-Chunk.ensures start before held)
-
-pub returns-in-Status : goal.returns-in-Status
-returns-in-Status g c = λ start before held.
-    subst (λ t.
-    Gathered start (g.W.ByteSink.state c.put_target-in-Status.new.writer) c.put_target-in-Status.new.head (before ++ t))
-    (status_line c.in-Status.name c.in-Status.at c.text-text-in-Status.result c.text-text-in-Status.ensures.text
-    ∙ ap (λ a. request_line (message_of a)) (sym c.in-Status.is))
-    (c.put_target-in-Status.ensures start before held)
-
 pub returns-in-Close : goal.returns-in-Close
 returns-in-Close g c = λ start before held.
-    let put = c.put_query.ensures start _ (c.put_target-in-Close.ensures start before held) in
+    let put = c.put_query.ensures start _ (c.put_upload-in-Close.ensures start before held) in
     subst (Gathered start (g.W.ByteSink.state c.put_query.new.writer) c.put_query.new.head)
     (close_line before c.in-Close.name c.in-Close.at c.in-Close.range c.in-Close.digest c.in-Close.body
-    c.text-text-in-Close.result c.text-text-in-Close.ensures.text
     ∙ ap (λ a. before ++ request_line (message_of a)) (sym c.in-Close.is)) put

@@ -14,7 +14,7 @@ returns-clause-wrote g c =
     ([], record { takes = takes_none start; unfailed = refl }, refl) in
     let wrote =
     c.finish.ensures.wrote start _ (c.put_upload_section.ensures c.args.chunk.now.body.now refl start _
-    (c.put_host.ensures start _ (c.put_target.ensures start [] nothing))) in
+    (c.put_host.ensures start _ (c.put_upload.ensures start [] nothing))) in
     subst (λ t. Wrote start new t c.finish.result)
     (whole_chunk c.args.chunk.now.name.now c.args.chunk.now.at c.args.chunk.now.range c.args.chunk.now.body.now
-    c.args.host.now c.text-text.result c.text-text.ensures.text) wrote
+    c.args.host.now) wrote
