@@ -19,7 +19,7 @@ PROGRAM := $(if $(filter-out $(shell grep -m1 '^flags' /proc/cpuinfo),$(V3_FLAGS
 BUILT = $(firstword $(wildcard $(PROGRAM) $(EVERY)))
 
 # What the program is made of. A program that is newer than all of it is taken as it is.
-CRATES = upload_names upload_service http_wire upload_texts upload_wire upload_client upload_intake upload_push blobd
+CRATES = upload_names upload_bytes upload_service http_wire upload_texts upload_wire upload_client upload_intake upload_push blobd_shared blobd_serve blobd_push blobd
 SOURCES := crates.txt $(shell find $(foreach crate,$(CRATES),$(foreach part,src specs proofs,crates/$(crate)/$(part))) -type f 2>/dev/null)
 
 # Bodies and blobs are long lists of bytes. If glibc asks the system for huge pages, fresh memory costs them a third, and if

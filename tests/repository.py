@@ -20,6 +20,8 @@ HANDLES = "Handles allowed: Threads, Wait, Net.\n"
 TAKEN = re.compile(r"^\s*(?:ghost )?use Rattle\.([\w.]+?)(?:\.\{(.*)\}| as \w+)?;?$", re.MULTILINE)
 HOLE = re.compile(r"(=\s*\?|[( ]\?[ ),]|\?\s*$)")
 PUBLIC_FUNCTION = re.compile(r"^\s*pub (?:const )?fn (\w+)")
+# a function that other modules of its crate may call too
+SHARED_FUNCTION = re.compile(r"^\s*pub(?:\(crate\))? (?:const )?fn (\w+)")
 IMPL = re.compile(r"^impl(?:<.*?>)?\s+(?:[\w:<>', ]+\s+for\s+)?(\w+)")
 TEST_MODULE = re.compile(r"#\[cfg\(test\)\]\s*mod \w+ \{")
 # A law takes nothing and gives nothing: its contract is all that it has.
@@ -50,17 +52,20 @@ WORD = re.compile(r"\w+")
 USING = "docs/USING.md"
 SHOWN = re.compile(r"crates/embed_\w+/(src/\w+\.rt|specs/(?!Lib\.)\w+\.antt)")
 
+# What the program is made of beside the libraries: no other crate stands on these.
+PROGRAM = {"blobd", "blobd_push", "blobd_serve", "blobd_shared"}
+
 # Functions that no edit can turn: their types leave no other body that compiles.
 NO_OTHER_BODY = {
-    "blobd": {"Handed::none"},
+    "blobd_serve": {"Handed::none"},
     "http_wire": {"History::none", "ToWrite::into_inner"},
-    "upload_names": {"Body::pieces"},
+    "upload_bytes": {"Body::pieces"},
     "upload_wire": {"ServiceDesk::into_service"},
 }
 
 # Functions of which no clause says anything, since none can speak of another thread. Tests stand for them.
 NO_CLAUSE = {
-    "upload_names": {"HashEnd::wait", "Hashing::end", "Hashing::is_at_work"},
+    "upload_bytes": {"HashEnd::wait", "Hashing::end", "Hashing::is_at_work"},
 }
 
 
@@ -145,9 +150,10 @@ def sources(crate):
 
 
 def exported(crate):
-    """The names that a library hands out; None for a program, whose public functions all count."""
+    """The names that a library hands out; None for a program and what it is made of, whose functions all count that
+    more than one module may call."""
     path = f"crates/{crate}/src/lib.rt"
-    if not os.path.exists(os.path.join(TOP, path)):
+    if crate in PROGRAM or not os.path.exists(os.path.join(TOP, path)):
         return None
     return set(re.findall(r"\w+", " ".join(re.findall(r"^pub use ([^;]+);", text_of(path), re.MULTILINE | re.DOTALL))))
 
@@ -155,6 +161,7 @@ def exported(crate):
 def public_functions(crate, laws=False):
     """`Type::name` or `name` of each function that the crate hands out: of those that do work, or of the laws."""
     names = exported(crate)
+    form = SHARED_FUNCTION if crate in PROGRAM else PUBLIC_FUNCTION
     for path in sources(crate):
         with open(path, encoding="utf-8") as file:
             text = TEST_MODULE.split(file.read())[0]
@@ -166,7 +173,7 @@ def public_functions(crate, laws=False):
                 kind = found.group(1) if found and not line.endswith("{}") else ""
             elif line.startswith("}"):
                 kind = ""
-            match = PUBLIC_FUNCTION.match(line)
+            match = form.match(line)
             if match and (names is None or (kind or match.group(1)) in names) and bool(LAW.match(line)) == laws:
                 yield f"{kind}::{match.group(1)}" if kind else match.group(1)
 
@@ -188,8 +195,8 @@ def unbroken(_):
     found, edits = [], wrong_bodies.edits()
     for crate in sorted(os.listdir(os.path.join(TOP, "crates"))):
         of_crate = [edit for edit in edits if edit.crate == crate]
-        # The program's functions are no other crate's: a further edit will do for them.
-        broken = {name for edit in of_crate if "/must-fail/" in edit.path or crate == "blobd" for name in edit.breaks}
+        # The program's functions are nobody else's: a further edit will do for them.
+        broken = {name for edit in of_crate if "/must-fail/" in edit.path or crate in PROGRAM for name in edit.breaks}
         without = NO_OTHER_BODY.get(crate, set()) | NO_CLAUSE.get(crate, set())
         functions = [name for name in public_functions(crate) if name not in without]
         found += [f"{crate}: no must-fail edit breaks {name}" for name in functions if name not in broken]
@@ -368,6 +375,18 @@ def unwatched(_):
     ]
 
 
+def outside_the_program(_):
+    """Crates that stand on one of the program's and aren't the program's; and a half of the program that stands on the
+    other."""
+    found = [
+        f"{crate} stands on {name}"
+        for crate in sorted(set(os.listdir(os.path.join(TOP, "crates"))) - PROGRAM)
+        for name in sorted(stands_on(crate) & PROGRAM)
+    ]
+    halves = {"blobd_push", "blobd_serve"}
+    return found + [f"{half} stands on the other half" for half in sorted(halves) if halves <= stands_on(half)]
+
+
 def unversioned(paths):
     """The program's version, and that of the first entry of the changes, if it isn't that of the file VERSION."""
     version = text_of("VERSION").strip()
@@ -419,6 +438,7 @@ CHECKS = [
     ("each test that a page names is there", untested),
     ("README counts the lines of the headline's definitions", miscounted),
     ("make watches every crate that the program is built of", unwatched),
+    ("the program's crates are the program's alone", outside_the_program),
     ("the version is said once", unversioned),
     ("the page on using the crates shows its programs as they are", unshown),
     ("the stored connections are what the tests of disturbed streams take", disturbed),

@@ -8,7 +8,8 @@ use crate::uploads::{
 };
 use std::io;
 use std::time::Instant;
-use upload_names::{BlobDigest, Body, UploadRef};
+use upload_bytes::Body;
+use upload_names::{BlobDigest, UploadRef};
 use upload_service::Service;
 
 const MIB: usize = 1024 * 1024;

@@ -3,7 +3,8 @@
 use sha2::{Digest, Sha256};
 use std::alloc::Global;
 use std::io;
-use upload_names::{BlobDigest, Body, NameFault, RepoName, UploadRef};
+use upload_bytes::Body;
+use upload_names::{BlobDigest, NameFault, RepoName, UploadRef};
 use upload_service::{Answer, Ask, Extent, Limits, Service};
 
 /// The error if the service answers what it must not.

@@ -10,7 +10,8 @@ use Rattle.upload_wire.specs.ConnectionRuns.{answered, service_exchanges, Conver
 use Rattle.upload_wire.specs.ServiceTurns.{StepsService}
 use Rattle.upload_wire.specs.declared.connection.ConnEnd.{ConnEnd}
 use Rattle.upload_wire.specs.declared.desk.ServiceDesk.{ServiceDesk}
-use Rattle.blobd.specs.Once.{program_limits, first_desk, status_of, IsOnce}
+use Rattle.blobd_serve.specs.Limits.{program_limits}
+use Rattle.blobd.specs.Once.{first_desk, status_of, IsOnce}
 
 pub with_first_desk : (first left : SourceState) (before after : SinkState)
     (end : ConnEnd) (limits : Limits) (desk new : ServiceDesk) → limits ≡ program_limits → desk ≡ first_desk

@@ -1,13 +1,3 @@
-pub mod Halves
-pub mod LogLine
-pub mod LogTold
 pub mod Once
-pub mod Pace
-pub mod Pushed
-pub mod Serving
-pub mod Shown
 pub mod Size
-pub mod Status
-pub mod Trouble
-pub mod Waits
 pub mod Words

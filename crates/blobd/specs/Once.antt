@@ -1,6 +1,5 @@
 -- What `blobd once` does: one conversation with a new service.
 use Rattle.std.specs.Prelude.{◌≡◌, ℕ, replicate}
-use Rattle.upload_service.specs.declared.limits.Limits.{Limits}
 use Rattle.upload_service.specs.Machine.{empty_state}
 use Rattle.upload_service.specs.Run.{Run}
 use Rattle.upload_service.specs.Headline.{Headline}
@@ -12,10 +11,7 @@ use Rattle.upload_wire.specs.declared.connection.ConnEnd.{ConnEnd}
 use Rattle.upload_wire.specs.declared.connection.ConnEnd.TheVariants.{Clean, AfterClose, AfterBad, TooMany, DeskGone}
 use Rattle.upload_wire.specs.declared.connection.ConnEnd.TheVariants.{Fault}
 use Rattle.upload_wire.specs.declared.desk.ServiceDesk.{ServiceDesk}
-
--- 16 GiB a blob, 2 GiB a body, 1,024 open sessions, an hour without a chunk
-abbrev pub program_limits : Limits
-program_limits = record { max_blob = 17179869184; max_body = 2147483648; max_open = 1024; max_idle = 3600 }
+use Rattle.blobd_serve.specs.Limits.{program_limits}
 
 -- a new service behind a desk with the zero secret, at moment 0
 abbrev pub first_desk : ServiceDesk

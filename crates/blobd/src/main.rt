@@ -9,41 +9,22 @@
 
 ghost use Rattle.std.specs.Prelude.{◌≡◌, ◌≤◌, IfOk};
 
-mod accept;
-mod bar;
-mod closing;
-mod connection;
-mod dialer;
-mod handed;
 mod help;
-mod limits;
-mod log_lines;
 mod once;
-mod paced;
-mod push;
-mod request_log;
-mod serve;
-mod shown;
 mod size;
-mod sockets;
-mod status;
 mod streams;
 #[cfg(test)]
 mod tests;
-mod trouble;
-mod waits;
 mod words;
 
-use crate::accept::Terms;
 use crate::help::{HELP, VERSION};
 use crate::once::run_once;
-use crate::paced::Demand;
-use crate::push::run_push;
-use crate::serve::run_serve;
 use crate::size::is_slow;
-use crate::status::{DONE, FAULT, print_line};
 use crate::streams::hold_standard_streams;
 use crate::words::{Command, USAGE, read_switch, read_words, read_workers};
+use blobd_push::run_push;
+use blobd_serve::{Demand, Terms, run_serve};
+use blobd_shared::{DONE, FAULT, print_line};
 use http_wire::{FromRead, ToWrite};
 use std::env::VarError;
 use std::fs::Files;

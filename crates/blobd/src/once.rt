@@ -2,8 +2,8 @@
 ghost use Rattle.std.specs.Prelude.{◌≡◌};
 ghost use Rattle.blobd.specs.Once.{IsOnce, status_of};
 
-use crate::limits::limits;
-use crate::status::{DONE, FAULT, REFUSED};
+use blobd_serve::limits;
+use blobd_shared::{DONE, FAULT, REFUSED};
 use http_wire::{ByteSink, ByteSource};
 use std::alloc::Global;
 use upload_service::{Service, headline_holds};

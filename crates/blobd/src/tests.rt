@@ -1,10 +1,11 @@
-//! A server and pushes in one process.
+//! A server, and pushes to it, in one process.
+ghost use Rattle.std.specs.Prelude.{◌<◌};
 ghost use Rattle.std.specs.Thread.{IsSync};
 
-use crate::accept::Terms;
-use crate::paced::Demand;
-use crate::push::run_push;
-use crate::serve::run_serve;
+use blobd_push::run_push;
+use blobd_serve::{Demand, Terms, run_serve};
+use blobd_shared::DONE;
+use std::alloc::Global;
 use std::io::{Eprint, Read, Write};
 use std::net::{Net, SocketAddr, TcpListener, TcpStream};
 use std::random::RandomSource;
@@ -18,6 +19,12 @@ use std::{io, thread};
 /// How long the windows are in which a client has to move its bytes, in microseconds.
 const SECOND: u64 = 1_000_000;
 
+/// Short ones.
+const FIFTH: u64 = 200_000;
+
+const OPENING: &[u8] =
+    b"POST /v2/lib/a/blobs/uploads/ HTTP/1.1\r\nContent-Length: 0\r\nConnection: close\r\n\r\n";
+
 /// A line, and the exit status.
 type Printed = (Vec<u8>, u8);
 
@@ -30,21 +37,24 @@ where
     (out, status)
 }
 
+/// A connection for each of two workers, whose client has to move so many bytes in each window.
+fn terms(window: u64, least: u64) -> Terms
+    ensures { 0 < result.workers }
+{
+    Terms {
+        workers: 2,
+        count: 1,
+        demand: Demand { window, least },
+        logged: false,
+    }
+}
+
 fn served<R>(rt: &R, listener: &TcpListener, least: u64) -> Printed
 where
     R: Threads + Wait + Sync + AllocGlobal + Clock + RandomSource + Eprint + Copy + Send + 'static,
 {
     let mut out = Vec::new(rt.alloc());
-    let terms = Terms {
-        workers: 2,
-        count: 1,
-        demand: Demand {
-            window: SECOND,
-            least,
-        },
-        logged: false,
-    };
-    let status = run_serve(rt, listener, terms, &mut out);
+    let status = run_serve(rt, listener, terms(SECOND, least), &mut out);
     (out, status)
 }
 
@@ -104,9 +114,6 @@ fn a_name_that_is_none_is_refused(rt: HostRuntime) -> Result<(), Fail> {
     );
     Ok(())
 }
-
-const OPENING: &[u8] =
-    b"POST /v2/lib/a/blobs/uploads/ HTTP/1.1\r\nContent-Length: 0\r\nConnection: close\r\n\r\n";
 
 /// The reply to an opening that is sent in pieces, a tenth of a second apart, for about a second and a half.
 fn opened_slowly<R>(rt: &R, addr: SocketAddr) -> io::Result<Vec<u8>>
@@ -181,5 +188,56 @@ fn a_client_that_is_too_slow_is_cut(rt: HostRuntime) -> Result<(), Fail> {
         // The system may reset a connection that is cut.
         assert!(rt; reply.map_or(true, |text| text.is_empty()));
     }
+    Ok(())
+}
+
+fn reply(alloc: Global, client: &mut TcpStream) -> io::Result<String> {
+    let mut reply = String::new(alloc);
+    client.read_to_string(&mut reply)?;
+    Ok(reply)
+}
+
+/// Both connections wait to be accepted, with a request each, before the listener is served.
+#[test]
+fn a_connection_for_each_worker(rt: HostRuntime) -> Result<(), Fail> {
+    let alloc = rt.alloc();
+    let listener = TcpListener::bind(&rt, "127.0.0.1:0")?;
+    let addr = listener.local_addr()?;
+    let mut left = TcpStream::connect(&rt, addr)?;
+    let mut right = TcpStream::connect(&rt, addr)?;
+    left.write_all(OPENING)?;
+    right.write_all(OPENING)?;
+    let mut printed = Vec::new(alloc);
+    assert_eq!(rt;
+        run_serve(&rt, &listener, terms(FIFTH, 1), &mut printed),
+        DONE
+    );
+    let wanted = format!(in alloc; "listening {addr}\nserved\n")?;
+    assert_eq!(rt; printed.as_slice(), wanted.as_bytes());
+    for reply in [reply(alloc, &mut left)?, reply(alloc, &mut right)?] {
+        assert!(rt;
+            reply.starts_with("HTTP/1.1 202 Accepted\r\nLocation: /v2/lib/a/blobs/uploads/0000000")
+        );
+        assert!(rt; reply.ends_with("Content-Length: 0\r\nConnection: close\r\n\r\n"));
+    }
+    Ok(())
+}
+
+/// A client that sends nothing and one that sends half a head: neither holds its worker for long.
+#[test]
+fn silent_clients_are_ended(rt: HostRuntime) -> Result<(), Fail> {
+    let alloc = rt.alloc();
+    let listener = TcpListener::bind(&rt, "127.0.0.1:0")?;
+    let addr = listener.local_addr()?;
+    let mut silent = TcpStream::connect(&rt, addr)?;
+    let mut halting = TcpStream::connect(&rt, addr)?;
+    halting.write_all(&OPENING[..20])?;
+    let mut printed = Vec::new(alloc);
+    assert_eq!(rt;
+        run_serve(&rt, &listener, terms(FIFTH, 1), &mut printed),
+        DONE
+    );
+    assert_eq!(rt; reply(alloc, &mut silent)?.as_str(), "");
+    assert_eq!(rt; reply(alloc, &mut halting)?.as_str(), "");
     Ok(())
 }

@@ -8,7 +8,8 @@ ghost use Rattle.embed_service.specs.AtOnce.{at_once};
 
 use std::alloc::{AllocError, Global};
 use std::io::{self, ErrorKind};
-use upload_names::{BlobDigest, Body, RepoName};
+use upload_bytes::Body;
+use upload_names::{BlobDigest, RepoName};
 use upload_service::{Answer, Ask, Limits, Service};
 
 /// 1 MiB a blob and a body, 16 open sessions, an hour without a chunk.

@@ -17,10 +17,11 @@ use std::sync::Wait;
 use std::sync::atomic::AtomicU64;
 use std::test::*;
 use std::thread::{Threads, join};
+use upload_bytes::BlobBytes;
 use upload_intake::{Moments, Pool, ServeFault, Worker, ZeroSecrets, serve_workers};
 use upload_names::{BlobDigest, RepoName};
 use upload_push::{Outcome, PushFault, Why, has_blob, push};
-use upload_service::{Answer, Ask, BlobBytes, Limits, Service};
+use upload_service::{Answer, Ask, Limits, Service};
 use upload_wire::NoObserver;
 
 /// Fails the test if a case doesn't hold. The macro's expansion is proved once, here.

@@ -14,9 +14,10 @@ use std::test::*;
 use std::thread::{Promise, Threads};
 use std::{thread, vec};
 use test_content::content_of;
+use upload_bytes::{BlobBytes, Body};
 use upload_intake::{Gone, Keeper, Moments, Seat, SeatEnd, Settled, lines, settle};
-use upload_names::{Algorithm, BlobDigest, Body, ByteRange, RepoName, UploadRef};
-use upload_service::{Answer, Ask, BlobBytes, Extent, Limits, Refusal, Service};
+use upload_names::{Algorithm, BlobDigest, ByteRange, RepoName, UploadRef};
+use upload_service::{Answer, Ask, Extent, Limits, Refusal, Service};
 
 /// What a thread asks from its seat, and what it does with the answers.
 trait Script {

@@ -6,9 +6,8 @@ use std::process::Abort;
 use std::test::Fail;
 use std::thread::Threads;
 use test_content::content_of;
-use upload_names::{
-    Algorithm, BlobDigest, Body, BodyBuilder, Bytes, HashPlace, InPlace, InThreads,
-};
+use upload_bytes::{Body, BodyBuilder, HashPlace, InPlace, InThreads};
+use upload_names::{Algorithm, BlobDigest, Bytes};
 
 /// By what a body may be hashed as it comes.
 static HASHES: [Option<Algorithm>; 3] = [None, Some(Algorithm::Sha256), Some(Algorithm::Sha512)];
@@ -55,14 +54,8 @@ fn holds(body: &Body, content: &[u8]) -> bool {
 fn is_content(body: &Body, content: &[u8], digests: &[&[u8]; 2]) -> bool {
     holds(body, content)
         && body.len() == content.len()
-        && BlobDigest::of_body(Algorithm::Sha256, body)
-            .text()
-            .as_bytes()
-            == digests[0]
-        && BlobDigest::of_body(Algorithm::Sha512, body)
-            .text()
-            .as_bytes()
-            == digests[1]
+        && body.digest(Algorithm::Sha256).text().as_bytes() == digests[0]
+        && body.digest(Algorithm::Sha512).text().as_bytes() == digests[1]
 }
 
 /// Whether a body carries the hash that was asked for, and no other.
@@ -132,14 +125,12 @@ fn read_at<P: HashPlace>(
 fn is_hashed(body: &Body, hashed: Option<Algorithm>, content: &[u8]) -> bool {
     carries(body, hashed)
         && holds(body, content)
-        && BlobDigest::of_body(Algorithm::Sha256, body).same(&BlobDigest::of(
-            Algorithm::Sha256,
-            content,
-        ))
-        && BlobDigest::of_body(Algorithm::Sha512, body).same(&BlobDigest::of(
-            Algorithm::Sha512,
-            content,
-        ))
+        && body
+            .digest(Algorithm::Sha256)
+            .same(&BlobDigest::of(Algorithm::Sha256, content))
+        && body
+            .digest(Algorithm::Sha512)
+            .same(&BlobDigest::of(Algorithm::Sha512, content))
 }
 
 #[test]

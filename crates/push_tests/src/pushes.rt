@@ -12,13 +12,14 @@ mod random_worlds;
 use std::alloc::{AllocError, Global};
 use std::process::Abort;
 use std::test::Fail;
+use upload_bytes::{BlobBytes, Body};
 use upload_client::{Heard, LentChunk, Transport};
-use upload_names::{Algorithm, BlobDigest, Body, ByteRange, Bytes, RepoName, UploadRef};
+use upload_names::{Algorithm, BlobDigest, ByteRange, Bytes, RepoName, UploadRef};
 use upload_push::{
     Event, LossyWorld, Outcome, PushAsk, PushFault, PushStep, Pusher, Why, has_blob, push,
     push_promise, push_with,
 };
-use upload_service::{Answer, Ask, BlobBytes, Extent, Limits, Service};
+use upload_service::{Answer, Ask, Extent, Limits, Service};
 
 /// Fails the test if a case doesn't hold. The macro's expansion is proved once, here.
 fn check(rt: &impl Abort, holds: bool, case: &str) {

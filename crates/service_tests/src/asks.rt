@@ -2,10 +2,9 @@
 //! it is used.
 
 use std::alloc::{AllocError, Global};
-use upload_names::{
-    Algorithm, BlobDigest, Body, BodyBuilder, ByteRange, InPlace, NameFault, RepoName, UploadRef,
-};
-use upload_service::{Answer, Ask, BlobBytes, Extent, Refusal};
+use upload_bytes::{BlobBytes, Body, BodyBuilder, InPlace};
+use upload_names::{Algorithm, BlobDigest, ByteRange, NameFault, RepoName, UploadRef};
+use upload_service::{Answer, Ask, Extent, Refusal};
 
 /// Why a request can't be made of a line.
 #[derive(Clone, Copy, Debug)]

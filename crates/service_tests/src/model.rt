@@ -2,8 +2,9 @@
 //! digests that are computed anew.
 
 use std::alloc::{AllocError, Global};
-use upload_names::{BlobDigest, Body, Bytes, RepoName, UploadRef};
-use upload_service::{Answer, Ask, BlobBytes, Extent, Limits, Refusal};
+use upload_bytes::{BlobBytes, Body};
+use upload_names::{BlobDigest, Bytes, RepoName, UploadRef};
+use upload_service::{Answer, Ask, Extent, Limits, Refusal};
 
 #[derive(Drop)]
 struct Open {

@@ -13,7 +13,8 @@ ghost use Rattle.upload_texts.specs.Paths.{upload_path};
 
 use crate::transport::LentChunk;
 use http_wire::{ByteSink, Gather, WriteFault};
-use upload_names::{BlobDigest, Body, RepoName, UploadRef};
+use upload_bytes::Body;
+use upload_names::{BlobDigest, RepoName, UploadRef};
 use upload_service::{Ask, Extent};
 use upload_texts::put_parts;
 

@@ -4,7 +4,8 @@ ghost use Rattle.upload_client.specs.AskText.{CanBeWritten, ask_of_chunk};
 
 use crate::heard::Heard;
 use std::alloc::{AllocError, Global};
-use upload_names::{Body, RepoName, UploadRef};
+use upload_bytes::Body;
+use upload_names::{RepoName, UploadRef};
 use upload_service::{Ask, Extent};
 
 /// A chunk of an upload, whose name and bytes are lent.

@@ -1,7 +1,8 @@
 //! The way back from the keeper to one seat.
 use crate::ends::SendEnd;
 use crossbeam_channel::Sender;
-use upload_service::{Answer, HashEnd};
+use upload_bytes::HashEnd;
+use upload_service::Answer;
 
 /// A seat's reply line, and where it is told which thread's end to wait for. It is done when the seat's finish was
 /// taken.

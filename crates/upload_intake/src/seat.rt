@@ -10,8 +10,9 @@ use crate::message::Message;
 use crossbeam_channel::Receiver;
 use std::marker::Model;
 use std::sync::Wait;
+use upload_bytes::HashEnd;
 use upload_names::{Algorithm, UploadRef};
-use upload_service::{Answer, Ask, HashEnd};
+use upload_service::{Answer, Ask};
 
 /// How often a seat waits at most for the hash of an upload before it asks for the close. Twice are enough if nothing
 /// comes meanwhile: for the thread that was at work, and for the one that takes the rest in.

@@ -11,7 +11,7 @@ use crate::seat::{Seat, SeatEnd};
 use std::snapshot::Snapshot;
 use std::sync::Wait;
 use std::thread::{Promise, Threads};
-use upload_names::InThreads;
+use upload_bytes::InThreads;
 use upload_wire::{ConnEnd, ConnectionServer, Observer};
 
 /// What a worker serves, with which secrets, and who is told of it.

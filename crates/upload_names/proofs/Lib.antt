@@ -4,4 +4,3 @@ pub mod RangeFacts
 pub mod ReferenceFacts
 pub mod TextFacts
 pub mod ReferenceTexts
-pub mod Parts

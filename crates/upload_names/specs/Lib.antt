@@ -6,6 +6,3 @@ pub mod Digest
 pub mod Sum
 pub mod ByteRange
 pub mod Reference
-pub mod Running
-pub mod Body
-pub mod Hashing

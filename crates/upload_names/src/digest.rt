@@ -8,7 +8,6 @@ ghost use Rattle.sha2.specs.Hashers.{Holds256, Holds512};
 ghost use Rattle.upload_names.specs.Digest.{Digest as DigestModel, IsDigest, SpellsDigest, content_digest, digest_of};
 ghost use Rattle.upload_names.specs.Digest.{digest_text, digits_read, is_lower_digit, hash_size};
 
-use crate::body::Body;
 use sha2::{Digest, Sha256, Sha512};
 use std::cmp::Ordering;
 use std::fmt;
@@ -197,30 +196,6 @@ fn read_digits<const N: usize>(digits: &[u8]) -> Option<[u8; N]>
     }
 }
 
-/// A SHA-256 that holds a body: the one that it carries, or a new one.
-fn sha256_of(body: &Body) -> Sha256
-    ensures { Holds256 result body.now }
-{
-    if let Some(hash) = body.sha256() {
-        return hash;
-    }
-    let mut hash = Sha256::new();
-    body.hash_into(&mut hash);
-    hash
-}
-
-/// A SHA-512 that holds a body: the one that it carries, or a new one.
-fn sha512_of(body: &Body) -> Sha512
-    ensures { Holds512 result body.now }
-{
-    if let Some(hash) = body.sha512() {
-        return hash;
-    }
-    let mut hash = Sha512::new();
-    body.hash_into(&mut hash);
-    hash
-}
-
 impl BlobDigest {
     /// Reads a digest's text: `sha256:` and 64, or `sha512:` and 128, digits of `0` to `9` and `a` to `f`.
     pub fn read(text: &[u8]) -> Option<BlobDigest>
@@ -250,17 +225,6 @@ impl BlobDigest {
         BlobDigest { sum }
     }
 
-    /// The digest of a body by an algorithm. A body that carries its hash isn't hashed again.
-    pub fn of_body(algorithm: Algorithm, body: &Body) -> BlobDigest
-        ensures { result ≡ content_digest algorithm body.now }
-    {
-        let sum = match algorithm {
-            Algorithm::Sha256 => Sum::Sha256(sha256_of(body).finalize()),
-            Algorithm::Sha512 => Sum::Sha512(sha512_of(body).finalize()),
-        };
-        BlobDigest { sum }
-    }
-
     /// The SHA-256 digest of what was hashed so far, piece by piece.
     pub fn of_hashed(hash: Sha256) -> BlobDigest
         requires { (content : List ℕ) × Holds256 hash content }
@@ -268,6 +232,16 @@ impl BlobDigest {
             → result ≡ content_digest Algorithm.Sha256 content }
     {
         let sum = Sum::Sha256(hash.finalize());
+        BlobDigest { sum }
+    }
+
+    /// The SHA-512 digest of what was hashed so far, piece by piece.
+    pub fn of_hashed_512(hash: Sha512) -> BlobDigest
+        requires { (content : List ℕ) × Holds512 hash content }
+        ensures { (content : List ℕ) → Holds512 hash content
+            → result ≡ content_digest Algorithm.Sha512 content }
+    {
+        let sum = Sum::Sha512(hash.finalize());
         BlobDigest { sum }
     }
 

@@ -3,22 +3,14 @@
 //! that its text spells; the definitions are those of `specs/`.
 #![tactic(auto)]
 
-mod body;
 mod bytes;
 mod digest;
-mod hash_end;
-mod hashing;
 mod name;
-mod part;
 mod range;
 mod reference;
 
-pub use body::{Body, BodyBuilder, Pieces};
 pub use bytes::Bytes;
 pub use digest::{Algorithm, BlobDigest, DigestText, NotADigest, digests_are_decided};
-pub use hash_end::HashEnd;
-pub use hashing::{Away, Behind, HashPlace, Hashing, InPlace, InThreads, Running};
 pub use name::{NameFault, RepoName, names_are_decided};
-pub use part::{Part, share_all, share_into, take_in};
 pub use range::{ByteRange, NotARange, ranges_are_decided};
 pub use reference::{NotAReference, UploadRef, references_read_back};

@@ -103,7 +103,7 @@ issued_turn s ask secret now answer new turn =
     let Q : Answer → State → Type 0 = λ a t. s.issued ≤ t.issued in
     turn_case Q s ask secret now answer new
     (λ a t comes. elim comes [
-      | inl c ↦ subst (λ (x : State). s.issued ≤ x.issued) (sym c.1) 
+      | inl c ↦ subst (λ (x : State). s.issued ≤ x.issued) (sym c.1)
           (issued_stay s.issued (effect (outcome s ask secret now)).sessions)
       | inr c ↦ subst (λ (x : State). s.issued ≤ x.issued) (sym c.2) (omega arith)
     ]) turn

@@ -7,8 +7,9 @@ ghost use Rattle.upload_push.specs.Slices.{IsPush, push_of, push_under, request_
 use crate::pusher::{Outcome, PushAsk, PushStep, Pusher, Why};
 use std::alloc::{AllocError, Global};
 use std::fmt;
+use upload_bytes::Body;
 use upload_client::{Heard, LentChunk, Transport};
-use upload_names::{Algorithm, BlobDigest, Body, RepoName};
+use upload_names::{Algorithm, BlobDigest, RepoName};
 use upload_service::{Ask, Extent};
 
 /// Why a push has no outcome.

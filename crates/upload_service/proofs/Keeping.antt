@@ -1,6 +1,4 @@
 pub mod Tables
-pub mod Parts
-pub mod Prefixes
 pub mod Kept
 pub mod Swept
 pub mod Lookups

@@ -1,9 +1,6 @@
 -- What the tables, the segments and the hashes of a service stand for. Nothing here is part of what it promises.
-pub mod Blobs
 pub mod Entries
 pub mod Holders
-pub mod Parts
-pub mod Running
 pub mod Slack
 pub mod Stock
 pub mod Tables

@@ -1,6 +1,6 @@
 //! What a request is answered.
 
-use crate::shared::BlobBytes;
+use upload_bytes::BlobBytes;
 use upload_names::{BlobDigest, RepoName, UploadRef};
 
 /// The forms of a request's path.

@@ -1,7 +1,8 @@
 //! What a request asks.
 
 use crate::answer::Refusal;
-use upload_names::{BlobDigest, Body, ByteRange, RepoName, UploadRef};
+use upload_bytes::Body;
+use upload_names::{BlobDigest, ByteRange, RepoName, UploadRef};
 
 /// The Content-Range of a request for an upload.
 #[derive(Clone, Copy)]

@@ -10,21 +10,14 @@ pub use laws::{
 };
 pub use limits::Limits;
 pub use service::Service;
-pub use shared::BlobBytes;
-pub use upload_names::HashEnd;
 
 mod answer;
 mod ask;
-mod blob;
 mod holders;
 mod laws;
 mod limits;
-mod prefix_hash;
-mod received;
-mod segments;
 mod service;
 mod sessions;
-mod shared;
 mod slack;
 mod stock;
 mod turn;

@@ -16,7 +16,8 @@ use crate::turn::{Tables, Verdict, judge, turn};
 use std::alloc::{AllocError, Global};
 use std::marker::Model;
 use std::thread::Threads;
-use upload_names::{Algorithm, BlobDigest, HashEnd, RepoName, UploadRef};
+use upload_bytes::HashEnd;
+use upload_names::{Algorithm, BlobDigest, RepoName, UploadRef};
 
 /// The upload service: the open sessions, the stored blobs, and which repository has which blob. It and its
 /// limits are lawful wherever it is held.

@@ -7,12 +7,12 @@ ghost use Rattle.upload_service.specs.Machine.{Session, is_idle, awake_of, swept
 ghost use Rattle.upload_service.specs.Kept.Entries.{session_of, is_kept};
 
 use crate::limits::Limits;
-use crate::received::Received;
 use std::alloc::{AllocError, Global};
 use std::collections::BTreeMap;
 use std::marker::Model;
 use std::thread::Threads;
-use upload_names::{Algorithm, BlobDigest, Body, HashEnd, RepoName, UploadRef};
+use upload_bytes::{Body, HashEnd, Received};
+use upload_names::{Algorithm, BlobDigest, RepoName, UploadRef};
 
 /// A session that was opened and not yet closed.
 #[derive(Drop)]

@@ -9,12 +9,12 @@ ghost use Rattle.std.specs.Map.{lookup};
 ghost use Rattle.upload_service.specs.Machine.{same};
 ghost use Rattle.upload_service.specs.Kept.Stock.{blob_in, is_held, or_empty, digest_at};
 
-use crate::blob::Blob;
 use crate::holders::{Holders, Names};
 use std::alloc::{AllocError, Global};
 use std::collections::BTreeMap;
 use std::marker::Model;
 use std::sync::Arc;
+use upload_bytes::Blob;
 use upload_names::{Algorithm, BlobDigest, RepoName};
 
 /// A stored blob and the repositories that have it.

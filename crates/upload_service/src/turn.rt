@@ -6,19 +6,19 @@ ghost use Rattle.std.specs.FinMap as map;
 ghost use Rattle.upload_service.specs.UploadView.{AsksOffset};
 ghost use Rattle.upload_service.specs.Machine.{Session, Commits, Mounts, Comes, Turn, opening as opening_of};
 ghost use Rattle.upload_service.specs.Machine.{at_session, awake};
-ghost use Rattle.upload_service.specs.Kept.Blobs.{body_in};
+ghost use Rattle.upload_bytes.specs.Blobs.{body_in};
 ghost use Rattle.upload_service.specs.Kept.Entries.{session_of};
 ghost use Rattle.upload_service.specs.Kept.Tables.{state_of, IsVerdict, chunk_of, close_of, IsPlaced, IsTurnedAway};
 
 use crate::answer::{Answer, Refusal};
 use crate::ask::{Ask, Extent};
-use crate::blob::{Blob, Several};
 use crate::limits::Limits;
 use crate::sessions::{OpenSession, Sessions};
 use crate::slack::Slack;
 use crate::stock::Stock;
 use std::alloc::Global;
-use upload_names::{BlobDigest, Body, RepoName, UploadRef};
+use upload_bytes::{Blob, Body, Several};
+use upload_names::{BlobDigest, RepoName, UploadRef};
 
 /// All that a service keeps.
 #[derive(Drop)]
@@ -232,8 +232,7 @@ fn blob_of(alloc: Global, sessions: &mut Sessions, at: &UploadRef, place: Box<Se
     let Some(session) = sessions.close(at) else {
         unreachable!();
     };
-    let segments = session.received.into_segments();
-    Blob::of_parts(alloc, segments, place)
+    Blob::of_received(alloc, session.received, place)
 }
 
 /// Opens a session.
@@ -306,7 +305,7 @@ fn single(tables: &mut Tables, name: RepoName, digest: Option<BlobDigest>, body:
     let Some(digest) = digest else {
         return Answer::Refused(Refusal::NoDigest);
     };
-    let content = BlobDigest::of_body(digest.algorithm(), &body);
+    let content = body.digest(digest.algorithm());
     if !content.same(&digest) {
         return Answer::Refused(Refusal::Mismatch);
     }

@@ -3,7 +3,7 @@ ghost use Rattle.std.specs.List.{concat};
 ghost use Rattle.http_wire.specs.Inner.Gathering.{Puts};
 
 use http_wire::{ByteSink, Gather};
-use upload_names::Part;
+use upload_bytes::Part;
 
 /// Puts parts behind a head, one after another. What fits leaves in the same write.
 pub fn put_parts<W: ByteSink>(head: &mut Gather, writer: &mut W, parts: &[Part])

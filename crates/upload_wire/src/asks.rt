@@ -9,7 +9,8 @@ ghost use Rattle.upload_wire.specs.Target.{with_body, AsksAt, HeadAsks, HasNoSla
 use http_uri::{Uri, UriError};
 use http_wire::{Framing, parameter};
 use std::alloc::{AllocError, Global};
-use upload_names::{Algorithm, BlobDigest, Body, NameFault, RepoName, UploadRef};
+use upload_bytes::Body;
+use upload_names::{Algorithm, BlobDigest, NameFault, RepoName, UploadRef};
 use upload_service::{Ask, Extent, Form, Refusal};
 
 /// The forms of a path, with their parts.

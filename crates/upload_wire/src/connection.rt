@@ -21,7 +21,7 @@ use http_wire::{Bad, ByteSink, ByteSource, HeadRead, WireFault, bad_status, writ
 use std::alloc::{AllocError, Global};
 use std::fmt;
 use std::marker::Model;
-use upload_names::{HashPlace, InPlace};
+use upload_bytes::{HashPlace, InPlace};
 use upload_service::{Answer, Limits};
 
 /// The most requests that are answered on one connection.

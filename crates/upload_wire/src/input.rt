@@ -19,7 +19,8 @@ use http_wire::{
 };
 use std::alloc::{AllocError, Global};
 use std::marker::Model;
-use upload_names::{HashPlace, InPlace, UploadRef};
+use upload_bytes::{HashPlace, InPlace};
+use upload_names::UploadRef;
 use upload_service::{Answer, Limits};
 
 /// The requests of one connection after the other, through one buffer.

@@ -14,7 +14,8 @@ use http_wire::{
     field_named, framing_of, keeps_connection, read_body,
 };
 use std::alloc::{AllocError, Global};
-use upload_names::{BodyBuilder, ByteRange, HashPlace, UploadRef};
+use upload_bytes::{BodyBuilder, HashPlace};
+use upload_names::{ByteRange, UploadRef};
 use upload_service::{Ask, Extent};
 
 /// Which bodies are hashed as they come, and where.

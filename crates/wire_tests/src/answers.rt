@@ -1,8 +1,9 @@
 //! Answers, as plain words of a table.
 
 use std::alloc::{AllocError, Global};
+use upload_bytes::BlobBytes;
 use upload_names::{Algorithm, BlobDigest, Bytes, RepoName, UploadRef};
-use upload_service::{Answer, BlobBytes, Refusal};
+use upload_service::{Answer, Refusal};
 
 /// What is answered, under `lib/a` and of the blob `abc`.
 #[derive(Clone, Copy)]

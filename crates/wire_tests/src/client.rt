@@ -12,11 +12,12 @@ use std::alloc::{AllocError, Global};
 use std::fmt::Display;
 use std::process::Abort;
 use std::test::Fail;
+use upload_bytes::{BlobBytes, Body};
 use upload_client::{
     AnswerReader, Heard, HeardFault, Transport, WireTransport, heard_of, read_place, write_ask,
 };
-use upload_names::{Algorithm, BlobDigest, Body, ByteRange, Bytes, NameFault, RepoName, UploadRef};
-use upload_service::{Answer, Ask, BlobBytes, Extent, Form, Refusal};
+use upload_names::{Algorithm, BlobDigest, ByteRange, Bytes, NameFault, RepoName, UploadRef};
+use upload_service::{Answer, Ask, Extent, Form, Refusal};
 use upload_wire::{Style, write_reply};
 
 const UPLOAD: &[u8] = b"/v2/lib/a/blobs/uploads/00000001-0000-8000-8000-000000000000";

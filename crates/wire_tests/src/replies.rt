@@ -7,8 +7,9 @@ use crate::expect::{same, same_bytes};
 use http_wire::{Bad, ByteSink, Failed, ToWrite, Transcript, WriteFault, write_bad};
 use std::alloc::Global;
 use std::test::Fail;
+use upload_bytes::BlobBytes;
 use upload_names::{Algorithm, BlobDigest, Bytes, UploadRef};
-use upload_service::{Answer, BlobBytes, Form, Refusal};
+use upload_service::{Answer, Form, Refusal};
 use upload_wire::{Style, write_reply};
 
 const KEPT: Style = Style {

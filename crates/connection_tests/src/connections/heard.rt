@@ -9,7 +9,7 @@ use std::marker::Model;
 use std::process::Abort;
 use std::str;
 use std::test::Fail;
-use upload_names::InPlace;
+use upload_bytes::InPlace;
 use upload_service::Service;
 use upload_wire::{ConnEnd, ConnFault, ConnectionServer, Observer, RequestLine, ServiceDesk};
 

@@ -7,7 +7,7 @@ use memory_ends::{MemorySink, MemorySource};
 use std::alloc::Global;
 use std::process::Abort;
 use std::test::Fail;
-use upload_names::InPlace;
+use upload_bytes::InPlace;
 use upload_wire::{ConnEnd, ConnFault, ConnectionServer, NoObserver};
 
 /// What is sent, which is more than is answered, and how the connection ends.

@@ -5,7 +5,8 @@ use super::{End, check, chunk_of_one, is_as_promised, name, pushed, session};
 use std::alloc::Global;
 use std::process::Abort;
 use std::test::Fail;
-use upload_names::{BlobDigest, Body};
+use upload_bytes::Body;
+use upload_names::BlobDigest;
 use upload_push::Event;
 use upload_service::{Ask, Extent};
 

@@ -9,7 +9,8 @@ use std::alloc::Global;
 use std::process::Abort;
 use std::test::Fail;
 use test_content::content_of;
-use upload_names::{Algorithm, Body};
+use upload_bytes::Body;
+use upload_names::Algorithm;
 use upload_service::{Answer, Ask, Limits, Service};
 use upload_wire::{ConnEnd, Desk, Next, RequestReader, ServiceDesk, serve_connection};
 

@@ -11,7 +11,8 @@ use std::alloc::{AllocError, Global};
 use std::process::Abort;
 use std::test::Fail;
 use test_content::content_of;
-use upload_names::{BlobDigest, Body, UploadRef};
+use upload_bytes::Body;
+use upload_names::{BlobDigest, UploadRef};
 use upload_service::{Answer, Ask, Extent, Limits, Service};
 use upload_wire::write_reply;
 

@@ -12,8 +12,8 @@ unfolding Turn
 returns-then-not-same c = λ _ now.
     let fits : length c.args.body ≤ c.args.tables.now.limits.max_blob =
     subst (λ n. n ≤ c.args.tables.now.limits.max_blob) c.len.ensures c.if-len-tables.false in
-    let content : c.of_body-content.result ≡ content_digest c.in-Some.digest.algorithm c.args.body =
-    c.of_body-content.ensures ∙ ap (λ a. content_digest a c.args.body) c.algorithm.ensures in
+    let content : c.digest-content.result ≡ content_digest c.in-Some.digest.algorithm c.args.body =
+    c.digest-content.ensures ∙ ap (λ a. content_digest a c.args.body) c.algorithm.ensures in
     let other : content_digest c.in-Some.digest.algorithm c.args.body ≢ c.in-Some.digest =
     λ e. true≢false (sym (c.same.ensures.1 (content ∙ e)) ∙ c.if-not-same.true) in
     does _ _ _ (refused refusals.Mismatch) _ _
@@ -26,8 +26,8 @@ unfolding Turn
 returns-in_default-store c = λ _ now.
     let fits : length c.args.body ≤ c.args.tables.now.limits.max_blob =
     subst (λ n. n ≤ c.args.tables.now.limits.max_blob) c.len.ensures c.if-len-tables.false in
-    let content : c.of_body-content.result ≡ content_digest c.in-Some.digest.algorithm c.args.body =
-    c.of_body-content.ensures ∙ ap (λ a. content_digest a c.args.body) c.algorithm.ensures in
+    let content : c.digest-content.result ≡ content_digest c.in-Some.digest.algorithm c.args.body =
+    c.digest-content.ensures ∙ ap (λ a. content_digest a c.args.body) c.algorithm.ensures in
     let own : content_digest c.in-Some.digest.algorithm c.args.body ≡ c.in-Some.digest =
     sym content ∙ c.same.ensures.0 c.if-not-same.false in
     lacks _ _ _ (Stores c.args.name c.in-Some.digest c.args.body) _ _
@@ -47,8 +47,8 @@ unfolding Turn
 returns c = λ _ now.
     let fits : length c.args.body ≤ c.args.tables.now.limits.max_blob =
     subst (λ n. n ≤ c.args.tables.now.limits.max_blob) c.len.ensures c.if-len-tables.false in
-    let content : c.of_body-content.result ≡ content_digest c.in-Some.digest.algorithm c.args.body =
-    c.of_body-content.ensures ∙ ap (λ a. content_digest a c.args.body) c.algorithm.ensures in
+    let content : c.digest-content.result ≡ content_digest c.in-Some.digest.algorithm c.args.body =
+    c.digest-content.ensures ∙ ap (λ a. content_digest a c.args.body) c.algorithm.ensures in
     let own : content_digest c.in-Some.digest.algorithm c.args.body ≡ c.in-Some.digest =
     sym content ∙ c.same.ensures.0 c.if-not-same.false in
     let blobs : c.store.new.self.blobs ≡ map.insert c.args.tables.now.stock.blobs c.in-Some.digest c.args.body =
@@ -70,8 +70,8 @@ unfolding Turn
 returns-in_default-of c = λ _ now.
     let fits : length c.args.body ≤ c.args.tables.now.limits.max_blob =
     subst (λ n. n ≤ c.args.tables.now.limits.max_blob) c.len.ensures c.if-len-tables.false in
-    let content : c.of_body-content.result ≡ content_digest c.in-Some.digest.algorithm c.args.body =
-    c.of_body-content.ensures ∙ ap (λ a. content_digest a c.args.body) c.algorithm.ensures in
+    let content : c.digest-content.result ≡ content_digest c.in-Some.digest.algorithm c.args.body =
+    c.digest-content.ensures ∙ ap (λ a. content_digest a c.args.body) c.algorithm.ensures in
     let own : content_digest c.in-Some.digest.algorithm c.args.body ≡ c.in-Some.digest =
     sym content ∙ c.same.ensures.0 c.if-not-same.false in
     lacks _ _ _ (Stores c.args.name c.in-Some.digest c.args.body) _ _
@@ -84,8 +84,8 @@ unfolding Turn
 returns-in_default-renew c = λ _ now.
     let fits : length c.args.body ≤ c.args.tables.now.limits.max_blob =
     subst (λ n. n ≤ c.args.tables.now.limits.max_blob) c.len.ensures c.if-len-tables.false in
-    let content : c.of_body-content.result ≡ content_digest c.in-Some.digest.algorithm c.args.body =
-    c.of_body-content.ensures ∙ ap (λ a. content_digest a c.args.body) c.algorithm.ensures in
+    let content : c.digest-content.result ≡ content_digest c.in-Some.digest.algorithm c.args.body =
+    c.digest-content.ensures ∙ ap (λ a. content_digest a c.args.body) c.algorithm.ensures in
     let own : content_digest c.in-Some.digest.algorithm c.args.body ≡ c.in-Some.digest =
     sym content ∙ c.same.ensures.0 c.if-not-same.false in
     lacks _ _ _ (Stores c.args.name c.in-Some.digest c.args.body) _ _

@@ -1,0 +1,90 @@
+-- What goes wrong with a push, and the words for it.
+use Rattle.std.specs.Prelude.{ℕ, ◌+◌, ◌-◌, ◌^◌, min, ◌==◌, ◌&&◌, ◌||◌, nat_eq, nat_le, Bool, false, List}
+use Rattle.std.specs.Prelude.{◌∷◌, codes, Option, Some, None, option_map, is_some, if◌then◌else◌}
+use Rattle.std.specs.List.{starts_with}
+use Rattle.upload_client.specs.declared.heard.Heard.{Heard}
+use Rattle.upload_push.specs.declared.pusher.Why.{Why}
+use Rattle.upload_push.specs.declared.pusher.Why.TheVariants.{Refused, BadServer, OutOfTries}
+use Rattle.blobd_push.specs.declared.trouble.Advice.{Advice}
+use Rattle.blobd_push.specs.declared.trouble.Advice.TheVariants.{IsItHttps, NoLogin, PushAgain, IsItARegistry, Adapter}
+use Rattle.blobd_push.specs.declared.trouble.Course.{Course}
+use Rattle.blobd_push.specs.declared.trouble.Reason.{Reason}
+use Rattle.blobd_push.specs.declared.trouble.Reason.TheVariants.{Advised, Lost}
+use Rattle.blobd_push.specs.declared.trouble.Trouble.{Trouble}
+use Rattle.blobd_push.specs.declared.trouble.Trouble.TheVariants.{NoReply, NoConnection, System, Silence, Closed, Tls}
+use Rattle.blobd_push.specs.declared.trouble.Trouble.TheVariants.{NotHttp, Unavailable, Misplaced}
+
+-- a record of TLS begins with its kind, 20 to 23, and a version whose first byte is 3 (RFC 8446, section 5.1)
+abbrev pub is_tls : List ℕ → Bool
+is_tls (kind ∷ version ∷ rest) = nat_le 20 kind && nat_le kind 23 && version == 3
+is_tls _ = false
+
+-- the bytes are those that a reply of HTTP begins with, as far as they go
+abbrev pub is_http : List ℕ → Bool
+is_http bytes = starts_with nat_eq bytes (codes "HTTP/") || starts_with nat_eq (codes "HTTP/") bytes
+
+-- what is wrong with the first bytes that a server sends
+abbrev pub trouble_in : List ℕ → Option Trouble
+trouble_in bytes = if is_tls bytes then Some Tls else if is_http bytes then None else Some NotHttp
+
+-- Linux's number of an error; EAGAIN is that of a read or a write that no byte moved in time
+abbrev pub error_trouble : ℕ → Trouble
+error_trouble number = if number == 11 then Silence else System number
+
+-- nothing was asked yet
+abbrev pub new_course : Course
+new_course = record { losses = 0; opened = false }
+
+-- one request more took a try; the count stops at 2^64 - 1
+abbrev pub lost : Course → Course
+lost c = record { losses = min (c.losses + 1) (2 ^ 64 - 1); opened = c.opened }
+
+-- How the requests of a push went once this was heard to one more: nothing, 503 and 416 take a try, and a 202 opened an
+-- upload.
+abbrev pub course_after : Option Heard → Course → Course
+course_after None c = lost c
+course_after (Some h) c =
+    if h.status == 503
+    || h.status == 416 then lost c else record { losses = c.losses; opened = c.opened || h.status == 202 }
+
+-- the words for a trouble
+abbrev pub words_of : Trouble → List ℕ
+words_of NoReply = codes "no reply of a form that is read"
+words_of (System number) = codes "no reply of a form that is read"
+words_of NoConnection = codes "no connection within 10 s"
+words_of Silence = codes "the server was silent for 30 s"
+words_of Closed = codes "the server closed the connection before it had replied: is this https?"
+words_of Tls = codes "the reply is TLS: is this https? A push speaks plain HTTP"
+words_of NotHttp = codes "the reply isn't HTTP: is this https?"
+words_of Unavailable = codes "the server answers 503: it has no memory left, or can't serve now"
+words_of Misplaced = codes "the server answers 416: does another client write into the upload?"
+
+-- what is wrong with a reply of this status, if it takes a try
+abbrev pub status_trouble : ℕ → Option Trouble
+status_trouble status = if status == 503 then Some Unavailable else if status == 416 then Some Misplaced else None
+
+-- What to do about a reply that ended a push: by its status, whether it had an error code, and whether an upload was
+-- opened before.
+abbrev pub advice_on : ℕ → Bool → Bool → Option Advice
+advice_on status coded opened =
+    if status == 400 then (if coded then None else Some IsItHttps)
+    else if status == 401 then Some NoLogin
+    else if status == 404 then (if opened then Some PushAgain else Some IsItARegistry)
+    else None
+
+-- the words for what to do
+abbrev pub words_of_advice : Advice → List ℕ
+words_of_advice IsItHttps = codes "is this https? A push speaks plain HTTP"
+words_of_advice NoLogin =
+    codes
+    "it wants a login, and a push has none: push to the reverse proxy's local address, or through deploy/adapter.cfg"
+words_of_advice PushAgain = codes "it lost the upload, as a server does that is started again: push again"
+words_of_advice IsItARegistry = codes "it takes no uploads into this repository: is it a registry?"
+words_of_advice Adapter =
+    codes "it is another kind of server, as by the form of its Location: push through deploy/adapter.cfg"
+
+-- what there is to say of a push that was given up, beside its line
+abbrev pub reason_of : Why → Course → Trouble → Option Reason
+reason_of (Refused status code) course trouble = option_map Advised (advice_on status (is_some code) course.opened)
+reason_of BadServer course trouble = Some (Advised Adapter)
+reason_of OutOfTries course trouble = Some (Lost trouble course.losses)

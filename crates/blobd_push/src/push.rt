@@ -1,0 +1,191 @@
+//! `blobd push`: a file goes up, over connections that are made anew after a fault.
+ghost use Rattle.std.specs.Prelude.{length, ◌≡◌, ◌≤◌, ◌^◌, ◌++◌, codes, string_bytes, None, Some};
+ghost use Rattle.upload_names.specs.Digest.{content_digest, digest_text};
+ghost use Rattle.upload_names.specs.declared.digest.Algorithm.{Algorithm};
+ghost use Rattle.upload_push.specs.Slices.{push_under};
+ghost use Rattle.blobd_shared.specs.Status.{IsPrinted};
+ghost use Rattle.blobd_push.specs.Pushed.{IsEndLine, IsPushed, IsSent, outcome_word, shown_code, why_text};
+
+use crate::bar::Bar;
+use crate::dialer::{Dialer, is_word};
+use crate::trouble::{Course, NAME_RULE, Trouble, reason_of};
+use blobd_shared::{DONE, FAULT, REFUSED, print_line};
+use sha2::{Digest, Sha256};
+use std::alloc::Global;
+use std::cell::Cell;
+use std::io::{Eprint, Write};
+use std::net::{Net, SocketAddr, TcpStream};
+use std::rt::Clock;
+use upload_names::{BlobDigest, Bytes, NameFault, RepoName};
+use upload_push::{Outcome, PushFault, Why, has_blob, push_under};
+
+/// How often a push may go on after a request whose reply wasn't heard.
+const TRIES: u32 = 5;
+
+/// How many bytes are hashed between two looks at the clock.
+const PIECE: usize = 1_048_576;
+
+/// The code as it is printed: `-` if there is none, if it is empty, or if it isn't visible ASCII, since a
+/// server could else write more lines than one.
+fn printable(code: &Option<Bytes>) -> &str
+    ensures { result.now ≡ shown_code code.now }
+{
+    match code {
+        Some(code) if is_word(code.as_slice()) => { str::from_utf8(code.as_slice()).unwrap_or("-") }
+        _ => "-",
+    }
+}
+
+/// Prints why a push was given up, and gives the exit status.
+fn print_why<W: Write>(out: &mut W, why: &Why) -> u8
+    ensures { IsPrinted (Some (why_text why.now)) (W.contents out.old)
+        (W.contents out.new) 1 result }
+{
+    match why {
+        Why::Refused(status, code) => {
+            let code = printable(code);
+            print_line(out, format_args!("refused: {status} {code}"), REFUSED)
+        }
+        Why::BadServer => print_line(out, "refused: bad server", REFUSED),
+        Why::OutOfTries => print_line(out, "refused: out of tries", REFUSED),
+    }
+}
+
+/// The word for how a push ended well.
+fn outcome_word(outcome: Outcome) -> &'static str
+    ensures { result.now ≡ outcome_word outcome }
+{
+    match outcome {
+        Outcome::Pushed => "pushed",
+        Outcome::Already => "already",
+    }
+}
+
+/// Prints a word and a digest, and gives the exit status.
+fn print_digest<W: Write>(out: &mut W, word: &str, digest: BlobDigest) -> u8
+    ensures { IsPrinted (Some (word.now ++ (codes " " ++ digest_text digest))) (W.contents out.old)
+        (W.contents out.new) 0 result }
+{
+    let text = digest.text();
+    let text = str::from_utf8(text.as_bytes()).unwrap_or("-");
+    print_line(out, format_args!("{word} {text}"), DONE)
+}
+
+/// Prints how the push of this digest ended, and gives the exit status.
+fn print_end<W: Write>(out: &mut W, ended: Result<Outcome, PushFault>, digest: BlobDigest) -> u8
+    ensures { IsEndLine digest ended (W.contents out.old) (W.contents out.new) result }
+{
+    match ended {
+        Ok(outcome) => print_digest(out, outcome_word(outcome), digest),
+        Err(PushFault::NoMemory) => print_line(out, "fault: memory", FAULT),
+        Err(PushFault::GaveUp(why)) => print_why(out, &why),
+    }
+}
+
+/// The SHA-256 digest of a file. The bar shows how far it is hashed.
+fn hash_file<R: Clock + Eprint>(file: &[u8], bar: &mut Bar<'_, R>) -> BlobDigest
+    ensures { result ≡ content_digest Algorithm.Sha256 file.now }
+{
+    bar.begin("hashing");
+    let mut hash = Sha256::new();
+    let mut held = 0;
+    while held < file.len() {
+        bar.reached(held as u64);
+        let end = file.len().min(held.saturating_add(PIECE));
+        hash.update(&file[held..end]);
+        held = end;
+    }
+    BlobDigest::of_hashed(hash)
+}
+
+/// Pushes a file under its digest over a dialer, unless the repository has the blob already, and says how that ended.
+fn send<R>(
+    dialer: &mut Dialer<'_, R>,
+    alloc: Global,
+    name: &RepoName,
+    file: &[u8],
+    chunk: u64,
+    digest: BlobDigest,
+) -> Result<Outcome, PushFault>
+where
+    R: Net<Stream = TcpStream> + Clock + Eprint,
+    requires size { length file.now ≤ 2 ^ 40 }
+    requires chunk { (1 ≤ chunk) × (chunk ≤ 2 ^ 31) }
+    requires unconnected { dialer.old.wire ≡ None }
+    ensures { IsSent (string_bytes dialer.old.host)
+        (push_under digest name.now file.now chunk 5) result }
+{
+    match has_blob(alloc, dialer, name, digest) {
+        Ok(true) => Ok(Outcome::Already),
+        Ok(false) => push_under(alloc, dialer, file, name, chunk, TRIES, digest),
+        Err(_) => Err(PushFault::NoMemory),
+    }
+}
+
+/// Prints that a name is none, and on standard error what one is; gives the exit status.
+fn refuse_name<R: Eprint, W: Write>(rt: &R, out: &mut W) -> u8
+    ensures { IsPrinted (Some (codes "refused: name"))
+        (W.contents out.old) (W.contents out.new) 1 result }
+{
+    // Nothing is promised of standard error.
+    let _ = eprintln!(rt; "blobd: {NAME_RULE}");
+    print_line(out, "refused: name", REFUSED)
+}
+
+/// Tells on standard error why a push was given up, if its line says too little. Nothing is promised of it.
+fn tell_why<R: Eprint>(rt: &R, addr: SocketAddr, why: &Why, course: Course, trouble: Trouble) {
+    if let Some(reason) = reason_of(why, course, trouble) {
+        let _ = eprintln!(rt; "blobd: can't push to {addr}: {reason}");
+    }
+}
+
+/// Pushes a file's bytes under a repository's name to the server at `addr`, in chunks of at most `chunk` bytes, unless
+/// the repository has the blob already. Prints one line, and gives the exit status:
+///
+/// - `pushed` or `already` and the digest, 0: what each is worth is said at [`push`]. `already` comes too if a HEAD
+///   before the push was answered 200: then nothing is sent;
+/// - `refused: name` if `name` isn't one, and nothing is sent; `refused:` and the status and the error code of the
+///   reply that ended the push; `refused: bad server` after a reply that no such service gives; `refused: out of
+///   tries` after too many asks that weren't heard; 1;
+/// - `fault: memory`, 3; and 3 if the line can't be printed.
+///
+/// Standard error says more of what was refused. If it is a terminal, and so `seen`, a bar stands there meanwhile.
+pub fn run_push<R, W>(
+    rt: &R,
+    addr: SocketAddr,
+    name: &[u8],
+    file: &[u8],
+    chunk: u64,
+    seen: bool,
+    out: &mut W,
+) -> u8
+where
+    R: Net<Stream = TcpStream> + AllocGlobal + Clock + Eprint,
+    W: Write,
+    requires size { length file.now ≤ 2 ^ 40 }
+    requires chunk { (1 ≤ chunk) × (chunk ≤ 2 ^ 31) }
+    ensures { IsPushed addr name.now file.now chunk (W.contents out.old)
+        (W.contents out.new) result }
+{
+    let name = match RepoName::read(rt.alloc(), name) {
+        Ok(name) => name,
+        Err(NameFault::NoMemory) => return print_line(out, "fault: memory", FAULT),
+        Err(NameFault::NotAName) => return refuse_name(rt, out),
+        Err(NameFault::TooLong) => return refuse_name(rt, out),
+    };
+    let Ok(host) = format!(in rt.alloc(); "{addr}") else {
+        return print_line(out, "fault: memory", FAULT);
+    };
+    let mut bar = Bar::new(rt, file.len() as u64, seen);
+    let digest = hash_file(file, &mut bar);
+    bar.begin("sending");
+    let trouble = Cell::new(Trouble::NoReply);
+    let mut dialer = Dialer::new(rt, rt.alloc(), addr, host, &trouble, bar);
+    let ended = send(&mut dialer, rt.alloc(), &name, file, chunk, digest);
+    let (course, mut bar) = dialer.into_parts();
+    bar.clear();
+    if let Err(PushFault::GaveUp(why)) = &ended {
+        tell_why(rt, addr, why, course, trouble.get());
+    }
+    print_end(out, ended, digest)
+}

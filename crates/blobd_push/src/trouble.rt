@@ -1,0 +1,222 @@
+//! What goes wrong with a push, and the words for it on standard error.
+ghost use Rattle.std.specs.Prelude.{◌≡◌};
+ghost use Rattle.blobd_push.specs.Trouble.{advice_on, course_after, error_trouble, is_http, is_tls, reason_of};
+ghost use Rattle.blobd_push.specs.Trouble.{status_trouble, trouble_in, words_of, words_of_advice};
+
+use std::{fmt, io};
+use upload_client::Heard;
+use upload_push::Why;
+
+/// What kept a request of a push from being heard.
+#[derive(Clone, Copy, Debug, PartialEq, Eq)]
+pub(crate) enum Trouble {
+    /// No reply of a form that is read came, or there was no memory for one.
+    NoReply,
+    /// No connection was made for as long as a push waits for one.
+    NoConnection,
+    /// The system's error of this number.
+    System(u32),
+    /// No byte moved for as long as a push waits.
+    Silence,
+    /// The server closed the connection before the end of a reply.
+    Closed,
+    /// What came begins as a record of TLS.
+    Tls,
+    /// What came doesn't begin as HTTP.
+    NotHttp,
+    /// The server answered that it can't serve now.
+    Unavailable,
+    /// The server answered that a chunk doesn't begin where its upload stands.
+    Misplaced,
+}
+
+/// The status of a server that can't serve now.
+const UNAVAILABLE: u16 = 503;
+
+/// The status of a chunk that doesn't begin where its upload stands.
+const MISPLACED: u16 = 416;
+
+/// The status of an upload that is opened, and of a chunk that is taken.
+const ACCEPTED: u16 = 202;
+
+/// What Linux calls the error of a read or a write that no byte moved in time, on x86-64 and aarch64.
+const EAGAIN: u32 = 11;
+
+/// Whether bytes begin as a record of TLS: its kind (RFC 8446, section 5.1), and the first byte of its version.
+fn is_tls(bytes: &[u8]) -> bool
+    ensures { result ≡ is_tls bytes.now }
+{
+    matches!(bytes, [20..=23, 3, ..])
+}
+
+/// Whether bytes begin as a reply of HTTP, as far as they go.
+fn is_http(bytes: &[u8]) -> bool
+    ensures { result ≡ is_http bytes.now }
+{
+    bytes.starts_with(b"HTTP/") || b"HTTP/".starts_with(bytes)
+}
+
+/// What is wrong with the first bytes that a server sends, if anything is.
+pub(crate) fn trouble_in(bytes: &[u8]) -> Option<Trouble>
+    ensures { result ≡ trouble_in bytes.now }
+{
+    if is_tls(bytes) {
+        Some(Trouble::Tls)
+    } else if is_http(bytes) {
+        None
+    } else {
+        Some(Trouble::NotHttp)
+    }
+}
+
+/// What the system's error of this number is to a connection.
+pub(crate) fn error_trouble(number: u32) -> Trouble
+    ensures { result ≡ error_trouble number }
+{
+    match number {
+        EAGAIN => Trouble::Silence,
+        _ => Trouble::System(number),
+    }
+}
+
+/// What is wrong with a reply of this status, if it takes a try.
+pub(crate) fn status_trouble(status: u16) -> Option<Trouble>
+    ensures { result ≡ status_trouble status }
+{
+    match status {
+        UNAVAILABLE => Some(Trouble::Unavailable),
+        MISPLACED => Some(Trouble::Misplaced),
+        _ => None,
+    }
+}
+
+/// How the requests of a push went.
+#[derive(Clone, Copy)]
+pub(crate) struct Course {
+    /// How many took a try: they weren't heard, or were answered 503 or 416.
+    pub(crate) losses: u64,
+    /// Whether an upload was opened.
+    pub(crate) opened: bool,
+}
+
+/// How the requests went once this was heard to one more.
+pub(crate) fn course_after(heard: &Option<Heard>, before: Course) -> Course
+    ensures { result ≡ course_after heard.now before }
+{
+    match heard {
+        Some(heard) if heard.status != UNAVAILABLE && heard.status != MISPLACED => Course {
+            losses: before.losses,
+            opened: before.opened || heard.status == ACCEPTED,
+        },
+        _ => Course {
+            losses: before.losses.saturating_add(1),
+            opened: before.opened,
+        },
+    }
+}
+
+/// The words for a trouble that isn't told by the system.
+fn words_of(trouble: Trouble) -> &'static str
+    ensures { result.now ≡ words_of trouble }
+{
+    match trouble {
+        Trouble::NoReply | Trouble::System(_) => "no reply of a form that is read",
+        Trouble::NoConnection => "no connection within 10 s",
+        Trouble::Silence => "the server was silent for 30 s",
+        Trouble::Closed => "the server closed the connection before it had replied: is this https?",
+        Trouble::Tls => "the reply is TLS: is this https? A push speaks plain HTTP",
+        Trouble::NotHttp => "the reply isn't HTTP: is this https?",
+        Trouble::Unavailable => "the server answers 503: it has no memory left, or can't serve now",
+        Trouble::Misplaced => "the server answers 416: does another client write into the upload?",
+    }
+}
+
+/// What to do about a reply that ended a push.
+#[derive(Clone, Copy, Debug, PartialEq, Eq)]
+pub(crate) enum Advice {
+    /// To ask whether the server wants TLS.
+    IsItHttps,
+    /// To push to an address that wants no login.
+    NoLogin,
+    /// To push again.
+    PushAgain,
+    /// To ask whether the server is a registry.
+    IsItARegistry,
+    /// To push through what knows the other kind of server.
+    Adapter,
+}
+
+/// What to do about a reply of this status, if anything. It matters whether the reply had an error code, and whether an
+/// upload was opened before.
+fn advice_on(status: u16, coded: bool, opened: bool) -> Option<Advice>
+    ensures { result ≡ advice_on status coded opened }
+{
+    match status {
+        400 if !coded => Some(Advice::IsItHttps),
+        401 => Some(Advice::NoLogin),
+        404 if opened => Some(Advice::PushAgain),
+        404 => Some(Advice::IsItARegistry),
+        _ => None,
+    }
+}
+
+/// The words for what to do.
+fn words_of_advice(advice: Advice) -> &'static str
+    ensures { result.now ≡ words_of_advice advice }
+{
+    match advice {
+        Advice::IsItHttps => "is this https? A push speaks plain HTTP",
+        Advice::NoLogin => {
+            "it wants a login, and a push has none: push to the reverse proxy's local address, or through deploy/adapte\
+             r.cfg"
+        }
+        Advice::PushAgain =>
+            "it lost the upload, as a server does that is started again: push again",
+        Advice::IsItARegistry => "it takes no uploads into this repository: is it a registry?",
+        Advice::Adapter =>
+            "it is another kind of server, as by the form of its Location: push through deploy/adapter.cfg",
+    }
+}
+
+/// What standard error says of a push that was given up.
+#[derive(Clone, Copy, Debug, PartialEq, Eq)]
+pub(crate) enum Reason {
+    /// What to do about the reply that ended it.
+    Advised(Advice),
+    /// What kept the last request from being heard, and how many took a try.
+    Lost(Trouble, u64),
+}
+
+/// What there is to say of a push that was given up, beside its line. The trouble is that of its last request.
+pub(crate) fn reason_of(why: &Why, course: Course, trouble: Trouble) -> Option<Reason>
+    ensures { result ≡ reason_of why.now course trouble }
+{
+    match why {
+        Why::OutOfTries => Some(Reason::Lost(trouble, course.losses)),
+        Why::BadServer => Some(Reason::Advised(Advice::Adapter)),
+        Why::Refused(status, code) => {
+            advice_on(*status, code.is_some(), course.opened).map(Reason::Advised)
+        }
+    }
+}
+
+impl fmt::Display for Reason {
+    fn fmt<W: fmt::Write>(&self, f: &mut fmt::Formatter<W>) -> fmt::Result {
+        match self {
+            Reason::Advised(advice) => f.write_str(words_of_advice(*advice)),
+            Reason::Lost(Trouble::System(number), count) => {
+                let error = io::Error::from_raw_os_error(number.cast_signed());
+                write!(f, "{error} (tried {count} times)")
+            }
+            Reason::Lost(trouble, count) => {
+                let words = words_of(*trouble);
+                write!(f, "{words} (tried {count} times)")
+            }
+        }
+    }
+}
+
+/// The grammar of names, in words.
+pub(crate) const NAME_RULE: &str =
+    "a NAME is one or more parts with / between them, as lib/a: a part is of a to z and 0 to 9, \
+     inside also one of . _ __ or hyphens between two of these; 255 bytes at most";

@@ -1,0 +1,2 @@
+pub mod LoggedLines
+pub mod ServedLines

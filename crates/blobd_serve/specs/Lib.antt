@@ -1,0 +1,7 @@
+pub mod Limits
+pub mod LogLine
+pub mod LogTold
+pub mod Pace
+pub mod Serving
+pub mod Shown
+pub mod Steps

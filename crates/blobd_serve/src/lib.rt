@@ -1,0 +1,24 @@
+//! `blobd serve`: a service behind a listener, with workers that take connections from it.
+//!
+//! `serve` starts the workers and prints what comes of them; `service_limits` has the limits of the service. A worker's
+//! connections are accepted (`accept`, and `steps` for an accept that failed), cut if the client is too slow (`paced`),
+//! and closed by a thread of their own (`closing`, `sockets`). Each request is logged if the terms say so:
+//! `request_log` says what a line has, `shown` how it shows a target, `log_lines` and `handed` what becomes of it.
+#![tactic(auto)]
+
+mod accept;
+mod closing;
+mod handed;
+mod log_lines;
+mod paced;
+mod request_log;
+mod serve;
+mod service_limits;
+mod shown;
+mod sockets;
+mod steps;
+
+pub use accept::Terms;
+pub use paced::Demand;
+pub use serve::run_serve;
+pub use service_limits::limits;

@@ -1,0 +1,114 @@
+//! A log of requests: a line for each reply, on standard error.
+ghost use Rattle.std.specs.Prelude.{◌≡◌, IfOk, string_bytes};
+ghost use Rattle.std.specs.Option.{option_map_or};
+ghost use Rattle.blobd_serve.specs.LogLine.{line_text};
+ghost use Rattle.blobd_serve.specs.LogTold.{ShowsLine, log_state, no_head};
+
+use crate::log_lines::LogLines;
+use crate::shown::shown_request;
+use std::alloc::{AllocError, Global};
+use std::marker::Model;
+use std::rt::Clock;
+use std::sync::Wait;
+use std::time::Instant;
+use upload_wire::{Observer, RequestLine};
+
+/// What is shown of a head that can't be read, and of one for which there is no memory.
+const NO_HEAD: &str = "-";
+
+/// The log of one worker. No request waits for its line to be written. Contracts see what its next line shows of the
+/// head that it was told last, and the lines that it handed on; or that none are wanted.
+#[derive(Drop)]
+pub(crate) struct RequestLog<'a, R> {
+    rt: &'a R,
+    alloc: Global,
+    /// Where lines go, if any are wanted.
+    lines: Option<LogLines>,
+    /// The method and the target of the head that came last; none if it can't be read, or there was no memory for
+    /// them.
+    head: Option<String>,
+    /// Since when; none if the clock couldn't be read.
+    heard: Option<Instant>,
+}
+
+impl<'a, R> Model for RequestLog<'a, R> {
+    ghost use Rattle.std.specs.Prelude.{Option, string_bytes};
+    ghost use Rattle.std.specs.Option.{option_map_or};
+    ghost use Rattle.blobd_serve.specs.LogTold.{LogState, log_state, no_head};
+
+    ghost Value = { Option LogState };
+
+    ghost view = { λ log. log_state (option_map_or string_bytes log.head no_head) log.lines };
+}
+
+impl<'a, R: Clock + Wait> RequestLog<'a, R> {
+    /// A log of requests to come, if there is a place for its lines.
+    pub(crate) fn new(rt: &'a R, alloc: Global, lines: Option<LogLines>) -> RequestLog<'a, R>
+        ensures { result ≡ log_state no_head lines }
+    {
+        RequestLog {
+            rt,
+            alloc,
+            lines,
+            head: None,
+            heard: None,
+        }
+    }
+}
+
+impl<'a, R: Clock + Wait> Observer for RequestLog<'a, R> {
+    ghost use Rattle.blobd_serve.specs.LogTold.{RequestLogTold};
+
+    ghost told = { RequestLogTold };
+
+    fn hears(&mut self, line: Option<RequestLine<'_>>) {
+        if self.lines.is_some() {
+            self.head = head_of(self.alloc, line);
+            self.heard = Instant::now(self.rt).ok();
+        }
+    }
+
+    fn replied(&mut self, status: u16, size: u64) {
+        if let Some(lines) = &mut self.lines {
+            let millis = millis_since(self.rt, self.heard);
+            let head = self.head.as_deref().unwrap_or(NO_HEAD);
+            match line_text(self.alloc, head, status, size, millis) {
+                Ok(text) => lines.send(self.rt, text),
+                Err(_) => lines.lose(),
+            }
+        }
+    }
+}
+
+/// The milliseconds since a moment, or 0 if no time can be told.
+fn millis_since<R: Clock>(rt: &R, start: Option<Instant>) -> u64 {
+    let Some(start) = start else {
+        return 0;
+    };
+    match start.elapsed(rt) {
+        Ok(passed) => u64::try_from(passed.as_millis()).unwrap_or(u64::MAX),
+        Err(_) => 0,
+    }
+}
+
+/// The method and the target of a request, as a log shows them. None: its head can't be read, or there is no memory for
+/// them.
+fn head_of(alloc: Global, line: Option<RequestLine<'_>>) -> Option<String>
+    ensures { ShowsLine line.entry (option_map_or string_bytes result no_head) }
+{
+    let line = line?;
+    String::from_utf8(shown_request(alloc, line.method, line.target).ok()?).ok()
+}
+
+/// The line of a head that is shown so, and of its reply's status and size. An error is out of memory.
+fn line_text(
+    alloc: Global,
+    head: &str,
+    status: u16,
+    size: u64,
+    millis: u64,
+) -> Result<String, AllocError>
+    ensures { IfOk result (λ text. string_bytes text ≡ line_text head.now status size millis) }
+{
+    format!(in alloc; "{head} {status} {size} {millis}ms")
+}

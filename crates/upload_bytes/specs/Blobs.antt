@@ -1,0 +1,23 @@
+-- What a blob is kept in.
+use Rattle.std.specs.Prelude.{ℕ, List, [], ◌++◌, box_value}
+use Rattle.std.specs.List.{concat}
+use Rattle.upload_bytes.specs.declared.blob.Shape.{Shape}
+use Rattle.upload_bytes.specs.declared.blob.Shape.TheVariants as shapes
+use Rattle.upload_bytes.specs.declared.blob.Several.{Several}
+use Rattle.upload_bytes.specs.Segments.{whole}
+
+-- the bytes of the last body
+abbrev pub body_in : Several → List ℕ
+body_in several = concat several.parts.items ++ several.last
+
+-- the bytes before the last body
+abbrev pub before_in : Shape → List ℕ
+before_in (shapes.Small bytes) = []
+before_in (shapes.One last) = []
+before_in (shapes.Several several) = whole (box_value several).before
+
+-- the bytes of the last body
+abbrev pub last_in : Shape → List ℕ
+last_in (shapes.Small bytes) = bytes.items
+last_in (shapes.One last) = last
+last_in (shapes.Several several) = body_in (box_value several)

@@ -1,0 +1,6 @@
+pub mod Running
+pub mod Hashing
+pub mod Body
+pub mod Segments
+pub mod Prefixes
+pub mod Blobs

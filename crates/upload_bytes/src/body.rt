@@ -1,0 +1,332 @@
+//! Bodies of requests, in the parts that they were read in, and what a body is read into.
+ghost use Rattle.std.specs.Prelude.{◌≡◌, ◌++◌, List, ℕ, length, Some, IfSome, [], OnOk, OnErr};
+ghost use Rattle.sha2.specs.Hashers.{Holds256, Holds512};
+ghost use Rattle.upload_names.specs.Digest.{content_digest};
+ghost use Rattle.upload_bytes.specs.Body.{bytes_in, IsBody};
+ghost use Rattle.std.specs.List.{concat};
+ghost use Rattle.upload_bytes.specs.Running.{HoldsIfCarried};
+ghost use Rattle.upload_bytes.specs.Hashing.{StandsFor};
+
+use crate::hashing::{HashPlace, Hashing, Running};
+use crate::part::{Part, take_in};
+use sha2::{Digest, Sha256, Sha512};
+use std::alloc::{AllocError, Global};
+use std::marker::Model;
+use std::mem;
+use upload_names::{Algorithm, BlobDigest};
+
+/// The pieces of a body: parts that have come whole, and what came behind them.
+#[derive(Drop)]
+pub struct Pieces {
+    pub parts: Vec<Part>,
+    pub last: Vec<u8>,
+}
+
+/// The body of a request, seen as its list of bytes. It may carry a hash that holds just these bytes, so that who takes
+/// it need not hash them again.
+#[derive(Drop)]
+pub struct Body {
+    pieces: Pieces,
+    len: usize,
+    /// The hash of all the bytes, if they were hashed as they came.
+    running: Option<Running>,
+}
+
+impl Model for Body {
+    ghost use Rattle.std.specs.Prelude.{List, ℕ};
+
+    ghost Value = { List ℕ };
+
+    ghost use Rattle.upload_bytes.specs.Body.{bytes_in, IsBody};
+
+    ghost view = { λ a. bytes_in a.pieces };
+
+    ghost invariant = { λ a. IsBody a.running a.len (bytes_in a.pieces) };
+}
+
+impl Body {
+    /// The bytes of a vector, which is moved and not copied. It carries no hash, and takes no memory.
+    pub fn of(alloc: Global, bytes: Vec<u8>) -> Body
+        ensures { result ≡ bytes.items }
+    {
+        let len = bytes.len();
+        let pieces = Pieces {
+            parts: Vec::new(alloc),
+            last: bytes,
+        };
+        Body {
+            pieces,
+            len,
+            running: None,
+        }
+    }
+
+    /// These pieces, of so many bytes in all, and their hash if there is one.
+    pub(crate) fn carrying(pieces: Pieces, len: usize, running: Option<Running>) -> Body
+        requires { IsBody running len (bytes_in pieces) }
+        ensures { result ≡ bytes_in pieces }
+    {
+        Body {
+            pieces,
+            len,
+            running,
+        }
+    }
+
+    /// How many bytes there are.
+    pub fn len(&self) -> usize
+        ensures { result ≡ length self.now }
+    {
+        self.len
+    }
+
+    /// Its pieces, in place.
+    pub fn pieces(&self) -> &Pieces
+        ensures { bytes_in result.now ≡ self.now }
+    {
+        &self.pieces
+    }
+
+    /// Has a hash take all its bytes in.
+    pub fn hash_into<H: Digest>(&self, hash: &mut H)
+        ensures { (before : List ℕ) → H.holds hash.old before
+            → H.holds hash.new (before ++ self.now) }
+    {
+        take_in(hash, self.pieces.parts.as_slice());
+        hash.update(self.pieces.last.as_slice());
+    }
+
+    /// A SHA-256 that holds the bytes, if they carry one.
+    pub fn sha256(&self) -> Option<Sha256>
+        ensures { IfSome result (λ hash. Holds256 hash self.now) }
+    {
+        match &self.running {
+            Some(Running::Sha256(hash)) => hash.clone().ok(),
+            _ => None,
+        }
+    }
+
+    /// A SHA-512 that holds the bytes, if they carry one.
+    pub fn sha512(&self) -> Option<Sha512>
+        ensures { IfSome result (λ hash. Holds512 hash self.now) }
+    {
+        match &self.running {
+            Some(Running::Sha512(hash)) => hash.clone().ok(),
+            _ => None,
+        }
+    }
+
+    /// The digest of the bytes by an algorithm. A body that carries its hash isn't hashed again.
+    pub fn digest(&self, algorithm: Algorithm) -> BlobDigest
+        ensures { result ≡ content_digest algorithm self.now }
+    {
+        match algorithm {
+            Algorithm::Sha256 => BlobDigest::of_hashed(sha256_of(self)),
+            Algorithm::Sha512 => BlobDigest::of_hashed_512(sha512_of(self)),
+        }
+    }
+
+    /// Its pieces, which are moved and not copied.
+    pub fn into_pieces(self) -> Pieces
+        ensures { bytes_in result ≡ self }
+    {
+        let Body { pieces, .. } = self;
+        pieces
+    }
+}
+
+/// A SHA-256 that holds a body: the one that it carries, or a new one.
+fn sha256_of(body: &Body) -> Sha256
+    ensures { Holds256 result body.now }
+{
+    if let Some(hash) = body.sha256() {
+        return hash;
+    }
+    let mut hash = Sha256::new();
+    body.hash_into(&mut hash);
+    hash
+}
+
+/// A SHA-512 that holds a body: the one that it carries, or a new one.
+fn sha512_of(body: &Body) -> Sha512
+    ensures { Holds512 result body.now }
+{
+    if let Some(hash) = body.sha512() {
+        return hash;
+    }
+    let mut hash = Sha512::new();
+    body.hash_into(&mut hash);
+    hash
+}
+
+/// The bytes of a part, unless a longer piece comes at once: with what the C library puts before it, a part fills two
+/// huge pages.
+const PART_SIZE: usize = 4_194_240;
+
+/// The bytes of a body as far as they came: the parts that came whole, and what came behind them. If the body is hashed
+/// as it comes, a hash stands for the first ones of the parts.
+#[derive(Drop)]
+pub struct BodyBuilder {
+    alloc: Global,
+    parts: Vec<Part>,
+    last: Vec<u8>,
+    /// How many bytes there are in all.
+    size: usize,
+    hash: Option<Hashing>,
+    /// How many parts the hash stands for.
+    hashed: usize,
+}
+
+impl Model for BodyBuilder {
+    ghost use Rattle.std.specs.Prelude.{List, ℕ, ◌++◌};
+    ghost use Rattle.std.specs.List.{concat};
+
+    ghost Value = { List ℕ };
+
+    ghost use Rattle.upload_bytes.specs.Hashing.{IsBuilt};
+
+    ghost view = { λ a. concat a.parts.items ++ a.last.items };
+
+    ghost invariant = { λ a. IsBuilt a.hash a.hashed a.size a.parts.items a.last.items };
+}
+
+impl BodyBuilder {
+    /// No bytes. What they are extended by is hashed as it comes, if that is asked for. It takes no memory.
+    pub fn new(alloc: Global, hashed: Option<Algorithm>) -> BodyBuilder
+        ensures { result ≡ [] }
+    {
+        let hash = match hashed {
+            Some(algorithm) => Some(Hashing::Here(Running::new(algorithm))),
+            None => None,
+        };
+        BodyBuilder {
+            alloc,
+            parts: Vec::new(alloc),
+            last: Vec::new(alloc),
+            size: 0,
+            hash,
+            hashed: 0,
+        }
+    }
+
+    /// How many bytes came.
+    pub fn len(&self) -> usize
+        ensures { result ≡ length self.now }
+    {
+        self.size
+    }
+
+    /// Puts a piece behind the bytes. A part that has come whole is hashed at that place, and moves no more. An `Err`
+    /// changes nothing that is seen.
+    pub fn extend<P: HashPlace>(&mut self, place: &P, piece: &[u8]) -> Result<(), AllocError>
+        ensures ok { OnOk result (self.new ≡ self.old ++ piece.now) }
+        ensures err { OnErr result (self.new ≡ self.old) }
+    {
+        let Some(len) = self.size.checked_add(piece.len()) else {
+            return Err(AllocError);
+        };
+        let room = PART_SIZE.saturating_sub(self.last.len());
+        if piece.len() > room {
+            let (front, rest) = piece.split_at(room);
+            self.roll_over(len, front, rest)?;
+            self.catch_up(place);
+        } else {
+            self.last.extend_from_slice(piece)?;
+            self.size = len;
+        }
+        Ok(())
+    }
+
+    /// Makes a part of what came behind the last one and a prefix of a piece, and has the rest of the piece come behind
+    /// it, which makes `len` bytes. An `Err` changes nothing that is seen.
+    fn roll_over(&mut self, len: usize, front: &[u8], rest: &[u8]) -> Result<(), AllocError>
+        requires { len ≡ length (self.old ++ front.now ++ rest.now) }
+        ensures ok { OnOk result (self.new ≡ self.old ++ front.now ++ rest.now) }
+        ensures err { OnErr result (self.new ≡ self.old) }
+    {
+        let mut next = Vec::new(self.alloc);
+        // What follows is likely to fill a part too, and then needn't be moved as it grows.
+        let _ = next.reserve(PART_SIZE);
+        next.extend_from_slice(rest)?;
+        self.parts.reserve(1)?;
+        let before = self.last.len();
+        self.last.extend_from_slice(front)?;
+        self.last.shrink_to_fit();
+        match Part::of(self.alloc, mem::replace(&mut self.last, next)) {
+            Ok(part) => {
+                let Ok(()) = self.parts.push(part) else {
+                    unreachable!();
+                };
+                self.size = len;
+                Ok(())
+            }
+            Err(back) => {
+                self.last = back;
+                self.last.truncate(before);
+                Err(AllocError)
+            }
+        }
+    }
+
+    /// Has the hash take in the parts that it lacks, unless it is away in a thread: what it lacks then is for the next
+    /// thread. Nothing that is seen changes.
+    fn catch_up<P: HashPlace>(&mut self, place: &P)
+        ensures { self.new ≡ self.old }
+    {
+        let Some(hash) = mem::replace(&mut self.hash, None) else {
+            return;
+        };
+        if hash.is_at_work() {
+            self.hash = Some(hash);
+            return;
+        }
+        self.hash = hash_on(place, self.alloc, hash, &self.parts[self.hashed..]);
+        self.hashed = self.parts.len();
+    }
+
+    /// The body, with the hash of all its bytes if they were hashed. Spare room that is left from growing goes back, if
+    /// the allocator takes it.
+    pub fn finish<P: HashPlace>(self, place: &P) -> Body
+        ensures { result ≡ self }
+    {
+        let BodyBuilder {
+            mut parts,
+            mut last,
+            size,
+            hash,
+            hashed,
+            ..
+        } = self;
+        parts.shrink_to_fit();
+        last.shrink_to_fit();
+        let running = hash_of_all(place, hash, &parts[hashed..], last.as_slice());
+        Body::carrying(Pieces { parts, last }, size, running)
+    }
+}
+
+/// Has a hash take parts in.
+fn hash_on<P: HashPlace>(place: &P, alloc: Global, hash: Hashing, parts: &[Part]) -> Option<Hashing>
+    ensures { (bytes : List ℕ) → StandsFor (Some hash) bytes
+        → StandsFor result (bytes ++ concat parts.now) }
+{
+    place.go_on(alloc, hash, parts)
+}
+
+/// The hash of a body, from that of its first parts, the other parts, and what came behind them.
+fn hash_of_all<P: HashPlace>(
+    place: &P,
+    hash: Option<Hashing>,
+    parts: &[Part],
+    last: &[u8],
+) -> Option<Running>
+    ensures { (bytes : List ℕ) → StandsFor hash bytes
+        → HoldsIfCarried result (bytes ++ concat parts.now ++ last.now) }
+{
+    let Some(hash) = hash else {
+        return None;
+    };
+    let Some(running) = place.come_home(hash) else {
+        return None;
+    };
+    Some(running.with_parts(parts).with(last))
+}

@@ -1,0 +1,25 @@
+//! The bytes of bodies, of open uploads and of stored blobs, and their hashes.
+//!
+//! A body (`body`) is read into parts (`part`), which have several owners and are never copied, and is hashed as it
+//! comes (`hashing`), in place or in a thread, for whose end others may wait (`hash_end`). What an upload received
+//! (`received`) are the parts of its bodies, one after another (`segments`), with hashes that catch up with them
+//! (`prefix_hash`). A blob (`blob`) is kept in the parts that it arrived in, and is handed out in them (`shared`).
+#![tactic(auto)]
+
+mod blob;
+mod body;
+mod hash_end;
+mod hashing;
+mod part;
+mod prefix_hash;
+mod received;
+mod segments;
+mod shared;
+
+pub use blob::{Blob, Several};
+pub use body::{Body, BodyBuilder, Pieces};
+pub use hash_end::HashEnd;
+pub use hashing::{Away, Behind, HashPlace, Hashing, InPlace, InThreads, Running};
+pub use part::{Part, share_all, share_into, take_in};
+pub use received::Received;
+pub use shared::BlobBytes;
