@@ -46,12 +46,16 @@ own_harmless p (Some at) log ask sound =
       chunk =
           λ to range body place next.
           by_reference p at (asks.Chunk p.name to (Given range) body) to refl
-          (λ is. (refl, is, inl (record {
-            range = range;
-            body = body;
-            is = refl;
-            part = part_of_next p (heard_offset log) range body next;
-          })));
+          (λ is. (
+            refl,
+            is,
+            inl (record {
+              range = range;
+              body = body;
+              is = refl;
+              part = part_of_next p (heard_offset log) range body next;
+            }),
+          ));
       status = λ to place. by_reference p at (asks.Status p.name to) to refl (λ is. (refl, is, inr (inl refl)));
       close =
           λ to place all.
