@@ -1,8 +1,7 @@
 -- What a conversation added to its transcripts.
-use Rattle.std.proofs.Common.{◌≡◌, ℕ, List, [], ◌++◌, length, sym, ap, ◌∙◌, append_assoc, inl, inr}
+use Rattle.std.proofs.Common.{◌≡◌, ℕ, [], ◌++◌, length, sym, ap, ◌∙◌, append_assoc, inl, inr}
 use Rattle.std.proofs.lemmas.List.{append-nil}
 use Rattle.http_wire.specs.States.{SinkState}
-use Rattle.http_wire.specs.Writing.{Takes}
 use Rattle.upload_wire.specs.Conversation.{Moves, replies, ConnectionState, Standing, stand, EndsWith}
 use Rattle.upload_wire.specs.Transcripts.{last_written, TranscriptsTellConversations}
 use Rattle.upload_wire.specs.declared.connection.ConnEnd.{ConnEnd}

@@ -1,6 +1,6 @@
 -- What a request asks (OCI Distribution Specification 1.1, section Endpoints): the forms of a path, and the
 -- ask of each form, method, query and Content-Range.
-use Rattle.std.specs.Prelude.{◌≡◌, ◌≢◌, ℕ, ◌<◌, ◌⊎◌, Bool, true, false, ◌==◌, List, [], ◌∷◌, ◌++◌, length, codes}
+use Rattle.std.specs.Prelude.{◌≡◌, ◌≢◌, ℕ, ◌<◌, ◌⊎◌, Bool, true, false, ◌==◌, List, [], ◌∷◌, length, codes}
 use Rattle.std.specs.Prelude.{bytes_eq, slice_index, Option, Some, None, option_and_then, unwrap_or, if◌then◌else◌}
 use Rattle.httparse.specs.Grammar.{RequestHead}
 use Rattle.http_uri.specs.declared.uri.Uri.{Uri}
