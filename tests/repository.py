@@ -65,7 +65,7 @@ NO_OTHER_BODY = {
 
 # Functions of which no clause says anything, since none can speak of another thread. Tests stand for them.
 NO_CLAUSE = {
-    "upload_bytes": {"HashEnd::wait", "Hashing::end", "Hashing::is_at_work"},
+    "upload_bytes": {"HashEnd::wait"},
 }
 
 

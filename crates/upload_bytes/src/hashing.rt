@@ -122,7 +122,7 @@ pub enum Hashing {
 
 impl Hashing {
     /// Whether a thread is still hashing: who joined it would wait.
-    pub fn is_at_work(&self) -> bool {
+    pub(crate) fn is_at_work(&self) -> bool {
         match self {
             Hashing::Here(_) => false,
             Hashing::Away(away) => !away.end.is_over(),
@@ -130,7 +130,7 @@ impl Hashing {
     }
 
     /// The end of the thread that is still hashing, if one is.
-    pub fn end(&self) -> Option<HashEnd> {
+    pub(crate) fn end(&self) -> Option<HashEnd> {
         match self {
             Hashing::Away(away) if !away.end.is_over() => away.end.share().ok(),
             _ => None,
