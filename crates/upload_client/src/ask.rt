@@ -52,7 +52,11 @@ pub(crate) fn write_chunk<W: ByteSink>(
     ensures flushed { OnOk result (IsTrue ((W.state writer.new).flushed)) }
 {
     let mut head = Gather::new();
-    put_upload(&mut head, writer, b"PATCH", chunk.name, &chunk.at);
+    let upload = Upload {
+        name: chunk.name,
+        at: chunk.at,
+    };
+    put_upload(&mut head, writer, b"PATCH", upload);
     put_host(&mut head, writer, host);
     put_upload_section(&mut head, writer, &chunk.range, chunk.body.len());
     head.finish(writer, chunk.body)
@@ -144,15 +148,17 @@ fn put_request_line<W: ByteSink>(head: &mut Gather, writer: &mut W, ask: &Ask)
             put_target(head, writer, b"POST", uploads);
             put_mounted(head, writer, digest, source)
         }
-        Ask::Chunk { name, at, .. } => put_upload(head, writer, b"PATCH", name, at),
-        Ask::Status { name, at } => put_upload(head, writer, b"GET", name, at),
+        Ask::Chunk { name, at, .. } => {
+            put_upload(head, writer, b"PATCH", Upload { name, at: *at })
+        }
+        Ask::Status { name, at } => put_upload(head, writer, b"GET", Upload { name, at: *at }),
         Ask::Close {
             name,
             at,
             digest,
             ..
         } => {
-            put_upload(head, writer, b"PUT", name, at);
+            put_upload(head, writer, b"PUT", Upload { name, at: *at });
             put_query(head, writer, digest)
         }
         Ask::Refused(_) => unreachable!(),
@@ -179,24 +185,27 @@ fn put_target<W: ByteSink>(head: &mut Gather, writer: &mut W, method: &[u8], tar
     head.put(writer, target.behind);
 }
 
+/// An upload of a repository.
+#[derive(Clone, Copy)]
+struct Upload<'a> {
+    name: &'a RepoName,
+    at: UploadRef,
+}
+
 /// Puts a method and the path of an upload.
-fn put_upload<W: ByteSink>(
-    head: &mut Gather,
-    writer: &mut W,
-    method: &[u8],
-    name: &RepoName,
-    at: &UploadRef,
-)
-    ensures { Puts (W.state writer.old) head.old (W.state writer.new) head.new
-        (request_line (bare_message method.now (upload_path name.now (reference_text at.now)))) }
+fn put_upload<W: ByteSink>(head: &mut Gather, writer: &mut W, method: &[u8], upload: Upload<'_>)
+    ensures { Puts (W.state writer.old) head.old (W.state writer.new) head.new (request_line
+        (bare_message method.now
+        (upload_path upload.entry.name.now (reference_text upload.entry.at)))) }
 {
+    let Upload { name, at } = upload;
     let text = at.text();
-    let upload = Target {
+    let target = Target {
         name,
         kind: b"/blobs/uploads/",
         behind: &text,
     };
-    put_target(head, writer, method, upload)
+    put_target(head, writer, method, target)
 }
 
 /// Puts the line of a single POST.
