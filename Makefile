@@ -132,14 +132,11 @@ figures: $(EVERY)
 	@cd crates/bench_service && rt run
 	@python3 bench/service.py crates/bench_service/out/bench_service
 
-# Figures in docs/performance.json, and the picture of them if matplotlib is installed.
+# Figures in docs/performance.json, and the picture of them.
 JSON = docs/performance.json
 bench: $(PROGRAM)
 	@python3 bench/loopback.py $(PROGRAM) --json $(JSON)
-	@$(PLOTTING) bench/draw.py $(JSON) docs/performance.svg
-
-# The first of these that has matplotlib; Debian's package is for Debian's own.
-PLOTTING = $(or $(shell for python in python3 /usr/bin/python3; do $$python -c 'import matplotlib' 2>/dev/null && echo $$python && break; done),python3)
+	@python3 bench/draw.py $(JSON) docs/performance.svg
 
 fuzz: $(EVERY)
 	@python3 tests/differential.py $(EVERY) --streams 100000

@@ -1,27 +1,19 @@
 #!/usr/bin/env python3
 """Draws the figures that `bench/loopback.py --json FILE` wrote.
 
-    draw.py FILE PICTURE [--before FILE]
+    draw.py FILE PICTURE
 
 Speeds of uploads, pushes and pulls beside `sha256sum` and `docker-registry`, and the longest wait for a small request
-beside a large body. With --before it also draws the waits of an earlier run. Without matplotlib (Debian's
-`python3-matplotlib`) it draws nothing, says so, and ends with status 0.
+beside a large body. The picture is an SVG.
 """
-import argparse
 import json
+import math
 import sys
-
-try:
-    import matplotlib
-
-    matplotlib.use("svg")
-    import matplotlib.pyplot as plt
-except ImportError:
-    matplotlib = None
+from html import escape
 
 MIB = 1 << 20
-COLOURS = {"blobd": "#2b6cb0", "docker-registry": "#b0b7c3", "sha256sum": "#d69e2e", "before": "#e2a9a1"}
-SPEEDS = {
+COLOURS = {"blobd": "#2b6cb0", "docker-registry": "#9aa3b2", "sha256sum": "#d69e2e"}
+UPLOADS = {
     "upload in one body": "upload,\none body",
     "upload in chunks of 16 MiB": "chunks of\n16 MiB",
     "upload in chunks of 4 MiB": "chunks of\n4 MiB",
@@ -29,93 +21,89 @@ SPEEDS = {
     "two uploads in one body": "two at once,\none body each",
     "push in one chunk": "push,\none chunk",
 }
-PULLS = {"pull": "a pull", "two pulls": "two at once"}
+PULLS = {"pull": "one pull", "two pulls": "two at once"}
+WIDTH, HEIGHT, TOP, BOTTOM = 1120, 340, 60, 280  # the picture, and where the bars end
 
 
-def rows_of(told, server):
-    return {row["what"]: row for row in told["rows"] if row["server"] == server}
-
-
-def grouped(axes, names, series):
-    """Bars side by side: for each name one of each series that has it."""
-    width = 0.8 / len(series)
-    for place, (label, values) in enumerate(series.items()):
-        there = [(at, values[what]) for at, what in enumerate(names) if what in values]
-        bars = axes.bar(
-            [at + (place - (len(series) - 1) / 2) * width for at, _ in there],
-            [value for _, value in there],
-            width,
-            label=label,
-            color=COLOURS[label],
-        )
-        axes.bar_label(
-            bars,
-            labels=[f"{value:.0f}" if value >= 10 else f"{value:.1f}" for _, value in there],
-            fontsize=7,
-            padding=1,
-        )
-    axes.set_xticks(range(len(names)), names.values(), fontsize=8)
-    axes.spines[["top", "right"]].set_visible(False)
-    axes.margins(y=0.25)  # room for the legend
-    axes.legend(frameon=False, fontsize=8)
-
-
-def speeds(told, names):
-    """MiB a second of each server, and of `sha256sum` beside the uploads."""
+def values_of(told, names, value):
+    """A value of each row of these names, by its server. A server without a row is left out."""
     series = {
-        server: {what: row["bytes_a_second"] / MIB for what, row in rows_of(told, server).items() if what in names}
+        server: {row["what"]: value(row) for row in told["rows"] if row["server"] == server and row["what"] in names}
         for server in ("blobd", "docker-registry")
     }
-    hashing = [row["bytes_a_second"] / row["of_sha256sum"] / MIB for row in told["rows"] if row["kind"] == "upload"]
-    if names is SPEEDS and hashing:
-        series["sha256sum"] = {what: max(hashing) for what in list(names)[:4]}
     return {server: values for server, values in series.items() if values}
 
 
-def waits(told, server):
-    return {
-        row["what"]: row["longest_wait_seconds"] * 1000
-        for row in told["rows"]
-        if row["kind"] == "waiting" and row["server"] == server
-    }
+def speeds(told, names):
+    return values_of(told, names, lambda row: row["bytes_a_second"] / MIB)
 
 
-def draw(told, before, picture):
-    figure, (uploads, pulls, waiting) = plt.subplots(
-        1, 3, figsize=(13, 4), width_ratios=(6, 2, 3), layout="constrained"
-    )
-    grouped(uploads, SPEEDS, speeds(told, SPEEDS))
-    uploads.set_title("uploads, MiB a second", fontsize=10)
-    grouped(pulls, PULLS, speeds(told, PULLS))
-    pulls.set_title("pulls, MiB a second", fontsize=10)
-    series = {"before": waits(before, "blobd")} if before else {}
-    series |= {server: waits(told, server) for server in ("blobd", "docker-registry")}
-    names = {what: what.replace(" in one body", "\nin one body").replace(" of ", "\nof ") for what in series["blobd"]}
-    grouped(waiting, names, {label: values for label, values in series.items() if values})
-    waiting.set_title("longest wait for GET /v2/, ms", fontsize=10)
-    if before:
-        waiting.set_yscale("log")
-    figure.savefig(picture, metadata={"Date": None})
+def hashing(told):
+    """The best speed of `sha256sum`, for each upload that it ran beside."""
+    rows = [row for row in told["rows"] if row["kind"] == "upload"]
+    best = max(row["bytes_a_second"] / row["of_sha256sum"] / MIB for row in rows)
+    return {row["what"]: best for row in rows}
 
 
-def read(path):
-    with open(path, encoding="utf-8") as file:
-        return json.load(file)
+def text(x, y, words, anchor="middle", size=11):
+    return f'<text x="{x:.0f}" y="{y:.0f}" text-anchor="{anchor}" font-size="{size}">{escape(words)}</text>'
+
+
+def step(most):
+    """The distance of the marks on an axis: three to seven of them, at 1, 2 or 5 times a power of ten."""
+    power = 10 ** math.floor(math.log10(most / 3))
+    return max(power * times for times in (1, 2, 5) if power * times * 3 <= most)
+
+
+def chart(left, right, title, names, series):
+    """Bars side by side: for each name one of each series that has it."""
+    most = max(value for values in series.values() for value in values.values()) * 1.05
+    scale = (BOTTOM - TOP) / most
+    yield text(left, TOP - 16, title, "start", 13)
+    for mark in (step(most) * at for at in range(int(most / step(most)) + 1)):
+        y = BOTTOM - mark * scale
+        yield f'<line x1="{left}" y1="{y:.0f}" x2="{right}" y2="{y:.0f}" stroke="#dddddd"/>'
+        yield text(left - 6, y + 4, f"{mark:g}", "end")
+    group = (right - left) / len(names)
+    width = 0.8 * group / len(series)
+    for at, (what, label) in enumerate(names.items()):
+        for place, (server, values) in enumerate(series.items()):
+            if what in values:
+                x, value = left + group * (at + 0.1) + width * place, values[what]
+                y = BOTTOM - value * scale
+                yield (
+                    f'<rect x="{x:.1f}" y="{y:.1f}" width="{width:.1f}" height="{BOTTOM - y:.1f}"'
+                    f' fill="{COLOURS[server]}"/>'
+                )
+                yield text(x + width / 2, y - 3, f"{value:.0f}" if value >= 10 else f"{value:.1f}", size=9)
+        for down, line in enumerate(label.split("\n")):
+            yield text(left + group * (at + 0.5), BOTTOM + 16 + 13 * down, line)
+
+
+def picture(told):
+    waiting = [row["what"] for row in told["rows"] if row["kind"] == "waiting" and row["server"] == "blobd"]
+    names = {what: what.replace(" in one body", ",\none body").replace(" of ", "\nof ") for what in waiting}
+    waits = values_of(told, names, lambda row: row["longest_wait_seconds"] * 1000)
+    yield f'<svg xmlns="http://www.w3.org/2000/svg" viewBox="0 0 {WIDTH} {HEIGHT}" font-family="sans-serif">'
+    yield f'<rect width="{WIDTH}" height="{HEIGHT}" fill="white"/>'
+    for at, (server, colour) in enumerate(COLOURS.items()):
+        yield f'<rect x="{45 + 130 * at}" y="10" width="12" height="12" fill="{colour}"/>'
+        yield text(62 + 130 * at, 20, server, "start")
+    yield from chart(45, 630, "uploads, MiB a second", UPLOADS, {**speeds(told, UPLOADS), "sha256sum": hashing(told)})
+    yield from chart(695, 845, "pulls, MiB a second", PULLS, speeds(told, PULLS))
+    yield from chart(885, 1110, "longest wait for GET /v2/, ms", names, waits)
+    yield "</svg>"
 
 
 def main():
-    words = argparse.ArgumentParser(description="draws the figures of bench/loopback.py")
-    words.add_argument("figures", metavar="FILE")
-    words.add_argument("picture", metavar="PICTURE")
-    words.add_argument("--before", metavar="FILE", help="the figures of an earlier run")
-    words = words.parse_args()
-    if matplotlib is None:
-        print("skipped: the picture, since matplotlib isn't installed (python3-matplotlib)")
-        return 0
-    draw(read(words.figures), read(words.before) if words.before else None, words.picture)
-    print(f"drawn: {words.picture}")
-    return 0
+    if len(sys.argv) != 3:
+        sys.exit("usage: draw.py FILE PICTURE")
+    with open(sys.argv[1], encoding="utf-8") as file:
+        told = json.load(file)
+    with open(sys.argv[2], "w", encoding="utf-8") as file:
+        file.writelines(line + "\n" for line in picture(told))
+    print(f"drawn: {sys.argv[2]}")
 
 
 if __name__ == "__main__":
-    sys.exit(main())
+    main()
