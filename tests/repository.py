@@ -37,7 +37,9 @@ LINK = re.compile(r"\]\(([^)\s]+)\)")
 HEADING = re.compile(r"^#+ (.*)$", re.MULTILINE)
 FENCED = re.compile(r"^```.*?^```", re.MULTILINE | re.DOTALL)
 
-# A row of README that says how many lines a definition's file has.
+# The contracts of the service, which name the headline, and a row of README that says how many lines a file of the
+# definitions has that it rests on.
+SERVICE = "crates/upload_service/src/service.rt"
 COUNTED = re.compile(r"^\|.*\]\((crates/\S+\.antt)\).*\| (\d+) \|$", re.MULTILINE)
 
 # The page of promises, and what the cells name that say where a promise stands: a function and clauses of it, or a
@@ -338,19 +340,42 @@ def untested(paths):
     return found
 
 
+def contract_of(path, name):
+    """The contract of a function in a file of code."""
+    return re.search(rf"\bfn {name}\b.*?^    \{{", text_of(path), re.MULTILINE | re.DOTALL).group()
+
+
+def imported(path):
+    """The repository's own definitions that a file imports by name: the file of each, and the names."""
+    for module, names in TAKEN.findall(text_of(path)):
+        crate, *rest = module.split(".")
+        place = f"crates/{crate}/{'/'.join(rest)}.antt"
+        if names and os.path.exists(os.path.join(TOP, place)):
+            yield place, definitions.words(names)
+
+
+def definitions_behind_the_headline():
+    """The files that define what the contracts of the service name, and all that these files import."""
+    contracts = set(definitions.words("".join(contract_of(SERVICE, name) for name in ("step", "run_all"))))
+    left = [place for place, names in imported(SERVICE) if contracts & set(names)]
+    found = set()
+    while left:
+        place = left.pop()
+        if place not in found:
+            found.add(place)
+            left += [place for place, _ in imported(place)]
+    return found
+
+
 def miscounted(_):
-    """Definitions of the headline whose lines README counts otherwise, or their sum."""
+    """The definitions that the headline rests on, if README lists others, or other counts of their lines."""
     readme = text_of("README.md")
-    rows = [(path, int(count)) for path, count in COUNTED.findall(readme)]
-    found = [
-        f"README.md: {path} has {count} lines"
-        for path, told in rows
-        if (count := len(text_of(path).splitlines())) != told
-    ]
-    total = sum(count for _, count in rows)
-    return found if f"{total} lines in all" in readme else [
-        *found, f"README.md: the definitions have {total} lines in all"
-    ]
+    rows = {(path, int(count)) for path, count in COUNTED.findall(readme)}
+    real = {(path, len(text_of(path).splitlines())) for path in definitions_behind_the_headline()}
+    found = [f"README.md: no row is {path} with {count} lines" for path, count in sorted(real - rows)]
+    found += [f"README.md: {path} with {count} lines isn't so" for path, count in sorted(rows - real)]
+    said = f"{len(real)} files, {sum(count for _, count in real)} lines in all"
+    return found if said in " ".join(readme.split()) else [*found, f"README.md: they are {said}"]
 
 
 def stands_on(crate):
@@ -436,7 +461,7 @@ CHECKS = [
     ("each link of a page leads somewhere", unlinked),
     ("each row of the promises names functions and clauses that are there", unpromised),
     ("each test that a page names is there", untested),
-    ("README counts the lines of the headline's definitions", miscounted),
+    ("README lists the files that the headline rests on, with their lines", miscounted),
     ("make watches every crate that the program is built of", unwatched),
     ("the program's crates are the program's alone", outside_the_program),
     ("the version is said once", unversioned),
