@@ -318,6 +318,15 @@ def unpromised(paths):
     return found
 
 
+def long_rows(_):
+    """Rows of the promises that are longer than two lines."""
+    return [
+        f"{PROMISES}:{number}: {len(line)} characters"
+        for number, line in enumerate(text_of(PROMISES).splitlines(), 1)
+        if line.startswith("|") and len(line) > 240
+    ]
+
+
 def untested(paths):
     """Tests and scripts that the pages name as what refuses or shows something, and that aren't there."""
     scripts = [path for path in paths if path.endswith((".rt", ".py"))]
@@ -460,6 +469,7 @@ CHECKS = [
     ("every edit applies", unapplied),
     ("each link of a page leads somewhere", unlinked),
     ("each row of the promises names functions and clauses that are there", unpromised),
+    ("no row of the promises is longer than two lines", long_rows),
     ("each test that a page names is there", untested),
     ("README lists the files that the headline rests on, with their lines", miscounted),
     ("make watches every crate that the program is built of", unwatched),
