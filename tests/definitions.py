@@ -7,6 +7,8 @@ ITEM = re.compile(r"( *)(?:(?:pub|abbrev|unfoldable) )*(?:(record|data) )?([^\s(
 SIGNED = re.compile(r"\s*:(?:\s|$)")
 MODULE = re.compile(r"( *)module _")
 WORDS = re.compile(r"[\s(){}\[\],;.:λ]+")
+# what a file takes of a module of definitions: names, or the whole under its own name or another
+TAKEN = re.compile(r"^\s*(?:ghost )?use Rattle\.([\w.]+?)(?:\.\{(.*)\}| as \w+)?;?$", re.MULTILINE)
 # what no item begins with
 KEYWORDS = {"use", "mod", "module", "let", "in", "unfolding", "where", "→", "∙", "|", "λ", "--"}
 # what ends the head of a clause
@@ -58,6 +60,11 @@ def without_comment(line):
 
 def words(text):
     return [word for word in WORDS.split(text) if word]
+
+
+def taken(text):
+    """The modules of definitions that a file takes something from, each with the names; with none if it takes all."""
+    return [(module, words(names)) for module, names in TAKEN.findall(text)]
 
 
 def indent_of(line):

@@ -16,8 +16,6 @@ import wrong_bodies
 TOP = os.path.dirname(os.path.dirname(os.path.abspath(__file__)))
 HANDLES = "Handles allowed: Threads, Wait, Net.\n"
 
-# what a file takes of a module of definitions: names, or the whole under its own name or another
-TAKEN = re.compile(r"^\s*(?:ghost )?use Rattle\.([\w.]+?)(?:\.\{(.*)\}| as \w+)?;?$", re.MULTILINE)
 HOLE = re.compile(r"(=\s*\?|[( ]\?[ ),]|\?\s*$)")
 PUBLIC_FUNCTION = re.compile(r"^\s*pub (?:const )?fn (\w+)")
 # a function that other modules of its crate may call too
@@ -114,8 +112,8 @@ def names_taken(sources):
     taken = collections.defaultdict(set)
     for path in sources:
         words = words_of(path)
-        for module, names in TAKEN.findall(text_of(path)):
-            taken[module].update(definitions.words(names) if names else words)
+        for module, names in definitions.taken(text_of(path)):
+            taken[module].update(names or words)
     return taken
 
 
@@ -355,12 +353,11 @@ def contract_of(path, name):
 
 
 def imported(path):
-    """The repository's own definitions that a file imports by name: the file of each, and the names."""
-    for module, names in TAKEN.findall(text_of(path)):
-        crate, *rest = module.split(".")
-        place = f"crates/{crate}/{'/'.join(rest)}.antt"
-        if names and os.path.exists(os.path.join(TOP, place)):
-            yield place, definitions.words(names)
+    """The repository's own files of definitions that a file takes names from, each with the names."""
+    for module, names in definitions.taken(text_of(path)):
+        place = f"crates/{module.replace('.', '/')}.antt"
+        if os.path.exists(os.path.join(TOP, place)):
+            yield place, names
 
 
 def definitions_behind_the_headline():
