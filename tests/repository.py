@@ -213,8 +213,8 @@ def unbroken(_):
 def headless(_):
     """Must-fail edits that don't say what they do wrong, or what they break."""
     edits = wrong_bodies.edits()
-    found = [f"{edit.path} has no line 'wrong: ..'" for edit in edits if not edit.wrong]
-    return found + [f"{edit.path} has no line 'breaks: ..'" for edit in edits if not edit.breaks]
+    found = [f"{edit.path} has no line '# wrong: ..'" for edit in edits if not edit.wrong]
+    return found + [f"{edit.path} has no line '# breaks: ..'" for edit in edits if not edit.breaks]
 
 
 def unmade(_):

@@ -6,9 +6,9 @@
 An edit is a file `crates/CRATE/must-fail/NAME.edit`, or one under `further-edits/`. Its head is made of lines that the
 prover skips:
 
-    wrong: what the edited function does wrong
-    breaks: RepoName::read, <RepoName as Ord>::cmp     the functions whose contracts refuse it
-    ruled out by: `RepoName::read: named`              only for a known mistake: it is a row of the first table
+    # wrong: what the edited function does wrong
+    # breaks: RepoName::read, <RepoName as Ord>::cmp   the functions whose contracts refuse it
+    # ruled out by: `RepoName::read: named`            only for a known mistake: it is a row of the first table
 
 Only what is between two marks of the page is written; the rest is written by hand.
 """
@@ -25,7 +25,7 @@ KNOWN = (
     "<!-- tests/wrong_bodies.py writes the known mistakes from here on -->", "<!-- the known mistakes end here -->"
 )
 OTHERS = ("<!-- tests/wrong_bodies.py writes the other edits from here on -->", "<!-- the other edits end here -->")
-HEAD = re.compile(r"(wrong|breaks|ruled out by): *(.*)")
+HEAD = re.compile(r"# (wrong|breaks|ruled out by): *(.*)")
 
 
 @dataclasses.dataclass(frozen=True)
