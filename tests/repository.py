@@ -10,26 +10,15 @@ import subprocess
 import sys
 
 import definitions
+import functions
 import stored
 import wrong_bodies
+from functions import PROGRAM, TOP
 
-TOP = os.path.dirname(os.path.dirname(os.path.abspath(__file__)))
 HANDLES = "Handles allowed: Threads, Wait, Net.\n"
 
 HOLE = re.compile(r"(=\s*\?|[( ]\?[ ),]|\?\s*$)")
-PUBLIC_FUNCTION = re.compile(r"^\s*pub (?:const )?fn (\w+)")
-# a function that other modules of its crate may call too
-SHARED_FUNCTION = re.compile(r"^\s*pub(?:\(crate\))? (?:const )?fn (\w+)")
-IMPL = re.compile(r"^impl(?:<.*?>)?\s+(?:[\w:<>', ]+\s+for\s+)?(\w+)")
-TEST_MODULE = re.compile(r"#\[cfg\(test\)\]\s*mod \w+ \{")
-# A law takes nothing and gives nothing: its contract is all that it has.
-LAW = re.compile(r"^\s*pub fn \w+(?:<.*?>)?\(\)\s*(\{\s*\})?$")
 EDITS = re.compile(r"/(?:must-fail|further-edits)/")
-# an impl of a trait, with its body
-TRAIT_IMPL = re.compile(
-    r"^impl(?:<.*?>)? (?:\w+::)*(\w+)(?:<[^{]*?>)? for (\w+)[^{]*\{(.*?)^\}", re.MULTILINE | re.DOTALL
-)
-
 # A link of a page, and a heading that one may lead to.
 LINK = re.compile(r"\]\(([^)\s]+)\)")
 HEADING = re.compile(r"^#+ (.*)$", re.MULTILINE)
@@ -48,20 +37,13 @@ FUNCTION = re.compile(r"(?:[\w]+::)*(\w+)(?:: ([\w, ]+))?")
 PLACE = re.compile(r"[\w/]+\.(?:rt|antt|py)|[\w/]+/")
 WORD = re.compile(r"\w+")
 
+# The page of wrong bodies, and its rows of known mistakes.
+WRONG_BODIES = "docs/WRONG-BODIES.md"
+KNOWN_MISTAKE = re.compile(r"^\| ((?:`\w+`(?:, )?)+) \| `(\w+)` \|", re.MULTILINE)
+
 # The page on using the crates, and what it shows of the two programs that do.
 USING = "docs/USING.md"
 SHOWN = re.compile(r"crates/embed_\w+/(src/\w+\.rt|specs/(?!Lib\.)\w+\.antt)")
-
-# What the program is made of beside the libraries: no other crate stands on these.
-PROGRAM = {"blobd", "blobd_push", "blobd_serve", "blobd_shared"}
-
-# Functions that no edit can turn: their types leave no other body that compiles.
-NO_OTHER_BODY = {
-    "blobd_serve": {"Handed::none"},
-    "http_wire": {"History::none", "ToWrite::into_inner"},
-    "upload_bytes": {"Body::pieces"},
-    "upload_wire": {"ServiceDesk::into_service"},
-}
 
 # Functions of which no clause says anything, since none can speak of another thread. Tests stand for them.
 NO_CLAUSE = {
@@ -142,65 +124,17 @@ def handles(_):
     return [] if text_of("HANDLES") == HANDLES else ["HANDLES is not its one line"]
 
 
-def sources(crate):
-    folder = os.path.join(TOP, "crates", crate, "src")
-    for at, _, files in sorted(os.walk(folder)):
-        if os.path.basename(at) != "tests":
-            yield from (os.path.join(at, name) for name in sorted(files) if name.endswith(".rt") and name != "tests.rt")
-
-
-def exported(crate):
-    """The names that a library hands out; None for a program and what it is made of, whose functions all count that
-    more than one module may call."""
-    path = f"crates/{crate}/src/lib.rt"
-    if crate in PROGRAM or not os.path.exists(os.path.join(TOP, path)):
-        return None
-    return set(re.findall(r"\w+", " ".join(re.findall(r"^pub use ([^;]+);", text_of(path), re.MULTILINE | re.DOTALL))))
-
-
-def public_functions(crate, laws=False):
-    """`Type::name` or `name` of each function that the crate hands out: of those that do work, or of the laws."""
-    names = exported(crate)
-    form = SHARED_FUNCTION if crate in PROGRAM else PUBLIC_FUNCTION
-    for path in sources(crate):
-        with open(path, encoding="utf-8") as file:
-            text = TEST_MODULE.split(file.read())[0]
-        kind = ""
-        for line in text.splitlines():
-            if line.startswith("impl"):
-                found = IMPL.match(line)
-                # an impl of nothing ends where it begins
-                kind = found.group(1) if found and not line.endswith("{}") else ""
-            elif line.startswith("}"):
-                kind = ""
-            match = form.match(line)
-            if match and (names is None or (kind or match.group(1)) in names) and bool(LAW.match(line)) == laws:
-                yield f"{kind}::{match.group(1)}" if kind else match.group(1)
-
-
-def other_functions(crate):
-    """The functions that an edit may say it breaks beside those handed out: `<Type as Trait>::name`, and what a program
-    has inside."""
-    for path in sources(crate):
-        with open(path, encoding="utf-8") as file:
-            text = TEST_MODULE.split(file.read())[0]
-        for trait, kind, body in TRAIT_IMPL.findall(text):
-            yield from (f"<{kind} as {trait}>::{name}" for name in re.findall(r"^    fn (\w+)", body, re.MULTILINE))
-        if exported(crate) is None:
-            yield from re.findall(r"^(?:pub\(crate\) )?fn (\w+)", text, re.MULTILINE)
-
-
 def unbroken(_):
-    """Public functions that no must-fail edit breaks, and edits that break a function that isn't there."""
+    """Public functions that decide something and that no must-fail edit breaks, and edits that break a function that
+    isn't there."""
     found, edits = [], wrong_bodies.edits()
     for crate in sorted(os.listdir(os.path.join(TOP, "crates"))):
         of_crate = [edit for edit in edits if edit.crate == crate]
         # The program's functions are nobody else's: a further edit will do for them.
-        broken = {name for edit in of_crate if "/must-fail/" in edit.path or crate in PROGRAM for name in edit.breaks}
-        without = NO_OTHER_BODY.get(crate, set()) | NO_CLAUSE.get(crate, set())
-        functions = [name for name in public_functions(crate) if name not in without]
-        found += [f"{crate}: no must-fail edit breaks {name}" for name in functions if name not in broken]
-        known = {*functions, *public_functions(crate, laws=True), *other_functions(crate)}
+        tried = [edit for edit in of_crate if edit.folder == "must-fail" or crate in PROGRAM]
+        broken = {name for edit in tried for name in edit.breaks} | NO_CLAUSE.get(crate, set())
+        found += [f"{crate}: no must-fail edit breaks {name}" for name in functions.deciding(crate) if name not in broken]
+        known = functions.breakable(crate)
         found += [
             f"{edit.path} breaks {name}, which isn't there"
             for edit in of_crate
@@ -217,12 +151,12 @@ def headless(_):
     return found + [f"{edit.path} has no line '# breaks: ..'" for edit in edits if not edit.breaks]
 
 
-def unmade(_):
-    """Tables of the page of wrong bodies that aren't what the edits say."""
-    page = wrong_bodies.read_page()
-    return [] if wrong_bodies.made(page) == page else [
-        "docs/WRONG-BODIES.md isn't what `make wrong-bodies` writes: run it"
-    ]
+def unlisted(_):
+    """Known mistakes that the page of wrong bodies lacks, and those there that no must-fail edit makes."""
+    rows = KNOWN_MISTAKE.findall(text_of(WRONG_BODIES))
+    listed = {(crate, name) for names, crate in rows for name in NAMED.findall(names)}
+    known = {(edit.crate, edit.name) for edit in wrong_bodies.edits() if edit.is_known}
+    return [f"{WRONG_BODIES}: {name} of {crate}" for crate, name in sorted(listed ^ known)]
 
 
 def edited_once(path):
@@ -330,7 +264,7 @@ def untested(paths):
     scripts = [path for path in paths if path.endswith((".rt", ".py"))]
     words = set(WORD.findall(" ".join(text_of(path) for path in scripts)))
     found = []
-    for page in (PROMISES, "docs/WRONG-BODIES.md"):
+    for page in (PROMISES, WRONG_BODIES):
         for number, cell in cells_under(text_of(page), "Tests", "Test"):
             for name in NAMED.findall(cell):
                 begins = name.removesuffix("..")
@@ -460,9 +394,9 @@ CHECKS = [
     ("each definition and each lemma is named", unnamed),
     ("no output is committed", outputs),
     ("HANDLES is its one line", handles),
-    ("every public function has a must-fail edit", unbroken),
+    ("every public function that decides something has a must-fail edit", unbroken),
     ("every must-fail edit says what it does wrong and what it breaks", headless),
-    ("the page of wrong bodies is made of the edits", unmade),
+    ("the page of wrong bodies has the known mistakes", unlisted),
     ("every edit applies", unapplied),
     ("each link of a page leads somewhere", unlinked),
     ("each row of the promises names functions and clauses that are there", unpromised),
