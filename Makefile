@@ -8,6 +8,8 @@ WORKERS = 16
 FILE = README.md
 # the words of `make run`
 ARGS =
+# how long `make edits` may begin another edit; none: until all are tried
+MINUTES =
 
 # The proved program for every x86-64 processor, and the same program for those of the level x86-64-v3, which hashes faster (docs/PERFORMANCE.md).
 EVERY = crates/blobd/out/blobd
@@ -47,8 +49,8 @@ help:
 	@echo
 	@echo 'make test     everything that must hold: proofs from nothing, must-fail edits, tests, the checks of the repository; an hour or two'
 	@echo 'make check    proves what changed since the last check; make test is the judge'
-	@echo 'make edits    the further must-fail edits, which make test leaves out (tens of minutes)'
-	@echo 'make wrong-bodies writes the tables of docs/WRONG-BODIES.md from the heads of the must-fail edits'
+	@echo 'make edits    the further must-fail edits, which make test leaves out: an hour or two (MINUTES=30 some of them, by turns)'
+	@echo 'make wrong-bodies  a table of all must-fail edits: what each does wrong, and which contracts refuse it'
 	@echo 'make format   lays out the sources'
 	@echo 'make growths  the program and the built tests with each growth of memory refused in turn (after make test, which does it too)'
 	@echo 'make fuzz     100,000 generated streams of requests through `blobd once`, beside a model (make test runs 2,000)'
@@ -116,7 +118,7 @@ test:
 	@python3 tests/gate.py
 
 edits:
-	@python3 tests/edits.py
+	@python3 tests/edits.py $(if $(MINUTES),--minutes $(MINUTES))
 
 wrong-bodies:
 	@python3 tests/wrong_bodies.py
