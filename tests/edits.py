@@ -66,13 +66,13 @@ def tried(folder, edits):
 
 def tried_by_turns(folder, edits, minutes):
     """Tries edits for so long, from behind the last one that was tried, as many at once as there are processors. Each
-    crate is checked first, so that its edits begin with what is proved."""
+    crate is checked here first: its edits in the copy begin with what that keeps."""
     end = time.monotonic() + 60 * minutes
     count, all_refused = 0, True
     begin = bisect.bisect_right(edits, text_of(LAST))
     for crate, of_crate in itertools.groupby(edits[begin:] + edits[:begin], crate_of):
         if time.monotonic() < end:
-            subprocess.run(["rt", "check"], cwd=os.path.join(folder, "crates", crate), stdout=subprocess.DEVNULL, check=False)
+            subprocess.run(["rt", "check"], cwd=os.path.join(TOP, "crates", crate), check=False)
         while time.monotonic() < end and (group := list(itertools.islice(of_crate, os.cpu_count()))):
             told, refused = tried(folder, group)
             count, all_refused = count + told, all_refused and refused
