@@ -3,8 +3,8 @@
 use sha2::{Digest, Sha256};
 use std::alloc::Global;
 use std::io;
-use upload_bytes::Body;
-use upload_names::{BlobDigest, NameFault, RepoName, UploadRef};
+use upload_bytes::{Body, InPlace};
+use upload_names::{Algorithm, BlobDigest, NameFault, RepoName, UploadRef};
 use upload_service::{Answer, Ask, Extent, Limits, Service};
 
 /// The error if the service answers what it must not.
@@ -86,7 +86,7 @@ pub(crate) fn send(
     };
     match service.step(chunk, [0; 12], 0) {
         Answer::Taken { at, .. } => {
-            service.catch_up(&at);
+            let _ = service.catch_up(&InPlace, &at, Algorithm::Sha256);
             Ok(())
         }
         _ => Err(unexpected()),

@@ -14,6 +14,7 @@ use std::slice::Iter;
 use std::sync::Wait;
 use std::test::Fail;
 use std::thread::Threads;
+use upload_bytes::{InPlace, InThreads};
 use upload_names::{Algorithm, BlobDigest};
 use upload_service::{Answer, Ask, Extent, Limits, Refusal, Service};
 
@@ -328,16 +329,16 @@ impl Upload {
 
     /// Has the hash of the session catch up, and that of one which isn't there.
     fn catch_up(&mut self, rt: &(impl Threads + Wait)) {
-        match self.way.hashing {
-            Hashing::AtTheCloses | Hashing::BeforeTheCloses => {}
-            Hashing::InTurn => {
-                self.service.catch_up(&reference(ONE));
-                self.service.catch_up(&reference(TWO));
-            }
-            Hashing::Beside | Hashing::BesideAndJoined => {
-                self.service.catch_up_beside(rt, &reference(ONE));
-                self.service.catch_up_beside(rt, &reference(TWO));
-            }
+        for at in [ONE, TWO] {
+            let at = reference(at);
+            let _ = match self.way.hashing {
+                Hashing::AtTheCloses | Hashing::BeforeTheCloses => None,
+                Hashing::InTurn => self.service.catch_up(&InPlace, &at, Algorithm::Sha256),
+                Hashing::Beside | Hashing::BesideAndJoined => {
+                    self.service
+                        .catch_up(&InThreads(rt), &at, Algorithm::Sha256)
+                }
+            };
         }
     }
 
@@ -522,10 +523,11 @@ fn wait_for_hash(
     algorithm: Algorithm,
 ) -> bool {
     let at = reference(at);
-    if let Some(end) = service.hash_for_close(rt, &at, algorithm) {
+    let place = InThreads(rt);
+    if let Some(end) = service.catch_up(&place, &at, algorithm) {
         end.wait(rt);
     }
-    service.hash_for_close(rt, &at, algorithm).is_none()
+    service.catch_up(&place, &at, algorithm).is_none()
 }
 
 /// Uploads a content in pieces of many sizes, and pulls it back.
@@ -629,8 +631,11 @@ fn a_hash_that_has_caught_up_is_done(rt: HostRuntime) -> Result<(), Fail> {
     let mut upload = Upload::begin(alloc, WAYS[0])?;
     assert!(rt; upload.takes(content.as_slice())?);
     let at = reference(ONE);
-    upload.service.catch_up(&at);
-    let end = upload.service.hash_for_close(&rt, &at, Algorithm::Sha256);
+    let end = upload.service.catch_up(&InPlace, &at, Algorithm::Sha256);
+    assert!(rt; end.is_none());
+    let end = upload
+        .service
+        .catch_up(&InThreads(&rt), &at, Algorithm::Sha256);
     assert!(rt; end.is_none());
     Ok(())
 }
@@ -645,7 +650,7 @@ fn a_hash_that_is_waited_for_is_done(rt: HostRuntime) -> Result<(), Fail> {
         for at in [ONE, TWO] {
             let end = upload
                 .service
-                .hash_for_close(&rt, &reference(at), algorithm);
+                .catch_up(&InThreads(&rt), &reference(at), algorithm);
             assert!(rt; end.is_none());
         }
         assert!(rt; upload.takes(content.as_slice())?);

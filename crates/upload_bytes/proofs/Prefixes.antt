@@ -1,5 +1,6 @@
 -- What a hash holds of segments that grow.
 use Rattle.std.proofs.Common.{◌≡◌, ◌≤◌, ◌++◌, ◌-◌, ℕ, List, length, take, drop, sym, ap, ◌∙◌, subst, arith, append-nil}
+use Rattle.std.proofs.Common.{Option, Some, None}
 use Rattle.std.proofs.lemmas.List.{nil_from_length, take-take}
 use Rattle.std.proofs.Math.Seq.{take-length}
 use Rattle.upload_names.specs.declared.digest.Algorithm.{Algorithm as By}
@@ -8,7 +9,7 @@ use Rattle.upload_bytes.specs.declared.hashing.Hashing.{Hashing}
 use Rattle.upload_bytes.specs.Hashing.{StandsBy}
 use Rattle.std.specs.List.{concat}
 use Rattle.upload_bytes.specs.Segments.{Parts, whole}
-use Rattle.upload_bytes.specs.Prefixes.{HoldsPrefix}
+use Rattle.upload_bytes.specs.Prefixes.{HoldsPrefix, HoldsIfAny}
 use Rattle.upload_bytes.proofs.Parts.{concat-take_rest}
 
 -- it took in all behind those that it held
@@ -31,6 +32,12 @@ holds_of_more by old new hash front longer h =
       holds = subst (λ (p : List (List ℕ)). StandsBy by hash.running (concat p)) same h.holds;
       within = omega (arith, within, longer);
     }
+
+-- and so it is of the parts of a body, if a hash holds some
+pub any_of_more : (old new : List (List ℕ)) (hash : Option PrefixHash) → take (length old) new ≡ old
+    → length old ≤ length new → HoldsIfAny hash old → HoldsIfAny hash new
+any_of_more old new None front longer h = tt
+any_of_more old new (Some hash) front longer (by, h) = (by, holds_of_more by old new hash front longer h)
 
 -- the first body, if no segment is small, is all that stays as it is
 pub settled_first : (old new : Parts) (body : List ℕ) → length (whole old) ≡ 0 → whole new ≡ whole old ++ body

@@ -1,5 +1,5 @@
--- Which bytes the hash of a body stands for, here or in a thread.
-use Rattle.std.specs.Prelude.{ℕ, List, Option, Some, None, ⊤, ◌≡◌, ◌≤◌, ◌++◌, length, take}
+-- Which bytes a hash stands for, here or in a thread.
+use Rattle.std.specs.Prelude.{ℕ, List, ◌++◌}
 use Rattle.std.specs.List.{concat}
 use Rattle.upload_names.specs.declared.digest.Algorithm.{Algorithm as By}
 use Rattle.upload_bytes.specs.declared.hashing.Running.{Running}
@@ -15,14 +15,3 @@ StandsBy by (Away away) bytes =
     → ((of : By) (before : List ℕ) → HoldsBy of away.thread.promise.before.value before
     → HoldsBy of hash (before ++ concat away.thread.promise.parts.value.items))
     → HoldsBy by hash bytes
-
--- a hash, if there is one, stands for these bytes, by its algorithm
-abbrev pub StandsFor : Option Hashing → List ℕ → Type 0
-StandsFor None bytes = ⊤
-StandsFor (Some hash) bytes = (by : By) × StandsBy by hash bytes
-
--- The bytes of a body that is still being read: the hash, if there is one, stands for so many of its parts.
-pub record IsBuilt (hash : Option Hashing) (hashed len : ℕ) (parts : List (List ℕ)) (last : List ℕ) : Type 0 where
-  pub stands : StandsFor hash (concat (take hashed parts))
-  pub within : hashed ≤ length parts
-  pub counted : len ≡ length (concat parts ++ last)

@@ -1,5 +1,5 @@
--- Which messages the hashes of a session hold.
-use Rattle.std.specs.Prelude.{ℕ, List, ◌≤◌, length, take}
+-- Which bytes the hashes of a session and of a body hold.
+use Rattle.std.specs.Prelude.{ℕ, List, Option, Some, None, ⊤, ◌≡◌, ◌≤◌, ◌++◌, length, take}
 use Rattle.upload_names.specs.declared.digest.Algorithm.{Algorithm as By}
 use Rattle.upload_names.specs.declared.digest.Algorithm.TheVariants.{Sha256, Sha512}
 use Rattle.upload_bytes.specs.declared.prefix_hash.PrefixHash.{PrefixHash}
@@ -16,3 +16,13 @@ pub record HoldsPrefix (by : By) (settled : List (List ℕ)) (hash : PrefixHash)
 pub record AreRunning (parts : Parts) (one two : PrefixHash) : Type 0 where
   pub sha256 : HoldsPrefix Sha256 parts.settled one
   pub sha512 : HoldsPrefix Sha512 parts.settled two
+
+-- a hash, if there is one, holds a prefix of these parts, by its algorithm
+abbrev pub HoldsIfAny : Option PrefixHash → List (List ℕ) → Type 0
+HoldsIfAny None parts = ⊤
+HoldsIfAny (Some hash) parts = (by : By) × HoldsPrefix by parts hash
+
+-- The bytes of a body that is still being read: the hash, if there is one, holds the first ones of its parts.
+pub record IsBuilt (hash : Option PrefixHash) (len : ℕ) (parts : List (List ℕ)) (last : List ℕ) : Type 0 where
+  pub holds : HoldsIfAny hash parts
+  pub counted : len ≡ length (concat parts ++ last)

@@ -5,10 +5,11 @@ ghost use Rattle.upload_names.specs.Digest.{content_digest};
 ghost use Rattle.upload_bytes.specs.Body.{bytes_in, IsBody};
 ghost use Rattle.std.specs.List.{concat};
 ghost use Rattle.upload_bytes.specs.Running.{HoldsIfCarried};
-ghost use Rattle.upload_bytes.specs.Hashing.{StandsFor};
+ghost use Rattle.upload_bytes.specs.Prefixes.{HoldsIfAny};
 
-use crate::hashing::{HashPlace, Hashing, Running};
+use crate::hashing::{HashPlace, Running};
 use crate::part::{Part, take_in};
+use crate::prefix_hash::PrefixHash;
 use sha2::{Digest, Sha256, Sha512};
 use std::alloc::{AllocError, Global};
 use std::marker::Model;
@@ -164,7 +165,7 @@ fn sha512_of(body: &Body) -> Sha512
 const PART_SIZE: usize = 4_194_240;
 
 /// The bytes of a body as far as they came: the parts that came whole, and what came behind them. If the body is hashed
-/// as it comes, a hash stands for the first ones of the parts.
+/// as it comes, a hash holds the first ones of the parts.
 #[derive(Drop)]
 pub struct BodyBuilder {
     alloc: Global,
@@ -172,9 +173,7 @@ pub struct BodyBuilder {
     last: Vec<u8>,
     /// How many bytes there are in all.
     size: usize,
-    hash: Option<Hashing>,
-    /// How many parts the hash stands for.
-    hashed: usize,
+    hash: Option<PrefixHash>,
 }
 
 impl Model for BodyBuilder {
@@ -183,11 +182,11 @@ impl Model for BodyBuilder {
 
     ghost Value = { List ℕ };
 
-    ghost use Rattle.upload_bytes.specs.Hashing.{IsBuilt};
+    ghost use Rattle.upload_bytes.specs.Prefixes.{IsBuilt};
 
     ghost view = { λ a. concat a.parts.items ++ a.last.items };
 
-    ghost invariant = { λ a. IsBuilt a.hash a.hashed a.size a.parts.items a.last.items };
+    ghost invariant = { λ a. IsBuilt a.hash a.size a.parts.items a.last.items };
 }
 
 impl BodyBuilder {
@@ -196,7 +195,7 @@ impl BodyBuilder {
         ensures { result ≡ [] }
     {
         let hash = match hashed {
-            Some(algorithm) => Some(Hashing::Here(Running::new(algorithm))),
+            Some(algorithm) => Some(PrefixHash::new(algorithm)),
             None => None,
         };
         BodyBuilder {
@@ -205,7 +204,6 @@ impl BodyBuilder {
             last: Vec::new(alloc),
             size: 0,
             hash,
-            hashed: 0,
         }
     }
 
@@ -273,15 +271,9 @@ impl BodyBuilder {
     fn catch_up<P: HashPlace>(&mut self, place: &P)
         ensures { self.new ≡ self.old }
     {
-        let Some(hash) = mem::replace(&mut self.hash, None) else {
-            return;
-        };
-        if hash.is_at_work() {
-            self.hash = Some(hash);
-            return;
+        if let Some(hash) = &mut self.hash {
+            let _ = hash.catch_up(place, self.alloc, self.parts.as_slice());
         }
-        self.hash = hash_on(place, self.alloc, hash, &self.parts[self.hashed..]);
-        self.hashed = self.parts.len();
     }
 
     /// The body, with the hash of all its bytes if they were hashed. Spare room that is left from growing goes back, if
@@ -294,39 +286,30 @@ impl BodyBuilder {
             mut last,
             size,
             hash,
-            hashed,
             ..
         } = self;
         parts.shrink_to_fit();
         last.shrink_to_fit();
-        let running = hash_of_all(place, hash, &parts[hashed..], last.as_slice());
+        let running = hash_of_all(place, hash, parts.as_slice(), last.as_slice());
         Body::carrying(Pieces { parts, last }, size, running)
     }
 }
 
-/// Has a hash take parts in.
-fn hash_on<P: HashPlace>(place: &P, alloc: Global, hash: Hashing, parts: &[Part]) -> Option<Hashing>
-    ensures { (bytes : List ℕ) → StandsFor (Some hash) bytes
-        → StandsFor result (bytes ++ concat parts.now) }
-{
-    place.go_on(alloc, hash, parts)
-}
-
-/// The hash of a body, from that of its first parts, the other parts, and what came behind them.
+/// The hash of a body, from that of its first parts, all parts, and what came behind them.
 fn hash_of_all<P: HashPlace>(
     place: &P,
-    hash: Option<Hashing>,
+    hash: Option<PrefixHash>,
     parts: &[Part],
     last: &[u8],
 ) -> Option<Running>
-    ensures { (bytes : List ℕ) → StandsFor hash bytes
-        → HoldsIfCarried result (bytes ++ concat parts.now ++ last.now) }
+    requires { HoldsIfAny hash parts.now }
+    ensures { HoldsIfCarried result (concat parts.now ++ last.now) }
 {
     let Some(hash) = hash else {
         return None;
     };
-    let Some(running) = place.come_home(hash) else {
+    let Some(hash) = hash.into_hash(place, parts) else {
         return None;
     };
-    Some(running.with_parts(parts).with(last))
+    Some(hash.with(last))
 }

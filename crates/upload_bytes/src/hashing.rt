@@ -1,5 +1,5 @@
-//! A hash by either algorithm, and one that takes parts in at once, or in a thread of its own.
-ghost use Rattle.std.specs.Prelude.{◌≡◌, ◌++◌, ℕ, List, IfSome, []};
+//! A hash by either algorithm, which takes parts in here, or in a thread of its own.
+ghost use Rattle.std.specs.Prelude.{◌≡◌, ◌++◌, ℕ, List, IfOk, IfErr, []};
 ghost use Rattle.std.specs.List.{concat};
 ghost use Rattle.upload_names.specs.declared.digest.Algorithm.{Algorithm as By};
 ghost use Rattle.upload_bytes.specs.Running.{HoldsBy};
@@ -7,6 +7,7 @@ ghost use Rattle.upload_bytes.specs.Hashing.{StandsBy};
 
 use crate::hash_end::HashEnd;
 use crate::part::{Part, share_all, take_in};
+use crate::segments::size_of;
 use sha2::{Digest, Sha256, Sha512};
 use std::alloc::{AllocError, Global};
 use std::snapshot::Snapshot;
@@ -48,28 +49,25 @@ impl Running {
         }
     }
 
-    /// Takes parts in.
-    pub fn take_in(&mut self, parts: &[Part])
-        ensures { (by : By) (before : List ℕ) → HoldsBy by self.old before
-            → HoldsBy by self.new (before ++ concat parts.now) }
-    {
-        match self {
-            Running::Sha256(hash) => take_in(hash, parts),
-            Running::Sha512(hash) => take_in(hash, parts),
-        }
-    }
-
     /// The hash with parts taken in.
-    pub(crate) fn with_parts(mut self, parts: &[Part]) -> Running
+    pub fn with_parts(self, parts: &[Part]) -> Running
         ensures { (by : By) (before : List ℕ) → HoldsBy by self before
             → HoldsBy by result (before ++ concat parts.now) }
     {
-        self.take_in(parts);
-        self
+        match self {
+            Running::Sha256(mut hash) => {
+                take_in(&mut hash, parts);
+                Running::Sha256(hash)
+            }
+            Running::Sha512(mut hash) => {
+                take_in(&mut hash, parts);
+                Running::Sha512(hash)
+            }
+        }
     }
 
     /// The hash with a piece taken in.
-    pub(crate) fn with(self, piece: &[u8]) -> Running
+    pub fn with(self, piece: &[u8]) -> Running
         ensures { (by : By) (before : List ℕ) → HoldsBy by self before
             → HoldsBy by result (before ++ piece.now) }
     {
@@ -85,6 +83,9 @@ impl Running {
         }
     }
 }
+
+/// The fewest bytes that are worth a thread.
+const WORTH_A_THREAD: u64 = 262_144;
 
 /// The stack of a thread that hashes, in bytes.
 const STACK: usize = 131_072;
@@ -122,7 +123,7 @@ pub enum Hashing {
 
 impl Hashing {
     /// Whether a thread is still hashing: who joined it would wait.
-    pub(crate) fn is_at_work(&self) -> bool {
+    pub fn is_at_work(&self) -> bool {
         match self {
             Hashing::Here(_) => false,
             Hashing::Away(away) => !away.end.is_over(),
@@ -130,87 +131,69 @@ impl Hashing {
     }
 
     /// The end of the thread that is still hashing, if one is.
-    pub(crate) fn end(&self) -> Option<HashEnd> {
+    pub fn end(&self) -> Option<HashEnd> {
         match self {
             Hashing::Away(away) if !away.end.is_over() => away.end.share().ok(),
             _ => None,
         }
     }
-
-    /// The hash, once its thread has ended.
-    pub fn come_home<R: Threads>(self, rt: &R) -> Running
-        ensures { (by : By) (bytes : List ℕ) → StandsBy by self bytes → HoldsBy by result bytes }
-    {
-        match self {
-            Hashing::Here(hash) => hash,
-            Hashing::Away(away) => {
-                let Away { thread, .. } = away;
-                thread.join(rt)
-            }
-        }
-    }
-
-    /// Takes parts in, in a thread that shares them. What is taken in already is waited for. If there is no memory for
-    /// that, or no thread can be made, the parts are taken in here.
-    pub fn go_on_beside<R: Threads>(self, rt: &R, alloc: Global, parts: &[Part]) -> Hashing
-        ensures { (by : By) (bytes : List ℕ) → StandsBy by self bytes
-            → StandsBy by result (bytes ++ concat parts.now) }
-    {
-        let hash = self.come_home(rt);
-        match share_all(alloc, parts) {
-            Ok(theirs) => hash_beside(rt, alloc, hash, theirs),
-            Err(AllocError) => Hashing::Here(hash.with_parts(parts)),
-        }
-    }
 }
 
-/// Where the parts of a body are hashed as they come.
+/// Where parts are hashed: here, or in threads.
 pub trait HashPlace {
-    /// Has a hash take parts in. What it is taking in already is waited for. `None` comes only from a place without
-    /// threads, for a hash that is away in one.
-    fn go_on(&self, alloc: Global, hash: Hashing, parts: &[Part]) -> Option<Hashing>
-        ensures { IfSome result
-            (λ more. (by : By) (bytes : List ℕ) → StandsBy by hash bytes
-            → StandsBy by more (bytes ++ concat parts.now)) };
+    /// The hash, once its thread has ended. An `Err` hands one back whose thread can't be joined here.
+    fn join(&self, hash: Hashing) -> Result<Running, Hashing>
+        ensures ok { IfOk result
+            (λ home. (by : By) (bytes : List ℕ) → StandsBy by hash bytes → HoldsBy by home bytes) }
+        ensures err { IfErr result (λ back. back ≡ hash) };
 
-    /// The hash, once its thread has ended. `None` comes as from `go_on`.
-    fn come_home(&self, hash: Hashing) -> Option<Running>
-        ensures { IfSome result
-            (λ home. (by : By) (bytes : List ℕ) → StandsBy by hash bytes → HoldsBy by home bytes) };
+    /// Has a hash take parts in.
+    fn take_in(&self, alloc: Global, hash: Running, parts: &[Part]) -> Hashing
+        ensures { (by : By) (bytes : List ℕ) → HoldsBy by hash bytes
+            → StandsBy by result (bytes ++ concat parts.now) };
 }
 
-/// Here, as they come.
+/// Here, at once.
 #[derive(Clone, Copy, Debug, Default)]
 pub struct InPlace;
 
 impl HashPlace for InPlace {
-    fn go_on(&self, _alloc: Global, hash: Hashing, parts: &[Part]) -> Option<Hashing> {
+    fn join(&self, hash: Hashing) -> Result<Running, Hashing> {
         match hash {
-            Hashing::Here(hash) => Some(Hashing::Here(hash.with_parts(parts))),
-            Hashing::Away(_) => None,
+            Hashing::Here(hash) => Ok(hash),
+            Hashing::Away(away) => Err(Hashing::Away(away)),
         }
     }
 
-    fn come_home(&self, hash: Hashing) -> Option<Running> {
-        match hash {
-            Hashing::Here(hash) => Some(hash),
-            Hashing::Away(_) => None,
-        }
+    fn take_in(&self, _alloc: Global, hash: Running, parts: &[Part]) -> Hashing {
+        Hashing::Here(hash.with_parts(parts))
     }
 }
 
-/// In a thread that shares the parts and hashes them while further ones are read. If there is no memory for that, or no
-/// thread can be made, the parts are hashed here.
+/// In a thread that shares the parts, while its caller goes on. Few bytes aren't worth one, and are hashed here; so are
+/// all if there is no memory for the shares, or no thread can be made.
 #[derive(Clone, Copy)]
 pub struct InThreads<'a, R: Threads>(pub &'a R);
 
 impl<'a, R: Threads> HashPlace for InThreads<'a, R> {
-    fn go_on(&self, alloc: Global, hash: Hashing, parts: &[Part]) -> Option<Hashing> {
-        Some(hash.go_on_beside(self.0, alloc, parts))
+    fn join(&self, hash: Hashing) -> Result<Running, Hashing> {
+        match hash {
+            Hashing::Here(hash) => Ok(hash),
+            Hashing::Away(away) => {
+                let Away { thread, .. } = away;
+                Ok(thread.join(self.0))
+            }
+        }
     }
 
-    fn come_home(&self, hash: Hashing) -> Option<Running> {
-        Some(hash.come_home(self.0))
+    fn take_in(&self, alloc: Global, hash: Running, parts: &[Part]) -> Hashing {
+        if size_of(parts) < WORTH_A_THREAD {
+            return Hashing::Here(hash.with_parts(parts));
+        }
+        match share_all(alloc, parts) {
+            Ok(shares) => hash_beside(self.0, alloc, hash, shares),
+            Err(AllocError) => Hashing::Here(hash.with_parts(parts)),
+        }
     }
 }
 

@@ -1,24 +1,16 @@
 //! A running hash that holds a prefix of a session's segments, and catches up with them.
-ghost use Rattle.std.specs.Prelude.{◌≡◌, ◌≤◌, ◌++◌, ℕ, List, length};
+ghost use Rattle.std.specs.Prelude.{◌≤◌, ℕ, List, length, IfSome};
 ghost use Rattle.upload_names.specs.declared.digest.Algorithm.{Algorithm as By};
-ghost use Rattle.upload_bytes.specs.declared.hashing.Running.{Running as HashOf};
-ghost use Rattle.upload_bytes.specs.declared.hashing.Hashing.TheVariants.{Here};
 ghost use Rattle.upload_bytes.specs.Running.{HoldsBy};
-ghost use Rattle.upload_bytes.specs.Hashing.{StandsBy};
 ghost use Rattle.std.specs.List.{concat};
 ghost use Rattle.upload_bytes.specs.Prefixes.{HoldsPrefix};
 
 use crate::hash_end::HashEnd;
-use crate::hashing::{Hashing, Running};
+use crate::hashing::{HashPlace, Hashing, Running};
 use crate::part::Part;
-use crate::segments::size_of;
 use std::alloc::Global;
 use std::mem;
-use std::thread::Threads;
 use upload_names::Algorithm;
-
-/// The fewest bytes that are worth a thread.
-const WORTH_A_THREAD: u64 = 262_144;
 
 /// A running hash, and how many of the segments that stay as they are it holds. Each call is given these segments, of
 /// which the hash holds a prefix before the call and after it.
@@ -50,85 +42,71 @@ impl PrefixHash {
         }
     }
 
-    /// Takes all segments in, unless the hash is away in a thread.
-    pub fn catch_up(&mut self, settled: &[Part])
-        requires { self.old.held ≤ length settled.now }
-        ensures prefix { (by : By) → HoldsPrefix by settled.now self.old
-            → HoldsPrefix by settled.now self.new }
-        ensures all { (hash : HashOf) → self.new.running ≡ Here hash
-            → self.new.held ≡ length settled.now }
-    {
-        if let Hashing::Here(hash) = &mut self.running {
-            hash.take_in(&settled[self.held..]);
-            self.held = settled.len();
-        }
-    }
-
-    /// Takes all segments in, in a thread if that is worth it. While a thread is at work this does nothing.
-    pub fn catch_up_beside<R: Threads>(&mut self, rt: &R, alloc: Global, settled: &[Part])
+    /// Takes all segments in at a place. While a thread is at work this does nothing, and nor does it if the thread
+    /// can't be joined at that place. Gives the end of the thread that is at work, if one is.
+    pub fn catch_up<P: HashPlace>(
+        &mut self,
+        place: &P,
+        alloc: Global,
+        settled: &[Part],
+    ) -> Option<HashEnd>
         requires { self.old.held ≤ length settled.now }
         ensures { (by : By) → HoldsPrefix by settled.now self.old
             → HoldsPrefix by settled.now self.new }
     {
-        if self.running.is_at_work() {
-            return;
+        if !self.running.is_at_work() {
+            let before = mem::replace(self, PrefixHash::new(Algorithm::Sha256));
+            *self = before.with_all(place, alloc, settled);
         }
-        let running = self.take_running();
-        self.running = go_on(rt, alloc, running, &settled[self.held..]);
-        self.held = settled.len();
-    }
-
-    /// The end of the thread that is at work, if one is.
-    pub fn end(&self) -> Option<HashEnd> {
         self.running.end()
     }
 
-    /// Waits for the thread that has the hash, if one has it.
-    pub fn bring_home<R: Threads>(&mut self, rt: &R)
-        ensures { (by : By) (settled : List (List ℕ)) → HoldsPrefix by settled self.old
-            → HoldsPrefix by settled self.new }
+    /// The hash with all segments taken in, if its thread can be joined at this place. It is waited for.
+    fn with_all<P: HashPlace>(self, place: &P, alloc: Global, settled: &[Part]) -> PrefixHash
+        requires { self.held ≤ length settled.now }
+        ensures { (by : By) → HoldsPrefix by settled.now self → HoldsPrefix by settled.now result }
     {
-        let running = self.take_running();
-        self.running = Hashing::Here(running.come_home(rt));
+        let PrefixHash { running, held } = self;
+        match place.join(running) {
+            Ok(hash) => PrefixHash {
+                running: place.take_in(alloc, hash, &settled[held..]),
+                held: settled.len(),
+            },
+            Err(running) => PrefixHash { running, held },
+        }
+    }
+
+    /// A hash of all segments, if its thread can be joined at this place. It is waited for.
+    pub fn into_hash<P: HashPlace>(self, place: &P, settled: &[Part]) -> Option<Running>
+        requires { self.held ≤ length settled.now }
+        ensures { IfSome result (λ hash. (by : By) → HoldsPrefix by settled.now self
+            → HoldsBy by hash (concat settled.now)) }
+    {
+        let PrefixHash { running, held } = self;
+        let Ok(hash) = place.join(running) else {
+            return None;
+        };
+        Some(hash.with_parts(&settled[held..]))
     }
 
     /// A hash by this algorithm of all segments: a copy of the running one, which catches up before. If that is away in
-    /// a thread, all is hashed anew.
-    pub fn of_settled(&mut self, algorithm: Algorithm, settled: &[Part]) -> Running
+    /// a thread which can't be joined at this place, all is hashed anew.
+    pub fn of_settled<P: HashPlace>(
+        &mut self,
+        place: &P,
+        algorithm: Algorithm,
+        settled: &[Part],
+    ) -> Running
         requires { HoldsPrefix algorithm settled.now self.old }
         ensures hash { HoldsBy algorithm result (concat settled.now) }
         ensures prefix { HoldsPrefix algorithm settled.now self.new }
     {
-        self.catch_up(settled);
-        if let Hashing::Here(hash) = &self.running {
-            return hash.copy();
-        }
-        let mut hash = Running::new(algorithm);
-        hash.take_in(settled);
+        let before = mem::replace(self, PrefixHash::new(algorithm));
+        let hash = match before.into_hash(place, settled) {
+            Some(hash) => hash,
+            None => Running::new(algorithm).with_parts(settled),
+        };
+        *self = PrefixHash::of_all(hash.copy(), settled);
         hash
     }
-
-    /// The running hash, in whose place one of nothing is left.
-    fn take_running(&mut self) -> Hashing
-        ensures taken { result ≡ self.old.running }
-        ensures held { self.new.held ≡ self.old.held }
-    {
-        mem::replace(
-            &mut self.running,
-            Hashing::Here(Running::new(Algorithm::Sha256)),
-        )
-    }
-}
-
-/// The hash with parts taken in, in a thread if that is worth it. What is taken in already is waited for.
-fn go_on<R: Threads>(rt: &R, alloc: Global, hash: Hashing, parts: &[Part]) -> Hashing
-    ensures { (by : By) (bytes : List ℕ) → StandsBy by hash bytes
-        → StandsBy by result (bytes ++ concat parts.now) }
-{
-    if size_of(parts) >= WORTH_A_THREAD {
-        return hash.go_on_beside(rt, alloc, parts);
-    }
-    let mut home = hash.come_home(rt);
-    home.take_in(parts);
-    Hashing::Here(home)
 }

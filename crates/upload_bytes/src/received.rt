@@ -8,18 +8,17 @@ ghost use Rattle.upload_bytes.specs.Segments.{whole};
 
 use crate::body::Body;
 use crate::hash_end::HashEnd;
-use crate::hashing::Running;
+use crate::hashing::{HashPlace, Running};
 use crate::prefix_hash::PrefixHash;
 use crate::segments::Segments;
 use sha2::Digest;
 use std::alloc::{AllocError, Global};
 use std::marker::Model;
-use std::thread::Threads;
 use upload_names::{Algorithm, BlobDigest};
 
-/// The bytes that a session received, and two hashes that each hold a prefix of them. `catch_up` and `catch_up_beside`
-/// have the SHA-256 take in what came since, so that a close has little left to hash. The SHA-512 catches up only when
-/// a close by it is to come: both at once would cost each chunk twice.
+/// The bytes that a session received, and two hashes that each hold a prefix of them. `catch_up` has one take in
+/// what came since, so that a close has little left to hash. The SHA-512 catches up only if a close by it is to come:
+/// both at once would cost each chunk twice.
 #[derive(Drop)]
 pub struct Received {
     segments: Segments,
@@ -81,28 +80,12 @@ impl Received {
         Ok(())
     }
 
-    /// Has the SHA-256 take in the segments that stay as they are, unless it is away in a thread. Nothing that is seen
-    /// changes.
-    pub fn catch_up(&mut self)
-        ensures { self.new ≡ self.old }
-    {
-        self.sha256.catch_up(self.segments.settled());
-    }
-
-    /// Has the SHA-256 take in the segments that stay as they are, in a thread if that is worth it. While a thread is
-    /// at that already this does nothing: what is behind is for the next thread. Nothing that is seen changes.
-    pub fn catch_up_beside<R: Threads>(&mut self, rt: &R, alloc: Global)
-        ensures { self.new ≡ self.old }
-    {
-        self.sha256
-            .catch_up_beside(rt, alloc, self.segments.settled());
-    }
-
-    /// Has the hash by an algorithm take in the segments that stay as they are, as `catch_up_beside` does. Gives the
-    /// end of the thread that is at that, if there is one. Nothing that is seen changes.
-    pub fn hash_for_close<R: Threads>(
+    /// Has the hash by an algorithm take in the segments that stay as they are, at a place. While a thread is at that
+    /// already nothing is done: what is behind is for the next thread. Gives the end of the thread that is at work, if
+    /// one is. Nothing that is seen changes.
+    pub fn catch_up<P: HashPlace>(
         &mut self,
-        rt: &R,
+        place: &P,
         alloc: Global,
         algorithm: Algorithm,
     ) -> Option<HashEnd>
@@ -110,49 +93,34 @@ impl Received {
     {
         let settled = self.segments.settled();
         match algorithm {
-            Algorithm::Sha256 => {
-                self.sha256.catch_up_beside(rt, alloc, settled);
-                self.sha256.end()
-            }
-            Algorithm::Sha512 => {
-                self.sha512.catch_up_beside(rt, alloc, settled);
-                self.sha512.end()
-            }
+            Algorithm::Sha256 => self.sha256.catch_up(place, alloc, settled),
+            Algorithm::Sha512 => self.sha512.catch_up(place, alloc, settled),
         }
     }
 
-    /// Waits for the thread that has the hash by an algorithm, if one has it. Nothing that is seen changes.
-    pub fn bring_home<R: Threads>(&mut self, rt: &R, algorithm: Algorithm)
-        ensures { self.new ≡ self.old }
-    {
-        match algorithm {
-            Algorithm::Sha256 => self.sha256.bring_home(rt),
-            Algorithm::Sha512 => self.sha512.bring_home(rt),
-        }
-    }
-
-    /// Whether what was received and a last body have a digest, by the algorithm of that digest. The body is
-    /// hashed into a copy, so nothing that is seen changes.
-    pub fn has_digest(&mut self, digest: &BlobDigest, body: &Body) -> bool
+    /// Whether what was received and a last body have a digest, by the algorithm of that digest. A thread that hashes
+    /// for that is waited for, if the place has threads. The body is hashed into a copy, so nothing that is seen
+    /// changes.
+    pub fn has_digest<P: HashPlace>(&mut self, place: &P, digest: &BlobDigest, body: &Body) -> bool
         ensures is { IsTrue result ↔ HasDigest (self.old ++ body.now) digest.now }
         ensures same { self.new ≡ self.old }
     {
         match digest.algorithm() {
             Algorithm::Sha256 => {
-                let sum = self.sha256_with(body);
+                let sum = self.sha256_with(place, body);
                 sum.as_slice() == digest.as_bytes()
             }
             Algorithm::Sha512 => {
-                let sum = self.sha512_with(body);
+                let sum = self.sha512_with(place, body);
                 sum.as_slice() == digest.as_bytes()
             }
         }
     }
 
     /// The SHA-256 of what was received and a last body. The hash takes in the segments that stay as they are; the
-    /// last one, which is small, goes into a copy with the body. Where the body is all, and carries its hash, nothing
-    /// is hashed again. If the hash is away in a thread, all is hashed anew.
-    fn sha256_with(&mut self, body: &Body) -> [u8; 32]
+    /// last one, which is small, goes into a copy with the body. If the body is all, and carries its hash, nothing is
+    /// hashed again.
+    fn sha256_with<P: HashPlace>(&mut self, place: &P, body: &Body) -> [u8; 32]
         ensures digest { result ≡ sha256 (self.old ++ body.now) }
         ensures same { self.new ≡ self.old }
     {
@@ -162,14 +130,14 @@ impl Received {
             }
         }
         let settled = self.segments.settled();
-        match self.sha256.of_settled(Algorithm::Sha256, settled) {
+        match self.sha256.of_settled(place, Algorithm::Sha256, settled) {
             Running::Sha256(hash) => finish(hash, &self.segments, body),
             Running::Sha512(_) => unreachable!(),
         }
     }
 
     /// The SHA-512 of the same, in the same way.
-    fn sha512_with(&mut self, body: &Body) -> [u8; 64]
+    fn sha512_with<P: HashPlace>(&mut self, place: &P, body: &Body) -> [u8; 64]
         ensures digest { result ≡ sha512 (self.old ++ body.now) }
         ensures same { self.new ≡ self.old }
     {
@@ -179,7 +147,7 @@ impl Received {
             }
         }
         let settled = self.segments.settled();
-        match self.sha512.of_settled(Algorithm::Sha512, settled) {
+        match self.sha512.of_settled(place, Algorithm::Sha512, settled) {
             Running::Sha512(hash) => finish(hash, &self.segments, body),
             Running::Sha256(_) => unreachable!(),
         }

@@ -14,7 +14,8 @@ use std::snapshot::Snapshot;
 use std::sync::Wait;
 use std::thread;
 use std::thread::Threads;
-use upload_names::UploadRef;
+use upload_bytes::InThreads;
+use upload_names::{Algorithm, UploadRef};
 use upload_service::{Answer, Service, headline_holds};
 
 /// What a keeper has, while it runs and when it has ended.
@@ -165,7 +166,7 @@ impl Keeper {
                 taken
             }
             Message::Hash(at, algorithm) => {
-                let end = self.books.service.hash_for_close(rt, &at, algorithm);
+                let end = self.books.service.catch_up(&InThreads(rt), &at, algorithm);
                 // A seat that doesn't hear it is gone.
                 let _ = self.books.lines[seat].ends.send(rt, end);
                 None
@@ -181,7 +182,8 @@ impl Keeper {
     fn catch_up<R: Threads>(&mut self, rt: &R, at: &UploadRef)
         ensures { self.new ≡ self.old }
     {
-        self.books.service.catch_up_beside(rt, at);
+        let place = InThreads(rt);
+        let _ = self.books.service.catch_up(&place, at, Algorithm::Sha256);
     }
 
     /// Serves requests until all seats have finished, each at the greater of the moment told and the moment before.

@@ -12,11 +12,11 @@ use crate::limits::Limits;
 use crate::sessions::Sessions;
 use crate::slack::Slack;
 use crate::stock::Stock;
-use crate::turn::{Tables, Verdict, judge, turn};
+use crate::turn::{Tables, turn};
 use std::alloc::{AllocError, Global};
 use std::marker::Model;
 use std::thread::Threads;
-use upload_bytes::HashEnd;
+use upload_bytes::{HashEnd, HashPlace, InPlace, InThreads};
 use upload_names::{Algorithm, BlobDigest, RepoName, UploadRef};
 
 /// The upload service: the open sessions, the stored blobs, and which repository has which blob. It and its
@@ -88,59 +88,19 @@ impl Service {
     /// Serves one request, at this moment in seconds: one turn of the machine. The secret is used only if the answer
     /// is Begun. The answer is NoMemory only if memory was refused, at a change or as the bytes of a blob are handed
     /// out, and nothing has changed then. A refusal, a status, `/v2/` and a HEAD of a blob are never answered so.
+    ///
+    /// A chunk is not hashed here, so that its answer isn't kept waiting (`catch_up`); a close hashes what is left. If
+    /// a thread has the session's hash, it hashes all again: who has threads calls `step_joining`.
     pub fn step(&mut self, ask: Ask, secret: [u8; 12], now: u64) -> Answer
         ensures turn { Turn self.old ask secret now result self.new }
         ensures lawful { IsLawful self.new }
     {
-        turn(&mut self.tables, ask, secret, now)
+        self.step_at(&InPlace, ask, secret, now)
     }
 
-    /// Has the SHA-256 of an open session take in what the session received since it last did. A step hashes no chunk,
-    /// so that its answer isn't kept waiting; a close hashes what was left to do. Between two requests this is the time
-    /// to do it. Nothing that is seen changes, and it takes no memory. A reference of no open session is no work.
-    pub fn catch_up(&mut self, at: &UploadRef)
-        ensures { self.new ≡ self.old }
-    {
-        self.tables.sessions.catch_up(at);
-    }
-
-    /// As `catch_up`, for a caller with threads: if there is enough to hash, a thread of the session's own does it, so
-    /// that the caller serves other requests meanwhile. A session has one such thread at a time. While that is at work
-    /// nothing is done: what is left to do then is for the next one. The thread is given shares of the session's bytes
-    /// and no copy. If there is no memory for it, or none can be made, all is taken in here. Nothing that is seen
-    /// changes. From then on the caller calls `step_joining` in place of `step`.
-    pub fn catch_up_beside<R: Threads>(&mut self, rt: &R, at: &UploadRef)
-        ensures { self.new ≡ self.old }
-    {
-        self.tables
-            .sessions
-            .catch_up_beside(rt, self.tables.alloc, at);
-    }
-
-    /// Prepares a close by this algorithm, so that it has little left to hash: the hash of an open session takes in
-    /// what the session received, in a thread as with `catch_up_beside`. Gives the end of the thread that is at that,
-    /// so that the caller can wait for it if nobody else has to. Behind it there may be more to take in, if chunks
-    /// came meanwhile or the thread was at work already, so the caller then asks again. `None` says that there is
-    /// nothing to wait for: all that is worth a thread is taken in, the reference is of no open session, or no thread
-    /// could be made and all was taken in here. Only this and a close have a SHA-512 take in anything. Nothing that is
-    /// seen changes.
-    pub fn hash_for_close<R: Threads>(
-        &mut self,
-        rt: &R,
-        at: &UploadRef,
-        algorithm: Algorithm,
-    ) -> Option<HashEnd>
-        ensures { self.new ≡ self.old }
-    {
-        self.tables
-            .sessions
-            .hash_for_close(rt, self.tables.alloc, at, algorithm)
-    }
-
-    /// As `step`. A close waits for the thread that hashes for its session by the algorithm of its digest, and then
-    /// hashes what is left, unless it is refused before a hash is looked at. Each other caller waits for as long, so
-    /// that one who serves several prepares a close first (`hash_for_close`). `step` can't wait: it hashes all bytes of
-    /// such a session again.
+    /// As `step`, for a caller with threads. A close that isn't refused before waits for the thread that hashes for its
+    /// session by the algorithm of its digest, and so does everybody else whom the caller serves. So the caller waits
+    /// for it before, while others are served (`catch_up`).
     pub fn step_joining<R: Threads>(
         &mut self,
         rt: &R,
@@ -151,39 +111,41 @@ impl Service {
         ensures turn { Turn self.old ask secret now result self.new }
         ensures lawful { IsLawful self.new }
     {
-        if let Some((at, algorithm)) = self.needs_hash(&ask, now) {
-            self.bring_home(rt, &at, algorithm);
-        }
-        self.step(ask, secret, now)
+        self.step_at(&InThreads(rt), ask, secret, now)
     }
 
-    /// The session whose hash a request needs, and by which algorithm: one that it closes, if that is open under that
-    /// name and not idle, and the body fits. A close that is refused for one of these looks at no hash.
-    fn needs_hash(&self, ask: &Ask, now: u64) -> Option<(UploadRef, Algorithm)> {
-        let Ask::Close {
-            name,
-            at,
-            range,
-            digest: Some(digest),
-            body,
-        } = ask
-        else {
-            return None;
-        };
-        let session = self.tables.find_awake(name, at, now)?;
-        let next = session.received.len();
-        let size = body.len() as u64;
-        match judge(self.tables.limits.max_blob, next, *range, size) {
-            Verdict::Fits => Some((*at, digest.algorithm())),
-            Verdict::Misplaced | Verdict::Refused(_) => None,
-        }
+    /// Serves one request. A close hashes what is left at a place.
+    fn step_at<P: HashPlace>(&mut self, place: &P, ask: Ask, secret: [u8; 12], now: u64) -> Answer
+        ensures turn { Turn self.old ask secret now result self.new }
+        ensures lawful { IsLawful self.new }
+    {
+        turn(&mut self.tables, place, ask, secret, now)
     }
 
-    /// Waits for the thread that hashes for a session by an algorithm, if there is one. Nothing that is seen changes.
-    fn bring_home<R: Threads>(&mut self, rt: &R, at: &UploadRef, algorithm: Algorithm)
+    /// Has the hash of an open session by an algorithm take in what the session received since it last did, so that a
+    /// close by it has little left to hash. Between two requests this is the time to do it: of the SHA-256 behind each
+    /// chunk, of the SHA-512 before a close. Nothing that is seen changes. A reference of no open session is no work.
+    ///
+    /// `InPlace` hashes here, and takes no memory. `InThreads` has a thread of the session's own do it if there is
+    /// enough to hash, so that the caller serves other requests meanwhile; from then on the caller calls `step_joining`
+    /// in place of `step`. A session has one such thread at a time for each algorithm. While that is at work nothing is
+    /// done: what is left to do then is for the next one. The thread is given shares of the session's bytes and no
+    /// copy. If there is no memory for it, or none can be made, all is taken in here.
+    ///
+    /// Gives the end of the thread that is at work, so that who is to close the session can wait for it. Behind it
+    /// there may be more to take in, if chunks came meanwhile or the thread was at work already, so the caller then
+    /// asks again. `None` says that there is nothing to wait for.
+    pub fn catch_up<P: HashPlace>(
+        &mut self,
+        place: &P,
+        at: &UploadRef,
+        algorithm: Algorithm,
+    ) -> Option<HashEnd>
         ensures { self.new ≡ self.old }
     {
-        self.tables.sessions.bring_home(rt, at, algorithm);
+        self.tables
+            .sessions
+            .catch_up(place, self.tables.alloc, at, algorithm)
     }
 
     /// How many bytes a session has received, or None if no such session is open. One that is idle counts

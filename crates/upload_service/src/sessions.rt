@@ -10,8 +10,7 @@ use crate::limits::Limits;
 use std::alloc::{AllocError, Global};
 use std::collections::BTreeMap;
 use std::marker::Model;
-use std::thread::Threads;
-use upload_bytes::{Body, HashEnd, Received};
+use upload_bytes::{Body, HashEnd, HashPlace, Received};
 use upload_names::{Algorithm, BlobDigest, RepoName, UploadRef};
 
 /// A session that was opened and not yet closed.
@@ -140,33 +139,11 @@ impl Sessions {
         Ok(())
     }
 
-    /// Has the running hash of an open session catch up with what it received, if there is such a session. Nothing
-    /// that is seen changes.
-    pub fn catch_up(&mut self, at: &UploadRef)
-        ensures { self.new ≡ self.old }
-    {
-        let Some(session) = self.open.get_mut(at) else {
-            return;
-        };
-        session.received.catch_up();
-    }
-
-    /// Has the running hash of an open session catch up beside what goes on, in a thread, if there is such a
-    /// session. Nothing that is seen changes.
-    pub fn catch_up_beside<R: Threads>(&mut self, rt: &R, alloc: Global, at: &UploadRef)
-        ensures { self.new ≡ self.old }
-    {
-        let Some(session) = self.open.get_mut(at) else {
-            return;
-        };
-        session.received.catch_up_beside(rt, alloc);
-    }
-
-    /// Has the hash of an open session by an algorithm catch up so, if there is such a session. Gives the end of the
-    /// thread that is at that, if there is one. Nothing that is seen changes.
-    pub fn hash_for_close<R: Threads>(
+    /// Has the hash of an open session by an algorithm catch up with what it received, at a place, if there is such a
+    /// session. Gives the end of the thread that is at that, if one is. Nothing that is seen changes.
+    pub fn catch_up<P: HashPlace>(
         &mut self,
-        rt: &R,
+        place: &P,
         alloc: Global,
         at: &UploadRef,
         algorithm: Algorithm,
@@ -176,23 +153,18 @@ impl Sessions {
         let Some(session) = self.open.get_mut(at) else {
             return None;
         };
-        session.received.hash_for_close(rt, alloc, algorithm)
-    }
-
-    /// Waits for the thread that has the hash of an open session by an algorithm, if there is such a session and one
-    /// has it. Nothing that is seen changes.
-    pub fn bring_home<R: Threads>(&mut self, rt: &R, at: &UploadRef, algorithm: Algorithm)
-        ensures { self.new ≡ self.old }
-    {
-        let Some(session) = self.open.get_mut(at) else {
-            return;
-        };
-        session.received.bring_home(rt, algorithm);
+        session.received.catch_up(place, alloc, algorithm)
     }
 
     /// Whether what an open session received and a last body have a digest, by the algorithm of that digest.
     /// Nothing that is seen changes.
-    pub fn has_digest(&mut self, at: &UploadRef, digest: &BlobDigest, body: &Body) -> bool
+    pub fn has_digest<P: HashPlace>(
+        &mut self,
+        place: &P,
+        at: &UploadRef,
+        digest: &BlobDigest,
+        body: &Body,
+    ) -> bool
         requires { IsSome (map.get self.old at.now) }
         ensures is { (session : Session) → map.get self.old at.now ≡ Some session
             → (IsTrue result ↔ HasDigest (session.received ++ body.now) digest.now) }
@@ -201,7 +173,7 @@ impl Sessions {
         let Some(session) = self.open.get_mut(at) else {
             unreachable!();
         };
-        session.received.has_digest(digest, body)
+        session.received.has_digest(place, digest, body)
     }
 
     /// Closes a session and hands it out.

@@ -17,7 +17,7 @@ use crate::sessions::{OpenSession, Sessions};
 use crate::slack::Slack;
 use crate::stock::Stock;
 use std::alloc::Global;
-use upload_bytes::{Blob, Body, Several};
+use upload_bytes::{Blob, Body, HashPlace, Several};
 use upload_names::{BlobDigest, RepoName, UploadRef};
 
 /// All that a service keeps.
@@ -35,12 +35,7 @@ pub struct Tables {
 
 impl Tables {
     /// The session of a reference, if it is open under this name and isn't idle.
-    pub(crate) fn find_awake(
-        &self,
-        name: &RepoName,
-        at: &UploadRef,
-        now: u64,
-    ) -> Option<&OpenSession>
+    fn find_awake(&self, name: &RepoName, at: &UploadRef, now: u64) -> Option<&OpenSession>
         ensures found { IfSome result (λ session. awake (state_of self.now) now at.now
             ≡ Some (session_of session.now)) }
         ensures named { IfSome result (λ session. session.now.name ≡ name.now) }
@@ -80,7 +75,7 @@ struct Placed {
 
 /// What a body is judged to be.
 #[derive(Clone, Copy)]
-pub(crate) enum Verdict {
+enum Verdict {
     Fits,
     Misplaced,
     Refused(Refusal),
@@ -88,7 +83,7 @@ pub(crate) enum Verdict {
 
 /// Judges a body of this size behind `next` bytes. The offset goes before the range's length, and that before the
 /// blob's size.
-pub(crate) fn judge(max_blob: u64, next: u64, range: Extent, size: u64) -> Verdict
+fn judge(max_blob: u64, next: u64, range: Extent, size: u64) -> Verdict
     ensures verdict { IsVerdict max_blob next range size result }
     ensures small { result ≡ Verdict.Fits → next + size ≤ max_blob }
 {
@@ -177,7 +172,13 @@ fn chunk(tables: &mut Tables, sent: Sent, now: u64) -> Answer
 }
 
 /// Closes a session: what it received and a last body are stored if they have the digest.
-fn close(tables: &mut Tables, sent: Sent, digest: Option<BlobDigest>, now: u64) -> Answer
+fn close<P: HashPlace>(
+    tables: &mut Tables,
+    hashed_at: &P,
+    sent: Sent,
+    digest: Option<BlobDigest>,
+    now: u64,
+) -> Answer
     ensures { Comes (state_of tables.old) now (close_of (state_of tables.old) now sent digest)
         result (state_of tables.new) }
 {
@@ -188,7 +189,10 @@ fn close(tables: &mut Tables, sent: Sent, digest: Option<BlobDigest>, now: u64) 
     let Some(digest) = digest else {
         return Answer::Refused(Refusal::NoDigest);
     };
-    if !tables.sessions.has_digest(&last.at, &digest, &last.body) {
+    let matches = tables
+        .sessions
+        .has_digest(hashed_at, &last.at, &digest, &last.body);
+    if !matches {
         return Answer::Refused(Refusal::Mismatch);
     }
     commit(tables, last, digest)
@@ -338,7 +342,13 @@ fn mount(tables: &mut Tables, name: RepoName, digest: BlobDigest) -> Answer
 
 /// One turn. A mount of a blob that the other repository doesn't have opens a session.
 #[tactic(auto, unfolding(crate::specs::Machine::Turn))]
-pub fn turn(tables: &mut Tables, ask: Ask, secret: [u8; 12], now: u64) -> Answer
+pub fn turn<P: HashPlace>(
+    tables: &mut Tables,
+    hashed_at: &P,
+    ask: Ask,
+    secret: [u8; 12],
+    now: u64,
+) -> Answer
     ensures { Turn (state_of tables.old) ask secret now result (state_of tables.new) }
 {
     match ask {
@@ -386,7 +396,7 @@ pub fn turn(tables: &mut Tables, ask: Ask, secret: [u8; 12], now: u64) -> Answer
                 range,
                 body,
             };
-            close(tables, sent, digest, now)
+            close(tables, hashed_at, sent, digest, now)
         }
     }
 }

@@ -10,62 +10,62 @@ use Rattle.upload_service.proofs.Serving.{does, comes_by, mismatch, match}
 use Rattle.upload_service.proofs.turn.close.Goals as goal
 
 pub returns-in-Err : goal.returns-in-Err
-returns-in-Err c = does _ _ _ (Replies c.in-Err.answer) _ _ (c.in-Err.ensures.err.close c.args.digest) refl refl
+returns-in-Err g c = does _ _ _ (Replies c.in-Err.answer) _ _ (c.in-Err.ensures.err.close c.args.digest) refl refl
 
 pub returns-in_default : goal.returns-in_default
-returns-in_default c =
+returns-in_default g c =
     let last = c.in-Ok.placed in
     let blob : List ℕ = c.in-Ok.ensures.ok.session.received ++ last.body in
     let done : Digest → Outcome = λ q. Commits last.name last.at q blob in
     does _ _ _ (refused refusals.NoDigest) _ _
     (c.in-Ok.ensures.ok.close c.args.digest ∙ ap (λ d. checked d blob done) c.in_default.is) refl refl
 
-pub has_digest-requires : goal.has_digest-requires
-has_digest-requires c = ap is_some c.in-Ok.ensures.ok.is_open
+pub has_digest-matches-requires : goal.has_digest-matches-requires
+has_digest-matches-requires g c = ap is_some c.in-Ok.ensures.ok.is_open
 
-pub returns-then-not-has_digest : goal.returns-then-not-has_digest
-returns-then-not-has_digest c =
+pub returns-then-not-matches : goal.returns-then-not-matches
+returns-then-not-matches g c =
     let last = c.in-Ok.placed in
     let blob : List ℕ = c.in-Ok.ensures.ok.session.received ++ last.body in
     let done : Digest → Outcome = λ q. Commits last.name last.at q blob in
     let other : content_digest c.in-Some.digest.algorithm blob ≢ c.in-Some.digest =
     λ own. true≢false
-    (sym ((c.has_digest.ensures.is c.in-Ok.ensures.ok.session c.in-Ok.ensures.ok.is_open).1 own)
-    ∙ c.if-not-has_digest.true) in
+    (sym ((c.has_digest-matches.ensures.is c.in-Ok.ensures.ok.session c.in-Ok.ensures.ok.is_open).1 own)
+    ∙ c.if-not-matches.true) in
     does _ _ _ (refused refusals.Mismatch) _ _
     (c.in-Ok.ensures.ok.close c.args.digest
     ∙ ap (λ d. checked d blob done) c.in-Some.is
     ∙ mismatch c.in-Some.digest blob done other)
     refl
-    (ap (λ t. state_of (record c.args.tables.now { sessions = t })) c.has_digest.ensures.same)
+    (ap (λ t. state_of (record c.args.tables.now { sessions = t })) c.has_digest-matches.ensures.same)
 
 pub commit-requires-clause-open : goal.commit-requires-clause-open
-commit-requires-clause-open c =
-    ap (λ (m : Table Session). is_some (map.get m c.in-Ok.placed.at)) c.has_digest.ensures.same
+commit-requires-clause-open g c =
+    ap (λ (m : Table Session). is_some (map.get m c.in-Ok.placed.at)) c.has_digest-matches.ensures.same
     ∙ ap is_some c.in-Ok.ensures.ok.is_open
 
 pub commit-requires-clause-fits : goal.commit-requires-clause-fits
-commit-requires-clause-fits c = λ session e.
+commit-requires-clause-fits g c = λ session e.
     let both : Some c.in-Ok.ensures.ok.session ≡ Some session =
     sym c.in-Ok.ensures.ok.is_open
-    ∙ sym (ap (λ (m : Table Session). map.get m c.in-Ok.placed.at) c.has_digest.ensures.same) ∙ e in
+    ∙ sym (ap (λ (m : Table Session). map.get m c.in-Ok.placed.at) c.has_digest-matches.ensures.same) ∙ e in
     let is : c.in-Ok.ensures.ok.session ≡ session = cc in
     subst (λ (s : Session). length s.received + length c.in-Ok.placed.body < 2 ^ 64) is
     (subst (λ n. n + length c.in-Ok.placed.body < 2 ^ 64) c.in-Ok.ensures.ok.is_next c.in-Ok.ensures.ok.fits)
 
 pub returns : goal.returns
-returns c =
+returns g c =
     let last = c.in-Ok.placed in
     let blob : List ℕ = c.in-Ok.ensures.ok.session.received ++ last.body in
     let done : Digest → Outcome = λ q. Commits last.name last.at q blob in
     let own : content_digest c.in-Some.digest.algorithm blob ≡ c.in-Some.digest =
-    (c.has_digest.ensures.is c.in-Ok.ensures.ok.session c.in-Ok.ensures.ok.is_open).0 c.if-not-has_digest.false in
+    (c.has_digest-matches.ensures.is c.in-Ok.ensures.ok.session c.in-Ok.ensures.ok.is_open).0 c.if-not-matches.false in
     comes_by _ _ _ _ _ _
     (c.in-Ok.ensures.ok.close c.args.digest
     ∙ ap (λ d. checked d blob done) c.in-Some.is
     ∙ match c.in-Some.digest blob done own)
     (subst (λ (m : Table Session). Comes (state_of (record c.args.tables.now { sessions = m })) c.args.now
     (done c.in-Some.digest) c.commit.result (state_of c.commit.new.tables))
-    c.has_digest.ensures.same
+    c.has_digest-matches.ensures.same
     (c.commit.ensures c.args.now c.in-Ok.ensures.ok.session
-    (ap (λ (m : Table Session). map.get m last.at) c.has_digest.ensures.same ∙ c.in-Ok.ensures.ok.is_open)))
+    (ap (λ (m : Table Session). map.get m last.at) c.has_digest-matches.ensures.same ∙ c.in-Ok.ensures.ok.is_open)))

@@ -8,19 +8,19 @@ use Rattle.upload_service.proofs.turn.turn.Goals as goal
 
 pub returns-in-Has : goal.returns-in-Has
 unfolding Turn
-returns-in-Has c =
+returns-in-Has g c =
     subst (λ (a : Ask). Turn (state_of c.args.tables.now) a c.args.secret c.args.now c.has.result
     (state_of c.args.tables.now)) (sym c.in-Has.is) (c.has.ensures c.args.secret c.args.now)
 
 pub returns-in-Single : goal.returns-in-Single
 unfolding Turn
-returns-in-Single c =
+returns-in-Single g c =
     subst (λ (a : Ask). Turn (state_of c.args.tables.now) a c.args.secret c.args.now c.single.result
     (state_of c.single.new.tables)) (sym c.in-Single.is) (c.single.ensures c.args.secret c.args.now)
 
 pub returns-then-contains : goal.returns-then-contains
 unfolding Turn
-returns-then-contains c =
+returns-then-contains g c =
     subst (λ (a : Ask). Turn (state_of c.args.tables.now) a c.args.secret c.args.now c.mount.result
     (state_of c.mount.new.tables)) (sym c.in-Mount.is)
     (comes_by _ _ _ (Mounts c.in-Mount.name c.in-Mount.digest) _ _

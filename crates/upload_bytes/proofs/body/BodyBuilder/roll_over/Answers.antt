@@ -1,8 +1,9 @@
-use Rattle.std.proofs.Common.{◌≡◌, ◌++◌, ◌∷◌, [], ◌+◌, ℕ, List, length, take, sym, ◌∙◌, ap, subst, arith}
+use Rattle.std.proofs.Common.{◌≡◌, ◌++◌, ◌∷◌, [], ◌+◌, ℕ, List, length, take, sym, ◌∙◌, ap, arith}
 use Rattle.std.proofs.lemmas.List.{append_assoc, length-append, take-append-le}
+use Rattle.std.proofs.Math.Seq.{take-length}
 use Rattle.std.specs.List.{concat}
-use Rattle.upload_bytes.specs.Hashing.{StandsFor}
 use Rattle.upload_bytes.proofs.Parts.{concat-push}
+use Rattle.upload_bytes.proofs.Prefixes.{any_of_more}
 use Rattle.upload_bytes.proofs.body.BodyBuilder.roll_over.Goals as goal
 
 pub invariant_of-self-in-Ok : goal.invariant_of-self-in-Ok
@@ -23,16 +24,14 @@ invariant_of-self-in-Ok c =
     ap concat pushed ∙ concat-push parts (last ++ front) ∙ sym (append_assoc (concat parts) last front) in
     let all : concat c.push.new.self.items ++ c.replace.new.dest.items ≡ c.args.self.now ++ front ++ rest =
     (λ i. settled i ++ behind i) ∙ ap (λ p. p ++ front ++ rest) c.self.view_is in
-    let within = c.self.invariant.within in
+    let first : take (length parts) c.push.new.self.items ≡ parts =
+    ap (take (length parts)) pushed
+    ∙ take-append-le (length parts) parts ((last ++ front) ∷ []) (omega arith)
+    ∙ take-length parts in
     let one : length c.push.new.self.items ≡ length parts + 1 =
     ap length pushed ∙ length-append parts ((last ++ front) ∷ []) in
     record {
-      stands =
-          subst (λ (p : List (List ℕ)). StandsFor c.self.inside.hash (concat p))
-          (sym (ap (take c.self.inside.hashed) pushed
-          ∙ take-append-le c.self.inside.hashed parts ((last ++ front) ∷ []) within))
-          c.self.invariant.stands;
-      within = omega (arith, within, one);
+      holds = any_of_more parts c.push.new.self.items c.self.inside.hash first (omega (arith, one)) c.self.invariant.holds;
       counted = c.requires ∙ sym (ap length all);
     }
 

@@ -27,7 +27,7 @@ invariant_of-self-in-Job g c =
 pub invariant_of-self-in-Hash : goal.invariant_of-self-in-Hash
 invariant_of-self-in-Hash g c =
     wish_taken _ _ _ _ c.self.invariant _ c.in-Some.ensures.taken _ _ c.in-Hash.is _
-    c.hash_for_close-end.ensures
+    c.catch_up-end.ensures
 
 pub invariant_of-self-in-Finish : goal.invariant_of-self-in-Finish
 invariant_of-self-in-Finish g c =

@@ -8,7 +8,7 @@ use Rattle.upload_service.proofs.Keeping.Swept.{keys_exact}
 use Rattle.upload_service.proofs.sessions.Sessions.catch_up.Goals as goal
 
 pub returns : goal.returns
-returns c =
+returns g c =
     let old : OpenSession = c.in-Some.session.now in
     let at : OpenSession = record { name = old.name; received = c.catch_up.new.self; seen = old.seen } in
     kept-written nat_list_cmp_total keys_exact session_of c.self.inside.open.entries

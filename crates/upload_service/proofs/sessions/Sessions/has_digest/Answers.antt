@@ -13,7 +13,7 @@ use Rattle.upload_service.proofs.Keeping.Swept.{keys_exact}
 use Rattle.upload_service.proofs.sessions.Sessions.has_digest.Goals as goal
 
 pub unreachable-requires : goal.unreachable-requires
-unreachable-requires c =
+unreachable-requires g c =
     let none : map.get c.args.self.now c.args.at.now ≡ None =
     ap (λ (m : Table Session). map.get m c.args.at.now) (sym c.self.view_is)
     ∙ get-kept nat_list_cmp_total keys_exact session_of c.self.inside.open.entries c.args.at.now
@@ -21,7 +21,7 @@ unreachable-requires c =
     true≢false (sym c.requires ∙ ap is_some none)
 
 pub returns-clause-is : goal.returns-clause-is
-returns-clause-is c = λ session e.
+returns-clause-is g c = λ session e.
     let old : OpenSession = c.in-Some.session.now in
     let has : map.get c.args.self.now c.args.at.now ≡ Some (session_of old) =
     ap (λ (m : Table Session). map.get m c.args.at.now) (sym c.self.view_is)
@@ -33,7 +33,7 @@ returns-clause-is c = λ session e.
     c.has_digest.ensures.is
 
 pub returns-clause-same : goal.returns-clause-same
-returns-clause-same c =
+returns-clause-same g c =
     let old : OpenSession = c.in-Some.session.now in
     let at : OpenSession = record { name = old.name; received = c.has_digest.new.self; seen = old.seen } in
     kept-written nat_list_cmp_total keys_exact session_of c.self.inside.open.entries
