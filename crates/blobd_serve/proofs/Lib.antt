@@ -1,2 +1,1 @@
-pub mod LoggedLines
 pub mod ServedLines

@@ -8,49 +8,38 @@ use Rattle.upload_service.specs.Machine.{empty_state}
 use Rattle.upload_intake.specs.declared.work.WorkerEnd.{WorkerEnd}
 use Rattle.upload_intake.specs.Pools.ServedPool.{Given, Left, IsServedPool}
 use Rattle.upload_intake.specs.Transcripts.{GivesUnused}
-use Rattle.upload_intake.specs.Pools.Working.{Lending, Means}
+use Rattle.upload_intake.specs.Pools.Working.{Lending, Means, Lent}
 use Rattle.upload_intake.proofs.Transcripts.{connections_told}
-use Rattle.blobd_serve.proofs.LoggedLines.{TellsLog, logged}
-use Rattle.blobd_serve.specs.LogTold.{LogState, new_log}
 use Rattle.blobd_serve.specs.Limits.{program_limits}
-use Rattle.blobd_serve.specs.Serving.{Logger, HasServedFrom, HasServed, ServingEnds}
+use Rattle.blobd_serve.specs.Serving.{HasServedFrom, HasServed, ServingEnds}
 use Rattle.blobd_shared.specs.Status.{IsPrinted, line}
 use Rattle.blobd_serve.specs.declared.accept.Terms.{Terms}
 
--- how workers were started: so many, whose logs are new
-pub record AreStarted (L : Lending) (S G : Type 0) (terms : Terms) (workers : List (Logger L S G)) : Type 0 where
-  pub numbered : length workers ≡ terms.workers
-  pub logs : All (λ (worker : Logger L S G). worker.observer ≡ new_log terms.logged) workers
-
 -- a pool whose workers each took so many, and were given connections on which nothing was read or written
-has_served : {L : Lending} {S G M : Type 0} (m : Means L S G (Option LogState)) (tells : M → ℕ → M → Type 0)
-    (terms : Terms) (given : Given M (Logger L S G)) (left : Left M (Logger L S G))
-    → given.service ≡ empty_state program_limits 0 → AreStarted L S G terms given.workers
+has_served : {L : Lending} {S G O M : Type 0} (m : Means L S G O) (tells : M → ℕ → M → Type 0)
+    (terms : Terms) (given : Given M (Lent L S G O)) (left : Left M (Lent L S G O))
+    → given.service ≡ empty_state program_limits 0 → length given.workers ≡ terms.workers
     → All (λ (end : WorkerEnd). end.conns ≡ terms.count) left.ends
-    → IsServedPool m tells given left → GivesUnused L → TellsLog m.told → HasServedFrom m tells terms given left
-has_served m tells terms given left new started took pool unused log = record {
+    → IsServedPool m tells given left → GivesUnused L → HasServedFrom m tells terms given left
+has_served m tells terms given left new started took pool unused = record {
   new = new;
-  numbered = started.numbered;
+  numbered = started;
   took = took;
   pool = pool;
   told = λ seat worker end within.
       let worked = (pool.parts seat worker end within).worked in
       connections_told m unused given.service.limits.max_body (get_or given.workers seat worker).conns
       (get_or left.workers seat worker).conns _ _ worked.talks worked.served;
-  lines = λ seat worker end within.
-      let worked = (pool.parts seat worker end within).worked in
-      logged m.told log terms.logged worked.events (get_or given.workers seat worker).observer
-      (get_or left.workers seat worker).observer (started.logs seat worker within) worked.heard;
 }
 
 -- so a server did that
-pub have_served : {L : Lending} {S G M : Type 0} (m : Means L S G (Option LogState)) (tells : M → ℕ → M → Type 0)
-    (terms : Terms) (given : Given M (Logger L S G)) (left : Left M (Logger L S G)) → IsServedPool m tells given left
-    → given.service ≡ empty_state program_limits 0 → AreStarted L S G terms given.workers
+pub have_served : {L : Lending} {S G O M : Type 0} (m : Means L S G O) (tells : M → ℕ → M → Type 0)
+    (terms : Terms) (given : Given M (Lent L S G O)) (left : Left M (Lent L S G O)) → IsServedPool m tells given left
+    → given.service ≡ empty_state program_limits 0 → length given.workers ≡ terms.workers
     → All (λ (end : WorkerEnd). end.conns ≡ terms.count) left.ends
-    → GivesUnused L → TellsLog m.told → HasServed m tells terms
-have_served m tells terms given left pool new started took unused log =
-    (given, left, has_served m tells terms given left new started took pool unused log)
+    → GivesUnused L → HasServed m tells terms
+have_served m tells terms given left pool new started took unused =
+    (given, left, has_served m tells terms given left new started took pool unused)
 
 pub served : (did : Type 0) → did → (before between after : Option (List ℕ)) (addr : SocketAddr) (listening result : ℕ)
     → listening ≡ 0 → IsPrinted (Some (codes "listening " ++ socket_text addr)) before between 0 listening

@@ -1,6 +1,5 @@
 pub mod Limits
 pub mod LogLine
-pub mod LogTold
 pub mod Pace
 pub mod Serving
 pub mod Shown

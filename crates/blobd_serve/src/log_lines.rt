@@ -1,8 +1,6 @@
 //! The lines of a log, which a thread of their own writes to standard error: no request waits for who reads them.
-ghost use Rattle.std.specs.Prelude.{◌≡◌, ◌⊎◌, [], IfOk, string_bytes};
-ghost use Rattle.blobd_serve.specs.LogLine.{HandsOn, Loses};
+ghost use Rattle.std.specs.Prelude.{◌≡◌, ◌⊎◌, ◌+◌, ◌-◌, ◌^◌, min, IfOk};
 
-use crate::handed::{Handed, Line};
 use crossbeam_channel::{Receiver, Sender, bounded};
 use std::alloc::{AllocError, Global};
 use std::io::Eprint;
@@ -18,12 +16,17 @@ const MOST_WAITING: usize = 1_024;
 /// How long the end of a log waits for its last lines to be written, in seconds.
 const PATIENCE_SECONDS: u64 = 2;
 
+/// A line, and how many were lost right before it.
+#[derive(Drop)]
+struct Line {
+    lost: u64,
+    text: String,
+}
+
 /// Where the lines of one worker go.
 #[derive(Drop)]
 pub(crate) struct LogLines {
     lines: Sender<Line>,
-    /// Those that were handed on.
-    handed: Handed,
     /// How many were lost since the last one that wasn't.
     lost: u64,
 }
@@ -31,25 +34,21 @@ pub(crate) struct LogLines {
 impl LogLines {
     /// Hands a line on to the thread that writes. If too many wait there, it is lost and counted.
     pub(crate) fn send<R: Wait>(&mut self, rt: &R, text: String)
-        ensures { HandsOn self.old (string_bytes text) self.new ⊎ Loses self.old self.new }
+        ensures { (self.new.lost ≡ 0) ⊎ (self.new.lost ≡ min (self.old.lost + 1) (2 ^ 64 - 1)) }
     {
         let line = Line {
             lost: self.lost,
             text,
         };
-        let handed = self.handed.and(&line);
         match self.lines.try_send(rt, line) {
-            Ok(()) => {
-                self.handed = handed;
-                self.lost = 0;
-            }
+            Ok(()) => self.lost = 0,
             Err(_) => self.lose(),
         }
     }
 
     /// Counts a line for which there was no room or no memory. The count stays at 2^64 - 1 once there.
     pub(crate) fn lose(&mut self)
-        ensures { Loses self.old self.new }
+        ensures { self.new.lost ≡ min (self.old.lost + 1) (2 ^ 64 - 1) }
     {
         self.lost = self.lost.saturating_add(1);
     }
@@ -83,11 +82,10 @@ impl Log {
 
     /// A place for the lines of a worker, of which none is lost yet. An error is out of memory.
     pub(crate) fn lines(&self) -> Result<LogLines, AllocError>
-        ensures { IfOk result (λ lines. (lines.lost ≡ 0) × (lines.handed.lines ≡ [])) }
+        ensures { IfOk result (λ lines. lines.lost ≡ 0) }
     {
         Ok(LogLines {
             lines: self.lines.clone()?,
-            handed: Handed::none(),
             lost: 0,
         })
     }

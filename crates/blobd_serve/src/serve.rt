@@ -1,7 +1,6 @@
 //! `blobd serve`: a listener, and the workers that take connections from it.
 ghost use Rattle.std.specs.Prelude.{◌≡◌, ◌<◌, ◌≤◌, true, [], All, None, IfOk, OnOk, is_some, vec_len, vec_capacity};
 ghost use Rattle.upload_intake.specs.Pools.Working.{lending, means};
-ghost use Rattle.blobd_serve.specs.LogTold.{log_state, new_log, no_head};
 ghost use Rattle.blobd_serve.specs.Serving.{HasServed, ServingEnds};
 
 use crate::accept::{Accepted, Terms};
@@ -91,7 +90,6 @@ impl Lack {
 fn start_log<R>(rt: &R, alloc: Global, logged: bool) -> Result<Option<Log>, Lack>
 where
     R: Threads + Wait + Eprint + Copy + Send + 'static,
-    ensures { IfOk result (λ log. is_some log ≡ logged) }
 {
     if !logged {
         return Ok(None);
@@ -103,9 +101,7 @@ where
 }
 
 /// A place for the lines of a worker, if there is a log.
-fn lines_of(log: &Option<Log>) -> Result<Option<LogLines>, Lack>
-    ensures { IfOk result (λ lines. log_state no_head lines ≡ new_log (is_some log.now)) }
-{
+fn lines_of(log: &Option<Log>) -> Result<Option<LogLines>, Lack> {
     match log {
         Some(log) => match log.lines() {
             Ok(lines) => Ok(Some(lines)),
@@ -155,7 +151,6 @@ fn make_worker<'a, R>(
 ) -> Result<ListenerWorker<'a, R>, Lack>
 where
     R: AllocGlobal + Clock + RandomSource + Eprint + Wait,
-    ensures { IfOk result (λ worker. worker.observer ≡ new_log (is_some log.now)) }
 {
     let Ok(secrets) = system_secrets(rt) else {
         return Err(Lack::Secrets);
@@ -184,8 +179,6 @@ where
     requires none { vec_len workers.old ≡ 0 }
     requires room { terms.workers ≤ vec_capacity workers.old }
     ensures number { OnOk result (vec_len workers.new ≡ terms.workers) }
-    ensures logs { OnOk result
-        (All (λ worker. worker.observer ≡ new_log (is_some log.now)) workers.new.items) }
 {
     for number in 0..terms.workers {
         let worker = make_worker(rt, listener, terms, log, closer)?;
@@ -218,7 +211,6 @@ where
     R: Threads + Wait + Sync + Clock + Eprint,
     requires some { 0 < vec_len workers }
     requires number { vec_len workers ≡ terms.workers }
-    requires logs { All (λ worker. worker.observer ≡ new_log terms.logged) workers.items }
     ensures { IfOk result (λ done. done ≡ true → HasServed
         (means
         (lending ⟦<Accepted<'a, R> as Conns>⟧.gives ⟦<Accepted<'a, R> as Conns>⟧.takes_back
