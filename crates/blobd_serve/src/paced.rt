@@ -97,10 +97,10 @@ impl Pace {
 }
 
 /// What requests are read from.
-pub(crate) type Reader<'a, R> = FromRead<PacedReader<'a, R>>;
+pub(crate) type Reader<'a, R> = FromRead<Half<'a, R>>;
 
 /// What replies are written to.
-pub(crate) type Writer<'a, R> = ToWrite<PacedWriter<'a, R>>;
+pub(crate) type Writer<'a, R> = ToWrite<Half<'a, R>>;
 
 /// How many microseconds a second has.
 const SECOND: u64 = 1_000_000;
@@ -113,10 +113,20 @@ const LONGEST_CALL: u64 = 15;
 /// of one connection share it.
 pub(crate) type Turn = Arc<AtomicBool, Global>;
 
-/// How one half of a connection sees its client.
+/// What a half answers once its client was too slow.
+fn too_slow() -> io::Error
+    ensures { error_kind result ≢ ErrorKind.Interrupted }
+{
+    io::Error::from(ErrorKind::TimedOut)
+}
+
+/// One half of a connection, which is only read from or only written to. With the first bytes of a request, and with
+/// the first write of a reply, a window of time begins; before a request there is one to wait for its first bytes.
 #[derive(Drop)]
-struct Watch<'a, R> {
+pub(crate) struct Half<'a, R> {
     rt: &'a R,
+    stream: TcpStream,
+    turn: Turn,
     demand: Demand,
     /// None once the client was too slow.
     pace: Option<Pace>,
@@ -124,14 +134,18 @@ struct Watch<'a, R> {
     allowed: u64,
 }
 
-impl<'a, R: Clock> Watch<'a, R> {
-    fn new(rt: &'a R, demand: Demand, pace: Pace) -> Watch<'a, R> {
-        Watch {
+impl<'a, R: Clock> Half<'a, R> {
+    /// A half of a stream, of which nothing was read or written yet. An error comes if the system has no further handle
+    /// for the stream.
+    fn new(rt: &'a R, stream: &TcpStream, turn: &Turn, demand: Demand) -> io::Result<Half<'a, R>> {
+        Ok(Half {
             rt,
+            stream: stream.try_clone()?,
+            turn: Arc::try_clone(turn)?,
             demand,
-            pace: Some(pace),
+            pace: Some(Pace::awaited()),
             allowed: 0,
-        }
+        })
     }
 
     /// How long the next call may wait, if that isn't what the system was told last: whole seconds, so that it is told
@@ -146,6 +160,22 @@ impl<'a, R: Clock> Watch<'a, R> {
         }
         self.allowed = seconds;
         Some(Duration::from_secs(seconds))
+    }
+
+    /// Tells the system how long a read may wait, if it doesn't know.
+    fn allow_read(&mut self, pace: Pace) -> io::Result<()> {
+        match self.limit(pace) {
+            Some(limit) => self.stream.set_read_timeout(Some(limit)),
+            None => Ok(()),
+        }
+    }
+
+    /// Tells the system how long a write may wait, if it doesn't know.
+    fn allow_write(&mut self, pace: Pace) -> io::Result<()> {
+        match self.limit(pace) {
+            Some(limit) => self.stream.set_write_timeout(Some(limit)),
+            None => Ok(()),
+        }
     }
 
     fn now(&self) -> Option<Instant> {
@@ -180,30 +210,26 @@ impl<'a, R: Clock> Watch<'a, R> {
     fn waited_out(&mut self, pace: Pace) {
         self.pace = pace.after(self.demand, self.allowed.saturating_mul(SECOND), 0);
     }
-}
 
-/// What a half answers once its client was too slow.
-fn too_slow() -> io::Error
-    ensures { error_kind result ≢ ErrorKind.Interrupted }
-{
-    io::Error::from(ErrorKind::TimedOut)
-}
-
-/// Where requests come from. With the first bytes of a request a window of time begins, and before it there is one to
-/// wait for these.
-#[derive(Drop)]
-pub(crate) struct PacedReader<'a, R> {
-    stream: TcpStream,
-    turn: Turn,
-    watch: Watch<'a, R>,
-}
-
-impl<'a, R: Clock> PacedReader<'a, R> {
-    /// Tells the system how long a read may wait, if it doesn't know.
-    fn allow(&mut self, pace: Pace) -> io::Result<()> {
-        match self.watch.limit(pace) {
-            Some(limit) => self.stream.set_read_timeout(Some(limit)),
-            None => Ok(()),
+    /// Counts a call that began then and came to this. Says whether it is made again: a signal interrupted it, or it
+    /// waited for as long as it was allowed.
+    fn goes_on(&mut self, pace: Pace, begun: Option<Instant>, came_to: &io::Result<usize>) -> bool
+        ensures { result ≡ false
+            → IfErr came_to.now (λ error. error_kind error ≢ ErrorKind.Interrupted) }
+    {
+        match came_to {
+            Ok(count) => {
+                self.moved(pace, begun, *count);
+                false
+            }
+            Err(error) => match error.kind() {
+                ErrorKind::Interrupted => true,
+                ErrorKind::WouldBlock => {
+                    self.waited_out(pace);
+                    true
+                }
+                _ => false,
+            },
         }
     }
 
@@ -213,53 +239,22 @@ impl<'a, R: Clock> PacedReader<'a, R> {
         ensures resumed { IfErr result (λ error. error_kind error ≢ ErrorKind.Interrupted) }
     {
         if self.turn.swap(false, Ordering::SeqCst) {
-            self.watch.pace = Some(Pace::awaited());
+            self.pace = Some(Pace::awaited());
         }
         for _ in 0..u64::MAX {
-            let Some(pace) = self.watch.pace else {
+            let Some(pace) = self.pace else {
                 break;
             };
-            if self.allow(pace).is_err() {
+            if self.allow_read(pace).is_err() {
                 break;
             }
-            let begun = self.watch.now();
-            match self.stream.read(buf) {
-                Ok(count) => {
-                    self.watch.moved(pace, begun, count);
-                    return Ok(count);
-                }
-                Err(error) => match error.kind() {
-                    ErrorKind::Interrupted => {}
-                    ErrorKind::WouldBlock => self.watch.waited_out(pace),
-                    _ => return Err(error),
-                },
+            let begun = self.now();
+            let read = self.stream.read(buf);
+            if !self.goes_on(pace, begun, &read) {
+                return read;
             }
         }
         Err(too_slow())
-    }
-}
-
-impl<'a, R: Clock> Read for PacedReader<'a, R> {
-    fn read(&mut self, buf: &mut [u8]) -> io::Result<usize> {
-        self.read_in_time(buf)
-    }
-}
-
-/// Where replies go. With the first write of a reply a window of time begins.
-#[derive(Drop)]
-pub(crate) struct PacedWriter<'a, R> {
-    stream: TcpStream,
-    turn: Turn,
-    watch: Watch<'a, R>,
-}
-
-impl<'a, R: Clock> PacedWriter<'a, R> {
-    /// Tells the system how long a write may wait, if it doesn't know.
-    fn allow(&mut self, pace: Pace) -> io::Result<()> {
-        match self.watch.limit(pace) {
-            Some(limit) => self.stream.set_write_timeout(Some(limit)),
-            None => Ok(()),
-        }
     }
 
     /// Writes, and again for as long as the client may take its time. An error: the client is too slow, or the
@@ -269,33 +264,32 @@ impl<'a, R: Clock> PacedWriter<'a, R> {
         ensures resumed { IfErr result (λ error. error_kind error ≢ ErrorKind.Interrupted) }
     {
         if !self.turn.swap(true, Ordering::SeqCst) {
-            self.watch.pace = Some(Pace::begun());
+            self.pace = Some(Pace::begun());
         }
         for _ in 0..u64::MAX {
-            let Some(pace) = self.watch.pace else {
+            let Some(pace) = self.pace else {
                 break;
             };
-            if self.allow(pace).is_err() {
+            if self.allow_write(pace).is_err() {
                 break;
             }
-            let begun = self.watch.now();
-            match self.stream.write(buf) {
-                Ok(count) => {
-                    self.watch.moved(pace, begun, count);
-                    return Ok(count);
-                }
-                Err(error) => match error.kind() {
-                    ErrorKind::Interrupted => {}
-                    ErrorKind::WouldBlock => self.watch.waited_out(pace),
-                    _ => return Err(error),
-                },
+            let begun = self.now();
+            let wrote = self.stream.write(buf);
+            if !self.goes_on(pace, begun, &wrote) {
+                return wrote;
             }
         }
         Err(too_slow())
     }
 }
 
-impl<'a, R: Clock> Write for PacedWriter<'a, R> {
+impl<'a, R: Clock> Read for Half<'a, R> {
+    fn read(&mut self, buf: &mut [u8]) -> io::Result<usize> {
+        self.read_in_time(buf)
+    }
+}
+
+impl<'a, R: Clock> Write for Half<'a, R> {
     fn write(&mut self, buf: &[u8]) -> io::Result<usize> {
         self.write_in_time(buf)
     }
@@ -319,15 +313,7 @@ pub(crate) fn halves<'a, R: Clock>(
     turn.store(false, Ordering::SeqCst);
     // A peer that has gone already can make this fail; the reads and writes will tell.
     let _ = stream.set_nodelay(true);
-    let reader = PacedReader {
-        stream: stream.try_clone()?,
-        turn: Arc::try_clone(turn)?,
-        watch: Watch::new(rt, demand, Pace::awaited()),
-    };
-    let writer = PacedWriter {
-        stream: stream.try_clone()?,
-        turn: Arc::try_clone(turn)?,
-        watch: Watch::new(rt, demand, Pace::begun()),
-    };
+    let reader = Half::new(rt, stream, turn, demand)?;
+    let writer = Half::new(rt, stream, turn, demand)?;
     Ok((FromRead::new(reader), ToWrite::new(writer)))
 }

@@ -4,7 +4,8 @@ ghost use Rattle.upload_intake.specs.Pools.Working.{lending, means};
 ghost use Rattle.blobd_serve.specs.Serving.{HasServed, ServingEnds};
 
 use crate::accept::{Accepted, Terms};
-use crate::closing::Closer;
+use crate::background::{Background, Job};
+use crate::closing::{Closer, Closing};
 use crate::log_lines::{Log, LogLines};
 use crate::paced::{Reader, Writer};
 use crate::request_log::RequestLog;
@@ -89,7 +90,7 @@ impl Lack {
 /// A log, if one is wanted.
 fn start_log<R>(rt: &R, alloc: Global, logged: bool) -> Result<Option<Log>, Lack>
 where
-    R: Threads + Wait + Eprint + Copy + Send + 'static,
+    R: Threads + Wait + Clock + Eprint + Copy + Send + 'static,
 {
     if !logged {
         return Ok(None);
@@ -103,7 +104,7 @@ where
 /// A place for the lines of a worker, if there is a log.
 fn lines_of(log: &Option<Log>) -> Result<Option<LogLines>, Lack> {
     match log {
-        Some(log) => match log.lines() {
+        Some(log) => match LogLines::new(log) {
             Ok(lines) => Ok(Some(lines)),
             Err(_) => Err(Lack::Log),
         },
@@ -111,10 +112,10 @@ fn lines_of(log: &Option<Log>) -> Result<Option<LogLines>, Lack> {
     }
 }
 
-/// Waits until the log is written, if there is one; for two seconds at most.
-fn finish_log<R: Wait + Clock>(rt: &R, log: Option<Log>) {
-    if let Some(log) = log {
-        log.finish(rt);
+/// Waits until such a thread has done its jobs, if there is one; but not for ever.
+fn finish<R: Wait + Clock, J: Job + Drop + 'static>(rt: &R, background: Option<Background<J>>) {
+    if let Some(background) = background {
+        background.finish(rt);
     }
 }
 
@@ -124,7 +125,7 @@ fn conns_of<'a, R>(
     listener: &'a TcpListener,
     terms: Terms,
     log: &Option<Log>,
-    closer: &Closer,
+    closer: &Option<Closer>,
 ) -> Result<Accepted<'a, R>, Lack>
 where
     R: AllocGlobal + Clock + Eprint + Wait,
@@ -132,7 +133,7 @@ where
         (λ conns. (conns.left ≡ terms.count) × (conns.demand ≡ terms.demand)) }
 {
     let lines = lines_of(log)?;
-    let Ok(closing) = closer.place() else {
+    let Ok(closing) = Closing::new(closer) else {
         return Err(Lack::Memory);
     };
     match Accepted::new(rt, rt.alloc(), listener, terms, closing, lines) {
@@ -147,7 +148,7 @@ fn make_worker<'a, R>(
     listener: &'a TcpListener,
     terms: Terms,
     log: &Option<Log>,
-    closer: &Closer,
+    closer: &Option<Closer>,
 ) -> Result<ListenerWorker<'a, R>, Lack>
 where
     R: AllocGlobal + Clock + RandomSource + Eprint + Wait,
@@ -171,7 +172,7 @@ fn make_workers<'a, R>(
     listener: &'a TcpListener,
     terms: Terms,
     log: &Option<Log>,
-    closer: &Closer,
+    closer: &Option<Closer>,
     workers: &mut Vec<ListenerWorker<'a, R>>,
 ) -> Result<(), Lack>
 where
@@ -274,8 +275,8 @@ where
         return FAULT;
     }
     let served = serve_all(rt, rt.alloc(), workers, terms);
-    closer.finish(rt);
-    finish_log(rt, log);
+    finish(rt, closer);
+    finish(rt, log);
     match served {
         Ok(true) => print_line(out, "served", DONE),
         Ok(false) => print_line(out, "fault: accept", FAULT),
