@@ -12,7 +12,6 @@ mod stored;
 
 use crate::expect::{holds, same, same_bytes};
 use http_wire::{ByteSink, ByteSource};
-use memory_ends::{MemorySink, MemorySource};
 use rows::{
     AFTER_NINE, BAD_LENGTH, BAD_VERSION, BLOB_LIMIT, BODY_LIMIT, CHUNKED, CHUNKED_LIMIT, CLOSED,
     LAST_NUMBER, ONE_SESSION,
@@ -21,6 +20,7 @@ use std::alloc::{AllocError, Global};
 use std::process::Abort;
 use std::test::Fail;
 use stored::whole_upload;
+use test_support::{MemorySink, MemorySource};
 use upload_service::{Answer, Ask, Limits, Service};
 use upload_wire::{ConnEnd, ConnFault, Desk, ServiceDesk, serve_connection};
 

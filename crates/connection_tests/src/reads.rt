@@ -2,10 +2,10 @@
 ghost use Rattle.std.specs.Prelude.{◌<◌};
 
 use crate::expect::same;
-use memory_ends::{MemorySink, MemorySource};
 use std::alloc::{AllocError, Global};
 use std::process::Abort;
 use std::test::Fail;
+use test_support::{MemorySink, MemorySource};
 use upload_service::{Limits, Service};
 use upload_wire::{ConnEnd, ServiceDesk, serve_connection};
 

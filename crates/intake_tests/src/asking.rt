@@ -13,7 +13,7 @@ use std::sync::Wait;
 use std::test::*;
 use std::thread::{Promise, Threads};
 use std::{thread, vec};
-use test_content::content_of;
+use test_support::content_of;
 use upload_bytes::{BlobBytes, Body};
 use upload_intake::{Gone, Keeper, Moments, Seat, SeatEnd, Settled, lines, settle};
 use upload_names::{Algorithm, BlobDigest, ByteRange, RepoName, UploadRef};

@@ -5,7 +5,7 @@ use std::alloc::{AllocError, Global};
 use std::process::Abort;
 use std::test::Fail;
 use std::thread::Threads;
-use test_content::content_of;
+use test_support::content_of;
 use upload_bytes::{Body, BodyBuilder, HashPlace, InPlace, InThreads};
 use upload_names::{Algorithm, BlobDigest, Bytes};
 

@@ -7,11 +7,11 @@ mod growths;
 use crate::answers::{Said, answer_of, lib_a};
 use crate::expect::{holds, same, same_bytes};
 use http_wire::ToWrite;
-use memory_ends::{MemorySink, MemorySource};
 use std::alloc::{AllocError, Global};
 use std::fmt::Display;
 use std::process::Abort;
 use std::test::Fail;
+use test_support::{MemorySink, MemorySource};
 use upload_bytes::{BlobBytes, Body};
 use upload_client::{
     AnswerReader, Heard, HeardFault, Transport, WireTransport, heard_of, read_place, write_ask,

@@ -6,10 +6,10 @@ mod hashed;
 
 use crate::expect::{holds, same};
 use http_wire::{Bad, WireFault};
-use memory_ends::MemorySource;
 use std::alloc::{AllocError, Global};
 use std::process::Abort;
 use std::test::Fail;
+use test_support::MemorySource;
 use upload_service::{Ask, Extent, Form, Limits, Refusal};
 use upload_wire::{Next, RequestReader};
 

@@ -3,9 +3,9 @@
 use super::{CONNECTIONS, serve};
 use crate::expect::{same, same_bytes};
 use http_wire::ToWrite;
-use memory_ends::MemorySource;
 use std::io::BufWriter;
 use std::test::Fail;
+use test_support::MemorySource;
 
 #[test]
 fn replies_are_handed_on_by_a_writer_that_buffers(rt: HostRuntime) -> Result<(), Fail> {

@@ -4,10 +4,10 @@ ghost use Rattle.std.specs.Prelude.{length, ◌<◌, ◌≤◌};
 use super::stored::{COUNT, Stored, connection};
 use crate::expect::holds;
 use http_wire::{ByteSink, ByteSource, Failed, Transcript, WireFault};
-use memory_ends::{MemorySink, MemorySource};
 use std::alloc::{AllocError, Global};
 use std::process::Abort;
 use std::test::Fail;
+use test_support::{MemorySink, MemorySource};
 use upload_service::{Limits, Service};
 use upload_wire::{ConnEnd, ConnFault, ServiceDesk, serve_connection};
 

@@ -4,10 +4,10 @@
 use super::LIMITS;
 use crate::expect::{holds, same, same_bytes};
 use http_wire::WireFault;
-use memory_ends::{MemorySink, MemorySource};
 use std::alloc::{AllocError, Global};
 use std::process::Abort;
 use std::test::Fail;
+use test_support::{MemorySink, MemorySource};
 use upload_names::UploadRef;
 use upload_service::Service;
 use upload_wire::{ConnEnd, ConnFault, ServiceDesk, serve_connection};

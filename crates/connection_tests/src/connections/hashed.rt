@@ -7,7 +7,7 @@ use crate::expect::{holds, same};
 use std::alloc::Global;
 use std::process::Abort;
 use std::test::Fail;
-use test_content::content_of;
+use test_support::content_of;
 use upload_names::{Algorithm, BlobDigest};
 use upload_wire::ConnEnd;
 

@@ -3,12 +3,12 @@
 use super::LIMITS;
 use crate::expect::{same, same_bytes};
 use http_wire::WireFault;
-use memory_ends::{MemorySink, MemorySource};
 use std::alloc::Global;
 use std::marker::Model;
 use std::process::Abort;
 use std::str;
 use std::test::Fail;
+use test_support::{MemorySink, MemorySource};
 use upload_bytes::InPlace;
 use upload_service::Service;
 use upload_wire::{ConnEnd, ConnFault, ConnectionServer, Observer, RequestLine, ServiceDesk};

@@ -3,10 +3,10 @@
 use super::{LIMITS, LeavingDesk, REPLY, REQUEST};
 use crate::expect::{same, same_bytes};
 use http_wire::WireFault;
-use memory_ends::{MemorySink, MemorySource};
 use std::alloc::Global;
 use std::process::Abort;
 use std::test::Fail;
+use test_support::{MemorySink, MemorySource};
 use upload_bytes::InPlace;
 use upload_wire::{ConnEnd, ConnFault, ConnectionServer, NoObserver};
 

@@ -4,10 +4,10 @@
 use super::{Kind, kind_of, reader_of};
 use crate::expect::same;
 use http_wire::WireFault;
-use memory_ends::MemorySource;
 use std::alloc::{AllocError, Global};
 use std::process::Abort;
 use std::test::Fail;
+use test_support::MemorySource;
 use upload_wire::RequestReader;
 
 /// A reader of the text. One growth may be refused.

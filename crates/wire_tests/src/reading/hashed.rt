@@ -4,11 +4,10 @@ ghost use Rattle.std.specs.Prelude.{◌<◌};
 
 use super::{DIGEST, OPENING, UPLOAD};
 use crate::expect::same;
-use memory_ends::{MemorySink, MemorySource};
 use std::alloc::Global;
 use std::process::Abort;
 use std::test::Fail;
-use test_content::content_of;
+use test_support::{MemorySink, MemorySource, content_of};
 use upload_bytes::Body;
 use upload_names::Algorithm;
 use upload_service::{Answer, Ask, Limits, Service};

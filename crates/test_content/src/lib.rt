@@ -1,6 +1,0 @@
-//! A content of any length, for tests.
-#![tactic(auto)]
-
-mod content;
-
-pub use content::content_of;
