@@ -3,7 +3,7 @@ ghost use Rattle.std.specs.Prelude.{◌≡◌, ◌≢◌, IfErr, IfOk, IsErr};
 ghost use Rattle.std.specs.Duration.{as_nanos};
 ghost use Rattle.std.specs.Io.{ReadsAtMost, WritesAtMost};
 ghost use Rattle.std.specs.IoError.{error_kind};
-ghost use Rattle.blobd_shared.specs.Halves.{AreUnused};
+ghost use Rattle.http_wire.specs.Halves.{AreUnused};
 
 use crate::trouble::{Trouble, error_trouble, trouble_in};
 use http_wire::{FromRead, ToWrite};

@@ -1,6 +1,6 @@
 //! The connections of a worker, as a listener accepts them.
 ghost use Rattle.std.specs.Prelude.{◌≡◌, ◌+◌, None, IfOk, IfSome};
-ghost use Rattle.blobd_shared.specs.Halves.{AreUnused};
+ghost use Rattle.http_wire.specs.Halves.{AreUnused};
 
 use crate::closing::Closing;
 use crate::log_lines::LogLines;

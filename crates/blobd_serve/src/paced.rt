@@ -3,7 +3,7 @@
 ghost use Rattle.std.specs.Prelude.{◌≢◌, IfOk, IfErr, ◌≡◌, ◌-◌, true, false};
 ghost use Rattle.std.specs.Io.{ReadsAtMost, WritesAtMost};
 ghost use Rattle.std.specs.IoError.{error_kind};
-ghost use Rattle.blobd_shared.specs.Halves.{AreUnused};
+ghost use Rattle.http_wire.specs.Halves.{AreUnused};
 ghost use Rattle.blobd_serve.specs.Pace.{pace_after, window_of};
 
 use http_wire::{FromRead, ToWrite};
