@@ -12,9 +12,7 @@ processes as there are cores, and share the machine with the servers: read the f
 Needs Linux, HAProxy with lua-cjson, and docker-registry for its rows.
 """
 import argparse
-import base64
 import collections
-import contextlib
 import functools
 import json
 import multiprocessing
@@ -26,14 +24,11 @@ import threading
 import time
 
 import raw
+import servers
+from harness.registry import KIB, LOGIN, MIB, PROXY, Site, credentials
+from harness.suite import OPTIONS
+from harness.wire import PATIENCE, sha256
 
-TOP = os.path.dirname(os.path.dirname(os.path.abspath(__file__)))
-sys.path.insert(0, os.path.join(TOP, "deploy"))
-import servers  # noqa: E402
-from harness.running import sha256  # noqa: E402
-
-KIB, MIB = 1 << 10, 1 << 20
-LOGIN = ("alice", "wonder")
 FORK = multiprocessing.get_context("fork")
 
 Load = collections.namedtuple("Load", "name clients blobs size")
@@ -51,13 +46,12 @@ class Client:
 
     def __init__(self, address, size):
         self.place = servers.place(address)
-        self.login = "Basic " + base64.b64encode(":".join(LOGIN).encode()).decode()
         self.room = bytearray(size)
         self.asked = 0
         self.connect()
 
     def connect(self):
-        self.connection = raw.Connection(self.place, Authorization=self.login)
+        self.connection = raw.Connection(self.place, Authorization=credentials(LOGIN))
 
     def ask(self, method, target, body=None):
         """The status, the fields in lower case and the length of the body, which then stands in the room."""
@@ -144,10 +138,10 @@ def measured(name, address, load):
     for process in processes:
         process.start()
     for _ in processes:
-        ready.get(timeout=raw.PATIENCE)
+        ready.get(timeout=PATIENCE)
     begun = time.monotonic()
     go.set()
-    told = [results.get(timeout=raw.PATIENCE) for _ in processes]
+    told = [results.get(timeout=PATIENCE) for _ in processes]
     seconds = time.monotonic() - begun
     for process in processes:
         process.join()
@@ -164,16 +158,9 @@ def measured(name, address, load):
     }
 
 
-def behind_the_front(program, shards, load):
-    with contextlib.ExitStack() as stack:
-        folder = stack.enter_context(tempfile.TemporaryDirectory(prefix="blobd-front-", dir="/dev/shm"))
-        servers.certificate(folder)
-        servers.logins(folder, dict([LOGIN]))
-        addresses = [servers.free_address() for _ in range(shards)]
-        for number, address in enumerate(addresses, 1):
-            stack.enter_context(servers.blobd(program, folder, address, f"blobd{number}"))
-        haproxy = stack.enter_context(servers.HAProxy(folder, addresses))
-        return measured(f"{shards} blobd", haproxy.plain, load)
+def behind_the_front(shards, load):
+    with Site(shards, within="/dev/shm") as site:
+        return measured(f"{shards} blobd", site.haproxy.plain, load)
 
 
 def docker_registry(load):
@@ -184,30 +171,12 @@ def docker_registry(load):
         return measured("docker-registry", registry.address, load)
 
 
-def print_table(rows):
-    names = list(rows[0])
-    cells = [names] + [
+def print_rows(rows):
+    shown = [
         [value if isinstance(value, str) else f"{value:.{0 if value >= 100 else 2}f}" for value in row.values()]
         for row in rows
     ]
-    widths = [max(len(row[column]) for row in cells) for column in range(len(names))]
-    for number, row in enumerate(cells):
-        print(
-            "| "
-            + " | ".join(
-                f"{cell:<{width}}" if column < 2 else f"{cell:>{width}}"
-                for column, (cell, width) in enumerate(zip(row, widths))
-            )
-            + " |"
-        )
-        if number == 0:
-            print(
-                "| "
-                + " | ".join(
-                    "-" * width if column < 2 else "-" * (width - 1) + ":" for column, width in enumerate(widths)
-                )
-                + " |"
-            )
+    raw.print_table(list(rows[0]), shown)
 
 
 def main():
@@ -217,19 +186,20 @@ def main():
     parser.add_argument("--shards", type=int, nargs="+", default=[1, 2, 3], help="how many blobd there are in turn")
     parser.add_argument("--runs", type=int, default=3)
     given = parser.parse_args()
-    absent = servers.missing("haproxy", "lua-cjson", "openssl")
+    OPTIONS.program = os.path.abspath(given.program)
+    absent = servers.missing(*PROXY)
     if absent:
         sys.exit("apt-get install --no-install-recommends " + " ".join(absent))
     rows = []
     for load in LOADS:
         # one client is served by one shard
         counts = given.shards if load.clients > 1 else given.shards[:1]
-        measures = [functools.partial(behind_the_front, given.program, shards, load) for shards in counts]
+        measures = [functools.partial(behind_the_front, shards, load) for shards in counts]
         if not servers.missing("docker-registry"):
             measures.append(functools.partial(docker_registry, load))
         runs = [[measure() for measure in measures] for _ in range(given.runs)]
         rows += [max(tries, key=lambda row: row["requests a second"]) for tries in zip(*runs)]
-    print_table(rows)
+    print_rows(rows)
     if given.json:
         with open(given.json, "w", encoding="ascii") as file:
             json.dump(rows, file, indent=1)

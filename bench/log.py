@@ -15,6 +15,8 @@ import subprocess
 import sys
 
 import raw
+from harness import running
+from harness.suite import OPTIONS
 
 # what is asked, its status, and how often: of openings there are no more than fit the service's 1,024 sessions
 KINDS = {
@@ -24,27 +26,17 @@ KINDS = {
 }
 
 
-def spent(program, words, status, count, log):
+def spent(words, status, count, log):
     """The server's processor seconds for one request of each connection's so many."""
-    settings = (
-        {name: text for name, text in os.environ.items() if name != "BLOBD_LOG"} | ({"BLOBD_LOG": "1"} if log else {})
-    )
     before = resource.getrusage(resource.RUSAGE_CHILDREN)
-    with subprocess.Popen(
-        [program, "serve", "127.0.0.1:0", "1"],
-        stdout=subprocess.PIPE,
-        stderr=subprocess.DEVNULL,
-        env=settings,
-        text=True,
-    ) as server:
-        host, port = server.stdout.readline().split()[1].rsplit(":", 1)
+    with running.Server(1, env={"BLOBD_LOG": log or None}, stderr=subprocess.DEVNULL) as server:
         for _ in range(2):
-            with raw.Connection((host, int(port))) as connection:
+            with raw.Connection(server.place()) as connection:
                 for _ in range(count):
                     reply = connection.ask(*words, Content_Length=0)
                     if reply.status != status:
-                        server.kill()
                         sys.exit(f"a reply of {reply.status} where {status} was due")
+        server.ended()
     after = resource.getrusage(resource.RUSAGE_CHILDREN)
     return (after.ru_utime + after.ru_stime - before.ru_utime - before.ru_stime) / (2 * count)
 
@@ -54,15 +46,16 @@ def main():
     words.add_argument("program", metavar="PROGRAM")
     words.add_argument("--runs", metavar="N", type=int, default=14)
     told = words.parse_args()
+    OPTIONS.program = os.path.abspath(told.program)
     least = {}
     for _ in range(told.runs):
         for name, kind in KINDS.items():
-            for log in (False, True):
-                took = spent(os.path.abspath(told.program), *kind, log)
+            for log in (0, 1):
+                took = spent(*kind, log)
                 least[name, log] = min(took, least.get((name, log), took))
     print("| what | without, µs | with its log, µs | of its speed |\n| --- | ---: | ---: | ---: |")
     for name in KINDS:
-        bare, logged = least[name, False], least[name, True]
+        bare, logged = least[name, 0], least[name, 1]
         print(f"| {name} | {bare * 1e6:.1f} | {logged * 1e6:.1f} | {bare / logged:.2f} |")
 
 

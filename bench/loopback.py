@@ -41,13 +41,12 @@ import tempfile
 import time
 
 import raw
+import servers
+from harness import running
+from harness.running import MIB
+from harness.suite import OPTIONS
+from harness.wire import PATIENCE
 
-TOP = os.path.dirname(os.path.dirname(os.path.abspath(__file__)))
-sys.path.insert(0, os.path.join(TOP, "deploy"))
-import servers  # noqa: E402
-from harness import running  # noqa: E402
-
-MIB = 1 << 20
 RUNS = 5
 # A connection of `blobd` has at most 10,000 requests, and one of them goes before the measured ones.
 SMALL_REQUESTS = 9600
@@ -65,7 +64,6 @@ UPLOADS = 4
 DRIP_SECONDS, DRIP_PAUSE = 4, 0.1
 # The clients of small requests at once, and the workers that serve them.
 CROWD = 64
-PATIENCE = raw.PATIENCE
 
 FORK = multiprocessing.get_context("fork")
 
@@ -133,10 +131,10 @@ class Blobd(Measured):
             self.name = f"blobd with {workers} workers"
 
     def begun(self):
-        server = running.Server(1_000_000, env=os.environ | self.settings, stderr=self.stderr)
+        server = running.Server(1_000_000, env=self.settings, stderr=self.stderr)
         if not server.first_line.startswith("listening "):
             server.stop()
-            sys.exit(f"{running.PROGRAM} serve: {server.first_line.strip() or 'it says nothing'}")
+            sys.exit(f"{OPTIONS.program} serve: {server.first_line.strip() or 'it says nothing'}")
         return server
 
     def place(self):
@@ -537,7 +535,7 @@ def push_row(server, blob, chunk):
         plain.append(hashed(blob))
         with server:
             before = server.processor()
-            told, taken, used, peak = ran([running.PROGRAM, "push", server.server.addr, "lib/a", blob.path, str(chunk)])
+            told, taken, used, peak = ran([OPTIONS.program, "push", server.server.addr, "lib/a", blob.path, str(chunk)])
             processor.append(server.processor() - before)
             if told != f"pushed {blob.digest}\n":
                 sys.exit(f"a push ended with {told!r}")
@@ -666,7 +664,7 @@ def pushes_at_once_row(server, blob, chunk, count):
 
     def work(name):
         def run():
-            told, *_ = ran([running.PROGRAM, "push", server.server.addr, name, blob.path, str(chunk)])
+            told, *_ = ran([OPTIONS.program, "push", server.server.addr, name, blob.path, str(chunk)])
             if told != f"pushed {blob.digest}\n":
                 sys.exit(f"a push ended with {told!r}")
 
@@ -761,16 +759,8 @@ def print_tables(rows):
         chosen.sort(key=lambda row: order.index(row["what"]))
         lines = [[row["what"], row["server"], *(show(row[key]) for key, show in columns.values())] for row in chosen]
         if lines:
-            heads = ["what", "server", *columns]
-            widths = [max(map(len, cells)) for cells in zip(heads, *lines)]
-            rules = ["-" * width if place < 2 else "-" * (width - 1) + ":" for place, width in enumerate(widths)]
             print()
-            for line in (heads, rules, *lines):
-                texts = (
-                    text.ljust(width) if place < 2 else text.rjust(width)
-                    for place, (text, width) in enumerate(zip(line, widths))
-                )
-                print(f"| {' | '.join(texts)} |")
+            raw.print_table(["what", "server", *columns], lines)
 
 
 def machine():
@@ -851,7 +841,7 @@ def measure(rows):
 
 def main():
     words = read_words()
-    running.PROGRAM = os.path.abspath(words.program)
+    OPTIONS.program = os.path.abspath(words.program)
     settings = {} if words.small_pages else servers.MALLOC
     load = [os.getloadavg()[0]]
     with tempfile.TemporaryDirectory(dir="/dev/shm") as folder:

@@ -5,9 +5,8 @@ import os
 import socket
 import sys
 
-TOP = os.path.dirname(os.path.dirname(os.path.abspath(__file__)))
-sys.path.insert(0, os.path.join(TOP, "tests"))
-from harness.wire import PATIENCE, head_text, named  # noqa: E402
+sys.path.insert(0, os.path.join(os.path.dirname(os.path.dirname(os.path.abspath(__file__))), "tests"))
+from harness.wire import connected, head_text, named  # noqa: E402
 
 Reply = collections.namedtuple("Reply", "status fields body")
 
@@ -18,7 +17,7 @@ class Connection:
 
     def __init__(self, place, **always):
         self.always = {"Host": f"{place[0]}:{place[1]}", **always}
-        self.socket = socket.create_connection(place, timeout=PATIENCE)
+        self.socket = connected(place)
         # A timeout would make each call of the socket two.
         self.socket.setblocking(True)
         self.socket.setsockopt(socket.IPPROTO_TCP, socket.TCP_NODELAY, 1)
@@ -116,3 +115,15 @@ def target_of(fields):
 def closing_target(place, digest):
     """Where an upload is closed with this digest."""
     return f"{place}{'&' if '?' in place else '?'}digest={digest}"
+
+
+def print_table(heads, lines):
+    """A table in Markdown, whose first two columns are words."""
+    widths = [max(map(len, cells)) for cells in zip(heads, *lines)]
+    rules = ["-" * width if place < 2 else "-" * (width - 1) + ":" for place, width in enumerate(widths)]
+    for line in (heads, rules, *lines):
+        texts = (
+            text.ljust(width) if place < 2 else text.rjust(width)
+            for place, (text, width) in enumerate(zip(line, widths))
+        )
+        print(f"| {' | '.join(texts)} |")

@@ -20,16 +20,8 @@ MALLOC = {"GLIBC_TUNABLES": "glibc.malloc.hugetlb=1:glibc.malloc.mmap_threshold=
 PATIENCE = 60
 DIES_WITH_PARENT = 1
 
-# Debian's package for each thing that is wanted, and how to see that it is there.
-PACKAGES = {
-    "haproxy": lambda: program("haproxy"),
-    "lua-cjson": lambda: glob.glob("/usr/lib/*/lua/5.*/cjson.so"),
-    "openssl": lambda: program("openssl"),
-    "redis-server": lambda: program("redis-server"),
-    "skopeo": lambda: program("skopeo"),
-    "nginx-light": lambda: program("nginx"),
-    "docker-registry": lambda: program("docker-registry"),
-}
+# How to see that a package of Debian's is there that isn't named as its program is.
+PACKAGES = {"lua-cjson": lambda: glob.glob("/usr/lib/*/lua/5.*/cjson.so"), "nginx-light": lambda: program("nginx")}
 
 
 def program(name):
@@ -37,7 +29,7 @@ def program(name):
 
 
 def missing(*packages):
-    return [name for name in packages if not PACKAGES[name]()]
+    return [name for name in packages if not PACKAGES.get(name, lambda: program(name))()]
 
 
 def free_address():
@@ -48,8 +40,9 @@ def free_address():
 
 
 def place(address):
+    """The host and the port of an address. That of an IPv6 one has brackets."""
     host, port = address.rsplit(":", 1)
-    return host, int(port)
+    return host.strip("[]"), int(port)
 
 
 def leave_with_parent():

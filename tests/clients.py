@@ -6,8 +6,7 @@ import random
 import threading
 import time
 
-from harness.running import sha256
-from harness.wire import PATIENCE, Complaint, Connection, demand, request_text
+from harness.wire import PATIENCE, Complaint, Connection, demand, request_text, sha256
 
 NAMES = ["a", "lib/a", "lib/b", "lib/blobs/uploads"]
 SIZES = [0, 1, 2, 10, 300, 300, 5_000, 5_000, 70_000]
@@ -124,9 +123,8 @@ class Client:
         reply = self.ask("POST", f"/v2/{name}/blobs/uploads/")
         if reply:
             place = reply.fields["Location"] or ""
-            demand(
-                reply.status == 202 and place.startswith(f"/v2/{name}/blobs/uploads/"), "an opening is answered", reply
-            )
+            is_right = reply.status == 202 and place.startswith(f"/v2/{name}/blobs/uploads/")
+            demand(is_right, "an opening is answered", reply)
             self.uploads.append(Upload(name, place))
 
     def settle_chunk(self, upload):
@@ -135,15 +133,8 @@ class Client:
         body, before = upload.perhaps, upload.held
         reply = self.ask("PATCH", upload.place, body, placed(upload, body))
         if reply and reply.status == 416:
-            demand(
-                reply.held() == len(before + body),
-                "an upload of",
-                len(before),
-                "bytes, and perhaps",
-                len(body),
-                "more, has",
-                reply.held(),
-            )
+            told = f"an upload of {len(before)} bytes, and perhaps {len(body)} more, has {reply.held()}"
+            demand(reply.held() == len(before + body), told)
             upload.held += body
         elif reply:
             self.took(upload, body, reply)
@@ -176,28 +167,18 @@ class Client:
 
     def misplaced_chunk(self, upload):
         """A chunk that overlaps, leaves a gap, or comes again."""
-        first = self.chance.choice(
-            [
-                place
-                for place in (0, len(upload.held) - 1, len(upload.held) + 1)
-                if place >= 0 and place != len(upload.held)
-            ]
-        )
+        held = len(upload.held)
+        first = self.chance.choice([place for place in (0, held - 1, held + 1) if place not in (-1, held)])
         body = self.some_bytes() + b"x"
         reply = self.ask("PATCH", upload.place, body, [("Content-Range", f"{first}-{first + len(body) - 1}")])
         if reply:
-            demand((reply.status, reply.held()) == (416, len(upload.held)), "a misplaced chunk is answered", reply)
+            demand((reply.status, reply.held()) == (416, held), "a misplaced chunk is answered", reply)
 
     def status(self, upload):
         reply = self.ask("GET", upload.place)
         if reply:
-            demand(
-                (reply.status, reply.held()) == (204, len(upload.held)),
-                "the status of",
-                len(upload.held),
-                "bytes is",
-                reply,
-            )
+            is_right = (reply.status, reply.held()) == (204, len(upload.held))
+            demand(is_right, "the status of", len(upload.held), "bytes is", reply)
 
     def closing(self, upload, content):
         return f"{upload.place}?digest={sha256(content)}"
@@ -238,11 +219,8 @@ class Client:
             self.took(upload, body, reply)
         for reply in replies:
             demand(not reply or reply.status in (202, 416), "raced chunks are answered", reply)
-            demand(
-                not reply or reply.status == 202 or (taken and reply.held() == len(upload.held)),
-                "a raced chunk is refused",
-                reply,
-            )
+            is_right = not reply or reply.status == 202 or (taken and reply.held() == len(upload.held))
+            demand(is_right, "a raced chunk is refused", reply)
         demand(taken or self.is_refused, "no raced chunk is taken")
 
     def raced_chunk_and_close(self, upload):
@@ -272,13 +250,8 @@ class Client:
     def pull(self, blob):
         name, digest, length = blob
         reply = self.ask_until_heard("GET", f"/v2/{name}/blobs/{digest}")
-        demand(
-            reply.status == 200 and sha256(reply.body) == digest and len(reply.body) == length,
-            "a pull of",
-            digest,
-            "is answered",
-            reply.status,
-        )
+        is_right = reply.status == 200 and sha256(reply.body) == digest and len(reply.body) == length
+        demand(is_right, "a pull of", digest, "is answered", reply.status)
         return reply
 
     def pull_again(self, _):

@@ -5,14 +5,14 @@
 
 Each tests/connections/NAME.in is what a client sends over one connection, NAME.out what has to come back, byte for
 byte, and NAME.status the exit status of `blobd once`. It also tries very long connections, and connections that are cut
-after each byte. Its last line is 'N passed, M failed'.
+after each byte.
 """
 import concurrent.futures
-import unittest
 
 import model
 import stored
-from harness import running, suite
+from harness import running
+from harness.suite import case, check, equal, main
 
 OPENING = b"POST /v2/lib/a/blobs/uploads/ HTTP/1.1\r\nHost: h\r\nContent-Length: 0\r\n\r\n"
 BASE = b"GET /v2/ HTTP/1.1\r\nHost: h\r\n\r\n"
@@ -36,49 +36,39 @@ def cut_connections():
         yield f"after {cut} bytes", sent[:cut], replies[: sum(len(turn.text) for turn in whole)], 0 if at_an_end else 3
 
 
-class Connections(unittest.TestCase):
-    maxDiff = 2_000
+def compare(cases):
+    cases = list(cases)
+    check("there are connections", cases)
+    with concurrent.futures.ThreadPoolExecutor() as pool:
+        ends = pool.map(running.once, [sent for _, sent, *_ in cases])
+        for (name, _, replies, status), ended in zip(cases, ends):
+            equal(name, ended, (replies, status))
 
-    def compare(self, cases):
-        cases = list(cases)
-        self.assertTrue(cases)
-        with concurrent.futures.ThreadPoolExecutor() as pool:
-            for (name, _, replies, status), ended in zip(
-                cases, pool.map(running.once, [sent for _, sent, *_ in cases])
-            ):
-                with self.subTest(name):
-                    self.assertEqual((replies, status), ended)
 
-    def test_stored(self):
-        self.compare(stored.connections())
+@case()
+def test_stored():
+    compare(stored.connections())
 
-    def test_cut(self):
-        self.compare(cut_connections())
 
-    def test_more_openings_than_sessions(self):
-        body = b'{"errors":[{"code":"TOOMANYREQUESTS","message":"too many requests"}]}'
-        refused = (
-            b"HTTP/1.1 429 Too Many Requests\r\nContent-Type: application/json\r\nContent-Length: %d\r\n\r\n" % len(
-                body
-            )
-            + body
-        )
-        self.compare([("1025 openings", OPENING * 1025, b"".join(map(opening_reply, range(1, 1025))) + refused, 0)])
+@case()
+def test_cut():
+    compare(cut_connections())
 
-    def test_more_requests_than_a_connection_takes(self):
-        asks_to_close = BASE.replace(b"Host: h", b"Connection: close")
-        self.compare(
-            [
-                ("10001 requests", BASE * 10001, BASE_REPLY * 9999 + CLOSING_REPLY, 1),
-                (
-                    "10000 requests, the last of which asks to close",
-                    BASE * 9999 + asks_to_close,
-                    BASE_REPLY * 9999 + CLOSING_REPLY,
-                    0,
-                ),
-            ]
-        )
+
+@case()
+def test_more_openings_than_sessions():
+    body = b'{"errors":[{"code":"TOOMANYREQUESTS","message":"too many requests"}]}'
+    head = b"HTTP/1.1 429 Too Many Requests\r\nContent-Type: application/json\r\nContent-Length: %d\r\n\r\n"
+    opened = b"".join(map(opening_reply, range(1, 1025)))
+    compare([("1025 openings", OPENING * 1025, opened + head % len(body) + body, 0)])
+
+
+@case()
+def test_more_requests_than_a_connection_takes():
+    asks_to_close, replies = BASE.replace(b"Host: h", b"Connection: close"), BASE_REPLY * 9999 + CLOSING_REPLY
+    name = "10000 requests, the last of which asks to close"
+    compare([("10001 requests", BASE * 10001, replies, 1), (name, BASE * 9999 + asks_to_close, replies, 0)])
 
 
 if __name__ == "__main__":
-    suite.main(__doc__)
+    main(__doc__)

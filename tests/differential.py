@@ -13,8 +13,6 @@ A stream is requests, whole, cut or changed somewhere (tests/streams.py).
   seeds, and a new server for each. Every second stream goes over one connection, and the others go in turn over one to
   each worker, so that the workers have to share what they know. The references that it tells are compared without their
   secrets.
-
-Closes with 'N passed, M failed'.
 """
 import contextlib
 import functools
@@ -22,11 +20,11 @@ import itertools
 import os
 import re
 import socket
-import unittest
 
 import model
 import streams
-from harness import running, suite
+from harness import running
+from harness.suite import OPTIONS, case, check, equal, main
 from harness.wire import rest_of
 
 # So many streams bring about all of these.
@@ -77,9 +75,7 @@ def told(sent, ran, should):
     same = len(os.path.commonprefix([written, wanted]))
     end = max(0, same - 40)
     came, should_come = written[end:][:400], wanted[end:][:400]
-    return (
-        f"status {status}, wanted {wanted_status}; wrote ..{came!r}, wanted ..{should_come!r}; sent {sent[:2000]!r}"
-    )
+    return f"status {status}, wanted {wanted_status}; wrote ..{came!r}, wanted ..{should_come!r}; sent {sent[:2000]!r}"
 
 
 def compared(seed):
@@ -166,42 +162,42 @@ def served(workers, seed):
     what is wanted."""
     sent = streams.stream(seed)
     wanted, _ = model.once(sent)
-    with running.Server(1, env=os.environ | {"BLOBD_WORKERS": str(workers)}) as server:
+    with running.Server(1, env={"BLOBD_WORKERS": workers}) as server:
         with contextlib.ExitStack() as open_ones:
             connections = [open_ones.enter_context(server.connect()) for _ in range(workers)]
             written = converse(connections[: workers if seed % 2 else 1], sent)
-        return (written, server.ended()), (wanted, ("served\n", 0))
+        return (written, server.ended()), (wanted, running.SERVED)
 
 
-class Streams(unittest.TestCase):
-    def test_streams(self):
-        count, first = suite.OPTIONS.streams, suite.OPTIONS.seed
-        seeds = range(first, first + count)
-        replies, ends, shrinks = set(), set(), MOST_SHRUNK
+@case()
+def test_streams():
+    count, first = OPTIONS.streams, OPTIONS.seed
+    seeds = range(first, first + count)
+    replies, ends, shrinks = set(), set(), MOST_SHRUNK
+    with running.processes() as pool:
+        for seed, (is_same, seen, end) in zip(seeds, pool.map(compared, seeds, chunksize=25)):
+            replies |= seen
+            ends.add(end)
+            sent = b"" if is_same else streams.stream(seed)
+            if sent and shrinks:
+                shrinks -= 1
+                sent = shrunk(sent)
+            check(f"stream {seed}", is_same, is_same or told(sent, running.once(sent), model.once(sent)))
+    if count >= ENOUGH:
+        equal("what the streams bring about", (replies, ends), (REPLIES, ENDS))
+
+
+@case()
+def test_served_streams():
+    count, first = OPTIONS.streams // FOR_EACH_SERVED, OPTIONS.seed + OPTIONS.streams
+    for which, workers in enumerate(WORKERS):
+        seeds = range(first + which * count, first + (which + 1) * count)
         with running.processes() as pool:
-            for seed, (is_same, seen, end) in zip(seeds, pool.map(compared, seeds, chunksize=25)):
-                replies |= seen
-                ends.add(end)
-                with self.subTest(seed=seed):
-                    if not is_same:
-                        shrinks -= 1
-                        sent = shrunk(streams.stream(seed)) if shrinks >= 0 else streams.stream(seed)
-                        self.fail(told(sent, running.once(sent), model.once(sent)))
-        if count >= ENOUGH:
-            with self.subTest("what the streams bring about"):
-                self.assertEqual(REPLIES, replies)
-                self.assertEqual(ENDS, ends)
-
-    def test_served_streams(self):
-        count, first = suite.OPTIONS.streams // FOR_EACH_SERVED, suite.OPTIONS.seed + suite.OPTIONS.streams
-        for which, workers in enumerate(WORKERS):
-            seeds = range(first + which * count, first + (which + 1) * count)
-            with running.processes() as pool:
-                for seed, (ran, should) in zip(seeds, pool.map(functools.partial(served, workers), seeds)):
-                    with self.subTest(workers=workers, seed=seed):
-                        if ran != should:
-                            self.fail(told(streams.stream(seed), ran, should))
+            for seed, (ran, should) in zip(seeds, pool.map(functools.partial(served, workers), seeds)):
+                is_same = ran == should
+                name = f"stream {seed}, served by {workers}"
+                check(name, is_same, is_same or told(streams.stream(seed), ran, should))
 
 
 if __name__ == "__main__":
-    suite.main(__doc__, streams=(2_000, "how many streams"), seed=(1, "the seed of the first"))
+    main(__doc__, streams=(2_000, "how many streams"), seed=(1, "the seed of the first"))

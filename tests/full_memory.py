@@ -7,24 +7,18 @@ A server gets a limit on its address space a few MiB above what it has, and blob
 mixed sizes until it refuses several in a row. Then each of its workers is asked for what is stored, for the status of
 each kind of upload, and for what is refused. Each request has to get its usual reply: with glibc as `make serve` sets
 it and as it is, if all threads share one heap, and from a worker that had served nobody before memory was full.
-
-Its last line is 'N passed, M failed'.
 """
 import collections
 import os
 import random
 import resource
-import sys
-import unittest
 
-from harness import running, suite
-from harness.running import sha256
-from harness.wire import Complaint, Connection, request_text
+from harness import running
+from harness.running import MIB
+from harness.suite import case, check, equal, main
+from harness.wire import Connection, request_text, sha256
+import servers
 
-sys.path.insert(0, os.path.join(os.path.dirname(os.path.dirname(os.path.abspath(__file__))), "deploy"))
-import servers  # noqa: E402
-
-KIB, MIB = 1 << 10, 1 << 20
 # What a server may take beside what it has once it listens, its 4 MiB that stay free among them.
 ROOM = 6 * MIB
 # So many refused in a row, and memory is full. A connection has at most 10,000 requests.
@@ -124,7 +118,8 @@ def replies(filling):
         yield "GET", "/v2/LIB/blobs/" + sha256(b""), b"", (404, None)
         yield "DELETE", missing, b"", (405, None)
         yield "PUT", "/v2/lib/a/blobs/uploads/ffffffff-0000-8000-8000-000000000000?digest=" + sha256(b""), b"", (
-            404, None
+            404,
+            None,
         )
 
 
@@ -168,62 +163,55 @@ def limit(server):
     resource.prlimit(server.process.pid, resource.RLIMIT_AS, (has + ROOM, hard))
 
 
-class FullMemory(unittest.TestCase):
-    def full(self, size, heap, seed):
-        with running.Server(1_000_000, env=os.environ | heap) as server:
-            # This connection keeps one worker: the other one fills.
-            keeping, status = held(server)
-            self.assertEqual(200, status)
-            limit(server)
-            filling = Filling(server, size, seed)
-            try:
-                filling.fill()
-            except Complaint as complaint:
-                self.fail(complaint)
-            wanted = list(replies(filling))
-            with self.subTest("refused when memory is full"):
-                self.assertEqual(set(), set(filling.refused) - {503, None}, filling.refused)
-            with self.subTest("the worker that filled"):
-                self.assertEqual({}, asked(server, wanted))
-            unused, status = held(server)
-            keeping.close()
-            with self.subTest("the other worker"):
-                self.assertEqual(200, status)
-                self.assertEqual({}, asked(server, wanted))
-            unused.close()
-            with self.subTest("the server goes on"):
-                self.assertIsNone(server.process.poll())
+def full(name, size, heap, seed):
+    with running.Server(1_000_000, env=heap) as server:
+        # This connection keeps one worker: the other one fills.
+        keeping, status = held(server)
+        equal(f"a worker is kept: {name}", status, 200)
+        limit(server)
+        filling = Filling(server, size, seed)
+        filling.fill()
+        wanted = list(replies(filling))
+        others = set(filling.refused) - {503, None}
+        check(f"refused when memory is full: {name}", not others, filling.refused)
+        equal(f"the worker that filled: {name}", asked(server, wanted), {})
+        unused, status = held(server)
+        keeping.close()
+        equal(f"the other worker: {name}", (status, asked(server, wanted)), (200, {}))
+        unused.close()
+        check(f"the server goes on: {name}", server.process.poll() is None)
 
-    def unused(self, heap):
-        """A worker that had served nobody before another one filled the memory, over one connection."""
-        with running.Server(1_000_000, env=os.environ | heap) as server:
-            filling = Filling(server, SIZES["30,000 bytes"], 0)
-            only = filling.connection
-            # Once one worker has served, both were started.
-            self.assertTrue(filling.store())
-            limit(server)
-            # Large ones first: a thread's heap has 64 MiB of address space before it needs more.
-            for filling.size in SIZES["30,000 bytes"], SIZES["128 bytes"]:
-                vain = 0
-                while vain < REFUSED and filling.asked < REQUESTS:
-                    vain = 0 if filling.store() else vain + 1
-            with self.subTest("one connection filled it"):
-                self.assertEqual((REFUSED, True), (vain, only.is_open))
-            with self.subTest("the worker that had served nobody"):
-                self.assertEqual({}, asked(server, list(replies(filling))))
-            only.close()
 
-    def test_unused(self):
+def unused_worker(name, heap):
+    """A worker that had served nobody before another one filled the memory, over one connection."""
+    with running.Server(1_000_000, env=heap) as server:
+        filling = Filling(server, SIZES["30,000 bytes"], 0)
+        only = filling.connection
+        # Once one worker has served, both were started.
+        check(f"a worker serves: {name}", filling.store())
+        limit(server)
+        # Large ones first: a thread's heap has 64 MiB of address space before it needs more.
+        for filling.size in SIZES["30,000 bytes"], SIZES["128 bytes"]:
+            vain = 0
+            while vain < REFUSED and filling.asked < REQUESTS:
+                vain = 0 if filling.store() else vain + 1
+        equal(f"one connection filled it: {name}", (vain, only.is_open), (REFUSED, True))
+        equal(f"the worker that had served nobody: {name}", asked(server, list(replies(filling))), {})
+        only.close()
+
+
+@case()
+def test_unused():
+    for heap, settings in HEAPS.items():
+        unused_worker(heap, settings)
+
+
+@case()
+def test_full():
+    for seed, (sizes, size) in enumerate(SIZES.items()):
         for heap, settings in HEAPS.items():
-            with self.subTest(heap=heap):
-                self.unused(settings)
-
-    def test_full(self):
-        for seed, (sizes, size) in enumerate(SIZES.items()):
-            for heap, settings in HEAPS.items():
-                with self.subTest(sizes=sizes, heap=heap):
-                    self.full(size, settings, seed)
+            full(f"{sizes}, {heap}", size, settings, seed)
 
 
 if __name__ == "__main__":
-    suite.main(__doc__)
+    main(__doc__)

@@ -11,21 +11,35 @@ import sys
 TOP = os.path.dirname(os.path.dirname(os.path.abspath(__file__)))
 CLOSING = re.compile(r"^(\d+) passed, (\d+) failed$")
 
+
+def driving(script, *words):
+    """A script that drives the program, which `rt ci` leaves."""
+    return [sys.executable, f"tests/{script}.py", "crates/blobd/out/blobd", *words]
+
+
 # The cheap parts come first, so that a slip is told at once.
 PARTS = [
     ("the repository", [sys.executable, "tests/repository.py"]),
     ("the crates", ["rt", "ci"]),
-    # `rt ci` leaves the program that it built, and the tests
-    ("whole connections", [sys.executable, "tests/connections.py", "crates/blobd/out/blobd"]),
-    ("the commands", [sys.executable, "tests/commands.py", "crates/blobd/out/blobd"]),
-    ("each growth refused in turn", [sys.executable, "tests/growths.py", "crates/blobd/out/blobd"]),
-    ("a memory that is full", [sys.executable, "tests/full_memory.py", "crates/blobd/out/blobd"]),
-    ("the program over loopback", [sys.executable, "tests/program.py", "crates/blobd/out/blobd"]),
-    ("the reverse proxy and its servers", [sys.executable, "tests/front.py", "crates/blobd/out/blobd"]),
-    ("pushes", [sys.executable, "tests/pushes.py", "crates/blobd/out/blobd"]),
-    ("replies before their time", [sys.executable, "tests/early_replies.py", "crates/blobd/out/blobd"]),
-    ("streams, beside a model", [sys.executable, "tests/differential.py", "crates/blobd/out/blobd"]),
-    ("clients for a while", [sys.executable, "tests/soak.py", "crates/blobd/out/blobd", "--seconds", "7"]),
+    ("whole connections", driving("connections")),
+    ("the commands", driving("commands")),
+    ("the command line", driving("command_line")),
+    ("each growth refused in turn", driving("growths")),
+    ("a memory that is full", driving("full_memory")),
+    ("connections of the server", driving("serve_connections")),
+    ("uploads to the server", driving("serve_uploads")),
+    ("the log of the server", driving("serve_log")),
+    ("faults of the server", driving("serve_faults")),
+    ("curl and clients of images", driving("serve_clients")),
+    ("the registry: its setup", driving("registry_setup")),
+    ("the registry: requests", driving("registry_requests")),
+    ("the registry: manifests", driving("registry_manifests")),
+    ("the registry: shards", driving("registry_shards")),
+    ("the registry: clients", driving("registry_clients")),
+    ("pushes", driving("pushes")),
+    ("replies before their time", driving("early_replies")),
+    ("streams, beside a model", driving("differential")),
+    ("clients for a while", driving("soak", "--seconds", "7")),
 ]
 
 

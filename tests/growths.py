@@ -16,7 +16,7 @@ A small library, loaded before the C library, refuses the Nth allocation of a pr
 - A push to a server that has all the memory it wants ends well, since a connection is made again; or it says
   `fault: memory`, or `fault: file` if there is no memory for the file, with status 3.
 
-Prints how many growths there were, and 'N passed, M failed' as the last. Without a C compiler nothing is run.
+Prints how many growths there were. Without a C compiler nothing is run.
 """
 import collections
 import concurrent.futures
@@ -26,14 +26,13 @@ import os
 import re
 import subprocess
 import tempfile
-import unittest
 
 import connections
 import model
 import stored
-from harness import running, shims, suite
+from harness import TOP, running, shims
+from harness.suite import OPTIONS, case, check, equal, main
 
-TOP = os.path.dirname(os.path.dirname(os.path.abspath(__file__)))
 IS_GROWTH_TEST = "refused_growth"
 MOST_GROWTHS = 10_000
 # So many runs that aren't right are told of one connection.
@@ -45,25 +44,17 @@ UPLOAD = b"/v2/lib/a/blobs/uploads/00000001-0000-8000-8000-000000000000"
 BEGUN = connections.opening_reply(1)
 
 
-def run_refused(library, command, sent, number):
+def run_refused(folder, command, sent, number):
     """Runs a command whose growth of this number is refused. Gives what it wrote, its status (None: it didn't end) and
     whether it met that growth."""
     told, teller = os.pipe()
-    env = shims.environment(library, REFUSED_GROWTH=number, GROWTHS_TELLER=teller)
+    env = shims.loaded(folder, "growths", REFUSED_GROWTH=number, GROWTHS_TELLER=teller)
     # a file, of which each run reads the same at a time
     with tempfile.TemporaryFile() as given:
         given.write(sent)
         given.seek(0)
         try:
-            ran = subprocess.run(
-                command,
-                stdin=given,
-                capture_output=True,
-                env=env,
-                pass_fds=[teller],
-                timeout=running.PATIENCE,
-                check=False,
-            )
+            ran = running.finished(command, stdin=given, text=False, env=env, pass_fds=[teller])
             written, status = ran.stdout, ran.returncode
         except subprocess.TimeoutExpired:
             written, status = b"", None
@@ -72,11 +63,11 @@ def run_refused(library, command, sent, number):
         return written, status, end.read() == b"x"
 
 
-def over_all_growths(library, command, sent, is_right):
+def over_all_growths(folder, command, sent, is_right):
     """Refuses each growth of a command in turn. Gives how many there were, and a line for each run that isn't right."""
     wrong = []
     for number in range(1, MOST_GROWTHS):
-        written, status, met = run_refused(library, command, sent, number)
+        written, status, met = run_refused(folder, command, sent, number)
         if not is_right(written, status):
             wrong.append(f"growth {number} refused: status {status}; wrote {written[-300:]!r}")
         if not met and number == 1:
@@ -117,7 +108,11 @@ def patch(first, body):
     """A PATCH of the first upload, and its reply."""
     last = first + len(body) - 1
     request = b"PATCH %s HTTP/1.1\r\nHost: h\r\nContent-Range: %d-%d\r\nContent-Length: %d\r\n\r\n%s" % (
-        UPLOAD, first, last, len(body), body
+        UPLOAD,
+        first,
+        last,
+        len(body),
+        body,
     )
     return request, BEGUN.replace(b"Content-Length", b"Range: 0-%d\r\nContent-Length" % last)
 
@@ -145,7 +140,8 @@ def conversations():
     more, more_taken = patch(1, b"bcdefghi")
     large, large_taken = patch(0, b"x" * 70_000)
     yield "a PATCH, and the next one twice", [connections.OPENING, small, more, more], (
-        BEGUN + small_taken + NO_MEMORY + more_taken, 0
+        BEGUN + small_taken + NO_MEMORY + more_taken,
+        0,
     )
     yield "a large PATCH twice", [connections.OPENING, large, large], (BEGUN + NO_MEMORY + large_taken, 0)
     for stem, sent, _, _ in stored.connections():
@@ -154,7 +150,7 @@ def conversations():
         yield f"{stem}, each request twice", [request for request in requests for _ in range(2)], None
 
 
-def serve(library, requests, wanted):
+def serve(folder, requests, wanted):
     """Serves a connection, each growth refused in turn. Gives how many there were, a line for each run that isn't
     right, and the methods answered 503."""
     ends, met = right_ends(requests), []
@@ -163,72 +159,64 @@ def serve(library, requests, wanted):
         met.append(end)
         return end in ends
 
-    growths, wrong = over_all_growths(library, [running.PROGRAM, "once"], b"".join(requests), is_right)
+    growths, wrong = over_all_growths(folder, [OPTIONS.program, "once"], b"".join(requests), is_right)
     if wanted and wanted not in met:
         wrong.append(f"no run ended with status {wanted[1]} and {wanted[0]!r}")
     return growths, wrong, collections.Counter(filter(None, map(ends.get, met)))
 
 
-@unittest.skipUnless(shims.has_compiler(), shims.NO_COMPILER)
-class Growths(unittest.TestCase):
-    @classmethod
-    def setUpClass(cls):
-        folder = tempfile.TemporaryDirectory(prefix="growths-")
-        cls.addClassCleanup(folder.cleanup)
-        cls.library = shims.compiled(folder.name)
+def over(cases, run):
+    """Runs each case at once with others, and gives what each gave. A case whose growths were not all met well has
+    failed."""
+    cases, results = list(cases), []
+    check("there are cases", cases)
+    with concurrent.futures.ThreadPoolExecutor(os.cpu_count()) as pool:
+        for (name, *_), result in zip(cases, pool.map(lambda case: run(*case[1:]), cases)):
+            results.append((name, *result))
+            check(name, not result[1], "\n    ".join(["", *result[1]]))
+    return results
 
-    def over(self, cases, run):
-        """Runs each case at once with others, and gives what each gave. A case whose growths were not all met well has
-        failed."""
-        cases, results = list(cases), []
-        self.assertTrue(cases)
-        with concurrent.futures.ThreadPoolExecutor(os.cpu_count()) as pool:
-            for (name, *_), result in zip(cases, pool.map(lambda case: run(*case[1:]), cases)):
-                results.append((name, *result))
-                with self.subTest(name):
-                    self.assertFalse(result[1], "\n    ".join(["", *result[1]]))
-        return results
 
-    def test_tests(self):
-        crates = [crate for crate in sorted(glob.glob(f"{TOP}/crates/*/")) if has_growth_tests(crate)]
-        tests = [test for crate in crates for test in growth_tests(crate)]
-        for name, growths, _ in self.over(
-            tests, lambda command: over_all_growths(self.library, command, b"", ends_well)
-        ):
-            print(f"{growths} growths: {name}")
+@case("cc")
+def test_tests(folder):
+    # it is compiled once, before threads load it
+    shims.loaded(folder, "growths")
+    crates = [crate for crate in sorted(glob.glob(f"{TOP}/crates/*/")) if has_growth_tests(crate)]
+    tests = [test for crate in crates for test in growth_tests(crate)]
+    for name, growths, _ in over(tests, lambda command: over_all_growths(folder, command, b"", ends_well)):
+        print(f"{growths} growths: {name}")
 
-    def test_program(self):
-        results = self.over(conversations(), functools.partial(serve, self.library))
-        refused = sum((methods for *_, methods in results), collections.Counter())
-        counts = ", ".join(f"{count} {method}" for method, count in sorted(refused.items()))
-        print(
-            f"{sum(growths for _, growths, *_ in results)} growths: the program over {len(results)} connections; "
-            f"answered 503: {counts}"
-        )
-        with self.subTest("what is answered 503"):
-            self.assertEqual({"GET", "PATCH", "POST", "PUT"}, set(refused))
 
-    def test_push(self):
-        digest = running.sha256(b"abc")
-        pushed, refused = (f"pushed {digest}\n".encode(), 0), (b"fault: memory\n", 3)
-        # the reply to a close may be what there was no memory for: what is there is found then
-        right = {pushed, refused, (f"already {digest}\n".encode(), 0), (b"fault: file\n", 3)}
-        ends, met = collections.Counter(), True
-        with running.Server() as server, tempfile.NamedTemporaryFile() as file:
-            file.write(b"abc")
-            file.flush()
-            while met and ends.total() < MOST_GROWTHS:
-                # each is to a repository that hasn't the blob
-                number = ends.total() + 1
-                command = [running.PROGRAM, "push", server.addr, f"lib/{number}", file.name, "2"]
-                *end, met = run_refused(self.library, command, b"", number)
-                ends[tuple(end)] += 1
-                with self.subTest(f"growth {number} refused"):
-                    self.assertIn(tuple(end), right)
-        print(f"{ends.total() - 1} growths: a push; {ends[refused]} times out of memory")
-        with self.subTest("how pushes end"):
-            self.assertEqual(right, set(ends))
+@case("cc")
+def test_program(folder):
+    shims.loaded(folder, "growths")
+    results = over(conversations(), functools.partial(serve, folder))
+    refused = sum((methods for *_, methods in results), collections.Counter())
+    counts = ", ".join(f"{count} {method}" for method, count in sorted(refused.items()))
+    print(
+        f"{sum(growths for _, growths, *_ in results)} growths: the program over {len(results)} connections; "
+        f"answered 503: {counts}"
+    )
+    equal("what is answered 503", set(refused), {"GET", "PATCH", "POST", "PUT"})
+
+
+@case("cc")
+def test_push(folder):
+    pushed, refused = (running.pushed(b"abc")[0].encode(), 0), (b"fault: memory\n", 3)
+    # the reply to a close may be what there was no memory for: what is there is found then
+    right = {pushed, refused, (running.already(b"abc")[0].encode(), 0), (b"fault: file\n", 3)}
+    ends, met, path = collections.Counter(), True, running.written(folder, b"abc")
+    with running.Server() as server:
+        while met and ends.total() < MOST_GROWTHS:
+            # each is to a repository that hasn't the blob
+            number = ends.total() + 1
+            command = [OPTIONS.program, "push", server.addr, f"lib/{number}", path, "2"]
+            *end, met = run_refused(folder, command, b"", number)
+            ends[tuple(end)] += 1
+            check(f"a push whose growth {number} is refused", tuple(end) in right, end)
+    print(f"{ends.total() - 1} growths: a push; {ends[refused]} times out of memory")
+    equal("how pushes end", set(ends), right)
 
 
 if __name__ == "__main__":
-    suite.main(__doc__)
+    main(__doc__)

@@ -4,18 +4,17 @@
     large.py PROGRAM
 
 A body of a known length, a chunked one, and a push of a file in one chunk. The contents are made and compared as they
-pass, so that this script holds none; the server holds each. Its last line is 'N passed, M failed'.
+pass, so that this script holds none; the server holds each.
 """
 import hashlib
 import itertools
+import os
 import random
-import tempfile
-import unittest
 
-from harness import running, suite
-from harness.wire import begun_reply, chunk_text, head_text, named
+from harness.running import MIB, Server, push
+from harness.suite import case, equal, main
+from harness.wire import begun_reply, chunk_text
 
-MIB = 1 << 20
 # No multiple of any buffer's size.
 SIZE = (1 << 30) + 12_345
 WHOLE_FILE = 1 << 31
@@ -35,68 +34,63 @@ def digest_of(parts):
     return "sha256:" + hashed.hexdigest()
 
 
-class Large(unittest.TestCase):
-    def setUp(self):
-        self.server = running.Server()
-        self.addCleanup(self.server.stop)
-
-    def ask(self, method, target, body, **fields):
-        """The reply to a request whose body comes in pieces: its status and its fields."""
-        client = self.server.client()
-        self.addCleanup(client.close)
-        client.send(head_text(method, target, [("Host", "h"), ("Connection", "close"), *named(fields)]))
+def ask(server, method, target, body, **fields):
+    """The status and the Location of the reply to a request whose body comes in pieces."""
+    with server.client() as client:
+        client.send_head(method, target, Connection="close", **fields)
         for piece in body:
             client.send(piece)
         reply = client.reply(method)
-        return reply.status, reply.fields
+        return reply.status, reply.fields["Location"]
 
-    def pulled(self, digest):
-        """How long the blob is, by its field and by its bytes, and their digest."""
-        client = self.server.client()
-        self.addCleanup(client.close)
-        client.send(head_text("GET", f"/v2/lib/a/blobs/{digest}", [("Host", "h"), ("Connection", "close")]))
+
+def comes_back(name, server, digest):
+    """Checks how long the blob is, by its field and by its bytes, and their digest."""
+    length = 0
+
+    def parts():
+        nonlocal length
+        while part := reply.read(MIB):
+            length += len(part)
+            yield part
+
+    with server.client() as client:
+        client.send_head("GET", f"/v2/lib/a/blobs/{digest}", Connection="close")
         reply = begun_reply(client.socket, "GET")
-        self.assertEqual(200, reply.status)
-        length = 0
-
-        def parts():
-            nonlocal length
-            while part := reply.read(MIB):
-                length += len(part)
-                yield part
-
         found = digest_of(parts())
-        return int(reply.headers["Content-Length"]), length, found
+        told = reply.status, int(reply.headers["Content-Length"]), length, found
+    equal(f"{name} comes back", told, (200, SIZE, SIZE, digest))
 
-    def comes_back(self, digest):
-        self.assertEqual((SIZE, SIZE, digest), self.pulled(digest))
 
-    def test_body_of_a_length(self):
-        digest = digest_of(pieces(1))
-        status, fields = self.ask("POST", "/v2/lib/a/blobs/uploads/", [], Content_Length=0)
-        self.assertEqual(202, status)
-        status, fields = self.ask("PUT", f"{fields['Location']}?digest={digest}", pieces(1), Content_Length=SIZE)
-        self.assertEqual((201, f"/v2/lib/a/blobs/{digest}"), (status, fields["Location"]))
-        self.comes_back(digest)
+@case()
+def test_body_of_a_length():
+    digest = digest_of(pieces(1))
+    with Server() as server:
+        place = server.opened("lib/a")
+        stored = ask(server, "PUT", f"{place}?digest={digest}", pieces(1), Content_Length=SIZE)
+        equal("a body of a length", stored, (201, f"/v2/lib/a/blobs/{digest}"))
+        comes_back("a body of a length", server, digest)
 
-    def test_chunked_body(self):
-        digest = digest_of(pieces(2))
-        chunks = map(chunk_text, itertools.chain(pieces(2), [b""]))
-        status, fields = self.ask(
-            "POST", f"/v2/lib/a/blobs/uploads/?digest={digest}", chunks, Transfer_Encoding="chunked"
-        )
-        self.assertEqual((201, f"/v2/lib/a/blobs/{digest}"), (status, fields["Location"]))
-        self.comes_back(digest)
 
-    def test_push(self):
-        digest = digest_of(pieces(3))
-        with tempfile.NamedTemporaryFile() as file:
-            file.writelines(pieces(3))
-            file.flush()
-            printed = running.run("push", self.server.addr, "lib/a", file.name, str(WHOLE_FILE))
-        self.assertEqual((f"pushed {digest}\n", 0, ""), printed)
-        self.comes_back(digest)
+@case()
+def test_chunked_body():
+    digest, chunks = digest_of(pieces(2)), map(chunk_text, itertools.chain(pieces(2), [b""]))
+    with Server() as server:
+        target = f"/v2/lib/a/blobs/uploads/?digest={digest}"
+        stored = ask(server, "POST", target, chunks, Transfer_Encoding="chunked")
+        equal("a chunked body", stored, (201, f"/v2/lib/a/blobs/{digest}"))
+        comes_back("a chunked body", server, digest)
+
+
+@case()
+def test_push(folder):
+    digest, path = digest_of(pieces(3)), os.path.join(folder, "file")
+    with open(path, "wb") as file:
+        file.writelines(pieces(3))
+    with Server() as server:
+        equal("a push", push(server.addr, "lib/a", path, WHOLE_FILE), (f"pushed {digest}\n", 0, ""))
+        comes_back("a push", server, digest)
 
 
 if __name__ == "__main__":
-    suite.main(__doc__)
+    main(__doc__)

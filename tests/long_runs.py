@@ -6,18 +6,14 @@
 - Requests of each kind that leave the service as it is, as many over each connection as it may take. Each reply is
   compared with the model's, and the server's memory must not grow.
 - Small blobs. It prints how much memory each takes, and pulls some.
-
-Its last line is 'N passed, M failed'.
 """
-import contextlib
 import random
 import time
-import unittest
 
 import model
-from harness import running, suite
-from harness.running import sha256
-from harness.wire import connected, request_text
+from harness import running
+from harness.suite import OPTIONS, case, check, equal, main
+from harness.wire import connected, request_text, sha256
 
 ZERO_REFERENCE = model.reference_of(1)
 PLACE = f"/v2/a/blobs/uploads/{ZERO_REFERENCE}"
@@ -96,46 +92,43 @@ def small_blobs(place, numbers):
     return True
 
 
-class LongRuns(unittest.TestCase):
-    def setUp(self):
-        self.server = running.Server(1_000_000)
-        self.addCleanup(self.server.stop)
-
-    def test_memory_stays_level(self):
-        with contextlib.closing(self.server.client()) as client:
-            client.send(FIRST[0])
-            reference = client.reply("POST").fields["Location"].rsplit("/", 1)[1]
+@case()
+def test_memory_stays_level():
+    with running.Server(1_000_000) as server:
+        with server.client() as client:
+            reference = client.opened("a").rsplit("/", 1)[1]
             for text, method, status in ((FIRST[1], "PATCH", 202), (FIRST[2], "POST", 201)):
                 client.send(text.replace(ZERO_REFERENCE.encode(), reference.encode()))
-                self.assertEqual(status, client.reply(method).status)
-        count, memory, begun = suite.OPTIONS.requests // len(ROUND) // 2, [], time.monotonic()
+                equal(f"a {method} before the others", client.reply(method).status, status)
+        count, memory, begun = OPTIONS.requests // len(ROUND) // 2, [], time.monotonic()
         with running.processes(2) as pool:
             for part in (count // 10, count - count // 10):
-                ends = [pool.submit(rounds, self.server.place(), reference, part) for _ in range(2)]
-                self.assertEqual([True, True], [end.result() for end in ends])
-                memory.append(self.server.memory())
-        print(
-            f"{count * 2 * len(ROUND)} requests in {time.monotonic() - begun:.0f} s: "
-            f"{memory[0] >> 10} KiB after a tenth of them, {memory[1] >> 10} KiB at the end"
-        )
-        self.assertLess(memory[1], memory[0] + LEVEL)
+                ends = [pool.submit(rounds, server.place(), reference, part) for _ in range(2)]
+                equal("rounds are answered as the model does", [end.result() for end in ends], [True, True])
+                memory.append(server.memory())
+    print(
+        f"{count * 2 * len(ROUND)} requests in {time.monotonic() - begun:.0f} s: "
+        f"{memory[0] >> 10} KiB after a tenth of them, {memory[1] >> 10} KiB at the end"
+    )
+    check("memory stays level", memory[1] < memory[0] + LEVEL, memory)
 
-    def test_small_blobs(self):
-        count = suite.OPTIONS.blobs
-        before, begun = self.server.memory(), time.monotonic()
+
+@case()
+def test_small_blobs():
+    count = OPTIONS.blobs
+    with running.Server(1_000_000) as server:
+        before, begun = server.memory(), time.monotonic()
         with running.processes(2) as pool:
-            ends = [
-                pool.submit(small_blobs, self.server.place(), numbers)
-                for numbers in (range(count // 2), range(count // 2, count))
-            ]
-            self.assertEqual([True, True], [end.result() for end in ends])
-        each = (self.server.memory() - before) // count
+            halves = range(count // 2), range(count // 2, count)
+            ends = [pool.submit(small_blobs, server.place(), numbers) for numbers in halves]
+            equal("small blobs are stored", [end.result() for end in ends], [True, True])
+        each = (server.memory() - before) // count
         print(f"{count} small blobs in {time.monotonic() - begun:.0f} s: {each} bytes of memory each")
-        self.assertLess(each, MOST_OF_A_SMALL_BLOB)
-        for number in random.Random(1).sample(range(count), min(count, 1_000)):
-            body = b"%d" % number
-            self.assertEqual(body, running.ask_alone(self.server, "GET", f"/v2/a/blobs/{sha256(body)}")[2])
+        check("the memory of a small blob", each < MOST_OF_A_SMALL_BLOB, each)
+        bodies = [b"%d" % number for number in random.Random(1).sample(range(count), min(count, 1_000))]
+        pulled = [running.pull(server, "a", sha256(body)) for body in bodies]
+        equal("small blobs come back", pulled, bodies)
 
 
 if __name__ == "__main__":
-    suite.main(__doc__, requests=(10_000_000, "how many requests"), blobs=(1_000_000, "how many blobs"))
+    main(__doc__, requests=(10_000_000, "how many requests"), blobs=(1_000_000, "how many blobs"))

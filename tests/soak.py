@@ -15,21 +15,20 @@ what they are told.
   C compiler). Then a request may be answered 503, or its connection may end, and nothing else.
 - At the end all workers have to serve at once, and the server may have printed nothing but its first line.
 
-It ends by itself. Its last line is 'N passed, M failed'.
+It ends by itself.
 """
 import collections
 import functools
-import os
 import random
 import subprocess
-import tempfile
 import time
-import unittest
 
 from clients import TRIES, Client
-from harness import running, shims, suite
-from harness.wire import Connection, request_text
+from harness import running, shims
+from harness.suite import OPTIONS, case, check, equal, main
+from harness.wire import Connection
 
+WORKERS = (1, 2, 8)
 # About one growth in so many is refused, behind those that the server takes before it serves.
 REFUSED_GROWTHS, GROWTHS_BEFORE = 150, 1_000
 # Steps of each client at least, so that a slow machine meets as much.
@@ -51,7 +50,7 @@ def all_serve(server, workers, is_refused):
         connections = [Connection(server.place()) for _ in range(workers)]
         replies = []
         for connection in connections * 2:
-            connection.send(request_text("GET", "/v2/"))
+            connection.send(running.BASE)
             replies.append(connection.hear("GET"))
         for connection in connections:
             connection.close()
@@ -60,65 +59,41 @@ def all_serve(server, workers, is_refused):
     return False
 
 
-class Soak:
-    """Clients of a server that has `workers`."""
-
-    workers: int
-
-    def soak(self, is_refused, **settings):
-        seed, until = suite.OPTIONS.seed, time.monotonic() + suite.OPTIONS.seconds
-        count = suite.OPTIONS.clients or self.workers + random.Random(seed + is_refused).randint(1, 3)
-        env = os.environ | settings | {"BLOBD_WORKERS": str(self.workers)}
-        seen = collections.Counter()
-        with running.Server(1_000_000, stderr=subprocess.STDOUT, env=env) as server, running.processes(count) as pool:
-            clients = [1_000 * seed + which for which in range(count)]
-            for which, (wrong, counts) in zip(
-                clients, pool.map(functools.partial(soaked, server.place(), is_refused, until), clients)
-            ):
-                seen += counts
-                with self.subTest("a client", seed=which):
-                    if wrong:
-                        self.fail(wrong)
-            with self.subTest("all workers serve at once"):
-                self.assertTrue(all_serve(server, self.workers, is_refused))
-            with self.subTest("the server goes on, and says nothing"):
-                self.assertIsNone(server.process.poll())
-                self.assertEqual("", server.stop())
-        print(
-            f"workers {self.workers}, clients {count}: "
-            + ", ".join(f"{name} {number}" for name, number in sorted(seen.items())),
-            flush=True,
-        )
-        with self.subTest("what the clients met"):
-            self.assertEqual(set(), MET - set(seen))
-            self.assertTrue(not is_refused or REFUSED & set(seen))
-
-    def test_clients(self):
-        self.soak(False)
-
-    @unittest.skipUnless(shims.has_compiler(), shims.NO_COMPILER)
-    def test_clients_with_growths_refused(self):
-        with tempfile.TemporaryDirectory(prefix="soak-") as folder:
-            library = shims.compiled(folder)
-            self.soak(
-                True, **shims.environment(library, REFUSED_GROWTHS=REFUSED_GROWTHS, GROWTHS_BEFORE=GROWTHS_BEFORE)
-            )
+def soak(workers, is_refused, **settings):
+    """Clients of a server that has so many workers."""
+    seed, until = OPTIONS.seed, time.monotonic() + OPTIONS.seconds
+    count = OPTIONS.clients or workers + random.Random(seed + is_refused).randint(1, 3)
+    env, seen = settings | {"BLOBD_WORKERS": workers}, collections.Counter()
+    what = f"{workers} workers{' that are refused memory' if is_refused else ''}"
+    with running.Server(1_000_000, stderr=subprocess.STDOUT, env=env) as server, running.processes(count) as pool:
+        clients = [1_000 * seed + which for which in range(count)]
+        ends = pool.map(functools.partial(soaked, server.place(), is_refused, until), clients)
+        for which, (wrong, counts) in zip(clients, ends):
+            seen += counts
+            check(f"client {which} of {what}", not wrong, wrong)
+        check(f"all serve at once of {what}", all_serve(server, workers, is_refused))
+        goes_on = server.process.poll() is None
+        equal(f"the server goes on, and says nothing: {what}", (goes_on, server.stop()), (True, ""))
+    counts = ", ".join(f"{name} {number}" for name, number in sorted(seen.items()))
+    print(f"workers {workers}, clients {count}: {counts}", flush=True)
+    check(f"what the clients met of {what}", MET <= set(seen) and (not is_refused or REFUSED & set(seen)), seen)
 
 
-class OneWorker(Soak, unittest.TestCase):
-    workers = 1
+@case()
+def test_clients():
+    for workers in WORKERS:
+        soak(workers, False)
 
 
-class TwoWorkers(Soak, unittest.TestCase):
-    workers = 2
-
-
-class EightWorkers(Soak, unittest.TestCase):
-    workers = 8
+@case("cc")
+def test_clients_with_growths_refused(folder):
+    numbers = {"REFUSED_GROWTHS": REFUSED_GROWTHS, "GROWTHS_BEFORE": GROWTHS_BEFORE}
+    for workers in WORKERS:
+        soak(workers, True, **shims.loaded(folder, "growths", **numbers))
 
 
 if __name__ == "__main__":
-    suite.main(
+    main(
         __doc__,
         seconds=(10, "how long the clients of each number of workers go on, with growths refused and without"),
         clients=(0, "how many; 0: one to three more than workers"),

@@ -12,8 +12,8 @@ import re
 import sys
 
 import model
+from harness import TOP
 
-TOP = os.path.dirname(os.path.dirname(os.path.abspath(__file__)))
 FOLDER = os.path.join(TOP, "tests", "connections")
 ROWS = "crates/connection_tests/src/connections/stored/rows.rt"
 # The tests of disturbed streams make these themselves.

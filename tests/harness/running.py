@@ -1,32 +1,81 @@
 """Runs the built program: over one connection, and as a server over loopback."""
 import concurrent.futures
-import hashlib
 import multiprocessing
 import os
 import resource
 import select
+import signal
+import socket
 import subprocess
+import threading
 import time
 
-from .wire import PATIENCE, Client, connected
+import servers
 
-# The built program: the first word of every script.
-PROGRAM = ""
+from .suite import OPTIONS
+from .wire import PATIENCE, Client, connected, rest_of, sha256
 
-# What it prints to standard error, in a line, for words that are no command.
-USAGE = "usage: blobd once | serve ADDR COUNT | push ADDR NAME FILE CHUNK"
+MIB = 1 << 20
+
+# What it prints to standard error, in a line, for words that are no command; and a server once it has served its count.
+USAGE = "usage: blobd once | serve ADDR COUNT | push ADDR NAME FILE CHUNK\n"
+SERVED = "served\n", 0
+
+# Requests as they are sent.
+BASE = b"GET /v2/ HTTP/1.1\r\n\r\n"
+LAST_BASE = b"GET /v2/ HTTP/1.1\r\nConnection: close\r\n\r\n"
+UNREADABLE = b"GET /v2/ HTTP/9.9\r\n\r\n"
+
+
+def environment(variables):
+    """The environment of a process with these variables too, and without those that are `None`."""
+    return {name: str(value) for name, value in (os.environ | variables).items() if value is not None}
+
+
+def finished(words, env=None, **options):
+    """A run of a program that ends by itself."""
+    options = {"capture_output": True, "text": True, "timeout": PATIENCE, "check": False} | options
+    return subprocess.run(words, env=environment(env or {}), **options)
+
+
+def told_by(words, **options):
+    """The exit status of a run of a program, and the end of what it printed."""
+    ran = finished(words, **options)
+    return ran.returncode, (ran.stdout + ran.stderr)[-1_000:]
+
+
+def run(*words, **options):
+    """Standard output, the exit status and standard error of a run of the built program that ends by itself."""
+    ran = finished([OPTIONS.program, *words], **options)
+    return ran.stdout, ran.returncode, ran.stderr
+
+
+def written(folder, content):
+    """The path of a file with these bytes."""
+    path = os.path.join(folder, sha256(content).replace(":", "-"))
+    with open(path, "wb") as file:
+        file.write(content)
+    return path
+
+
+def push(addr, name, path, *chunk, **options):
+    return run("push", addr, name, path, *map(str, chunk), **options)
+
+
+def pushed(content):
+    """What a push that went well prints."""
+    return f"pushed {sha256(content)}\n", 0, ""
+
+
+def already(content):
+    """What a push of what is there already prints."""
+    return f"already {sha256(content)}\n", 0, ""
 
 
 def once(sent):
     """What `blobd once` writes over this connection, and its exit status."""
-    ran = subprocess.run([PROGRAM, "once"], input=sent, capture_output=True, timeout=PATIENCE, check=False)
+    ran = finished([OPTIONS.program, "once"], input=sent, text=False)
     return ran.stdout, ran.returncode
-
-
-def run(*words, **options):
-    """Standard output, the exit status and standard error of a run of the program that ends by itself."""
-    ran = subprocess.run([PROGRAM, *words], capture_output=True, text=True, timeout=PATIENCE, check=False, **options)
-    return ran.stdout, ran.returncode, ran.stderr
 
 
 def becomes(wanted, value):
@@ -37,23 +86,56 @@ def becomes(wanted, value):
     return is_wanted
 
 
+def halt(process, seconds):
+    """Stops a process for so long, and lets it go on."""
+    process.send_signal(signal.SIGSTOP)
+    time.sleep(seconds)
+    process.send_signal(signal.SIGCONT)
+
+
+def has_ipv6():
+    try:
+        socket.create_server(("::1", 0), family=socket.AF_INET6).close()
+        return True
+    except OSError:
+        return False
+
+
 def processes(count=None):
     """Workers that know what this process does, its options too."""
     return concurrent.futures.ProcessPoolExecutor(count, mp_context=multiprocessing.get_context("fork"))
 
 
+class Repeated:
+    """Works that are done again and again, each in a thread of its own, until they are told to end."""
+
+    def __init__(self, works):
+        self.ending = threading.Event()
+        self.pool = concurrent.futures.ThreadPoolExecutor(len(works))
+        self.threads = [self.pool.submit(self.repeat, work) for work in works]
+
+    def repeat(self, work):
+        while not self.ending.is_set():
+            work()
+
+    def end(self):
+        self.ending.set()
+        for thread in self.threads:
+            thread.result(timeout=PATIENCE)
+        self.pool.shutdown()
+
+
 class Server:
     """`blobd serve`, each worker for so many connections, or for all that come; on a port that the system picks, unless
-    one is given, under limits of the system, as ["-n 4"] for four descriptors, and with what the shell does to its
-    streams, as "2>&-"."""
+    one is given, with these variables in its environment, under limits of the system, as ["-n 4"] for four descriptors,
+    and with what the shell does to its streams, as "2>&-"."""
 
-    def __init__(self, count=None, port=0, limits=(), shell="", host="127.0.0.1", **options):
-        words = [PROGRAM, "serve", f"{host}:{port}"] + ([] if count is None else [str(count)])
+    def __init__(self, count=None, port=0, host="127.0.0.1", env=None, limits=(), shell="", **options):
+        words = [OPTIONS.program, "serve", f"{host}:{port}"] + ([] if count is None else [str(count)])
         if limits or shell:
-            words = [
-                "sh", "-c", "".join(f"ulimit {limit} && " for limit in limits) + f'exec "$@" {shell}', "sh", *words
-            ]
-        self.process = subprocess.Popen(words, stdout=subprocess.PIPE, text=True, **options)
+            limited = "".join(f"ulimit {limit} && " for limit in limits)
+            words = ["sh", "-c", f'{limited}exec "$@" {shell}', "sh", *words]
+        self.process = subprocess.Popen(words, env=environment(env or {}), stdout=subprocess.PIPE, text=True, **options)
         # it prints this line once it listens
         self.first_line = self.process.stdout.readline()
         self.addr = self.first_line.removeprefix("listening ").strip()
@@ -76,14 +158,24 @@ class Server:
             return printed.read()
 
     def place(self):
-        host, port = self.addr.rsplit(":", 1)
-        return host.strip("[]"), int(port)
+        return servers.place(self.addr)
 
     def connect(self):
         return connected(self.place())
 
     def client(self):
         return Client(self.place())
+
+    def opened(self, name):
+        """Where the upload is that an opening in a repository begins."""
+        with self.client() as client:
+            return client.opened(name)
+
+    def exchange(self, text):
+        """What comes over a connection of its own for these bytes, until the server closes."""
+        with self.connect() as connection:
+            connection.sendall(text)
+            return rest_of(connection)
 
     def memory(self):
         """The bytes of its memory that are resident."""
@@ -125,20 +217,17 @@ class Server:
 
 
 def ask_alone(server, method, target, body=b"", **fields):
-    """The reply to one request over a connection of its own, which the request asks to close: its status, its fields
-    and its body."""
-    client = server.client()
-    try:
+    """The reply to one request over a connection of its own, which the request asks to close."""
+    with server.client() as client:
         return client.ask(method, target, body, Connection="close", **fields)
-    finally:
-        client.close()
+
+
+def base_replies(client, count):
+    """The statuses of so many requests that change nothing."""
+    return [client.ask("GET", "/v2/").status for _ in range(count)]
 
 
 def pull(server, name, digest):
     """The blob, or the status where it isn't there."""
     status, fields, body = ask_alone(server, "GET", f"/v2/{name}/blobs/{digest}")
     return body if status == 200 and fields["Docker-Content-Digest"] == digest else status
-
-
-def sha256(content):
-    return "sha256:" + hashlib.sha256(content).hexdigest()

@@ -1,23 +1,21 @@
-"""The small C library, loaded before the C library, that refuses growths (tests/shims/growths.c)."""
+"""The small libraries of tests/shims/, which are loaded before the C library: they refuse a process memory, threads or
+accepts, let its time pass sooner, or note what it does."""
 import os
-import shutil
-import subprocess
 
-SHIMS = os.path.join(os.path.dirname(os.path.dirname(os.path.abspath(__file__))), "shims")
-NO_COMPILER = "no C compiler, cc"
+from . import TOP, running
 
 
-def has_compiler():
-    return shutil.which("cc") is not None
+def loaded(folder, name, **variables):
+    """The variables by which a process is loaded with a library, which is compiled into this folder, and what else it
+    is told by them, as REFUSED_GROWTH=1."""
+    library = os.path.join(folder, f"{name}.so")
+    if not os.path.exists(library):
+        source = os.path.join(TOP, "tests", "shims", f"{name}.c")
+        running.finished(["cc", "-O1", "-Wall", "-shared", "-fPIC", source, "-o", library], check=True)
+    return {"LD_PRELOAD": library, **variables}
 
 
-def compiled(folder, name="growths"):
-    """The library's path, in this folder."""
-    path = os.path.join(folder, f"{name}.so")
-    subprocess.run(["cc", "-O1", "-Wall", "-shared", "-fPIC", os.path.join(SHIMS, f"{name}.c"), "-o", path], check=True)
-    return path
-
-
-def environment(library, **numbers):
-    """The environment of a process that the library is loaded into, with what it is told, as REFUSED_GROWTH=1."""
-    return {**os.environ, "LD_PRELOAD": library, **{name: str(number) for name, number in numbers.items()}}
+def told(path):
+    """The lines that a library wrote, each as its words, of which those that are numbers are given as such."""
+    with open(path, encoding="ascii") as file:
+        return [tuple(int(word) if word.lstrip("-").isdigit() else word for word in line.split()) for line in file]

@@ -1,12 +1,26 @@
 """The client of the tests: connections over sockets, requests as they are written, and replies as they are read."""
-import dataclasses
+import contextlib
+import hashlib
 import http.client
+import select
 import socket
+import ssl
 import struct
+import typing
+
+from .suite import check
 
 # Seconds after which what is waited for is taken to hang. No test tells speed by it: a machine that is slow for a while
 # passes.
 PATIENCE = 300
+
+
+def sha256(content):
+    return "sha256:" + hashlib.sha256(content).hexdigest()
+
+
+def sha512(content):
+    return "sha512:" + hashlib.sha512(content).hexdigest()
 
 
 class Complaint(Exception):
@@ -18,8 +32,7 @@ def demand(holds, *told):
         raise Complaint(" ".join(map(str, told)))
 
 
-@dataclasses.dataclass
-class Reply:
+class Reply(typing.NamedTuple):
     status: int
     fields: http.client.HTTPMessage
     body: bytes
@@ -64,6 +77,15 @@ def connected(place):
     return socket.create_connection(place, timeout=PATIENCE)
 
 
+def address_of(listener):
+    return "%s:%d" % listener.getsockname()[:2]
+
+
+def is_silent(connection, seconds):
+    """Whether nothing comes within this time, nor an end."""
+    return not select.select([connection], [], [], seconds)[0]
+
+
 def begun_reply(connection, method):
     """The next reply over a socket, its body not yet read."""
     response = http.client.HTTPResponse(connection, method=method)
@@ -89,8 +111,19 @@ class Client:
     """A client that keeps its connection for as long as the other side does, and makes a new one for the request behind
     that. Where a connection ends without a reply, an error is raised."""
 
+    # what each request has beside its own fields
+    fields = ()
+    # whether each request has a connection of its own
+    is_fresh = False
+
     def __init__(self, place):
         self.place, self.socket = place, None
+
+    def __enter__(self):
+        return self
+
+    def __exit__(self, *_):
+        self.close()
 
     @property
     def is_open(self):
@@ -105,6 +138,9 @@ class Client:
             self.connect()
         self.socket.sendall(text)
 
+    def send_head(self, method, target, **fields):
+        self.send(head_text(method, target, [("Host", "h"), *self.fields, *named(fields)]))
+
     def reply(self, method):
         """The next reply."""
         try:
@@ -113,15 +149,44 @@ class Client:
         except (OSError, http.client.HTTPException):
             self.close()
             raise
-        if response.will_close:
+        if response.will_close or self.is_fresh:
             self.close()
         return reply
 
     def ask(self, method, target, body=b"", **fields):
-        """The reply to a request: its status, its fields and its body."""
-        self.send(request_text(method, target, body, named(fields)))
-        reply = self.reply(method)
-        return reply.status, reply.fields, reply.body
+        """The reply to a request. One that is refused inside its body has its reply too."""
+        with contextlib.suppress(BrokenPipeError, ConnectionResetError, ssl.SSLEOFError):
+            self.send(request_text(method, target, body, [*self.fields, *named(fields)]))
+        return self.reply(method)
+
+    def opened(self, name):
+        """Where the upload is that an opening in a repository begins."""
+        reply = self.ask("POST", f"/v2/{name}/blobs/uploads/")
+        check(f"an opening of {name}", reply.status == 202, reply)
+        return reply.fields["Location"]
+
+    def send_chunks(self, place, content, size=None):
+        """Sends a content in chunks of this size, or in one. Gives the statuses, up to the first that isn't right."""
+        statuses, size = [], size or len(content)
+        for first in range(0, len(content), size):
+            chunk = content[first : first + size]
+            last = first + len(chunk) - 1
+            reply = self.ask("PATCH", place, chunk, Content_Range=f"{first}-{last}")
+            statuses.append(reply.status)
+            if reply.status != 202 or reply.fields["Range"] != f"0-{last}":
+                break
+        return statuses
+
+    def push(self, name, content, size=None):
+        """Pushes a blob in chunks of this size, or in one. Gives the statuses, up to the first that doesn't go well."""
+        opening = self.ask("POST", f"/v2/{name}/blobs/uploads/")
+        if opening.status != 202:
+            return [opening.status]
+        place = opening.fields["Location"]
+        statuses = [202, *self.send_chunks(place, content, size)]
+        if statuses[-1] == 202:
+            statuses.append(self.ask("PUT", f"{place}?digest={sha256(content)}").status)
+        return statuses
 
     def close(self, with_reset=False):
         if self.is_open and with_reset:

@@ -1,0 +1,202 @@
+#!/usr/bin/env python3
+"""How a registry is set up: whether the settings of deploy/ are accepted, `make registry`, and the lines of
+docs/OPERATIONS.md.
+
+    registry_setup.py PROGRAM
+"""
+import os
+import shutil
+import signal
+import socket
+import subprocess
+import sys
+
+from harness import TOP
+from harness.registry import IMAGE_PUSHED, LOGIN, PROXY, Client, push_image
+from harness.running import finished, told_by
+from harness.suite import OPTIONS, case, check, equal, lacks, main, skip
+from harness.wire import PATIENCE
+import servers
+
+
+def written(path, text, mode=0o644):
+    with open(os.open(path, os.O_CREAT | os.O_WRONLY, mode), "w", encoding="utf-8") as file:
+        file.write(text)
+
+
+def text_of(path):
+    with open(path, encoding="utf-8") as file:
+        return file.read()
+
+
+@case(*PROXY)
+def settings_are_valid(folder):
+    servers.certificate(folder)
+    servers.logins(folder, dict([LOGIN]))
+    words = [servers.program("haproxy"), "-c", "-f", os.path.join(servers.HERE, "haproxy.cfg"), "-f", "users.cfg"]
+    others = {name: None for name in os.environ if name.startswith(("FRONT_", "BLOBD_"))}
+    settings = {"FRONT_CERT": "front.pem", "FRONT_LUA": os.path.join(servers.HERE, "manifests.lua")}
+    ran = told_by(words, cwd=folder, env=others | settings)
+    check("haproxy -c, nothing else told", ran[0] == 0, ran)
+    for shards in (1, 4):
+        told = servers.HAProxy(folder, [servers.free_address() for _ in range(shards)]).judged()
+        check(f"haproxy -c, {shards} shards", not told, told)
+    adapter = servers.Adapter(folder, "127.0.0.1:5000")
+    ran = told_by([*adapter.words, "-c"], env=adapter.settings)
+    check("haproxy -c, the adapter", ran[0] == 0, ran)
+
+
+@case("systemd-analyze")
+def unit_is_valid(folder):
+    unit = text_of(os.path.join(TOP, "deploy", "blobd@.service"))
+    path = os.path.join(folder, "blobd@.service")
+    written(path, unit.replace("/usr/local/bin/blobd", OPTIONS.program))
+    ran = finished(["systemd-analyze", "verify", "--man=no", path])
+    check("systemd-analyze verify", ran.returncode == 0 and not ran.stderr, ran.stderr)
+
+
+@case(*PROXY)
+def the_newcomers_registry():
+    """`make registry` as a newcomer meets it: the lines that it prints push an image and pull it, as they stand, and it
+    ends without a rest."""
+    tls, store = servers.free_address(), servers.free_address()
+    words = [sys.executable, os.path.join(TOP, "deploy", "registry.py"), OPTIONS.program]
+    settings = os.environ | {"FRONT_TLS": tls, "BLOBD_1": store}
+    with subprocess.Popen(words, env=settings, stdout=subprocess.PIPE, stderr=subprocess.STDOUT, text=True) as registry:
+        lines = []
+        for line in registry.stdout:
+            lines.append(line.strip())
+            if line.startswith("Docker"):
+                break
+        told = [line for line in lines if line.startswith(("skopeo ", "zcat "))]
+        are_told = [line.split()[1] for line in told[:3]] == ["login", "copy", "copy"] and len(told) == 4
+        check("four lines are told", are_told, lines)
+        login = told[0].split() if told else ["skopeo", "login", "--cert-dir", "", "-u", "", "-p", ""]
+        folder, user, word = login[3], login[5], login[7]
+        client = Client(tls, (user, word), os.path.join(folder, "front.crt"))
+        equal("the registry answers", client.ask("GET", "/v2/").status, 200)
+        equal("and takes an image", push_image(client, "lib/new"), IMAGE_PUSHED)
+        local = [line.split("http://")[1].split(",")[0] for line in lines if "without a login" in line]
+        statuses = [Client(address).ask("GET", "/v2/").status for address in local]
+        check("its local address asks for no login", statuses == [200], lines)
+        if not lacks("the registry's lines", "skopeo"):
+            for line in told:
+                ran = told_by(["sh", "-c", line], env={"REGISTRY_AUTH_FILE": os.path.join(folder, "auth.json")})
+                check(f"as it is told: {line}", ran[0] == 0, ran)
+            check("the image comes back", "hello" in ran[1], ran)
+        registry.send_signal(signal.SIGINT)
+        rest = registry.stdout.read()
+        check("it ends well", registry.wait(timeout=PATIENCE) == 0 and rest.strip() == "ended", rest)
+    check("its folder is gone", not os.path.exists(folder))
+    for address in (tls, store):
+        with socket.socket() as probe:
+            check(f"nobody listens on {address}", probe.connect_ex(servers.place(address)) != 0)
+
+
+# Before the lines that set all up in docs/OPERATIONS.md.
+SET_UP = "<!-- tests/registry_setup.py runs these lines -->\n```sh\n"
+# A root of its own, which goes with the process: what is written goes to a file system in memory. ROOT, TOP, WORK: its
+# place, the repository, what the lines begin with.
+OWN_ROOT = """
+mount -t tmpfs tmpfs "$ROOT"
+mkdir "$ROOT/upper" "$ROOT/work" "$ROOT/root"
+mount -t overlay overlay -o "lowerdir=/,upperdir=$ROOT/upper,workdir=$ROOT/work" "$ROOT/root"
+cd "$ROOT/root"
+mount -t proc proc proc
+mount --rbind /dev dev
+mount -t tmpfs tmpfs run
+mkdir run/haproxy
+mkdir -p ".$TOP" "$ROOT/upper/set-up"
+mount --bind "$TOP" ".$TOP"
+cp -a "$WORK"/. set-up/
+"""
+SYSTEMCTL = '''"""Starts a unit in place of systemd: what its ExecStart says, with its environment and as its user."""
+import os, re, shlex, subprocess, sys
+
+def settings(path, wanted):
+    with open(path, encoding="utf-8") as file:
+        return [line.strip().partition("=")[2] for line in file if line.startswith(wanted + "=")]
+
+words = [word for word in sys.argv[1:] if not word.startswith("-")]
+if words[0] == "daemon-reload":
+    sys.exit()
+name, at, instance = words[1].partition("@")
+places = (f"/{top}/systemd/system/{name}{at}.service" for top in ("etc", "lib"))
+unit = next(path for path in places if os.path.exists(path))
+environment = dict(os.environ)
+for line in settings(unit, "Environment"):
+    environment |= dict(word.split("=", 1) for word in shlex.split(line))
+for path in settings(unit, "EnvironmentFile"):
+    if os.path.exists(path.lstrip("-")):
+        with open(path.lstrip("-"), encoding="utf-8") as file:
+            environment |= dict(word.split("=", 1) for word in shlex.split(file.read(), comments=True))
+user = next(iter(settings(unit, "User")), None)
+command = settings(unit, "ExecStart")[0].replace("%i", instance)
+command = shlex.split(re.sub(r"[$]([A-Z]+)", lambda found: environment.get(found[1], ""), command))
+for folder in settings(unit, "RuntimeDirectory"):
+    os.makedirs("/run/" + folder.replace("%i", instance), exist_ok=True)
+log = open(f"/set-up/{name}.log", "wb")
+streams = {"stdin": subprocess.DEVNULL, "stdout": log, "stderr": log}
+subprocess.Popen(command, env=environment, user=user, group=user, start_new_session=True, **streams)
+'''
+APT_GET = """
+for word in "$@"; do
+    case "$word" in install | -*) ;; *) dpkg -s "$word" >/dev/null || exit 1 ;; esac
+done
+"""
+TRIED = """
+import sys
+sys.path.insert(0, sys.argv[1] + "/tests")
+from harness import registry
+import servers
+for address in ("127.0.0.1:5001", "127.0.0.1:6380", "127.0.0.1:5443"):
+    servers.wait_for(address)
+client = registry.Client("127.0.0.1:5443", ("alice", "SECRET"), "/set-up/ca/front.crt")
+pushed = registry.push_image(client, "lib/set-up")
+print(pushed, client.ask("GET", "/v2/lib/set-up/manifests/one").status, client.ask("GET", "/v2/_catalog").body)
+"""
+# The loopback device is up then.
+UP = "import fcntl, socket, struct; fcntl.ioctl(socket.socket(), 0x8914, struct.pack('16sh14x', b'lo', 0x1 | 0x40))"
+UNSHARED = ["unshare", "--mount", "--net", "--pid", "--fork", "--kill-child", "sh", "-c"]
+
+
+def can_have_a_root():
+    tried = (
+        "mount -t tmpfs tmpfs /mnt && mkdir /mnt/a /mnt/b /mnt/c"
+        " && mount -t overlay overlay -o lowerdir=/,upperdir=/mnt/a,workdir=/mnt/b /mnt/c"
+    )
+    return os.geteuid() == 0 and shutil.which("unshare") and finished([*UNSHARED, tried]).returncode == 0
+
+
+@case(*PROXY, "redis-server")
+def the_set_up_works(folder):
+    """The lines of docs/OPERATIONS.md, as they stand, in a root and a network of their own, with stand-ins for systemd
+    and apt-get."""
+    if not can_have_a_root():
+        skip("the_set_up_works", "no root of its own can be had here (root, unshare, overlay)")
+        return
+    work, root = os.path.join(folder, "work"), os.path.join(folder, "root")
+    out = os.path.join(work, "crates", "blobd", "out")
+    for path in (root, os.path.join(work, "bin"), out):
+        os.makedirs(path)
+    servers.certificate(work)
+    shutil.copy(OPTIONS.program, os.path.join(out, "blobd"))
+    os.symlink(os.path.join(TOP, "deploy"), os.path.join(work, "deploy"))
+    for name, interpreter, text in (("systemctl", sys.executable, SYSTEMCTL), ("apt-get", "/bin/sh", APT_GET)):
+        written(os.path.join(work, "bin", name), f"#!{interpreter}\n{text}", 0o755)
+    lines = text_of(os.path.join(TOP, "docs", "OPERATIONS.md")).split(SET_UP)[1].split("```")[0]
+    written(os.path.join(work, "lines.sh"), lines)
+    written(os.path.join(work, "tried.py"), TRIED)
+    inside = (
+        'cd /set-up && PATH="/set-up/bin:$PATH:/usr/sbin" sh -eu lines.sh'
+        ' && "$PYTHON" tried.py "$TOP" || { cat /set-up/*.log; exit 1; }'
+    )
+    script = f'set -eu\n{OWN_ROOT}\n"$PYTHON" -c "$UP"\nexec chroot . sh -c \'{inside}\''
+    settings = {"ROOT": root, "TOP": TOP, "WORK": work, "PYTHON": sys.executable, "UP": UP}
+    ran = told_by([*UNSHARED, script], env=settings)
+    expected = f"{IMAGE_PUSHED} 200 " + 'b\'{"repositories":["lib/set-up"]}\''
+    check("the lines of docs/OPERATIONS.md make a registry", ran[0] == 0 and ran[1].strip().endswith(expected), ran)
+
+
+if __name__ == "__main__":
+    main(__doc__)
