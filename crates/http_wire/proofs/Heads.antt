@@ -5,3 +5,4 @@ pub mod ElementLemmas
 pub mod FieldLemmas
 pub mod FirstFieldLemmas
 pub mod FrontLemmas
+pub mod ReadLemmas

@@ -1,5 +1,5 @@
 -- Names, and what is asked by a path and by a target.
-use Rattle.std.proofs.Common.{◌≡◌, ℕ, List, [], ◌∙◌, sym, ap, subst, inl, inr, cond}
+use Rattle.std.proofs.Common.{◌≡◌, ℕ, List, [], ◌∙◌, ap, subst, inr, arith, rules}
 use Rattle.std.specs.Prelude.{Option, Some, None, Result, Ok, Err, IfOk, option_copied, unwrap_or}
 use Rattle.std.specs.Borrow.{Bor}
 use Rattle.std.proofs.lemmas.Bool.{cases_Bool}
@@ -7,7 +7,6 @@ use Rattle.std.specs.declared.alloc.AllocError.{AllocError}
 use Rattle.http_uri.specs.declared.uri.Uri.{Uri}
 use Rattle.http_uri.specs.Uri.{Spells, uri_path, uri_query}
 use Rattle.upload_names.specs.Name.{IsName}
-use Rattle.upload_names.specs.NamePass.{is_name}
 use Rattle.upload_names.proofs.NameFacts.{IsName-from}
 use Rattle.upload_service.specs.declared.ask.Extent.{Extent}
 use Rattle.upload_wire.specs.declared.asks.HeadAsk.{HeadAsk}
@@ -16,11 +15,7 @@ use Rattle.upload_wire.specs.declared.asks.PathForm.{PathForm}
 use Rattle.upload_wire.specs.Target.{IsFormOf, named, method_of, ask_of_form, AsksAt, HeadAsks}
 
 pub named_none : (text : List ℕ) → (IsName text → ⊥) → None ≡ named text
-named_none text differs =
-    elim (cases_Bool (is_name text)) [
-      | inl is ↦ absurd (differs (IsName-from text is))
-      | inr other ↦ ap (λ b. cond b (Some text) None) (sym other)
-    ]
+named_none text differs = search (rules, arith, cases_Bool, IsName-from)
 
 -- what a form asks, asked at its path
 pub by_form : (path : List ℕ) (method : Method) (query : List ℕ) (range : Extent) (form : PathForm)

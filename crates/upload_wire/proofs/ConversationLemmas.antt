@@ -1,8 +1,7 @@
 -- One exchange after another.
 use Rattle.std.proofs.Common.{◌≡◌, ℕ, ◌+◌, List, [], ◌∷◌, ◌++◌, length, refl, sym, ap, ◌∙◌, subst, append_assoc, inl}
-use Rattle.std.proofs.Common.{inr, arith, length-append, lit<}
+use Rattle.std.proofs.Common.{inr, arith, length-append, lit<, rules}
 use Rattle.std.specs.Prelude.{Option, Some, None, IfSome, Result, Ok, Err}
-use Rattle.std.specs.List.{AllByRecursion}
 use Rattle.std.proofs.lemmas.List.{append-nil}
 use Rattle.std.proofs.lemmas.Grind.{flat_map-append}
 use Rattle.upload_service.specs.declared.ask.Ask.{Ask}
@@ -13,7 +12,7 @@ use Rattle.upload_wire.specs.declared.request.Style.{Style}
 use Rattle.upload_wire.specs.declared.request.Next.TheVariants.{Request}
 use Rattle.upload_wire.specs.declared.request.Next.TheVariants as nexts
 use Rattle.upload_wire.specs.declared.connection.ConnEnd.{ConnEnd}
-use Rattle.upload_wire.specs.declared.connection.ConnEnd.TheVariants.{Clean, AfterClose, AfterBad, TooMany, DeskGone}
+use Rattle.upload_wire.specs.declared.connection.ConnEnd.TheVariants.{AfterClose, AfterBad, TooMany}
 use Rattle.upload_wire.specs.declared.connection.ConnEnd.TheVariants.{Fault}
 use Rattle.upload_wire.specs.declared.connection.ConnFault.TheVariants as Conn
 use Rattle.upload_wire.specs.RequestText.{ReadsNext}
@@ -29,6 +28,7 @@ use Rattle.upload_wire.specs.Inner.ConversationSteps.{IsRepliedTo, styled, Refus
 use Rattle.upload_wire.specs.Inner.ConversationSteps.{Stops}
 use Rattle.http_wire.proofs.GaveLemmas.{gives_none, gives_both}
 use Rattle.http_wire.proofs.WritingLemmas.{takes_none, took_both}
+use Rattle.upload_wire.proofs.Lists.{all_both}
 
 pub took_none : (a : SinkState) → TookAll a a []
 took_none a = record { takes = takes_none a; unfailed = refl }
@@ -37,6 +37,13 @@ pub ok_not_err : {T E : Type 0} (value : T) (error : E) → ◌≡◌ {A = Resul
 ok_not_err value error same = cc
 
 -- ---- one
+
+-- an end at which the connection stops
+abbrev pub stops : {D : Type 0} {step : Moves D} {max : ℕ} {old new : Progress D} {end : ConnEnd} (given : List ℕ)
+    → Gives old.source new.source given → ReadsFail end old.source.failed_reads new.source.failed_reads
+    → EndsWith step max (stand old.answered (old.held ++ given) old.desk old.sink)
+    (connection new.source new.desk new.sink) end → Stops step max old new end
+stops given gives reads ended = record { given = given; gives = gives; reads = reads; ended = ended }
 
 module _ {D : Type 0} (step : Moves D) (max count : ℕ) (held rest : List ℕ) (first left : SourceState)
     (ask : Ask) (style : Style)
@@ -76,31 +83,14 @@ module _ {D : Type 0} (step : Moves D) (max count : ℕ) (held rest : List ℕ) 
       → IsRepliedTo count (styled answer style) mid after r
       → IfSome r (Stops step max (progress count held first at mid) (progress next kept left new after))
   one_last kept next None n same answered a = tt
-  one_last kept next (Some Clean) n same answered a = absurd a
   one_last kept next (Some AfterClose) n same answered a =
-      record {
-        given = n.given;
-        gives = n.gives;
-        reads = same;
-        ended = (last_exchange n, answers_next n answered, a.1, a.0);
-      }
-  one_last kept next (Some AfterBad) n same answered a = absurd a
+      stops n.given n.gives same (last_exchange n, answers_next n answered, a.1, a.0)
   one_last kept next (Some TooMany) n same answered a =
-      record {
-        given = n.given;
-        gives = n.gives;
-        reads = same;
-        ended = (last_exchange n, answers_next n answered, a.1, a.2, a.0);
-      }
-  one_last kept next (Some DeskGone) n same answered a = absurd a
+      stops n.given n.gives same (last_exchange n, answers_next n answered, a.1, a.2, a.0)
   one_last kept next (Some (Fault (Conn.Wire f))) n same answered a = absurd a
   one_last kept next (Some (Fault Conn.Write)) n same answered a =
-      record {
-        given = n.given;
-        gives = n.gives;
-        reads = same;
-        ended = inl (last_exchange n, answers_next n answered, a);
-      }
+      stops n.given n.gives same (inl (last_exchange n, answers_next n answered, a))
+  one_last kept next (Some other) n same answered a = absurd a
 
 unfoldable pub after_refusal : {D : Type 0} (step : Moves D) (max : ℕ) (old new : Progress D)
     (rest : List ℕ) (why : Bad) (end : ConnEnd)
@@ -108,24 +98,11 @@ unfoldable pub after_refusal : {D : Type 0} (step : Moves D) (max : ℕ) (old ne
     → new.source.failed_reads ≡ old.source.failed_reads → new.desk ≡ old.desk → RefusedWith old.sink new.sink why end
     → Stops step max old new end
 after_refusal step max old new rest why AfterBad n same unasked told =
-    record {
-      given = n.given;
-      gives = n.gives;
-      reads = same;
-      ended = (why, record { bad = n.found; unasked = unasked }, told);
-    }
+    stops n.given n.gives same (why, record { bad = n.found; unasked = unasked }, told)
 after_refusal step max old new rest why (Fault Conn.Write) n same unasked front =
-    record {
-      given = n.given;
-      gives = n.gives;
-      reads = same;
-      ended = inr (why, record { bad = n.found; unasked = unasked }, front);
-    }
+    stops n.given n.gives same (inr (why, record { bad = n.found; unasked = unasked }, front))
 after_refusal step max old new rest why (Fault (Conn.Wire fault)) n same unasked h = absurd h
-after_refusal step max old new rest why Clean n same unasked h = absurd h
-after_refusal step max old new rest why AfterClose n same unasked h = absurd h
-after_refusal step max old new rest why TooMany n same unasked h = absurd h
-after_refusal step max old new rest why DeskGone n same unasked h = absurd h
+after_refusal step max old new rest why other n same unasked h = absurd h
 
 -- ---- many
 
@@ -139,20 +116,12 @@ pub handed_on_more : (old mid new : SinkState) (xs : List WireExchange) (x : Wir
 handed_on_more old mid new [] x h k = (new, subst (λ s. HandedOn s new (reply x.answer x.style)) (sym h) k, refl)
 handed_on_more old mid new (y ∷ xs) x h k = (h.0, h.1, handed_on_more h.0 mid new xs x h.2 k)
 
-pub kept_more : (max : ℕ) (xs : List WireExchange) (x : WireExchange) → AllByRecursion (IsKept max) xs → IsKept max x
-    → AllByRecursion (IsKept max) (xs ++ x ∷ [])
-kept_more max [] x h k = (k, tt)
-kept_more max (y ∷ xs) x h k = (h.0, kept_more max xs x h.1 k)
-
 pub messages_more : (xs : List WireExchange) (x : WireExchange) → messages (xs ++ x ∷ []) ≡ messages xs ++ x.message
-messages_more xs x =
-    flat_map-append (λ x. x.message) xs (x ∷ []) ∙ ap (λ t. messages xs ++ t) (append-nil x.message)
+messages_more xs x = search (rules, arith, flat_map-append, append-nil)
 
 pub replies_more : (xs : List WireExchange) (x : WireExchange)
     → replies (xs ++ x ∷ []) ≡ replies xs ++ reply x.answer x.style
-replies_more xs x =
-    flat_map-append (λ x. reply x.answer x.style) xs (x ∷ [])
-    ∙ ap (λ t. replies xs ++ t) (append-nil (reply x.answer x.style))
+replies_more xs x = search (rules, arith, flat_map-append, append-nil)
 
 -- what a connection has done that stood so when it began
 pub record SoFar {D : Type 0} (step : Moves D) (max : ℕ) (begun now : Progress D) : Type 0 where
@@ -202,7 +171,7 @@ goes_on step max begun now next s n =
             ∙ ap (λ t. messages s.exchanges ++ t) n.read
             ∙ sym (append_assoc (messages s.exchanges) n.exchange.message next.held)
             ∙ ap (λ t. t ++ next.held) (sym (messages_more s.exchanges n.exchange));
-        kept = kept_more max s.exchanges n.exchange s.served.kept n.kept;
+        kept = all_both (IsKept max) s.exchanges (n.exchange ∷ []) s.served.kept (n.kept, tt);
         answered = answers_more step begun.desk now.desk next.desk s.exchanges n.exchange s.served.answered n.answered;
         written = subst (TookAll begun.sink next.sink) (sym (replies_more s.exchanges n.exchange))
             (took_both begun.sink now.sink next.sink (replies s.exchanges) (reply n.exchange.answer n.exchange.style)

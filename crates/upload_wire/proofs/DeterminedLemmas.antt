@@ -1,15 +1,14 @@
 -- What was read determines a conversation.
 use Rattle.std.proofs.Common.{◌≡◌, ◌≢◌, ℕ, ◌+◌, ◌<◌, List, [], ◌∷◌, ◌++◌, length, map, refl, sym, ap, subst, ◌∙◌, arith}
-use Rattle.std.proofs.Common.{append_assoc, length-append, inl, inr, subst₂, true≢false}
+use Rattle.std.proofs.Common.{append_assoc, length-append, inl, inr, subst₂, true≢false, rules}
 use Rattle.std.specs.Prelude.{◌⊎◌, Option, Some, None}
 use Rattle.std.specs.List.{AllByRecursion}
 use Rattle.std.proofs.lemmas.List.{append_cancel_right, length-map, map-append}
 use Rattle.upload_service.specs.declared.ask.Ask.{Ask}
 use Rattle.upload_service.specs.declared.answer.Answer.{Answer}
 use Rattle.upload_service.specs.declared.answer.Answer.TheVariants.{NoMemory}
-use Rattle.upload_service.specs.Machine.{State, Outcome, Comes, outcome, Turn}
+use Rattle.upload_service.specs.Machine.{State, Outcome, Comes, Turn}
 use Rattle.upload_wire.specs.ServiceTurns.{StepsService}
-use Rattle.http_wire.specs.declared.fault.Bad.{Bad}
 use Rattle.http_wire.specs.declared.fault.Bad.TheVariants.{Head}
 use Rattle.http_wire.specs.declared.fault.WireFault.{WireFault}
 use Rattle.http_wire.specs.declared.fault.WireFault.TheVariants as Wire
@@ -18,7 +17,7 @@ use Rattle.upload_wire.specs.declared.connection.ConnEnd.{ConnEnd}
 use Rattle.upload_wire.specs.declared.connection.ConnEnd.TheVariants.{Clean, AfterClose, AfterBad, TooMany, DeskGone}
 use Rattle.upload_wire.specs.declared.connection.ConnEnd.TheVariants.{Fault}
 use Rattle.upload_wire.specs.declared.connection.ConnFault.TheVariants as Conn
-use Rattle.upload_wire.specs.RequestText.{IsBad, IsRequest}
+use Rattle.upload_wire.specs.RequestText.{IsBad}
 use Rattle.http_wire.specs.Writing.{TookAll}
 use Rattle.upload_wire.specs.Conversation.{Moves, WireExchange, IsKept, IsRead, messages, replies, last_reply, Answers}
 use Rattle.upload_wire.specs.Conversation.{ConnectionState, Standing, stand, EndsWith, AnswersNext, FindsNoDesk}
@@ -30,44 +29,10 @@ use Rattle.upload_wire.specs.Determined.{Dialogue, answered_in_dialogue, asked, 
 use Rattle.upload_wire.specs.Determined.{HasMemory, AskTheSame, AreTheSame, ConversationsAreDetermined}
 use Rattle.http_wire.proofs.WritingLemmas.{took_both}
 use Rattle.upload_wire.proofs.ConversationLemmas.{took_none}
-use Rattle.upload_wire.proofs.UnambiguousRequests.{requests_are_unambiguous}
+use Rattle.upload_wire.proofs.Lists.{all_first, all_second}
+use Rattle.upload_wire.proofs.UnambiguousRequests.{requests_are_unambiguous, same_request}
 
 -- ---- requests in a row
-
-no_head : (ask : Ask) (style : Style) (rest : List ℕ) → request ask style rest ≢ bad Head
-no_head ask style rest e = absurd (cc)
-
-why_same : (why other : Bad) → bad why ≡ bad other → why ≡ other
-why_same why other e = cc
-
-same_some : (a b : Answer) → ◌≡◌ {A = Option Answer} (Some a) (Some b) → a ≡ b
-same_some a b e = cc
-
-some_not_none : (a : Answer) → ◌≡◌ {A = Option Answer} (Some a) None → ⊥
-some_not_none a e = absurd (cc)
-
--- two requests that begin one text
-record SameRequest (a b : Ask) (s t : Style) (m n r q : List ℕ) : Type 0 where
-  message : m ≡ n
-  ask : a ≡ b
-  style : s ≡ t
-  rest : r ≡ q
-
-same_request : (max : ℕ) (a b : Ask) (s t : Style) (m n r q : List ℕ) → IsRequest max m a s → IsRequest max n b t
-    → m ++ r ≡ n ++ q → SameRequest a b s t m n r q
-same_request max a b s t m n r q x y e =
-    let same = requests_are_unambiguous.one max (m ++ r) (request a s r) (request b t q)
-    (record { message = m; cut = refl; request = x }) (record { message = n; cut = e; request = y }) (no_head a s r)
-    (no_head b t q) in
-    let rests : r ≡ q = cc in
-    let asks : a ≡ b = cc in
-    let styles : s ≡ t = cc in
-    record {
-      message = append_cancel_right m n q (ap (λ x. m ++ x) (sym rests) ∙ e);
-      ask = asks;
-      style = styles;
-      rest = rests;
-    }
 
 -- what is parsed as something else is no request
 not_request : (max : ℕ) (rest : List ℕ) (p : RequestParse) (y : WireExchange) (more : List ℕ)
@@ -77,12 +42,12 @@ not_request max rest p y more x other never read kept =
     never y.ask y.style more
     (requests_are_unambiguous.one max rest p (request y.ask y.style more) x
     (record { message = y.message; cut = read; request = kept.0 })
-    other (no_head y.ask y.style more))
+    other (λ e. absurd (cc e)))
 
 asked_same : (max : ℕ) (x y : WireExchange) (r q : List ℕ) → IsRead max x → IsRead max y
     → x.message ++ r ≡ y.message ++ q → (asked x ≡ asked y) × (r ≡ q)
 asked_same max x y r q is other e =
-    let s = same_request max x.ask y.ask x.style y.style x.message y.message r q is other e in
+    let s = same_request is other e in
     (λ i. record { message = s.message i; ask = s.ask i; style = s.style i }, s.rest)
 
 -- the requests go on behind the first of them with one that keeps the connection
@@ -166,41 +131,15 @@ record Ends {D : Type 0} (step : Moves D) (max : ℕ) (s : Standing D) (new : Co
   took : TookAll s.sink new.sink text
 
 module _ {D : Type 0} (step : Moves D) (max : ℕ) (s : Standing D) (new : ConnectionState D) where
-  -- a sink that stands as it stood took nothing
-  unwritten : new.sink ≡ s.sink → TookAll s.sink new.sink []
-  unwritten same = subst (λ k. TookAll s.sink k []) (sym same) (took_none s.sink)
+  -- an end at which nothing was written
+  silent : {end : ConnEnd} (parse : RequestParse) → ParsesAsRequest max s.held parse → parse ≢ bad Head
+      → LastOf step s.answered s.held s.desk new.desk end parse [] [] → new.sink ≡ s.sink → Ends step max s new end []
+  silent parse parses no_bad_head last unwritten = search (rules, arith, took_none)
 
   ends_wire : (fault : WireFault) → EndsWith step max s new (Fault (Conn.Wire fault))
       → ¬ (IsUndecided max s.held (Fault (Conn.Wire fault))) → Ends step max s new (Fault (Conn.Wire fault)) []
-  ends_wire Wire.Truncated e decided =
-      record {
-        parse = cut;
-        parses = e.0.0;
-        no_bad_head = λ s. absurd (cc);
-        text = [];
-        last = (refl, e.1.unasked, refl);
-        took = unwritten e.1.unwritten;
-      }
-  ends_wire Wire.Read e decided = elim e.0 [
-    | inl none ↦
-        record {
-          parse = nothing;
-          parses = none;
-          no_bad_head = λ s. absurd (cc);
-          text = [];
-          last = (refl, e.1.unasked, refl);
-          took = unwritten e.1.unwritten;
-        }
-    | inr short ↦
-        record {
-          parse = cut;
-          parses = short;
-          no_bad_head = λ s. absurd (cc);
-          text = [];
-          last = (refl, e.1.unasked, refl);
-          took = unwritten e.1.unwritten;
-        }
-  ]
+  ends_wire Wire.Truncated e decided = search (rules, arith, silent)
+  ends_wire Wire.Read e decided = search (rules, arith, silent)
   ends_wire Wire.NoMemory e decided = absurd (decided tt)
   ends_wire Wire.Ended e decided = absurd e.0
 
@@ -209,7 +148,7 @@ module _ {D : Type 0} (step : Moves D) (max : ℕ) (s : Standing D) (new : Conne
   ends_answered end x a took = record {
     parse = request x.ask x.style a.more;
     parses = record { message = x.message; cut = a.read; request = a.request };
-    no_bad_head = no_head x.ask x.style a.more;
+    no_bad_head = λ same. absurd (cc same);
     text = last_reply s.answered x;
     last = inl (x, refl, refl, refl, a.read, a.answered, refl);
     took = took;
@@ -217,33 +156,21 @@ module _ {D : Type 0} (step : Moves D) (max : ℕ) (s : Standing D) (new : Conne
 
   ends : (end : ConnEnd) (e : EndsWith step max s new end) → ¬ (IsUndecided max s.held end)
       → Ends step max s new end (answered_last step max s new end e)
-  ends Clean e decided =
-      record {
-        parse = nothing;
-        parses = e.0;
-        no_bad_head = λ s. absurd (cc);
-        text = [];
-        last = (refl, e.2.unasked, refl);
-        took = unwritten e.2.unwritten;
-      }
+  ends Clean e decided = silent nothing e.0 (λ same. absurd (cc same)) (refl, e.2.unasked, refl) e.2.unwritten
   ends AfterClose e decided = ends_answered AfterClose e.0 e.1 e.3.took
   ends AfterBad e decided = record {
     parse = bad e.0;
     parses = e.1.bad;
-    no_bad_head = λ same. decided (subst (IsBad max s.held) (why_same e.0 Head same) e.1.bad);
+    no_bad_head = λ same. let is : e.0 ≡ Head = cc in decided (subst (IsBad max s.held) is e.1.bad);
     text = bad_reply e.0;
     last = (refl, e.1.unasked, refl);
     took = e.2.took;
   }
   ends TooMany e decided = ends_answered TooMany e.0 e.1 e.4.took
-  ends DeskGone e decided = record {
-    parse = request e.0.ask e.0.style e.0.more;
-    parses = record { message = e.0.message; cut = e.0.read; request = e.0.request };
-    no_bad_head = no_head e.0.ask e.0.style e.0.more;
-    text = [];
-    last = inr (refl, e.0.gone, refl, refl);
-    took = unwritten e.1;
-  }
+  ends DeskGone e decided =
+      silent (request e.0.ask e.0.style e.0.more)
+      (record { message = e.0.message; cut = e.0.read; request = e.0.request }) (λ same. absurd (cc same))
+      (inr (refl, e.0.gone, refl, refl)) e.1
   ends (Fault (Conn.Wire fault)) e decided = ends_wire fault e decided
   ends (Fault Conn.Write) e decided = absurd (decided tt)
 
@@ -253,15 +180,13 @@ module _ {D : Type 0} (step : Moves D) (max : ℕ) (s : Standing D) (new : Conne
       → s.answered + 1 < max_requests → (end ≡ DeskGone → FindsNoDesk step max s new.desk → ⊥)
       → (y : WireExchange) (more : List ℕ) → s.held ≡ y.message ++ more → IsKept max y → ⊥
   goes_on Clean e decided few there y more read kept =
-      not_request max s.held nothing y more e.0 (λ s. absurd (cc)) (λ a s r same. absurd (cc)) read kept
+      not_request max s.held nothing y more e.0 (λ same. absurd (cc same)) (λ a s r same. absurd (cc same)) read kept
   goes_on AfterClose e decided few there y more read kept =
-      let one =
-      same_request max e.0.ask y.ask e.0.style y.style e.0.message y.message e.1.more more e.1.request kept.0
-      (sym e.1.read ∙ read) in
+      let one = same_request e.1.request kept.0 (sym e.1.read ∙ read) in
       true≢false (sym kept.1 ∙ ap (λ t. t.keep) (sym one.style) ∙ e.2)
   goes_on AfterBad e decided few there y more read kept =
       not_request max s.held (bad e.0) y more e.1.bad
-      (λ same. decided (subst (IsBad max s.held) (why_same e.0 Head same) e.1.bad)) (λ a s r same. absurd (cc)) read
+      (λ same. let is : e.0 ≡ Head = cc in decided (subst (IsBad max s.held) is e.1.bad)) (λ a s r same. absurd (cc)) read
       kept
   goes_on TooMany e decided few there y more read kept = let full = e.3 in omega (arith, full, few)
   goes_on DeskGone e decided few there y more read kept = there refl e.0
@@ -277,31 +202,24 @@ module _ {D : Type 0} (step : Moves D) (max : ℕ) (s : Standing D) (new : Conne
 
 -- ---- what is asked
 
+-- two exchanges of one request in front of one rest
+one_asked : (rest more : List ℕ) (ask : Ask) (style : Style) (x y : WireExchange) → x.ask ≡ ask → x.style ≡ style
+    → rest ≡ x.message ++ more → y.ask ≡ ask → y.style ≡ style → rest ≡ y.message ++ more → asked x ≡ asked y
+one_asked rest more ask style x y a s r b u q = cc (append_cancel_right x.message y.message more (cc))
+
+same_exchange : (x y : WireExchange) → asked x ≡ asked y → x.answer ≡ y.answer → x ≡ y
+same_exchange x y first answers = search (rules, arith)
+
 -- the same stands there, and what was asked of it is the same
-last_asked : {D : Type 0} (step : Moves D) (count count2 : ℕ) (rest : List ℕ) (at new at2 new2 : D) (end end2 : ConnEnd)
-    (p : RequestParse) (xs ys : List WireExchange)
-    (text text2 : List ℕ) → end ≢ DeskGone → end2 ≢ DeskGone → LastOf step count rest at new end p xs text
-    → LastOf step count2 rest at2 new2 end2 p ys text2
-    → map asked xs ≡ map asked ys
-last_asked step count count2 rest at new at2 new2 end end2 (request ask style more) xs ys text text2 there there2
-    (inl x) (inl y) =
-    let message : x.0.message ≡ y.0.message = append_cancel_right x.0.message y.0.message more (sym x.4 ∙ y.4) in
-    let asks : x.0.ask ≡ y.0.ask = x.2 ∙ sym y.2 in
-    let styles : x.0.style ≡ y.0.style = x.3 ∙ sym y.3 in
-    ap (map asked) x.1 ∙ (λ i. record { message = message i; ask = asks i; style = styles i } ∷ [])
-    ∙ sym (ap (map asked) y.1)
-last_asked step count count2 rest at new at2 new2 end end2 (request ask style more) xs ys text text2 there there2
-    (inl x) (inr y) =
-    absurd (there2 y.2)
-last_asked step count count2 rest at new at2 new2 end end2 (request ask style more) xs ys text text2 there there2
-    (inr x) y =
-    absurd (there x.2)
-last_asked step count count2 rest at new at2 new2 end end2 (bad why) xs ys text text2 there there2 x y =
-    ap (map asked) (x.0 ∙ sym y.0)
-last_asked step count count2 rest at new at2 new2 end end2 cut xs ys text text2 there there2 x y =
-    ap (map asked) (x.0 ∙ sym y.0)
-last_asked step count count2 rest at new at2 new2 end end2 nothing xs ys text text2 there there2 x y =
-    ap (map asked) (x.0 ∙ sym y.0)
+module _ {D : Type 0} (step : Moves D) (count count2 : ℕ) (rest : List ℕ) (at new at2 new2 : D) (end end2 : ConnEnd)
+    (there : end ≢ DeskGone) (there2 : end2 ≢ DeskGone) (text text2 : List ℕ) where
+  last_asked : (p : RequestParse) (xs ys : List WireExchange) → LastOf step count rest at new end p xs text
+      → LastOf step count2 rest at2 new2 end2 p ys text2 → map asked xs ≡ map asked ys
+  last_asked (request ask style more) xs ys (inl x) (inl y) =
+      cc (one_asked rest more ask style x.0 y.0 x.2 x.3 x.4 y.2 y.3 y.4)
+  last_asked (request ask style more) xs ys (inl x) (inr y) = absurd (there2 y.2)
+  last_asked (request ask style more) xs ys (inr x) y = absurd (there x.2)
+  last_asked other xs ys x y = ap (map asked) (x.0 ∙ sym y.0)
 
 -- ends at one rest have one parse
 same_parse : {D : Type 0} (step : Moves D) (max : ℕ) (s s2 : Standing D) (new new2 : ConnectionState D)
@@ -318,11 +236,7 @@ same_parse step max s s2 new new2 end end2 xs ys e a b =
 -- how many come before one that goes on
 few_before : (max : ℕ) (rest : List ℕ) (xs ys : List WireExchange) → GoesOn max rest xs ys → length ys < max_requests
     → length xs + 1 < max_requests
-few_before max rest xs ys g few =
-    let total = ap length g.split in
-    let front = ap length g.same in
-    omega
-    (arith, few, total, front, length-append g.front (g.next ∷ g.behind), length-map xs asked, length-map g.front asked)
+few_before max rest xs ys g few = search (rules, arith, length-append, length-map)
 
 module _ {D : Type 0} (step : Moves D) (max : ℕ) where
   -- where a dialogue stood when it ended
@@ -338,8 +252,7 @@ module _ {D : Type 0} (step : Moves D) (max : ℕ) where
   the_other : (d e : Dialogue step max) → d.is.rest ≡ e.is.rest → {xs ys : List WireExchange}
       → (a : Ends step max (stood d) d.new d.end xs) (b : Ends step max (stood e) e.new e.end ys)
       → LastOf step (length e.is.exchanges) d.is.rest e.is.at e.new.desk e.end a.parse ys b.text
-  the_other d e same {xs} {ys} a b =
-      same_parse step max (stood d) (stood e) d.new e.new d.end e.end xs ys same a b
+  the_other d e same {xs} {ys} a b = search (rules, arith, same_parse)
 
   compared : (d e : Dialogue step max) → d.is.bytes ≡ e.is.bytes
       → Compare max d.is.rest e.is.rest d.is.exchanges e.is.exchanges
@@ -365,8 +278,7 @@ module _ {D : Type 0} (step : Moves D) (max : ℕ) where
           let b = ends_of e decided2 in
           let lasts =
           last_asked step (length d.is.exchanges) (length e.is.exchanges) d.is.rest d.is.at d.new.desk e.is.at
-          e.new.desk d.end e.end a.parse _ _ a.text b.text
-          there there2 a.last (the_other d e s.1 a b) in
+          e.new.desk d.end e.end there there2 a.text b.text a.parse _ _ a.last (the_other d e s.1 a b) in
           record {
             requests =
                 map-append asked d.is.exchanges _ ∙ (λ i. s.0 i ++ lasts i) ∙ sym (map-append asked e.is.exchanges _);
@@ -377,19 +289,15 @@ module _ {D : Type 0} (step : Moves D) (max : ℕ) where
 
 -- ---- what is answered
 
-memory_left : (xs ys : List WireExchange) → HasMemory (xs ++ ys) → HasMemory xs
-memory_left [] ys h = tt
-memory_left (x ∷ xs) ys h = (h.0, memory_left xs ys h.1)
-
-memory_right : (xs ys : List WireExchange) → HasMemory (xs ++ ys) → HasMemory ys
-memory_right [] ys h = h
-memory_right (x ∷ xs) ys h = memory_right xs ys h.1
+-- memory was there for the answer
+abbrev HasAnswer : WireExchange → Type 0
+HasAnswer x = x.answer ≢ NoMemory
 
 enough : (a : Answer) → a ≢ NoMemory → ◌≢◌ {A = Option Answer} (Some a) (Some NoMemory)
-enough a other e = other (same_some a NoMemory e)
+enough a other e = other (cc e)
 
 none_is_enough : ◌≢◌ {A = Option Answer} None (Some NoMemory)
-none_is_enough e = some_not_none NoMemory (sym e)
+none_is_enough e = absurd (cc e)
 
 module _ {D : Type 0} (step : Moves D) (det : IsDeterministic step) where
   -- the same was asked of one state, so the same was answered
@@ -404,12 +312,8 @@ module _ {D : Type 0} (step : Moves D) (det : IsDeterministic step) where
       let asks : a.ask ≡ b.ask = ap (λ q. q.ask) first in
       let once = det old2 b.ask (Some a.answer) (Some b.answer) x.0 y.0
       (subst₂ (λ s q. step s q (Some a.answer) x.0) e asks x.1) y.1 (enough a.answer m.0) (enough b.answer n.0) in
-      let answers : a.answer ≡ b.answer = same_some a.answer b.answer once.0 in
-      let next = same_answers x.0 y.0 at at2 xs ys m.1 n.1 once.1 others x.2 y.2 in (
-        λ i. record { message = (first i).message; ask = (first i).ask; style = (first i).style; answer = answers i }
-            ∷ next.0 i,
-        next.1,
-      )
+      let next = same_answers x.0 y.0 at at2 xs ys m.1 n.1 once.1 others x.2 y.2 in
+      (λ i. same_exchange a b first (cc (once.0)) i ∷ next.0 i, next.1)
 
   answers_split : (old at : D) (front behind : List WireExchange) (y : WireExchange)
       → Answers step old (front ++ y ∷ behind) at
@@ -423,45 +327,26 @@ module _ {D : Type 0} (step : Moves D) (det : IsDeterministic step) where
   abbrev LastSame : D → D → List WireExchange → List WireExchange → List ℕ → List ℕ → Type 0
   LastSame new new2 xs ys text text2 = (xs ≡ ys) × (new ≡ new2) × (text ≡ text2)
 
-  last_same : (count count2 : ℕ) (rest : List ℕ) (at new at2 new2 : D) (end end2 : ConnEnd) (p : RequestParse)
-      (xs ys : List WireExchange) (text text2 : List ℕ) → HasMemory xs → HasMemory ys → count ≡ count2
-      → at ≡ at2 → LastOf step count rest at new end p xs text → LastOf step count2 rest at2 new2 end2 p ys text2
-      → LastSame new new2 xs ys text text2
-  last_same count count2 rest at new at2 new2 end end2 (request ask style more) xs ys text text2 m n c e
-      (inl x) (inl y) =
-      let message : x.0.message ≡ y.0.message = append_cancel_right x.0.message y.0.message more (sym x.4 ∙ y.4) in
-      let asks : x.0.ask ≡ y.0.ask = x.2 ∙ sym y.2 in
-      let styles : x.0.style ≡ y.0.style = x.3 ∙ sym y.3 in
-      let once =
-      det at2 y.0.ask (Some x.0.answer) (Some y.0.answer) new new2
-      (subst₂ (λ s q. step s q (Some x.0.answer) new) e asks x.5) y.5
-      (enough x.0.answer (subst HasMemory x.1 m).0) (enough y.0.answer (subst HasMemory y.1 n).0) in
-      let answers : x.0.answer ≡ y.0.answer = same_some x.0.answer y.0.answer once.0 in
-      let exchange : x.0 ≡ y.0 =
-      λ i. record { message = message i; ask = asks i; style = styles i; answer = answers i } in
-      (x.1 ∙ ap (λ z. z ∷ []) exchange ∙ sym y.1, once.1, x.6 ∙ (λ i. last_reply (c i) (exchange i)) ∙ sym y.6)
-  last_same count count2 rest at new at2 new2 end end2 (request ask style more) xs ys text text2 m n c e
-      (inl x) (inr y) =
-      absurd (some_not_none x.0.answer
-      (det at2 ask (Some x.0.answer) None new new2 (subst₂ (λ s q. step s q (Some x.0.answer) new) e x.2 x.5) y.1
-      (enough x.0.answer (subst HasMemory x.1 m).0) none_is_enough).0)
-  last_same count count2 rest at new at2 new2 end end2 (request ask style more) xs ys text text2 m n c e
-      (inr x) (inl y) =
-      absurd (some_not_none y.0.answer
-      (det at ask (Some y.0.answer) None new2 new (subst₂ (λ s q. step s q (Some y.0.answer) new2) (sym e) y.2 y.5) x.1
-      (enough y.0.answer (subst HasMemory y.1 n).0) none_is_enough).0)
-  last_same count count2 rest at new at2 new2 end end2 (request ask style more) xs ys text text2 m n c e
-      (inr x) (inr y) = (
-        x.0 ∙ sym y.0,
-        (det at2 ask None None new new2 (subst (λ s. step s ask None new) e x.1) y.1 none_is_enough none_is_enough).1,
-        x.3 ∙ sym y.3,
-      )
-  last_same count count2 rest at new at2 new2 end end2 (bad why) xs ys text text2 m n c e x y =
-      (x.0 ∙ sym y.0, x.1 ∙ e ∙ sym y.1, x.2 ∙ sym y.2)
-  last_same count count2 rest at new at2 new2 end end2 cut xs ys text text2 m n c e x y =
-      (x.0 ∙ sym y.0, x.1 ∙ e ∙ sym y.1, x.2 ∙ sym y.2)
-  last_same count count2 rest at new at2 new2 end end2 nothing xs ys text text2 m n c e x y =
-      (x.0 ∙ sym y.0, x.1 ∙ e ∙ sym y.1, x.2 ∙ sym y.2)
+  module _ (count count2 : ℕ) (c : count ≡ count2) (rest : List ℕ) (at at2 new new2 : D) (e : at ≡ at2)
+      (end end2 : ConnEnd) (text text2 : List ℕ) where
+    last_same : (p : RequestParse) (xs ys : List WireExchange) → HasMemory xs → HasMemory ys
+        → LastOf step count rest at new end p xs text → LastOf step count2 rest at2 new2 end2 p ys text2
+        → LastSame new new2 xs ys text text2
+    last_same (request ask style more) xs ys m n (inl x) (inl y) =
+        let first = one_asked rest more ask style x.0 y.0 x.2 x.3 x.4 y.2 y.3 y.4 in
+        let once =
+        det at2 y.0.ask (Some x.0.answer) (Some y.0.answer) new new2
+        (subst₂ (λ s q. step s q (Some x.0.answer) new) e (x.2 ∙ sym y.2) x.5) y.5
+        (enough x.0.answer (subst HasMemory x.1 m).0) (enough y.0.answer (subst HasMemory y.1 n).0) in
+        let exchange : x.0 ≡ y.0 = same_exchange x.0 y.0 first (cc (once.0)) in (
+          x.1 ∙ ap (λ z. z ∷ []) exchange ∙ sym y.1,
+          once.1,
+          x.6 ∙ (λ i. last_reply (c i) (exchange i)) ∙ sym y.6,
+        )
+    last_same (request ask style more) xs ys m n (inl x) (inr y) = search (rules, arith, enough, none_is_enough)
+    last_same (request ask style more) xs ys m n (inr x) (inl y) = search (rules, arith, enough, none_is_enough)
+    last_same (request ask style more) xs ys m n (inr x) (inr y) = search (rules, arith, none_is_enough)
+    last_same other xs ys m n x y = (x.0 ∙ sym y.0, x.1 ∙ e ∙ sym y.1, x.2 ∙ sym y.2)
 
   -- a desk that answers in one dialogue isn't gone in the other
   not_gone : (max : ℕ) (d e : Dialogue step max) → HasMemory d.is.exchanges → HasMemory e.is.exchanges
@@ -474,15 +359,13 @@ module _ {D : Type 0} (step : Moves D) (det : IsDeterministic step) where
       (subst (λ ys. Answers step e.old.desk ys e.is.at) g.split e.is.served.answered) in
       let at_same =
       (same_answers d.old.desk e.old.desk d.is.at parts.0 d.is.exchanges g.front m
-      (memory_left g.front (g.next ∷ g.behind) split) same g.same d.is.served.answered parts.2).1 in
-      let s =
-      same_request max f.ask g.next.ask f.style g.next.style f.message g.next.message f.more g.more f.request g.kept.0
-      (sym f.read ∙ g.read) in
+      (all_first HasAnswer g.front (g.next ∷ g.behind) split) same g.same d.is.served.answered parts.2).1 in
+      let s = same_request f.request g.kept.0 (sym f.read ∙ g.read) in
       let once =
       det parts.0 g.next.ask None (Some g.next.answer) d.new.desk parts.1
       (subst₂ (λ s q. step s q None d.new.desk) at_same s.ask f.gone) parts.3
-      none_is_enough (enough g.next.answer (memory_right g.front (g.next ∷ g.behind) split).0) in
-      some_not_none g.next.answer (sym once.0)
+      none_is_enough (enough g.next.answer (all_second HasAnswer g.front (g.next ∷ g.behind) split).0) in
+      absurd (cc (once.0))
 
   are_the_same : (max : ℕ) (d e : Dialogue step max) → d.is.bytes ≡ e.is.bytes → IsDecided step max d
       → IsDecided step max e → d.old.desk ≡ e.old.desk → HasMemory (answered_in_dialogue step max d)
@@ -490,10 +373,10 @@ module _ {D : Type 0} (step : Moves D) (det : IsDeterministic step) where
   are_the_same max d e same decided decided2 from m n = by (compared step max d e same)
     where
       m_served : HasMemory d.is.exchanges
-      m_served = memory_left d.is.exchanges _ m
+      m_served = all_first HasAnswer d.is.exchanges _ m
 
       n_served : HasMemory e.is.exchanges
-      n_served = memory_left e.is.exchanges _ n
+      n_served = all_first HasAnswer e.is.exchanges _ n
 
       by : Compare max d.is.rest e.is.rest d.is.exchanges e.is.exchanges → AreTheSame step max d e
       by (inl s) =
@@ -503,9 +386,9 @@ module _ {D : Type 0} (step : Moves D) (det : IsDeterministic step) where
           same_answers d.old.desk e.old.desk d.is.at e.is.at d.is.exchanges e.is.exchanges m_served n_served from s.0
           d.is.served.answered e.is.served.answered in
           let lasts =
-          last_same (length d.is.exchanges) (length e.is.exchanges) d.is.rest d.is.at d.new.desk e.is.at e.new.desk
-          d.end e.end a.parse _ _ a.text b.text
-          (memory_right d.is.exchanges _ m) (memory_right e.is.exchanges _ n) (ap length whole.0) whole.1 a.last
+          last_same (length d.is.exchanges) (length e.is.exchanges) (ap length whole.0) d.is.rest d.is.at e.is.at
+          d.new.desk e.new.desk whole.1 d.end e.end a.text b.text a.parse _ _
+          (all_second HasAnswer d.is.exchanges _ m) (all_second HasAnswer e.is.exchanges _ n) a.last
           (the_other step max d e s.1 a b) in
           let texts : replies e.is.exchanges ++ b.text ≡ replies d.is.exchanges ++ a.text =
           λ i. replies (sym whole.0 i) ++ sym lasts.2 i in
@@ -526,10 +409,7 @@ module _ {D : Type 0} (step : Moves D) (det : IsDeterministic step) where
           absurd (none_goes_on step max e d decided2 g (λ gone f. not_gone max e d n_served m_served (sym from) g f))
 
 pub conversations_determined : {D : Type 0} (step : Moves D) → ConversationsAreDetermined step
-conversations_determined step = record {
-  by_bytes = λ max d e same decided decided2 there there2. ask_the_same step max d e same decided decided2 there there2;
-  by_desk = λ max d e same decided decided2 det from m n. are_the_same step det max d e same decided decided2 from m n;
-}
+conversations_determined step = search (rules, arith, ask_the_same, are_the_same)
 
 -- ---- a service
 
@@ -543,15 +423,7 @@ turns_same : (old : State) (ask : Ask) (secret : List ℕ) (now : ℕ) (a b : An
     → Turn old ask secret now a new → Turn old ask secret now b other → a ≢ NoMemory → b ≢ NoMemory
     → (a ≡ b) × (new ≡ other)
 unfolding Turn
-turns_same old ask secret now a b new other x y m n =
-    same_turn old (outcome old ask secret now) now a b new other x y m n
+turns_same old ask secret now a b new other x y m n = search (rules, arith, same_turn)
 
 pub service_deterministic : IsDeterministic StepsService
-service_deterministic old ask answer other new another x y m n =
-    let once = turns_same old.service ask old.secret old.now x.said y.said new.service another.service x.turn y.turn
-    (λ e. m (x.answered ∙ ap Some e)) (λ e. n (y.answered ∙ ap Some e)) in
-    let secrets : new.secret ≡ another.secret = x.same_secret ∙ sym y.same_secret in
-    let moments : new.now ≡ another.now = x.same_moment ∙ sym y.same_moment in (
-      x.answered ∙ ap Some once.0 ∙ sym y.answered,
-      λ i. record { service = once.1 i; secret = secrets i; now = moments i },
-    )
+service_deterministic old ask answer other new another x y m n = search (rules, arith, turns_same)

@@ -1,3 +1,4 @@
+pub mod Lists
 pub mod ReplyLemmas
 pub mod ConversationLemmas
 pub mod ToldLemmas

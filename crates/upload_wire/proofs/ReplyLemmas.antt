@@ -1,5 +1,5 @@
 -- The lines of a head, from the pieces that are put behind what was gathered before.
-use Rattle.std.proofs.Common.{◌≡◌, ℕ, List, [], ◌++◌, ◌∷◌, ◌∙◌, append_assoc, ◌-◌}
+use Rattle.std.proofs.Common.{◌≡◌, ℕ, List, [], ◌++◌, ◌∷◌, append_assoc, ◌-◌, arith, rules}
 use Rattle.std.proofs.lemmas.Bool.{ne_eqb}
 use Rattle.std.proofs.lemmas.Grind.{flat_map-append}
 use Rattle.std.specs.Prelude.{Bool, true, false, ◌==◌, if◌then◌else◌, codes, decimal, flat_map}
@@ -13,16 +13,12 @@ use Rattle.upload_wire.specs.ReplyText.{body_fields, range_fields}
 pub upload_text : (before : List ℕ) {name text at reference : List ℕ} → name ≡ text → at ≡ reference
     → ((((before ++ codes "Location: /v2/") ++ name) ++ codes "/blobs/uploads/") ++ at) ++ crlf_bytes
     ≡ before ++ print_field (codes "Location", upload_path text reference)
-upload_text before name at =
-    (λ i. ((((before ++ codes "Location: /v2/") ++ name i) ++ codes "/blobs/uploads/") ++ at i) ++ crlf_bytes)
-    ∙ simp append_assoc
+upload_text before name at = search (rules, arith, append_assoc)
 
 pub blob_text : (before : List ℕ) {name text sum digest : List ℕ} → name ≡ text → sum ≡ digest
     → ((((before ++ codes "Location: /v2/") ++ name) ++ codes "/blobs/") ++ sum) ++ crlf_bytes
     ≡ before ++ print_field (codes "Location", blob_path text digest)
-blob_text before name sum =
-    (λ i. ((((before ++ codes "Location: /v2/") ++ name i) ++ codes "/blobs/") ++ sum i) ++ crlf_bytes)
-    ∙ simp append_assoc
+blob_text before name sum = search (rules, arith, append_assoc)
 
 range_when : (before : List ℕ) (none : Bool) (last : ℕ) → none ≡ false
     → ((before ++ codes "Range: 0-") ++ decimal last) ++ crlf_bytes
@@ -38,9 +34,7 @@ range_text before next some = range_when before (next == 0) (next - 1) (ne_eqb n
 pub error_text : (before : List ℕ) {size length_of_body : ℕ} → size ≡ length_of_body
     → (before ++ print_field (codes "Content-Type", codes "application/json")) ++ print_field (length_field size)
     ≡ before ++ flat_map print_field (body_fields (codes "application/json") length_of_body)
-error_text before size =
-    (λ i. (before ++ print_field (codes "Content-Type", codes "application/json"))
-    ++ print_field (length_field (size i))) ∙ simp (append_assoc, append-nil)
+error_text before size = search (rules, arith, append_assoc, append-nil)
 
 pub found_text : (before : List ℕ) {sum digest : List ℕ} (size : ℕ) → sum ≡ digest
     → ((before ++ print_field (codes "Docker-Content-Digest", sum))
@@ -48,10 +42,7 @@ pub found_text : (before : List ℕ) {sum digest : List ℕ} (size : ℕ) → su
     ++ print_field (length_field size)
     ≡ before ++ flat_map print_field
     ((codes "Docker-Content-Digest", digest) ∷ body_fields (codes "application/octet-stream") size)
-found_text before size sum =
-    (λ i. ((before ++ print_field (codes "Docker-Content-Digest", sum i))
-    ++ print_field (codes "Content-Type", codes "application/octet-stream"))
-    ++ print_field (length_field size)) ∙ simp (append_assoc, append-nil)
+found_text before size sum = search (rules, arith, append_assoc, append-nil)
 
 pub two_fields : (before : List ℕ) (first second : HeadField)
     → (before ++ print_field first) ++ print_field second ≡ before ++ flat_map print_field (first ∷ second ∷ [])
@@ -74,7 +65,4 @@ pub head_text : (before : List ℕ) {line : List ℕ} (status : Status) (fields 
     → line ≡ status_line status
     → ((before ++ line) ++ flat_map print_field fields) ++ (flat_map print_field (closing_fields keep) ++ crlf_bytes)
     ≡ before ++ print_head status fields keep
-head_text before status fields keep line =
-    (λ i. ((before ++ line i) ++ flat_map print_field fields)
-    ++ (flat_map print_field (closing_fields keep) ++ crlf_bytes))
-    ∙ simp (append_assoc, flat_map-append)
+head_text before status fields keep line = search (rules, arith, append_assoc, flat_map-append)

@@ -1,11 +1,10 @@
 -- From the spans of a head, and the body behind it, to the request.
-use Rattle.std.proofs.Common.{◌≡◌, ℕ, ◌≤◌, List, [], ◌++◌, length, take, drop, refl, sym, ap, ◌∙◌, subst, arith}
-use Rattle.std.proofs.Common.{append_assoc, length-take, inl, inr}
+use Rattle.std.proofs.Common.{◌≡◌, ℕ, List, [], ◌++◌, take, drop, refl, sym, ap, ◌∙◌, subst, arith}
+use Rattle.std.proofs.Common.{append_assoc, length-take, inl, inr, rules}
 use Rattle.std.specs.Prelude.{Result, Ok, Err, bytes_eq, codes}
-use Rattle.std.proofs.lemmas.List.{take-append-drop, append-nil, length-map}
-use Rattle.std.proofs.Math.ListN.{drop_of_length-le}
+use Rattle.std.proofs.lemmas.List.{take-append-drop, append-nil, drop_all}
 use Rattle.httparse.specs.Grammar.{RequestHead, print_request}
-use Rattle.httparse.specs.Spans.{span_bytes, header_bytes, name_and_value}
+use Rattle.httparse.specs.Spans.{span_bytes}
 use Rattle.upload_service.specs.declared.ask.Extent.{Extent}
 use Rattle.http_wire.specs.Fronts.{ReadsHead, requests}
 use Rattle.http_wire.specs.Fields.{head_fields, values_of, keeps_connection}
@@ -34,19 +33,15 @@ use Rattle.upload_wire.specs.declared.request.Next.{Next}
 use Rattle.upload_wire.specs.declared.request.Next.TheVariants.{Request, Over}
 use Rattle.upload_wire.specs.declared.request.Next.TheVariants as nexts
 use Rattle.http_wire.proofs.GaveLemmas.{gives_none, gives_both}
+use Rattle.http_wire.proofs.Heads.ReadLemmas.{few_fields}
 
 -- the head that the spans cover
 abbrev pub the_head : {text : List ℕ} {p : ParsedRequest} → IsHeadAtFront request_spans text p → RequestHead
 the_head f = f.head.1.0
 
-drop_all : (n : ℕ) (text : List ℕ) → n ≤ length text → drop n (take n text) ≡ []
-drop_all n text le = drop_of_length-le (take n text) (omega (arith, length-take n text))
-
 front_printed : (text : List ℕ) (p : ParsedRequest) (f : IsHeadAtFront request_spans text p)
     → take p.spans.len text ≡ print_request (the_head f)
-front_printed text p f =
-    f.head.1.1.reads.1 ∙ ap (λ t. print_request (the_head f) ++ t) (drop_all p.spans.len text f.in_range)
-    ∙ append-nil (print_request (the_head f))
+front_printed text p f = search (rules, arith, drop_all, length-take, append-nil)
 
 fields_same : (text : List ℕ) (p : ParsedRequest) (f : IsHeadAtFront request_spans text p)
     → fields_of request_spans (take p.spans.len text) p ≡ head_fields (the_head f).fields
@@ -55,38 +50,18 @@ fields_same text p f = f.head.1.1.fields
 -- the head, and then any text
 pub head_then : (text more : List ℕ) (p : ParsedRequest) (f : IsHeadAtFront request_spans text p)
     → ReadsHead requests (take p.spans.len text ++ more) (the_head f) more
-head_then text more p f =
-    let len = f.head.1.1.len in
-    let short = f.short in
-    let lengths = ap length (fields_same text p f) in
-    let few = p.count_fits in
-    record {
-      reads = (f.head.1.1.reads.0, ap (λ t. t ++ more) (front_printed text p f));
-      short = omega (arith, len, short);
-      few = omega (
-        arith,
-        few,
-        lengths,
-        length-map (the_head f).fields name_and_value,
-        length-map (take p.spans.headers p.headers) (header_bytes (take p.spans.len text)),
-        length-take p.spans.headers p.headers,
-      );
-    }
+head_then text more p f = search (rules, arith, front_printed, few_fields, fields_same)
 
 -- what the fields of the spans frame, the head frames
 framing_same : (max : ℕ) (text : List ℕ) (p : ParsedRequest)
     (r : Result Framing Bad) (f : IsHeadAtFront request_spans text p)
     → framing_of max p.spans.version (fields_of request_spans (take p.spans.len text) p) ≡ r
     → head_framing max (the_head f) ≡ r
-framing_same max text p r f framed =
-    ap (λ n. framing_of max n (head_fields (the_head f).fields)) (sym f.head.1.1.version)
-    ∙ ap (framing_of max p.spans.version) (sym (fields_same text p f)) ∙ framed
+framing_same max text p r f framed = cc (fields_same text p f)
 
 -- the text in front of the body, what was read of the body, and what was read in all
 whole_text : (text given more : List ℕ) (n : ℕ) → more ≡ drop n text ++ given → text ++ given ≡ take n text ++ more
-whole_text text given more n same =
-    ap (λ t. t ++ given) (sym (take-append-drop n text)) ∙ append_assoc (take n text) (drop n text) given
-    ∙ ap (λ t. take n text ++ t) (sym same)
+whole_text text given more n same = cc (take-append-drop n text, append_assoc (take n text) (drop n text) given)
 
 asks_same : (max : ℕ) (text body : List ℕ) (p : ParsedRequest) (d : Described) (f : IsHeadAtFront request_spans text p)
     → DescribesAll max (take p.spans.len text) p d → AsksWhole (the_head f) body (with_body d.ask body)
@@ -103,14 +78,7 @@ asks_same max text body p d f says =
 
 style_same : (max : ℕ) (text : List ℕ) (p : ParsedRequest) (d : Described) (f : IsHeadAtFront request_spans text p)
     → DescribesAll max (take p.spans.len text) p d → d.style ≡ style_of (the_head f)
-style_same max text p d f says =
-    let h = the_head f in
-    let is_head : d.style.head ≡ bytes_eq h.method (codes "HEAD") =
-    says.is_head ∙ ap (λ m. bytes_eq m (codes "HEAD")) f.head.1.1.method in
-    let keeps : d.style.keep ≡ keeps_connection h.minor (head_fields h.fields) =
-    says.keeps ∙ ap (λ n. keeps_connection n (fields_of request_spans (take p.spans.len text) p)) f.head.1.1.version
-    ∙ ap (keeps_connection h.minor) (fields_same text p f) in
-    (λ i. record { head = is_head i; keep = keeps i })
+style_same max text p d f says = search (rules, arith, fields_same)
 
 -- its line
 pub line_read : (text : List ℕ) (p : ParsedRequest) (f : IsHeadAtFront request_spans text p) (method target : List ℕ)
@@ -210,8 +178,7 @@ request_next max old held new p d (Err Fault.Read) f says b = record {
   gives = b.gave.gives;
   found = inr (inr (cut_next max old new.source held p d f says b));
 }
-request_next max old held new p d (Err Fault.NoMemory) f says b =
-    record { given = b.gave.given; gives = b.gave.gives; found = tt }
+request_next max old held new p d (Err Fault.NoMemory) f says b = search (rules, arith)
 request_next max old held new p d (Err Fault.Ended) f says b = absurd b
 
 -- what is found behind a head if its body stopped
@@ -225,10 +192,7 @@ body_fault d old new body Body.NoMemory b = b
 pub head_fault_next : (max : ℕ) (text : List ℕ) (new : InputState) (e : InputFault)
     → FindsHead request_spans (input_state text new.source) (Err e) → FindsNext max text new (Err (wire_of_input e))
 head_fault_next max text new Input.Truncated h = (inl h.0, h.1)
-head_fault_next max text new Input.Read h = elim h [
-  | inl empty ↦ inl empty
-  | inr unfinished ↦ inr (inl unfinished)
-]
+head_fault_next max text new Input.Read h = search (rules, arith)
 
 -- a read, and then what came next
 unfoldable pub reads_after : (max : ℕ) (old mid new : InputState) (r : Result Next WireFault)

@@ -1,5 +1,6 @@
 -- The steps of a desk over a service, as a run of the service's machine.
-use Rattle.std.proofs.Common.{◌≡◌, ℕ, List, [], ◌∷◌, ◌++◌, length, sym, ap, ◌∙◌, subst, inl, inr, ⊎_elim}
+use Rattle.std.proofs.Common.{rules}
+use Rattle.std.proofs.Common.{◌≡◌, ℕ, List, [], ◌∷◌, ◌++◌, sym, ◌∙◌, subst, inl, inr, ⊎_elim, arith}
 use Rattle.std.specs.Prelude.{Option, Some, None, map}
 use Rattle.std.proofs.lemmas.List.{append-nil}
 use Rattle.upload_service.specs.Machine.{Turn}
@@ -9,7 +10,7 @@ use Rattle.upload_wire.specs.declared.connection.ConnEnd.TheVariants.{Clean, Aft
 use Rattle.upload_wire.specs.declared.connection.ConnEnd.TheVariants.{Fault}
 use Rattle.upload_wire.specs.declared.connection.ConnFault.TheVariants as Conn
 use Rattle.upload_wire.specs.declared.desk.ServiceDesk.{ServiceDesk}
-use Rattle.upload_wire.specs.Conversation.{WireExchange, Answers, ConnectionState, Standing, stand, EndsWith}
+use Rattle.upload_wire.specs.Conversation.{WireExchange, Answers, ConnectionState, Standing, EndsWith}
 use Rattle.upload_wire.specs.Conversation.{IsConversation}
 use Rattle.upload_wire.specs.ServiceTurns.{StepsService}
 use Rattle.upload_wire.specs.ConnectionRuns.{service_exchange, answered_last, answered, IsRunOfService}
@@ -30,16 +31,10 @@ record Ran (old new : ServiceDesk) (xs : List WireExchange) : Type 0 where
 with_secret : (from into : ServiceDesk) (xs : List WireExchange) (new : ServiceDesk) → into.secret ≡ from.secret
     → into.now ≡ from.now → Run into.service (map (service_exchange into.secret into.now) xs) new.service
     → Run into.service (map (service_exchange from.secret from.now) xs) new.service
-with_secret from into xs new secret moment run =
-    subst (λ m. Run into.service (map (service_exchange from.secret m) xs) new.service) moment
-    (subst (λ s. Run into.service (map (service_exchange s into.now) xs) new.service) secret run)
+with_secret from into xs new secret moment run = search (rules, arith)
 
 ran : (old new : ServiceDesk) (xs : List WireExchange) → Answers StepsService old xs new → Ran old new xs
-ran old new [] same = record {
-  run = ap (λ d. d.service) (sym same);
-  same_secret = ap (λ d. d.secret) (sym same);
-  same_moment = ap (λ d. d.now) (sym same);
-}
+ran old new [] same = search (rules, arith)
 ran old new (x ∷ xs) h =
     let step = h.1 in
     let more = ran h.0 new xs h.2 in
@@ -56,9 +51,7 @@ ran old new (x ∷ xs) h =
 
 run_of : (old new : ServiceDesk) (xs : List WireExchange) (end : ConnEnd) → (end ≡ DeskGone → ⊥)
     → Answers StepsService old xs new → IsRunOfService old new xs end
-run_of old new xs end there answers =
-    let all = ran old new xs answers in
-    record { run = all.run; same_secret = all.same_secret; same_moment = all.same_moment; never_gone = there }
+run_of old new xs end there answers = search (rules, arith, ran)
 
 module _ (max_body : ℕ) (old : ServiceDesk) (s : Standing ServiceDesk) (new : ConnectionState ServiceDesk)
     (xs : List WireExchange)
@@ -92,5 +85,4 @@ module _ (max_body : ℕ) (old : ServiceDesk) (s : Standing ServiceDesk) (new : 
 pub run_of_conversation : (max_body : ℕ) (old new : ConnectionState ServiceDesk) (end : ConnEnd)
     → (c : IsConversation StepsService max_body old new end)
     → IsRunOfService old.desk new.desk (answered StepsService max_body old new end c) end
-run_of_conversation max_body old new end c =
-    ended max_body old.desk (stand (length c.exchanges) c.rest c.at c.mid) new c.exchanges c.served.answered end c.ended
+run_of_conversation max_body old new end c = search (rules, arith, ended)

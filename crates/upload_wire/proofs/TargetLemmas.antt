@@ -1,6 +1,6 @@
 -- Texts cut at their last slash.
 use Rattle.std.proofs.Common.{◌≡◌, ◌≢◌, ℕ, ◌+◌, ◌-◌, ◌<◌, ◌≤◌, List, [], ◌∷◌, ◌++◌, length, get_or, take, drop, refl}
-use Rattle.std.proofs.Common.{sym, ap, ◌∙◌, arith, append_assoc, length-append, drop-cons, add-one}
+use Rattle.std.proofs.Common.{sym, ap, ◌∙◌, arith, append_assoc, length-append, drop-cons, add-one, rules}
 use Rattle.std.proofs.lemmas.List.{take-append-drop}
 use Rattle.std.proofs.Math.Seq.{take-append_seam, drop-append_seam}
 use Rattle.std.specs.Borrow.{Bor}
@@ -17,9 +17,7 @@ drop-next t k lt = drop-cons t k 0 lt ∙ ap (λ n. get_or t k 0 ∷ drop n t) (
 
 pub cut_at : (text : List ℕ) (i : ℕ) → i < length text → get_or text i 0 ≡ 47
     → text ≡ take i text ++ 47 ∷ drop (i + 1) text
-cut_at text i lt same =
-    sym (take-append-drop i text)
-    ∙ ap (λ t. take i text ++ t) (drop-next text i lt ∙ ap (λ b. b ∷ drop (i + 1) text) same)
+cut_at text i lt same = cc (take-append-drop i text, drop-next text i lt)
 
 -- a slash stands between two texts
 slash_between : (c d : List ℕ) → get_or (c ++ 47 ∷ d) (length c) 0 ≡ 47
@@ -38,25 +36,18 @@ cut_unique [] b (y ∷ c) d none other e =
     let tail : b ≡ c ++ 47 ∷ d = cc in absurd (not_after b c d none tail)
 cut_unique (x ∷ a) b [] d none other e =
     let tail : d ≡ a ++ 47 ∷ b = cc in absurd (not_after d a b other tail)
-cut_unique (x ∷ a) b (y ∷ c) d none other e =
-    let tail : a ++ 47 ∷ b ≡ c ++ 47 ∷ d = cc in
-    let head : x ≡ y = cc in
-    let rest = cut_unique a b c d none other tail in
-    let same = rest.0 in (cc, rest.1)
+cut_unique (x ∷ a) b (y ∷ c) d none other e = search (rules, arith, cut_unique a b c d none other)
 
 pub after_taken : (text prefix : List ℕ) → take (length prefix) text ≡ prefix
     → text ≡ prefix ++ drop (length prefix) text
-after_taken text prefix same =
-    sym (take-append-drop (length prefix) text) ∙ ap (λ t. t ++ drop (length prefix) text) same
+after_taken text prefix same = cc (take-append-drop (length prefix) text)
 
 pub not_after_prefix : (text prefix rest : List ℕ) → (take (length prefix) text ≡ prefix → ⊥) → text ≢ prefix ++ rest
 not_after_prefix text prefix rest other e = other (ap (take (length prefix)) e ∙ take-append_seam prefix rest)
 
 pub before_taken : (text suffix : List ℕ) → length suffix ≤ length text
     → drop (length text - length suffix) text ≡ suffix → text ≡ take (length text - length suffix) text ++ suffix
-before_taken text suffix le same =
-    sym (take-append-drop (length text - length suffix) text)
-    ∙ ap (λ t. take (length text - length suffix) text ++ t) same
+before_taken text suffix le same = cc (take-append-drop (length text - length suffix) text)
 
 pub not_before_suffix : (text suffix front : List ℕ) → (drop (length text - length suffix) text ≡ suffix → ⊥)
     → text ≢ front ++ suffix
@@ -70,21 +61,16 @@ pub after_found : (text prefix : List ℕ) (r : Option (Bor (List ℕ)))
     (λ x. (bytes_eq (take (length prefix) text) prefix ≡ true) × (x.now ≡ drop (length prefix) text)
     × (length x.now + length prefix ≡ length text))
     → MatchOption r ((rest : List ℕ) → text ≢ prefix ++ rest) (λ x. text ≡ prefix ++ x.now)
-after_found text prefix None h =
-    λ rest. not_after_prefix text prefix rest (λ e. not_both h ((bytes_eq-Decides _ _).1 e))
-after_found text prefix (Some x) h =
-    after_taken text prefix ((bytes_eq-Decides _ _).0 h.0) ∙ ap (λ t. prefix ++ t) (sym h.1)
+after_found text prefix None h = search (rules, arith, not_after_prefix, not_both, bytes_eq-Decides)
+after_found text prefix (Some x) h = search (rules, arith, after_taken, bytes_eq-Decides)
 
 pub before_found : (text suffix : List ℕ) (r : Option (Bor (List ℕ)))
     → MatchOption r (bytes_eq (drop (length text - length suffix) text) suffix ≡ false)
     (λ x. (bytes_eq (drop (length text - length suffix) text) suffix ≡ true)
     × (x.now ≡ take (length text - length suffix) text) × (length x.now + length suffix ≡ length text))
     → MatchOption r ((front : List ℕ) → text ≢ front ++ suffix) (λ x. text ≡ x.now ++ suffix)
-before_found text suffix None h =
-    λ front. not_before_suffix text suffix front (λ e. not_both h ((bytes_eq-Decides _ _).1 e))
-before_found text suffix (Some x) h =
-    let l = h.2 in
-    before_taken text suffix (omega (arith, l)) ((bytes_eq-Decides _ _).0 h.0) ∙ ap (λ t. t ++ suffix) (sym h.1)
+before_found text suffix None h = search (rules, arith, not_before_suffix, not_both, bytes_eq-Decides)
+before_found text suffix (Some x) h = search (rules, arith, before_taken, bytes_eq-Decides)
 
 -- ---- no form
 

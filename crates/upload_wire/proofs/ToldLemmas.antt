@@ -1,16 +1,16 @@
 -- What the observer of a connection is told, step by step.
 use Rattle.std.proofs.Common.{◌≡◌, ℕ, ◌+◌, List, [], ◌∷◌, ◌++◌, length, refl, sym, ap, ◌∙◌, subst, append_assoc, inl}
-use Rattle.std.proofs.Common.{inr}
+use Rattle.std.proofs.Common.{inr, arith}
 use Rattle.std.specs.Prelude.{◌⊎◌, Option, Some, None, IfSome, Result, Ok, Err}
 use Rattle.std.proofs.lemmas.List.{append-nil}
-use Rattle.httparse.specs.Grammar.{RequestHead, print_request}
+use Rattle.httparse.specs.Grammar.{RequestHead}
 use Rattle.upload_service.specs.declared.ask.Ask.{Ask}
 use Rattle.upload_service.specs.declared.answer.Answer.{Answer}
 use Rattle.http_wire.specs.States.{SourceState, InputState, SinkState, input_state}
 use Rattle.http_wire.specs.Reading.{Gave, Costs}
 use Rattle.http_wire.specs.Faults.{wire_of_input}
 use Rattle.http_wire.specs.HeadText.{bad_status, status_number}
-use Rattle.http_wire.specs.Fronts.{IsRefused, IsTooLong, ReadsHead, requests}
+use Rattle.http_wire.specs.Fronts.{IsRefused, IsTooLong, requests}
 use Rattle.http_wire.specs.Unambiguous.{HeadParse, head, long, unfinished}
 use Rattle.http_wire.specs.Inner.HeadSpans.{request_spans}
 use Rattle.http_wire.specs.Inner.HeadReading.{FindsHead}
@@ -19,13 +19,14 @@ use Rattle.http_wire.specs.declared.fault.InputFault.{InputFault}
 use Rattle.http_wire.specs.declared.fault.InputFault.TheVariants as Input
 use Rattle.http_wire.specs.declared.fault.WireFault.{WireFault}
 use Rattle.http_wire.specs.declared.fault.WireFault.TheVariants as Wire
+use Rattle.http_wire.proofs.Heads.ReadLemmas.{ReadsHead-more}
 use Rattle.http_wire.proofs.UnambiguousHeads.{requests_unambiguous}
 use Rattle.upload_wire.specs.declared.request.Style.{Style}
 use Rattle.upload_wire.specs.declared.request.Next.{Next}
 use Rattle.upload_wire.specs.declared.request.Next.TheVariants.{Request, Over}
 use Rattle.upload_wire.specs.declared.request.Next.TheVariants as nexts
 use Rattle.upload_wire.specs.declared.connection.ConnEnd.{ConnEnd}
-use Rattle.upload_wire.specs.declared.connection.ConnEnd.TheVariants.{Clean, AfterClose, AfterBad, TooMany, DeskGone}
+use Rattle.upload_wire.specs.declared.connection.ConnEnd.TheVariants.{AfterClose, AfterBad, TooMany, DeskGone}
 use Rattle.upload_wire.specs.declared.connection.ConnEnd.TheVariants.{Fault}
 use Rattle.upload_wire.specs.declared.connection.ConnFault.TheVariants as Conn
 use Rattle.upload_wire.specs.RequestText.{IsRequest, IsBad, ReadsNext, FindsNext}
@@ -34,11 +35,12 @@ use Rattle.upload_wire.specs.Phases.{most_reads}
 use Rattle.upload_wire.specs.Events.{Event, Head, Unreadable, Replied, Telling, Hears}
 use Rattle.upload_wire.specs.Told.{HasLine, TellsExchange, TellsEach, TellsRefusal, TellsCut, TellsEnd, event_of, rules}
 use Rattle.upload_wire.specs.Told.{Rules, sides, Ending, EndsAs, IsTold}
-use Rattle.upload_wire.specs.Inner.ConversationSteps.{IsRepliedTo, styled, RefusedWith, Progress, progress}
+use Rattle.upload_wire.specs.Inner.ConversationSteps.{IsRepliedTo, styled, RefusedWith, Progress, progress, Stops}
 use Rattle.upload_wire.specs.Inner.ToldSteps.{listening, TellsNext, ReadsTold, Observed, observed, GoesOnTold}
 use Rattle.upload_wire.specs.Inner.ToldSteps.{StopsTold}
 use Rattle.upload_wire.proofs.RequestLemmas.{head_fault_next, reads_after}
-use Rattle.upload_wire.proofs.ConversationLemmas.{one_more, one_last, after_refusal, SoFar, starts, goes_on, ends}
+use Rattle.upload_wire.proofs.ConversationLemmas.{stops, one_more, one_last, after_refusal, SoFar, starts}
+use Rattle.upload_wire.proofs.ConversationLemmas.{goes_on, ends}
 
 -- ---- events
 
@@ -53,11 +55,7 @@ pub line_more : (text more method target : List ℕ) → HasLine text method tar
 line_more text more method target l = record {
   head = l.head;
   rest = l.rest ++ more;
-  reads = record {
-    reads = (l.reads.reads.0, ap (λ t. t ++ more) l.reads.reads.1 ∙ append_assoc (print_request l.head) l.rest more);
-    short = l.reads.short;
-    few = l.reads.few;
-  };
+  reads = ReadsHead-more more refl l.reads;
   is_method = l.is_method;
   is_target = l.is_target;
 }
@@ -73,18 +71,9 @@ pub line_within : (max : ℕ) (text message rest : List ℕ) (ask : Ask) (style 
     → HasLine message method target
 unfolding head_in
 line_within max text message rest ask style method target cut request line =
-    let r = request.reads in
-    let whole : ReadsHead requests text request.head (request.rest ++ rest) = record {
-      reads = (
-        r.reads.0,
-        cut ∙ ap (λ t. t ++ rest) r.reads.1 ∙ append_assoc (print_request request.head) request.rest rest,
-      );
-      short = r.short;
-      few = r.few;
-    } in
     let same : line.head ≡ request.head = ap (head_in line.head)
     (requests_unambiguous.one text (head line.head line.rest) (head request.head (request.rest ++ rest))
-    line.reads whole) in
+    line.reads (ReadsHead-more rest cut request.reads)) in
     record {
       head = request.head;
       rest = request.rest;
@@ -97,12 +86,10 @@ line_within max text message rest ask style method target cut request line =
 
 tells_behind : (text method target : List ℕ) (r : Result Next WireFault) → HasLine text method target → ¬ (r ≡ Ok Over)
     → TellsNext text r (Head method target ∷ [])
-tells_behind text method target (Ok (Request ask style)) line came =
-    record { method = method; target = target; line = line; events_are = refl }
+tells_behind text method target (Ok (Request ask style)) line came = search (rules, arith)
 tells_behind text method target (Ok Over) line came = absurd (came refl)
 tells_behind text method target (Ok (nexts.Bad why)) line came = (Head method target, line, refl)
-tells_behind text method target (Err fault) line came =
-    inr (record { method = method; target = target; line = line; events_are = refl })
+tells_behind text method target (Err fault) line came = search (rules, arith)
 
 module _ {O : Type 0} (telling : Telling O) (max : ℕ) (first mid : InputState)
     (gave : Gave first mid.source mid.held) (old : O) where
@@ -204,63 +191,50 @@ module _ {D O : Type 0} (step : Moves D) (telling : Telling O) (max count : ℕ)
     }
     one_more_told kept next stays one (Some x) a e = absurd (cc)
 
+    -- how the connection stops behind the reply
+    abbrev stopped : (kept : List ℕ) (next : ℕ) (r : Option ConnEnd)
+        → IsRepliedTo count (styled answer style) mid after r
+        → IfSome r (Stops step max (progress count held first at mid) (progress next kept left new after))
+    stopped kept next r a =
+        one_last step max count held rest first left ask style at new mid answer after kept next r n.next same answered
+        a
+
     pub one_last_told : (kept : List ℕ) (next : ℕ) (r : Option ConnEnd)
         → IsRepliedTo count (styled answer style) mid after r
         → IfSome r (StopsTold (rules step telling max) (observed (progress count held first at mid) was)
         (observed (progress next kept left new after) is))
     unfolding one_last
     one_last_told kept next None a = tt
-    one_last_told kept next (Some Clean) a = absurd a
-    one_last_told kept next (Some AfterClose) a = record {
-      stops =
-          one_last step max count held rest first left ask style at new mid answer after kept next
-          (Some AfterClose) n.next same answered a;
-      events = both;
-      tells = tells_both;
-      told = heard_both;
-    }
-    one_last_told kept next (Some AfterBad) a = absurd a
-    one_last_told kept next (Some TooMany) a = record {
-      stops =
-          one_last step max count held rest first left ask style at new mid answer after kept next
-          (Some TooMany) n.next same answered a;
-      events = both;
-      tells = tells_both;
-      told = heard_both;
-    }
-    one_last_told kept next (Some DeskGone) a = absurd a
+    one_last_told kept next (Some AfterClose) a =
+        record { stops = stopped kept next (Some AfterClose) a; events = both; tells = tells_both; told = heard_both }
+    one_last_told kept next (Some TooMany) a =
+        record { stops = stopped kept next (Some TooMany) a; events = both; tells = tells_both; told = heard_both }
     one_last_told kept next (Some (Fault (Conn.Wire f))) a = absurd a
     one_last_told kept next (Some (Fault Conn.Write)) a = record {
-      stops =
-          one_last step max count held rest first left ask style at new mid answer after kept next
-          (Some (Fault Conn.Write)) n.next same answered a;
+      stops = stopped kept next (Some (Fault Conn.Write)) a;
       events = both;
       tells = tells_both;
       told = heard_both;
     }
+    one_last_told kept next (Some other) a = absurd a
 
   -- the desk was gone
   pub gone_told : (kept : List ℕ) (next : ℕ) → step at ask None new
       → StopsTold (rules step telling max) (observed (progress count held first at mid) was)
       (observed (progress next kept left new mid) heard) DeskGone
   gone_told kept next gone = record {
-    stops = record {
-      given = n.next.given;
-      gives = n.next.gives;
-      reads = same;
-      ended = (
-        record {
-          message = n.next.found.message;
-          more = rest;
-          ask = ask;
-          style = style;
-          read = n.next.found.cut;
-          request = n.next.found.request;
-          gone = gone;
-        },
-        refl,
-      );
-    };
+    stops = stops n.next.given n.next.gives same (
+      record {
+        message = n.next.found.message;
+        more = rest;
+        ask = ask;
+        style = style;
+        read = n.next.found.cut;
+        request = n.next.found.request;
+        gone = gone;
+      },
+      refl,
+    );
     events = n.events;
     tells = n.tells;
     told = n.told;
@@ -280,58 +254,43 @@ module _ {D O : Type 0} (step : Moves D) (telling : Telling O) (max count : ℕ)
 
     heard_refused : Hears telling was refused is
     unfolding refused
-    heard_refused =
-        hears_more telling was heard is n.events (Replied (status_number (bad_status why)) 0 ∷ []) n.told
-        (is, replied, refl)
+    heard_refused = search (rules, arith, hears_more)
 
     tells_refused : TellsRefusal (held ++ n.next.given) why refused
     unfolding refused
-    tells_refused = record {
-      first = n.tells.0;
-      tells = n.tells.1;
-      events_are = ap (λ es. es ++ Replied (status_number (bad_status why)) 0 ∷ []) n.tells.2;
-    }
+    tells_refused = search (rules, arith)
+
+    abbrev as_refused : (kept : List ℕ) (next : ℕ) (end : ConnEnd) → RefusedWith mid after why end
+        → Stops step max (progress count held first at mid) (progress next kept left at after) end
+    as_refused kept next end a =
+        after_refusal step max (progress count held first at mid) (progress next kept left at after) rest why end n.next
+        same refl a
 
     pub refusal_told : (kept : List ℕ) (next : ℕ) (end : ConnEnd) → RefusedWith mid after why end
         → StopsTold (rules step telling max) (observed (progress count held first at mid) was)
         (observed (progress next kept left at after) is) end
     unfolding after_refusal
-    refusal_told kept next AfterBad a = record {
-      stops =
-          after_refusal step max (progress count held first at mid) (progress next kept left at after) rest why AfterBad
-          n.next same refl a;
-      events = refused;
-      tells = tells_refused;
-      told = heard_refused;
-    }
+    refusal_told kept next AfterBad a =
+        record { stops = as_refused kept next AfterBad a; events = refused; tells = tells_refused; told = heard_refused }
     refusal_told kept next (Fault Conn.Write) a = record {
-      stops =
-          after_refusal step max (progress count held first at mid) (progress next kept left at after) rest why
-          (Fault Conn.Write) n.next same refl a;
+      stops = as_refused kept next (Fault Conn.Write) a;
       events = refused;
       tells = tells_refused;
       told = heard_refused;
     }
     refusal_told kept next (Fault (Conn.Wire fault)) a = absurd a
-    refusal_told kept next Clean a = absurd a
-    refusal_told kept next AfterClose a = absurd a
-    refusal_told kept next TooMany a = absurd a
-    refusal_told kept next DeskGone a = absurd a
+    refusal_told kept next other a = absurd a
 
   reads_fail : (fault : WireFault)
       → Costs (most_reads max) (◌≡◌ {A = Result Next WireFault} (Err fault) (Err Wire.Read)) first left
       → ReadsFail (Fault (Conn.Wire fault)) first.failed_reads left.failed_reads
-  reads_fail Wire.Truncated costs = costs.unfailed (λ e. cc)
   reads_fail Wire.Read costs = costs.failed refl
-  reads_fail Wire.NoMemory costs = costs.unfailed (λ e. cc)
-  reads_fail Wire.Ended costs = costs.unfailed (λ e. cc)
+  reads_fail other costs = costs.unfailed (λ e. cc)
 
   wire_stops : (fault : WireFault) (text : List ℕ) → FindsNext max text (input_state rest left) (Err fault)
       → WireStops max text left fault
   wire_stops Wire.Truncated text found = found
-  wire_stops Wire.Read text found = found
-  wire_stops Wire.NoMemory text found = found
-  wire_stops Wire.Ended text found = found
+  wire_stops other text found = found
 
   -- no more could be read
   pub stopped_told : (fault : WireFault)
@@ -342,12 +301,8 @@ module _ {D O : Type 0} (step : Moves D) (telling : Telling O) (max count : ℕ)
       → StopsTold (rules step telling max) (observed (progress count held first at mid) was)
       (observed (progress next kept left at mid) heard) (Fault (Conn.Wire fault))
   stopped_told fault n costs kept next = record {
-    stops = record {
-      given = n.next.given;
-      gives = n.next.gives;
-      reads = reads_fail fault costs;
-      ended = (wire_stops fault (held ++ n.next.given) n.next.found, record { unasked = refl; unwritten = refl });
-    };
+    stops = stops n.next.given n.next.gives (reads_fail fault costs)
+        (wire_stops fault (held ++ n.next.given) n.next.found, record { unasked = refl; unwritten = refl });
     events = n.events;
     tells = n.tells;
     told = n.told;
@@ -358,8 +313,7 @@ module _ {D O : Type 0} (step : Moves D) (telling : Telling O) (max count : ℕ)
 each_more : (xs : List WireExchange) (x : WireExchange) (es fs : List Event) → TellsEach xs es → TellsExchange x fs
     → TellsEach (xs ++ x ∷ []) (es ++ fs)
 each_more [] x es fs h k = (fs, [], k, refl, ap (λ l. l ++ fs) h ∙ sym (append-nil fs))
-each_more (y ∷ xs) x es fs h k =
-    (h.0, h.1 ++ fs, h.2, each_more xs x h.1 fs h.3 k, ap (λ l. l ++ fs) h.4 ∙ append_assoc h.0 h.1 fs)
+each_more (y ∷ xs) x es fs h k = search (rules, arith, append_assoc, each_more xs x h.1 fs h.3 k)
 
 -- what a connection has done, and what its observer was told of it
 pub record SoFarTold {D O : Type 0} (r : Rules D O) (begun now : Observed D O) : Type 0 where

@@ -1,8 +1,8 @@
 -- What a conversation added to its transcripts.
-use Rattle.std.proofs.Common.{◌≡◌, ℕ, [], ◌++◌, length, sym, ap, ◌∙◌, append_assoc, inl, inr}
+use Rattle.std.proofs.Common.{◌≡◌, ℕ, [], ◌++◌, sym, ap, ◌∙◌, append_assoc, inl, inr, arith, rules}
 use Rattle.std.proofs.lemmas.List.{append-nil}
 use Rattle.http_wire.specs.States.{SinkState}
-use Rattle.upload_wire.specs.Conversation.{Moves, replies, ConnectionState, Standing, stand, EndsWith}
+use Rattle.upload_wire.specs.Conversation.{Moves, ConnectionState, Standing, EndsWith}
 use Rattle.upload_wire.specs.Transcripts.{last_written, TranscriptsTellConversations}
 use Rattle.upload_wire.specs.declared.connection.ConnEnd.{ConnEnd}
 use Rattle.upload_wire.specs.declared.connection.ConnEnd.TheVariants.{Clean, AfterClose, AfterBad, TooMany, DeskGone}
@@ -26,12 +26,4 @@ module _ {D : Type 0} (step : Moves D) (max_body : ℕ) (s : Standing D) (new : 
   last_told (Fault Conn.Write) (inr w) = w.2.takes.told
 
 pub conversations_told : {D : Type 0} (step : Moves D) → TranscriptsTellConversations step
-conversations_told {D} step = λ max_body old new end c.
-    let s : Standing D = stand (length c.exchanges) c.rest c.at c.mid in
-    let last = last_told step max_body s new end c.ended in
-    record {
-      read = c.gives.told ∙ ap (λ t. old.source.given ++ t) c.served.read;
-      written =
-          last ∙ ap (λ t. t ++ last_written step max_body s new end c.ended) c.served.written.takes.told
-          ∙ append_assoc old.sink.taken (replies c.exchanges) _;
-    }
+conversations_told {D} step = search (rules, arith, last_told, append_assoc)

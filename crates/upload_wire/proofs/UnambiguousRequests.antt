@@ -1,14 +1,14 @@
 -- A text begins with at most one request.
 use Rattle.std.proofs.Common.{◌≡◌, ◌≢◌, ℕ, ◌<◌, Bool, true, false, List, [], ◌∷◌, ◌++◌, length, refl, sym, ap, ◌∙◌}
-use Rattle.std.proofs.Common.{subst, arith, append_assoc, inl, inr}
-use Rattle.std.specs.Prelude.{◌⊎◌, Result, Ok, Err, nat_lt, if◌then◌else◌, ◌&&◌, ◌==◌, codes}
-use Rattle.std.specs.Str.Parse.{digits_value}
-use Rattle.httparse.specs.Grammar.{RequestHead, print_request}
+use Rattle.std.proofs.Common.{subst, arith, inl, inr, rules}
+use Rattle.std.specs.Prelude.{◌⊎◌, Result, Ok, Err, if◌then◌else◌, ◌&&◌, ◌==◌, codes}
+use Rattle.std.proofs.lemmas.List.{append_cancel_right}
+use Rattle.httparse.specs.Grammar.{RequestHead}
 use Rattle.upload_service.specs.declared.ask.Ask.{Ask}
 use Rattle.http_wire.specs.Fronts as front
 use Rattle.http_wire.specs.Fronts.{IsRefused, ReadsHead, requests}
-use Rattle.http_wire.specs.Fields.{same_word, values_of, head_fields}
-use Rattle.http_wire.specs.Body.{is_number, sized, framing_by, head_framing, IsBadBody}
+use Rattle.http_wire.specs.Fields.{same_word}
+use Rattle.http_wire.specs.Body.{sized, framing_by, head_framing, IsBadBody}
 use Rattle.http_wire.specs.Unambiguous.{HeadParse, head, long, unfinished, BeginsWith, BodyParse, whole, refused}
 use Rattle.http_wire.specs.Unambiguous.{IsReadAs, cut as cut_body}
 use Rattle.http_wire.specs.declared.body.Framing.{Framing}
@@ -16,11 +16,12 @@ use Rattle.http_wire.specs.declared.body.Framing.TheVariants.{Length, Chunked}
 use Rattle.http_wire.specs.declared.fault.Bad.{Bad}
 use Rattle.http_wire.specs.declared.fault.Bad.TheVariants as bads
 use Rattle.http_wire.proofs.Heads.HeadLemmas.{none_at_start}
+use Rattle.http_wire.proofs.Heads.ReadLemmas.{ReadsHead-more}
 use Rattle.http_wire.proofs.Heads.HeadLaws.{request_ends}
 use Rattle.http_wire.proofs.UnambiguousHeads.{requests_unambiguous}
 use Rattle.http_wire.proofs.UnambiguousBodies.{bodies_unambiguous}
 use Rattle.upload_wire.specs.Target.{AsksWhole}
-use Rattle.upload_wire.specs.RequestText.{style_of, IsBad, IsTruncated, ReadsOne}
+use Rattle.upload_wire.specs.RequestText.{style_of, IsBad, IsRequest, IsTruncated, ReadsOne}
 use Rattle.upload_wire.specs.Unambiguous.{RequestParse, request, bad, cut, nothing, ParsesAsRequest}
 use Rattle.upload_wire.specs.Unambiguous.{RequestsAreUnambiguous}
 use Rattle.upload_wire.specs.declared.request.Style.{Style}
@@ -44,8 +45,7 @@ coding_no_head max false e = absurd (cc)
 framing_no_head : (max minor : ℕ) (codings lengths : List (List ℕ))
     → framing_by max minor codings lengths ≡ Err bads.Head → ⊥
 framing_no_head max minor [] [] e = absurd (cc)
-framing_no_head max minor [] (value ∷ []) e =
-    length_no_head (is_number value) (nat_lt max (digits_value 10 value)) (digits_value 10 value) e
+framing_no_head max minor [] (value ∷ []) e = search (rules, arith, length_no_head)
 framing_no_head max minor [] (value ∷ other ∷ values) e = absurd (cc)
 framing_no_head max minor (coding ∷ []) [] e = coding_no_head max ((minor == 1) && same_word coding (codes "chunked")) e
 framing_no_head max minor (coding ∷ other ∷ codings) [] e = absurd (cc)
@@ -59,9 +59,7 @@ body_no_head (Chunked most) text (inr x) = let e = x.0 in absurd (cc)
 refused_head : (max : ℕ) (text : List ℕ) → IsBad max text bads.Head → IsRefused requests text
 refused_head max text (inl x) = x.1
 refused_head max text (inr (inl x)) = let e = x.0 in absurd (cc)
-refused_head max text (inr (inr (inl x))) = absurd (framing_no_head max x.head.minor
-    (values_of (codes "transfer-encoding") (head_fields x.head.fields))
-    (values_of (codes "content-length") (head_fields x.head.fields)) x.refused)
+refused_head max text (inr (inr (inl x))) = search (rules, arith, framing_no_head)
 refused_head max text (inr (inr (inr x))) = absurd (body_no_head x.framing x.rest x.refused)
 
 -- ---- what stands behind a head
@@ -84,17 +82,13 @@ FromHead max text long p = p ≡ bad bads.LongHead
 FromHead max text unfinished p = ((p ≡ cut) × (0 < length text)) ⊎ ((p ≡ nothing) × (text ≡ []))
 
 from_body : (h : RequestHead) (body : BodyParse) (p q : RequestParse) → FromBody h body p → FromBody h body q → p ≡ q
-from_body h (whole body rest) p q x y =
-    let same = asks_whole_unique h body x.0 y.0 x.1 y.1 in
-    x.2 ∙ ap (λ ask. request ask (style_of h) rest) same ∙ sym y.2
+from_body h (whole body rest) p q x y = cc (asks_whole_unique h body x.0 y.0 x.1 y.1)
 from_body h (refused why) p q x y = x ∙ sym y
 from_body h cut_body p q x y = x ∙ sym y
 
 from_framing : (h : RequestHead) (framing : Result Framing Bad) (rest : List ℕ) (p q : RequestParse)
     → FromFraming h framing rest p → FromFraming h framing rest q → p ≡ q
-from_framing h (Ok framing) rest p q x y =
-    let same = bodies_unambiguous framing rest x.0 y.0 x.1 y.1 in
-    from_body h y.0 p q (subst (λ body. FromBody h body p) same x.2) y.2
+from_framing h (Ok framing) rest p q x y = search (rules, arith, bodies_unambiguous, from_body)
 from_framing h (Err why) rest p q x y = x ∙ sym y
 
 from_head : (max : ℕ) (text : List ℕ) (front : HeadParse requests) (p q : RequestParse)
@@ -102,10 +96,8 @@ from_head : (max : ℕ) (text : List ℕ) (front : HeadParse requests) (p q : Re
 from_head max text (head h rest) p q x y = from_framing h (head_framing max h) rest p q x y
 from_head max text long p q x y = x ∙ sym y
 from_head max text unfinished p q (inl x) (inl y) = x.0 ∙ sym y.0
-from_head max text unfinished p q (inl x) (inr y) =
-    let none = ap length y.1 in let some = x.1 in absurd (omega (arith, some, none))
-from_head max text unfinished p q (inr x) (inl y) =
-    let none = ap length x.1 in let some = y.1 in absurd (omega (arith, some, none))
+from_head max text unfinished p q (inl x) (inr y) = search (rules, arith)
+from_head max text unfinished p q (inr x) (inl y) = search (rules, arith)
 from_head max text unfinished p q (inr x) (inr y) = x.0 ∙ sym y.0
 
 -- ---- the whole
@@ -119,16 +111,7 @@ record Parsed (max : ℕ) (text : List ℕ) (p : RequestParse) : Type 0 where
 -- the head of a request begins the text
 pub request_head : (max : ℕ) (text rest : List ℕ) (ask : Ask) (style : Style) (x : ReadsOne max text rest ask style)
     → ReadsHead requests text x.request.head (x.request.rest ++ rest)
-request_head max text rest ask style x =
-    let r = x.request.reads in
-    record {
-      reads = (
-        r.reads.0,
-        x.cut ∙ ap (λ t. t ++ rest) r.reads.1 ∙ append_assoc (print_request x.request.head) x.request.rest rest,
-      );
-      short = r.short;
-      few = r.few;
-    }
+request_head max text rest ask style x = ReadsHead-more rest x.cut x.request.reads
 
 behind : (max : ℕ) (h : RequestHead) (framing : Framing) (rest : List ℕ) (body : BodyParse) (p : RequestParse)
     → head_framing max h ≡ Ok framing → IsReadAs framing rest body → FromBody h body p
@@ -175,11 +158,7 @@ parsed max text (request ask style rest) x other =
     }
 parsed max text (bad why) x other = parsed_bad max text why x other
 parsed max text cut x other = parsed_cut max text x
-parsed max text nothing x other = record {
-  front = unfinished;
-  begins = subst (front.IsUnfinished requests) (sym x) nothing_begins;
-  from = inr (refl, x);
-}
+parsed max text nothing x other = search (rules, arith, nothing_begins)
 
 one_request : (max : ℕ) (text : List ℕ) (p q : RequestParse) → ParsesAsRequest max text p → ParsesAsRequest max text q
     → p ≢ bad bads.Head → q ≢ bad bads.Head → p ≡ q
@@ -194,3 +173,19 @@ requests_are_unambiguous = record {
   one = one_request;
   refused = λ max text h rest x y. requests_unambiguous.refused text h rest x (refused_head max text y);
 }
+
+-- two requests that begin one text
+pub record SameRequest (a b : Ask) (s t : Style) (m n r q : List ℕ) : Type 0 where
+  pub message : m ≡ n
+  pub ask : a ≡ b
+  pub style : s ≡ t
+  pub rest : r ≡ q
+
+pub same_request : {max : ℕ} {a b : Ask} {s t : Style} {m n r q : List ℕ} → IsRequest max m a s
+    → IsRequest max n b t → m ++ r ≡ n ++ q → SameRequest a b s t m n r q
+same_request {max} {a} {b} {s} {t} {m} {n} {r} {q} x y e =
+    let same = one_request max (m ++ r) (request a s r) (request b t q)
+    (record { message = m; cut = refl; request = x }) (record { message = n; cut = e; request = y })
+    (λ same. absurd (cc same)) (λ same. absurd (cc same)) in
+    let rests : r ≡ q = cc in
+    record { message = append_cancel_right m n q (cc); ask = cc; style = cc; rest = rests }
