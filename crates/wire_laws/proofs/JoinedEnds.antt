@@ -1,25 +1,25 @@
 -- What a client asked and heard over a connection is what a worker read and answered on it.
 use Rattle.std.proofs.Common.{◌≡◌, ◌≢◌, ℕ, ◌≤◌, Bool, true, false, List, [], ◌∷◌, ◌++◌, length, map, refl, sym, ap}
 use Rattle.std.proofs.Common.{subst, ◌∙◌, arith, append-nil, append_assoc, length-append, inl, inr, Option, Some, None}
-use Rattle.std.proofs.Common.{Ok, Err, nat_lt}
+use Rattle.std.proofs.Common.{Ok, Err, nat_lt, rules}
 use Rattle.std.specs.Prelude.{Result, ⊤, is_err, not, ◌&&◌, ◌==◌, if◌then◌else◌}
 use Rattle.std.specs.List.{AllByRecursion, flat_map}
 use Rattle.std.specs.Result.{result_ok}
-use Rattle.std.proofs.lemmas.Bool.{eqb-true, ltb-false, ltb-true, le-ltb, true≢false}
+use Rattle.std.proofs.lemmas.Bool.{and_parts, eqb-true, ltb-false, ltb-true, le-ltb, not-true, true≢false}
 use Rattle.std.proofs.lemmas.Grind.{flat_map-append}
-use Rattle.std.proofs.lemmas.List.{append_cancel_left, append_cancel_right, nil_from_length}
-use Rattle.httparse.specs.Ascii.{line_feed}
-use Rattle.httparse.specs.Grammar.{RequestHead, print_request, print_response}
-use Rattle.http_wire.specs.Fronts.{ReadsHead, requests}
+use Rattle.std.proofs.lemmas.List.{append_cancel_left, nil_from_length}
+use Rattle.httparse.specs.Grammar.{RequestHead}
+use Rattle.http_wire.specs.Fronts.{Reads, ReadsHead, requests, responses}
 use Rattle.http_wire.specs.declared.fault.Bad.{Bad}
 use Rattle.http_wire.proofs.Heads.HeadLaws.{request_ends, response_ends}
+use Rattle.http_wire.proofs.Heads.HeadLemmas.{none_at_start}
+use Rattle.http_wire.proofs.Heads.ReadLemmas.{ReadsHead-more}
 use Rattle.upload_service.specs.declared.ask.Ask.{Ask}
 use Rattle.upload_service.specs.declared.answer.Answer.{Answer}
 use Rattle.upload_service.specs.declared.answer.Answer.TheVariants.{Blob}
 use Rattle.http_wire.specs.States.{SourceState, InputState, SinkState, input_state}
 use Rattle.http_wire.specs.Writing.{Wrote}
 use Rattle.http_wire.specs.ResponseBody.{IsBody}
-use Rattle.http_wire.specs.declared.fault.Bad.TheVariants.{Head}
 use Rattle.http_wire.specs.declared.responses.body.ResponseFraming.{ResponseFraming}
 use Rattle.http_wire.specs.declared.responses.body.ResponseFraming.TheVariants.{Length, ToEnd}
 use Rattle.http_wire.specs.declared.writing.WriteFault.{WriteFault}
@@ -29,13 +29,13 @@ use Rattle.upload_wire.specs.Conversation.{ConnectionState, stand}
 use Rattle.upload_wire.specs.ConnectionRuns.{answered, answered_last, unanswered, unanswered_last}
 use Rattle.upload_wire.specs.ReplyText.{reply}
 use Rattle.upload_wire.specs.RequestText.{IsBad, IsRequest}
-use Rattle.upload_wire.specs.Unambiguous.{request, bad, nothing}
+use Rattle.upload_wire.specs.Unambiguous.{request, nothing}
 use Rattle.upload_wire.specs.declared.request.Style.{Style}
 use Rattle.upload_wire.specs.declared.connection.ConnEnd.{ConnEnd}
 use Rattle.upload_wire.specs.declared.connection.ConnEnd.TheVariants.{Clean, AfterClose, AfterBad, TooMany, DeskGone}
 use Rattle.upload_wire.specs.declared.connection.ConnEnd.TheVariants.{Fault}
 use Rattle.upload_wire.specs.declared.connection.ConnFault.TheVariants as Conn
-use Rattle.upload_wire.proofs.UnambiguousRequests.{requests_are_unambiguous}
+use Rattle.upload_wire.proofs.UnambiguousRequests.{requests_are_unambiguous, same_request}
 use Rattle.upload_client.specs.AskText.{ask_text, wants_head}
 use Rattle.upload_client.specs.AnswerText.{AnswerReaderState, TellsHeard, HasOpenBody, HasLongBody, ReadsFramed}
 use Rattle.upload_client.specs.AnswerText.{code_of, max_answer}
@@ -52,52 +52,28 @@ use Rattle.wire_laws.specs.Joined.{AreJoined, ConnectionsAreJoined}
 use Rattle.wire_laws.specs.WrittenAsks.{written_style}
 use Rattle.wire_laws.specs.WrittenExchanges.{MayBeAsked}
 use Rattle.wire_laws.specs.WrittenReplies.{FitsMethod, HasLawfulValues, IsReadOnlyAs, blob_read, read_whole, reply_read}
+use Rattle.upload_wire.proofs.Lists.{all_mapped, all_weaker, none_before}
 use Rattle.wire_laws.proofs.NeverBad.{asked_not_bad}
 use Rattle.wire_laws.proofs.WrittenReplies.{replies_heard}
-use Rattle.wire_laws.proofs.WrittenRequests.{asks_read_back}
+use Rattle.wire_laws.proofs.WrittenRequests.{asked_request}
 
 -- ---- texts
-
-none_before : (a b : List ℕ) → a ++ b ≡ [] → a ≡ []
-none_before [] b e = refl
-none_before (x ∷ a) b e = absurd (cc e)
 
 none_added : (s a : List ℕ) → s ≡ s ++ a → a ≡ []
 none_added s a e = append_cancel_left s a [] (sym e ∙ sym (append-nil s))
 
 -- ---- requests
 
-no_head : (ask : Ask) (style : Style) (rest : List ℕ) → request ask style rest ≢ bad Head
-no_head ask style rest e = absurd (cc e)
+no_empty_request : {max : ℕ} {m : List ℕ} {ask : Ask} {style : Style} → IsRequest max m ask style → m ≡ [] → ⊥
+no_empty_request {max} {m} {ask} {style} is none =
+    absurd (cc (requests_are_unambiguous.one max m (request ask style []) nothing
+    (record { message = m; cut = sym (append-nil m); request = is }) none (λ e. absurd (cc e)) (λ e. absurd (cc e))))
 
--- two requests that begin one text
-record SameRequest (a b : Ask) (s t : Style) (m n r q : List ℕ) : Type 0 where
-  message : m ≡ n
-  ask : a ≡ b
-  style : s ≡ t
-  rest : r ≡ q
-
-same_request : (max : ℕ) (a b : Ask) (s t : Style) (m n r q : List ℕ) → IsRequest max m a s → IsRequest max n b t
-    → m ++ r ≡ n ++ q → SameRequest a b s t m n r q
-same_request max a b s t m n r q x y e =
-    let same = requests_are_unambiguous.one max (m ++ r) (request a s r) (request b t q)
-    (record { message = m; cut = refl; request = x }) (record { message = n; cut = e; request = y }) (no_head a s r)
-    (no_head b t q) in
-    let rests : r ≡ q = cc in
-    let asks : a ≡ b = cc in
-    let styles : s ≡ t = cc in
-    record {
-      message = append_cancel_right m n q (ap (λ x. m ++ x) (sym rests) ∙ e);
-      ask = asks;
-      style = styles;
-      rest = rests;
-    }
-
-no_empty_request : (max : ℕ) (m : List ℕ) (ask : Ask) (style : Style) → IsRequest max m ask style → m ≡ [] → ⊥
-no_empty_request max m ask style is none =
-    let same = requests_are_unambiguous.one max m (request ask style []) nothing
-    (record { message = m; cut = sym (append-nil m); request = is }) none (no_head ask style []) (λ e. absurd (cc e)) in
-    absurd (cc same)
+-- a request that was read
+record Received : Type 0 where
+  message : List ℕ
+  ask : Ask
+  style : Style
 
 -- an answered request, and whether its reply kept the connection
 abbrev Turn : Type 0
@@ -116,41 +92,26 @@ all_replies ts = flat_map reply_of ts
 abbrev MayBeHeard : (Ask → Type 0) → WireExchange → Type 0
 MayBeHeard known y = known y.ask → y.style ≡ written_style y.ask → IsAudible y
 
-abbrev AreRead : ℕ → List Turn → Type 0
-AreRead max ts = AllByRecursion (λ (t : Turn). IsRead max t.0) ts
+abbrev received : Turn → Received
+received t = record { message = t.0.message; ask = t.0.ask; style = t.0.style }
 
--- a request that was read and not answered
-record Unanswered : Type 0 where
-  message : List ℕ
-  ask : Ask
-  style : Style
+-- of each of these a request was read, and they are these bytes
+abbrev AreRead : {A : Type 0} → (A → Received) → ℕ → List A → Type 0
+AreRead seen max xs = AllByRecursion (λ x. IsRequest max (seen x).message (seen x).ask (seen x).style) xs
 
-abbrev unanswered_read : List Unanswered → List ℕ
-unanswered_read us = flat_map (λ (u : Unanswered). u.message) us
+abbrev bytes_of : {A : Type 0} → (A → Received) → List A → List ℕ
+bytes_of seen xs = flat_map (λ x. (seen x).message) xs
 
-abbrev AreUnansweredRead : ℕ → List Unanswered → Type 0
-AreUnansweredRead max us = AllByRecursion (λ (u : Unanswered). IsRequest max u.message u.ask u.style) us
+abbrev itself : Received → Received
+itself u = u
 
 -- if nothing more was written, nothing more was read as a request
-none_read : (max : ℕ) (written : List ℕ) (ts : List Turn) (rest back : List ℕ) → AreRead max ts
-    → written ≡ (written ++ (all_read ts ++ rest)) ++ back → ts ≡ []
-none_read max written [] rest back kept e = refl
-none_read max written (t ∷ ts) rest back kept e =
-    let more =
-    none_added written ((all_read (t ∷ ts) ++ rest) ++ back)
-    (e ∙ append_assoc written (all_read (t ∷ ts) ++ rest) back) in
-    let all = none_before (all_read (t ∷ ts)) rest (none_before (all_read (t ∷ ts) ++ rest) back more) in
-    absurd (no_empty_request max t.0.message t.0.ask t.0.style kept.0 (none_before t.0.message (all_read ts) all))
-
-none_unanswered : (max : ℕ) (written : List ℕ) (us : List Unanswered) (rest back : List ℕ) → AreUnansweredRead max us
-    → written ≡ (written ++ (unanswered_read us ++ rest)) ++ back → us ≡ []
-none_unanswered max written [] rest back read e = refl
-none_unanswered max written (u ∷ us) rest back read e =
-    let more =
-    none_added written ((unanswered_read (u ∷ us) ++ rest) ++ back)
-    (e ∙ append_assoc written (unanswered_read (u ∷ us) ++ rest) back) in
-    let all = none_before (unanswered_read (u ∷ us)) rest (none_before (unanswered_read (u ∷ us) ++ rest) back more) in
-    absurd (no_empty_request max u.message u.ask u.style read.0 (none_before u.message (unanswered_read us) all))
+none_read : {A : Type 0} (seen : A → Received) (max : ℕ) (written : List ℕ) (xs : List A) (rest back : List ℕ)
+    → AreRead seen max xs → written ≡ (written ++ (bytes_of seen xs ++ rest)) ++ back → xs ≡ []
+none_read seen max written [] rest back kept e = refl
+none_read seen max written (x ∷ xs) rest back kept e =
+    absurd (no_empty_request kept.0 (none_before (seen x).message (bytes_of seen xs ++ (rest ++ back))
+    (none_added written _ (simp append_assoc at e))))
 
 -- ---- replies
 
@@ -175,24 +136,13 @@ read_as_said answer false keep rest short = whole_said answer keep rest short
 
 no_empty_head : (text : List ℕ) (h : RequestHead) (rest : List ℕ) → ReadsHead requests text h rest → text ≡ [] → ⊥
 no_empty_head text h rest reads none =
-    let all = ap length (sym none ∙ reads.reads.1) in
-    let ends = request_ends h in
-    let one = ap length ends.1 in
-    absurd (omega (arith, all, one, length-append (print_request h) rest, length-append ends.0 (line_feed ∷ [])))
+    none_at_start requests request_ends h rest (subst (λ t. Reads requests t h rest) none reads.reads)
 
 no_empty_reply : (head_only : Bool) (text : List ℕ) (new : InputState) (what : Heard) (keep : Bool)
     → TellsHeard head_only text new what keep → text ≡ [] → ⊥
 no_empty_reply head_only text new what keep t none =
-    let all = ap length (sym none ∙ t.whole.framed.reads.reads.1) in
-    let ends = response_ends t.head in
-    let one = ap length ends.1 in
-    absurd (omega (
-      arith,
-      all,
-      one,
-      length-append (print_response t.head) (t.body ++ new.held),
-      length-append ends.0 (line_feed ∷ []),
-    ))
+    none_at_start responses response_ends t.head (t.body ++ new.held)
+    (subst (λ x. Reads responses x t.head (t.body ++ new.held)) none t.whole.framed.reads.reads)
 
 -- the same reply with more behind it
 more_behind : (head_only : Bool) (text more : List ℕ) (new : InputState) (what : Heard) (keep : Bool)
@@ -205,16 +155,7 @@ more_behind head_only text more new what keep t n sized =
       whole = record {
         framing = t.whole.framing;
         framed = record {
-          reads = record {
-            reads = (
-              t.whole.framed.reads.reads.0,
-              ap (λ x. x ++ more) t.whole.framed.reads.reads.1
-                  ∙ append_assoc (print_response t.head) (t.body ++ new.held) more
-                  ∙ ap (λ x. print_response t.head ++ x) (append_assoc t.body new.held more),
-            );
-            short = t.whole.framed.reads.short;
-            few = t.whole.framed.reads.few;
-          };
+          reads = rw (← append_assoc t.body new.held more) (ReadsHead-more more refl t.whole.framed.reads);
           framed = t.whole.framed.framed;
         };
         is_body =
@@ -258,9 +199,7 @@ module _ (answer : Answer) (head keep : Bool) (rest : List ℕ) (values : HasLaw
       let same =
       only.1.alone (heard what goes_on (new.held ++ more))
       (subst (λ x. TellsHeard head x (input_state (new.held ++ more) new.source) what goes_on) e longer) in
-      let whats : what ≡ said answer only.0 = cc in
-      let lefts : new.held ++ more ≡ rest = cc in
-      record { code = only.0; is = whats; left = lefts }
+      record { code = only.0; is = cc; left = cc }
 
   -- no such reply goes to the end of the input
   not_to_end : {A : Type 0} (g more : List ℕ) (new : InputState) (what : Heard) (goes_on : Bool)
@@ -269,16 +208,8 @@ module _ (answer : Answer) (head keep : Bool) (rest : List ℕ) (values : HasLaw
   not_to_end {A} g more new what goes_on t most to_end e =
       let only = read_so new.source in
       let all = (t.body ++ new.held) ++ more in
-      let read = t.whole.framed.reads in
       let framed : ReadsFramed head written_text (Ok (ToEnd most)) t.head all = record {
-        reads = record {
-          reads = (
-            read.reads.0,
-            sym e ∙ ap (λ x. x ++ more) read.reads.1 ∙ append_assoc (print_response t.head) (t.body ++ new.held) more,
-          );
-          short = read.short;
-          few = read.few;
-        };
+        reads = ReadsHead-more more (sym e) t.whole.framed.reads;
         framed = t.whole.framed.framed ∙ ap Ok to_end;
       } in
       elim (nat_lt most (length all)) as (λ b. nat_lt most (length all) ≡ b → A) [
@@ -335,13 +266,7 @@ grows_none old new w r h = record {
 }
 
 grows_twice : (old mid new : WireState) → Grows old mid → Grows mid new → Grows old new
-grows_twice old mid new a b = record {
-  written = a.written ++ b.written;
-  read = a.read ++ b.read;
-  taken = b.taken ∙ ap (λ x. x ++ b.written) a.taken ∙ append_assoc old.writer.taken a.written b.written;
-  given = b.given ∙ ap (λ x. x ++ b.read) a.given ∙ append_assoc old.reader.input.source.given a.read b.read;
-  host = b.host ∙ a.host;
-}
+grows_twice old mid new a b = search (rules, arith, append_assoc)
 
 wrote_front : (written : Result ⊤ WriteFault) (old new : SinkState) (whole : List ℕ) → Wrote old new whole written
     → (front : List ℕ) × (new.taken ≡ old.taken ++ front)
@@ -369,11 +294,8 @@ one_grows false old new ask told x =
     grows_none old new (ap (λ w. w.writer) x.1) (ap (λ w. w.reader) x.1) (ap (λ w. w.host) x.1)
 
 all_grow : (old new : WireState) (xs : List TransportCall) → AsksInTurn old xs new → Grows old new
-all_grow old new [] turn =
-    grows_none old new (ap (λ w. w.writer) turn) (ap (λ w. w.reader) turn) (ap (λ w. w.host) turn)
-all_grow old new (x ∷ xs) turn =
-    grows_twice old turn.0 new (one_grows (stays_open old) old turn.0 x.ask x.heard turn.1)
-    (all_grow turn.0 new xs turn.2)
+all_grow old new [] turn = search (rules, arith, grows_none)
+all_grow old new (x ∷ xs) turn = search (rules, arith, grows_twice, one_grows, all_grow turn.0 new xs turn.2)
 
 -- a transport over which no more can be asked: nothing is written, read or heard
 record StaysClosed (old new : WireState) (xs : List TransportCall) : Type 0 where
@@ -383,10 +305,7 @@ record StaysClosed (old new : WireState) (xs : List TransportCall) : Type 0 wher
 stays_closed : (old new : WireState) (xs : List TransportCall) → stays_open old ≡ false → AsksInTurn old xs new
     → StaysClosed old new xs
 stays_closed old new [] closed turn = record { unheard = tt; writer = ap (λ w. w.writer) turn }
-stays_closed old new (x ∷ xs) closed turn =
-    let here = subst (λ b. AsksWhere b old x.ask x.heard turn.0) closed turn.1 in
-    let more = stays_closed turn.0 new xs (ap stays_open here.1) turn.2 in
-    record { unheard = (here.0, more.unheard); writer = more.writer ∙ ap (λ w. w.writer) here.1 }
+stays_closed old new (x ∷ xs) closed turn = search (rules, arith, stays_closed turn.0 new xs)
 
 -- nothing is heard if nothing was read
 none_heard : (reply : Result Heard HeardFault) (head_only : Bool) (old new : AnswerReaderState)
@@ -408,22 +327,13 @@ nothing_heard (Err fault) true head_only old new told h held none =
 nothing_heard (Err fault) false head_only old new told h held none = h.0
 
 -- if more can be asked no byte is held, and no fault broke it
-and_true : (a b : Bool) → (a && b) ≡ true → (a ≡ true) × (b ≡ true)
-and_true true b e = (refl, e)
-and_true false b e = absurd (true≢false (sym e))
-
 none_held : (w : WireState) → stays_open w ≡ true → w.reader.input.held ≡ []
-none_held w is =
-    let held =
-    (and_true w.reader.keep (length w.reader.input.held == 0)
-    (and_true (not w.broken) (w.reader.keep && (length w.reader.input.held == 0)) is).1).1 in
-    nil_from_length w.reader.input.held (eqb-true (length w.reader.input.held) 0 held)
+none_held w is = search (rules, arith, and_parts, nil_from_length, eqb-true)
 
 unheard_one : (may_ask : Bool) (old new : WireState) (ask : Ask) (told : Option Heard) → stays_open old ≡ may_ask
     → (asked : AsksWhere may_ask old ask told new) → (one_grows may_ask old new ask told asked).read ≡ [] → told ≡ None
 unfolding one_grows exchange_grows
-unheard_one true old new ask told is asked none =
-    nothing_heard asked.written (has_body ask) (wants_head ask) old new told asked.hears (none_held old is) none
+unheard_one true old new ask told is asked none = search (rules, arith, nothing_heard, none_held)
 unheard_one false old new ask told is asked none = asked.0
 
 -- if nothing more was read nothing more was heard
@@ -434,14 +344,13 @@ silent (x ∷ xs) old new more turn e =
     let here = one_grows (stays_open old) old turn.0 x.ask x.heard turn.1 in
     let later = all_grow turn.0 new xs turn.2 in
     let nothing_read = none_added old.reader.input.source.given (here.read ++ (later.read ++ more))
-    (e ∙ ap (λ t. t ++ more) later.given ∙ append_assoc turn.0.reader.input.source.given later.read more
-    ∙ ap (λ t. t ++ (later.read ++ more)) here.given
-    ∙ append_assoc old.reader.input.source.given here.read (later.read ++ more)) in
-    let none_here : here.read ≡ [] = none_before here.read (later.read ++ more) nothing_read in
-    let same : turn.0.reader.input.source.given ≡ old.reader.input.source.given =
-    here.given ∙ ap (λ t. old.reader.input.source.given ++ t) none_here ∙ append-nil old.reader.input.source.given in (
+    (cc (
+      append_assoc turn.0.reader.input.source.given later.read more,
+      append_assoc old.reader.input.source.given here.read (later.read ++ more),
+    )) in
+    let none_here : here.read ≡ [] = none_before here.read (later.read ++ more) nothing_read in (
       unheard_one (stays_open old) old turn.0 x.ask x.heard refl turn.1 none_here,
-      silent xs turn.0 new more turn.2 (same ∙ e),
+      silent xs turn.0 new more turn.2 (cc (append-nil old.reader.input.source.given)),
     )
 
 -- ---- both ends
@@ -460,26 +369,19 @@ ask_read : (written : Result ⊤ WriteFault) (max : ℕ) (ask : Ask) (host messa
     → IsAskRead ask host message read style old new
 unfolding wrote_front
 ask_read (Ok u) max ask host message read style old new more later may is w ends e =
-    let asked = asks_read_back max ask host may.limit may.writable may.parts may.to_host may.short may.fits in
-    let same = same_request max read ask style (written_style ask) message (ask_text ask host) more later is asked e in
+    let same = same_request is (asked_request may) e in
     record { message_is = same.message; ask_is = same.ask; style_is = same.style; taken = w.takes.told }
 ask_read (Err fault) max ask host message read style old new more later may is w ends e =
-    let asked = asks_read_back max ask host may.limit may.writable may.parts may.to_host may.short may.fits in
-    let front_is : message ++ more ≡ w.front = e ∙ ap (λ t. w.front ++ t) (ends refl) ∙ append-nil w.front in
+    let front_is : message ++ more ≡ w.front = cc (ends refl, append-nil w.front) in
     let whole : message ++ (more ++ w.back) ≡ ask_text ask host ++ [] =
-    sym (append_assoc message more w.back) ∙ ap (λ t. t ++ w.back) front_is ∙ sym w.cut
-    ∙ sym (append-nil (ask_text ask host)) in
-    let same =
-    same_request max read ask style (written_style ask) message (ask_text ask host)
-    (more ++ w.back) [] is asked whole in
+    cc (append_assoc message more w.back, w.cut, append-nil (ask_text ask host)) in
+    let same = same_request is (asked_request may) whole in
     let none : more ≡ [] = none_before more w.back same.rest in
-    let all : w.front ≡ ask_text ask host =
-    sym front_is ∙ ap (λ t. message ++ t) none ∙ append-nil message ∙ same.message in
     record {
       message_is = same.message;
       ask_is = same.ask;
       style_is = same.style;
-      taken = w.takes.told ∙ ap (λ t. old.taken ++ t) all;
+      taken = cc (w.takes.told, append-nil message);
     }
 
 -- the style of a request decides how its reply is read
@@ -523,19 +425,14 @@ module _ (y : WireExchange) (keep : Bool) (ask : Ask) (audible : IsAudible y) (s
       → Whole (read_front written body (wants_head ask) old new told h).0
       → AnswerSays y.answer told × (new.broken ≡ false → new.reader.input.held ++ later ≡ replied)
   unfolding read_front
-  reply_says (Ok u) body told h e =
-      let one = one_reply h.0 h.1 e in (subst (AnswerSays y.answer) (sym h.2) one.0, λ whole. one.2 (sym h.3 ∙ whole))
+  reply_says (Ok u) body told h e = search (rules, arith, one_reply)
   reply_says (Err fault) true told h e =
       let one = one_reply h.0 h.1 e in
       (subst (AnswerSays y.answer) (sym h.2) one.1, λ whole. absurd (true≢false (sym h.3 ∙ whole)))
   reply_says (Err fault) false told h e = (inl h.0, λ whole. absurd (true≢false (sym h.2 ∙ whole)))
 
-not_true : (b : Bool) → not b ≡ true → b ≡ false
-not_true true e = absurd (true≢false (sym e))
-not_true false e = refl
-
 sound : (w : WireState) → stays_open w ≡ true → w.broken ≡ false
-sound w is = not_true w.broken (and_true (not w.broken) (w.reader.keep && (length w.reader.input.held == 0)) is).0
+sound w is = not-true w.broken (and_parts (not w.broken) _ is).0
 
 closed_by_fault : (w : WireState) → w.broken ≡ true → stays_open w ≡ false
 closed_by_fault w broken = ap (λ b. not b && (w.reader.keep && (length w.reader.input.held == 0))) broken
@@ -557,105 +454,107 @@ next_text read x xs old new turn exchanged message behind read_is there =
     let later : Grows turn.0 new = all_grow turn.0 new xs turn.2 in
     let front = wrote_front exchanged.written old.writer turn.0.writer (ask_text x.ask old.host) exchanged.wrote in
     append_cancel_left old.writer.taken (message ++ (behind ++ there.0)) (front.0 ++ later.written)
-    (ap (λ t. old.writer.taken ++ t) (sym (append_assoc message behind there.0))
-    ∙ sym (append_assoc old.writer.taken (message ++ behind) there.0)
-    ∙ ap (λ t. t ++ there.0) (sym read_is)
-    ∙ sym there.1
-    ∙ later.taken
-    ∙ ap (λ t. t ++ later.written) front.1
-    ∙ append_assoc old.writer.taken front.0 later.written)
+    (cc (
+      append_assoc message behind there.0,
+      append_assoc old.writer.taken (message ++ behind) there.0,
+      append_assoc old.writer.taken front.0 later.written,
+      there.1,
+      front.1,
+    ))
 
 -- behind a write that failed nothing more is written
 next_ends : (x : TransportCall) (xs : List TransportCall) (old new : WireState) (turn : AsksInTurn old (x ∷ xs) new)
     (exchanged : Exchanges old x.ask x.heard turn.0) → is_err exchanged.written ≡ true
     → (all_grow turn.0 new xs turn.2).written ≡ []
 next_ends x xs old new turn exchanged failed =
-    let mid : WireState = turn.0 in
-    let later : Grows mid new = all_grow mid new xs turn.2 in
-    let broken =
-    err_breaks exchanged.written (has_body x.ask) (wants_head x.ask) old mid x.heard
-    exchanged.hears failed in
-    let stays = stays_closed mid new xs (closed_by_fault mid broken) turn.2 in
-    none_added mid.writer.taken later.written (sym (ap (λ s. s.taken) stays.writer) ∙ later.taken)
+    search (rules, arith, all_grow, err_breaks, stays_closed, closed_by_fault, none_added)
 
--- `read` is what the worker's reads gave, and `written` all its replies
-module _ (max : ℕ) (known : Ask → Type 0) (host rest read written : List ℕ) (us : List Unanswered)
-    (us_read : AreUnansweredRead max us) (only : length us ≤ 1) where
+-- `read` is what the worker's reads gave, and `tail` what it read behind these requests
+module _ {A : Type 0} (seen : A → Received) (max : ℕ) (host read tail : List ℕ) where
   -- what the worker read that is left where the client wrote so far
-  abbrev IsLeft : List Turn → WireState → Type 0
-  IsLeft ts old = read ≡ old.writer.taken ++ (all_read ts ++ (unanswered_read us ++ rest))
+  abbrev IsLeft : List A → WireState → Type 0
+  IsLeft ys old = read ≡ old.writer.taken ++ (bytes_of seen ys ++ tail)
+
+  none_left : (ys : List A) (old new : WireState) → AreRead seen max ys → new.writer ≡ old.writer → IsLeft ys old
+      → IsPrefix read new.writer.taken → ys ≡ []
+  none_left ys old new kept same is there = none_read seen max old.writer.taken ys tail there.0 kept (cc (there.1))
+
+  -- one request was asked and read
+  record OneRead (x : TransportCall) (y : A) (ys : List A) (old mid : WireState) : Type 0 where
+    exchanged : Exchanges old x.ask x.heard mid
+    read_as : IsAskRead x.ask old.host (seen y).message (seen y).ask (seen y).style old.writer mid.writer
+    left : IsLeft ys mid
+
+  one_read : (x : TransportCall) (xs : List TransportCall) (y : A) (ys : List A) (old new : WireState)
+      (turn : AsksInTurn old (x ∷ xs) new) → stays_open old ≡ true → old.host ≡ host → MayBeAsked max x.ask host
+      → AreRead seen max (y ∷ ys) → IsLeft (y ∷ ys) old → IsPrefix read new.writer.taken → OneRead x y ys old turn.0
+  one_read x xs y ys old new turn opened host_is may kept is there =
+      let mid : WireState = turn.0 in
+      let exchanged : Exchanges old x.ask x.heard mid =
+      subst (λ b. AsksWhere b old x.ask x.heard mid) opened turn.1 in
+      let message : List ℕ = (seen y).message in
+      let behind : List ℕ = bytes_of seen ys ++ tail in
+      let here : read ≡ old.writer.taken ++ (message ++ behind) = cc (append_assoc message (bytes_of seen ys) tail) in
+      let ask =
+      ask_read exchanged.written max x.ask old.host message (seen y).ask (seen y).style old.writer mid.writer
+      (behind ++ there.0) (all_grow mid new xs turn.2).written
+      (subst (λ h. MayBeAsked max x.ask h) (sym host_is) may) kept.0 exchanged.wrote
+      (next_ends x xs old new turn exchanged) (next_text read x xs old new turn exchanged message behind here there) in
+      record {
+        exchanged = exchanged;
+        read_as = ask;
+        left = cc (append_assoc old.writer.taken (ask_text x.ask old.host) behind);
+      }
+
+-- `written` is all that the worker replied; of the requests that it read, `us` were not answered
+module _ (max : ℕ) (known : Ask → Type 0) (host rest read written : List ℕ) (us : List Received)
+    (us_read : AreRead itself max us) (only : length us ≤ 1) where
+  abbrev AreLeft : List Turn → WireState → Type 0
+  AreLeft ts old = IsLeft received max host read (bytes_of itself us ++ rest) ts old
 
   abbrev asks_left : List Ask
-  asks_left = map (λ (u : Unanswered). u.ask) us
-
-  none_left : (ts : List Turn) (old new : WireState) → AreRead max ts → new.writer ≡ old.writer → IsLeft ts old
-      → IsPrefix read new.writer.taken → ts ≡ []
-  none_left ts old new kept same is there =
-      none_read max old.writer.taken ts (unanswered_read us ++ rest) there.0 kept
-      (sym (ap (λ s. s.taken) same) ∙ there.1 ∙ ap (λ t. t ++ there.0) is)
-
-  none_unanswered_left : (old new : WireState) → new.writer ≡ old.writer → IsLeft [] old
-      → IsPrefix read new.writer.taken → us ≡ []
-  none_unanswered_left old new same is there =
-      none_unanswered max old.writer.taken us rest there.0 us_read
-      (sym (ap (λ s. s.taken) same) ∙ there.1 ∙ ap (λ t. t ++ there.0) is)
-
-  -- the next request that the worker read is the next ask
-  next_read : (x : TransportCall) (xs : List TransportCall) (old new : WireState) (turn : AsksInTurn old (x ∷ xs) new)
-      (exchanged : Exchanges old x.ask x.heard turn.0) → MayBeAsked max x.ask old.host
-      → (message : List ℕ) (ask : Ask) (style : Style) (behind : List ℕ) → IsRequest max message ask style
-      → read ≡ old.writer.taken ++ (message ++ behind) → IsPrefix read new.writer.taken
-      → IsAskRead x.ask old.host message ask style old.writer turn.0.writer
-  next_read x xs old new turn exchanged may message ask style behind is read_is there =
-      ask_read exchanged.written max x.ask old.host message ask style old.writer turn.0.writer (behind ++ there.0)
-      (all_grow turn.0 new xs turn.2).written may is exchanged.wrote
-      (next_ends x xs old new turn exchanged) (next_text read x xs old new turn exchanged message behind read_is there)
+  asks_left = map (λ (u : Received). u.ask) us
 
   -- behind the answered requests
-  unanswered_joined : (vs : List Unanswered) → us ≡ vs → (xs : List TransportCall) (old new : WireState)
-      → AsksInTurn old xs new → old.host ≡ host → AllByRecursion (λ x. MayBeAsked max x.ask host) xs → IsLeft [] old
+  unanswered_joined : (vs : List Received) → us ≡ vs → (xs : List TransportCall) (old new : WireState)
+      → AsksInTurn old xs new → old.host ≡ host → AllByRecursion (λ x. MayBeAsked max x.ask host) xs → AreLeft [] old
       → IsPrefix read new.writer.taken → AllByRecursion (λ x. x.heard ≡ None) xs
-      → AreUnanswered xs (map (λ (u : Unanswered). u.ask) vs)
+      → AreUnanswered xs (map (λ (u : Received). u.ask) vs)
   unanswered_joined [] is xs old new turn host_is may left there unheard = unheard
-  unanswered_joined (u ∷ w ∷ vs) is xs old new turn host_is may left there unheard =
-      let two = ap length is in absurd (omega (arith, two, only))
+  unanswered_joined (u ∷ w ∷ vs) is xs old new turn host_is may left there unheard = search (rules, arith)
   unanswered_joined (u ∷ []) is [] old new turn host_is may left there unheard =
-      let none = none_unanswered_left old new (ap (λ w. w.writer) turn) left there in
-      let both = sym is ∙ none in absurd (cc both)
+      absurd (cc (none_left itself max host read rest us old new us_read (ap (λ w. w.writer) turn) left there))
   unanswered_joined (u ∷ []) is (x ∷ xs) old new turn host_is may left there unheard =
       elim (stays_open old) as (λ b. stays_open old ≡ b → AreUnanswered (x ∷ xs) (u.ask ∷ [])) [
         | true ↦ λ opened.
-            let exchanged : Exchanges old x.ask x.heard turn.0 =
-            subst (λ b. AsksWhere b old x.ask x.heard turn.0) opened turn.1 in
-            let may_here : MayBeAsked max x.ask old.host = subst (λ h. MayBeAsked max x.ask h) (sym host_is) may.0 in
-            let u_read : AreUnansweredRead max (u ∷ []) = subst (AreUnansweredRead max) is us_read in
-            let read_is : read ≡ old.writer.taken ++ (u.message ++ rest) =
-            left ∙ ap (λ vs. old.writer.taken ++ (unanswered_read vs ++ rest)) is
-            ∙ ap (λ t. old.writer.taken ++ (t ++ rest)) (append-nil u.message) in
-            let found =
-            next_read x xs old new turn exchanged may_here u.message u.ask u.style rest u_read.0 read_is there in
-            (found.ask_is, unheard.0, unheard.1)
+            let one =
+            one_read itself max host read rest x xs u [] old new turn opened host_is may.0
+            (subst (AreRead itself max) is us_read) (subst (λ vs. IsLeft itself max host read rest vs old) is left)
+            there in
+            (one.read_as.ask_is, unheard.0, unheard.1)
         | false ↦ λ closed.
-            let none = none_unanswered_left old new (stays_closed old new (x ∷ xs) closed turn).writer left there in
-            let both = sym is ∙ none in absurd (cc both)
+            absurd (cc (none_left itself max host read rest us old new us_read
+            (stays_closed old new (x ∷ xs) closed turn).writer left there))
       ] refl
 
   joined : (xs : List TransportCall) (ts : List Turn) (old new : WireState) → AsksInTurn old xs new → old.host ≡ host
-      → AllByRecursion (λ x. MayBeAsked max x.ask host) xs → AllByRecursion (λ x. known x.ask) xs → AreRead max ts
-      → AllByRecursion (λ (t : Turn). MayBeHeard known t.0) ts → IsLeft ts old
+      → AllByRecursion (λ x. MayBeAsked max x.ask host) xs → AllByRecursion (λ x. known x.ask) xs
+      → AreRead received max ts → AllByRecursion (λ (t : Turn). MayBeHeard known t.0) ts → AreLeft ts old
       → (stays_open old ≡ true → written ≡ old.reader.input.source.given ++ all_replies ts)
       → IsPrefix read new.writer.taken
       → IsPrefix new.reader.input.source.given written → AreJoined xs (map (λ (t : Turn). t.0) ts) asks_left
   joined [] ts old new turn host_is may knows kept audible read_is opened there back =
-      let none = none_left ts old new kept (ap (λ w. w.writer) turn) read_is there in
+      let none =
+      none_left received max host read (bytes_of itself us ++ rest) ts old new kept (ap (λ w. w.writer) turn) read_is
+      there in
       subst (λ l. AreJoined [] (map (λ (t : Turn). t.0) l) asks_left) (sym none)
-      (unanswered_joined us refl [] old new turn host_is may (subst (λ l. IsLeft l old) none read_is) there tt)
+      (unanswered_joined us refl [] old new turn host_is may (subst (λ l. AreLeft l old) none read_is) there tt)
   joined (x ∷ xs) [] old new turn host_is may knows kept audible read_is opened there back =
       let unheard : AllByRecursion (λ x. x.heard ≡ None) (x ∷ xs) =
       elim (stays_open old) as (λ b. stays_open old ≡ b → AllByRecursion (λ x. x.heard ≡ None) (x ∷ xs)) [
         | true ↦ λ is.
-            silent (x ∷ xs) old new back.0 turn (sym (append-nil old.reader.input.source.given) ∙ sym (opened is)
-            ∙ back.1)
+            silent (x ∷ xs) old new back.0 turn
+            (cc (append-nil old.reader.input.source.given, opened is, back.1))
         | false ↦ λ closed. (stays_closed old new (x ∷ xs) closed turn).unheard
       ] refl in
       unanswered_joined us refl (x ∷ xs) old new turn host_is may read_is there unheard
@@ -664,71 +563,42 @@ module _ (max : ℕ) (known : Ask → Type 0) (host rest read written : List ℕ
       as (λ b. stays_open old ≡ b → AreJoined (x ∷ xs) (map (λ (t : Turn). t.0) (y ∷ ys)) asks_left) [
         | true ↦ λ is.
             let mid : WireState = turn.0 in
-            let exchanged : Exchanges old x.ask x.heard mid =
-            subst (λ b. AsksWhere b old x.ask x.heard mid) is turn.1 in
-            let may_here : MayBeAsked max x.ask old.host = subst (λ h. MayBeAsked max x.ask h) (sym host_is) may.0 in
+            let one =
+            one_read received max host read (bytes_of itself us ++ rest) x xs y ys old new turn is host_is may.0 kept
+            read_is there in
+            let exchanged : Exchanges old x.ask x.heard mid = one.exchanged in
+            let ask_is : y.0.ask ≡ x.ask = one.read_as.ask_is in
             let later : Grows mid new = all_grow mid new xs turn.2 in
-            let behind : List ℕ = all_read ys ++ (unanswered_read us ++ rest) in
-            let read_here : read ≡ old.writer.taken ++ (y.0.message ++ behind) =
-            read_is
-            ∙ ap (λ t. old.writer.taken ++ t) (append_assoc y.0.message (all_read ys) (unanswered_read us ++ rest)) in
-            let ask_is =
-            next_read x xs old new turn exchanged may_here y.0.message y.0.ask y.0.style behind kept.0
-            read_here there in
-            let read_next : IsLeft ys mid =
-            read_here
-            ∙ ap (λ t. old.writer.taken ++ (t ++ behind)) ask_is.message_is
-            ∙ sym (append_assoc old.writer.taken (ask_text x.ask old.host) behind)
-            ∙ ap (λ t. t ++ behind) (sym ask_is.taken) in
+            let behind : List ℕ = later.read ++ back.0 in
             let given =
             read_front exchanged.written (has_body x.ask) (wants_head x.ask) old mid x.heard exchanged.hears in
-            let reply_text : given.0 ++ (later.read ++ back.0) ≡ reply_of y ++ all_replies ys =
-            append_cancel_left old.reader.input.source.given (given.0 ++ (later.read ++ back.0))
-            (reply_of y ++ all_replies ys)
-            (sym (append_assoc old.reader.input.source.given given.0 (later.read ++ back.0))
-            ∙ ap (λ t. t ++ (later.read ++ back.0)) (sym given.1)
-            ∙ sym (append_assoc mid.reader.input.source.given later.read back.0)
-            ∙ ap (λ t. t ++ back.0) (sym later.given)
-            ∙ sym back.1
-            ∙ opened is) in
-            let can_hear : IsAudible y.0 =
-            audible.0 (subst known (sym ask_is.ask_is) knows.0)
-            (ask_is.style_is ∙ ap written_style (sym ask_is.ask_is)) in
+            let all : written ≡ mid.reader.input.source.given ++ behind =
+            cc (append_assoc mid.reader.input.source.given later.read back.0, back.1) in
             let told =
-            reply_says y.0 y.1 x.ask can_hear ask_is.style_is old mid (none_held old is)
-            (later.read ++ back.0) (all_replies ys)
-            exchanged.written (has_body x.ask) x.heard exchanged.hears reply_text in
-            let opened_next : stays_open mid ≡ true → written ≡ mid.reader.input.source.given ++ all_replies ys =
-            λ o. back.1
-            ∙ ap (λ t. t ++ back.0) later.given
-            ∙ append_assoc mid.reader.input.source.given later.read back.0
-            ∙ ap (λ t. mid.reader.input.source.given ++ t)
-            (ap (λ h. h ++ (later.read ++ back.0)) (sym (none_held mid o)) ∙ told.1 (sound mid o)) in (
-              ask_is.ask_is,
+            reply_says y.0 y.1 x.ask
+            (audible.0 (subst known (sym ask_is) knows.0) (one.read_as.style_is ∙ ap written_style (sym ask_is)))
+            one.read_as.style_is old mid (none_held old is) behind (all_replies ys) exchanged.written (has_body x.ask)
+            x.heard exchanged.hears
+            (append_cancel_left old.reader.input.source.given (given.0 ++ behind) (reply_of y ++ all_replies ys)
+            (cc (append_assoc old.reader.input.source.given given.0 behind, given.1, opened is))) in (
+              ask_is,
               told.0,
-              joined xs ys mid new turn.2 (exchanged.same_host ∙ host_is) may.1 knows.1 kept.1 audible.1 read_next
-                  opened_next there back,
+              joined xs ys mid new turn.2 (exchanged.same_host ∙ host_is) may.1 knows.1 kept.1 audible.1 one.left
+                  (λ o. cc (ap (λ h. h ++ behind) (none_held mid o), told.1 (sound mid o))) there back,
             )
         | false ↦ λ closed.
-            let none =
-            none_left (y ∷ ys) old new kept (stays_closed old new (x ∷ xs) closed turn).writer read_is there in
-            absurd (cc none)
+            absurd (cc (none_left received max host read (bytes_of itself us ++ rest) (y ∷ ys) old new kept
+            (stays_closed old new (x ∷ xs) closed turn).writer read_is there))
       ] refl
 
 -- ---- what is left is never bad
 
 no_empty_bad : (max : ℕ) (text : List ℕ) (why : Bad) → IsBad max text why → text ≡ [] → ⊥
 no_empty_bad max text why (inl x) none =
-    let all = ap length (sym none ∙ x.1.cut) in
-    absurd (omega (
-      arith,
-      all,
-      length-append (x.1.before ++ line_feed ∷ []) x.1.rest,
-      length-append x.1.before (line_feed ∷ []),
-    ))
+    let all = ap length (sym none ∙ x.1.cut) in absurd (omega (arith, all, length-append {A = ℕ}))
 no_empty_bad max text why (inr (inl x)) none =
     let all = ap length (sym none ∙ x.1.cut) in
-    let full = x.1.full in absurd (omega (arith, all, full, length-append x.1.front x.1.rest))
+    let full = x.1.full in absurd (omega (arith, all, full, length-append {A = ℕ}))
 no_empty_bad max text why (inr (inr (inl x))) none = no_empty_head text x.head x.rest x.reads none
 no_empty_bad max text why (inr (inr (inr x))) none = no_empty_head text x.head x.rest x.reads none
 
@@ -739,31 +609,17 @@ completed : (written : Result ⊤ WriteFault) (old new : SinkState) (whole rest 
     → (more : List ℕ) × (behind : List ℕ) × (rest ++ more ≡ whole ++ behind)
 unfolding wrote_front
 completed (Ok u) old new whole rest there later w ends e = (there, later, e)
-completed (Err fault) old new whole rest there later w ends e = (
-  there ++ w.back,
-  [],
-  sym (append_assoc rest there w.back)
-      ∙ ap (λ t. t ++ w.back) (e ∙ ap (λ t. w.front ++ t) (ends refl) ∙ append-nil w.front)
-      ∙ sym w.cut
-      ∙ sym (append-nil whole),
-)
+completed (Err fault) old new whole rest there later w ends e = search (rules, arith, append_assoc, append-nil)
 
 module _ (max : ℕ) (host rest read : List ℕ) where
   -- if no more was written nothing is left
-  none_behind : (ts : List Turn) (old new : WireState) → AreRead max ts → new.writer ≡ old.writer
-      → read ≡ old.writer.taken ++ (all_read ts ++ rest) → IsPrefix read new.writer.taken → rest ≡ []
-  none_behind ts old new kept same is there =
-      let none =
-      none_read max old.writer.taken ts rest there.0 kept
-      (sym (ap (λ s. s.taken) same) ∙ there.1 ∙ ap (λ t. t ++ there.0) is) in
-      let all = subst (λ l. read ≡ old.writer.taken ++ (all_read l ++ rest)) none is in
-      none_before rest there.0 (none_added old.writer.taken (rest ++ there.0)
-      (sym (ap (λ s. s.taken) same) ∙ there.1 ∙ ap (λ t. t ++ there.0) all
-      ∙ append_assoc old.writer.taken rest there.0))
+  none_behind : (ts : List Turn) (old new : WireState) → AreRead received max ts → new.writer ≡ old.writer
+      → IsLeft received max host read rest ts old → IsPrefix read new.writer.taken → rest ≡ []
+  none_behind ts old new kept same is there = search (rules, arith, none_left, none_before, none_added, append_assoc)
 
   never_bad : (xs : List TransportCall) (ts : List Turn) (old new : WireState) → AsksInTurn old xs new → old.host ≡ host
-      → AllByRecursion (λ x. MayBeAsked max x.ask host) xs → AreRead max ts
-      → read ≡ old.writer.taken ++ (all_read ts ++ rest) → IsPrefix read new.writer.taken → (why : Bad)
+      → AllByRecursion (λ x. MayBeAsked max x.ask host) xs → AreRead received max ts
+      → IsLeft received max host read rest ts old → IsPrefix read new.writer.taken → (why : Bad)
       → IsBad max rest why → ⊥
   never_bad [] ts old new turn host_is may kept read_is there why is_bad =
       no_empty_bad max rest why is_bad (none_behind ts old new kept (ap (λ w. w.writer) turn) read_is there)
@@ -772,39 +628,22 @@ module _ (max : ℕ) (host rest read : List ℕ) where
         | true ↦ λ is.
             let exchanged : Exchanges old x.ask x.heard turn.0 =
             subst (λ b. AsksWhere b old x.ask x.heard turn.0) is turn.1 in
-            let may_here : MayBeAsked max x.ask old.host = subst (λ h. MayBeAsked max x.ask h) (sym host_is) may.0 in
             let text =
-            next_text read x xs old new turn exchanged rest []
-            (read_is ∙ ap (λ t. old.writer.taken ++ t) (sym (append-nil rest))) there in
+            next_text read x xs old new turn exchanged rest [] (cc (append-nil rest)) there in
             let whole =
             completed exchanged.written old.writer turn.0.writer (ask_text x.ask old.host) rest there.0
             (all_grow turn.0 new xs turn.2).written exchanged.wrote
             (next_ends x xs old new turn exchanged) text in
-            asked_not_bad max x.ask old.host rest whole.0 whole.1 may_here whole.2 why is_bad
+            asked_not_bad max x.ask old.host rest whole.0 whole.1
+            (subst (λ h. MayBeAsked max x.ask h) (sym host_is) may.0) whole.2 why is_bad
         | false ↦ λ closed. no_empty_bad max rest why is_bad
             (none_behind [] old new kept (stays_closed old new (x ∷ xs) closed turn).writer read_is there)
       ] refl
   never_bad (x ∷ xs) (y ∷ ys) old new turn host_is may kept read_is there why is_bad =
       elim (stays_open old) as (λ b. stays_open old ≡ b → ⊥) [
         | true ↦ λ is.
-            let mid : WireState = turn.0 in
-            let exchanged : Exchanges old x.ask x.heard mid =
-            subst (λ b. AsksWhere b old x.ask x.heard mid) is turn.1 in
-            let may_here : MayBeAsked max x.ask old.host = subst (λ h. MayBeAsked max x.ask h) (sym host_is) may.0 in
-            let behind : List ℕ = all_read ys ++ rest in
-            let read_here : read ≡ old.writer.taken ++ (y.0.message ++ behind) =
-            read_is ∙ ap (λ t. old.writer.taken ++ t) (append_assoc y.0.message (all_read ys) rest) in
-            let ask_is =
-            ask_read exchanged.written max x.ask old.host y.0.message y.0.ask y.0.style old.writer mid.writer
-            (behind ++ there.0) (all_grow mid new xs turn.2).written may_here kept.0
-            exchanged.wrote (next_ends x xs old new turn exchanged)
-            (next_text read x xs old new turn exchanged y.0.message behind read_here there) in
-            let read_next : read ≡ mid.writer.taken ++ behind =
-            read_here
-            ∙ ap (λ t. old.writer.taken ++ (t ++ behind)) ask_is.message_is
-            ∙ sym (append_assoc old.writer.taken (ask_text x.ask old.host) behind)
-            ∙ ap (λ t. t ++ behind) (sym ask_is.taken) in
-            never_bad xs ys mid new turn.2 (exchanged.same_host ∙ host_is) may.1 kept.1 read_next there why is_bad
+            let one = one_read received max host read rest x xs y ys old new turn is host_is may.0 kept read_is there in
+            never_bad xs ys turn.0 new turn.2 (one.exchanged.same_host ∙ host_is) may.1 kept.1 one.left there why is_bad
         | false ↦ λ closed. no_empty_bad max rest why is_bad
             (none_behind (y ∷ ys) old new kept (stays_closed old new (x ∷ xs) closed turn).writer read_is there)
       ] refl
@@ -827,41 +666,38 @@ turns_answered : (xs : List WireExchange) (ts : List Turn)
 turns_answered [] ts = refl
 turns_answered (x ∷ xs) ts = ap (λ l. x ∷ l) (turns_answered xs ts)
 
-turns_read : (max : ℕ) (xs : List WireExchange) (ts : List Turn) → AllByRecursion (IsKept max) xs → AreRead max ts
-    → AreRead max (kept_turns xs ++ ts)
+turns_read : (max : ℕ) (xs : List WireExchange) (ts : List Turn) → AllByRecursion (IsKept max) xs → AreRead received max ts
+    → AreRead received max (kept_turns xs ++ ts)
 turns_read max [] ts kept read = read
 turns_read max (x ∷ xs) ts kept read = (kept.0.0, turns_read max xs ts kept.1 read)
-
-turns_audible : (known : Ask → Type 0) (ts : List Turn) → AllByRecursion (MayBeHeard known) (map (λ (t : Turn). t.0) ts)
-    → AllByRecursion (λ (t : Turn). MayBeHeard known t.0) ts
-turns_audible known [] audible = tt
-turns_audible known (t ∷ ts) audible = (audible.0, turns_audible known ts audible.1)
 
 -- how a conversation ends: at most one more request was answered, and at most one wasn't; of the replies this was lost
 record Ending (max : ℕ) (held : List ℕ) (sink after : SinkState) (ys : List WireExchange)
     (asks : List Ask) : Type 0 where
   ts : List Turn
-  us : List Unanswered
+  us : List Received
   rest : List ℕ
   lost : List ℕ
-  ts_read : AreRead max ts
-  us_read : AreUnansweredRead max us
+  ts_read : AreRead received max ts
+  us_read : AreRead itself max us
   only : length us ≤ 1
-  held_is : held ≡ all_read ts ++ (unanswered_read us ++ rest)
+  held_is : held ≡ all_read ts ++ (bytes_of itself us ++ rest)
   replied : after.taken ++ lost ≡ sink.taken ++ all_replies ts
   answers : map (λ (t : Turn). t.0) ts ≡ ys
-  asks_are : map (λ (u : Unanswered). u.ask) us ≡ asks
+  asks_are : map (λ (u : Received). u.ask) us ≡ asks
 
-no_more : (max : ℕ) (held : List ℕ) (sink after : SinkState) → after ≡ sink → Ending max held sink after [] []
-no_more max held sink after same = record {
+none_more : (max : ℕ) (held : List ℕ) (sink after : SinkState) (us : List Received) (rest : List ℕ)
+    → AreRead itself max us → length us ≤ 1 → held ≡ bytes_of itself us ++ rest → after ≡ sink
+    → Ending max held sink after [] (map (λ (u : Received). u.ask) us)
+none_more max held sink after us rest read only held_is same = record {
   ts = [];
-  us = [];
-  rest = held;
+  us = us;
+  rest = rest;
   lost = [];
   ts_read = tt;
-  us_read = tt;
-  only = omega arith;
-  held_is = refl;
+  us_read = read;
+  only = only;
+  held_is = held_is;
   replied = ap (λ s. s.taken ++ []) same;
   answers = refl;
   asks_are = refl;
@@ -878,8 +714,8 @@ one_more max count held sink after x more lost held_is read replied = record {
   ts_read = (read, tt);
   us_read = tt;
   only = omega arith;
-  held_is = held_is ∙ ap (λ t. t ++ more) (sym (append-nil x.message));
-  replied = replied ∙ ap (λ t. sink.taken ++ t) (sym (append-nil (reply x.answer (last_style count x.style))));
+  held_is = cc (append-nil x.message);
+  replied = cc (append-nil (reply x.answer (last_style count x.style)));
   answers = refl;
   asks_are = refl;
 }
@@ -887,7 +723,8 @@ one_more max count held sink after x more lost held_is read replied = record {
 ending : {D : Type 0} (step : Moves D) (max : ℕ) (s : conversation.Standing D) (new : ConnectionState D) (end : ConnEnd)
     (e : EndsWith step max s new end) → ((why : Bad) → IsBad max s.held why → ⊥)
     → Ending max s.held s.sink new.sink (answered_last step max s new end e) (unanswered_last step max s new end e)
-ending step max s new Clean e none = no_more max s.held s.sink new.sink e.2.unwritten
+ending step max s new Clean e none =
+    none_more max s.held s.sink new.sink [] s.held tt (omega arith) refl e.2.unwritten
 ending step max s new AfterClose e none =
     one_more max s.answered s.held s.sink new.sink e.0 e.1.more [] e.1.read e.1.request
     (append-nil new.sink.taken ∙ e.3.took.takes.told)
@@ -895,66 +732,55 @@ ending step max s new AfterBad e none = absurd (none e.0 e.1.bad)
 ending step max s new TooMany e none =
     one_more max s.answered s.held s.sink new.sink e.0 e.1.more [] e.1.read e.1.request
     (append-nil new.sink.taken ∙ e.4.took.takes.told)
-ending step max s new DeskGone e none = record {
-  ts = [];
-  us = record { message = e.0.message; ask = e.0.ask; style = e.0.style } ∷ [];
-  rest = e.0.more;
-  lost = [];
-  ts_read = tt;
-  us_read = (e.0.request, tt);
-  only = omega arith;
-  held_is = e.0.read ∙ ap (λ t. t ++ e.0.more) (sym (append-nil e.0.message));
-  replied = ap (λ k. k.taken ++ []) e.1;
-  answers = refl;
-  asks_are = refl;
-}
-ending step max s new (Fault (Conn.Wire fault)) e none = no_more max s.held s.sink new.sink e.1.unwritten
+ending step max s new DeskGone e none =
+    none_more max s.held s.sink new.sink
+    (record { message = e.0.message; ask = e.0.ask; style = e.0.style } ∷ []) e.0.more (e.0.request, tt) (omega arith)
+    (cc (e.0.read, append-nil e.0.message)) e.1
+ending step max s new (Fault (Conn.Wire fault)) e none =
+    none_more max s.held s.sink new.sink [] s.held tt (omega arith) refl e.1.unwritten
 ending step max s new (Fault Conn.Write) (inl w) none =
     one_more max s.answered s.held s.sink new.sink w.0 w.1.more w.2.back w.1.read w.1.request
-    (ap (λ t. t ++ w.2.back) w.2.takes.told ∙ append_assoc s.sink.taken w.2.front w.2.back
-    ∙ ap (λ t. s.sink.taken ++ t) (sym w.2.cut))
+    (cc (w.2.takes.told, append_assoc s.sink.taken w.2.front w.2.back, w.2.cut))
 ending step max s new (Fault Conn.Write) (inr w) none = absurd (none w.0 w.1.bad)
-
-later_known : (x : TransportCall) (xs ys : List TransportCall) → AllByRecursion (λ y. IsOneOf xs y.ask) ys
-    → AllByRecursion (λ y. IsOneOf (x ∷ xs) y.ask) ys
-later_known x xs [] all = tt
-later_known x xs (y ∷ ys) all = (inr all.0, later_known x xs ys all.1)
 
 all_known : (xs : List TransportCall) → AllByRecursion (λ x. IsOneOf xs x.ask) xs
 all_known [] = tt
-all_known (x ∷ xs) = (inl refl, later_known x xs xs (all_known xs))
+all_known (x ∷ xs) = (inl refl, all_weaker (λ y known. inr known) xs (all_known xs))
 
 pub connections_joined : {D : Type 0} (step : Moves D) → ConnectionsAreJoined step
 connections_joined {D} step max old new end c xs can wire wire' is_new turn may carries =
     let all_kept : List Turn = kept_turns c.exchanges in
     let left_is : new.source.given ≡ wire.writer.taken ++ (all_read all_kept ++ c.rest) =
-    c.gives.told ∙ ap (λ t. t ++ c.bytes) can.given ∙ c.served.read
-    ∙ ap (λ t. t ++ c.rest) (sym (kept_read c.exchanges))
-    ∙ ap (λ t. t ++ (all_read all_kept ++ c.rest)) (sym is_new.taken) in
-    let all_were_read : AreRead max all_kept =
-    subst (AreRead max) (append-nil all_kept) (turns_read max c.exchanges [] c.served.kept tt) in
+    rw (c.gives.told, can.given, is_new.taken, kept_read c.exchanges) c.served.read in
+    let all_were_read : AreRead received max all_kept =
+    subst (AreRead received max) (append-nil all_kept) (turns_read max c.exchanges [] c.served.kept tt) in
     let e = ending step max (stand (length c.exchanges) c.rest c.at c.mid) new end c.ended
     (never_bad max wire.host c.rest new.source.given xs all_kept wire wire' turn refl may all_were_read left_is
     carries.there) in
     let ts : List Turn = kept_turns c.exchanges ++ e.ts in
-    let tail : List ℕ = unanswered_read e.us ++ e.rest in
+    let tail : List ℕ = bytes_of itself e.us ++ e.rest in
     let all_is : all_read ts ≡ messages c.exchanges ++ all_read e.ts =
     flat_map-append (λ (t : Turn). t.0.message) (kept_turns c.exchanges) e.ts
     ∙ ap (λ t. t ++ all_read e.ts) (kept_read c.exchanges) in
     let read_is : new.source.given ≡ wire.writer.taken ++ (all_read ts ++ tail) =
-    c.gives.told ∙ ap (λ t. t ++ c.bytes) can.given ∙ c.served.read
-    ∙ ap (λ t. messages c.exchanges ++ t) e.held_is
-    ∙ sym (append_assoc (messages c.exchanges) (all_read e.ts) tail)
-    ∙ ap (λ t. t ++ tail) (sym all_is)
-    ∙ ap (λ t. t ++ (all_read ts ++ tail)) (sym is_new.taken) in
+    c.gives.told ∙ ap (λ t. t ++ c.bytes) can.given ∙ cc (
+      c.served.read,
+      e.held_is,
+      all_is,
+      append_assoc (messages c.exchanges) (all_read e.ts) tail,
+      ap (λ t. t ++ (all_read ts ++ tail)) is_new.taken,
+    ) in
     let replies_are : all_replies ts ≡ replies c.exchanges ++ all_replies e.ts =
     flat_map-append reply_of (kept_turns c.exchanges) e.ts
     ∙ ap (λ t. t ++ all_replies e.ts) (kept_replies c.exchanges) in
     let written_is : new.sink.taken ++ e.lost ≡ wire.reader.input.source.given ++ all_replies ts =
-    e.replied
-    ∙ ap (λ t. t ++ all_replies e.ts) (c.served.written.takes.told ∙ ap (λ t. t ++ replies c.exchanges) can.taken)
-    ∙ sym replies_are
-    ∙ ap (λ t. t ++ all_replies ts) (sym is_new.given) in
+    cc (
+      e.replied,
+      c.served.written.takes.told,
+      ap (λ t. t ++ replies c.exchanges) can.taken,
+      replies_are,
+      ap (λ t. t ++ all_replies ts) is_new.given,
+    ) in
     let back : IsPrefix wire'.reader.input.source.given (new.sink.taken ++ e.lost) = (
       carries.back.0 ++ e.lost,
       ap (λ t. t ++ e.lost) carries.back.1 ∙ append_assoc wire'.reader.input.source.given carries.back.0 e.lost,
@@ -965,7 +791,8 @@ connections_joined {D} step max old new end c xs can wire wire' is_new turn may 
     joined max (IsOneOf xs) wire.host e.rest new.source.given (new.sink.taken ++ e.lost) e.us e.us_read e.only xs ts
     wire wire' turn refl may (all_known xs)
     (turns_read max c.exchanges e.ts c.served.kept e.ts_read)
-    (turns_audible (IsOneOf xs) ts (subst (AllByRecursion (MayBeHeard (IsOneOf xs))) (sym answers_are) can.audible))
+    (all_mapped (MayBeHeard (IsOneOf xs)) (λ (t : Turn). t.0) ts
+    (subst (AllByRecursion (MayBeHeard (IsOneOf xs))) (sym answers_are) can.audible))
     read_is (λ o. written_is) carries.there back in
     subst (λ ys. AreJoined xs ys (unanswered step max old new end c)) answers_are
     (subst (AreJoined xs (map (λ (t : Turn). t.0) ts)) e.asks_are all)

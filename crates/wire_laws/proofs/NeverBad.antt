@@ -1,7 +1,6 @@
 -- No text that an ask begins with is refused as bad.
-use Rattle.std.proofs.Common.{◌≡◌, ℕ, ◌+◌, ◌≤◌, List, [], ◌∷◌, ◌++◌, refl, sym, ap, subst, ◌∙◌, arith, append_assoc}
-use Rattle.std.proofs.Common.{inl, inr, Ok, Err}
-use Rattle.httparse.specs.Ascii.{line_feed}
+use Rattle.std.proofs.Common.{◌≡◌, ℕ, ◌+◌, ◌≤◌, List, ◌∷◌, ◌++◌, refl, sym, ap, subst, ◌∙◌, arith, append_assoc}
+use Rattle.std.proofs.Common.{inl, inr, Ok, Err, rules}
 use Rattle.httparse.specs.Grammar.{RequestHead, print_request}
 use Rattle.upload_service.specs.declared.ask.Ask.{Ask}
 use Rattle.http_wire.specs.Body.{head_framing, IsBadBody, IsBodyText}
@@ -11,6 +10,7 @@ use Rattle.http_wire.specs.declared.fault.Bad.{Bad}
 use Rattle.http_wire.specs.declared.fault.Bad.TheVariants as bads
 use Rattle.http_wire.specs.declared.body.Framing.{Framing}
 use Rattle.http_wire.specs.declared.body.Framing.TheVariants.{Length, Chunked}
+use Rattle.http_wire.proofs.Heads.ReadLemmas.{ReadsHead-more}
 use Rattle.http_wire.proofs.UnambiguousBodies.{bodies_unambiguous}
 use Rattle.http_wire.proofs.UnambiguousHeads.{requests_unambiguous}
 use Rattle.upload_wire.specs.RequestText.{IsBad, IsRequest}
@@ -19,33 +19,14 @@ use Rattle.upload_wire.proofs.UnambiguousRequests.{requests_are_unambiguous}
 use Rattle.upload_client.specs.AskText.{ask_text}
 use Rattle.wire_laws.specs.WrittenAsks.{written_style}
 use Rattle.wire_laws.specs.WrittenExchanges.{MayBeAsked}
-use Rattle.wire_laws.proofs.WrittenRequests.{asks_read_back, heads_written}
+use Rattle.wire_laws.proofs.WrittenRequests.{asked_request, heads_written}
 
 -- ---- what is bad stays bad, whatever follows
-
-read_longer : (text more : List ℕ) (h : RequestHead) (rest : List ℕ) → ReadsHead requests text h rest
-    → ReadsHead requests (text ++ more) h (rest ++ more)
-read_longer text more h rest r = record {
-  reads = (r.reads.0, ap (λ t. t ++ more) r.reads.1 ∙ append_assoc (print_request h) rest more);
-  short = r.short;
-  few = r.few;
-}
 
 body_longer : (framing : Framing) (text more : List ℕ) (why : Bad) → IsBadBody framing text why
     → IsBadBody framing (text ++ more) why
 body_longer (Length n) text more why is = absurd is
-body_longer (Chunked most) text more why (inl over) = inl (
-  over.0,
-  record {
-    chunks = over.1.chunks;
-    digits = over.1.digits;
-    rest = over.1.rest ++ more;
-    each = over.1.each;
-    size = over.1.size;
-    cut = ap (λ t. t ++ more) over.1.cut ∙ simp append_assoc;
-    over = over.1.over;
-  },
-)
+body_longer (Chunked most) text more why (inl over) = search (rules, arith, append_assoc)
 body_longer (Chunked most) text more why (inr broken) = inr (
   broken.0,
   record {
@@ -60,37 +41,18 @@ body_longer (Chunked most) text more why (inr broken) = inr (
 )
 
 bad_longer : (max : ℕ) (text more : List ℕ) (why : Bad) → IsBad max text why → IsBad max (text ++ more) why
-bad_longer max text more why (inl x) = inl (
-  x.0,
-  record {
-    before = x.1.before;
-    rest = x.1.rest ++ more;
-    cut = ap (λ t. t ++ more) x.1.cut ∙ append_assoc (x.1.before ++ line_feed ∷ []) x.1.rest more;
-    short = x.1.short;
-    none_before = x.1.none_before;
-    refused = x.1.refused;
-  },
-)
-bad_longer max text more why (inr (inl x)) = inr (inl (
-  x.0,
-  record {
-    front = x.1.front;
-    rest = x.1.rest ++ more;
-    cut = ap (λ t. t ++ more) x.1.cut ∙ append_assoc x.1.front x.1.rest more;
-    full = x.1.full;
-    none = x.1.none;
-  },
-))
+bad_longer max text more why (inl x) = search (rules, arith, append_assoc)
+bad_longer max text more why (inr (inl x)) = search (rules, arith, append_assoc)
 bad_longer max text more why (inr (inr (inl x))) = inr (inr (inl (record {
   head = x.head;
   rest = x.rest ++ more;
-  reads = read_longer text more x.head x.rest x.reads;
+  reads = ReadsHead-more more refl x.reads;
   refused = x.refused;
 })))
 bad_longer max text more why (inr (inr (inr x))) = inr (inr (inr (record {
   head = x.head;
   rest = x.rest ++ more;
-  reads = read_longer text more x.head x.rest x.reads;
+  reads = ReadsHead-more more refl x.reads;
   framing = x.framing;
   framed = x.framed;
   refused = body_longer x.framing x.rest more why x.refused;
@@ -115,8 +77,7 @@ same_head text h k rest more a b =
 no_bad_body : (framing : Framing) (text body more : List ℕ) (why : Bad) → IsBodyText framing text body
     → IsBadBody framing (text ++ more) why → ⊥
 no_bad_body framing text body more why is bad =
-    absurd (cc (bodies_unambiguous framing (text ++ more) (whole body more) (refused why)
-    (record { message = text; split = refl; written = is }) bad))
+    cc (bodies_unambiguous framing (text ++ more) (whole body more) (refused why) (record { message = text; split = refl; written = is }) bad)
 
 not_bad : (max : ℕ) (message behind : List ℕ) (ask : Ask) (style : Style) (h : RequestHead) (rest : List ℕ)
     → IsRequest max message ask style → ReadsHead requests message h rest
@@ -125,23 +86,23 @@ not_bad max message behind ask style h rest is reads few why (inl x) =
     let bad : IsBad max (message ++ behind) bads.Head = inl (refl, x.1) in
     let many =
     requests_are_unambiguous.refused max (message ++ behind) h (rest ++ behind)
-    (read_longer message behind h rest reads) bad in
+    (ReadsHead-more behind refl reads) bad in
     absurd (omega (arith, many, few))
 not_bad max message behind ask style h rest is reads few why (inr (inl x)) =
     let same : ◌≡◌ {A = HeadParse requests} (head h (rest ++ behind)) long =
     requests_unambiguous.one (message ++ behind) (head h (rest ++ behind)) long
-    (read_longer message behind h rest reads) x.1 in
+    (ReadsHead-more behind refl reads) x.1 in
     absurd (cc same)
 not_bad max message behind ask style h rest is reads few why (inr (inr (inl x))) =
     let same =
     same_head (message ++ behind) is.head x.head (is.rest ++ behind) x.rest
-    (read_longer message behind is.head is.rest is.reads) x.reads in
+    (ReadsHead-more behind refl is.reads) x.reads in
     let framings : ◌≡◌ (Ok is.framing) (Err why) = sym is.framed ∙ ap (head_framing max) same.heads ∙ x.refused in
     absurd (cc framings)
 not_bad max message behind ask style h rest is reads few why (inr (inr (inr x))) =
     let same =
     same_head (message ++ behind) is.head x.head (is.rest ++ behind) x.rest
-    (read_longer message behind is.head is.rest is.reads) x.reads in
+    (ReadsHead-more behind refl is.reads) x.reads in
     let oks : ◌≡◌ (Ok is.framing) (Ok x.framing) = sym is.framed ∙ ap (head_framing max) same.heads ∙ x.framed in
     let framings : is.framing ≡ x.framing = cc in
     no_bad_body is.framing is.rest is.body behind why is.written
@@ -152,9 +113,7 @@ not_bad max message behind ask style h rest is reads few why (inr (inr (inr x)))
 pub asked_not_bad : (max : ℕ) (ask : Ask) (host text more behind : List ℕ) → MayBeAsked max ask host
     → text ++ more ≡ ask_text ask host ++ behind → (why : Bad) → IsBad max text why → ⊥
 asked_not_bad max ask host text more behind may is why bad =
-    let asked : IsRequest max (ask_text ask host) ask (written_style ask) =
-    asks_read_back max ask host may.limit may.writable may.parts may.to_host may.short may.fits in
-    let written = heads_written max ask host may.limit may.writable may.parts may.to_host may.short may.fits in
-    not_bad max (ask_text ask host) behind ask (written_style ask) written.head written.rest asked written.reads
-    written.lines why
+    let written = heads_written may in
+    not_bad max (ask_text ask host) behind ask (written_style ask) written.head written.rest (asked_request may)
+    written.reads written.lines why
     (subst (λ t. IsBad max t why) is (bad_longer max text more why bad))

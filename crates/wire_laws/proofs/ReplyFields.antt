@@ -1,7 +1,7 @@
 -- The fields of a written reply are read as what they say.
 use Rattle.std.proofs.Common.{◌≡◌, ℕ, ◌+◌, ◌-◌, ◌<◌, ◌≤◌, ◌^◌, Bool, true, false, codes, List, [], ◌∷◌, ◌++◌, All}
-use Rattle.std.proofs.Common.{length, filter, get_or, map, refl, arith, ◌∙◌, sym, ap, subst, Option, Some, None, Ok}
-use Rattle.std.proofs.Common.{append-nil, length-append, nat_le, ◌==◌, if◌then◌else◌, lit≤, lit<}
+use Rattle.std.proofs.Common.{length, get_or, refl, arith, ◌∙◌, sym, ap, subst, Option, Some, None, Ok}
+use Rattle.std.proofs.Common.{append-nil, length-append, nat_le, if◌then◌else◌, lit≤, lit<, rules}
 use Rattle.std.proofs.lemmas.Bool.{and_parts}
 use Rattle.std.proofs.lemmas.Bool.Decides.{nat_tests}
 use Rattle.std.proofs.lemmas.Fmt.{length-decimal-le}
@@ -12,10 +12,8 @@ use Rattle.std.specs.List.{list_all}
 use Rattle.std.specs.Prelude.{decimal}
 use Rattle.std.specs.Char.{is_ascii_graphic}
 use Rattle.httparse.specs.Grammar.{AllPass, is_token_byte, is_value_byte, trim_ows}
-use Rattle.upload_names.specs.NamePass.{is_name, is_in_grammar}
-use Rattle.upload_names.specs.NameBytes.{longest_name}
+use Rattle.upload_names.specs.NamePass.{is_name}
 use Rattle.upload_names.specs.Digest.{Digest, IsDigest, digest_text}
-use Rattle.upload_names.specs.Reference.{reference_text}
 use Rattle.upload_names.specs.ByteRange.{range_cap}
 use Rattle.upload_names.proofs.DigestFacts.{digest_of-text}
 use Rattle.upload_names.proofs.RangeFacts.{range_of-spelled}
@@ -25,7 +23,7 @@ use Rattle.upload_service.specs.declared.answer.Form.TheVariants as forms
 use Rattle.upload_service.specs.declared.answer.Refusal.{Refusal}
 use Rattle.upload_service.specs.declared.answer.Refusal.TheVariants as refusals
 use Rattle.form_urlencoded.specs.Form.{split}
-use Rattle.http_wire.specs.Fields.{Fields, values_of, first_of, same_word, keeps_connection, lists_close}
+use Rattle.http_wire.specs.Fields.{Fields, values_of, first_of, keeps_connection, lists_close}
 use Rattle.http_wire.specs.HeadText.{HeadField, closing_fields, length_field}
 use Rattle.upload_wire.specs.ReplyText.{allow_fields, body_fields, blob_location, error_fields, methods, upload_fields}
 use Rattle.upload_wire.specs.ReplyText.{upload_location}
@@ -53,32 +51,21 @@ graphic_text text h = AllPass-weaker is_plain_byte is_ascii_graphic text plain_g
 
 location_short : (path : List ℕ) → IsPlain path → length path ≤ 450 → IsShortField (codes "Location", path)
 unfolding is_token_byte
-location_short path h short =
-    record { plain = plain_field (codes "Location") path refl refl (graphic_text path h); short = omega (arith, short) }
+location_short path h short = search (rules, arith, plain_field, graphic_text)
 
 digest_length : (digest : Digest) → IsDigest digest → length (digest_text digest) ≤ 135
 digest_length digest h = short_text (digest_text digest) digest (digest_of-text digest h)
 
 digest_short : (digest : Digest) → IsDigest digest → IsShortField (codes "Docker-Content-Digest", digest_text digest)
 unfolding is_token_byte
-digest_short digest h = record {
-  plain =
-      plain_field (codes "Docker-Content-Digest") (digest_text digest) refl refl
-      (graphic_text (digest_text digest) (digest_plain digest h));
-  short = omega (arith, digest_length digest h);
-}
+digest_short digest h = search (rules, arith, plain_field, graphic_text, digest_plain, digest_length)
 
 octets_short : IsShortField (codes "Content-Type", codes "application/octet-stream")
 octets_short = record { plain = type_plain; short = lit≤ tt }
 
 json_short : IsShortField (codes "Content-Type", codes "application/json")
 unfolding is_token_byte
-json_short = record {
-  plain =
-      plain_field (codes "Content-Type") (codes "application/json") refl refl
-      (AllPass-from_list_all is_ascii_graphic (codes "application/json") refl);
-  short = lit≤ tt;
-}
+json_short = search (rules, arith, plain_field, AllPass-from_list_all)
 
 length_short : (n : ℕ) → n < 2 ^ 64 → IsShortField (length_field n)
 length_short n small = record {
@@ -91,49 +78,25 @@ allowed : (value : List ℕ) → list_all is_value_byte value ≡ true → trim_
     → length (codes "Allow") + length value ≤ 500
     → IsShortField (codes "Allow", value)
 unfolding is_token_byte
-allowed value v kept short = record {
-  plain = record {
-    name = (lit< tt, AllPass-from_list_all is_token_byte (codes "Allow") refl);
-    value = AllPass-from_list_all is_value_byte value v;
-    kept = kept;
-  };
-  short = short;
-}
+allowed value v kept short = search (rules, arith, AllPass-from_list_all)
 
 allow_short : (form : Form) → IsShortField (codes "Allow", methods form)
 unfolding is_token_byte trim_ows
 allow_short forms.Base = allowed (methods forms.Base) refl refl (lit≤ tt)
-allow_short forms.Blob = allowed (methods forms.Blob) refl refl (lit≤ tt)
-allow_short forms.Uploads = allowed (methods forms.Uploads) refl refl (lit≤ tt)
-allow_short forms.Upload = allowed (methods forms.Upload) refl refl (lit≤ tt)
+allow_short other = allowed (methods other) refl refl (lit≤ tt)
 
 -- ---- paths
 
 name_length : (name : List ℕ) → is_name name ≡ true → length name ≤ 255
 unfolding is_name
-name_length name h = under (length name) 255 (and_parts (is_in_grammar name) (nat_le (length name) longest_name) h).1
-  where
-    under : (n m : ℕ) → nat_le n m ≡ true → n ≤ m
-    under n m h = grind (arith, nat_tests)
+name_length name h = search (rules, arith, and_parts, nat_le)
 
 pub upload_length : (name at : List ℕ) → is_name name ≡ true → length (upload_location name at) ≤ 450
-upload_length name at n =
-    omega (
-      arith,
-      name_length name n,
-      length-reference_text at,
-      length-append name (codes "/blobs/uploads/" ++ reference_text at),
-    )
+upload_length name at n = search (rules, arith, name_length, length-reference_text, length-append)
 
 pub blob_length : (name : List ℕ) (digest : Digest) → is_name name ≡ true → IsDigest digest
     → length (blob_location name digest) ≤ 450
-blob_length name digest n d =
-    omega (
-      arith,
-      name_length name n,
-      digest_length digest d,
-      length-append name (codes "/blobs/" ++ digest_text digest),
-    )
+blob_length name digest n d = search (rules, arith, name_length, digest_length, length-append)
 
 -- a path is read as the place
 place_read : (path : List ℕ) → IsPlain path → length path ≤ 450 → get_or path 0 0 ≡ 47
@@ -180,6 +143,32 @@ pub record Says (fields : Fields) (lengths : List (List ℕ)) (place : Option (L
   pub upto_is : upto_of (range fields) ≡ Ok upto
   pub connection : values_of (codes "connection") fields ≡ []
 
+-- the values of the fields that count
+record Counted : Type 0 where
+  coding : List (List ℕ)
+  lengths : List (List ℕ)
+  place : Option (List ℕ)
+  upto : Option (List ℕ)
+  connection : List (List ℕ)
+
+abbrev counted : Fields → Counted
+counted fields = record {
+  coding = values_of (codes "transfer-encoding") fields;
+  lengths = values_of (codes "content-length") fields;
+  place = location fields;
+  upto = range fields;
+  connection = values_of (codes "connection") fields;
+}
+
+abbrev only : List (List ℕ) → Option (List ℕ) → Counted
+only lengths place = record { coding = []; lengths = lengths; place = place; upto = None; connection = [] }
+
+-- fields that say lengths and perhaps a place
+says : {fields : Fields} {lengths : List (List ℕ)} {place : Option (List ℕ)} → All IsShortField fields
+    → length fields ≤ 5 → counted fields ≡ only lengths place → IsPlaceOf place (Ok place)
+    → Says fields lengths place None
+says {fields} {lengths} {place} short few is there = search (rules, arith)
+
 no_fields : All IsShortField []
 no_fields = All-nil IsShortField
 
@@ -193,32 +182,13 @@ one_length n small = with_field (length_field n) [] (length_short n small) no_fi
 -- a length alone
 pub length_says : (n : ℕ) → n < 2 ^ 64 → Says (length_field n ∷ []) (decimal n ∷ []) None None
 unfolding values_of
-length_says n small =
-    record {
-      short = one_length n small;
-      few = omega arith;
-      coding = refl;
-      lengths_are = refl;
-      place_is = refl;
-      upto_is = refl;
-      connection = refl;
-    }
+length_says n small = says (one_length n small) (omega arith) refl refl
 
 -- a place and a length of 0
 pub place_says : (path : List ℕ) → IsPlain path → length path ≤ 450 → get_or path 0 0 ≡ 47
     → Says ((codes "Location", path) ∷ length_field 0 ∷ []) (decimal 0 ∷ []) (Some path) None
 unfolding values_of
-place_says path h short slash = record {
-  short =
-      with_field (codes "Location", path) (length_field 0 ∷ []) (location_short path h short)
-      (one_length 0 (omega arith));
-  few = omega arith;
-  coding = refl;
-  lengths_are = refl;
-  place_is = place_read path h short slash;
-  upto_is = refl;
-  connection = refl;
-}
+place_says path h short slash = search (rules, arith, says, with_field, location_short, one_length, place_read)
 
 abbrev place_field : List ℕ → List ℕ → HeadField
 place_field name at = (codes "Location", upload_location name at)
@@ -276,29 +246,18 @@ upload_says : (name at : List ℕ) (next : ℕ) (more : Fields) (lengths : List 
     → next ≤ most_told → length more ≤ 2
     → Says more lengths None None → location more ≡ None → range more ≡ None
     → Says (upload_fields name at next ++ more) lengths (Some (upload_location name at)) (last_below next)
-upload_says name at next more lengths n le few m no_place no_range =
-    upload_by (next == 0) name at next more lengths n le few m no_place no_range
+upload_says name at next more lengths n le few m no_place no_range = search (rules, arith, upload_by)
 
 pub taken_says : (name at : List ℕ) (next : ℕ) → is_name name ≡ true → next ≤ most_told
     → Says (upload_fields name at next ++ length_field 0 ∷ []) (decimal 0 ∷ []) (Some (upload_location name at))
     (last_below next)
 unfolding values_of
-taken_says name at next n le =
-    upload_says name at next (length_field 0 ∷ []) (decimal 0 ∷ []) n le (omega arith)
-    (length_says 0 (omega arith)) refl refl
+taken_says name at next n le = search (rules, arith, upload_says, length_says)
 
 -- no fields
 pub nothing_says : Says [] [] None None
 unfolding values_of
-nothing_says = record {
-  short = no_fields;
-  few = omega arith;
-  coding = refl;
-  lengths_are = refl;
-  place_is = refl;
-  upto_is = refl;
-  connection = refl;
-}
+nothing_says = says no_fields (omega arith) refl refl
 
 pub standing_says : (name at : List ℕ) (next : ℕ) → is_name name ≡ true → next ≤ most_told
     → Says (upload_fields name at next) [] (Some (upload_location name at)) (last_below next)
@@ -312,30 +271,12 @@ pub found_says : (digest : Digest) (size : ℕ) → IsDigest digest → size < 2
     → Says ((codes "Docker-Content-Digest", digest_text digest) ∷ body_fields (codes "application/octet-stream") size)
     (decimal size ∷ []) None None
 unfolding values_of
-found_says digest size d small = record {
-  short =
-      with_field (codes "Docker-Content-Digest", digest_text digest)
-      (body_fields (codes "application/octet-stream") size) (digest_short digest d)
-      (with_field (codes "Content-Type", codes "application/octet-stream") (length_field size ∷ []) octets_short
-      (one_length size small));
-  few = omega arith;
-  coding = refl;
-  lengths_are = refl;
-  place_is = refl;
-  upto_is = refl;
-  connection = refl;
-}
+found_says digest size d small = search (rules, arith, says, with_field, digest_short, octets_short, one_length)
 
 -- the bodies of errors are short
 pub error_size : (code : ErrorCode) → length (error_body code) ≤ 200
 error_size errors.BlobUnknown = lit≤ tt
-error_size errors.BlobUploadInvalid = lit≤ tt
-error_size errors.BlobUploadUnknown = lit≤ tt
-error_size errors.DigestInvalid = lit≤ tt
-error_size errors.NameInvalid = lit≤ tt
-error_size errors.SizeInvalid = lit≤ tt
-error_size errors.Unsupported = lit≤ tt
-error_size errors.TooManyRequests = lit≤ tt
+error_size other = lit≤ tt
 
 abbrev error_lengths : ErrorCode → List (List ℕ)
 error_lengths code = decimal (length (error_body code)) ∷ []
@@ -348,53 +289,24 @@ error_short code =
 
 error_says : (code : ErrorCode) → Says (error_fields code) (error_lengths code) None None
 unfolding values_of
-error_says code =
-    record {
-      short = error_short code;
-      few = omega arith;
-      coding = refl;
-      lengths_are = refl;
-      place_is = refl;
-      upto_is = refl;
-      connection = refl;
-    }
+error_says code = says (error_short code) (omega arith) refl refl
 
 pub misplaced_says : (name at : List ℕ) (next : ℕ) (code : ErrorCode) → is_name name ≡ true → next ≤ most_told
     → Says (upload_fields name at next ++ error_fields code) (error_lengths code) (Some (upload_location name at))
     (last_below next)
 unfolding values_of
-misplaced_says name at next code n le =
-    upload_says name at next (error_fields code) (error_lengths code) n le (omega arith) (error_says code) refl refl
+misplaced_says name at next code n le = search (rules, arith, upload_says, error_says)
 
 method_says : (form : Form) (code : ErrorCode)
     → Says ((codes "Allow", methods form) ∷ error_fields code) (error_lengths code) None None
 unfolding values_of
-method_says form code = record {
-  short = with_field (codes "Allow", methods form) (error_fields code) (allow_short form) (error_short code);
-  few = omega arith;
-  coding = refl;
-  lengths_are = refl;
-  place_is = refl;
-  upto_is = refl;
-  connection = refl;
-}
+method_says form code = search (rules, arith, says, with_field, allow_short, error_short)
 
 pub refused_says : (refusal : Refusal)
     → Says (allow_fields refusal ++ error_fields (refusal_code refusal))
     (error_lengths (refusal_code refusal)) None None
-refused_says refusals.NoForm = error_says errors.Unsupported
-refused_says refusals.BadName = error_says errors.NameInvalid
 refused_says (refusals.Method form) = method_says form errors.Unsupported
-refused_says refusals.NoUpload = error_says errors.BlobUploadUnknown
-refused_says refusals.BadRange = error_says errors.BlobUploadInvalid
-refused_says refusals.WrongLength = error_says errors.SizeInvalid
-refused_says refusals.TooLarge = error_says errors.SizeInvalid
-refused_says refusals.NoDigest = error_says errors.DigestInvalid
-refused_says refusals.Mismatch = error_says errors.DigestInvalid
-refused_says refusals.HasBody = error_says errors.SizeInvalid
-refused_says refusals.TooMany = error_says errors.TooManyRequests
-refused_says refusals.NoBlob = error_says errors.BlobUnknown
-refused_says refusals.BadDigest = error_says errors.DigestInvalid
+refused_says other = error_says (refusal_code other)
 
 -- ---- with the field that closes the connection
 
@@ -410,27 +322,16 @@ pub record SaysAll (fields : Fields) (lengths : List (List ℕ)) (place : Option
 values_before : (name : List ℕ) (fields more : Fields) → values_of name more ≡ []
     → values_of name (fields ++ more) ≡ values_of name fields
 unfolding values_of
-values_before name fields more none =
-    ap (map (λ f. f.1)) (filter-append (λ f. same_word f.0 name) fields more)
-    ∙ map-append (λ f. f.1) (filter (λ f. same_word f.0 name) fields) (filter (λ f. same_word f.0 name) more)
-    ∙ ap (λ v. values_of name fields ++ v) none ∙ append-nil (values_of name fields)
+values_before name fields more none = search (rules, arith, filter-append, map-append, append-nil)
 
 values_behind : (name : List ℕ) (fields more : Fields) → values_of name fields ≡ []
     → values_of name (fields ++ more) ≡ values_of name more
 unfolding values_of
-values_behind name fields more none =
-    ap (map (λ f. f.1)) (filter-append (λ f. same_word f.0 name) fields more)
-    ∙ map-append (λ f. f.1) (filter (λ f. same_word f.0 name) fields) (filter (λ f. same_word f.0 name) more)
-    ∙ ap (λ v. v ++ values_of name more) none
+values_behind name fields more none = search (rules, arith, filter-append, map-append)
 
 close_short : IsShortField (codes "Connection", codes "close")
 unfolding is_token_byte
-close_short = record {
-  plain =
-      plain_field (codes "Connection") (codes "close") refl refl
-      (AllPass-from_list_all is_ascii_graphic (codes "close") refl);
-  short = lit≤ tt;
-}
+close_short = search (rules, arith, plain_field, AllPass-from_list_all)
 
 closes : lists_close (codes "close") ≡ true
 unfolding lists_close trim_ows split
@@ -440,16 +341,7 @@ pub closed : (fields : Fields) (lengths : List (List ℕ)) (place : Option (List
     → Says fields lengths place upto
     → SaysAll (fields ++ closing_fields keep) lengths place upto keep
 unfolding values_of
-closed fields lengths place upto true s =
-    let none : values_of (codes "connection") fields ≡ [] = s.connection in
-    subst (λ f. SaysAll f lengths place upto true) (sym (append-nil fields)) (record {
-      written = record { short = s.short; few = let few = s.few in omega (arith, few) };
-      coding = s.coding;
-      lengths_are = s.lengths_are;
-      place_is = s.place_is;
-      upto_is = s.upto_is;
-      keeps = rw none refl;
-    })
+closed fields lengths place upto true s = search (rules, arith, append-nil)
 closed fields lengths place upto false s =
     let last : Fields = (codes "Connection", codes "close") ∷ [] in
     let close = values_behind (codes "connection") fields last s.connection in

@@ -1,6 +1,6 @@
 -- A written reply is a head of the grammar, with few lines, and a body.
 use Rattle.std.proofs.Common.{◌≡◌, ◌≢◌, ℕ, ◌+◌, ◌*◌, ◌≤◌, ◌==◌, Bool, true, false, codes, List, [], ◌∷◌, ◌++◌, All}
-use Rattle.std.proofs.Common.{length, map, refl, arith, ◌∙◌, sym, ap, Some, append_assoc, length-append, lit≤}
+use Rattle.std.proofs.Common.{length, map, refl, arith, sym, ap, Some, append_assoc, length-append, lit≤, rules}
 use Rattle.std.proofs.lemmas.List.{length-map}
 use Rattle.std.proofs.lemmas.List.Sums.{AllPass-from_list_all}
 use Rattle.std.proofs.lemmas.Bool.Decides.{nat_tests}
@@ -77,14 +77,7 @@ line_of : (status : Status) → list_all is_ascii_digit (digits_of status) ≡ t
     → status_text status ≡ digits_of status ++ (codes " " ++ reason_of status) → length (digits_of status) ≡ 3
     → status_number status ≡ status_code (bare_head status)
     → length (status_line status) ≤ 60 → line_feeds (status_line status) ≡ 1 → IsLine status
-line_of status d r cut three code short one = record {
-  cut = cut;
-  digits = (three, AllPass-from_list_all is_ascii_digit (digits_of status) d);
-  reason = AllPass-from_list_all is_value_byte (reason_of status) r;
-  code = code;
-  short = short;
-  one = one;
-}
+line_of status d r cut three code short one = search (rules, arith, AllPass-from_list_all)
 
 is_line : (status : Status) → IsLine status
 is_line statuses.Ok = line_of statuses.Ok refl refl refl refl refl (lit≤ tt) refl
@@ -112,14 +105,13 @@ pub few_bytes : (fields : Fields) → All IsShortField fields
     → length (flat_map print_field fields) ≤ 504 * length fields
 few_bytes [] h = omega arith
 few_bytes ((name, value) ∷ fields) h =
-    let short = (All-head IsShortField (name, value) fields h).short in
-    omega (
+    search (
+      rules,
       arith,
-      short,
+      All-head,
+      All-tail,
+      length-append,
       few_bytes fields (All-tail IsShortField (name, value) fields h),
-      length-append (print_field (name, value)) (flat_map print_field fields),
-      length-append name (codes ": " ++ (value ++ crlf_bytes)),
-      length-append value crlf_bytes,
     )
 
 not_feed : (b : ℕ) → b ≢ 10 → (b == 10) ≡ false
@@ -139,23 +131,19 @@ unfolding is_token_byte
 no_feed_token = refl
 
 one_feed : (f : List ℕ × List ℕ) → IsPlainField f → line_feeds (print_field f) ≡ 1
-one_feed (name, value) h =
-    omega (
-      arith,
-      line_feeds-append name (codes ": " ++ (value ++ crlf_bytes)),
-      line_feeds-append (codes ": ") (value ++ crlf_bytes),
-      line_feeds-append value crlf_bytes,
-      no_feeds is_token_byte name no_feed_token h.name.1,
-      no_feeds is_value_byte value refl h.value,
-    )
+one_feed (name, value) h = search (rules, arith, line_feeds-append, no_feeds, no_feed_token)
 
 pub feeds : (fields : Fields) → All IsPlainField fields → line_feeds (flat_map print_field fields) ≡ length fields
 feeds [] h = refl
 feeds (f ∷ fields) h =
-    omega (
+    search (
+      rules,
       arith,
-      line_feeds-append (print_field f) (flat_map print_field fields),
-      one_feed f (All-head IsPlainField f fields h),
+      line_feeds-append,
+      one_feed,
+      All-head,
+      IsPlainField,
+      All-tail,
       feeds fields (All-tail IsPlainField f fields h),
     )
 
@@ -178,16 +166,7 @@ head_text status fields = status_line status ++ (flat_map print_field fields ++ 
 
 pub printed : (status : Status) (fields : Fields) → head_text status fields ≡ print_response (head_of status fields)
 unfolding print_response
-printed status fields =
-    ap (λ t. (codes "HTTP/1.1 " ++ (t ++ crlf_bytes)) ++ (flat_map print_field fields ++ crlf_bytes))
-    (is_line status).cut
-    ∙ joined (digits_of status) (reason_of status) (flat_map print_field fields)
-    ∙ rw (fields_printed fields) refl
-  where
-    joined : (d r c : List ℕ) → (codes "HTTP/1.1 " ++ ((d ++ (codes " " ++ r)) ++ crlf_bytes)) ++ (c ++ crlf_bytes)
-        ≡ [] ++ (codes "HTTP/1." ++ codes "1") ++ (codes " " ++ d) ++ (codes " " ++ r) ++ crlf_bytes
-        ++ (c ++ crlf_bytes)
-    joined d r c = simp append_assoc
+printed status fields = search (rules, arith, is_line, fields_printed, append_assoc)
 
 -- the fields of a written head: each is as it is written, and there are few
 pub record AreWritten (fields : Fields) : Type 0 where

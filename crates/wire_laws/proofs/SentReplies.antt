@@ -1,12 +1,12 @@
 -- A written reply is read in one way.
-use Rattle.std.proofs.Common.{◌≡◌, ◌≢◌, ℕ, Bool, false, codes, List, ◌++◌, length, refl, arith, ◌∙◌, sym, ap, subst}
-use Rattle.std.proofs.Common.{Option, Ok, Err, inl, inr, nat_lt}
+use Rattle.std.proofs.Common.{◌≡◌, ◌≢◌, ℕ, Bool, false, List, ◌++◌, length, refl, arith, ◌∙◌, sym, ap, subst}
+use Rattle.std.proofs.Common.{Option, Ok, Err, inl, inr, nat_lt, rules}
 use Rattle.std.specs.Prelude.{Result}
 use Rattle.httparse.specs.Grammar.{ResponseHead, status_code}
-use Rattle.http_wire.specs.Fields.{Fields, values_of, head_fields}
+use Rattle.http_wire.specs.Fields.{Fields, head_fields}
 use Rattle.http_wire.specs.HeadText.{status_number}
 use Rattle.http_wire.specs.Fronts.{IsRefused, responses}
-use Rattle.http_wire.specs.ResponseBody.{response_framing_by_length, response_framing_of, framing_without_coding}
+use Rattle.http_wire.specs.ResponseBody.{response_framing_by_length, response_framing_of}
 use Rattle.http_wire.specs.ResponseBody.{has_no_body, keeps_on}
 use Rattle.http_wire.specs.States.{SourceState, input_state}
 use Rattle.http_wire.specs.declared.responses.body.ResponseFraming.TheVariants.{Length, ToEnd}
@@ -29,18 +29,7 @@ use Rattle.wire_laws.proofs.ReplyHeads.{code_is, few_lines, fields_are, head_of,
 
 final : (status : Status) → nat_lt (status_number status) 200 ≡ false
 final statuses.Ok = refl
-final statuses.Created = refl
-final statuses.Accepted = refl
-final statuses.NoContent = refl
-final statuses.BadRequest = refl
-final statuses.NotFound = refl
-final statuses.MethodNotAllowed = refl
-final statuses.LengthRequired = refl
-final statuses.ContentTooLarge = refl
-final statuses.RangeNotSatisfiable = refl
-final statuses.TooManyRequests = refl
-final statuses.HeaderFieldsTooLarge = refl
-final statuses.ServiceUnavailable = refl
+final other = refl
 
 -- a head that is written, and what its fields say
 pub record Sent : Type 0 where
@@ -70,24 +59,11 @@ framed_by head_only status fields = response_framing_of max_answer head_only sta
 framing_is : (head_only : Bool) (sent : Sent) (r : Framed) → framing_behind head_only sent ≡ r
     → framed_by head_only (status_code (head_sent sent)) (head_fields (head_sent sent).fields) ≡ r
 framing_is head_only sent r e =
-    let empty = has_no_body head_only (status_number sent.status) in
-    let by_length : List (List ℕ) → Framed = response_framing_by_length max_answer empty in
-    let lengths = values_of (codes "content-length") sent.fields in
-    let by_coding : List (List ℕ) → Framed = λ codings. framing_without_coding codings (by_length lengths) in
-    ap (λ n. framed_by head_only n (head_fields (head_sent sent).fields)) (code_is sent.status sent.fields)
-    ∙ ap (framed_by head_only (status_number sent.status)) (fields_are sent.status sent.fields sent.says.written)
-    ∙ rw (final sent.status) refl
-    ∙ ap by_coding sent.says.coding
-    ∙ ap by_length sent.says.lengths_are
-    ∙ e
+    cc (code_is sent.status sent.fields, fields_are sent.status sent.fields sent.says.written, final sent.status)
 
 pub framed : (head_only : Bool) (sent : Sent) (r : Framed) (behind : List ℕ) → framing_behind head_only sent ≡ r
     → ReadsFramed head_only (text_of sent behind) r (head_sent sent) behind
-framed head_only sent r behind e =
-    record {
-      reads = head_read sent.status sent.fields behind sent.says.written;
-      framed = framing_is head_only sent r e;
-    }
+framed head_only sent r behind e = search (rules, arith, head_read, framing_is)
 
 -- this is heard of the head and the body
 pub record IsSaidBy (sent : Sent) (body : List ℕ) (what : Heard) : Type 0 where

@@ -1,6 +1,6 @@
 -- What a service answers to an ask with lawful parts can be heard.
 use Rattle.std.proofs.Common.{ℕ, ◌≤◌, Bool, true, false, List, length, refl, arith, sym, subst, Some, None, inl, inr}
-use Rattle.std.proofs.Common.{IsTrue, length-append}
+use Rattle.std.proofs.Common.{IsTrue, length-append, rules}
 use Rattle.std.specs.Prelude.{if◌then◌else◌}
 use Rattle.upload_names.specs.Digest.{Digest}
 use Rattle.upload_names.specs.NamePass.{is_name}
@@ -17,7 +17,7 @@ use Rattle.wire_laws.specs.WrittenAsks.{HasLawfulParts, written_style}
 use Rattle.wire_laws.specs.WrittenExchanges.{ExchangesAreHeard, HasSize}
 use Rattle.wire_laws.specs.WrittenReplies.{FitsMethod, HasLawfulValues, most_told}
 use Rattle.wire_laws.proofs.WrittenReplies.{replies_heard}
-use Rattle.wire_laws.proofs.WrittenRequests.{asks_read_back}
+use Rattle.wire_laws.proofs.WrittenRequests.{asked_request}
 
 -- the answer to such an ask can be heard
 abbrev IsAudible : Bool → Answer → Type 0
@@ -39,29 +39,10 @@ name_of_act name at (Closes range digest body) h = h.0
 
 module _ (s : State) (lawful : IsLawful s) (limits : AreLawful s.limits) (secret : List ℕ) (now : ℕ) where
   small : (name at : List ℕ) (found : Found s now name at) → length found.session.received ≤ most_told
-  small name at found =
-      let most = limits.most_blob in
-      omega (arith, most, lawful.small at found.session found.is_open)
+  small name at found = search (rules, arith)
 
   each : HoldsOfEach s secret now Leads
-  each =
-      record {
-        refusals = λ ask refusal h sized. (tt, tt);
-        base = λ h sized. (tt, tt);
-        blobs = λ name digest head blob held is. handed_out name digest head blob;
-        openings = λ name has h sized. (h, tt);
-        unmounted = λ name digest source has h sized. (h.0, tt);
-        mounts = λ name digest source held h sized. ((h.0, h.1), tt);
-        stores = λ name digest body own h sized. ((h.0, h.1), tt);
-        standing = λ name at found h sized. ((h.0, small name at found), tt);
-        misses =
-            λ name at act found first aims missed h sized. ((name_of_act name at act h, small name at found), tt);
-        takes =
-            λ name at range body found fits h sized.
-            let most = limits.most_blob in
-            ((h.0, omega (arith, most, fits, length-append found.session.received body)), tt);
-        commits = λ name at range digest body found own h sized. ((h.0, h.3), tt);
-      }
+  each = search (rules, arith, handed_out, small, name_of_act, length-append)
 
   audible : (ask : Ask) (answer : Answer) (after : State) → HasLawfulParts ask → Turn s ask secret now answer after
       → IsAudible (wants_head ask) answer
@@ -75,8 +56,7 @@ exchanges_heard max_body ask host service answer asked answers =
     let heard_of = audible service answers.lawful answers.limits answers.secret answers.now in
     let fits = heard_of ask answer answers.after asked.parts answers.turn answers.sized in
     record {
-      read =
-          asks_read_back max_body ask host asked.limit asked.writable asked.parts asked.to_host asked.short asked.fits;
+      read = asked_request asked;
       heard = λ rest new. replies_heard answer (written_style ask) rest new fits.0 fits.1;
     }
 
@@ -84,5 +64,4 @@ exchanges_heard max_body ask host service answer asked answers =
 pub answers_heard : (s : State) → IsLawful s → AreLawful s.limits
     → (secret : List ℕ) (now : ℕ) (ask : Ask) (answer : Answer) (after : State) → HasLawfulParts ask
     → Turn s ask secret now answer after → HasSize answer → HasLawfulValues answer × FitsMethod answer (wants_head ask)
-answers_heard s lawful limits secret now ask answer after parts turn sized =
-    audible s lawful limits secret now ask answer after parts turn sized
+answers_heard s lawful limits secret now ask answer after parts turn sized = search (rules, arith, audible)

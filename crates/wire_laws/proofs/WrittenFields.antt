@@ -1,6 +1,6 @@
 -- The fields of a written request are read as what they say.
-use Rattle.std.proofs.Common.{◌≡◌, ℕ, ◌+◌, ◌<◌, ◌≤◌, ◌^◌, ◌%◌, true, false, codes, List, [], ◌∷◌, ◌++◌, All, length}
-use Rattle.std.proofs.Common.{refl, arith, ap, Some, Ok, lt-ltb, le-ltb, nat_lt}
+use Rattle.std.proofs.Common.{◌≡◌, ℕ, ◌+◌, ◌<◌, ◌≤◌, ◌^◌, ◌%◌, true, codes, List, [], ◌∷◌, ◌++◌, All, length}
+use Rattle.std.proofs.Common.{refl, arith, ap, Some, Ok, lt-ltb, le-ltb, nat_lt, rules}
 use Rattle.std.proofs.lemmas.Bool.{and_parts}
 use Rattle.std.proofs.lemmas.Bool.Decides.{nat_tests}
 use Rattle.std.proofs.lemmas.List.Elements.{All-cons, All-nil}
@@ -9,7 +9,6 @@ use Rattle.std.proofs.lemmas.Fmt.{decimal_by_steps, decimal_is_IsNumeral, decima
 use Rattle.std.specs.List.{list_all}
 use Rattle.std.specs.Prelude.{decimal}
 use Rattle.std.specs.Char.{is_ascii_graphic, is_ascii_digit}
-use Rattle.std.specs.Str.Parse.{digits_value}
 use Rattle.httparse.specs.Grammar.{AllPass, is_token_byte}
 use Rattle.upload_names.specs.ByteRange.{Span, IsSpan, IsNumeral, capped_value, range_cap, range_of}
 use Rattle.upload_names.proofs.RangeFacts.{range_of-spelled}
@@ -52,18 +51,12 @@ decimal_graphic n h = AllPass-weaker is_ascii_digit is_ascii_graphic (decimal n)
 length_read : (max_body n : ℕ) → n ≤ max_body → n < 2 ^ 64 → length_of max_body (decimal n) ≡ Ok n
 unfolding is_number
 length_read max_body n fits h =
-    let value : digits_value 10 (decimal n) ≡ n = (decimal_is_IsNumeral n h).1 in
-    let digits = all_digits n h in
-    let some : nat_lt 0 (length (decimal n)) ≡ true = lt-ltb 0 (length (decimal n)) (decimal_nonempty n h) in
-    let under : nat_lt max_body n ≡ false = le-ltb max_body n fits in
-    simp (some, digits, value, under)
+    search (rules, arith, decimal_is_IsNumeral, all_digits, nat_lt, lt-ltb, decimal_nonempty, le-ltb)
 
 -- ---- ranges
 
 pub capped_decimal : (n : ℕ) → n ≤ range_cap → n ≡ capped_value (decimal n)
-capped_decimal n h =
-    let value : digits_value 10 (decimal n) ≡ n = (decimal_is_IsNumeral n (omega arith)).1 in
-    rw value (omega arith)
+capped_decimal n h = omega (arith, decimal_is_IsNumeral n (omega arith))
 
 pub is_numeral : (n : ℕ) → n < 2 ^ 64 → IsNumeral (decimal n)
 is_numeral n h = record { filled = decimal_nonempty n h; digits = all_digits n h }
@@ -99,8 +92,7 @@ pub record AreRead (max_body : ℕ) (fields : Fields) (size : ℕ) (range : Exte
 
 pub plain_field : (name value : List ℕ) → nat_lt 0 (length name) ≡ true → list_all is_token_byte name ≡ true
     → AllPass is_ascii_graphic value → IsPlainField (name, value)
-plain_field name value some h v =
-    graphic_field name value (grind (arith, nat_tests), AllPass-from_list_all is_token_byte name h) v
+plain_field name value some h v = search (rules, arith, graphic_field, AllPass-from_list_all)
 
 with_field : (f : List ℕ × List ℕ) (fields : Fields) → IsPlainField f → All IsPlainField fields
     → All IsPlainField (f ∷ fields)
@@ -117,14 +109,11 @@ zero_field = (codes "Content-Length", codes "0")
 
 zero_plain : IsPlainField zero_field
 unfolding is_token_byte
-zero_plain =
-    plain_field (codes "Content-Length") (codes "0") refl refl (AllPass-from_list_all is_ascii_graphic (codes "0") refl)
+zero_plain = search (rules, arith, plain_field, AllPass-from_list_all)
 
 pub type_plain : IsPlainField (codes "Content-Type", codes "application/octet-stream")
 unfolding is_token_byte
-type_plain =
-    let octets = codes "application/octet-stream" in
-    plain_field (codes "Content-Type") octets refl refl (AllPass-from_list_all is_ascii_graphic octets refl)
+type_plain = search (rules, arith, plain_field, AllPass-from_list_all)
 
 pub length_plain : (n : ℕ) → n < 2 ^ 64 → IsPlainField (length_field n)
 unfolding is_token_byte
@@ -135,36 +124,19 @@ unfolding is_token_byte
 range_plain range h = plain_field (codes "Content-Range") (range_text range) refl refl (range_graphic range h)
 
 body_plain : (body : List ℕ) → length body < 2 ^ 64 → All IsPlainField (ask_body_fields body)
-body_plain body small =
-    let size = length_field (length body) in
-    with_field (codes "Content-Type", codes "application/octet-stream") (size ∷ []) type_plain
-    (with_field size [] (length_plain (length body) small) (All-nil IsPlainField))
+body_plain body small = search (rules, arith, with_field, type_plain, length_plain, All-nil, IsPlainField)
 
 -- no field but the Host
 pub bare_read : (max_body : ℕ) (host : List ℕ) → is_host host ≡ true
     → AreRead max_body ((codes "Host", host) ∷ []) 0 Absent
 unfolding values_of
-bare_read max_body host h = record {
-  plain = with_field (codes "Host", host) [] (host_plain host h) (All-nil IsPlainField);
-  few = omega arith;
-  framed = refl;
-  keeps = refl;
-  range_is = refl;
-}
+bare_read max_body host h = search (rules, arith, with_field, host_plain, All-nil, IsPlainField)
 
 -- a length of 0
 pub post_read : (max_body : ℕ) (host : List ℕ) → is_host host ≡ true
     → AreRead max_body ((codes "Host", host) ∷ zero_field ∷ []) 0 Absent
 unfolding values_of is_number
-post_read max_body host h = record {
-  plain =
-      with_field (codes "Host", host) (zero_field ∷ []) (host_plain host h)
-      (with_field zero_field [] zero_plain (All-nil IsPlainField));
-  few = omega arith;
-  framed = rw (le-ltb max_body 0 (omega arith)) refl;
-  keeps = refl;
-  range_is = refl;
-}
+post_read max_body host h = search (rules, arith, with_field, host_plain, zero_plain, All-nil, IsPlainField, le-ltb)
 
 -- the type and the length of a body
 pub body_read : (max_body : ℕ) (host body : List ℕ) → is_host host ≡ true → length body ≤ max_body → max_body < 2 ^ 64

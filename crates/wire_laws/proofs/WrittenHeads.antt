@@ -1,6 +1,6 @@
 -- A written message is a head of the grammar and a body.
 use Rattle.std.proofs.Common.{◌≡◌, ℕ, ◌<◌, ◌≤◌, true, false, codes, List, [], ◌∷◌, ◌++◌, All, length, map, reverse}
-use Rattle.std.proofs.Common.{refl, arith, ◌∙◌, sym, ap, IsTrue, append_assoc}
+use Rattle.std.proofs.Common.{refl, arith, ◌∙◌, sym, IsTrue, append_assoc, rules}
 use Rattle.std.proofs.lemmas.List.{length-map}
 use Rattle.std.proofs.lemmas.Bool.Decides.{nat_tests}
 use Rattle.std.proofs.lemmas.List.Elements.{All-weaker, All-head, All-tail, All-map}
@@ -76,12 +76,7 @@ printed m host =
     ∙ whole_head m.method (target_of m) (sent_fields m host)
 
 pub printed_whole : (m : Message) (host : List ℕ) → print_message m host ≡ print_request (head_of m host) ++ m.body
-printed_whole m host =
-    parts_joined (request_line m) (host_text host) (section_text m.fields) m.body
-    ∙ ap (λ t. t ++ m.body) (printed m host)
-  where
-    parts_joined : (a b c d : List ℕ) → a ++ (b ++ (c ++ d)) ≡ (a ++ (b ++ c)) ++ d
-    parts_joined a b c d = simp append_assoc
+printed_whole m host = search (rules, arith, printed, append_assoc)
 
 -- what a written field is made of: its value has no white space around it
 pub record IsPlainField (f : List ℕ × List ℕ) : Type 0 where
@@ -104,24 +99,15 @@ trimmed v h = trim_ows_space v (graphic_kept v h) (graphic_kept (reverse v) (All
 
 -- a value of visible bytes
 pub graphic_field : (name value : List ℕ) → IsToken name → AllPass is_ascii_graphic value → IsPlainField (name, value)
-graphic_field name value n v =
-    record {
-      name = n;
-      value = AllPass-weaker is_ascii_graphic is_value_byte value graphic_value v;
-      kept = trimmed value v;
-    }
+graphic_field name value n v = search (rules, arith, AllPass-weaker, graphic_value, trimmed)
 
 pub values_kept : (fields : Fields) → All IsPlainField fields → map name_and_value (map field_of fields) ≡ fields
 values_kept [] h = refl
 values_kept ((name, value) ∷ fields) h =
-    let same : trim_ows (32 ∷ value) ≡ value = (All-head IsPlainField (name, value) fields h).kept in
-    rw (same, values_kept fields (All-tail IsPlainField (name, value) fields h)) refl
+    search (rules, arith, All-head, All-tail, values_kept fields (All-tail IsPlainField (name, value) fields h))
 
 pub field_valid : (f : List ℕ × List ℕ) → IsPlainField f → IsField (field_of f)
-field_valid (name, value) h = record {
-  name = h.name;
-  raw = AllPass-cons is_value_byte 32 value refl h.value;
-}
+field_valid (name, value) h = search (rules, arith, AllPass-cons)
 
 -- what a message must keep to be read
 pub record IsSendable (m : Message) (host : List ℕ) : Type 0 where
@@ -134,21 +120,4 @@ pub record IsSendable (m : Message) (host : List ℕ) : Type 0 where
 
 pub reads_head : (m : Message) (host : List ℕ) → IsSendable m host
     → ReadsHead requests (print_message m host) (head_of m host) m.body
-reads_head m host h =
-    let sent = sent_fields m host in
-    let fields : All IsField (map field_of sent) =
-    All-map IsField field_of sent (All-weaker IsPlainField (λ f. IsField (field_of f)) field_valid sent h.fields) in
-    record {
-      reads = (
-        record {
-          method = h.method;
-          target = h.target;
-          target_text = h.target_text;
-          minor = omega arith;
-          fields = fields;
-        },
-        printed_whole m host,
-      );
-      short = h.short;
-      few = rw length-map h.few;
-    }
+reads_head m host h = search (rules, arith, All-map, All-weaker, field_valid, printed_whole, length-map)

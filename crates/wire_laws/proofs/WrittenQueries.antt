@@ -1,6 +1,6 @@
 -- A written query gives its parameters back.
-use Rattle.std.proofs.Common.{ap, ◌≡◌, ◌≢◌, ℕ, ◌<◌, true, codes, List, [], ◌∷◌, ◌++◌, length, refl, arith, ◌∙◌, Some}
-use Rattle.std.proofs.Common.{None, length-append}
+use Rattle.std.proofs.Common.{ap, ◌≡◌, ◌≢◌, ℕ, true, codes, List, [], ◌∷◌, ◌++◌, refl, arith, ◌∙◌, Some}
+use Rattle.std.proofs.Common.{None, length-append, rules}
 use Rattle.std.proofs.lemmas.Bool.Decides.{nat_tests}
 use Rattle.std.proofs.lemmas.List.Elements.{All-append, All-cons}
 use Rattle.std.proofs.lemmas.List.Sums.{AllPass-from_list_all}
@@ -38,32 +38,31 @@ pair_lacks_and name value n v =
     (All-cons (λ b. b ≢ 38) 61 value (λ e. absurd (omega arith)) (lacks is_plain_byte 38 value refl v))
 
 pair_split : (name value : List ℕ) → IsPlain name → split_pair (name ++ 61 ∷ value) ≡ (name, value)
-pair_split name value n =
-    let cut = lacks is_plain_byte 61 name refl n in
-    rw (split_once_before_at 61 name value cut, split_once_after_at 61 name value cut) refl
+pair_split name value n = search (rules, arith, lacks, is_plain_byte, split_once_before_at, split_once_after_at)
 
 -- the pair in front of what is left
 first_pair : (name value text rest : List ℕ) → IsPlain name → (split_once 38 text).0 ≡ name ++ 61 ∷ value
     → (split_once 38 text).1 ≡ rest → raw_pairs text ≡ (name, value) ∷ raw_pairs rest
-first_pair name value text rest n before after =
-    let some : 0 < length ((split_once 38 text).0) = rw before (omega (arith, length-append name (61 ∷ value))) in
-    raw_pairs_first text some ∙ rw (before, after, pair_split name value n) refl
+first_pair name value text rest n before after = search (rules, arith, length-append, raw_pairs_first, pair_split)
 
 one_pair : (name value : List ℕ) → IsPlain name → IsPlain value → raw_pairs (name ++ 61 ∷ value) ≡ (name, value) ∷ []
 one_pair name value n v =
-    let text = name ++ 61 ∷ value in
-    let cut : Lacks 38 text = pair_lacks_and name value n v in
-    first_pair name value text [] n (split_once_before_none 38 text cut) (split_once_after_none 38 text cut)
-    ∙ rw raw_pairs-nil refl
+    search (
+      rules,
+      arith,
+      Lacks,
+      pair_lacks_and,
+      first_pair,
+      split_once_before_none,
+      split_once_after_none,
+      raw_pairs-nil,
+    )
 
 -- <name>=<value>&<more>
 more_pairs : (name value more : List ℕ) → IsPlain name → IsPlain value
     → raw_pairs ((name ++ 61 ∷ value) ++ 38 ∷ more) ≡ (name, value) ∷ raw_pairs more
 more_pairs name value more n v =
-    let text = name ++ 61 ∷ value in
-    let cut : Lacks 38 text = pair_lacks_and name value n v in
-    first_pair name value (text ++ 38 ∷ more) more n (split_once_before_at 38 text more cut)
-    (split_once_after_at 38 text more cut)
+    search (rules, arith, Lacks, pair_lacks_and, first_pair, split_once_before_at, split_once_after_at)
 
 -- ---- the queries that are written
 
@@ -72,8 +71,7 @@ literal text h = AllPass-from_list_all is_plain_byte text h
 
 pub digest_parameters : (value : List ℕ) → IsPlain value → IsParameters (codes "digest=" ++ value)
 digest_parameters value h =
-    AllPass-append is_parameter_byte (codes "digest=") value
-    (AllPass-from_list_all is_parameter_byte (codes "digest=") refl) (IsParameters-plain value h)
+    search (rules, arith, AllPass-append, is_parameter_byte, AllPass-from_list_all, IsParameters-plain)
 
 -- digest=<digest>
 pub digest_parameter : (value : List ℕ) → IsPlain value
@@ -90,11 +88,7 @@ digest_parameter value v =
 pub mount_parameters : (digest source : List ℕ) → IsPlain digest → IsPlain source
     → IsParameters (codes "mount=" ++ (digest ++ (codes "&from=" ++ source)))
 mount_parameters digest source d s =
-    AllPass-append is_parameter_byte (codes "mount=") (digest ++ (codes "&from=" ++ source))
-    (AllPass-from_list_all is_parameter_byte (codes "mount=") refl)
-    (AllPass-append is_parameter_byte digest (codes "&from=" ++ source) (IsParameters-plain digest d)
-    (AllPass-append is_parameter_byte (codes "&from=") source
-    (AllPass-from_list_all is_parameter_byte (codes "&from=") refl) (IsParameters-plain source s)))
+    search (rules, arith, AllPass-append, is_parameter_byte, AllPass-from_list_all, IsParameters-plain)
 
 -- mount=<digest>&from=<source>
 pub mount_parameter : (digest source : List ℕ) → IsPlain digest → IsPlain source

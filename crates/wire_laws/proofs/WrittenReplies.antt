@@ -1,7 +1,7 @@
 -- The text of each reply is read as what its answer says.
 use Rattle.std.proofs.Common.{◌≡◌, ℕ, ◌<◌, ◌≤◌, ◌^◌, Bool, true, false, List, [], ◌∷◌, ◌++◌, All, length, refl, arith}
 use Rattle.std.proofs.Common.{◌∙◌, sym, subst, Option, Some, None, Ok, Err, inl, inr, append_assoc, lt-ltb, le-ltb}
-use Rattle.std.proofs.Common.{nat_lt}
+use Rattle.std.proofs.Common.{nat_lt, rules}
 use Rattle.std.proofs.lemmas.Bool.{cases_lt}
 use Rattle.std.proofs.lemmas.Bool.Decides.{nat_tests}
 use Rattle.std.proofs.lemmas.List.Sums.{AllPass-from_list_all}
@@ -9,11 +9,10 @@ use Rattle.std.proofs.lemmas.Str.{IsUtf8-from_ascii, is_utf8-from_IsUtf8}
 use Rattle.std.proofs.lemmas.Str.Ascii.{IsAscii-from_all}
 use Rattle.std.specs.List.{list_all}
 use Rattle.std.proofs.lemmas.Fmt.{decimal_is_IsNumeral, decimal_nonempty}
-use Rattle.std.specs.Prelude.{decimal, option_and_then}
+use Rattle.std.specs.Prelude.{decimal, option_and_then, ⊤}
 use Rattle.std.specs.Str.Parse.{digits_value}
 use Rattle.serde_json.specs.Read.{read}
 use Rattle.serde_json.proofs.OnLiterals.{serde_json_on_literals}
-use Rattle.upload_names.specs.NamePass.{is_name}
 use Rattle.upload_names.specs.Digest.{Digest, IsDigest}
 use Rattle.upload_service.specs.declared.answer.Answer.{Answer}
 use Rattle.upload_service.specs.declared.answer.Answer.TheVariants.{Base, Blob, Begun, Stored, Taken, Standing}
@@ -31,13 +30,13 @@ use Rattle.upload_texts.specs.declared.error.ErrorCode.{ErrorCode}
 use Rattle.upload_texts.specs.declared.error.ErrorCode.TheVariants as errors
 use Rattle.upload_texts.proofs.PlainTexts.{AllPass-each, blob_plain, upload_plain}
 use Rattle.upload_wire.specs.declared.request.Style.{Style}
-use Rattle.upload_wire.specs.ReplyText.{blob_location, reply, reply_of, upload_location}
+use Rattle.upload_wire.specs.ReplyText.{reply, reply_of}
 use Rattle.upload_client.specs.AnswerText.{code_in, code_of, max_answer}
 use Rattle.upload_client.specs.Heard.{bare, reply_heard}
 use Rattle.upload_client.specs.UnambiguousReplies.{ReplyParse, heard, too_large}
 use Rattle.upload_client.specs.declared.heard.Heard.{Heard}
 use Rattle.wire_laws.specs.WrittenReplies.{FitsMethod, HasLawfulValues, IsReadOnlyAs, RepliesAreHeard, blob_read}
-use Rattle.wire_laws.specs.WrittenReplies.{heard_in_head, most_told, reply_read}
+use Rattle.wire_laws.specs.WrittenReplies.{heard_in_head, reply_read}
 use Rattle.wire_laws.proofs.ReplyFields.{Says, blob_length, closed, error_size, found_says, length_says, misplaced_says}
 use Rattle.wire_laws.proofs.ReplyFields.{place_says, refused_says, standing_says, taken_says, upload_length}
 use Rattle.wire_laws.proofs.ReplyHeads.{head_text}
@@ -58,15 +57,11 @@ empty_framed : (n : ℕ) → n < 2 ^ 64 → response_framing_by_length max_answe
 empty_framed n h = rw (number_is n h).0 refl
 
 whole_framed : (n : ℕ) → n ≤ max_answer → response_framing_by_length max_answer false (decimal n ∷ []) ≡ Ok (Length n)
-whole_framed n h =
-    let number = number_is n (omega (arith, h)) in
-    rw (number.0, number.1, le-ltb max_answer n h) refl
+whole_framed n h = search (rules, arith, number_is, le-ltb)
 
 large_framed : (n : ℕ) → max_answer < n → n < 2 ^ 64
     → response_framing_by_length max_answer false (decimal n ∷ []) ≡ Err Fault.TooLarge
-large_framed n h small =
-    let number = number_is n small in
-    rw (number.0, number.1, lt-ltb max_answer n h) refl
+large_framed n h small = search (rules, arith, number_is, lt-ltb)
 
 -- the code of a text
 code_by : (body : List ℕ) (code : Option (List ℕ)) → list_all (λ b. nat_lt b 128) body ≡ true
@@ -94,13 +89,7 @@ code_in_body code small e = code_by (error_body code) (Some (code_text code)) sm
 error_code : (code : ErrorCode) → Some (code_text code) ≡ code_of (error_body code)
 unfolding serde_json_on_literals
 error_code errors.BlobUnknown = code_in_body errors.BlobUnknown refl refl
-error_code errors.BlobUploadInvalid = code_in_body errors.BlobUploadInvalid refl refl
-error_code errors.BlobUploadUnknown = code_in_body errors.BlobUploadUnknown refl refl
-error_code errors.DigestInvalid = code_in_body errors.DigestInvalid refl refl
-error_code errors.NameInvalid = code_in_body errors.NameInvalid refl refl
-error_code errors.SizeInvalid = code_in_body errors.SizeInvalid refl refl
-error_code errors.Unsupported = code_in_body errors.Unsupported refl refl
-error_code errors.TooManyRequests = code_in_body errors.TooManyRequests refl refl
+error_code other = code_in_body other refl refl
 
 -- ---- the answers
 
@@ -126,18 +115,7 @@ record IsWholeSaid (answer : Answer) : Type 0 where
 
 refused_status : (refusal : Refusal) → has_no_body false (status_number (refusal_status refusal)) ≡ false
 refused_status refusals.NoForm = refl
-refused_status refusals.BadName = refl
-refused_status (refusals.Method form) = refl
-refused_status refusals.NoUpload = refl
-refused_status refusals.BadRange = refl
-refused_status refusals.WrongLength = refl
-refused_status refusals.TooLarge = refl
-refused_status refusals.NoDigest = refl
-refused_status refusals.Mismatch = refl
-refused_status refusals.HasBody = refl
-refused_status refusals.TooMany = refl
-refused_status refusals.NoBlob = refl
-refused_status refusals.BadDigest = refl
+refused_status other = refl
 
 abbrev zero_length : List (List ℕ)
 zero_length = decimal 0 ∷ []
@@ -191,55 +169,33 @@ blob_said digest size bytes d small = record {
   empty = empty_framed size small;
 }
 
-base_said : IsWholeSaid Base
-base_said = bare_said Base (length_says 0 (omega arith)) refl refl refl refl
+-- an answer other than a blob
+abbrev HasNoBlob : Answer → Type 0
+HasNoBlob (Blob digest size bytes) = ⊥
+HasNoBlob other = ⊤
 
-begun_said : (name at : List ℕ) → is_name name ≡ true → IsWholeSaid (Begun name at)
-begun_said name at n =
-    let says = place_says (upload_location name at) (upload_plain name at n) (upload_length name at n) refl in
-    bare_said (Begun name at) says refl refl refl refl
-
-stored_said : (name : List ℕ) (digest : Digest) → is_name name ≡ true → IsDigest digest
-    → IsWholeSaid (Stored name digest)
-stored_said name digest n d =
-    let says = place_says (blob_location name digest) (blob_plain name digest n d) (blob_length name digest n d) refl in
-    bare_said (Stored name digest) says refl refl refl refl
-
-taken_said : (name at : List ℕ) (next : ℕ) → is_name name ≡ true → next ≤ most_told → IsWholeSaid (Taken name at next)
-taken_said name at next n le = bare_said (Taken name at next) (taken_says name at next n le) refl refl refl refl
-
+said_whole : (answer : Answer) → HasNoBlob answer → HasLawfulValues answer → IsWholeSaid answer
+said_whole Base plain h = bare_said Base (length_says 0 (omega arith)) refl refl refl refl
+said_whole (Blob digest size bytes) plain h = absurd plain
+said_whole (Begun name at) plain h = search (rules, arith, place_says, upload_plain, upload_length, bare_said)
+said_whole (Stored name digest) plain h = search (rules, arith, place_says, blob_plain, blob_length, bare_said)
+said_whole (Taken name at next) plain h = search (rules, arith, bare_said, taken_says)
 -- a 204 has no body, and says no length
-standing_said : (name at : List ℕ) (next : ℕ) → is_name name ≡ true → next ≤ most_told
-    → IsWholeSaid (Standing name at next)
-standing_said name at next n le = record {
-  said = record { lengths = []; says = standing_says name at next n le; status_is = refl; empty = refl };
+said_whole (Standing name at next) plain h = record {
+  said = record { lengths = []; says = standing_says name at next h.0 h.1; status_is = refl; empty = refl };
   whole = refl;
   code = no_code;
 }
-
-misplaced_said : (name at : List ℕ) (next : ℕ) → is_name name ≡ true → next ≤ most_told
-    → IsWholeSaid (Misplaced name at next)
-misplaced_said name at next n le =
-    let says = misplaced_says name at next errors.BlobUploadInvalid n le in
+said_whole (Misplaced name at next) plain h =
+    let says = misplaced_says name at next errors.BlobUploadInvalid h.0 h.1 in
     error_said (Misplaced name at next) errors.BlobUploadInvalid says refl refl refl refl
-
-refused_said : (refusal : Refusal) → IsWholeSaid (Refused refusal)
-refused_said refusal =
+said_whole (Refused refusal) plain h =
     error_said (Refused refusal) (refusal_code refusal) (refused_says refusal) refl (refused_status refusal) refl refl
-
-memory_said : IsWholeSaid NoMemory
-memory_said = bare_said NoMemory (length_says 0 (omega arith)) refl refl refl refl
+said_whole NoMemory plain h = bare_said NoMemory (length_says 0 (omega arith)) refl refl refl refl
 
 said_of : (answer : Answer) → HasLawfulValues answer → IsSaid answer
-said_of Base h = base_said.said
 said_of (Blob digest size bytes) h = blob_said digest size bytes h.0 h.1
-said_of (Begun name at) h = (begun_said name at h).said
-said_of (Stored name digest) h = (stored_said name digest h.0 h.1).said
-said_of (Taken name at next) h = (taken_said name at next h.0 h.1).said
-said_of (Standing name at next) h = (standing_said name at next h.0 h.1).said
-said_of (Misplaced name at next) h = (misplaced_said name at next h.0 h.1).said
-said_of (Refused refusal) h = (refused_said refusal).said
-said_of NoMemory h = memory_said.said
+said_of other h = (said_whole other tt h).said
 
 -- ---- the law
 
@@ -268,8 +224,7 @@ sent_of answer keep s =
 joined : (head : Bool) (sent : Sent) (body rest : List ℕ) (new : SourceState) (parse : ReplyParse)
     → IsReadOnlyAs head (text_of sent (body ++ rest)) new parse
     → IsReadOnlyAs head ((text_of sent body) ++ rest) new parse
-joined head sent body rest new parse h =
-    subst (λ t. IsReadOnlyAs head t new parse) (sym (append_assoc (head_text sent.status sent.fields) body rest)) h
+joined head sent body rest new parse h = search (rules, arith, append_assoc, head_text)
 
 -- behind the head of a reply to a HEAD nothing is read
 head_heard : (answer : Answer) (keep : Bool) (rest : List ℕ) (new : SourceState) → IsSaid answer
@@ -316,20 +271,9 @@ replies_heard answer style rest new h fits = go answer style.head h fits
     go : (answer : Answer) (head : Bool) → HasLawfulValues answer → FitsMethod answer head
         → IsReply answer head style.keep rest new (reply_read answer (asked head style.keep) rest)
     go answer true h fits = head_heard answer style.keep rest new (said_of answer h)
-    go Base false h fits = whole_heard Base style.keep rest new base_said
     go (Blob digest size (Some content)) false h fits =
         subst
         (λ n. IsReply (Blob digest n (Some content)) false style.keep rest new (blob_read content style.keep rest)) h.2
         (blob_heard digest content style.keep rest new h.0 (subst (λ n. n < 2 ^ 64) (sym h.2) h.1))
     go (Blob digest size None) false h fits = absurd (cc fits)
-    go (Begun name at) false h fits = whole_heard (Begun name at) style.keep rest new (begun_said name at h)
-    go (Stored name digest) false h fits =
-        whole_heard (Stored name digest) style.keep rest new (stored_said name digest h.0 h.1)
-    go (Taken name at next) false h fits =
-        whole_heard (Taken name at next) style.keep rest new (taken_said name at next h.0 h.1)
-    go (Standing name at next) false h fits =
-        whole_heard (Standing name at next) style.keep rest new (standing_said name at next h.0 h.1)
-    go (Misplaced name at next) false h fits =
-        whole_heard (Misplaced name at next) style.keep rest new (misplaced_said name at next h.0 h.1)
-    go (Refused refusal) false h fits = whole_heard (Refused refusal) style.keep rest new (refused_said refusal)
-    go NoMemory false h fits = whole_heard NoMemory style.keep rest new memory_said
+    go other false h fits = whole_heard other style.keep rest new (said_whole other tt h)

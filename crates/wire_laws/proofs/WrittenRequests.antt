@@ -1,6 +1,6 @@
 -- The text of each ask is a request of the same ask.
-use Rattle.std.proofs.Common.{◌≡◌, ℕ, ◌+◌, IsTrue, ◌<◌, ◌≤◌, ◌^◌, Bool, true, false, codes, List, [], ◌∷◌, ◌++◌, length}
-use Rattle.std.proofs.Common.{map, get_or, refl, arith, ◌∙◌, sym, ap, subst, IfSome, Option, Some, None, inr}
+use Rattle.std.proofs.Common.{◌≡◌, ℕ, ◌+◌, ◌≤◌, Bool, true, false, codes, List, [], ◌∷◌, ◌++◌, length}
+use Rattle.std.proofs.Common.{get_or, refl, arith, ◌∙◌, sym, ap, subst, IfSome, Option, Some, None, inr, rules}
 use Rattle.std.proofs.Common.{append_assoc, length-append, nat_lt}
 use Rattle.std.specs.Prelude.{bytes_eq, option_and_then, unwrap_or}
 use Rattle.std.specs.List.{flat_map, list_all}
@@ -10,8 +10,7 @@ use Rattle.std.proofs.lemmas.List.Sums.{AllPass-from_list_all}
 use Rattle.std.proofs.lemmas.Str.{IsUtf8-from_ascii}
 use Rattle.std.proofs.lemmas.Str.Ascii.{IsAscii-from_all}
 use Rattle.httparse.specs.Ascii.{crlf_bytes}
-use Rattle.httparse.specs.Grammar.{IsToken, RequestHead, is_token_byte, is_uri_byte, print_request, print_version}
-use Rattle.httparse.specs.Grammar.{print_end, print_section, crlf}
+use Rattle.httparse.specs.Grammar.{IsToken, RequestHead, is_token_byte, is_uri_byte, print_request}
 use Rattle.upload_names.specs.NamePass.{is_name}
 use Rattle.upload_names.specs.Digest.{Digest, IsDigest, digest_of, digest_text}
 use Rattle.upload_names.specs.Reference.{reference_of, reference_text}
@@ -35,10 +34,11 @@ use Rattle.http_wire.specs.Body.{framing_of}
 use Rattle.upload_wire.specs.RequestText.{IsRequest}
 use Rattle.upload_wire.specs.Target.{IsFormOf, ask_of_form, with_body, extent_of, method_of, HeadAsks}
 use Rattle.upload_texts.specs.Paths.{upload_path}
-use Rattle.upload_client.specs.AskText.{Message, message_of, print_message, target_of, query_text, is_host, look_method}
-use Rattle.upload_client.specs.AskText.{digest_query, digest_or_nothing, IsAbsentOrGiven, CanBeWritten, ask_text}
-use Rattle.wire_laws.specs.WrittenAsks.{AsksAreReadBack, HasLawfulParts, HasSpan, IsReference, body_text, head_text}
+use Rattle.upload_client.specs.AskText.{Message, message_of, target_of, query_text}
+use Rattle.upload_client.specs.AskText.{digest_query, digest_or_nothing, CanBeWritten, ask_text}
+use Rattle.wire_laws.specs.WrittenAsks.{AsksAreReadBack, IsReference}
 use Rattle.wire_laws.specs.WrittenAsks.{written_style}
+use Rattle.wire_laws.specs.WrittenExchanges.{MayBeAsked}
 use Rattle.upload_texts.proofs.PlainTexts.{IsPlain, IsParameters, IsTarget, is_plain_byte, AllPass-nil, name_plain}
 use Rattle.upload_texts.proofs.PlainTexts.{digest_tail, digest_plain, reference_tail, blob_plain, uploads_plain}
 use Rattle.upload_texts.proofs.PlainTexts.{upload_plain, line_bytes, ascii_bytes}
@@ -58,35 +58,44 @@ longer a t r x = omega (arith, length-append a (x ∷ (t ++ r)), length-append t
 target_short : (m : Message) (host : List ℕ) → length (print_request (head_of m host)) ≤ max_head
     → length (target_of m) ≤ 65534
 unfolding print_request
-target_short m host h =
-    let rest : List ℕ =
-    32 ∷ (print_version 1 ++ (print_end crlf ++ print_section (map field_of (sent_fields m host)) crlf)) in
-    let cut : print_request (head_of m host) ≡ m.method ++ (32 ∷ (target_of m ++ rest)) = simp append_assoc in
-    let l : length (target_of m) ≤ length (print_request (head_of m host)) =
-    rw cut (longer m.method (target_of m) rest 32) in
-    omega arith
+target_short m host h = search (rules, arith, field_of, sent_fields, head_of, append_assoc, longer)
 
 -- what is asked of the form, with these fields and this body
 abbrev asked : Message → PathForm → Extent → Ask
 asked m form range = with_body (ask_of_form form (method_of m.method) (unwrap_or m.query []) range) m.body
 
--- the parts of a message are read as an ask
-record ReadsAs (max_body : ℕ) (m : Message) (host : List ℕ) (range : Extent) (form : PathForm)
-    (ask : Ask) : Type 0 where
-  method : IsToken m.method
-  path : IsPlain m.path
-  slash : get_or m.path 0 0 ≡ 47
-  query : IfSome m.query IsParameters
-  fields : AreRead max_body (sent_fields m host) (length m.body) range
-  form_is : IsFormOf m.path form
-  asks : ask ≡ asked m form range
+-- the message of an ask is read as the ask
+record ReadsAs (max_body : ℕ) (ask : Ask) (host : List ℕ) : Type 0 where
+  range : Extent
+  form : PathForm
+  path : IsPlain (message_of ask).path
+  slash : get_or (message_of ask).path 0 0 ≡ 47
+  query : IfSome (message_of ask).query IsParameters
+  fields : AreRead max_body (sent_fields (message_of ask) host) (length (message_of ask).body) range
+  form_is : IsFormOf (message_of ask).path form
+  asks : ask ≡ asked (message_of ask) form range
 
-sendable : {max_body : ℕ} {m : Message} {host : List ℕ} {range : Extent} {form : PathForm} {ask : Ask}
-    → ReadsAs max_body m host range form ask → length (print_request (head_of m host)) ≤ max_head → IsSendable m host
-sendable {max_body} {m} h short =
+token : (method : List ℕ) → nat_lt 0 (length method) ≡ true → list_all is_token_byte method ≡ true → IsToken method
+token method some h = (grind (arith, nat_tests), AllPass-from_list_all is_token_byte method h)
+
+method_token : (ask : Ask) → CanBeWritten ask → IsToken (message_of ask).method
+unfolding is_token_byte
+method_token (Has name digest true) can = token (codes "HEAD") refl refl
+method_token (Has name digest false) can = token (codes "GET") refl refl
+method_token (Refused refusal) can = absurd can
+method_token other can = token (message_of other).method refl refl
+
+head_short : {max_body : ℕ} {ask : Ask} {host : List ℕ} → MayBeAsked max_body ask host
+    → length (print_request (head_of (message_of ask) host)) ≤ max_head
+head_short {max_body} {ask} {host} may = subst (λ t. length t ≤ max_head) (printed (message_of ask) host) may.short
+
+sendable : {max_body : ℕ} {ask : Ask} {host : List ℕ} → MayBeAsked max_body ask host → ReadsAs max_body ask host
+    → IsSendable (message_of ask) host
+sendable {max_body} {ask} may h =
+    let m : Message = message_of ask in
     let bytes : IsTarget (target_of m) = target_bytes m.path m.query h.path h.query in
     record {
-      method = h.method;
+      method = method_token ask may.writable;
       target = (
         omega (arith, nonempty m.path h.slash, length-append m.path (query_text m.query)),
         line_bytes (target_of m) bytes,
@@ -94,26 +103,26 @@ sendable {max_body} {m} h short =
       target_text = IsUtf8-from_ascii (target_of m) (IsAscii-from_all (target_of m) (ascii_bytes (target_of m) bytes));
       fields = h.fields.plain;
       few = h.fields.few;
-      short = short;
+      short = head_short may;
     }
 
 -- such a message is a request of that ask
-read_as : {max_body : ℕ} {m : Message} {host : List ℕ} {range : Extent} {form : PathForm} {ask : Ask}
-    → ReadsAs max_body m host range form ask → length (print_request (head_of m host)) ≤ max_head
-    → IsRequest max_body (print_message m host) ask (record { head = bytes_eq m.method (codes "HEAD"); keep = true })
-read_as {max_body} {m} {host} {range} {form} h short =
+read_as : {max_body : ℕ} {ask : Ask} {host : List ℕ} → MayBeAsked max_body ask host → ReadsAs max_body ask host
+    → IsRequest max_body (ask_text ask host) ask (written_style ask)
+read_as {max_body} {ask} {host} may h =
+    let m : Message = message_of ask in
     let fields = sent_fields m host in
     let kept : head_fields (head_of m host).fields ≡ fields = values_kept fields h.fields.plain in
-    let s = spelled m.path m.query h.path h.slash h.query (target_short m host short) in
-    let ranged : extent_of (values_of (codes "content-range") (head_fields (head_of m host).fields)) ≡ range =
+    let s = spelled m.path m.query h.path h.slash h.query (target_short m host (head_short may)) in
+    let ranged : extent_of (values_of (codes "content-range") (head_fields (head_of m host).fields)) ≡ h.range =
     ap (λ f. extent_of (values_of (codes "content-range") f)) kept ∙ h.fields.range_is in
-    let bare = ask_of_form form (method_of m.method) (unwrap_or m.query []) range in
-    let asks : HeadAsks m.method (target_of m) range bare =
-    inr (s.uri, s.spells, (form, rw s.path_is h.form_is, rw s.query_is refl)) in
+    let bare = ask_of_form h.form (method_of m.method) (unwrap_or m.query []) h.range in
+    let asks : HeadAsks m.method (target_of m) h.range bare =
+    inr (s.uri, s.spells, (h.form, rw s.path_is h.form_is, rw s.query_is refl)) in
     record {
       head = head_of m host;
       rest = m.body;
-      reads = reads_head m host (sendable h short);
+      reads = reads_head m host (sendable may h);
       framing = Length (length m.body);
       framed = ap (framing_of max_body 1) kept ∙ h.fields.framed;
       body = m.body;
@@ -124,31 +133,7 @@ read_as {max_body} {m} {host} {range} {form} h short =
           (sym (ap (keeps_connection 1) kept ∙ h.fields.keeps));
     }
 
--- ---- methods and forms
-
-token : (method : List ℕ) → nat_lt 0 (length method) ≡ true → list_all is_token_byte method ≡ true → IsToken method
-token method some h = (grind (arith, nat_tests), AllPass-from_list_all is_token_byte method h)
-
-get_token : IsToken (codes "GET")
-unfolding is_token_byte
-get_token = token (codes "GET") refl refl
-
-look_token : (head : Bool) → IsToken (look_method head)
-unfolding is_token_byte
-look_token true = token (codes "HEAD") refl refl
-look_token false = token (codes "GET") refl refl
-
-post_token : IsToken (codes "POST")
-unfolding is_token_byte
-post_token = token (codes "POST") refl refl
-
-patch_token : IsToken (codes "PATCH")
-unfolding is_token_byte
-patch_token = token (codes "PATCH") refl refl
-
-put_token : IsToken (codes "PUT")
-unfolding is_token_byte
-put_token = token (codes "PUT") refl refl
+-- ---- forms
 
 -- a text, as a form of a path holds it
 abbrev held : List ℕ → Bor (List ℕ)
@@ -164,55 +149,17 @@ abbrev at_upload : List ℕ → List ℕ → PathForm
 at_upload name at = Path.Upload (held name) (held (reference_text at))
 
 is_upload : (name at : List ℕ) → IsFormOf (upload_path name (reference_text at)) (at_upload name at)
-is_upload name at =
-    (refl, HasNoSlash-tail (reference_text at) (reference_tail at), omega (arith, length-reference_text at))
+is_upload name at = search (rules, arith, HasNoSlash-tail, reference_tail, length-reference_text)
 
 reference_read : (at : List ℕ) → IsReference at → reference_of (reference_text at) ≡ Some at
 reference_read at h = reference_of-text at h.sized h.bytes
 
 -- ---- the asks
 
-base_read : (max_body : ℕ) (host : List ℕ) → is_host host ≡ true
-    → ReadsAs max_body (message_of Base) host Absent Path.Base Base
-base_read max_body host h = record {
-  method = get_token;
-  path = AllPass-from_list_all is_plain_byte (codes "/v2/") refl;
-  slash = refl;
-  query = tt;
-  fields = bare_read max_body host h;
-  form_is = refl;
-  asks = refl;
-}
-
 has_asked : (name : List ℕ) (digest : Digest) (head : Bool) → is_name name ≡ true → IsDigest digest
     → Has name digest head ≡ asked (message_of (Has name digest head)) (at_blob name digest) Absent
 has_asked name digest true n d = rw (n, digest_of-text digest d) refl
 has_asked name digest false n d = rw (n, digest_of-text digest d) refl
-
-has_read : (max_body : ℕ) (host name : List ℕ) (digest : Digest) (head : Bool) → is_host host ≡ true
-    → is_name name ≡ true → IsDigest digest
-    → ReadsAs max_body (message_of (Has name digest head)) host Absent (at_blob name digest) (Has name digest head)
-has_read max_body host name digest head h n d = record {
-  method = look_token head;
-  path = blob_plain name digest n d;
-  slash = refl;
-  query = tt;
-  fields = bare_read max_body host h;
-  form_is = (refl, HasNoSlash-tail (digest_text digest) (digest_tail digest d));
-  asks = has_asked name digest head n d;
-}
-
-opening_read : (max_body : ℕ) (host name : List ℕ) → is_host host ≡ true → is_name name ≡ true
-    → ReadsAs max_body (message_of (Opening name)) host Absent (at_uploads name) (Opening name)
-opening_read max_body host name h n = record {
-  method = post_token;
-  path = uploads_plain name n;
-  slash = refl;
-  query = tt;
-  fields = post_read max_body host h;
-  form_is = refl;
-  asks = rw (n, no_parameter (codes "mount"), no_parameter (codes "digest")) refl;
-}
 
 digest_or_nothing_plain : (digest : Option Digest) → IfSome digest IsDigest → IsPlain (digest_or_nothing digest)
 digest_or_nothing_plain None d = AllPass-nil is_plain_byte
@@ -227,63 +174,6 @@ digest_or_nothing_read : (digest : Option Digest) → IfSome digest IsDigest
 digest_or_nothing_read None d = nothing_read
 digest_or_nothing_read (Some digest) d = digest_of-text digest d
 
-single_read : (max_body : ℕ) (host name : List ℕ) (digest : Option Digest) (body : List ℕ)
-    → is_host host ≡ true → is_name name ≡ true → IfSome digest IsDigest → length body ≤ max_body → max_body < 2 ^ 64
-    → ReadsAs max_body (message_of (Single name digest body)) host Absent (at_uploads name) (Single name digest body)
-single_read max_body host name digest body h n d fits limit =
-    let plain = digest_or_nothing_plain digest d in
-    let given = digest_parameter (digest_or_nothing digest) plain in
-    record {
-      method = post_token;
-      path = uploads_plain name n;
-      slash = refl;
-      query = digest_parameters (digest_or_nothing digest) plain;
-      fields = body_read max_body host body h fits limit;
-      form_is = refl;
-      asks = rw (n, given.0, given.1, digest_or_nothing_read digest d) refl;
-    }
-
-mount_read : (max_body : ℕ) (host name : List ℕ) (digest : Digest) (source : List ℕ) → is_host host ≡ true
-    → is_name name ≡ true → IsDigest digest → is_name source ≡ true
-    → ReadsAs max_body (message_of (Mount name digest source)) host Absent (at_uploads name) (Mount name digest source)
-mount_read max_body host name digest source h n d s =
-    let given = mount_parameter (digest_text digest) source (digest_plain digest d) (name_plain source s) in
-    record {
-      method = post_token;
-      path = uploads_plain name n;
-      slash = refl;
-      query = mount_parameters (digest_text digest) source (digest_plain digest d) (name_plain source s);
-      fields = post_read max_body host h;
-      form_is = refl;
-      asks = rw (n, given.0, given.1, digest_of-text digest d, s) refl;
-    }
-
-chunk_read : (max_body : ℕ) (host name at : List ℕ) (range : Extent) (body : List ℕ)
-    → is_host host ≡ true → is_name name ≡ true → IsReference at → IsAbsentOrGiven range
-    → HasSpan range → length body ≤ max_body → max_body < 2 ^ 64
-    → ReadsAs max_body (message_of (Chunk name at range body)) host range (at_upload name at) (Chunk name at range body)
-chunk_read max_body host name at range body h n r given span fits limit = record {
-  method = patch_token;
-  path = upload_plain name at n;
-  slash = refl;
-  query = tt;
-  fields = upload_read max_body host range body h given span fits limit;
-  form_is = is_upload name at;
-  asks = rw (n, reference_read at r) refl;
-}
-
-status_read : (max_body : ℕ) (host name at : List ℕ) → is_host host ≡ true → is_name name ≡ true → IsReference at
-    → ReadsAs max_body (message_of (Status name at)) host Absent (at_upload name at) (Status name at)
-status_read max_body host name at h n r = record {
-  method = get_token;
-  path = upload_plain name at n;
-  slash = refl;
-  query = tt;
-  fields = bare_read max_body host h;
-  form_is = is_upload name at;
-  asks = rw (n, reference_read at r) refl;
-}
-
 close_parameters : (digest : Option Digest) → IfSome digest IsDigest → IfSome (digest_query digest) IsParameters
 close_parameters None d = tt
 close_parameters (Some digest) d = digest_parameters (digest_text digest) (digest_plain digest d)
@@ -296,44 +186,118 @@ closing_digest (Some digest) d =
     ap (option_and_then digest_of) (digest_parameter (digest_text digest) (digest_plain digest d)).1
     ∙ digest_of-text digest d
 
-close_read : (max_body : ℕ) (host name at : List ℕ) (range : Extent) (digest : Option Digest) (body : List ℕ)
-    → is_host host ≡ true → is_name name ≡ true → IsReference at → IsAbsentOrGiven range → HasSpan range
-    → IfSome digest IsDigest → length body ≤ max_body → max_body < 2 ^ 64 → ReadsAs max_body
-    (message_of (Close name at range digest body)) host range (at_upload name at) (Close name at range digest body)
-close_read max_body host name at range digest body h n r given span d fits limit = record {
-  method = put_token;
-  path = upload_plain name at n;
+reads_as : (max_body : ℕ) (ask : Ask) (host : List ℕ) → MayBeAsked max_body ask host → ReadsAs max_body ask host
+reads_as max_body Base host may = record {
+  range = Absent;
+  form = Path.Base;
+  path = AllPass-from_list_all is_plain_byte (codes "/v2/") refl;
   slash = refl;
-  query = close_parameters digest d;
-  fields = upload_read max_body host range body h given span fits limit;
-  form_is = is_upload name at;
-  asks = rw (n, reference_read at r, closing_digest digest d) refl;
+  query = tt;
+  fields = bare_read max_body host may.to_host;
+  form_is = refl;
+  asks = refl;
 }
+reads_as max_body (Has name digest head) host may =
+    let n : is_name name ≡ true = may.parts.0 in
+    let d : IsDigest digest = may.parts.1 in
+    record {
+      range = Absent;
+      form = at_blob name digest;
+      path = blob_plain name digest n d;
+      slash = refl;
+      query = tt;
+      fields = bare_read max_body host may.to_host;
+      form_is = (refl, HasNoSlash-tail (digest_text digest) (digest_tail digest d));
+      asks = has_asked name digest head n d;
+    }
+reads_as max_body (Opening name) host may =
+    let n : is_name name ≡ true = may.parts in
+    record {
+      range = Absent;
+      form = at_uploads name;
+      path = uploads_plain name n;
+      slash = refl;
+      query = tt;
+      fields = post_read max_body host may.to_host;
+      form_is = refl;
+      asks = rw (n, no_parameter (codes "mount"), no_parameter (codes "digest")) refl;
+    }
+reads_as max_body (Single name digest body) host may =
+    let n : is_name name ≡ true = may.parts.0 in
+    let d : IfSome digest IsDigest = may.parts.1 in
+    let plain = digest_or_nothing_plain digest d in
+    let given = digest_parameter (digest_or_nothing digest) plain in
+    record {
+      range = Absent;
+      form = at_uploads name;
+      path = uploads_plain name n;
+      slash = refl;
+      query = digest_parameters (digest_or_nothing digest) plain;
+      fields = body_read max_body host body may.to_host may.fits may.limit;
+      form_is = refl;
+      asks = rw (n, given.0, given.1, digest_or_nothing_read digest d) refl;
+    }
+reads_as max_body (Mount name digest source) host may =
+    let n : is_name name ≡ true = may.parts.0 in
+    let d : IsDigest digest = may.parts.1 in
+    let s : is_name source ≡ true = may.parts.2 in
+    let given = mount_parameter (digest_text digest) source (digest_plain digest d) (name_plain source s) in
+    record {
+      range = Absent;
+      form = at_uploads name;
+      path = uploads_plain name n;
+      slash = refl;
+      query = mount_parameters (digest_text digest) source (digest_plain digest d) (name_plain source s);
+      fields = post_read max_body host may.to_host;
+      form_is = refl;
+      asks = rw (n, given.0, given.1, digest_of-text digest d, s) refl;
+    }
+reads_as max_body (Chunk name at range body) host may =
+    let n : is_name name ≡ true = may.parts.0 in
+    record {
+      range = range;
+      form = at_upload name at;
+      path = upload_plain name at n;
+      slash = refl;
+      query = tt;
+      fields = upload_read max_body host range body may.to_host may.writable may.parts.2 may.fits may.limit;
+      form_is = is_upload name at;
+      asks = rw (n, reference_read at may.parts.1) refl;
+    }
+reads_as max_body (Status name at) host may =
+    let n : is_name name ≡ true = may.parts.0 in
+    record {
+      range = Absent;
+      form = at_upload name at;
+      path = upload_plain name at n;
+      slash = refl;
+      query = tt;
+      fields = bare_read max_body host may.to_host;
+      form_is = is_upload name at;
+      asks = rw (n, reference_read at may.parts.1) refl;
+    }
+reads_as max_body (Close name at range digest body) host may =
+    let n : is_name name ≡ true = may.parts.0 in
+    record {
+      range = range;
+      form = at_upload name at;
+      path = upload_plain name at n;
+      slash = refl;
+      query = close_parameters digest may.parts.3;
+      fields = upload_read max_body host range body may.to_host may.writable may.parts.2 may.fits may.limit;
+      form_is = is_upload name at;
+      asks = rw (n, reference_read at may.parts.1, closing_digest digest may.parts.3) refl;
+    }
+reads_as max_body (Refused refusal) host may = absurd may.writable
 
 -- ---- the law
 
+pub asked_request : {max_body : ℕ} {ask : Ask} {host : List ℕ} → MayBeAsked max_body ask host
+    → IsRequest max_body (ask_text ask host) ask (written_style ask)
+asked_request {max_body} {ask} {host} may = read_as may (reads_as max_body ask host may)
+
 pub asks_read_back : AsksAreReadBack
-asks_read_back max_body ask host limit written parts h short fits =
-    go ask written parts (subst (λ t. length t ≤ max_head) (printed (message_of ask) host) short) fits
-  where
-    go : (ask : Ask) → CanBeWritten ask → HasLawfulParts ask
-        → length (print_request (head_of (message_of ask) host)) ≤ max_head → length (body_text ask) ≤ max_body
-        → IsRequest max_body (ask_text ask host) ask (written_style ask)
-    go Base written parts short fits = read_as (base_read max_body host h) short
-    go (Has name digest head) written parts short fits =
-        read_as (has_read max_body host name digest head h parts.0 parts.1) short
-    go (Opening name) written parts short fits = read_as (opening_read max_body host name h parts) short
-    go (Single name digest body) written parts short fits =
-        read_as (single_read max_body host name digest body h parts.0 parts.1 fits limit) short
-    go (Mount name digest source) written parts short fits =
-        read_as (mount_read max_body host name digest source h parts.0 parts.1 parts.2) short
-    go (Chunk name at range body) written parts short fits =
-        read_as (chunk_read max_body host name at range body h parts.0 parts.1 written parts.2 fits limit) short
-    go (Status name at) written parts short fits = read_as (status_read max_body host name at h parts.0 parts.1) short
-    go (Close name at range digest body) written parts short fits =
-        read_as
-        (close_read max_body host name at range digest body h parts.0 parts.1 written parts.2 parts.3 fits limit) short
-    go (Refused refusal) written parts short fits = absurd written
+asks_read_back max_body ask host limit written parts h short fits = search (rules, arith, asked_request)
 
 -- ---- its lines
 
@@ -368,42 +332,12 @@ pub record HeadWritten (ask : Ask) (host : List ℕ) : Type 0 where
   pub reads : ReadsHead requests (ask_text ask host) head rest
   pub lines : line_feeds (print_request head) ≤ max_fields + 2
 
-head_as : {max_body : ℕ} {host : List ℕ} {range : Extent} {form : PathForm} {asked_as : Ask} (ask : Ask)
-    → ReadsAs max_body (message_of ask) host range form asked_as
-    → length (print_request (head_of (message_of ask) host)) ≤ max_head → HeadWritten ask host
-head_as {max_body} {host} ask h short =
-    let can = sendable h short in
+pub heads_written : {max_body : ℕ} {ask : Ask} {host : List ℕ} → MayBeAsked max_body ask host → HeadWritten ask host
+heads_written {max_body} {ask} {host} may =
+    let can = sendable may (reads_as max_body ask host may) in
     record {
       head = head_of (message_of ask) host;
       rest = (message_of ask).body;
       reads = reads_head (message_of ask) host can;
       lines = lines_of (message_of ask) host can;
     }
-
-pub heads_written : (max_body : ℕ) (ask : Ask) (host : List ℕ) → max_body < 2 ^ 64 → CanBeWritten ask
-    → HasLawfulParts ask → IsTrue (is_host host) → length (head_text ask host) ≤ max_head
-    → length (body_text ask) ≤ max_body → HeadWritten ask host
-heads_written max_body ask host limit written parts h short fits =
-    go ask written parts (subst (λ t. length t ≤ max_head) (printed (message_of ask) host) short) fits
-  where
-    go : (ask : Ask) → CanBeWritten ask → HasLawfulParts ask
-        → length (print_request (head_of (message_of ask) host)) ≤ max_head → length (body_text ask) ≤ max_body
-        → HeadWritten ask host
-    go Base written parts short fits = head_as Base (base_read max_body host h) short
-    go (Has name digest head) written parts short fits =
-        head_as (Has name digest head) (has_read max_body host name digest head h parts.0 parts.1) short
-    go (Opening name) written parts short fits = head_as (Opening name) (opening_read max_body host name h parts) short
-    go (Single name digest body) written parts short fits =
-        head_as (Single name digest body)
-        (single_read max_body host name digest body h parts.0 parts.1 fits limit) short
-    go (Mount name digest source) written parts short fits =
-        head_as (Mount name digest source) (mount_read max_body host name digest source h parts.0 parts.1 parts.2) short
-    go (Chunk name at range body) written parts short fits =
-        head_as (Chunk name at range body)
-        (chunk_read max_body host name at range body h parts.0 parts.1 written parts.2 fits limit) short
-    go (Status name at) written parts short fits =
-        head_as (Status name at) (status_read max_body host name at h parts.0 parts.1) short
-    go (Close name at range digest body) written parts short fits =
-        head_as (Close name at range digest body)
-        (close_read max_body host name at range digest body h parts.0 parts.1 written parts.2 parts.3 fits limit) short
-    go (Refused refusal) written parts short fits = absurd written

@@ -1,7 +1,7 @@
 -- A written target is read as the URI of its path and its query.
 use Rattle.std.proofs.Common.{◌≡◌, ◌≢◌, ℕ, ◌<◌, ◌≤◌, ◌==◌, false, List, [], ◌∷◌, ◌++◌, length, get_or, refl, arith, ◌∙◌}
-use Rattle.std.proofs.Common.{sym, ap, subst, IfSome, Option, Some, None, inl, inr, append-nil, take_all, lt-ltb}
-use Rattle.std.proofs.Common.{le-ltb, length-append}
+use Rattle.std.proofs.Common.{sym, subst, IfSome, Option, Some, None, inl, inr, append-nil, take_all, lt-ltb}
+use Rattle.std.proofs.Common.{le-ltb, length-append, rules}
 use Rattle.std.proofs.Math.Seq.{take-append_seam, get_or-append_seam, drop-append-add}
 use Rattle.std.proofs.lemmas.Bool.Decides.{nat_tests}
 use Rattle.std.proofs.lemmas.List.{get_or_append_left}
@@ -30,16 +30,13 @@ index_at c a b h =
     (λ lt. get_or-append_seam a c b 0)
 
 index_none : (c : ℕ) (a : List ℕ) → Lacks c a → index_of c a ≡ length a
-index_none c a h =
-    index_of_is c a (length a) (omega arith) (λ k lt. All-get_or (λ x. x ≢ c) a k 0 lt h) (λ lt. absurd (omega arith))
+index_none c a h = search (rules, arith, index_of_is, All-get_or)
 
 pub front_at : (c : ℕ) (a b : List ℕ) → Lacks c a → split_once_front c (a ++ c ∷ b) ≡ a
 front_at c a b h = rw (index_at c a b h) (take-append_seam a (c ∷ b))
 
 pub back_at : (c : ℕ) (a b : List ℕ) → Lacks c a → split_once_back c (a ++ c ∷ b) ≡ Some b
-back_at c a b h =
-    let inside : length a < length (a ++ c ∷ b) = omega (arith, length-append a (c ∷ b)) in
-    rw (index_at c a b h, lt-ltb (length a) (length (a ++ c ∷ b)) inside) (ap Some (drop-append-add a (c ∷ b) 1))
+back_at c a b h = search (rules, arith, length-append, index_at, lt-ltb, drop-append-add)
 
 pub front_none : (c : ℕ) (a : List ℕ) → Lacks c a → split_once_front c a ≡ a
 front_none c a h = rw (index_none c a h) (take_all (length a) a (omega arith))
@@ -72,8 +69,7 @@ pub target_bytes : (path : List ℕ) (query : Option (List ℕ)) → IsPlain pat
     → IsTarget (path ++ query_text query)
 target_bytes path None p q = rw append-nil (IsTarget-plain path p)
 target_bytes path (Some query) p q =
-    AllPass-append is_target_byte path (63 ∷ query) (IsTarget-plain path p)
-    (AllPass-cons is_target_byte 63 query refl (IsTarget-parameters query q))
+    search (rules, arith, AllPass-append, is_target_byte, IsTarget-plain, AllPass-cons, IsTarget-parameters)
 
 -- a path and a query are read from the text that joins them
 pub record IsSpelled (path : List ℕ) (query : Option (List ℕ)) : Type 0 where
@@ -106,10 +102,7 @@ not_zero n h = grind (arith, nat_tests)
 
 path_read : (k path : List ℕ) → 0 < length k → 0 < length path → split_once_front 63 k ≡ path
     → uri_path (uri_with k) ≡ path
-path_read k path h g e =
-    let outer = not_zero (length k) h in
-    let inner = not_zero (length path) g in
-    simp (outer, e, inner)
+path_read k path h g e = cc (not_zero (length k) h, not_zero (length path) g)
 
 pub nonempty : (path : List ℕ) → get_or path 0 0 ≡ 47 → 0 < length path
 nonempty [] h = absurd (omega arith)
