@@ -14,7 +14,7 @@ use Rattle.wire_laws.specs.WrittenExchanges.{MayBeAsked}
 use Rattle.end_to_end.specs.Network.{Connection, IsAskOf}
 use Rattle.end_to_end.specs.Dialing.{Leg, over, unmet, asked_in, asked_by, IsLegTo, DialedPushesHaveConnections}
 use Rattle.end_to_end.specs.Dialing.{DialedConnectionsAreCarried}
-use Rattle.end_to_end.proofs.Seating.{all_both}
+use Rattle.upload_wire.proofs.Lists.{all_both, all_second, all_weaker}
 
 -- ---- one more ask over a connection
 
@@ -35,24 +35,14 @@ ask_of_longer : (e : Attempt) (log : List Attempt) (ask : Ask) → IsAskOf log a
 ask_of_longer e log ask is =
     record { later = e ∷ is.later; at = is.at; earlier = is.earlier; split = ap (λ l. e ∷ l) is.split; same = is.same }
 
-asks_of_longer : (e : Attempt) (log : List Attempt) (xs : List TransportCall)
-    → AllByRecursion (λ x. IsAskOf log x.ask) xs → AllByRecursion (λ x. IsAskOf (e ∷ log) x.ask) xs
-asks_of_longer e log [] all = tt
-asks_of_longer e log (x ∷ xs) all = (ask_of_longer e log x.ask all.0, asks_of_longer e log xs all.1)
-
 -- ---- connections behind some asks
 
 module _ (host : List ℕ) (earlier : List Attempt) where
   leg_of_longer : (e : Attempt) (log : List Attempt) (leg : Leg) → IsLegTo host earlier log leg
       → IsLegTo host earlier (e ∷ log) leg
   leg_of_longer e log (over c) is =
-      record { host_is = is.host_is; own = asks_of_longer e log c.asks is.own; before_it = is.before_it }
+      record { host_is = is.host_is; own = all_weaker (λ y. ask_of_longer e log y.ask) c.asks is.own; before_it = is.before_it }
   leg_of_longer e log (unmet ask) is = tt
-
-  legs_of_longer : (e : Attempt) (log : List Attempt) (legs : List Leg)
-      → AllByRecursion (IsLegTo host earlier log) legs → AllByRecursion (IsLegTo host earlier (e ∷ log)) legs
-  legs_of_longer e log [] all = tt
-  legs_of_longer e log (leg ∷ legs) all = (leg_of_longer e log leg all.0, legs_of_longer e log legs all.1)
 
   -- the connection that is kept is the newest one, as it was left
   abbrev IsKept : Option WireState → List Leg → Type 0
@@ -93,7 +83,7 @@ module _ (host : List ℕ) (earlier : List Attempt) where
         all = ap (λ l. l ++ asked_of e ∷ []) at.all;
         each = (
           record { host_is = ap (λ (w : WireState). w.host) made.2; own = (ask_of_newest e log, tt); before_it = tt },
-          legs_of_longer e log at.legs at.each,
+          all_weaker (leg_of_longer e log) at.legs at.each,
         );
         newest = subst (λ k. IsKept k (over c ∷ at.legs)) (sym is) (kept_newest c at.legs (stays_open new));
       }
@@ -124,11 +114,11 @@ module _ (host : List ℕ) (earlier : List Attempt) where
           record {
             host_is = each.0.host_is;
             own =
-                all_both (λ y. IsAskOf (e ∷ log) y.ask) c.asks (x ∷ []) (asks_of_longer e log c.asks each.0.own)
+                all_both (λ y. IsAskOf (e ∷ log) y.ask) c.asks (x ∷ []) (all_weaker (λ y. ask_of_longer e log y.ask) c.asks each.0.own)
                 (ask_of_newest e log, tt);
             before_it = each.0.before_it;
           },
-          legs_of_longer e log legs each.1,
+          all_weaker (leg_of_longer e log) legs each.1,
         );
         newest = subst (λ k. IsKept k (over d ∷ legs)) (sym is) (kept_newest d legs (stays_open new));
       }
@@ -139,7 +129,7 @@ module _ (host : List ℕ) (earlier : List Attempt) where
   over_none e log kept behind at none is = record {
     legs = unmet e.ask ∷ at.legs;
     all = λ i. at.all i ++ record { ask = e.ask; heard = (sym none) i } ∷ [];
-    each = (tt, legs_of_longer e log at.legs at.each);
+    each = (tt, all_weaker (leg_of_longer e log) at.legs at.each);
     newest = subst (λ k. IsKept k (unmet e.ask ∷ at.legs)) (sym is) tt;
   }
 
@@ -220,26 +210,17 @@ have_connections host earlier log kept last first leads =
 
 -- ---- connections that a network carried
 
-no_get_at : (later : List Attempt) (e : Attempt) (earlier : List Attempt)
-    → AllByRecursion (λ (d : Attempt). IsNoGet d.ask) (later ++ e ∷ earlier) → IsNoGet e.ask
-no_get_at [] e earlier all = all.0
-no_get_at (d ∷ later) e earlier all = no_get_at later e earlier all.1
-
 no_get_of : (log : List Attempt) (ask : Ask) → AllByRecursion (λ (e : Attempt). IsNoGet e.ask) log
     → IsAskOf log ask → IsNoGet ask
 no_get_of log ask all is =
     subst IsNoGet is.same
-    (no_get_at is.later is.at is.earlier (subst (AllByRecursion (λ (e : Attempt). IsNoGet e.ask)) is.split all))
-
-no_gets_of : (log : List Attempt) (xs : List TransportCall) → AllByRecursion (λ (e : Attempt). IsNoGet e.ask) log
-    → AllByRecursion (λ x. IsAskOf log x.ask) xs → AllByRecursion (λ x. IsNoGet x.ask) xs
-no_gets_of log [] all are = tt
-no_gets_of log (x ∷ xs) all are = (no_get_of log x.ask all are.0, no_gets_of log xs all are.1)
+    (all_second (λ (e : Attempt). IsNoGet e.ask) is.later (is.at ∷ is.earlier)
+    (subst (AllByRecursion (λ (e : Attempt). IsNoGet e.ask)) is.split all)).0
 
 pub are_carried : {L : Lending} {S G O : Type 0} (m : Means L S G O) → DialedConnectionsAreCarried m
 are_carried m max_body host earlier log c made none t carries may = record {
   carries = carries;
   may = subst (λ h. AllByRecursion (λ x. MayBeAsked max_body x.ask h) (c.before ++ c.asks)) (sym made.host_is) may;
   own = made.own;
-  no_gets = no_gets_of earlier c.before none made.before_it;
+  no_gets = all_weaker (λ x. no_get_of earlier x.ask none) c.before made.before_it;
 }

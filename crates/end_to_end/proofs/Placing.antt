@@ -1,7 +1,7 @@
 -- A push in a run whose steps are marked: each request that was heard is a turn, and what is served between two of them
 -- leaves its upload.
 use Rattle.std.proofs.Common.{◌≡◌, ℕ, List, [], ◌∷◌, ◌++◌, refl, sym, ap, subst, ◌∙◌, append-nil, append_assoc, inl}
-use Rattle.std.proofs.Common.{inr, Option, Some, None}
+use Rattle.std.proofs.Common.{inr, Option, Some, None, arith, length, length-append}
 use Rattle.std.specs.List.{AllByRecursion}
 use Rattle.std.proofs.lemmas.List.{map-append}
 use Rattle.upload_service.specs.Machine.{State, Turn, same}
@@ -17,10 +17,11 @@ use Rattle.upload_intake.specs.Log.{Step}
 use Rattle.upload_push.specs.Promise.{Avoids}
 use Rattle.upload_push.specs.Runs.{AskedInRun, IsHeardOf, IsRequestOf, IsHarmless, AreHarmless, IsQuietRun}
 use Rattle.upload_push.specs.Slices.{Push, Attempt, IsSoundAsk, Leads, heard_offset, heard_place, place_after}
-use Rattle.upload_push.proofs.Turns.{None≢Some, same_inside}
+use Rattle.upload_push.proofs.Turns.{None≢Some}
 use Rattle.upload_push.proofs.Uploads.{part_of_next}
 use Rattle.upload_push.proofs.Requests.{by_sound}
 use Rattle.upload_service.proofs.Keeping.Tables.{one_or_two, same_from_ne}
+use Rattle.upload_wire.proofs.Lists.{all_first, all_second, none_before}
 use Rattle.end_to_end.specs.Marks.{other, heard, unheard, Marked, exchanges_in, asked_and_told, heard_in, heard_by}
 use Rattle.end_to_end.specs.Marks.{Agrees}
 use Rattle.end_to_end.specs.Marks.{IsFair, AreApart, HasSecret}
@@ -108,11 +109,7 @@ apart_behind name place ((step, heard ask what) ∷ xs) ys apart =
 apart_behind name place ((step, unheard ask) ∷ xs) ys apart = apart_behind name place xs ys apart
 
 some_more : (xs ys : List Marked) → ¬ (heard_in xs ≡ []) → ¬ (heard_in (xs ++ ys) ≡ [])
-some_more xs ys some none = some (none_first (heard_in xs) (heard_in ys) (sym (heard_both xs ys) ∙ none))
-  where
-    none_first : (us vs : List (Ask × Heard)) → us ++ vs ≡ [] → us ≡ []
-    none_first [] vs e = refl
-    none_first (u ∷ us) vs e = absurd (cc e)
+some_more xs ys some none = some (none_before (heard_in xs) (heard_in ys) (sym (heard_both xs ys) ∙ none))
 
 apart_front : (name : List ℕ) (place : Option (List ℕ)) (xs ys : List Marked) → AreApart name place (xs ++ ys)
     → AreApart name place xs
@@ -127,11 +124,8 @@ apart_front name place ((step, unheard ask) ∷ xs) ys apart = apart_front name 
 heard_later : (xs : List Marked) (step : Step) (ask : Ask) (what : Heard) (ys : List Marked)
     → ¬ (heard_in (xs ++ (step, heard ask what) ∷ ys) ≡ [])
 heard_later xs step ask what ys none =
-    some_last (heard_in xs) (heard_in ys) (sym (heard_both xs ((step, heard ask what) ∷ ys)) ∙ none)
-  where
-    some_last : (us vs : List (Ask × Heard)) → us ++ (ask, what) ∷ vs ≡ [] → ⊥
-    some_last [] vs e = absurd (cc e)
-    some_last (u ∷ us) vs e = absurd (cc e)
+    let none_there = ap length (sym (heard_both xs ((step, heard ask what) ∷ ys)) ∙ none) in
+    omega (arith, none_there, length-append {A = Ask × Heard})
 
 -- what is served in front of a request that was heard, behind the one before, leaves the upload
 all_harmless : (p : Push) (place : Option (List ℕ)) (xs : List Marked) (step : Step) (ask : Ask) (what : Heard)
@@ -148,15 +142,7 @@ all_harmless p place ((at, unheard a) ∷ xs) step ask what ys none apart agree 
   all_harmless p place xs step ask what ys none apart agree.1 fair.1,
 )
 
--- ---- lists
-
-pub all_front : {A : Type 0} (P : A → Type 0) (xs ys : List A) → AllByRecursion P (xs ++ ys) → AllByRecursion P xs
-all_front P [] ys all = tt
-all_front P (x ∷ xs) ys all = (all.0, all_front P xs ys all.1)
-
-pub all_back : {A : Type 0} (P : A → Type 0) (xs ys : List A) → AllByRecursion P (xs ++ ys) → AllByRecursion P ys
-all_back P [] ys all = all
-all_back P (x ∷ xs) ys all = all_back P xs ys all.1
+-- ---- runs
 
 -- a run in two parts
 record Split (start : State) (xs ys : List served.Exchange) (end : State) : Type 0 where
@@ -209,24 +195,17 @@ last_heard ((step, unheard a) ∷ ms) earlier ask what e =
     one_in_front (step, unheard a) ms earlier earlier ask what (λ front is. is) (last_heard ms earlier ask what e)
 last_heard ((step, heard a w) ∷ ms) [] ask what e =
     let pairs : ◌≡◌ {A = Ask × Heard} (a, w) (ask, what) = cc in
-    let asks_are : a ≡ ask = ap (λ (x : Ask × Heard). x.0) pairs in
-    let whats_are : w ≡ what = ap (λ (x : Ask × Heard). x.1) pairs in
-    let none : heard_in ms ≡ [] = cc in
     record {
       front = [];
       step = step;
       back = ms;
-      split = λ i. (step, heard (asks_are i) (whats_are i)) ∷ ms;
+      split = ap (λ (x : Ask × Heard). (step, heard x.0 x.1) ∷ ms) pairs;
       heard_before = refl;
-      none_behind = none;
+      none_behind = cc;
     }
 last_heard ((step, heard a w) ∷ ms) ((b, v) ∷ earlier) ask what e =
-    let pairs : ◌≡◌ {A = Ask × Heard} (a, w) (b, v) = cc in
-    let asks_are : a ≡ b = ap (λ (x : Ask × Heard). x.0) pairs in
-    let whats_are : w ≡ v = ap (λ (x : Ask × Heard). x.1) pairs in
-    let more : heard_in ms ≡ earlier ++ (ask, what) ∷ [] = cc in
-    one_in_front (step, heard a w) ms earlier ((b, v) ∷ earlier) ask what
-    (λ front is. λ i. (asks_are i, whats_are i) ∷ is i) (last_heard ms earlier ask what more)
+    one_in_front (step, heard a w) ms earlier ((b, v) ∷ earlier) ask what (λ front is. cc)
+    (last_heard ms earlier ask what (cc))
 
 -- ---- the push in the run
 
@@ -317,7 +296,7 @@ module _ (p : Push) (start : State) where
         last = λ heard_what heard_is. record {
           earlier = before;
           step = step;
-          split = λ i. before ++ (step, heard e.ask (same_inside (sym is ∙ heard_is) i)) ∷ [];
+          split = cc (is, heard_is);
         };
         none_behind = none_later;
         mid = next;
@@ -385,19 +364,19 @@ module _ (p : Push) (start : State) where
             let secrets' = subst (AllByRecursion HasSecret) last.split secrets in
             let earlier =
             placed log last.front parts.mid parts.first last.heard_before
-            (all_front Agrees last.front (m ∷ last.back) agree')
-            (all_front (IsFair p) last.front (m ∷ last.back) fair')
+            (all_first Agrees last.front (m ∷ last.back) agree')
+            (all_first (IsFair p) last.front (m ∷ last.back) fair')
             (apart_front p.name None last.front (m ∷ last.back) apart')
-            (all_front HasSecret last.front (m ∷ last.back) secrets') in
+            (all_first HasSecret last.front (m ∷ last.back) secrets') in
             let agree_front =
-            subst (AllByRecursion Agrees) earlier.split (all_front Agrees last.front (m ∷ last.back) agree') in
+            subst (AllByRecursion Agrees) earlier.split (all_first Agrees last.front (m ∷ last.back) agree') in
             let fair_front =
-            subst (AllByRecursion (IsFair p)) earlier.split (all_front (IsFair p) last.front (m ∷ last.back) fair') in
+            subst (AllByRecursion (IsFair p)) earlier.split (all_first (IsFair p) last.front (m ∷ last.back) fair') in
             subst (λ xs. Placed p start (e ∷ log) xs end) (sym last.split)
             (place_heard e log what last.front last.step last.back parts.mid parts.second.0 end is last.heard_before
             last.none_behind apart' earlier
-            (all_back Agrees earlier.front earlier.back agree_front)
-            (all_back (IsFair p) earlier.front earlier.back fair_front)
-            (all_back Agrees last.front (m ∷ last.back) agree').0
-            (all_back HasSecret last.front (m ∷ last.back) secrets').0 parts.second.1 parts.second.2)
+            (all_second Agrees earlier.front earlier.back agree_front)
+            (all_second (IsFair p) earlier.front earlier.back fair_front)
+            (all_second Agrees last.front (m ∷ last.back) agree').0
+            (all_second HasSecret last.front (m ∷ last.back) secrets').0 parts.second.1 parts.second.2)
       ] refl

@@ -6,13 +6,14 @@ use Rattle.std.specs.List.{AllByRecursion, flat_map}
 use Rattle.std.proofs.Common.{⊎_elim}
 use Rattle.std.proofs.lemmas.Bool.{eq-eqb}
 use Rattle.std.proofs.lemmas.List.{map-append}
+use Rattle.std.proofs.lemmas.List.Elements.{All-filter, All-from_recursion, recursion_from_All}
 use Rattle.upload_service.specs.Machine.{State, AreLawful, IsLawful, Turn}
 use Rattle.upload_service.specs.declared.ask.Ask.{Ask}
 use Rattle.upload_service.specs.declared.answer.Answer.{Answer}
 use Rattle.upload_wire.specs.Conversation.{Moves, WireExchange, ConnectionState, Standing, stand, EndsWith}
 use Rattle.upload_wire.specs.ConnectionRuns.{unanswered_last}
 use Rattle.upload_wire.specs.declared.connection.ConnEnd.{ConnEnd}
-use Rattle.upload_wire.specs.declared.connection.ConnEnd.TheVariants.{Clean, AfterClose, AfterBad, TooMany, DeskGone}
+use Rattle.upload_wire.specs.declared.connection.ConnEnd.TheVariants.{DeskGone}
 use Rattle.upload_wire.specs.declared.connection.ConnEnd.TheVariants.{Fault}
 use Rattle.upload_wire.specs.declared.connection.ConnFault.TheVariants as Conn
 use Rattle.upload_client.specs.declared.heard.Heard.{Heard}
@@ -31,6 +32,7 @@ use Rattle.wire_laws.specs.Joined.{TransportCall, IsAudible, IsNoGet, IsOneOf, A
 use Rattle.wire_laws.specs.WrittenAsks.{HasLawfulParts, written_style}
 use Rattle.wire_laws.specs.WrittenExchanges.{HasSize, MayBeAsked}
 use Rattle.wire_laws.specs.WrittenReplies.{FitsMethod}
+use Rattle.upload_wire.proofs.Lists.{all_weaker, all_both, all_first, all_second}
 use Rattle.wire_laws.proofs.ShortAnswers.{short_answers}
 use Rattle.wire_laws.proofs.WrittenExchanges.{answers_heard}
 use Rattle.wire_laws.proofs.JoinedEnds.{connections_joined}
@@ -191,26 +193,7 @@ own_ask p log ask sound is = (
 
 own_asks : (p : Push) (log : List push.Attempt) (xs : List TransportCall) → IsSound p log
     → AllByRecursion (λ x. IsAskOf log x.ask) xs → AllByRecursion (λ x. IsOwn p x.ask) xs
-own_asks p log [] sound all = tt
-own_asks p log (x ∷ xs) sound all = (own_ask p log x.ask sound all.0, own_asks p log xs sound all.1)
-
-no_gets : (p : Push) (xs : List TransportCall) → AllByRecursion (λ x. IsOwn p x.ask) xs
-    → AllByRecursion (λ x. IsNoGet x.ask) xs
-no_gets p [] own = tt
-no_gets p (x ∷ xs) own = (sound_no_get p own.0.0 x.ask own.0.1, no_gets p xs own.1)
-
-pub all_both : {A : Type 0} (P : A → Type 0) (xs ys : List A) → AllByRecursion P xs → AllByRecursion P ys
-    → AllByRecursion P (xs ++ ys)
-all_both P [] ys a b = b
-all_both P (x ∷ xs) ys a b = (a.0, all_both P xs ys a.1 b)
-
-pub all_first : {A : Type 0} (P : A → Type 0) (xs ys : List A) → AllByRecursion P (xs ++ ys) → AllByRecursion P xs
-all_first P [] ys all = tt
-all_first P (x ∷ xs) ys all = (all.0, all_first P xs ys all.1)
-
-all_second : {A : Type 0} (P : A → Type 0) (xs ys : List A) → AllByRecursion P (xs ++ ys) → AllByRecursion P ys
-all_second P [] ys all = all
-all_second P (x ∷ xs) ys all = all_second P xs ys all.1
+own_asks p log xs sound all = all_weaker (λ x. own_ask p log x.ask sound) xs all
 
 -- ---- what a service answered can be heard
 
@@ -266,13 +249,10 @@ all_audible max host xs (y ∷ ys) may none is = (
 module _ {D : Type 0} (step : Moves D) (max : ℕ) (s : Standing D) (new : ConnectionState D) where
   all_heard : (end : ConnEnd) (e : EndsWith step max s new end) → (end ≡ DeskGone → ⊥)
       → unanswered_last step max s new end e ≡ []
-  all_heard Clean e there = refl
-  all_heard AfterClose e there = refl
-  all_heard AfterBad e there = refl
-  all_heard TooMany e there = refl
   all_heard DeskGone e there = absurd (there refl)
   all_heard (Fault (Conn.Wire fault)) e there = refl
   all_heard (Fault Conn.Write) e there = refl
+  all_heard end e there = refl
 
 module _ {L : Lending} {S G O : Type 0} (m : Means L S G O) (max : ℕ) where
   abbrev pub items_on : Talk m max → List Item
@@ -297,14 +277,15 @@ module _ {L : Lending} {S G O : Type 0} (m : Means L S G O) (max : ℕ) where
       all_heard (steps m max) max
       (stand (length t.conversation.exchanges) t.conversation.rest t.conversation.at t.conversation.mid)
       (connection_left m max t) t.end t.conversation.ended x.0 in
-      ap (λ l. items ans l ++ flat_map items_on ts) none
-      ∙ ap (λ l. l ++ flat_map items_on ts) (append-nil (map answered_item ans))
-      ∙ ap (λ l. map answered_item ans ++ l) (items_are s.1 left t.new new ts x.1)
-      ∙ sym (append_assoc (map answered_item ans) (map answered_item (all_answered m max ts))
-      (map unanswered_item (all_unanswered m max ts)))
-      ∙ ap (λ l. l ++ map unanswered_item (all_unanswered m max ts))
-      (sym (map-append answered_item ans (all_answered m max ts)))
-      ∙ ap (λ l. items (ans ++ all_answered m max ts) (l ++ all_unanswered m max ts)) (sym none))
+      cc (
+        ap (map unanswered_item) none,
+        ap (λ l. l ++ all_unanswered m max ts) none,
+        append-nil (map answered_item ans),
+        items_are s.1 left t.new new ts x.1,
+        map-append answered_item ans (all_answered m max ts),
+        append_assoc (map answered_item ans) (map answered_item (all_answered m max ts))
+            (map unanswered_item (all_unanswered m max ts)),
+      ))
       (behind t.end (IsLast m max s.1 t ts left new) (Serves m max s.1 t.new ts left new) s.5)
 
   -- on the connection nothing was read and nothing written when it was given
@@ -331,7 +312,7 @@ module _ {L : Lending} {S G O : Type 0} (m : Means L S G O) (max : ℕ) where
         let all : List TransportCall = c.before ++ c.asks in
         let none : AllByRecursion (λ x. IsNoGet x.ask) all =
         all_both (λ x. IsNoGet x.ask) c.before c.asks is.no_gets
-        (no_gets p c.asks (own_asks p log c.asks sound is.own)) in
+        (all_weaker (λ x own. sound_no_get p own.0 x.ask own.1) c.asks (own_asks p log c.asks sound is.own)) in
         joined_fit all (marks_asked c) (answered_on m max t) (unanswered_on m max t) (all_marked c.before c.asks)
         (connections_joined (steps m max) max (connection_given m max t) (connection_left m max t) t.end t.conversation
         all
@@ -395,9 +376,7 @@ lost_agree : (ms : List Marked) (us : List Ask) (more : List Mark) → asks (ste
 lost_agree [] us more is fit = tt
 lost_agree (n ∷ ms) [] more is fit = absurd (cc is)
 lost_agree (n ∷ ms) (u ∷ us) more is fit =
-    let first : n.0.exchange.ask ≡ u = cc in
-    let rest : asks (steps_in ms) ≡ us = cc in
-    (agrees_unanswered n.0 u n.1 first fit.0, lost_agree ms us more rest fit.1)
+    (agrees_unanswered n.0 u n.1 (cc) fit.0, lost_agree ms us more (cc) fit.1)
 
 no_steps : (ms : List Marked) → asks (steps_in ms) ≡ [] → AllByRecursion Agrees ms
 no_steps [] is = tt
@@ -406,12 +385,11 @@ no_steps (n ∷ ms) is = absurd (cc is)
 lost_asks : (ms : List Marked) (unheard : List Step)
     → map asked_and_answered (steps_in ms) ≡ map asked_and_answered unheard → asks (steps_in ms) ≡ asks unheard
 lost_asks [] [] is = refl
-lost_asks [] (s ∷ ss) is = absurd (cc is)
-lost_asks (n ∷ ms) [] is = absurd (cc is)
 lost_asks (n ∷ ms) (s ∷ ss) is =
     let pairs : ◌≡◌ {A = Ask × Answer} (asked_and_answered n.0) (asked_and_answered s) = cc in
     let rest : map asked_and_answered (steps_in ms) ≡ map asked_and_answered ss = cc in
-    λ i. (ap (λ (x : Ask × Answer). x.0) pairs) i ∷ (lost_asks ms ss rest) i
+    λ i. (pairs i).0 ∷ lost_asks ms ss rest i
+lost_asks ms ss is = absurd (cc is)
 
 pub seat_agrees : (ms : List Marked) (ys : List WireExchange) (us : List Ask) (lost : List Step) (more : List Mark)
     → map asked_and_answered (steps_in ms) ≡ map read_and_replied ys ++ map asked_and_answered lost
@@ -424,14 +402,7 @@ seat_agrees ms [] us lost more is sent fit =
     ]
 seat_agrees [] (y ∷ ys) us lost more is sent fit = absurd (cc is)
 seat_agrees (n ∷ ms) (y ∷ ys) us lost more is sent fit =
-    let first : ◌≡◌ {A = Ask × Answer} (asked_and_answered n.0) (y.ask, y.answer) = cc in
-    let rest : map asked_and_answered (steps_in ms) ≡ map read_and_replied ys ++ map asked_and_answered lost = cc in
-    (agrees_answered n.0 y.ask y.answer n.1 first fit.0, seat_agrees ms ys us lost more rest sent fit.1)
-
-pub seat_owns : (p : Push) (ms : List Marked) → AllByRecursion (IsOwnMark p) (marks_in ms)
-    → AllByRecursion (λ (n : Marked). IsOwnMark p n.1) ms
-seat_owns p [] own = tt
-seat_owns p (n ∷ ms) own = (own.0, seat_owns p ms own.1)
+    (agrees_answered n.0 y.ask y.answer n.1 (cc) fit.0, seat_agrees ms ys us lost more (cc) sent fit.1)
 
 -- the answered requests of a seat are steps of it
 pub steps_answered : (ss : List Step) (ys : List WireExchange) (lost : List Step)
@@ -441,16 +412,12 @@ steps_answered ss [] lost is all = tt
 steps_answered [] (y ∷ ys) lost is all = absurd (cc is)
 steps_answered (s ∷ ss) (y ∷ ys) lost is all =
     let first : ◌≡◌ {A = Ask × Answer} (asked_and_answered s) (y.ask, y.answer) = cc in
-    let rest : map asked_and_answered ss ≡ map read_and_replied ys ++ map asked_and_answered lost = cc in
-    (subst (λ (x : Ask × Answer). IsAnswered x.0 x.1) first all.0, steps_answered ss ys lost rest all.1)
+    (subst (λ (x : Ask × Answer). IsAnswered x.0 x.1) first all.0, steps_answered ss ys lost (cc) all.1)
 
 pub all_kept : {A : Type 0} (P : A → Type 0) (test : A → Bool) (xs : List A) → AllByRecursion P xs
     → AllByRecursion P (filter test xs)
-all_kept P test [] all = tt
-all_kept P test (x ∷ xs) all =
-    let more : AllByRecursion P (filter test xs) = all_kept P test xs all.1 in
-    elim (test x) as (λ b. AllByRecursion P (cond b (x ∷ filter test xs) (filter test xs)))
-    [ true ↦ (all.0, more) | false ↦ more ]
+all_kept P test xs all =
+    recursion_from_All P (filter test xs) (All-filter test P xs (All-from_recursion P xs all))
 
 -- the steps of one seat
 pub steps_at : (seat : ℕ) (ms : List Marked) → steps_in (at_seat seat ms) ≡ of_seat seat (steps_in ms)

@@ -28,13 +28,14 @@ use Rattle.upload_push.proofs.Sound.{all_sound, pushed_last}
 use Rattle.upload_push.proofs.Turns.{turn_case, lawful_turn}
 use Rattle.upload_push.proofs.Worth.{Laws, worth_in_run}
 use Rattle.wire_laws.specs.WrittenExchanges.{HasSize}
+use Rattle.upload_wire.proofs.Lists.{all_first, all_mapped, all_second, all_weaker}
 use Rattle.end_to_end.specs.Marks.{other, heard, unheard, Marked, steps_in, exchanges_in, Agrees, IsFair}
 use Rattle.end_to_end.specs.Network.{marks_of, IsAccount, IsFoundThere, IsLeftThere, PushesAreServed, at_seat}
-use Rattle.end_to_end.proofs.Placing.{Placed, placed, all_front, all_back}
+use Rattle.end_to_end.proofs.Placing.{Placed, placed}
 use Rattle.end_to_end.proofs.Closing.{IsClosedBy, closed_by, never_fall_front, whole_upload}
 use Rattle.end_to_end.proofs.Seating.{IsUnused, all_unused, IsAnswered, AreAnswered, IsOwnMark, all_kept}
-use Rattle.end_to_end.proofs.Seating.{steps_answered, items_on, items_are, all_fit, all_own, all_first, seat_agrees}
-use Rattle.end_to_end.proofs.Seating.{seat_owns, steps_at, by_seats, marks_in, items, AllFit}
+use Rattle.end_to_end.proofs.Seating.{steps_answered, items_on, items_are, all_fit, all_own, seat_agrees}
+use Rattle.end_to_end.proofs.Seating.{steps_at, by_seats, marks_in, items, AllFit}
 
 -- ---- what is stored stays
 
@@ -102,17 +103,10 @@ steps_lawful laws s (m ∷ ms) t lawful limits run sizes =
 
 -- ---- marks of the push's own requests are fair
 
-all_fair : (p : Push) (ms : List Marked) → AllByRecursion (λ (n : Marked). IsOwnMark p n.1) ms
-    → AllByRecursion (IsFair p) ms
-all_fair p [] own = tt
-all_fair p ((step, other) ∷ ms) own = (tt, all_fair p ms own.1)
-all_fair p ((step, heard ask what) ∷ ms) own = (own.0, all_fair p ms own.1)
-all_fair p ((step, unheard ask) ∷ ms) own = (own.0, all_fair p ms own.1)
-
-seated_in : (number : ℕ) (ms : List Marked) → AllByRecursion (λ (s : Step). s.seat < number) (steps_in ms)
-    → AllByRecursion (λ (n : Marked). n.0.seat < number) ms
-seated_in number [] all = tt
-seated_in number (m ∷ ms) all = (all.0, seated_in number ms all.1)
+fair : (p : Push) (n : Marked) → IsOwnMark p n.1 → IsFair p n
+fair p (step, other) own = tt
+fair p (step, heard ask what) own = own
+fair p (step, unheard ask) own = own
 
 exchanges_are : (ms : List Marked) → exchanges_in ms ≡ exchanges_of (steps_in ms)
 exchanges_are [] = refl
@@ -182,12 +176,13 @@ module _ {L : Lending} {S G O M : Type 0} (m : Means L S G O) (tells : M → ℕ
       let marked_order = ap (map asked_and_answered) (steps_at seat account.marked) ∙ in_order in (
         seat_agrees ms (all_answered m max part.worked.talks) (all_unanswered m max part.worked.talks)
             part.carried.unheard told.unserved marked_order part.carried.lost fit,
-        seat_owns p ms (all_first (IsOwnMark p) (marks_in ms) told.unserved own0),
+        all_mapped (IsOwnMark p) (λ (n : Marked). n.1) ms
+            (all_first (IsOwnMark p) (marks_in ms) told.unserved own0),
       )
 
   seated : AllByRecursion (λ (n : Marked). n.0.seat < length given.workers) account.marked
   seated =
-      seated_in (length given.workers) account.marked
+      all_mapped (λ (s : Step). s.seat < length given.workers) (λ (n : Marked). n.0) account.marked
       (subst (AllByRecursion (λ (s : Step). s.seat < length given.workers)) (sym account.all) pool.seated)
 
   pub agree : AllByRecursion Agrees account.marked
@@ -200,7 +195,7 @@ module _ {L : Lending} {S G O M : Type 0} (m : Means L S G O) (tells : M → ℕ
 
   pub in_place : Placed p given.service log account.marked left.service
   in_place =
-      placed p given.service log account.marked left.service run account.order agree (all_fair p account.marked own)
+      placed p given.service log account.marked left.service run account.order agree (all_weaker (fair p) account.marked own)
       account.apart account.secrets
 
 module _ {L : Lending} {S G O M : Type 0} (m : Means L S G O) (tells : M → ℕ → M → Type 0) (laws : Laws)
@@ -229,7 +224,7 @@ module _ {L : Lending} {S G O M : Type 0} (m : Means L S G O) (tells : M → ℕ
 
   agrees_front : AllByRecursion Agrees at.front
   agrees_front =
-      all_front Agrees at.front at.back (subst (AllByRecursion Agrees) at.split
+      all_first Agrees at.front at.back (subst (AllByRecursion Agrees) at.split
       (agree m tells given left pool p (log_of p told) (all_sound p told lawful_push) account laws lawful limits))
 
   moments_front : NeverFall (exchanges_of (steps_in at.front))
@@ -249,7 +244,7 @@ module _ {L : Lending} {S G O M : Type 0} (m : Means L S G O) (tells : M → ℕ
 
   agrees_close : (c : IsClosedBy p at.front) → Agrees (c.step, heard c.ask c.what)
   agrees_close c =
-      (all_back Agrees c.earlier ((c.step, heard c.ask c.what) ∷ [])
+      (all_second Agrees c.earlier ((c.step, heard c.ask c.what) ∷ [])
       (subst (AllByRecursion Agrees) c.split agrees_front)).0
 
   headline_of_close : (c : IsClosedBy p at.front)
