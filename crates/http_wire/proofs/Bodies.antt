@@ -1,5 +1,4 @@
 pub mod MovedLemmas
-pub mod ResponseBodyLemmas
 pub mod LineLemmas
 pub mod ChunkLemmas
 pub mod LineReadLemmas

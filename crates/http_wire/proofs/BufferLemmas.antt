@@ -1,6 +1,6 @@
 -- The window of a read buffer.
 use Rattle.std.proofs.Common.{◌≡◌, ℕ, ◌+◌, ◌-◌, ◌≤◌, List, [], ◌++◌, length, take, drop, slice_range, sym, ap, ◌∙◌}
-use Rattle.std.proofs.Common.{arith, length-take, length-drop}
+use Rattle.std.proofs.Common.{arith, length-take, length-drop, rules}
 use Rattle.std.specs.List.{copy_within}
 use Rattle.std.specs.Prelude.{Vec}
 use Rattle.std.specs.declared.alloc.Global.{Global}
@@ -17,10 +17,7 @@ range_is xs a b le =
 -- behind the window came more bytes
 pub grown : (old new given : List ℕ) (start end n : ℕ) → start ≤ end → end ≤ length old
     → take (end + n) new ≡ take end old ++ given → slice_range new start (end + n) ≡ slice_range old start end ++ given
-grown old new given start end n le fits more =
-    range_is new start (end + n) (omega arith) ∙ ap (drop start) more
-    ∙ drop-append-le start (take end old) given (omega (arith, length-take end old))
-    ∙ ap (λ t. t ++ given) (sym (range_is old start end le))
+grown old new given start end n le fits more = search (rules, arith, range_is, drop-append-le, length-take)
 
 -- the window moved to the front
 pub moved : (xs : List ℕ) (start len : ℕ) → start ≤ len → len ≤ length xs
@@ -32,9 +29,7 @@ moved xs start len le fits =
 
 pub consumed : (xs : List ℕ) (start end count : ℕ) → start + count ≤ end
     → slice_range xs (start + count) end ≡ drop count (slice_range xs start end)
-consumed xs start end count fits =
-    range_is xs (start + count) end fits ∙ sym (drop-drop count start (take end xs))
-    ∙ ap (drop count) (sym (range_is xs start end (omega arith)))
+consumed xs start end count fits = search (rules, arith, range_is, drop-drop)
 
 pub window_length : (xs : List ℕ) (start end : ℕ) → start ≤ end → end ≤ length xs
     → length (slice_range xs start end) ≡ end - start
@@ -43,11 +38,7 @@ window_length xs start end le fits = omega (arith, length-take (end - start) (dr
 -- a read behind the first bytes
 pub read_on : (old got after : List ℕ) (end n : ℕ) → end ≤ length old → n ≤ length got
     → take (end + n) (take end old ++ (got ++ after)) ≡ take end old ++ take n got
-read_on old got after end n fits few =
-    let len : length (take end old) ≡ end = omega (arith, length-take end old) in
-    ap (λ k. take (k + n) (take end old ++ (got ++ after))) (sym len)
-    ∙ take-append-add (take end old) (got ++ after) n
-    ∙ ap (λ t. take end old ++ t) (take-append-le n got after few)
+read_on old got after end n fits few = search (rules, arith, length-take, take-append-add, take-append-le)
 
 pub read_nothing : (old more : List ℕ) (end : ℕ) → end ≤ length old
     → take (end + 0) (take end old ++ more) ≡ take end old ++ []
@@ -66,31 +57,15 @@ pub record IsWindow (x : Inside) (held : List ℕ) : Type 0 where
 pub moved_window : (x : Inside) (bytes : Vec ℕ Global) (held : List ℕ) → IsWindow x held → x.end ≡ 65536
     → bytes.items ≡ copy_within x.bytes.items x.start 65536 0 → length bytes.items ≡ 65536
     → IsWindow (record { bytes = bytes; start = 0; end = x.end - x.start }) held
-moved_window x bytes held at full items whole =
-    let order = at.order in
-    let len = at.whole in
-    record {
-      window = ap (λ t. slice_range t 0 (x.end - x.start)) items
-          ∙ ap (λ n. slice_range (copy_within x.bytes.items x.start 65536 0) 0 (n - x.start)) full
-          ∙ moved x.bytes.items x.start 65536 (omega (arith, order, full)) (omega (arith, len))
-          ∙ ap (λ n. slice_range x.bytes.items x.start n) (sym full) ∙ at.window;
-      order = omega arith;
-      fits = omega (arith, full);
-      whole = whole;
-    }
+moved_window x bytes held at full items whole = search (rules, arith, slice_range, moved)
 
 -- the window after a read behind it
 pub window_grows : (x : Inside) (held new given : List ℕ) (n : ℕ) → IsWindow x held
     → take (x.end + n) new ≡ take x.end x.bytes.items ++ given → slice_range new x.start (x.end + n) ≡ held ++ given
-window_grows x held new given n at more =
-    let fits = at.fits in
-    let whole = at.whole in
-    grown x.bytes.items new given x.start x.end n at.order (omega (arith, fits, whole)) more
-    ∙ ap (λ t. t ++ given) at.window
+window_grows x held new given n at more = search (rules, arith, grown)
 
 -- the window if the first bytes stayed
 pub window_stays : (x : Inside) (held new : List ℕ) → IsWindow x held → take x.end new ≡ take x.end x.bytes.items
     → slice_range new x.start x.end ≡ held
 window_stays x held new at same =
-    range_is new x.start x.end at.order ∙ ap (drop x.start) same
-    ∙ sym (range_is x.bytes.items x.start x.end at.order) ∙ at.window
+    cc (range_is new x.start x.end at.order, range_is x.bytes.items x.start x.end at.order)

@@ -1,9 +1,9 @@
 -- Reads one after another.
-use Rattle.std.proofs.Common.{◌≡◌, List, ℕ, [], ◌++◌, refl, sym, ◌∙◌, ap, append_assoc}
+use Rattle.std.proofs.Common.{◌≡◌, List, ℕ, [], ◌++◌, refl, sym, ◌∙◌, ap, append_assoc, arith, rules}
 use Rattle.std.specs.Prelude.{Option, Some, None}
 use Rattle.std.proofs.lemmas.List.{append-nil}
 use Rattle.std.specs.Io.KnownBytes.{Consumes, Keeps}
-use Rattle.http_wire.specs.States.{SourceState, InputState, input_state}
+use Rattle.http_wire.specs.States.{SourceState, InputState}
 use Rattle.http_wire.specs.Reading.{Gives, Gave}
 
 pub consumes_none : (known : Option (List ℕ)) → Consumes known known []
@@ -26,10 +26,7 @@ pub gives_none : (known : SourceState) → Gives known known []
 gives_none known = record { told = sym (append-nil known.given); consumed = consumes_none known.remaining }
 
 pub gives_both : (a b c : SourceState) (xs ys : List ℕ) → Gives a b xs → Gives b c ys → Gives a c (xs ++ ys)
-gives_both a b c xs ys h k = record {
-  told = k.told ∙ ap (λ t. t ++ ys) h.told ∙ append_assoc a.given xs ys;
-  consumed = consumes_both a.remaining b.remaining c.remaining xs ys h.consumed k.consumed;
-}
+gives_both a b c xs ys h k = search (rules, arith, append_assoc, consumes_both)
 
 pub gave_none : (known : InputState) → Gave known known.source known.held
 gave_none known = record { given = []; gives = gives_none known.source; joined = sym (append-nil known.held) }
@@ -40,19 +37,10 @@ gave_as e g = record { given = g.given; gives = g.gives; joined = e ∙ g.joined
 
 pub gave_both : (a b : InputState) (c : SourceState) (text : List ℕ) → Gave a b.source b.held → Gave b c text
     → Gave a c text
-gave_both a b c text g h = record {
-  given = g.given ++ h.given;
-  gives = gives_both a.source b.source c g.given h.given g.gives h.gives;
-  joined = h.joined ∙ ap (λ r. r ++ h.given) g.joined ∙ append_assoc a.held g.given h.given;
-}
+gave_both a b c text g h = search (rules, arith, gives_both, append_assoc)
 
 -- a read behind the part that is left, after a prefix of the text was taken
 pub gave_after : (a b : InputState) (c : SourceState) (front text : List ℕ) → Gave a b.source (front ++ b.held)
     → Gave b c text
     → Gave a c (front ++ text)
-gave_after a b c front text g h =
-    gave_both a (input_state (front ++ b.held) b.source) c (front ++ text) g (record {
-      given = h.given;
-      gives = h.gives;
-      joined = ap (λ r. front ++ r) h.joined ∙ sym (append_assoc front b.held h.given);
-    })
+gave_after a b c front text g h = search (rules, arith, gave_both, append_assoc)

@@ -1,6 +1,6 @@
 -- Behind a head stands at most one body.
 use Rattle.std.proofs.Common.{◌≡◌, ℕ, ◌+◌, ◌<◌, ◌≤◌, List, [], ◌∷◌, ◌++◌, All, length, refl, sym, ap, ◌∙◌, subst, arith}
-use Rattle.std.proofs.Common.{append_assoc, append-nil, length-append, inl, inr}
+use Rattle.std.proofs.Common.{append_assoc, append-nil, length-append, inl, inr, rules}
 use Rattle.std.specs.Prelude.{◌⊎◌}
 use Rattle.std.proofs.lemmas.Bool.{cases_lt}
 use Rattle.std.proofs.lemmas.List.Elements.{All-head, All-tail}
@@ -28,11 +28,7 @@ last_flat zeros a = append_assoc zeros (13 ∷ 10 ∷ 13 ∷ 10 ∷ []) a
 first_flat : (c : Chunk) (chunks : List Chunk) (more a : List ℕ)
     → (chunks_text (c ∷ chunks) ++ more) ++ a
     ≡ c.digits ++ (13 ∷ 10 ∷ (c.data_bytes ++ (13 ∷ 10 ∷ ((chunks_text chunks ++ more) ++ a))))
-first_flat c chunks more a =
-    append_assoc (print_chunk c ++ chunks_text chunks) more a
-    ∙ append_assoc (print_chunk c) (chunks_text chunks) (more ++ a)
-    ∙ ap (λ t. print_chunk c ++ t) (sym (append_assoc (chunks_text chunks) more a))
-    ∙ chunk_flat c ((chunks_text chunks ++ more) ++ a)
+first_flat c chunks more a = simp (append_assoc, chunk_flat)
 
 -- two chunks that begin one text are the same
 record SameChunk (c d : Chunk) (r q : List ℕ) : Type 0 where
@@ -43,23 +39,12 @@ record SameChunk (c d : Chunk) (r q : List ℕ) : Type 0 where
 same_chunk : (c d : Chunk) (r q : List ℕ) → IsChunk c → IsChunk d
     → c.digits ++ (13 ∷ 10 ∷ (c.data_bytes ++ (13 ∷ 10 ∷ r))) ≡ d.digits ++ (13 ∷ 10 ∷ (d.data_bytes ++ (13 ∷ 10 ∷ q)))
     → SameChunk c d r q
-same_chunk c d r q is is_d e =
-    let s =
-    lines_same c.digits d.digits (c.data_bytes ++ (13 ∷ 10 ∷ r)) (d.data_bytes ++ (13 ∷ 10 ∷ q)) is.size is_d.size e in
-    let lengths : length c.data_bytes ≡ length d.data_bytes = sym is.same ∙ ap (digits_value 16) s.0 ∙ is_d.same in
-    let parts = same_front c.data_bytes d.data_bytes (13 ∷ 10 ∷ r) (13 ∷ 10 ∷ q) lengths s.1 in
-    let behind = parts.1 in
-    record { digits = s.0; bytes = parts.0; rest = cc }
+same_chunk c d r q is is_d e = search (rules, arith, lines_same, same_front)
 
 -- a chunk isn't the last one
 not_last : (c : Chunk) (zeros r q : List ℕ) → IsChunk c → IsZero zeros
     → c.digits ++ (13 ∷ 10 ∷ r) ≡ zeros ++ (13 ∷ 10 ∷ q) → ⊥
-not_last c zeros r q is last e =
-    let value = ap (digits_value 16) (lines_same c.digits zeros r q is.size last.size e).0 in
-    let some = is.some in
-    let same = is.same in
-    let zero = last.zero in
-    omega (arith, value, some, same, zero)
+not_last c zeros r q is last e = search (rules, arith, lines_same)
 
 -- what two chunked texts that begin one text have in common
 record SameText (cs ds : List Chunk) (zs ws a b : List ℕ) : Type 0 where
@@ -69,17 +54,11 @@ record SameText (cs ds : List Chunk) (zs ws a b : List ℕ) : Type 0 where
 
 same_text : (cs ds : List Chunk) (zs ws a b : List ℕ) → All IsChunk cs → All IsChunk ds → IsZero zs → IsZero ws
     → text_of cs zs ++ a ≡ text_of ds ws ++ b → SameText cs ds zs ws a b
-same_text [] [] zs ws a b each other last end e =
-    let s =
-    lines_same zs ws (13 ∷ 10 ∷ a) (13 ∷ 10 ∷ b) last.size end.size (sym (last_flat zs a) ∙ e ∙ last_flat ws b) in
-    let tail = s.1 in
-    record { text = ap (λ t. t ++ (13 ∷ 10 ∷ 13 ∷ 10 ∷ [])) s.0; joined = refl; rest = cc }
+same_text [] [] zs ws a b each other last end e = search (rules, arith, lines_same, last_flat)
 same_text [] (d ∷ ds) zs ws a b each other last end e =
-    absurd (not_last d zs _ _ (All-head IsChunk d ds other) last
-    (sym (first_flat d ds (ws ++ (13 ∷ 10 ∷ 13 ∷ 10 ∷ [])) b) ∙ sym e ∙ last_flat zs a))
+    search (rules, arith, not_last, All-head, first_flat, last_flat)
 same_text (c ∷ cs) [] zs ws a b each other last end e =
-    absurd (not_last c ws _ _ (All-head IsChunk c cs each) end
-    (sym (first_flat c cs (zs ++ (13 ∷ 10 ∷ 13 ∷ 10 ∷ [])) a) ∙ e ∙ last_flat ws b))
+    search (rules, arith, not_last, All-head, first_flat, last_flat)
 same_text (c ∷ cs) (d ∷ ds) zs ws a b each other last end e =
     let s =
     same_chunk c d (text_of cs zs ++ a) (text_of ds ws ++ b) (All-head IsChunk c cs each) (All-head IsChunk d ds other)
@@ -102,10 +81,7 @@ record SameBody (t u body other a b : List ℕ) : Type 0 where
 
 same_body : (t u body other a b : List ℕ) → IsChunked t body → IsChunked u other → t ++ a ≡ u ++ b
     → SameBody t u body other a b
-same_body t u body other a b x y e =
-    let s = same_text x.chunks y.chunks x.zeros y.zeros a b x.each y.each x.last y.last
-    (ap (λ m. m ++ a) (sym x.cut) ∙ e ∙ ap (λ m. m ++ b) y.cut) in
-    record { text = x.cut ∙ s.text ∙ sym y.cut; joined = x.joined ∙ s.joined ∙ sym y.joined; rest = s.rest }
+same_body t u body other a b x y e = search (rules, arith, same_text)
 
 -- no chunked text is a prefix of another
 no_proper_front : (t body more other : List ℕ) → IsChunked t body → IsChunked (t ++ more) other → 0 < length more → ⊥
@@ -121,20 +97,11 @@ within_limit : (max have : ℕ) (cs ds : List Chunk) (zs digits a rest : List �
     → All IsChunk ds → IsZero zs → IsSize digits → text_of cs zs ++ a ≡ chunks_text ds ++ (digits ++ (13 ∷ 10 ∷ rest))
     → have + length (chunks_data cs) ≤ max → max < have + (length (chunks_data ds) + digits_value 16 digits) → ⊥
 within_limit max have [] [] zs digits a rest each other last size e fits over =
-    let value =
-    ap (digits_value 16) (lines_same zs digits (13 ∷ 10 ∷ a) rest last.size size (sym (last_flat zs a) ∙ e)).0 in
-    let zero = last.zero in
-    omega (arith, value, zero, fits, over)
+    search (rules, arith, lines_same, last_flat)
 within_limit max have [] (d ∷ ds) zs digits a rest each other last size e fits over =
-    not_last d zs _ _ (All-head IsChunk d ds other) last
-    (sym (append_assoc (print_chunk d) (chunks_text ds) (digits ++ (13 ∷ 10 ∷ rest))
-    ∙ chunk_flat d (chunks_text ds ++ (digits ++ (13 ∷ 10 ∷ rest)))) ∙ sym e ∙ last_flat zs a)
+    search (rules, arith, not_last, All-head, append_assoc, chunk_flat, last_flat)
 within_limit max have (c ∷ cs) [] zs digits a rest each other last size e fits over =
-    let is : IsChunk c = All-head IsChunk c cs each in
-    let value = ap (digits_value 16)
-    (lines_same c.digits digits _ rest is.size size (sym (first_flat c cs (zs ++ (13 ∷ 10 ∷ 13 ∷ 10 ∷ [])) a) ∙ e)).0 in
-    let same = is.same in
-    omega (arith, value, same, fits, over, length-append c.data_bytes (chunks_data cs))
+    search (rules, arith, All-head, lines_same, first_flat, length-append)
 within_limit max have (c ∷ cs) (d ∷ ds) zs digits a rest each other last size e fits over =
     let s =
     same_chunk c d (text_of cs zs ++ a) (chunks_text ds ++ (digits ++ (13 ∷ 10 ∷ rest))) (All-head IsChunk c cs each)
@@ -190,8 +157,7 @@ whole_not_broken max t body a x y = elim (cases_lt (length y.before) (length t))
 -- the chunks and the size line that go over the limit begin some chunked text
 over_is_front : (ds : List Chunk) (digits : List ℕ) → All IsChunk ds → IsSize digits
     → IsFrontOfChunked (chunks_text ds ++ (digits ++ (13 ∷ 10 ∷ [])))
-over_is_front ds digits each size =
-    front_after ds (digits ++ (13 ∷ 10 ∷ [])) each (front_data digits [] size (omega arith))
+over_is_front ds digits each size = search (rules, arith, front_after, front_data)
 
 over_not_broken : (max : ℕ) (text : List ℕ) → ExceedsLimit max text → IsBroken max text → ⊥
 over_not_broken max text x y = by (cases_lt (length y.before) (length line))
@@ -253,26 +219,11 @@ bad_not_cut max text why (inr x) y = broken_never max text y.0.more y.0.body x.1
 
 sized_parse : (n : ℕ) (text : List ℕ) (parse other : BodyParse)
     → IsReadAs (Length n) text parse → IsReadAs (Length n) text other → parse ≡ other
-sized_parse n text (whole body rest) (whole other more) x y =
-    let one = ap length x.written.0 in
-    let two = ap length y.written.0 in
-    let long = x.written.1 in
-    let same_long = y.written.1 in
-    let s =
-    same_front x.message y.message rest more (omega (arith, one, two, long, same_long)) (sym x.split ∙ y.split) in
-    λ i. whole ((sym x.written.0 ∙ s.0 ∙ y.written.0) i) (s.1 i)
+sized_parse n text (whole body rest) (whole other more) x y = search (rules, arith, same_front)
 sized_parse n text (whole body rest) (refused why) x y = absurd y
-sized_parse n text (whole body rest) cut x y =
-    let one = ap length x.written.0 in
-    let long = x.written.1 in
-    let all = ap length x.split in
-    absurd (omega (arith, one, long, all, y, length-append x.message rest))
+sized_parse n text (whole body rest) cut x y = search (rules, arith, length-append)
 sized_parse n text (refused why) other x y = absurd x
-sized_parse n text cut (whole body rest) x y =
-    let one = ap length y.written.0 in
-    let long = y.written.1 in
-    let all = ap length y.split in
-    absurd (omega (arith, one, long, all, x, length-append y.message rest))
+sized_parse n text cut (whole body rest) x y = search (rules, arith, length-append)
 sized_parse n text cut (refused why) x y = absurd y
 sized_parse n text cut cut x y = refl
 

@@ -1,5 +1,5 @@
 -- A text begins with at most one head.
-use Rattle.std.proofs.Common.{◌≡◌, ℕ, ◌+◌, ◌<◌, ◌≤◌, List, [], ◌∷◌, ◌++◌, length, refl, sym, ap, ◌∙◌, arith}
+use Rattle.std.proofs.Common.{◌≡◌, ℕ, ◌+◌, ◌<◌, ◌≤◌, List, [], ◌∷◌, ◌++◌, length, refl, sym, ap, ◌∙◌, arith, rules}
 use Rattle.std.proofs.Common.{append_assoc, length-append, inl, inr}
 use Rattle.std.proofs.lemmas.Bool.{cases_lt}
 use Rattle.httparse.specs.Ascii.{line_feed}
@@ -15,12 +15,7 @@ pub longer_front : (a b c d : List ℕ) → a ++ b ≡ c ++ d → length a ≤ l
     → (more : List ℕ) × (c ≡ a ++ more) × (b ≡ more ++ d)
 longer_front [] b c d e le = (c, refl, e)
 longer_front (x ∷ a) b [] d e le = absurd (omega arith)
-longer_front (x ∷ a) b (y ∷ c) d e le =
-    let tail : a ++ b ≡ c ++ d = cc in
-    let first : x ≡ y = cc in
-    let next = longer_front a b c d tail (omega arith) in
-    let same = next.1 in
-    (next.0, cc, next.2)
+longer_front (x ∷ a) b (y ∷ c) d e le = search (rules, arith, longer_front a b c d)
 
 -- no two heads of the grammar begin one text
 abbrev IsUnique : Words → Type 0
@@ -35,11 +30,7 @@ head_not_long w text h r x y =
     y.none h cut.0 (x.reads.0, cut.1)
 
 long_not_short : (w : Words) (text : List ℕ) → IsTooLong w text → IsUnfinished w text → ⊥
-long_not_short w text x y =
-    let cut = ap length x.cut in
-    let full = x.full in
-    let short = y.short in
-    omega (arith, cut, full, short, length-append x.front x.rest)
+long_not_short w text x y = search (rules, arith, length-append)
 
 one_parse : (w : Words) → IsUnique w → (text : List ℕ) (parse other : HeadParse w)
     → BeginsWith w text parse → BeginsWith w text other → parse ≡ other

@@ -1,6 +1,6 @@
 -- Writes one after another.
 use Rattle.std.proofs.Common.{◌≡◌, ℕ, zero, suc, ◌+◌, ◌-◌, ◌<◌, List, [], ◌∷◌, ◌++◌, length, take, drop, get_or, sym}
-use Rattle.std.proofs.Common.{ap, ◌∙◌, subst, append_assoc, arith, length-drop}
+use Rattle.std.proofs.Common.{ap, ◌∙◌, append_assoc, arith, length-drop, rules}
 use Rattle.std.specs.Prelude.{Option, Some, None, Result, Ok, Err, ⊤}
 use Rattle.std.specs.List.{concat}
 use Rattle.std.proofs.lemmas.List.{append-nil, take_all}
@@ -9,7 +9,6 @@ use Rattle.std.specs.Io.KnownBytes.{Appends, Keeps}
 use Rattle.http_wire.specs.declared.writing.WriteFault.{WriteFault}
 use Rattle.http_wire.specs.States.{SinkState}
 use Rattle.http_wire.specs.Writing.{Takes, TookAll, TookFront, Wrote}
-use Rattle.http_wire.specs.Counts.{CountsUp}
 
 pub appends_none : (known : Option (List ℕ)) → Appends known known []
 appends_none None = tt
@@ -31,39 +30,25 @@ pub takes_none : (known : SinkState) → Takes known known []
 takes_none known = record { told = sym (append-nil known.taken); grown = appends_none known.contents }
 
 pub takes_both : (a b c : SinkState) (xs ys : List ℕ) → Takes a b xs → Takes b c ys → Takes a c (xs ++ ys)
-takes_both a b c xs ys h k = record {
-  told = k.told ∙ ap (λ t. t ++ ys) h.told ∙ append_assoc a.taken xs ys;
-  grown = appends_both a.contents b.contents c.contents xs ys h.grown k.grown;
-}
+takes_both a b c xs ys h k = search (rules, arith, append_assoc, appends_both)
 
 -- a call that took nothing
 pub takes_kept : (a b c : SinkState) (xs : List ℕ) → Takes a b xs → c.taken ≡ b.taken
     → Keeps b.contents c.contents → Takes a c xs
-takes_kept a b c xs h told kept =
-    record { told = told ∙ h.told; grown = appends_kept a.contents b.contents c.contents xs h.grown kept }
+takes_kept a b c xs h told kept = search (rules, arith, appends_kept)
 
 -- the prefix that one more write makes
 pub taken_more : (xs : List ℕ) (i n : ℕ) → take (i + n) xs ≡ take i xs ++ take n (take (length xs - i) (drop i xs))
 taken_more xs i n =
-    take-add i n xs
-    ∙ ap (λ t. take i xs ++ take n t) (sym (take_all (length xs - i) (drop i xs) (omega (arith, length-drop i xs))))
+    cc (take-add i n xs, take_all (length xs - i) (drop i xs) (omega (arith, length-drop i xs)), length-drop i xs)
 
 pub took_both : (a b c : SinkState) (text bytes : List ℕ) → TookAll a b text → TookAll b c bytes
     → TookAll a c (text ++ bytes)
-took_both a b c text bytes h k = record {
-  takes = takes_both a b c text bytes h.takes k.takes;
-  unfailed = k.unfailed ∙ h.unfailed;
-}
+took_both a b c text bytes h k = search (rules, arith, takes_both)
 
 pub took_more : (a b c : SinkState) (text bytes : List ℕ) → TookAll a b text → TookFront b c bytes
     → TookFront a c (text ++ bytes)
-took_more a b c text bytes h k = record {
-  front = text ++ k.front;
-  back = k.back;
-  cut = ap (λ t. text ++ t) k.cut ∙ sym (append_assoc text k.front k.back);
-  takes = takes_both a b c text k.front h.takes k.takes;
-  failed = subst (λ m. CountsUp m c.failed_writes) h.unfailed k.failed;
-}
+took_more a b c text bytes h k = search (rules, arith, append_assoc, takes_both)
 
 pub wrote_more : (a b c : SinkState) (text bytes : List ℕ) (r : Result ⊤ WriteFault) → TookAll a b text
     → Wrote b c bytes r → Wrote a c (text ++ bytes) r
@@ -75,8 +60,4 @@ pub concat-take_next : (xs : List (List ℕ)) (i : ℕ) (d : List ℕ) → i < l
     → concat (take (i + 1) xs) ≡ concat (take i xs) ++ get_or xs i d
 concat-take_next [] i d lt = absurd (omega arith)
 concat-take_next (x ∷ xs) zero d lt = append-nil x
-concat-take_next (x ∷ xs) (suc i) d lt =
-    let e : suc i + 1 ≡ suc (i + 1) = omega arith in
-    ap (λ n. concat (take n (x ∷ xs))) e
-    ∙ ap (λ r. x ++ r) (concat-take_next xs i d (omega arith))
-    ∙ sym (append_assoc x (concat (take i xs)) (get_or xs i d))
+concat-take_next (x ∷ xs) (suc i) d lt = search (rules, arith, append_assoc, concat-take_next xs i d (omega arith))

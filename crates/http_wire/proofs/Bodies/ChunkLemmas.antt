@@ -1,6 +1,6 @@
 -- A chunked text is read in one way.
 use Rattle.std.proofs.Common.{◌≡◌, ◌≢◌, ℕ, ◌+◌, ◌-◌, ◌<◌, ◌≤◌, List, [], ◌∷◌, ◌++◌, All, length, refl, arith, ◌∙◌, sym}
-use Rattle.std.proofs.Common.{ap, subst, append_assoc, length-append}
+use Rattle.std.proofs.Common.{ap, subst, append_assoc, length-append, rules}
 use Rattle.std.proofs.lemmas.List.Elements.{All-head, All-tail, All-cons, All-append}
 use Rattle.std.proofs.lemmas.Grind.{flat_map-append}
 use Rattle.std.specs.Str.Parse.{digits_value}
@@ -22,12 +22,7 @@ pub same_front : (a b r q : List ℕ) → length a ≡ length b → a ++ r ≡ b
 same_front [] [] r q l e = (refl, e)
 same_front [] (y ∷ b) r q l e = absurd (omega arith)
 same_front (x ∷ a) [] r q l e = absurd (omega arith)
-same_front (x ∷ a) (y ∷ b) r q l e =
-    let tail : a ++ r ≡ b ++ q = cc in
-    let head : x ≡ y = cc in
-    let s = same_front a b r q (omega arith) tail in
-    let same = s.0 in
-    (cc, s.1)
+same_front (x ∷ a) (y ∷ b) r q l e = search (rules, arith, same_front a b r q (omega arith))
 
 pub empty_of : (x : List ℕ) → length x ≡ 0 → x ≡ []
 empty_of [] h = refl
@@ -179,8 +174,7 @@ over_first max c t is fits h = first h.chunks h.digits h.rest h.each h.size (sym
 pub under_after : (max : ℕ) (chunks : List Chunk) (text : List ℕ) → All IsChunk chunks
     → length (chunks_data chunks) ≤ max → ¬ (ExceedsLimit (max - length (chunks_data chunks)) text)
     → ¬ (ExceedsLimit max (chunks_text chunks ++ text))
-under_after max [] text each fits under over =
-    let same : max ≡ max - 0 = omega arith in under (subst (λ n. ExceedsLimit n text) same over)
+under_after max [] text each fits under over = search (rules, arith)
 under_after max (c ∷ chunks) text each fits under over =
     let is : IsChunk c = All-head IsChunk c chunks each in
     let len = length-append c.data_bytes (chunks_data chunks) in

@@ -1,6 +1,6 @@
 -- From a chunk's parts to the chunk, and from chunks to the body.
 use Rattle.std.proofs.Common.{◌≡◌, ℕ, ◌-◌, ◌<◌, ◌≤◌, List, [], ◌∷◌, ◌++◌, All, length, refl, arith, ◌∙◌, sym, ap, subst}
-use Rattle.std.proofs.Common.{append_assoc, length-append, inl, inr}
+use Rattle.std.proofs.Common.{append_assoc, length-append, inl, inr, rules}
 use Rattle.std.specs.Prelude.{Err, ◌⊎◌}
 use Rattle.std.proofs.lemmas.List.{append-nil}
 use Rattle.std.proofs.lemmas.Grind.{flat_map-append}
@@ -15,7 +15,7 @@ use Rattle.http_wire.specs.Inner.ChunkReading.{TakesLine, BreaksLine, CutsLine, 
 use Rattle.http_wire.specs.Inner.ChunkReading.{TakesChunk, TakesLast, RefusesChunk, CutsChunk, FindsChunk}
 use Rattle.http_wire.specs.Inner.ChunksRead.{AreTaken}
 use Rattle.http_wire.specs.Inner.BodyFinding.{TakesBody, RefusesBodyText, CutsBody, FindsBody}
-use Rattle.http_wire.specs.declared.body.Framing.TheVariants.{Length, Chunked}
+use Rattle.http_wire.specs.declared.body.Framing.TheVariants.{Chunked}
 use Rattle.http_wire.specs.declared.fault.Bad.{Bad}
 use Rattle.http_wire.specs.declared.fault.Bad.TheVariants as bads
 use Rattle.http_wire.specs.Faults.{body_of_input}
@@ -24,9 +24,9 @@ use Rattle.http_wire.specs.declared.fault.InputFault.TheVariants as Input
 use Rattle.http_wire.specs.declared.fault.BodyFault.{BodyFault}
 use Rattle.http_wire.specs.declared.fault.BodyFault.TheVariants as Fault
 use Rattle.http_wire.proofs.Bodies.MovedLemmas.{StopsBefore, stops}
-use Rattle.http_wire.proofs.GaveLemmas.{gave_none, gave_as, gave_after}
+use Rattle.http_wire.proofs.GaveLemmas.{gave_as, gave_after}
 use Rattle.http_wire.proofs.Bodies.ChunkLemmas.{never_from_line, never_after, front_after, under_after, over_after}
-use Rattle.http_wire.proofs.Bodies.ChunkLemmas.{under_inside, never_end, empty_of}
+use Rattle.http_wire.proofs.Bodies.ChunkLemmas.{under_inside, never_end}
 use Rattle.http_wire.proofs.Heads.FrontLemmas.{front_line, front_data, front_data_end, under_line}
 
 -- ---- one chunk
@@ -106,18 +106,15 @@ chunk_data_cut room a b c value h fits end =
 pub chunk_data_fault : (room : ℕ) (a b c : InputState) (x y : List ℕ) (value : ℕ) (e : BodyFault) → TakesLine a b value
     → value ≤ room → ReadsBytes (body_state b x) (body_state c y) value (Err e)
     → FindsChunk room (body_state a x) (body_state c y) (Err e)
-chunk_data_fault room a b c x y value Fault.Truncated h fits end =
-    (chunk_data_cut room a b c.source value h fits (stops (body_state b x) (body_state c y) value end.0), end.1)
-chunk_data_fault room a b c x y value Fault.Read h fits end =
-    chunk_data_cut room a b c.source value h fits (stops (body_state b x) (body_state c y) value end)
+chunk_data_fault room a b c x y value Fault.Truncated h fits end = search (rules, arith, chunk_data_cut, stops)
+chunk_data_fault room a b c x y value Fault.Read h fits end = search (rules, arith, chunk_data_cut, stops)
 chunk_data_fault room a b c x y value Fault.NoMemory h fits none =
     record { text = h.line ++ none.text; gave = gave_after a b c.source h.line none.text h.gave none.gave }
 
 -- a line and its data were taken, and then some text was seen
 gave_chunk : (a b c : InputState) (d : SourceState) (more x y : List ℕ) (value : ℕ) (h : TakesLine a b value)
     (m : Moved (body_state b x) (body_state c y) value) → Gave c d more → Gave a d (h.line ++ (m.bytes ++ more))
-gave_chunk a b c d more x y value h m g =
-    gave_after a b d h.line (m.bytes ++ more) h.gave (gave_after b c d m.bytes more m.gave g)
+gave_chunk a b c d more x y value h m g = search (rules, arith, gave_after)
 
 pub chunk_end_broken : (room : ℕ) (a b c : InputState) (d : SourceState) (x y : List ℕ) (value : ℕ)
     → TakesLine a b value → value ≤ room → Moved (body_state b x) (body_state c y) value → BreaksEnd c d
@@ -184,8 +181,7 @@ chunk_end_cut room a b c d x y value h fits m e =
 pub chunk_end_fault : (room : ℕ) (a b c d : InputState) (x y : List ℕ) (value : ℕ) (e : InputFault)
     → TakesLine a b value → value ≤ room → Moved (body_state b x) (body_state c y) value → FindsEnd c d (Err e)
     → FindsChunk room (body_state a x) (body_state d y) (Err (body_of_input e))
-chunk_end_fault room a b c d x y value Input.Truncated h fits m f =
-    (chunk_end_cut room a b c d.source x y value h fits m f.0, f.1)
+chunk_end_fault room a b c d x y value Input.Truncated h fits m f = search (rules, arith, chunk_end_cut)
 chunk_end_fault room a b c d x y value Input.Read h fits m f = chunk_end_cut room a b c d.source x y value h fits m f
 
 pub chunk_taken : (room : ℕ) (a b c d : InputState) (x y : List ℕ) (value : ℕ) → TakesLine a b value → value ≤ room
@@ -209,31 +205,7 @@ chunk_taken room a b c d x y value h fits some m end =
         → (ds ++ (13 ∷ 10 ∷ (bytes ++ (13 ∷ 10 ∷ [])))) ++ d.held ≡ ds ++ (13 ∷ 10 ∷ (bytes ++ (13 ∷ 10 ∷ d.held)))
     flat ds bytes = simp append_assoc
 
-pub chunk_last : (a b c d : InputState) (x y : List ℕ) (value : ℕ) → TakesLine a b value → value ≡ 0
-    → Moved (body_state b x) (body_state c y) value → Gave c d.source (13 ∷ 10 ∷ d.held)
-    → TakesLast (body_state a x) (body_state d y)
-chunk_last a b c d x y value h zero m end =
-    let l = h.is_line in
-    let valued = l.value_is in
-    let counted = m.counted in
-    let none : m.bytes ≡ [] = empty_of m.bytes (omega (arith, counted, zero)) in
-    let gave = gave_chunk a b c d.source (13 ∷ 10 ∷ d.held) x y value h m end in
-    record {
-      zeros = l.digits;
-      is_zero = record { size = l.size; zero = omega (arith, valued, zero) };
-      gave = gave_as (flat l.digits ∙ ap (λ bytes. l.digits ++ (13 ∷ 10 ∷ (bytes ++ (13 ∷ 10 ∷ d.held)))) (sym none)
-          ∙ sym (line_text h.line l.digits (m.bytes ++ (13 ∷ 10 ∷ d.held)) l.cut)) gave;
-      joined = m.joined ∙ ap (λ bytes. x ++ bytes) none ∙ append-nil x;
-    }
-  where
-    flat : (ds : List ℕ) → (ds ++ (13 ∷ 10 ∷ 13 ∷ 10 ∷ [])) ++ d.held ≡ ds ++ (13 ∷ 10 ∷ 13 ∷ 10 ∷ d.held)
-    flat ds = simp append_assoc
-
 -- ---- all chunks
-
-pub taken_nothing : (max : ℕ) (known : InputState) → AreTaken max (body_state known []) (body_state known [])
-taken_nothing max known =
-    record { chunks = []; each = All-nil IsChunk; gave = gave_none known; joined = refl; fits = omega arith }
 
 pub taken_more : (max room : ℕ) (a b c : InputState) (x y : List ℕ) → room ≡ max - length x
     → AreTaken max (body_state a []) (body_state b x) → TakesChunk room (body_state b x) (body_state c y)
@@ -346,20 +318,3 @@ body_fault max room a b c x y Fault.NoMemory left t h = record {
   text = chunks_text t.chunks ++ h.text;
   gave = gave_after a b c.source (chunks_text t.chunks) h.text t.gave h.gave;
 }
-
--- ---- a body of a length
-
-pub length_whole : (n : ℕ) (a b : InputState) (y : List ℕ) → Moved (body_state a []) (body_state b y) n
-    → TakesBody (Length n) a b y
-length_whole n a b y m =
-    record { text = m.bytes; gave = m.gave; written = (sym m.joined, ap length m.joined ∙ m.counted) }
-
-pub length_fault : (n : ℕ) (a b : InputState) (y : List ℕ) (e : BodyFault)
-    → ReadsBytes (body_state a []) (body_state b y) n (Err e) → FindsBody (Length n) a b y (Err e)
-length_fault n a b y Fault.Truncated h =
-    let end = stops (body_state a []) (body_state b y) n h.0 in
-    (record { text = end.text; gave = end.gave; cut = end.short }, h.1)
-length_fault n a b y Fault.Read h =
-    let end = stops (body_state a []) (body_state b y) n h in
-    record { text = end.text; gave = end.gave; cut = end.short }
-length_fault n a b y Fault.NoMemory h = h

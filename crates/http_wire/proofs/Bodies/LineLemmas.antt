@@ -1,6 +1,6 @@
 -- How a size line goes on.
 use Rattle.std.proofs.Common.{◌≡◌, ℕ, ◌+◌, ◌*◌, ◌<◌, ◌≤◌, true, false, List, [], ◌∷◌, ◌++◌, All, length, refl, arith}
-use Rattle.std.proofs.Common.{◌∙◌, sym, ap, subst, IsTrue, append_assoc, length-append, inl, inr}
+use Rattle.std.proofs.Common.{◌∙◌, sym, ap, IsTrue, append_assoc, length-append, inl, inr, rules}
 use Rattle.std.proofs.lemmas.List.Elements.{All-append, All-head, All-tail, All-cons, All-nil}
 use Rattle.std.proofs.lemmas.Bool.{cases_Bool}
 use Rattle.std.specs.Char.{is_ascii_hexdigit, digit_value}
@@ -14,33 +14,17 @@ IsHex b = IsTrue (is_ascii_hexdigit b)
 -- digits before a CR are no more than those before any byte
 pub digits_le : (ds es r q : List ℕ) → All IsHex ds → ds ++ r ≡ es ++ 13 ∷ q → length ds ≤ length es
 digits_le [] es r q h e = omega arith
-digits_le (x ∷ ds) [] r q h e =
-    let cr : x ≡ 13 = cc in
-    let hex : is_ascii_hexdigit x ≡ true = All-head IsHex x ds h in
-    absurd (subst (λ b. is_ascii_hexdigit b ≡ true → ⊥) (sym cr) (λ t. absurd (cc)) hex)
-digits_le (x ∷ ds) (y ∷ es) r q h e =
-    let tail : ds ++ r ≡ es ++ 13 ∷ q = cc in
-    let more = digits_le ds es r q (All-tail IsHex x ds h) tail in
-    omega arith
+digits_le (x ∷ ds) [] r q h e = cc (All-head IsHex x ds h)
+digits_le (x ∷ ds) (y ∷ es) r q h e = search (rules, arith, All-tail, digits_le ds es r q (All-tail IsHex x ds h))
 
 -- the first byte that is no digit is the CR
 pub stops_at : (ds es r q : List ℕ) (b : ℕ) → All IsHex ds → All IsHex es → is_ascii_hexdigit b ≡ false
     → ds ++ b ∷ r ≡ es ++ 13 ∷ q → (ds ≡ es) × (b ≡ 13) × (r ≡ q)
 stops_at [] [] r q b h g none_hex e = (refl, cc, cc)
-stops_at [] (y ∷ es) r q b h g none_hex e =
-    let same : b ≡ y = cc in
-    let hex : is_ascii_hexdigit y ≡ true = All-head IsHex y es g in
-    absurd (cc)
-stops_at (x ∷ ds) [] r q b h g none_hex e =
-    let cr : x ≡ 13 = cc in
-    let hex : is_ascii_hexdigit x ≡ true = All-head IsHex x ds h in
-    absurd (subst (λ b. is_ascii_hexdigit b ≡ true → ⊥) (sym cr) (λ t. absurd (cc)) hex)
+stops_at [] (y ∷ es) r q b h g none_hex e = cc (All-head IsHex y es g)
+stops_at (x ∷ ds) [] r q b h g none_hex e = cc (All-head IsHex x ds h)
 stops_at (x ∷ ds) (y ∷ es) r q b h g none_hex e =
-    let tail : ds ++ b ∷ r ≡ es ++ 13 ∷ q = cc in
-    let head : x ≡ y = cc in
-    let rest = stops_at ds es r q b (All-tail IsHex x ds h) (All-tail IsHex y es g) none_hex tail in
-    let same = rest.0 in
-    (cc, rest.1, rest.2)
+    search (rules, arith, All-tail, stops_at ds es r q b (All-tail IsHex x ds h) (All-tail IsHex y es g) none_hex)
 
 line_cut : (front more digits rest : List ℕ) (b : ℕ) → (front ++ b ∷ []) ++ more ≡ digits ++ (13 ∷ 10 ∷ [] ++ rest)
     → front ++ b ∷ more ≡ digits ++ 13 ∷ (10 ∷ rest)
@@ -81,11 +65,11 @@ never_cr front ds b is s other more digits rest size e =
 pub one_digit : (front : List ℕ) (b count value : ℕ) → AreDigits front count value → count < 8
     → is_ascii_hexdigit b ≡ true → AreDigits (front ++ b ∷ []) (count + 1) (value * 16 + digit_value b)
 one_digit front b count value d few hex =
-    let counted = d.count_is in
-    let valued = d.value_is in
-    record {
-      count_is = omega (arith, counted, length-append front (b ∷ []));
-      few = omega (arith, counted, few, length-append front (b ∷ []));
-      hex = All-append IsHex front (b ∷ []) d.hex (All-cons IsHex b [] hex (All-nil IsHex));
-      value_is = ap (λ v. v * 16 + digit_value b) valued ∙ sym (digits_value_after_push 16 0 front b);
-    }
+    omega (
+      arith,
+      length-append front (b ∷ []),
+      All-append IsHex front (b ∷ []) d.hex (All-cons IsHex b [] hex (All-nil IsHex)),
+      All-cons IsHex b,
+      All-nil IsHex,
+      digits_value_after_push 16 0 front b,
+    )

@@ -1,6 +1,6 @@
 -- A size line in the buffer.
 use Rattle.std.proofs.Common.{◌≡◌, ◌≢◌, ℕ, ◌+◌, ◌^◌, ◌<◌, ◌≤◌, true, List, [], ◌∷◌, ◌++◌, All, length, take, drop}
-use Rattle.std.proofs.Common.{get_or, arith, ◌∙◌, sym, ap, subst, append_assoc, add-one}
+use Rattle.std.proofs.Common.{get_or, arith, ◌∙◌, sym, ap, subst, append_assoc, add-one, rules}
 use Rattle.std.specs.Prelude.{◌⊎◌}
 use Rattle.std.proofs.Math.Seq.{take-suc}
 use Rattle.std.proofs.Math.Nat.{pow-le-pow_right}
@@ -27,22 +27,11 @@ all_digits [] h = tt
 all_digits (x ∷ ds) h = (hex_small x (All-head IsHex x ds h), all_digits ds (All-tail IsHex x ds h))
 
 pub value_small : (ds : List ℕ) → All IsHex ds → length ds ≤ 8 → digits_value 16 ds < 2 ^ 32
-value_small ds h few =
-    let below = digits_value-lt 16 ds (all_digits ds h) in
-    let power : 16 ^ length ds ≤ 16 ^ 8 = pow-le-pow_right (omega arith) few in
-    omega (arith, below, power)
+value_small ds h few = search (rules, arith, digits_value-lt, all_digits, pow-le-pow_right)
 
 pub bounded : (front : List ℕ) (state : LineState) → StandsAt front state → IsBounded state
-bounded front (Digits count value) h =
-    let few = h.few in
-    let counted = h.count_is in
-    let valued = h.value_is in
-    let small = value_small front h.hex h.few in
-    (omega (arith, few, counted), omega (arith, valued, small))
-bounded front (Ended value) h =
-    let valued = h.value_is in
-    let small = value_small h.digits h.size.hex h.size.few in
-    omega (arith, valued, small)
+bounded front (Digits count value) h = omega (arith, value_small front h.hex h.few)
+bounded front (Ended value) h = omega (arith, value_small h.digits h.size.hex h.size.few)
 
 -- a read behind the bytes leaves them
 pub front_kept : (a : InputState) (b : SourceState) (text : List ℕ) (at : ℕ) → Gave a b text → at ≤ length a.held
@@ -56,23 +45,17 @@ front_stands a b text at state gave le = subst (λ t. StandsAt t state) (sym (fr
 -- one more byte
 pub front_next : (text : List ℕ) (at byte : ℕ) → (at < length text) × (byte ≡ get_or text at 0)
     → take (at + 1) text ≡ take at text ++ byte ∷ []
-front_next text at byte there =
-    ap (λ n. take n text) (add-one at) ∙ take-suc text at 0 there.0 ∙ ap (λ b. take at text ++ b ∷ []) (sym there.1)
+front_next text at byte there = search (rules, arith, add-one, take-suc)
 
 pub cut_round : (text : List ℕ) (at b : ℕ) → take (at + 1) text ≡ take at text ++ b ∷ []
     → take at text ++ b ∷ drop (at + 1) text ≡ text
 cut_round text at b next =
-    sym (append_assoc (take at text) (b ∷ []) (drop (at + 1) text))
-    ∙ ap (λ t. t ++ drop (at + 1) text) (sym next) ∙ take-append-drop (at + 1) text
+    cc (append_assoc (take at text) (b ∷ []) (drop (at + 1) text), take-append-drop (at + 1) text)
 
 pub line_taken : (a : InputState) (b : SourceState) (text front : List ℕ) (at byte value : ℕ) → Gave a b text
     → take (at + 1) text ≡ front ++ byte ∷ [] → IsLine (front ++ byte ∷ []) value
     → TakesLine a (input_state (drop (at + 1) text) b) value
-line_taken a b text front at byte value gave next is = record {
-  line = take (at + 1) text;
-  is_line = subst (λ t. IsLine t value) (sym next) is;
-  gave = gave_as (take-append-drop (at + 1) text) gave;
-}
+line_taken a b text front at byte value gave next is = search (rules, arith, gave_as, take-append-drop)
 
 pub line_broken : (a : InputState) (b : SourceState) (text : List ℕ) (at byte : ℕ) (state : LineState) → Gave a b text
     → take (at + 1) text ≡ take at text ++ byte ∷ [] → StandsAt (take at text) state
@@ -89,17 +72,9 @@ line_broken a b text at byte state gave next stands never = record {
 
 pub line_cut : (a : InputState) (b : SourceState) (text : List ℕ) (at : ℕ) (state : LineState) → Gave a b text
     → length text ≡ at → StandsAt (take at text) state → CutsLine a b
-line_cut a b text at state gave len stands = record {
-  text = text;
-  gave = gave;
-  state = state;
-  stands = subst (λ t. StandsAt t state) (take_all at text (omega (arith, len))) stands;
-}
+line_cut a b text at state gave len stands = search (rules, arith, take_all)
 
 -- ---- the line end
-
-pub never_first : (b : ℕ) → b ≢ 13 → NeverEnd ([] ++ b ∷ [])
-never_first b other more rest e = other (cc)
 
 pub never_second : (b : ℕ) → b ≢ 10 → NeverEnd ((13 ∷ []) ++ b ∷ [])
 never_second b other more rest e = other (cc)
@@ -120,8 +95,4 @@ end_broken a b text front at byte gave next which never = record {
 
 pub end_cut : (a : InputState) (b : SourceState) (text front : List ℕ) (at : ℕ) → Gave a b text → length text ≡ at
     → take at text ≡ front → (front ≡ []) ⊎ (front ≡ 13 ∷ []) → CutsEnd a b
-end_cut a b text front at gave len start which = record {
-  text = front;
-  gave = gave_as (sym start ∙ take_all at text (omega (arith, len))) gave;
-  front = which;
-}
+end_cut a b text front at gave len start which = search (rules, arith, gave_as, take_all)

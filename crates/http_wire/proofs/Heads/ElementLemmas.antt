@@ -11,8 +11,7 @@ split_at : (xs : List ℕ) (i : ℕ) → i < length xs → get_or xs i 0 ≡ 44 
     → split 44 xs ≡ take i xs ∷ split 44 (drop (suc i) xs)
 unfolding split
 split_at [] i inside comma before = absurd (omega arith)
-split_at (b ∷ bs) zero inside comma before =
-    ap (λ t. cond t ([] ∷ split 44 bs) (onto_first b (split 44 bs))) (eq-eqb b 44 comma)
+split_at (b ∷ bs) zero inside comma before = cc (eq-eqb b 44 comma)
 split_at (b ∷ bs) (suc i) inside comma before =
     ap (λ t. cond t ([] ∷ split 44 bs) (onto_first b (split 44 bs))) (ne_eqb b 44 (before 0 (omega arith)))
     ∙ ap (onto_first b) (split_at bs i (omega arith) comma (λ k below. before (suc k) (omega arith)))

@@ -18,7 +18,7 @@ first-some (v ∷ values) more value h = sym h
 pub first-match : (name : List ℕ) (fields : Fields) (f : List ℕ × List ℕ) → None ≡ first_of (values_of name fields)
     → same_word f.0 name ≡ true → Some f.1 ≡ first_of (values_of name (fields ++ f ∷ []))
 first-match name fields f none same =
-    sym (ap first_of (values_of-same name fields f same) ∙ first-none (values_of name fields) f.1 none)
+    cc (values_of-same name fields f same, first-none (values_of name fields) f.1 none)
 
 pub first-other : (name : List ℕ) (fields : Fields) (f : List ℕ × List ℕ) (found : Option (List ℕ))
     → found ≡ first_of (values_of name fields) → same_word f.0 name ≡ false

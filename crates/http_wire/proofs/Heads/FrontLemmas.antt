@@ -1,6 +1,6 @@
 -- How a prefix of a chunked text can go on.
 use Rattle.std.proofs.Common.{◌≡◌, ℕ, zero, suc, ◌-◌, ◌<◌, ◌≤◌, List, [], ◌∷◌, ◌++◌, length, refl, arith, ◌∙◌, sym, ap}
-use Rattle.std.proofs.Common.{subst, append-nil, append_assoc, length-append, inl, inr}
+use Rattle.std.proofs.Common.{subst, append-nil, append_assoc, length-append, inl, inr, rules}
 use Rattle.std.proofs.lemmas.List.Elements.{All-nil}
 use Rattle.std.proofs.lemmas.Bool.{cases_lt}
 use Rattle.std.proofs.lemmas.List.Sums.{AllPass-from_list_all}
@@ -24,8 +24,7 @@ length-padding zero = refl
 length-padding (suc n) = ap suc (length-padding n)
 
 zero_size : IsSize (48 ∷ [])
-zero_size =
-    record { some = omega arith; few = omega arith; hex = AllPass-from_list_all is_ascii_hexdigit (48 ∷ []) refl }
+zero_size = omega (arith, AllPass-from_list_all is_ascii_hexdigit (48 ∷ []) refl)
 
 last_chunked : IsChunked (48 ∷ 13 ∷ 10 ∷ 13 ∷ 10 ∷ []) []
 last_chunked = record {
@@ -42,14 +41,7 @@ front_start = record { more = 48 ∷ 13 ∷ 10 ∷ 13 ∷ 10 ∷ []; body = []; 
 
 -- a shorter prefix
 pub front_shorter : (a b : List ℕ) → IsFrontOfChunked (a ++ b) → IsFrontOfChunked a
-front_shorter a b f =
-    let some = f.some in
-    record {
-      more = b ++ f.more;
-      body = f.body;
-      some = omega (arith, some, length-append b f.more);
-      chunked = subst (λ t. IsChunked t f.body) (append_assoc a b f.more) f.chunked;
-    }
+front_shorter a b f = search (rules, arith, length-append, append_assoc)
 
 -- a size line, its data, and what stands of the line end
 pub front_data_end : (ds d x y : List ℕ) → IsSize ds → digits_value 16 ds ≡ length d → x ++ y ≡ 13 ∷ 10 ∷ []
@@ -112,8 +104,7 @@ front_cr ds is =
 -- where a line stands it can go on
 pub front_line : (front : List ℕ) (state : LineState) → StandsAt front state → IsFrontOfChunked front
 front_line [] (Digits count value) h = front_start
-front_line (b ∷ front) (Digits count value) h =
-    front_digits (b ∷ front) (record { some = omega arith; few = h.few; hex = h.hex })
+front_line (b ∷ front) (Digits count value) h = search (rules, arith, front_digits)
 front_line front (Ended value) h = subst IsFrontOfChunked (sym h.cut) (front_cr h.digits h.size)
 
 -- a line that stands has no size line in it

@@ -1,6 +1,6 @@
 -- The heads of requests and of responses meet the laws of a grammar: both are a start line, with empty lines in front,
 -- and a section of fields.
-use Rattle.std.proofs.Common.{◌≡◌, ℕ, List, [], ◌∷◌, ◌++◌, refl, sym, ap, ◌∙◌, arith, append_assoc}
+use Rattle.std.proofs.Common.{◌≡◌, ℕ, List, [], ◌∷◌, ◌++◌, refl, sym, ap, ◌∙◌, arith, append_assoc, rules}
 use Rattle.std.proofs.Math.Seq.{append_snoc}
 use Rattle.std.specs.List.{flat_map}
 use Rattle.httparse.specs.Ascii.{line_feed}
@@ -79,15 +79,7 @@ pub response_lines : HasLines responses
 response_lines = sectioned_lines responses responses_sectioned
 
 pub request_laws : AreLawful request_spans
-request_laws = record {
-  ends = request_ends;
-  fits = λ text p x. x.0.section.len_fits;
-  reads = λ text p x. (x.1.0, x.1.1.reads);
-}
+request_laws = search (rules, arith, request_ends)
 
 pub response_laws : AreLawful response_spans
-response_laws = record {
-  ends = response_ends;
-  fits = λ text p x. x.0.section.len_fits;
-  reads = λ text p x. (x.1.0, x.1.1.reads);
-}
+response_laws = search (rules, arith, response_ends)

@@ -1,6 +1,6 @@
 -- A head ends in a line feed and has one for each line, so no head ends anywhere else.
 use Rattle.std.proofs.Common.{◌≡◌, ◌≢◌, ℕ, ◌+◌, ◌<◌, ◌≤◌, List, [], ◌∷◌, ◌++◌, length, refl, sym, ap, ◌∙◌, subst, arith}
-use Rattle.std.proofs.Common.{append_assoc, length-append, inl, inr, add-one, get_or, take, drop, length-take}
+use Rattle.std.proofs.Common.{append_assoc, length-append, inl, inr, add-one, get_or, take, drop, length-take, rules}
 use Rattle.std.proofs.Common.{length-drop}
 use Rattle.std.specs.Prelude.{◌⊎◌}
 use Rattle.std.specs.List.{flat_map}
@@ -33,11 +33,7 @@ pub snoc_inj : (xs ys : List ℕ) (b c : ℕ) → xs ++ b ∷ [] ≡ ys ++ c ∷
 snoc_inj [] [] b c e = (refl, cc)
 snoc_inj [] (y ∷ ys) b c e = absurd (let h = ap length e in omega (arith, h, length-append ys (c ∷ [])))
 snoc_inj (x ∷ xs) [] b c e = absurd (let h = ap length e in omega (arith, h, length-append xs (b ∷ [])))
-snoc_inj (x ∷ xs) (y ∷ ys) b c e =
-    let tail : xs ++ b ∷ [] ≡ ys ++ c ∷ [] = cc in
-    let rest = snoc_inj xs ys b c tail in
-    let same = rest.0 in
-    let head : x ≡ y = cc in (cc, rest.1)
+snoc_inj (x ∷ xs) (y ∷ ys) b c e = search (rules, arith, snoc_inj xs ys b c)
 
 -- ---- line feeds
 
@@ -49,16 +45,14 @@ line_feeds-end crlf = refl
 line_feeds-end lf = refl
 
 pub line_feeds-field : (f : Field) → 1 ≤ line_feeds (print_field f)
-line_feeds-field f =
-    omega (arith, line_feeds-append (f.name ++ 58 ∷ f.raw) (print_end f.end), line_feeds-end f.end)
+line_feeds-field f = omega (arith, line_feeds-append (f.name ++ 58 ∷ f.raw) (print_end f.end), line_feeds-end f.end)
 
 pub line_feeds-fields : (fields : List Field) → length fields ≤ line_feeds (flat_map print_field fields)
 line_feeds-fields [] = omega arith
 line_feeds-fields (f ∷ fields) =
-    let split = ap line_feeds (flat_map-cons print_field f fields) in
     omega (
       arith,
-      split,
+      flat_map-cons print_field f fields,
       line_feeds-append (print_field f) (flat_map print_field fields),
       line_feeds-field f,
       line_feeds-fields fields,
@@ -131,18 +125,7 @@ overflows_now w room text over h rest x = over [] h (rest ++ []) (reads_append w
 
 pub exceeds_line_feeds : (w : Words) → HasLines w → (room : ℕ) (text : List ℕ) → Exceeds w room text
     → room + 1 < line_feeds text
-exceeds_line_feeds w law room text e =
-    let h = e.3 in
-    let printed = ap line_feeds (e.4.1 ∙ append-nil (w.print h)) in
-    omega (
-      arith,
-      printed,
-      line_feeds-append e.0 (line_feed ∷ []),
-      law h,
-      e.5,
-      ap line_feeds e.2,
-      line_feeds-append e.0 e.1,
-    )
+exceeds_line_feeds w law room text e = search (rules, arith, append-nil, line_feeds-append)
 
 pub refused_by_fields : (w : Words) → HasLines w → (text : List ℕ) → Overflows w max_fields text
     → Exceeds w max_fields text → MayBeRefused w text
@@ -169,8 +152,7 @@ take-next text at lt = ap (λ n. take n text) (add-one at) ∙ take-suc text at 
 -- one more byte that is no line feed
 pub none_at_next : (w : Words) → EndsInLineFeed w → (text : List ℕ) (at : ℕ) → at < length text
     → HasNone w (take at text) → get_or text at 0 ≢ line_feed → HasNone w (take (at + 1) text)
-none_at_next w law text at lt none other =
-    subst (HasNone w) (sym (take-next text at lt)) (none_more w law (take at text) (get_or text at 0) none other)
+none_at_next w law text at lt none other = search (rules, arith, take-next, none_more)
 
 -- a prefix that may be refused, with no head before its line feed
 pub refused_at : (w : Words) (text : List ℕ) (at : ℕ) → at < length text → at < 16384 → HasNone w (take at text)
@@ -227,15 +209,10 @@ too_long w text long none = record {
 -- one more line
 pub line_feeds-next : (text : List ℕ) (at : ℕ) → at < length text → get_or text at 0 ≡ line_feed
     → line_feeds (take (at + 1) text) ≡ line_feeds (take at text) + 1
-line_feeds-next text at lt same =
-    ap line_feeds (take-next text at lt ∙ ap (λ b. take at text ++ b ∷ []) same)
-    ∙ line_feeds-append (take at text) (line_feed ∷ [])
+line_feeds-next text at lt same = search (rules, arith, take-next, line_feeds-append)
 
 -- more lines than a head has, and no head
 pub given_up : (w : Words) (text : List ℕ) (at lines : ℕ) → at < length text → at < 16384
     → lines ≡ line_feeds (take at text) → HasNone w (take at text) → get_or text at 0 ≡ line_feed → 64 < lines
     → HasNone w (take (at + 1) text) → IsRefused w text
-given_up w text at lines lt short counted none same many none_at =
-    let more = line_feeds-next text at lt same in
-    refused_at w text at lt short none same
-    (inr (omega (arith, more, counted, many), λ h rest x. absurd (none_at h rest x)))
+given_up w text at lines lt short counted none same many none_at = search (rules, arith, line_feeds-next, refused_at)

@@ -1,17 +1,13 @@
-use Rattle.std.proofs.Common.{sym, subst, ◌++◌, ◌∷◌, [], arith, ◌<◌, ◌+◌, ◌*◌}
+use Rattle.std.proofs.Common.{sym, subst, ◌++◌, ◌∷◌, [], arith, ◌<◌, ◌+◌, ◌*◌, rules}
 use Rattle.http_wire.specs.Inner.SizeLines.{StandsAt, AreDigits}
 use Rattle.http_wire.proofs.Bodies.LineLemmas.{never_cr, never_ninth, never_other, one_digit}
 use Rattle.http_wire.proofs.chunked.line_step.Goals as goal
 
 pub returns-else-byte-eq10 : goal.returns-else-byte-eq10
-returns-else-byte-eq10 c = λ front held.
-    let h = subst (λ s. StandsAt front s) c.in-Ended.is held in
-    never_cr front h.digits c.args.byte h.cut h.size c.if-byte-eq10.false
+returns-else-byte-eq10 c = search (rules, arith, never_cr)
 
 pub returns-then-count-eq8 : goal.returns-then-count-eq8
-returns-then-count-eq8 c = λ front held.
-    let h = subst (λ s. StandsAt front s) c.in-Digits.is held in
-    never_ninth front c.args.byte c.in-Digits.count c.in-Digits.value h c.if-count-eq8.true c.if-byte-eq13.false
+returns-then-count-eq8 c = search (rules, arith, never_ninth)
 
 pub returns-in-Some : goal.returns-in-Some
 returns-in-Some c = λ front held.
@@ -24,6 +20,4 @@ returns-in-Some c = λ front held.
     (one_digit front c.args.byte c.in-Digits.count c.in-Digits.value h under c.in-Some.ensures.0)
 
 pub returns-in-None : goal.returns-in-None
-returns-in-None c = λ front held.
-    let h = subst (λ s. StandsAt front s) c.in-Digits.is held in
-    never_other front c.args.byte c.in-Digits.count c.in-Digits.value h c.in-None.ensures c.if-byte-eq13.false
+returns-in-None c = search (rules, arith, never_other)

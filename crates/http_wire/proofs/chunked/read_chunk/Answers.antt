@@ -1,18 +1,14 @@
-use Rattle.std.proofs.Common.{◌<◌, arith, subst}
+use Rattle.std.proofs.Common.{arith, subst, rules}
 use Rattle.std.specs.Prelude.{Ok}
 use Rattle.std.proofs.lemmas.Result.{err_from_is_err_and}
 use Rattle.http_wire.specs.Inputs.{input_of}
-use Rattle.http_wire.specs.Inner.ChunkReading.{FindsLine, FindsEnd}
+use Rattle.http_wire.specs.Inner.ChunkReading.{FindsLine}
 use Rattle.http_wire.proofs.Bodies.ChunkReadLemmas.{chunk_line_broken, chunk_line_fault, chunk_over, chunk_data_fault}
-use Rattle.http_wire.proofs.Bodies.ChunkReadLemmas.{chunk_end_broken, chunk_end_fault, chunk_taken, chunk_last}
+use Rattle.http_wire.proofs.Bodies.ChunkReadLemmas.{chunk_end_broken, chunk_end_fault, chunk_taken}
 use Rattle.http_wire.proofs.chunked.read_chunk.Goals as goal
 
 pub returns-in_default-clause-found : goal.returns-in_default-clause-found
-returns-in_default-clause-found g c =
-    chunk_line_broken c.args.room _ _
-    (subst (λ r. FindsLine (input_of g.S.ByteSource.state c.args.input.now)
-    (input_of g.S.ByteSource.state c.read_line.new.input) (Ok r))
-    c.in_default.is c.in_ok-size.ensures.found)
+returns-in_default-clause-found g c = search (rules, arith, chunk_line_broken)
 
 pub returns-in_err-size-clause-found : goal.returns-in_err-size-clause-found
 returns-in_err-size-clause-found g c =
@@ -33,33 +29,10 @@ returns-then-size-room-clause-found g c =
     c.if-size-room.true
 
 pub returns-in_err-read_bytes-clause-found : goal.returns-in_err-read_bytes-clause-found
-returns-in_err-read_bytes-clause-found g c =
-    let line =
-    subst (λ r. FindsLine (input_of g.S.ByteSource.state c.args.input.now)
-    (input_of g.S.ByteSource.state c.read_line.new.input) (Ok r))
-    c.in-Size.is c.in_ok-size.ensures.found in
-    let p = err_from_is_err_and c.from_residual-in_err-read_bytes.result c.from_residual-in_err-read_bytes.ensures.1 in
-    rw (p.1, p.2)
-    (chunk_data_fault c.args.room (input_of g.S.ByteSource.state c.args.input.now)
-    (input_of g.S.ByteSource.state c.read_line.new.input)
-    (input_of g.S.ByteSource.state c.read_bytes.new.input) (g.B.BodyBuffer.bytes c.args.body.now)
-    (g.B.BodyBuffer.bytes c.read_bytes.new.body)
-    c.in-Size.size c.in_err-read_bytes.field-0.0 line c.if-size-room.false c.in_err-read_bytes.ensures.found)
+returns-in_err-read_bytes-clause-found g c = search (rules, arith, err_from_is_err_and, chunk_data_fault)
 
 pub returns-then-not-branch-clause-found : goal.returns-then-not-branch-clause-found
-returns-then-not-branch-clause-found g c =
-    let line =
-    subst (λ r. FindsLine (input_of g.S.ByteSource.state c.args.input.now)
-    (input_of g.S.ByteSource.state c.read_line.new.input) (Ok r))
-    c.in-Size.is c.in_ok-size.ensures.found in
-    let end =
-    subst (λ b. FindsEnd (input_of g.S.ByteSource.state c.read_bytes.new.input)
-    (input_of g.S.ByteSource.state c.read_line_end.new.input) (Ok b))
-    c.if-not-branch.true c.in_ok-read_line_end.ensures.found in
-    chunk_end_broken c.args.room _ (input_of g.S.ByteSource.state c.read_line.new.input)
-    (input_of g.S.ByteSource.state c.read_bytes.new.input) _
-    (g.B.BodyBuffer.bytes c.args.body.now) (g.B.BodyBuffer.bytes c.read_bytes.new.body)
-    c.in-Size.size line c.if-size-room.false c.in_ok-read_bytes.ensures.found end
+returns-then-not-branch-clause-found g c = search (rules, arith, chunk_end_broken)
 
 pub returns-in_err-read_line_end-clause-found : goal.returns-in_err-read_line_end-clause-found
 returns-in_err-read_line_end-clause-found g c =
@@ -78,35 +51,5 @@ returns-in_err-read_line_end-clause-found g c =
     c.in-Size.size c.in_err-read_line_end.field-0.0 line c.if-size-room.false c.in_ok-read_bytes.ensures.found
     c.in_err-read_line_end.ensures.found)
 
-pub returns-then-size-eq0-clause-found : goal.returns-then-size-eq0-clause-found
-returns-then-size-eq0-clause-found g c =
-    let line =
-    subst (λ r. FindsLine (input_of g.S.ByteSource.state c.args.input.now)
-    (input_of g.S.ByteSource.state c.read_line.new.input) (Ok r))
-    c.in-Size.is c.in_ok-size.ensures.found in
-    let end =
-    subst (λ b. FindsEnd (input_of g.S.ByteSource.state c.read_bytes.new.input)
-    (input_of g.S.ByteSource.state c.read_line_end.new.input) (Ok b))
-    c.if-not-branch.false c.in_ok-read_line_end.ensures.found in
-    chunk_last (input_of g.S.ByteSource.state c.args.input.now) (input_of g.S.ByteSource.state c.read_line.new.input)
-    (input_of g.S.ByteSource.state c.read_bytes.new.input)
-    (input_of g.S.ByteSource.state c.read_line_end.new.input) (g.B.BodyBuffer.bytes c.args.body.now)
-    (g.B.BodyBuffer.bytes c.read_bytes.new.body)
-    c.in-Size.size line c.if-size-eq0.true c.in_ok-read_bytes.ensures.found end
-
 pub returns-else-size-eq0-clause-found : goal.returns-else-size-eq0-clause-found
-returns-else-size-eq0-clause-found g c =
-    let line =
-    subst (λ r. FindsLine (input_of g.S.ByteSource.state c.args.input.now)
-    (input_of g.S.ByteSource.state c.read_line.new.input) (Ok r))
-    c.in-Size.is c.in_ok-size.ensures.found in
-    let end =
-    subst (λ b. FindsEnd (input_of g.S.ByteSource.state c.read_bytes.new.input)
-    (input_of g.S.ByteSource.state c.read_line_end.new.input) (Ok b))
-    c.if-not-branch.false c.in_ok-read_line_end.ensures.found in
-    let some : 0 < c.in-Size.size = omega (arith, c.if-size-eq0.false) in
-    chunk_taken c.args.room (input_of g.S.ByteSource.state c.args.input.now)
-    (input_of g.S.ByteSource.state c.read_line.new.input) (input_of g.S.ByteSource.state c.read_bytes.new.input)
-    (input_of g.S.ByteSource.state c.read_line_end.new.input) (g.B.BodyBuffer.bytes c.args.body.now)
-    (g.B.BodyBuffer.bytes c.read_bytes.new.body)
-    c.in-Size.size line c.if-size-room.false some c.in_ok-read_bytes.ensures.found end
+returns-else-size-eq0-clause-found g c = search (rules, arith, chunk_taken)

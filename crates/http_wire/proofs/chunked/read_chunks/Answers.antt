@@ -1,64 +1,17 @@
-use Rattle.std.proofs.Common.{◌≡◌, ◌∙◌, arith, ◌-◌, ◌+◌, length, ap, sym, subst, refl, length-append, []}
+use Rattle.std.proofs.Common.{◌≡◌, arith, ◌-◌, subst, length-append, rules}
 use Rattle.std.specs.Prelude.{Ok, Err}
 use Rattle.std.proofs.lemmas.Result.{err_from_is_err_and}
 use Rattle.http_wire.specs.Inputs.{input_of}
-use Rattle.http_wire.specs.Inner.ChunkReading.{FindsChunk, TakesChunk}
-use Rattle.http_wire.specs.Inner.ChunksRead.{AreTaken}
+use Rattle.http_wire.specs.Inner.ChunkReading.{FindsChunk}
 use Rattle.http_wire.specs.Inner.BodyReading.{body_state}
-use Rattle.http_wire.proofs.Bodies.ChunkReadLemmas.{taken_nothing, taken_more, body_whole, body_refused, body_fault}
+use Rattle.http_wire.proofs.Bodies.ChunkReadLemmas.{taken_more, body_whole, body_refused, body_fault}
 use Rattle.http_wire.proofs.chunked.read_chunks.Goals as goal
 
 ok-not-err : {A B : Type 0} (a : A) (b : B) → Ok a ≡ Err b → ⊥
 ok-not-err a b e = cc
 
-pub loop-chunk-init : goal.loop-chunk-init
-loop-chunk-init g c = record {
-  taken =
-      subst (λ body. AreTaken c.args.most
-      (body_state (input_of g.S.ByteSource.state c.args.input.now) [])
-      (body_state (input_of g.S.ByteSource.state c.args.input.now) body))
-      (sym c.requires.empty) (taken_nothing c.args.most (input_of g.S.ByteSource.state c.args.input.now));
-  filled = omega arith;
-  reads = λ _. omega arith;
-  same = record { same_source = refl; same_buffer = refl };
-  unfailed = refl;
-}
-
 pub loop-chunk-preserved : goal.loop-chunk-preserved
-loop-chunk-preserved g c =
-    let h : TakesChunk (c.args.most - c.len.result) (body_state (input_of g.S.ByteSource.state c.loop-chunk.input)
-    (g.B.BodyBuffer.bytes c.loop-chunk.body))
-    (body_state (input_of g.S.ByteSource.state c.read_chunk.new.input)
-    (g.B.BodyBuffer.bytes c.read_chunk.new.body)) =
-    subst (λ r. FindsChunk (c.args.most - c.len.result) (body_state (input_of g.S.ByteSource.state c.loop-chunk.input)
-    (g.B.BodyBuffer.bytes c.loop-chunk.body))
-    (body_state (input_of g.S.ByteSource.state c.read_chunk.new.input)
-    (g.B.BodyBuffer.bytes c.read_chunk.new.body)) (Ok r))
-    c.in-More.is c.in_ok-read_chunk.ensures.found in
-    let taken = c.loop-chunk.invariant.taken in
-    let filled = c.loop-chunk.invariant.filled in
-    let some = h.is_chunk.some in
-    let grown : length (g.B.BodyBuffer.bytes c.read_chunk.new.body)
-    ≡ length (g.B.BodyBuffer.bytes c.loop-chunk.body) + length h.chunk.data_bytes =
-    ap length h.joined ∙ length-append (g.B.BodyBuffer.bytes c.loop-chunk.body) h.chunk.data_bytes in
-    record {
-      taken =
-          taken_more c.args.most _ (input_of g.S.ByteSource.state c.args.input.now)
-          (input_of g.S.ByteSource.state c.loop-chunk.input)
-          (input_of g.S.ByteSource.state c.read_chunk.new.input) (g.B.BodyBuffer.bytes c.loop-chunk.body)
-          (g.B.BodyBuffer.bytes c.read_chunk.new.body)
-          (omega arith) taken h;
-      filled = omega (arith, filled, some, grown);
-      reads = λ low. let before = c.loop-chunk.invariant.reads (omega (arith, low, grown)) in
-          let one = c.in_ok-read_chunk.ensures.few (ap Ok c.in-More.is) (omega (arith, low, before, grown, some)) in
-          omega (arith, one, before, grown, some);
-      same = record {
-        same_source = c.read_chunk.ensures.costs.same_source ∙ c.loop-chunk.invariant.same.same_source;
-        same_buffer = c.read_chunk.ensures.costs.same_buffer ∙ c.loop-chunk.invariant.same.same_buffer;
-      };
-      unfailed =
-          c.in_ok-read_chunk.ensures.costs.costs.unfailed (λ e. ok-not-err _ _ e) ∙ c.loop-chunk.invariant.unfailed;
-    }
+loop-chunk-preserved g c = search (rules, arith, length-append, taken_more, ok-not-err)
 
 pub returns-in-Last-clause-found : goal.returns-in-Last-clause-found
 returns-in-Last-clause-found g c =

@@ -1,4 +1,4 @@
-use Rattle.std.proofs.Common.{◌∙◌, sym, subst, arith, take}
+use Rattle.std.proofs.Common.{◌∙◌, sym, subst, arith, take, rules}
 use Rattle.std.proofs.lemmas.Result.{err_from_is_err_and}
 use Rattle.http_wire.specs.Inputs.{input_of}
 use Rattle.http_wire.specs.Inner.SizeLines.{StandsAt}
@@ -7,8 +7,7 @@ use Rattle.http_wire.proofs.Bodies.LineReadLemmas.{bounded, front_stands, front_
 use Rattle.http_wire.proofs.chunked.read_line.Goals as goal
 
 pub line_step-requires : goal.line_step-requires
-line_step-requires g c =
-    bounded (take c.loop-at.at c.loop-at.input.buffer.now) c.loop-at.state c.loop-at.invariant.stands
+line_step-requires g c = search (rules, arith, bounded)
 
 pub returns-in_err-byte-clause-found : goal.returns-in_err-byte-clause-found
 returns-in_err-byte-clause-found g c =

@@ -1,18 +1,11 @@
-use Rattle.std.proofs.Common.{◌≡◌, ◌∙◌, sym, ap, arith, refl, ◌++◌, ◌∷◌, [], take, drop, inl, inr}
+use Rattle.std.proofs.Common.{◌≡◌, ◌∙◌, sym, ap, arith, refl, ◌++◌, ◌∷◌, [], take, drop, inr}
 use Rattle.std.proofs.lemmas.List.{take-append-drop}
 use Rattle.std.proofs.lemmas.Result.{err_from_is_err_and}
 use Rattle.http_wire.specs.Inputs.{input_of}
 use Rattle.http_wire.proofs.GaveLemmas.{gave_as, gave_both}
-use Rattle.http_wire.proofs.Bodies.LineReadLemmas.{front_kept, front_next, never_first, never_second, end_broken}
+use Rattle.http_wire.proofs.Bodies.LineReadLemmas.{front_kept, front_next, never_second, end_broken}
 use Rattle.http_wire.proofs.Bodies.LineReadLemmas.{end_cut}
 use Rattle.http_wire.proofs.chunked.read_line_end.Goals as goal
-
-pub returns-then-first-ne13-clause-found : goal.returns-then-first-ne13-clause-found
-returns-then-first-ne13-clause-found g c =
-    let text = c.byte.new.self.buffer.now in
-    let next = front_next text 0 c.in-Some.first (rw c.in-Some.is at c.in_ok-first.ensures.there) in
-    end_broken _ _ text [] 0 c.in-Some.first c.byte.ensures.gave next (inl refl)
-    (never_first c.in-Some.first c.if-first-ne13.true)
 
 pub returns-in_default-2-clause-found : goal.returns-in_default-2-clause-found
 returns-in_default-2-clause-found g c =

@@ -1,4 +1,4 @@
-use Rattle.std.proofs.Common.{◌≡◌, ◌∙◌, sym, ap, true, false}
+use Rattle.std.proofs.Common.{◌≡◌, ◌∙◌, sym, ap, true, false, arith, rules}
 use Rattle.std.specs.Prelude.{codes, ◌||◌}
 use Rattle.httparse.specs.Spans.{header_bytes}
 use Rattle.http_wire.specs.Fields.{same_word, lists_close}
@@ -23,8 +23,4 @@ returns-else-found c = λ fields so_far.
     ∙ ap (λ b. b || (lists_close f.1 || false)) (sym found) ∙ close-same fields f c.args.found same so_far
 
 pub returns-else-is_same_word : goal.returns-else-is_same_word
-returns-else-is_same_word c = λ fields so_far.
-    let f = header_bytes c.args.head.now c.args.header in
-    let differs : same_word f.0 (codes "connection") ≡ false =
-    ap (λ t. same_word t (codes "connection")) (sym c.of.ensures) ∙ sym c.if-is_same_word.ensures in
-    close-differs fields f c.args.found differs so_far
+returns-else-is_same_word c = search (rules, arith, close-differs)

@@ -1,4 +1,4 @@
-use Rattle.std.proofs.Common.{◌≡◌, ◌∙◌, sym, ap, subst, ◌++◌, ◌∷◌, [], true, false}
+use Rattle.std.proofs.Common.{◌≡◌, ◌∙◌, sym, ap, subst, ◌++◌, ◌∷◌, [], true, arith, rules}
 use Rattle.httparse.specs.Spans.{header_bytes}
 use Rattle.http_wire.specs.Fields.{same_word, values_of}
 use Rattle.http_wire.specs.Inner.FieldReading.{IsOccurrence}
@@ -16,9 +16,4 @@ returns-then-is_same_word c = λ fields held.
     (sym (values_of-same name fields f same ∙ value)) (c.one_more.ensures (values_of name fields) held)
 
 pub returns-else-is_same_word : goal.returns-else-is_same_word
-returns-else-is_same_word c = λ fields held.
-    let f = header_bytes c.args.head.now c.args.header in
-    let name = c.args.name.now in
-    let differs : same_word f.0 name ≡ false =
-    ap (λ t. same_word t name) (sym c.of.ensures) ∙ sym c.if-is_same_word.ensures in
-    subst (λ values. IsOccurrence values c.args.found) (sym (values_of-differs name fields f differs)) held
+returns-else-is_same_word c = search (rules, arith, values_of-differs)

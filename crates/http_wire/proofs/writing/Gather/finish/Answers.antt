@@ -1,13 +1,8 @@
 use Rattle.std.proofs.Common.{◌∙◌, sym, ap, subst, ◌++◌}
 use Rattle.http_wire.specs.Writing.{Wrote}
 use Rattle.http_wire.specs.Inner.Gathering.{Held}
-use Rattle.http_wire.proofs.GatherLemmas.{end_failed, write_held}
+use Rattle.http_wire.proofs.GatherLemmas.{write_held}
 use Rattle.http_wire.proofs.writing.Gather.finish.Goals as goal
-
-pub returns-then-self-clause-wrote : goal.returns-then-self-clause-wrote
-returns-then-self-clause-wrote g c = λ start before held.
-    let failed = sym (ap (λ (h : Held). h.failed) c.self.view_is) ∙ c.if-self.true in
-    end_failed start _ c.args.self before c.args.body.now (record {}) failed held
 
 pub returns-clause-wrote : goal.returns-clause-wrote
 returns-clause-wrote g c = λ start before held.

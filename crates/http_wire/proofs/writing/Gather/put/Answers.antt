@@ -1,21 +1,8 @@
 use Rattle.std.proofs.Common.{◌∙◌, sym, ap, subst, ◌++◌}
 use Rattle.http_wire.specs.Writing.{Wrote}
 use Rattle.http_wire.specs.Inner.Gathering.{Held}
-use Rattle.http_wire.proofs.GatherLemmas.{put_failed, put_held, write_held, gathered_after, given_ok, given_err}
+use Rattle.http_wire.proofs.GatherLemmas.{write_held, gathered_after, given_err}
 use Rattle.http_wire.proofs.writing.Gather.put.Goals as goal
-
-pub returns-then-self : goal.returns-then-self
-returns-then-self g c = λ start before held.
-    let failed = sym (ap (λ (h : Held). h.failed) c.self.view_is) ∙ c.if-self.true in
-    put_failed start _ c.args.self.now before c.args.text.now failed held
-
-pub returns-then-is_ok : goal.returns-then-is_ok
-returns-then-is_ok g c = λ start before held.
-    let failed = sym (ap (λ (h : Held). h.failed) c.self.view_is) ∙ c.if-self.false in
-    let bytes = ap (λ (h : Held). h.bytes) c.self.view_is in
-    let added = given_ok _ (sym c.is_ok.ensures.value ∙ c.if-is_ok.true) c.try_extend_from_slice.ensures.ok in
-    put_held start _ c.args.self.now before c.args.text.now _ _ failed c.if-self.false
-    (added ∙ ap (λ t. t ++ c.args.text.now) bytes) held
 
 pub returns : goal.returns
 returns g c = λ start before held.
