@@ -25,8 +25,9 @@ CRATES = upload_names upload_bytes upload_service http_wire upload_texts upload_
 SOURCES := crates.txt $(shell find $(foreach crate,$(CRATES),$(foreach part,src specs proofs,crates/$(crate)/$(part))) -type f 2>/dev/null)
 
 # Bodies and blobs are long lists of bytes. If glibc asks the system for huge pages, fresh memory costs them a third, and if
-# it has each block of 1 MiB and more from the system, chunks leave no gaps between them.
-MALLOC = GLIBC_TUNABLES=glibc.malloc.hugetlb=1:glibc.malloc.mmap_threshold=1048576
+# it has each block of 1 MiB and more from the system, chunks leave no gaps between them. With one heap for all threads, what
+# is free in it is free for each.
+MALLOC = GLIBC_TUNABLES=glibc.malloc.hugetlb=1:glibc.malloc.mmap_threshold=1048576:glibc.malloc.arena_max=1
 
 .PHONY: help try once serve run upload registry build native image dist test edits wrong-bodies check format figures fuzz soak long large growths bench
 # A build that fails leaves no program behind that looks newer than its sources.

@@ -45,6 +45,9 @@ KNOWN_MISTAKE = re.compile(r"^\| ((?:`\w+`(?:, )?)+) \| `(\w+)` \|", re.MULTILIN
 USING = "docs/USING.md"
 SHOWN = re.compile(r"crates/embed_\w+/(src/\w+\.rt|specs/(?!Lib\.)\w+\.antt)")
 
+# Settings of the C library's memory. A record of figures has those that they were measured with.
+TUNED = re.compile(r"glibc\.malloc\.hugetlb=[\w.:=]+")
+
 # Functions of which no clause says anything, since none can speak of another thread. Tests stand for them.
 NO_CLAUSE = {
     "upload_bytes": {"HashEnd::wait"},
@@ -389,6 +392,18 @@ def unlike_copies(paths):
     return [f"{path} isn't {copies[0]}" for path in copies[1:] if text_of(path) != text_of(copies[0])]
 
 
+def untuned(paths):
+    """Places that set the C library's memory otherwise than `make serve` does."""
+    wanted = TUNED.search(text_of("Makefile")).group()
+    return [
+        f"{path}: {said} in place of {wanted}"
+        for path in paths
+        if not path.endswith((".json", "CHANGELOG.md"))
+        for said in TUNED.findall(text_of(path))
+        if said != wanted
+    ]
+
+
 CHECKS = [
     ("no hole in a proof", holes),
     ("each definition and each lemma is named", unnamed),
@@ -409,6 +424,7 @@ CHECKS = [
     ("the page on using the crates shows its programs as they are", unshown),
     ("the stored connections are what the tests of disturbed streams take", disturbed),
     ("the assertions of tests are the same in each crate", unlike_copies),
+    ("the C library's memory is set the same everywhere", untuned),
 ]
 
 

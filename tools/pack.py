@@ -24,6 +24,7 @@ PROGRAM = "crates/blobd/out/blobd"
 PAGES = ["README.md", "CHANGELOG.md", "CONTRIBUTING.md", "LICENSE", "VERSION"]
 LIBRARY = re.compile(r"(/\S+) \(0x")
 ADDRESS = "0.0.0.0:5001"
+MALLOC = "glibc.malloc.hugetlb=1:glibc.malloc.mmap_threshold=1048576:glibc.malloc.arena_max=1"
 
 
 def version():
@@ -86,7 +87,7 @@ def image():
     settings = {
         "Entrypoint": ["/usr/local/bin/blobd"],
         "Cmd": ["serve", ADDRESS],
-        "Env": ["GLIBC_TUNABLES=glibc.malloc.hugetlb=1:glibc.malloc.mmap_threshold=1048576", "BLOBD_WORKERS=16"],
+        "Env": [f"GLIBC_TUNABLES={MALLOC}", "BLOBD_WORKERS=16"],
         "ExposedPorts": {f"{ADDRESS.rpartition(':')[2]}/tcp": {}},
         "User": "65534:65534",
         "Labels": labels,
