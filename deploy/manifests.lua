@@ -18,6 +18,8 @@
 --   untag(name, tag): whether it was there
 --   tags(name, last, most), repositories(last, most): a list in order, and whether more follow; nil if the repository
 --     has no manifest
+--   any(name): the digest of a manifest of the repository, or nil
+--   fault(): why it can't do its work now, or nil; and `name`, which /health calls it by
 -- A record has the text (`body`), its `length`, its media type, the digests of the blobs and manifests that it names
 -- (if at hand: else its text has them), how much is below it (`below`), the bytes that it takes (`size`), and which put
 -- it came with (`stamp`).
@@ -29,6 +31,8 @@ local MIB = 1048576
 local BLOBS = "http://" .. os.getenv("FRONT_LOCAL")
 local FOLDER = os.getenv("FRONT_LUA"):match("^.*/") or ""
 local KEPT_IN = os.getenv("FRONT_REDIS") and "manifests_in_redis.lua" or "manifests_in_memory.lua"
+-- seconds in which /health tells of a fault
+local TOLD = tonumber(os.getenv("FRONT_TOLD"))
 -- bytes of all manifests and tags
 local store = dofile(FOLDER .. KEPT_IN)(tonumber(os.getenv("FRONT_HELD")) * MIB)
 
@@ -56,9 +60,9 @@ local MARKS = "blobd-marks"
 local DIGITS = {sha256 = 64, sha512 = 128}
 local BITS = {sha256 = 256, sha512 = 512}
 
--- Ends the request with a refusal.
-local function refuse(status, code, message, fields)
-  error({status = status, code = code, message = message, fields = fields}, 0)
+-- Ends the request with a refusal. A fault is one of what keeps the manifests, and /health tells it.
+local function refuse(status, code, message, fields, fault)
+  error({status = status, code = code, message = message, fields = fields, fault = fault}, 0)
 end
 
 local function answer(applet, status, fields, body, length)
@@ -349,7 +353,9 @@ local function put(applet, name, reference, algorithm)
   if done == "unknown" then
     refuse(404, "MANIFEST_BLOB_UNKNOWN", "the repository doesn't have all that the manifest names")
   end
-  if done == "full" then refuse(503, "UNAVAILABLE", "there is no room for more manifests (FRONT_HELD)") end
+  if done == "full" then
+    refuse(503, "UNAVAILABLE", "there is no room for more manifests (FRONT_HELD)", nil, "full (FRONT_HELD)")
+  end
   if mark then remember("manifest " .. name .. "@" .. digest, mark) end
   answer(applet, 201, {Location = "/v2/" .. name .. "/manifests/" .. digest, ["Docker-Content-Digest"] = digest}, "")
 end
@@ -430,6 +436,9 @@ local function serve(applet)
   work(applet, name, reference, algorithm)
 end
 
+-- The last fault of what keeps the manifests, and its second.
+local last_fault, faulted = nil, 0
+
 core.register_service("manifests", "http", function(applet)
   local done, refusal = pcall(serve, applet)
   if done then return end
@@ -437,7 +446,12 @@ core.register_service("manifests", "http", function(applet)
     core.log(core.err, "manifests.lua: " .. tostring(refusal))
     refusal = {status = 500, code = "UNAVAILABLE", message = "the reverse proxy failed: its log says more"}
   end
+  if refusal.fault then last_fault, faulted = refusal.fault, core.now().sec end
   local fields = refusal.fields or {}
   fields["Content-Type"] = "application/json"
   answer(applet, refusal.status, fields, json.encode({errors = {{code = refusal.code, message = refusal.message}}}))
+end)
+
+dofile(FOLDER .. "health.lua")(store, function()
+  if core.now().sec - faulted < TOLD then return ("failed within the last %d s: %s"):format(TOLD, last_fault) end
 end)

@@ -144,6 +144,11 @@ return function(most_held)
     if repository then return page(repository.tags, last, most) end
   end)
 
+  store.any = function(name) return repositories[name] and next(repositories[name].records) end
+
+  store.name = "manifests"
+  store.fault = function() end
+
   store.repositories = at_once(function(last, most) return page(names, last, most) end)
 
   return store

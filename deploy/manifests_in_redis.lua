@@ -110,8 +110,9 @@ local REPOSITORIES = [[return redis.call("ZRANGEBYLEX", "repositories", ARGV[1],
 
 -- A refusal of Redis, or the end of its connection: manifests.lua answers 503.
 local function fail(told)
-  core.log(core.err, "redis: " .. tostring(told))
-  error({status = 503, code = "UNAVAILABLE", message = "the manifests can't be read or written"}, 0)
+  told = tostring(told)
+  core.log(core.err, "redis: " .. told)
+  error({status = 503, code = "UNAVAILABLE", message = "the manifests can't be read or written", fault = told}, 0)
 end
 
 -- Redis's form of a command: a list of texts, each with its length.
@@ -216,6 +217,14 @@ return function(most_held)
     end,
     drop = function(name, digest, stamp) return run(DROP, name, digest, stamp or "", OVERHEAD) == 1 end,
     untag = function(name, tag) return run(UNTAG, name, tag, OVERHEAD) == 1 end,
+    any = function(name)
+      return connected(function(ask) return ask("SRANDMEMBER", "manifests:" .. name) end) or nil
+    end,
+    name = "redis",
+    fault = function()
+      local is_well, refusal = pcall(connected, function(ask) return ask("PING") end)
+      return not is_well and refusal.fault or nil
+    end,
     tags = function(name, last, most)
       return page(last, most, function(from, count) return run(TAGS, name, from, count) end)
     end,
