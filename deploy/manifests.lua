@@ -181,18 +181,24 @@ end
 
 --- Whether what a manifest names is there
 
+-- Values by texts, all of which are forgotten once there would be too many.
+local function new_memory()
+  local values, number = {}, 0
+  return function(what) return values[what] end, function(what, value)
+    if values[what] == nil then
+      if number >= MOST_REMEMBERED then values, number = {}, 0 end
+      number = number + 1
+    end
+    values[what] = value
+  end
+end
+
 -- marks[shard]: the digest of its mark
 local marks = {}
--- remembered[what]: the mark beside which it was found; of a repository its shard
-local remembered, remembers = {}, 0
-
-local function remember(what, value)
-  if remembered[what] == nil then
-    if remembers >= MOST_REMEMBERED then remembered, remembers = {}, 0 end
-    remembers = remembers + 1
-  end
-  remembered[what] = value
-end
+-- of what was found: the mark beside which it was; of a repository its shard
+local remembered, remember = new_memory()
+-- whether a repository lost a manifest with its shard
+local has_lost, loses = new_memory()
 
 -- Whether a blob is there, 200 or 404, else 503; and the shard that says so. `shard` has a number if it is to be asked
 -- of that one, else 0.
@@ -219,29 +225,43 @@ local function new_mark(applet, shard)
   return marks[shard]
 end
 
--- The mark of a repository's shard, which is there now: what was found beside it is there too. Nil if there is none.
-local function mark_of(applet, name)
-  local shard = remembered["shard of " .. name]
+-- The number of a repository's shard. Nil if it doesn't answer.
+local function shard_of(name)
+  local shard = remembered("shard of " .. name)
   if not shard then
     local status, by = ask_for_blob(name, "sha256:" .. ("0"):rep(64), 0)
-    if status == 503 or not by then refuse(503, "UNAVAILABLE", "the shard of this repository does not answer") end
+    if status == 503 or not by then return nil end
     shard = by
     remember("shard of " .. name, shard)
   end
+  return shard
+end
+
+-- Whether a shard answers, and its mark, which is there now: what was found beside it is there too. Nil if there is
+-- none.
+local function mark_at(applet, shard)
   local mark = marks[shard]
-  if not mark then return new_mark(applet, shard) end
+  if not mark then return true, new_mark(applet, shard) end
   local status = ask_for_blob(MARKS, mark, shard)
-  if status == 503 then refuse(503, "UNAVAILABLE", "the shard of this repository does not answer") end
-  if status == 200 then return mark end
+  if status == 503 then return false end
+  if status == 200 then return true, mark end
   if marks[shard] == mark then marks[shard] = nil end
-  return marks[shard] or new_mark(applet, shard)
+  return true, marks[shard] or new_mark(applet, shard)
+end
+
+-- The mark of a repository's shard.
+local function mark_of(applet, name)
+  local shard, answers, mark = shard_of(name), false, nil
+  if shard then answers, mark = mark_at(applet, shard) end
+  if not answers then refuse(503, "UNAVAILABLE", "the shard of this repository does not answer") end
+  return mark
 end
 
 -- Whether all of these are there: 200, else 404 or 503.
 local function status_of_blobs(name, digests, mark)
   for _, digest in ipairs(digests) do
     local what = "blob " .. name .. "@" .. digest
-    if not mark or remembered[what] ~= mark then
+    if not mark or remembered(what) ~= mark then
       local status = ask_for_blob(name, digest, 0)
       if status ~= 200 then return status end
       if mark then remember(what, mark) end
@@ -265,7 +285,7 @@ end
 -- The same of a manifest that may be held. One that names what has gone is dropped.
 status_of_manifest = function(name, digest, mark)
   local what = "manifest " .. name .. "@" .. digest
-  if mark and remembered[what] == mark then return 200 end
+  if mark and remembered(what) == mark then return 200 end
   local _, record = store.find(name, digest, true, true)
   if not record then return 404 end
   local blobs, manifests = record.blobs, record.manifests
@@ -275,6 +295,7 @@ status_of_manifest = function(name, digest, mark)
   if status == 404 then
     core.log(core.notice, "dropped, since what it names has gone: " .. name .. "@" .. digest)
     store.drop(name, digest, record.stamp)
+    loses(name, true)
   end
   return status
 end
@@ -360,15 +381,20 @@ local function put(applet, name, reference, algorithm)
   answer(applet, 201, {Location = "/v2/" .. name .. "/manifests/" .. digest, ["Docker-Content-Digest"] = digest}, "")
 end
 
-local function not_there()
-  refuse(404, "MANIFEST_UNKNOWN", "the repository has no such manifest")
+local function not_there(name, code, message)
+  if has_lost(name) then message = message .. ": what it had before a restart was lost with its shard: push it again" end
+  refuse(404, code, message)
+end
+
+local function no_such_manifest(name)
+  not_there(name, "MANIFEST_UNKNOWN", "the repository has no such manifest")
 end
 
 local function get(applet, name, reference, algorithm)
   local digest, record = store.find(name, reference, algorithm ~= nil, applet.method ~= "HEAD")
-  if not digest then not_there() end
+  if not digest then no_such_manifest(name) end
   local status = status_of_manifest(name, digest, mark_of(applet, name))
-  if status == 404 then not_there() end
+  if status == 404 then no_such_manifest(name) end
   if status ~= 200 then refuse(503, "UNAVAILABLE", "the shard of this repository does not answer") end
   answer(applet, 200, {["Content-Type"] = record.type, ["Docker-Content-Digest"] = digest}, record.body, record.length)
 end
@@ -376,7 +402,7 @@ end
 local function delete(applet, name, reference, algorithm)
   local was_there
   if algorithm then was_there = store.drop(name, reference) else was_there = store.untag(name, reference) end
-  if not was_there then not_there() end
+  if not was_there then no_such_manifest(name) end
   answer(applet, 202, {}, "")
 end
 
@@ -388,29 +414,66 @@ local function asked_for(applet)
   return math.floor(math.min(most or LONGEST_LIST, LONGEST_LIST)), last
 end
 
--- A list, with a link to the rest.
-local function answer_list(applet, list, more, most, form)
+-- What of a list is there, with a link to the rest.
+local function answer_list(applet, list, is_there, more, most, form)
   local fields = {["Content-Type"] = "application/json"}
   if more and #list > 0 then
     fields["Link"] = "<" .. applet.path .. "?n=" .. most .. "&last=" .. list[#list] .. '>; rel="next"'
   end
   local texts = {}
   -- no name and no tag has a character that JSON escapes
-  for at, text in ipairs(list) do texts[at] = '"' .. text .. '"' end
+  for _, text in ipairs(list) do
+    if is_there(text) then texts[#texts + 1] = '"' .. text .. '"' end
+  end
   answer(applet, 200, fields, form:format("[" .. table.concat(texts, ",") .. "]"))
+end
+
+-- What tells whether a repository's shard answers, and its mark. Each shard is asked once.
+local function marks_now(applet)
+  local told, is_one_away = {}, false
+  return function(name)
+    if is_one_away and not remembered("shard of " .. name) then return false end
+    local shard = shard_of(name)
+    if not shard then
+      is_one_away = true
+      return false
+    end
+    told[shard] = told[shard] or {mark_at(applet, shard)}
+    return table.unpack(told[shard], 1, 2)
+  end
+end
+
+-- Whether a repository has a manifest. What was lost with its shard is dropped; if the shard doesn't answer, what there
+-- was is taken to be there.
+local function has_manifest(name, answers, mark)
+  local digest, before
+  repeat
+    digest, before = store.any(name), digest
+    if not digest then return false end
+  until not answers or digest == before or status_of_manifest(name, digest, mark) ~= 404
+  return true
 end
 
 local function list_tags(applet, name)
   local most, last = asked_for(applet)
+  local answers, mark = marks_now(applet)(name)
   local tags, more = store.tags(name, last, most)
-  if not tags then refuse(404, "NAME_UNKNOWN", "the repository has no manifest") end
-  answer_list(applet, tags, more, most, '{"name":"' .. name .. '","tags":%s}')
+  if not tags or not has_manifest(name, answers, mark) then
+    not_there(name, "NAME_UNKNOWN", "the repository has no manifest")
+  end
+  local function is_there(tag)
+    local digest = store.find(name, tag, false)
+    return digest and not (answers and status_of_manifest(name, digest, mark) == 404)
+  end
+  answer_list(applet, tags, is_there, more, most, '{"name":"' .. name .. '","tags":%s}')
 end
 
 local function list_repositories(applet)
   local most, last = asked_for(applet)
   local names, more = store.repositories(last, most)
-  answer_list(applet, names, more, most, '{"repositories":%s}')
+  local mark_now = marks_now(applet)
+  local function is_there(name) return has_manifest(name, mark_now(name)) end
+  answer_list(applet, names, is_there, more, most, '{"repositories":%s}')
 end
 
 local METHODS = {GET = get, HEAD = get, PUT = put, DELETE = delete}
