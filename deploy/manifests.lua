@@ -382,7 +382,9 @@ local function put(applet, name, reference, algorithm)
 end
 
 local function not_there(name, code, message)
-  if has_lost(name) then message = message .. ": what it had before a restart was lost with its shard: push it again" end
+  if has_lost(name) then
+    message = message .. ": what it had before a restart was lost with its shard: push it again"
+  end
   refuse(404, code, message)
 end
 

@@ -37,13 +37,24 @@ def contents(path):
         return file.read()
 
 
+def folders_of(names):
+    """The folders that these names are in, and those that these are in."""
+    return {name[:at] for name in names for at, letter in enumerate(name) if letter == "/"}
+
+
 def tar_of(files):
-    """A tar of these names, each with its bytes and its mode. It says nothing of who made it or when."""
+    """A tar of these names, each with its bytes and its mode, and of their folders: who unpacks it may give others no
+    way into a folder that isn't listed. It says nothing of who made it or when."""
     made = io.BytesIO()
     with tarfile.open(fileobj=made, mode="w", format=tarfile.USTAR_FORMAT) as tar:
-        for name, (data, mode) in sorted(files.items()):
+        for name in sorted(folders_of(files) | set(files)):
             entry = tarfile.TarInfo(name)
-            entry.size, entry.mode = len(data), mode
+            data = b""
+            if name in files:
+                data, entry.mode = files[name]
+            else:
+                entry.type, entry.mode = tarfile.DIRTYPE, 0o755
+            entry.size = len(data)
             tar.addfile(entry, io.BytesIO(data))
     return made.getvalue()
 
