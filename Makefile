@@ -10,6 +10,11 @@ FILE = README.md
 ARGS =
 # how long `make edits` may begin another edit; none: until all are tried
 MINUTES =
+# the registry of `make adapter`, a file with USER:PASSWORD, a file with what signs its certificate, and where it listens
+REGISTRY =
+LOGIN =
+CA =
+ADAPTER = 127.0.0.1:5090
 
 # The proved program for every x86-64 processor, and the same program for those of the level x86-64-v3, which hashes faster (docs/PERFORMANCE.md).
 EVERY = crates/blobd/out/blobd
@@ -29,7 +34,7 @@ SOURCES := crates.txt $(shell find $(foreach crate,$(CRATES),$(foreach part,src 
 # is free in it is free for each.
 MALLOC = GLIBC_TUNABLES=glibc.malloc.hugetlb=1:glibc.malloc.mmap_threshold=1048576:glibc.malloc.arena_max=1
 
-.PHONY: help try once serve run upload registry build native image dist test edits wrong-bodies check format figures fuzz soak long large growths bench
+.PHONY: help try once serve run upload registry adapter build native image dist test edits wrong-bodies check format figures fuzz soak long large growths bench
 # A build that fails leaves no program behind that looks newer than its sources.
 .DELETE_ON_ERROR:
 
@@ -41,6 +46,7 @@ help:
 	@echo 'make registry a registry to push images to: TLS and a login, with HAProxy before the service (docs/OPERATIONS.md)'
 	@echo '              once, serve and registry prove and build the program if its sources are newer: 15 to 40 minutes from nothing on'
 	@echo '              four cores, a few minutes after a change. Else they start at once'
+	@echo 'make adapter REGISTRY=host:5443 LOGIN=FILE CA=FILE   lets blobd push to a registry on another machine, with TLS and a login'
 	@echo 'make run ARGS="push .."  the program as it was last built, with these words: it never proves'
 	@echo
 	@echo 'make build    the proved program for every x86-64 processor: $(EVERY)'
@@ -106,6 +112,10 @@ registry:
 	@python3 deploy/registry.py --packages
 	@$(MAKE) -s $(PROGRAM)
 	@python3 deploy/registry.py $(PROGRAM)
+
+adapter:
+	@test -n '$(REGISTRY)' || { echo 'usage: make adapter REGISTRY=host:5443 [LOGIN=FILE] [CA=FILE] [ADAPTER=$(ADAPTER)]' >&2; exit 2; }
+	@python3 deploy/adapter.py '$(REGISTRY)' --login='$(LOGIN)' --ca='$(CA)' --at='$(ADAPTER)'
 
 image: $(EVERY)
 	@python3 tools/pack.py image

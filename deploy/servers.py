@@ -5,6 +5,7 @@ program that started it is killed.
 """
 import ctypes
 import glob
+import ipaddress
 import os
 import shutil
 import signal
@@ -46,6 +47,14 @@ def place(address):
     """The host and the port of an address. That of an IPv6 one has brackets."""
     host, port = address.rsplit(":", 1)
     return host.strip("[]"), int(port)
+
+
+def is_address(host):
+    try:
+        ipaddress.ip_address(host)
+    except ValueError:
+        return False
+    return True
 
 
 def leave_with_parent():
@@ -253,14 +262,23 @@ class Nginx(Service):
 
 
 class Adapter(Service):
-    """Lets `blobd push` push to another registry."""
+    """Lets `blobd push` push to another registry: over TLS if it is given certificates that sign the registry's, and
+    with a login, USER:PASSWORD, if it is given one."""
 
-    def __init__(self, folder, to):
-        self.address = free_address()
+    def __init__(self, folder, to, certificates=None, login=None, address=None):
+        self.address = address or free_address()
         states = os.path.join(folder, "states.map")
         with open(states, "w", encoding="ascii"):
             pass
         settings = {"ADAPTER": self.address, "ADAPTER_TO": to, "ADAPTER_MAP": states}
+        if certificates:
+            settings["ADAPTER_CA"] = certificates
+            host = place(to)[0].strip("[]")
+            # HAProxy finds no address in a certificate: who gives one has to be content with who signed it
+            if not is_address(host):
+                settings["ADAPTER_NAME"] = host
+        if login:
+            settings["ADAPTER_LOGIN"] = login
         words = [program("haproxy"), "-f", os.path.join(HERE, "adapter.cfg")]
         super().__init__("adapter", folder, words, [self.address], settings)
 

@@ -53,8 +53,8 @@ def a_full_shard_is_told(folder):
         equal("it is full", health(proxy), (503, ["shard1: full", "manifests: well"]))
         check("the log has it", becomes(True, lambda: " 503 " in text_of(proxy.log)), text_of(proxy.log))
         for what in (
-            "backend_http_responses_total{proxy=\"shards\"",
-            "frontend_http_responses_total{proxy=\"registry\"",
+            'backend_http_responses_total{proxy="shards"',
+            'frontend_http_responses_total{proxy="registry"',
         ):
             line = f'haproxy_{what},code="5xx"}} 1\n'.encode()
             check(f"{what} moves", line in Client(proxy.status).ask("GET", "/metrics").body)
