@@ -39,7 +39,7 @@ MALLOC = GLIBC_TUNABLES=glibc.malloc.hugetlb=1:glibc.malloc.mmap_threshold=10485
 .DELETE_ON_ERROR:
 
 help:
-	@echo 'make try      a whole upload over one connection, interpreted and unproved: each request beside its reply, in a minute or two'
+	@echo 'make try      a whole upload over one connection, by an interpreter and without proof: each request beside its reply, in a minute or two'
 	@echo 'make once     the same by the proved program, `blobd once`'
 	@echo 'make serve    the service at $(ADDR), until it is interrupted (ADDR=.. another address, WORKERS=.. connections at a time, COUNT=.. so many of each worker)'
 	@echo 'make upload   pushes $(FILE) to that service (FILE=.. another file), pulls it back and compares; in another shell'
@@ -54,7 +54,8 @@ help:
 	@echo 'make image    a container image of the built program, under dist/ (no base image is pulled)'
 	@echo 'make dist     a tar under dist/: the program in both forms, deploy/, the pages, the license, and the sums of all'
 	@echo
-	@echo 'make test     everything that must hold: proofs from nothing, must-fail edits, tests, the checks of the repository; an hour or two'
+	@echo 'make test     everything that must hold: proofs from nothing, must-fail edits (wrong programs, which the prover must refuse), tests,'
+	@echo '              the checks of the repository; an hour or two'
 	@echo 'make check    proves what changed since the last check; make test is the judge'
 	@echo 'make edits    the further must-fail edits, which make test leaves out: an hour or two (MINUTES=30 some of them, by turns)'
 	@echo 'make wrong-bodies  a table of all must-fail edits: what each does wrong, and which contracts refuse it'
