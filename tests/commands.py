@@ -119,7 +119,7 @@ def packed(folder, what, program):
 
 
 def files_of(tar):
-    return {entry.name: tar.extractfile(entry).read() for entry in tar}
+    return {entry.name: tar.extractfile(entry).read() for entry in tar if entry.isfile()}
 
 
 def unpacked(folder, what, program):

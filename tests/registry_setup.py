@@ -118,7 +118,7 @@ def settings(path, wanted):
         return [line.strip().partition("=")[2] for line in file if line.startswith(wanted + "=")]
 
 words = [word for word in sys.argv[1:] if not word.startswith("-")]
-if words[0] == "daemon-reload":
+if words[0] in ("daemon-reload", "disable"):
     sys.exit()
 name, at, instance = words[1].partition("@")
 places = (f"/{top}/systemd/system/{name}{at}.service" for top in ("etc", "lib"))
@@ -151,7 +151,7 @@ from harness import registry
 import servers
 for address in ("127.0.0.1:5001", "127.0.0.1:6380", "127.0.0.1:5443"):
     servers.wait_for(address)
-client = registry.Client("127.0.0.1:5443", ("alice", "SECRET"), "/set-up/ca/front.crt")
+client = registry.Client("127.0.0.1:5443", ("alice", "SECRET"), "/etc/blobd/front.crt")
 pushed = registry.push_image(client, "lib/set-up")
 print(pushed, client.ask("GET", "/v2/lib/set-up/manifests/one").status, client.ask("GET", "/v2/_catalog").body)
 """
@@ -179,7 +179,6 @@ def the_set_up_works(folder):
     out = os.path.join(work, "crates", "blobd", "out")
     for path in (root, os.path.join(work, "bin"), out):
         os.makedirs(path)
-    servers.certificate(work)
     shutil.copy(OPTIONS.program, os.path.join(out, "blobd"))
     os.symlink(os.path.join(TOP, "deploy"), os.path.join(work, "deploy"))
     for name, interpreter, text in (("systemctl", sys.executable, SYSTEMCTL), ("apt-get", "/bin/sh", APT_GET)):
@@ -195,7 +194,7 @@ def the_set_up_works(folder):
     settings = {"ROOT": root, "TOP": TOP, "WORK": work, "PYTHON": sys.executable, "UP": UP}
     ran = told_by([*UNSHARED, script], env=settings)
     expected = f"{IMAGE_PUSHED} 200 " + 'b\'{"repositories":["lib/set-up"]}\''
-    check("the lines of docs/OPERATIONS.md make a registry", ran[0] == 0 and ran[1].strip().endswith(expected), ran)
+    check("the lines of docs/OPERATIONS.md make a registry", ran[0] == 0 and expected in ran[1], ran)
 
 
 if __name__ == "__main__":
