@@ -248,8 +248,8 @@ class Nginx(Service):
             "access_log /var/log/nginx/access.log;": f"access_log access.log; {places}",
             "server 127.0.0.1:5080;": f"server {front.plain};",
             "listen 443 ssl http2;": f"listen {self.tls} ssl http2;",
-            "/etc/blobd/front.crt": os.path.join(folder, "ca", "front.crt"),
-            "/etc/blobd/front.key": os.path.join(folder, "front.key"),
+            "ssl_certificate /etc/blobd/front.pem;": f"ssl_certificate {folder}/front.pem;",
+            "ssl_certificate_key /etc/blobd/front.pem;": f"ssl_certificate_key {folder}/front.pem;",
         }
         for old, new in changes.items():
             if settings.count(old) != 1:
