@@ -36,8 +36,9 @@ def lacks_packages():
     return bool(absent)
 
 
-def greeting(binary, folder, password, local):
-    """What is printed once it serves: lines that work as they stand, without a network, and HAProxy's local address."""
+def greeting(binary, folder, password, proxy):
+    """What is printed once it serves: lines that work as they stand, without a network, and HAProxy's addresses for
+    tools of this machine and for its health."""
     certificates, image, back = (os.path.join(folder, name) for name in ("ca", "image", "back"))
     there = f"docker://{TLS}/lib/hello:latest"
     lines = [
@@ -56,8 +57,9 @@ def greeting(binary, folder, password, local):
     if servers.missing("skopeo"):
         lines += ["(skopeo isn't installed: apt-get install skopeo)"]
     lines += [
-        f"Tools of this machine reach it without TLS and without a login at http://{local}, such as: "
-        f"{binary} push {local} lib/file FILE",
+        f"Tools of this machine reach it without TLS and without a login at http://{proxy.local}, such as: "
+        f"{binary} push {proxy.local} lib/file FILE",
+        f"How each part is: curl http://{proxy.status}/health",
         f"Docker and Podman push and pull too (docs/OPERATIONS.md). Requests are logged in {folder}/haproxy.log",
     ]
     return "\n".join(lines)
@@ -71,7 +73,7 @@ def serve(binary, folder):
     servers.logins(folder, {USER: password})
     shard = servers.blobd(binary, folder, BLOBD, workers=WORKERS)
     with shard as store, servers.HAProxy(folder, [BLOBD], TLS, workers=WORKERS) as proxy:
-        print(greeting(binary, folder, password, proxy.local), flush=True)
+        print(greeting(binary, folder, password, proxy), flush=True)
         while not (store.ended() or proxy.ended()):
             time.sleep(0.5)
         ended = store if store.ended() else proxy
