@@ -223,7 +223,7 @@ return function(most_held)
     name = "redis",
     fault = function()
       local is_well, refusal = pcall(connected, function(ask) return ask("PING") end)
-      return not is_well and refusal.fault or nil
+      if not is_well then return type(refusal) == "table" and refusal.fault or tostring(refusal) end
     end,
     tags = function(name, last, most)
       return page(last, most, function(from, count) return run(TAGS, name, from, count) end)

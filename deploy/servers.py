@@ -273,7 +273,7 @@ class Adapter(Service):
         settings = {"ADAPTER": self.address, "ADAPTER_TO": to, "ADAPTER_MAP": states}
         if certificates:
             settings["ADAPTER_CA"] = certificates
-            host = place(to)[0].strip("[]")
+            host = place(to)[0]
             # HAProxy finds no address in a certificate: who gives one has to be content with who signed it
             if not is_address(host):
                 settings["ADAPTER_NAME"] = host
