@@ -7,11 +7,13 @@ and settings that HAProxy has nothing to say of.
 import contextlib
 import io
 import os
+import sys
 import tarfile
 from unittest import mock
 
+from harness import TOP
 from harness.registry import LOGIN, PROXY, servers
-from harness.running import told_by
+from harness.running import finished, told_by
 from harness.suite import case, check, equal, main
 import conversation
 import pack
@@ -27,6 +29,15 @@ def what_takes_its_time_says_so():
                 equal(" ".join(command), conversation.answered(command, nothing), (b"", b"", 0))
             lines = told.getvalue().splitlines()
             check(f"{command[0]} is told", bool(lines) == (command[0] == "sleep"), lines)
+
+
+@case()
+def the_adapter_wants_a_registry():
+    told = finished(["make", "--no-print-directory", "adapter"], cwd=TOP)
+    check("make adapter", told.returncode == 2 and told.stderr.startswith("usage: make adapter REGISTRY="), told)
+    words = [sys.executable, os.path.join(TOP, "deploy", "adapter.py"), "registry.example"]
+    told = finished(words)
+    check("a registry without a port", told.returncode == 2 and "HOST:PORT" in told.stderr, told)
 
 
 @case()

@@ -63,6 +63,24 @@ def a_full_shard_is_told(folder):
 
 
 @case(*PROXY)
+def uploads_that_were_left_are_told(folder):
+    """A table may be full of uploads whose clients went away."""
+    servers.certificate(folder)
+    servers.logins(folder, {})
+    refused = REFUSED.replace(b"503 Service Unavailable", b"429 Too Many Requests")
+
+    def refuse(connection):
+        if connection.recv(65536):
+            connection.sendall(refused)
+        connection.close()
+
+    with Listener(refuse) as shard, servers.HAProxy(folder, [shard.addr]) as proxy:
+        told = Client(proxy.local).ask("POST", UPLOADS)
+        is_refused("an opening", told, 429, "TOOMANYREQUESTS", "its client left")
+        equal("it isn't full of bytes", health(proxy)[0], 200)
+
+
+@case(*PROXY)
 def a_shard_that_says_nothing_is_counted(folder):
     """One that ends in the middle of a body has no status that could be counted: the errors have it."""
     servers.certificate(folder)

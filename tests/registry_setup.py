@@ -79,6 +79,8 @@ def the_newcomers_registry():
         local = [line.split("http://")[1].split(",")[0] for line in lines if "without a login" in line]
         statuses = [Client(address).ask("GET", "/v2/").status for address in local]
         check("its local address asks for no login", statuses == [200], lines)
+        told_of = [line.split("http://")[1].removesuffix("/health") for line in lines if line.endswith("/health")]
+        equal("its health is told", [Client(address).ask("GET", "/health").status for address in told_of], [200])
         if not lacks("the registry's lines", "skopeo"):
             for line in told:
                 ran = told_by(["sh", "-c", line], env={"REGISTRY_AUTH_FILE": os.path.join(folder, "auth.json")})
