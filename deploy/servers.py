@@ -18,9 +18,7 @@ HERE = os.path.dirname(os.path.abspath(__file__))
 PATH = os.environ.get("PATH", "") + os.pathsep + "/usr/sbin" + os.pathsep + "/sbin"
 # What `make serve` sets too: large blobs lie in huge pages, each large block is the system's own, and all threads have
 # one heap.
-MALLOC = {
-    "GLIBC_TUNABLES": "glibc.malloc.hugetlb=1:glibc.malloc.mmap_threshold=1048576:glibc.malloc.arena_max=1"
-}
+MALLOC = {"GLIBC_TUNABLES": "glibc.malloc.hugetlb=1:glibc.malloc.mmap_threshold=1048576:glibc.malloc.arena_max=1"}
 PATIENCE = 60
 DIES_WITH_PARENT = 1
 
