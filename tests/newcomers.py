@@ -1,6 +1,6 @@
 #!/usr/bin/env python3
-"""What somebody meets who tries it for the first time: commands that say that they work, an image that anybody may read,
-and settings that HAProxy has nothing to say of.
+"""What somebody meets who tries it for the first time: commands that say that they work, an image that anybody may
+read, and settings that HAProxy has nothing to say of.
 
     newcomers.py PROGRAM
 """

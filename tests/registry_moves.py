@@ -1,6 +1,6 @@
 #!/usr/bin/env python3
-"""Images that are moved into the registry from another one and back, by the lines of docs/OPERATIONS.md, and layers that
-are pushed before their image.
+"""Images that are moved into the registry from another one and back, by the lines of docs/OPERATIONS.md, and layers
+that are pushed before their image.
 
     registry_moves.py PROGRAM
 """

@@ -136,7 +136,8 @@ def unbroken(_):
         # The program's functions are nobody else's: a further edit will do for them.
         tried = [edit for edit in of_crate if edit.folder == "must-fail" or crate in PROGRAM]
         broken = {name for edit in tried for name in edit.breaks} | NO_CLAUSE.get(crate, set())
-        found += [f"{crate}: no must-fail edit breaks {name}" for name in functions.deciding(crate) if name not in broken]
+        missing = [name for name in functions.deciding(crate) if name not in broken]
+        found += [f"{crate}: no must-fail edit breaks {name}" for name in missing]
         known = functions.breakable(crate)
         found += [
             f"{edit.path} breaks {name}, which isn't there"

@@ -11,11 +11,13 @@ import model
 NAMES = ["a", "lib/a", "lib/blobs/uploads", "b-c/d.e__f", "a/blobs/a", "0" * model.MAX_NAME]
 ODD_NAMES = [*"A a..b a___b a---b -a a- a//b".split(), "", "a%2Fb", "é", "0" * 256, "a/" * 127 + "b"]
 ODD_NAMES += ["blobs", "a/uploads", "blobs/uploads"]
-ODD_TARGETS = "/ * /v2 /v2// /v2/?x /v2/a /v3/ //v2/ h:80 /v2/a/manifests/latest /v2/a/blobs /v2/a/blobs/ /v2/<a>".split()
+ODD_TARGETS = "/ * /v2 /v2// /v2/?x /v2/a /v3/ //v2/ h:80".split()
+ODD_TARGETS += "/v2/a/manifests/latest /v2/a/blobs /v2/a/blobs/ /v2/<a>".split()
 ODD_TARGETS += "/v2/é/ /v2/blobs/uploads/ /v2/a/blobs/uploads /v2/%61/blobs/uploads/ http://h http://h?x=/v2/".split()
 ODD_TARGETS += 'http://h#/v2/ /v2/# /v2/?a#b /v2/" /v2/?" /v2/?` /v2/` http:/v2/ http:///v2/'.split()
 ODD_TARGETS += ['/v2/a/blobs/uploads/?digest="', "/v2/a/blobs/uploads/?mount=a<b"]
-HOSTS = "http://h HTTP://h:80 s+3.~-://u:p@h:1 ://h http://[::1]:2 http://[::1 http://h:1:2 http://@ http://a%41".split()
+HOSTS = "http://h HTTP://h:80 s+3.~-://u:p@h:1 ://h http://[::1]:2 http://[::1".split()
+HOSTS += "http://h:1:2 http://@ http://a%41".split()
 HOSTS += ["http://%41@h", "x y://h"]
 HOSTS += "http://%[::1] http://a:::::::::@h http://h` http://u@ http://[::1]] http://[a][b] http://]h[".split()
 HOSTS += "http://[::1]h:1 http://%@h http://a::::::::@h".split()
