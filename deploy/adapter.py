@@ -11,9 +11,7 @@ import argparse
 import http.client
 import os
 import re
-import signal
 import sys
-import tempfile
 import time
 
 import servers
@@ -72,18 +70,7 @@ def main(words):
     if servers.missing("haproxy"):
         print("make adapter needs Debian's package: apt-get install --no-install-recommends haproxy")
         return 1
-    # in the background of a shell an interrupt is ignored, unless this is said
-    for number in (signal.SIGINT, signal.SIGTERM):
-        signal.signal(number, signal.default_int_handler)
-    try:
-        with tempfile.TemporaryDirectory(prefix="blobd-adapter-") as folder:
-            return serve(told, folder)
-    except KeyboardInterrupt:
-        print("\nended")
-        return 0
-    except (OSError, RuntimeError) as fault:
-        print(fault, file=sys.stderr)
-        return 1
+    return servers.until_interrupted("adapter", lambda folder: serve(told, folder))
 
 
 if __name__ == "__main__":

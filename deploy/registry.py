@@ -8,9 +8,7 @@ Exit status 1 if something is missing or doesn't start. All that it makes is in 
 """
 import os
 import secrets
-import signal
 import sys
-import tempfile
 import time
 
 import images
@@ -90,18 +88,7 @@ def main(words):
         return 1
     if words[0] == "--packages":
         return 0
-    # in the background of a shell an interrupt is ignored, unless this is said
-    for number in (signal.SIGINT, signal.SIGTERM):
-        signal.signal(number, signal.default_int_handler)
-    try:
-        with tempfile.TemporaryDirectory(prefix="blobd-registry-") as folder:
-            return serve(words[0], folder)
-    except KeyboardInterrupt:
-        print("\nended")
-        return 0
-    except (OSError, RuntimeError) as fault:
-        print(fault, file=sys.stderr)
-        return 1
+    return servers.until_interrupted("registry", lambda folder: serve(words[0], folder))
 
 
 if __name__ == "__main__":

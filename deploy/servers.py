@@ -11,6 +11,8 @@ import shutil
 import signal
 import socket
 import subprocess
+import sys
+import tempfile
 import time
 
 HERE = os.path.dirname(os.path.abspath(__file__))
@@ -301,3 +303,20 @@ class DockerRegistry(Service):
     def end(self, by=signal.SIGTERM):
         super().end(by)
         shutil.rmtree(self.root, ignore_errors=True)
+
+
+def until_interrupted(name, serve):
+    """What `serve` gives, which is called with an empty folder of this name that goes with it, or 0 if it is
+    interrupted."""
+    # in the background of a shell an interrupt is ignored, unless this is said
+    for number in (signal.SIGINT, signal.SIGTERM):
+        signal.signal(number, signal.default_int_handler)
+    try:
+        with tempfile.TemporaryDirectory(prefix=f"blobd-{name}-") as folder:
+            return serve(folder)
+    except KeyboardInterrupt:
+        print("\nended")
+        return 0
+    except (OSError, RuntimeError) as fault:
+        print(fault, file=sys.stderr)
+        return 1
