@@ -41,7 +41,11 @@ module _ (host : List ℕ) (earlier : List Attempt) where
   leg_of_longer : (e : Attempt) (log : List Attempt) (leg : Leg) → IsLegTo host earlier log leg
       → IsLegTo host earlier (e ∷ log) leg
   leg_of_longer e log (over c) is =
-      record { host_is = is.host_is; own = all_weaker (λ y. ask_of_longer e log y.ask) c.asks is.own; before_it = is.before_it }
+      record {
+        host_is = is.host_is;
+        own = all_weaker (λ y. ask_of_longer e log y.ask) c.asks is.own;
+        before_it = is.before_it;
+      }
   leg_of_longer e log (unmet ask) is = tt
 
   -- the connection that is kept is the newest one, as it was left
@@ -114,8 +118,8 @@ module _ (host : List ℕ) (earlier : List Attempt) where
           record {
             host_is = each.0.host_is;
             own =
-                all_both (λ y. IsAskOf (e ∷ log) y.ask) c.asks (x ∷ []) (all_weaker (λ y. ask_of_longer e log y.ask) c.asks each.0.own)
-                (ask_of_newest e log, tt);
+                all_both (λ y. IsAskOf (e ∷ log) y.ask) c.asks (x ∷ [])
+                (all_weaker (λ y. ask_of_longer e log y.ask) c.asks each.0.own) (ask_of_newest e log, tt);
             before_it = each.0.before_it;
           },
           all_weaker (leg_of_longer e log) legs each.1,

@@ -195,8 +195,8 @@ module _ {L : Lending} {S G O M : Type 0} (m : Means L S G O) (tells : M → ℕ
 
   pub in_place : Placed p given.service log account.marked left.service
   in_place =
-      placed p given.service log account.marked left.service run account.order agree (all_weaker (fair p) account.marked own)
-      account.apart account.secrets
+      placed p given.service log account.marked left.service run account.order agree
+      (all_weaker (fair p) account.marked own) account.apart account.secrets
 
 module _ {L : Lending} {S G O M : Type 0} (m : Means L S G O) (tells : M → ℕ → M → Type 0) (laws : Laws)
     (given : Given M (Lent L S G O)) (left : Left M (Lent L S G O)) (pool : IsServedPool m tells given left)

@@ -186,8 +186,8 @@ module _ {D : Type 0} (step : Moves D) (max : ℕ) (s : Standing D) (new : Conne
       true≢false (sym kept.1 ∙ ap (λ t. t.keep) (sym one.style) ∙ e.2)
   goes_on AfterBad e decided few there y more read kept =
       not_request max s.held (bad e.0) y more e.1.bad
-      (λ same. let is : e.0 ≡ Head = cc in decided (subst (IsBad max s.held) is e.1.bad)) (λ a s r same. absurd (cc)) read
-      kept
+      (λ same. let is : e.0 ≡ Head = cc in decided (subst (IsBad max s.held) is e.1.bad))
+      (λ a s r same. absurd (cc)) read kept
   goes_on TooMany e decided few there y more read kept = let full = e.3 in omega (arith, full, few)
   goes_on DeskGone e decided few there y more read kept = there refl e.0
   goes_on (Fault (Conn.Wire Wire.Truncated)) e decided few there y more read kept =

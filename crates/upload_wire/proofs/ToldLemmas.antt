@@ -270,8 +270,12 @@ module _ {D O : Type 0} (step : Moves D) (telling : Telling O) (max count : ℕ)
         → StopsTold (rules step telling max) (observed (progress count held first at mid) was)
         (observed (progress next kept left at after) is) end
     unfolding after_refusal
-    refusal_told kept next AfterBad a =
-        record { stops = as_refused kept next AfterBad a; events = refused; tells = tells_refused; told = heard_refused }
+    refusal_told kept next AfterBad a = record {
+      stops = as_refused kept next AfterBad a;
+      events = refused;
+      tells = tells_refused;
+      told = heard_refused;
+    }
     refusal_told kept next (Fault Conn.Write) a = record {
       stops = as_refused kept next (Fault Conn.Write) a;
       events = refused;

@@ -42,7 +42,9 @@ upload_cut : (path name tail : List ℕ) → path ≡ upload_path name tail
     → path ≡ 47 ∷ 118 ∷ 50 ∷ 47 ∷ ((name ++ uploads) ++ 47 ∷ tail)
 unfolding uploads
 upload_cut path name tail e =
-    cc (append_assoc name (47 ∷ 98 ∷ 108 ∷ 111 ∷ 98 ∷ 115 ∷ 47 ∷ 117 ∷ 112 ∷ 108 ∷ 111 ∷ 97 ∷ 100 ∷ 115 ∷ []) (47 ∷ tail))
+    cc
+    (append_assoc name (47 ∷ 98 ∷ 108 ∷ 111 ∷ 98 ∷ 115 ∷ 47 ∷ 117 ∷ 112 ∷ 108 ∷ 111 ∷ 97 ∷ 100 ∷ 115 ∷ [])
+    (47 ∷ tail))
 
 -- two such cuts of one path are the same
 same_cut : (path front tail other behind : List ℕ) → path ≡ 47 ∷ 118 ∷ 50 ∷ 47 ∷ (front ++ 47 ∷ tail)

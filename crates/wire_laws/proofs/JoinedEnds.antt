@@ -666,8 +666,8 @@ turns_answered : (xs : List WireExchange) (ts : List Turn)
 turns_answered [] ts = refl
 turns_answered (x ∷ xs) ts = ap (λ l. x ∷ l) (turns_answered xs ts)
 
-turns_read : (max : ℕ) (xs : List WireExchange) (ts : List Turn) → AllByRecursion (IsKept max) xs → AreRead received max ts
-    → AreRead received max (kept_turns xs ++ ts)
+turns_read : (max : ℕ) (xs : List WireExchange) (ts : List Turn) → AllByRecursion (IsKept max) xs
+    → AreRead received max ts → AreRead received max (kept_turns xs ++ ts)
 turns_read max [] ts kept read = read
 turns_read max (x ∷ xs) ts kept read = (kept.0.0, turns_read max xs ts kept.1 read)
 

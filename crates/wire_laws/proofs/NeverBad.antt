@@ -77,7 +77,9 @@ same_head text h k rest more a b =
 no_bad_body : (framing : Framing) (text body more : List ℕ) (why : Bad) → IsBodyText framing text body
     → IsBadBody framing (text ++ more) why → ⊥
 no_bad_body framing text body more why is bad =
-    cc (bodies_unambiguous framing (text ++ more) (whole body more) (refused why) (record { message = text; split = refl; written = is }) bad)
+    cc
+    (bodies_unambiguous framing (text ++ more) (whole body more) (refused why)
+    (record { message = text; split = refl; written = is }) bad)
 
 not_bad : (max : ℕ) (message behind : List ℕ) (ask : Ask) (style : Style) (h : RequestHead) (rest : List ℕ)
     → IsRequest max message ask style → ReadsHead requests message h rest
