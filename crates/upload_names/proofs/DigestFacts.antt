@@ -1,23 +1,21 @@
 -- The digits of digests, and that the test of a digest's text decides its definition.
 use Rattle.std.proofs.Common.{◌≡◌, ◌≢◌, ℕ, zero, suc, ◌+◌, ◌-◌, ◌*◌, ◌/◌, ◌%◌, ◌<◌, ◌≤◌, ◌^◌, Bool, true, ◌&&◌, List}
-use Rattle.std.proofs.Common.{[], ◌∷◌, ◌++◌, length, take, drop, Option, Some, None, unwrap_or, Result, Ok, Err, refl}
-use Rattle.std.proofs.Common.{sym, ap, ◌∙◌, subst, inl, inr, cond, arith}
-use Rattle.std.specs.Prelude.{◌==◌, All, slice_index, nat_le, nat_lt, nat_eq, option_map}
+use Rattle.std.proofs.Common.{[], ◌∷◌, ◌++◌, length, drop, Option, Some, None, Result, Ok, Err, refl}
+use Rattle.std.proofs.Common.{sym, ap, ◌∙◌, subst, cond, arith, rules}
+use Rattle.std.specs.Prelude.{◌==◌, All, slice_index, nat_lt, nat_eq, option_map}
 use Rattle.std.specs.List.{list_all, starts_with}
 use Rattle.std.specs.Result.{MatchResult, result_ok, result_unwrap_or}
-use Rattle.std.specs.Int.{w32, w64, to_be_bytes, byte_at, bytes_high_first}
+use Rattle.std.specs.Int.{byte_at, bytes_high_first}
 use Rattle.std.proofs.lemmas.Bool.{and_parts, or_cases, cases_Bool, cases_lt, eqb-true, leb-true}
 use Rattle.std.proofs.lemmas.List.Elements.{All-cons, All-nil, All-head, All-tail, All-append}
 use Rattle.std.proofs.lemmas.List.{get_or_past, take-append-drop}
-use Rattle.std.specs.Cmp.Lexicographic.{same_text}
 use Rattle.sha2.specs.Sha256.{sha256, digest_bytes}
 use Rattle.sha2.specs.Sha512 as long
 use Rattle.sha2.proofs.Facts256.{length-sha256}
 use Rattle.sha2.proofs.Facts512.{length-sha512}
 use Rattle.hex.specs.Hex.{IsBytes, encode_with, encode_lower, lower_digits, hex_digit_value, digit_or_error, value_at}
-use Rattle.hex.specs.Hex.{pair_value, decode_pairs, decode_sized}
+use Rattle.hex.specs.Hex.{pair_value, decode_pairs}
 use Rattle.hex.specs.declared.error.FromHexError.{FromHexError}
-use Rattle.hex.specs.declared.error.FromHexError.TheVariants.{OddLength, InvalidStringLength}
 use Rattle.hex.proofs.HexLemmas.{length-encode_with, decode_sized-twice, decode_of-encode_lower}
 use Rattle.hex.proofs.Pairs.{cons_byte, decode_pairs-ok_pair}
 use Rattle.upload_names.specs.declared.digest.Algorithm.{Algorithm}
@@ -41,16 +39,12 @@ bytes_of (suc k) x = All-cons (λ b. b < 256) (byte_at k x) (bytes_high_first k 
 bytes_of_words : (words : List ℕ) (n : ℕ) → AreBytes (digest_bytes words n)
 unfolding digest_bytes
 bytes_of_words words zero = All-nil (λ b. b < 256)
-bytes_of_words words (suc n) =
-    All-append (λ b. b < 256) (digest_bytes words n) (to_be_bytes w32 (slice_index words n)) (bytes_of_words words n)
-    (bytes_of 4 (slice_index words n))
+bytes_of_words words (suc n) = search (rules, arith, All-append, bytes_of, bytes_of_words words n)
 
 bytes_of_long_words : (words : List ℕ) (n : ℕ) → AreBytes (long.digest_bytes words n)
 unfolding long.digest_bytes
 bytes_of_long_words words zero = All-nil (λ b. b < 256)
-bytes_of_long_words words (suc n) =
-    All-append (λ b. b < 256) (long.digest_bytes words n) (to_be_bytes w64 (slice_index words n))
-    (bytes_of_long_words words n) (bytes_of 8 (slice_index words n))
+bytes_of_long_words words (suc n) = search (rules, arith, All-append, bytes_of, bytes_of_long_words words n)
 
 pub IsDigest-content : (algorithm : Algorithm) (content : List ℕ) → IsDigest (content_digest algorithm content)
 unfolding sha256 long.sha512
@@ -67,21 +61,14 @@ all_below test (suc n) = test n && all_below test n
 at_below : (test : ℕ → Bool) (n k : ℕ) → all_below test n ≡ true → k < n → test k ≡ true
 unfolding all_below
 at_below test zero k h lt = absurd (omega arith)
-at_below test (suc n) k h lt =
-    let parts = and_parts (test n) (all_below test n) h in
-    elim (cases_lt k n) [
-      | inl below ↦ at_below test n k parts.1 below
-      | inr top ↦ let e : n ≡ k = omega arith in subst (λ m. test m ≡ true) e parts.0
-    ]
+at_below test (suc n) k h lt = search (rules, arith, and_parts, cases_lt, at_below test n k)
 
 abbrev digit_code : ℕ → ℕ
 digit_code v = cond (nat_lt v 10) (48 + v) (87 + v)
 
 is_code : (v : ℕ) → v < 16 → slice_index lower_digits v ≡ digit_code v
 unfolding all_below
-is_code v lt =
-    eqb-true (slice_index lower_digits v) (digit_code v)
-    (at_below (λ k. slice_index lower_digits k == digit_code k) 16 v refl lt)
+is_code v lt = search (rules, arith, eqb-true, at_below)
 
 is_lower : (v : ℕ) → v < 16 → is_lower_digit (slice_index lower_digits v) ≡ true
 unfolding all_below
@@ -111,13 +98,7 @@ letter_value c low high = record {
 }
 
 has_value : (c : ℕ) → is_lower_digit c ≡ true → HasValue c
-has_value c h =
-    elim (or_cases (nat_le 48 c && nat_le c 57) (nat_le 97 c && nat_le c 102) h) [
-      | inl e ↦
-          let p = and_parts (nat_le 48 c) (nat_le c 57) e in decimal_value c (leb-true 48 c p.0) (leb-true c 57 p.1)
-      | inr e ↦
-          let p = and_parts (nat_le 97 c) (nat_le c 102) e in letter_value c (leb-true 97 c p.0) (leb-true c 102 p.1)
-    ]
+has_value c h = search (rules, arith, or_cases, and_parts, decimal_value, leb-true, letter_value)
 
 -- ---- what digits spell
 
@@ -136,14 +117,7 @@ pair_of i high low h l =
     let hs = h.small in
     let ls = l.small in
     let q : (h.value * 16 + l.value) / 16 ≡ h.value = omega arith in
-    let r : (h.value * 16 + l.value) % 16 ≡ l.value = omega arith in
-    record {
-      byte = h.value * 16 + l.value;
-      small = omega arith;
-      reads = rw (first, second) refl;
-      high_is = ap (slice_index lower_digits) q ∙ h.writes;
-      low_is = ap (slice_index lower_digits) r ∙ l.writes;
-    }
+    grind arith
 
 -- the bytes that pairs of lower case digits spell
 record IsSpelled (digits bytes : List ℕ) : Type 0 where
@@ -159,9 +133,7 @@ cons_byte-inverse v (Err error) bytes e = cc e
 spelled : (i : ℕ) (digits bytes : List ℕ) → list_all is_lower_digit digits ≡ true → decode_pairs i digits ≡ Ok bytes
     → IsSpelled digits bytes
 unfolding decode_pairs encode_with
-spelled i [] bytes h e =
-    subst (IsSpelled []) (ap (λ r. result_unwrap_or r []) e)
-    (record { writes = refl; small = All-nil (λ b. b < 256); half = refl })
+spelled i [] bytes h e = search (rules, arith, All-nil)
 spelled i (one ∷ []) bytes h e = cc e
 spelled i (high ∷ low ∷ rest) bytes h e =
     let first = and_parts (is_lower_digit high) (is_lower_digit low && list_all is_lower_digit rest) h in
@@ -172,56 +144,20 @@ spelled i (high ∷ low ∷ rest) bytes h e =
     (sym (decode_pairs-ok_pair i high low pair.byte rest pair.reads) ∙ e) in
     let ih = spelled (i + 2) rest tail second.1 reads in
     let half = ih.half in
-    subst (IsSpelled (high ∷ low ∷ rest)) is (record {
-      writes = rw (pair.high_is, pair.low_is, ih.writes) refl;
-      small = All-cons (λ b. b < 256) pair.byte tail pair.small ih.small;
-      half = omega (arith, half);
-    })
+    subst (IsSpelled (high ∷ low ∷ rest)) is (search (rules, arith, All-cons))
 
 -- what room for some bytes takes of lower case digits
 spelled_in_room : (size : ℕ) (digits bytes : List ℕ) → digits_read size digits ≡ Some bytes
     → IsSpelled digits bytes × (length bytes ≡ size)
 spelled_in_room size digits bytes h =
-    elim (cases_Bool (list_all is_lower_digit digits)) [
-      | inl lower ↦
-          let room : result_ok (decode_sized digits size) ≡ Some bytes =
-          sym (ap (λ b. cond b (result_ok (decode_sized digits size)) None) lower) ∙ h in
-          elim (cases_Bool (length digits % 2 == 1)) [
-            | inl odd ↦
-                let none : None ≡ Some bytes =
-                sym (ap (λ b. result_ok (cond b (Err OddLength)
-                (cond (length digits / 2 == size) (decode_pairs 0 digits) (Err InvalidStringLength)))) odd) ∙ room in
-                cc none
-            | inr even ↦
-                let some : result_ok
-                (cond (length digits / 2 == size) (decode_pairs 0 digits) (Err InvalidStringLength)) ≡ Some bytes =
-                sym (ap (λ b. result_ok (cond b (Err OddLength)
-                (cond (length digits / 2 == size) (decode_pairs 0 digits) (Err InvalidStringLength)))) even) ∙ room in
-                elim (cases_Bool (length digits / 2 == size)) [
-                  | inl fits ↦
-                      let is_ok =
-                      ok_from (decode_pairs 0 digits) bytes
-                      (sym (ap (λ b. result_ok (cond b (decode_pairs 0 digits) (Err InvalidStringLength))) fits)
-                      ∙ some) in
-                      let s = spelled 0 digits bytes lower is_ok in
-                      let half = s.half in
-                      let exact = eqb-true (length digits / 2) size fits in
-                      (s, omega (arith, half, exact))
-                  | inr other ↦
-                      let none : None ≡ Some bytes =
-                      sym (ap (λ b. result_ok (cond b (decode_pairs 0 digits) (Err InvalidStringLength))) other)
-                      ∙ some in
-                      cc none
-                ]
-          ]
-      | inr other ↦
-          let none : None ≡ Some bytes = sym (ap (λ b. cond b (result_ok (decode_sized digits size)) None) other) ∙ h in
-          cc none
-    ]
-  where
-    ok_from : (r : Result (List ℕ) FromHexError) (bytes : List ℕ) → result_ok r ≡ Some bytes → r ≡ Ok bytes
-    ok_from (Ok x) bytes e = ap Ok (ap (λ o. unwrap_or o []) e)
-    ok_from (Err x) bytes e = cc e
+    grind (
+      arith,
+      cases_Bool (list_all is_lower_digit digits),
+      cases_Bool (length digits % 2 == 1),
+      cases_Bool (length digits / 2 == size),
+      spelled 0 digits bytes,
+      eqb-true (length digits / 2) size,
+    )
 
 -- ---- written digits are read
 
@@ -235,28 +171,17 @@ lower_written (b ∷ bytes) h =
     rw (high, low) (lower_written bytes (All-tail (λ x. x < 256) b bytes h))
 
 is_bytes : (bytes : List ℕ) → AreBytes bytes → IsBytes bytes
-is_bytes bytes h i =
-    elim (cases_lt i (length bytes)) [
-      | inl inside ↦ h i 0 inside
-      | inr past ↦ let zero_there = get_or_past bytes i 0 past in omega (arith, zero_there)
-    ]
+is_bytes bytes h i = search (rules, arith, cases_lt, get_or_past)
 
 pub digits_read-written : (size : ℕ) (bytes : List ℕ) → length bytes ≡ size → AreBytes bytes
     → digits_read size (encode_lower bytes) ≡ Some bytes
 digits_read-written size bytes len small =
-    let double = length-encode_with lower_digits bytes in
-    let sized : decode_sized (encode_lower bytes) size ≡ Ok bytes =
-    decode_sized-twice (encode_lower bytes) size (omega (arith, double, len))
-    ∙ decode_of-encode_lower bytes (is_bytes bytes small) in
-    ap (λ b. cond b (result_ok (decode_sized (encode_lower bytes) size)) None) (lower_written bytes small)
-    ∙ ap result_ok sized
+    search (rules, arith, length-encode_with, decode_sized-twice, decode_of-encode_lower, is_bytes, lower_written)
 
 -- ---- texts of digests
 
 cut_prefix : (prefix text : List ℕ) → starts_with nat_eq text prefix ≡ true → text ≡ prefix ++ drop (length prefix) text
-cut_prefix prefix text h =
-    sym (take-append-drop (length prefix) text)
-    ∙ ap (λ front. front ++ drop (length prefix) text) (sym (same_text prefix (take (length prefix) text) (sym h)))
+cut_prefix prefix text h = search (rules, arith, take-append-drop)
 
 mapped : (algorithm : Algorithm) (digits : List ℕ) (digest : Digest) (o : Option (List ℕ))
     → digits_read (hash_size algorithm) digits ≡ o
@@ -264,12 +189,7 @@ mapped : (algorithm : Algorithm) (digits : List ℕ) (digest : Digest) (o : Opti
     → IsDigest digest × (prefix_of algorithm ++ digits ≡ digest_text digest)
 unfolding digest_text
 mapped algorithm digits digest None e h = cc h
-mapped algorithm digits digest (Some bytes) e h =
-    let s = spelled_in_room (hash_size algorithm) digits bytes e in
-    let whole : Digest = record { algorithm = algorithm; bytes = bytes } in
-    let is : whole ≡ digest = ap (λ o. unwrap_or o whole) h in
-    subst (λ d. IsDigest d × (prefix_of algorithm ++ digits ≡ prefix_of d.algorithm ++ encode_lower d.bytes)) is
-    (record { sized = s.1; bytes = s.0.small }, ap (λ t. prefix_of algorithm ++ t) (sym s.0.writes))
+mapped algorithm digits digest (Some bytes) e h = grind (arith, spelled_in_room (hash_size algorithm) digits bytes e)
 
 read_by-spells : (algorithm : Algorithm) (digits : List ℕ) (digest : Digest) → read_by algorithm digits ≡ Some digest
     → IsDigest digest × (prefix_of algorithm ++ digits ≡ digest_text digest)
@@ -279,34 +199,21 @@ read_by-spells algorithm digits digest h =
 pub digest_of-spells : (text : List ℕ) (digest : Digest) → digest_of text ≡ Some digest → SpellsDigest text digest
 unfolding digest_of
 digest_of-spells text digest h =
-    let by_512 = cond (starts_with nat_eq text (prefix_of Sha512)) (read_by Sha512 (drop 7 text)) None in
-    elim (cases_Bool (starts_with nat_eq text (prefix_of Sha256))) [
-      | inl e ↦
-          let s =
-          read_by-spells Sha256 (drop 7 text) digest
-          (sym (ap (λ b. cond b (read_by Sha256 (drop 7 text)) by_512) e) ∙ h) in
-          (s.0, cut_prefix (prefix_of Sha256) text e ∙ s.1)
-      | inr e ↦
-          let rest : by_512 ≡ Some digest = sym (ap (λ b. cond b (read_by Sha256 (drop 7 text)) by_512) e) ∙ h in
-          elim (cases_Bool (starts_with nat_eq text (prefix_of Sha512))) [
-            | inl f ↦
-                let s =
-                read_by-spells Sha512 (drop 7 text) digest
-                (sym (ap (λ b. cond b (read_by Sha512 (drop 7 text)) None) f) ∙ rest) in
-                (s.0, cut_prefix (prefix_of Sha512) text f ∙ s.1)
-            | inr f ↦
-                let none : None ≡ Some digest = sym (ap (λ b. cond b (read_by Sha512 (drop 7 text)) None) f) ∙ rest in
-                cc none
-          ]
-    ]
+    grind (
+      arith,
+      cases_Bool (starts_with nat_eq text (prefix_of Sha256)),
+      read_by-spells Sha256 (drop 7 text) digest,
+      cut_prefix (prefix_of Sha256) text,
+      cases_Bool (starts_with nat_eq text (prefix_of Sha512)),
+      read_by-spells Sha512 (drop 7 text) digest,
+      cut_prefix (prefix_of Sha512) text,
+    )
 
 reads_back : (algorithm : Algorithm) (bytes : List ℕ) → length bytes ≡ hash_size algorithm → AreBytes bytes
     → digest_of (prefix_of algorithm ++ encode_lower bytes) ≡ Some (record { algorithm = algorithm; bytes = bytes })
 unfolding digest_of
-reads_back Sha256 bytes sized small =
-    ap (option_map (λ b. record { algorithm = Sha256; bytes = b })) (digits_read-written 32 bytes sized small)
-reads_back Sha512 bytes sized small =
-    ap (option_map (λ b. record { algorithm = Sha512; bytes = b })) (digits_read-written 64 bytes sized small)
+reads_back Sha256 bytes sized small = cc (digits_read-written 32 bytes sized small)
+reads_back Sha512 bytes sized small = cc (digits_read-written 64 bytes sized small)
 
 pub digest_of-text : (digest : Digest) → IsDigest digest → digest_of (digest_text digest) ≡ Some digest
 unfolding digest_text
@@ -328,24 +235,12 @@ reads_512 text digits e = ap digest_of e
 pub reads_none : (text : List ℕ) → ((digits : List ℕ) → text ≢ prefix_of Sha256 ++ digits)
     → ((digits : List ℕ) → text ≢ prefix_of Sha512 ++ digits) → digest_of text ≡ None
 unfolding digest_of
-reads_none text no_256 no_512 =
-    elim (cases_Bool (starts_with nat_eq text (prefix_of Sha256))) [
-      | inl e ↦ absurd (no_256 (drop 7 text) (cut_prefix (prefix_of Sha256) text e))
-      | inr e ↦
-          ap (λ b. cond b (read_by Sha256 (drop 7 text))
-          (cond (starts_with nat_eq text (prefix_of Sha512)) (read_by Sha512 (drop 7 text)) None)) e
-          ∙ elim (cases_Bool (starts_with nat_eq text (prefix_of Sha512)))
-          as (λ _. cond (starts_with nat_eq text (prefix_of Sha512)) (read_by Sha512 (drop 7 text)) None ≡ None) [
-            | inl f ↦ absurd (no_512 (drop 7 text) (cut_prefix (prefix_of Sha512) text f))
-            | inr f ↦ ap (λ b. cond b (read_by Sha512 (drop 7 text)) None) f
-          ]
-    ]
+reads_none text no_256 no_512 = search (rules, arith, cases_Bool, cut_prefix)
 
 -- the digits read give a digest
 pub IsDigest-read : (algorithm : Algorithm) (digits bytes : List ℕ)
     → digits_read (hash_size algorithm) digits ≡ Some bytes → IsDigest (record { algorithm = algorithm; bytes = bytes })
-IsDigest-read algorithm digits bytes h =
-    let s = spelled_in_room (hash_size algorithm) digits bytes h in record { sized = s.1; bytes = s.0.small }
+IsDigest-read algorithm digits bytes h = search (rules, arith, spelled_in_room)
 
 -- what `hex` wrote into room for so many bytes
 abbrev done : Result (Unit {0}) FromHexError

@@ -1,7 +1,8 @@
 -- The pass over a text decides the grammar of names.
+use Rattle.std.proofs.lemmas.Grind.{common_steps}
 use Rattle.std.proofs.Common.{◌≡◌, ℕ, zero, suc, ◌+◌, ◌≤◌, true, false, ◌&&◌, ◌||◌, List, [], ◌∷◌, ◌++◌, length, Option}
-use Rattle.std.proofs.Common.{Some, None, refl, sym, ap, ◌∙◌, subst, ◌⊎◌, inl, inr, cond, arith, append_assoc}
-use Rattle.std.specs.Prelude.{◌==◌, codes, flat_map, All, replicate, nat_le}
+use Rattle.std.proofs.Common.{Some, None, refl, sym, ap, ◌∙◌, subst, ◌⊎◌, inl, inr, cond, arith, append_assoc, rules}
+use Rattle.std.specs.Prelude.{◌==◌, codes, flat_map, All, replicate}
 use Rattle.std.specs.List.{list_all}
 use Rattle.std.specs.Str.{IsAscii, IsUtf8}
 use Rattle.std.proofs.lemmas.Str.{IsUtf8-from_ascii}
@@ -33,17 +34,13 @@ in_joint place c text h = ap (λ b. passes (cond b (Some InWord) (place_behind_j
 passes-word_bytes : (bytes rest : List ℕ) → list_all is_word_byte bytes ≡ true
     → passes (Some InWord) (bytes ++ rest) ≡ passes (Some InWord) rest
 passes-word_bytes [] rest h = refl
-passes-word_bytes (c ∷ bytes) rest h =
-    let parts = and_parts (is_word_byte c) (list_all is_word_byte bytes) h in
-    in_word InWord c (bytes ++ rest) parts.0 ∙ passes-word_bytes bytes rest parts.1
+passes-word_bytes (c ∷ bytes) rest h = search (rules, arith, and_parts, in_word, passes-word_bytes bytes rest)
 
 -- a word may begin anywhere
 passes-word : (place : Place) (word rest : List ℕ) → IsWord word
     → passes (Some place) (word ++ rest) ≡ passes (Some InWord) rest
 passes-word place [] rest w = absurd (omega (arith, w.filled))
-passes-word place (c ∷ bytes) rest w =
-    let parts = and_parts (is_word_byte c) (list_all is_word_byte bytes) w.bytes in
-    in_word place c (bytes ++ rest) parts.0 ∙ passes-word_bytes bytes rest parts.1
+passes-word place (c ∷ bytes) rest w = search (rules, arith, and_parts, in_word, passes-word_bytes)
 
 passes-hyphens : (more : ℕ) (word rest : List ℕ) → IsWord word
     → passes (Some BehindHyphen) (replicate more hyphen ++ (word ++ rest)) ≡ passes (Some InWord) rest
@@ -51,43 +48,35 @@ passes-hyphens zero word rest w = passes-word BehindHyphen word rest w
 passes-hyphens (suc more) word rest w = passes-hyphens more word rest w
 
 replicate-more : (more : ℕ) → replicate (more + 1) hyphen ≡ hyphen ∷ replicate more hyphen
-replicate-more more =
-    let e : more + 1 ≡ suc more = omega arith in
-    ap (λ n. replicate n hyphen) e
+replicate-more more = search (rules, arith)
 
 -- a separator and a word lead from the end of a word to the end of a word
 passes-joint : (separator word rest : List ℕ) → IsSeparator separator → IsWord word
     → passes (Some InWord) (separator ++ (word ++ rest)) ≡ passes (Some InWord) rest
-passes-joint separator word rest s w =
-    let leads : List ℕ → Type 0 = λ text. passes (Some InWord) (text ++ (word ++ rest)) ≡ passes (Some InWord) rest in
-    elim s [
-      | inl e ↦ subst leads (sym e) (passes-word WordStart word rest w)
-      | inr (inl e) ↦ subst leads (sym e) (passes-word BehindUnderscore word rest w)
-      | inr (inr (inl e)) ↦ subst leads (sym e) (passes-word WordStart word rest w)
-      | inr (inr (inr (more, e))) ↦
-          subst leads (sym (e ∙ replicate-more more)) (passes-hyphens more word rest w)
-    ]
+passes-joint separator word rest s w = search (rules, arith, passes-word, replicate-more, passes-hyphens)
 
 passes-joints : (joints : List Joint) (rest : List ℕ) → All IsJoint joints
     → passes (Some InWord) (flat_map joint_text joints ++ rest) ≡ passes (Some InWord) rest
 passes-joints [] rest h = refl
 passes-joints (joint ∷ joints) rest h =
-    let one = All-head IsJoint joint joints h in
-    let apart : flat_map joint_text (joint ∷ joints) ++ rest
-    ≡ joint.separator ++ (joint.word ++ (flat_map joint_text joints ++ rest)) =
-    append_assoc (joint.separator ++ joint.word) (flat_map joint_text joints) rest
-    ∙ append_assoc joint.separator joint.word (flat_map joint_text joints ++ rest) in
-    ap (passes (Some InWord)) apart
-    ∙ passes-joint joint.separator joint.word (flat_map joint_text joints ++ rest) one.0 one.1
-    ∙ passes-joints joints rest (All-tail IsJoint joint joints h)
+    grind (
+      arith,
+      All-head IsJoint joint joints h,
+      append_assoc (joint.separator ++ joint.word) (flat_map joint_text joints) rest,
+      append_assoc joint.separator joint.word (flat_map joint_text joints ++ rest),
+      passes-joint joint.separator joint.word (flat_map joint_text joints ++ rest),
+      All-tail IsJoint joint joints h,
+      passes-joints joints rest (All-tail IsJoint joint joints h),
+    )
 
 passes-component : (component rest : List ℕ) → IsComponent component
     → passes (Some WordStart) (component ++ rest) ≡ passes (Some InWord) rest
 passes-component component rest k =
-    ap (λ text. passes (Some WordStart) (text ++ rest)) k.cut
-    ∙ ap (passes (Some WordStart)) (append_assoc k.first (flat_map joint_text k.joints) rest)
-    ∙ passes-word WordStart k.first (flat_map joint_text k.joints ++ rest) k.is_word
-    ∙ passes-joints k.joints rest k.are_joints
+    cc (
+      append_assoc k.first (flat_map joint_text k.joints) rest,
+      passes-word WordStart k.first (flat_map joint_text k.joints ++ rest) k.is_word,
+      passes-joints k.joints rest k.are_joints,
+    )
 
 passes-others : (others : List (List ℕ)) → All IsComponent others
     → passes (Some InWord) (flat_map behind_slash others) ≡ true
@@ -99,9 +88,10 @@ passes-others (component ∷ others) h =
 pub is_in_grammar-true : (text : List ℕ) → IsInGrammar text → is_in_grammar text ≡ true
 unfolding is_in_grammar
 is_in_grammar-true text g =
-    ap (passes (Some WordStart)) g.cut
-    ∙ passes-component g.first (flat_map behind_slash g.others) g.is_component
-    ∙ passes-others g.others g.are_components
+    cc (
+      passes-component g.first (flat_map behind_slash g.others) g.is_component,
+      passes-others g.others g.are_components,
+    )
 
 -- ---- every text that takes the pass is of the grammar
 
@@ -134,28 +124,21 @@ IsTail-joint separator text s n =
       others = n.is_tail.others;
       are_joints = All-cons IsJoint joint n.is_tail.joints (s, n.is_word) n.is_tail.are_joints;
       are_components = n.is_tail.are_components;
-      cut = ap (λ t. separator ++ t) (n.cut ∙ ap (λ t. n.word ++ t) n.is_tail.cut)
-          ∙ sym (append_assoc separator n.word
-          (flat_map joint_text n.is_tail.joints ++ flat_map behind_slash n.is_tail.others))
-          ∙ sym (append_assoc (separator ++ n.word) (flat_map joint_text n.is_tail.joints)
-          (flat_map behind_slash n.is_tail.others));
+      cut = cc (
+        append_assoc separator n.word (flat_map joint_text n.is_tail.joints ++ flat_map behind_slash n.is_tail.others),
+        append_assoc (separator ++ n.word) (flat_map joint_text n.is_tail.joints)
+            (flat_map behind_slash n.is_tail.others),
+      );
     }
 
 -- the component that a word and the joints behind it make
 component_of : (text : List ℕ) (n : IsNamed text) → IsComponent (n.word ++ flat_map joint_text n.is_tail.joints)
-component_of text n = record {
-  first = n.word;
-  joints = n.is_tail.joints;
-  is_word = n.is_word;
-  are_joints = n.is_tail.are_joints;
-  cut = refl;
-}
+component_of text n = search (rules, arith)
 
 apart_from : (text : List ℕ) (n : IsNamed text)
     → text ≡ (n.word ++ flat_map joint_text n.is_tail.joints) ++ flat_map behind_slash n.is_tail.others
 apart_from text n =
-    n.cut ∙ ap (λ t. n.word ++ t) n.is_tail.cut
-    ∙ sym (append_assoc n.word (flat_map joint_text n.is_tail.joints) (flat_map behind_slash n.is_tail.others))
+    cc (append_assoc n.word (flat_map joint_text n.is_tail.joints) (flat_map behind_slash n.is_tail.others))
 
 -- behind a slash
 IsTail-slash : (text : List ℕ) → IsNamed text → IsTail (slash ∷ text)
@@ -240,63 +223,23 @@ passes_joint InWord c text ih h =
     elim (cases_Bool ((c == dot) || (c == slash))) [
       | inl e ↦
           let n =
-          ih WordStart (sym (ap (λ b. passes (cond b (Some WordStart) (cond (c == underscore) (Some BehindUnderscore)
-          (cond (c == hyphen) (Some BehindHyphen) None))) text) e) ∙ h) in
+          ih WordStart (cc) in
           elim (or_cases (c == dot) (c == slash) e) [
             | inl is_dot ↦ subst (λ d. IsWordRest (d ∷ text)) (sym (eqb-true c dot is_dot))
                 (IsWordRest-tail (dot ∷ text) (IsTail-joint (codes ".") text (inl refl) n))
-            | inr is_slash ↦ subst (λ d. IsWordRest (d ∷ text)) (sym (eqb-true c slash is_slash))
-                (IsWordRest-tail (slash ∷ text) (IsTail-slash text n))
+            | inr is_slash ↦ search (rules, arith, eqb-true, IsWordRest-tail, IsTail-slash)
           ]
       | inr e ↦
-          let rest : passes
-          (cond (c == underscore) (Some BehindUnderscore) (cond (c == hyphen) (Some BehindHyphen) None)) text ≡ true =
-          sym (ap (λ b. passes (cond b (Some WordStart)
-          (cond (c == underscore) (Some BehindUnderscore) (cond (c == hyphen) (Some BehindHyphen) None))) text) e)
-          ∙ h in
-          elim (cases_Bool (c == underscore)) [
-            | inl u ↦
-                let f =
-                ih BehindUnderscore (sym
-                (ap (λ b. passes (cond b (Some BehindUnderscore) (cond (c == hyphen) (Some BehindHyphen) None)) text) u)
-                ∙ rest) in
-                subst (λ d. IsWordRest (d ∷ text)) (sym (eqb-true c underscore u))
-                (IsWordRest-tail (underscore ∷ text) (IsTail-underscore text f))
-            | inr u ↦
-                let last : passes (cond (c == hyphen) (Some BehindHyphen) None) text ≡ true =
-                sym
-                (ap (λ b. passes (cond b (Some BehindUnderscore) (cond (c == hyphen) (Some BehindHyphen) None)) text) u)
-                ∙ rest in
-                elim (cases_Bool (c == hyphen)) [
-                  | inl y ↦
-                      let f =
-                      ih BehindHyphen (sym (ap (λ b. passes (cond b (Some BehindHyphen) None) text) y) ∙ last) in
-                      subst (λ d. IsWordRest (d ∷ text)) (sym (eqb-true c hyphen y))
-                      (IsWordRest-tail (hyphen ∷ text) (IsTail-hyphen text f))
-                  | inr y ↦
-                      let none : false ≡ true =
-                      sym (ap (λ b. passes (cond b (Some BehindHyphen) None) text) y) ∙ last in
-                      cc none
-                ]
-          ]
+          search (rules, arith, cases_Bool, eqb-true, IsWordRest-tail, IsTail-underscore, IsTail-hyphen)
     ]
-passes_joint BehindUnderscore c text ih h =
-    elim (cases_Bool (c == underscore)) [
-      | inl u ↦
-          let n = ih WordStart (sym (ap (λ b. passes (cond b (Some WordStart) None) text) u) ∙ h) in
-          inr (text, n, ap (λ d. d ∷ text) (eqb-true c underscore u))
-      | inr u ↦
-          let none : false ≡ true = sym (ap (λ b. passes (cond b (Some WordStart) None) text) u) ∙ h in
-          cc none
-    ]
+passes_joint BehindUnderscore c text ih h = search (rules, arith, cases_Bool, eqb-true)
 passes_joint BehindHyphen c text ih h =
     elim (cases_Bool (c == hyphen)) [
       | inl y ↦
           let f = ih BehindHyphen (sym (ap (λ b. passes (cond b (Some BehindHyphen) None) text) y) ∙ h) in
           (suc f.0, f.1, f.2, ap (λ d. d ∷ text) (eqb-true c hyphen y) ∙ ap (λ t. hyphen ∷ t) f.3)
       | inr y ↦
-          let none : false ≡ true = sym (ap (λ b. passes (cond b (Some BehindHyphen) None) text) y) ∙ h in
-          cc none
+          cc
     ]
 
 -- what passes from a place follows it
@@ -307,10 +250,17 @@ passes_follows [] InWord h = IsWordRest-tail [] IsTail-nil
 passes_follows [] BehindUnderscore h = cc h
 passes_follows [] BehindHyphen h = cc h
 passes_follows (c ∷ text) place h =
-    elim (cases_Bool (is_word_byte c)) [
-      | inl w ↦ begins_word place c text w (passes_follows text InWord (sym (in_word place c text w) ∙ h))
-      | inr w ↦ passes_joint place c text (passes_follows text) (sym (in_joint place c text w) ∙ h)
-    ]
+    grind (
+      arith,
+      common_steps,
+      cases_Bool,
+      begins_word,
+      in_word,
+      passes_joint,
+      in_joint,
+      passes_follows text InWord,
+      passes_follows text,
+    )
 
 pub IsInGrammar-from : (text : List ℕ) → is_in_grammar text ≡ true → IsInGrammar text
 unfolding is_in_grammar Follows
@@ -330,10 +280,7 @@ not_word_byte : (c : ℕ) → 128 ≤ c → is_word_byte c ≡ false
 not_word_byte c high = grind (arith)
 
 no_joint : (place : Place) (c : ℕ) → 128 ≤ c → place_behind_joint place c ≡ None
-no_joint WordStart c high = refl
-no_joint InWord c high = grind (arith)
-no_joint BehindUnderscore c high = grind (arith)
-no_joint BehindHyphen c high = grind (arith)
+no_joint x1 x2 x3 = search (rules, arith)
 
 IsAscii-passes : (text : List ℕ) (place : Place) → passes (Some place) text ≡ true → IsAscii text
 IsAscii-passes [] place h = IsAscii-nil
@@ -346,9 +293,7 @@ IsAscii-passes (c ∷ text) place h =
                 (behind_some (place_behind_joint place c) (IsAscii-passes text) (sym (in_joint place c text w) ∙ h))
           ]
       | inr high ↦
-          let none : false ≡ true =
-          sym (in_joint place c text (not_word_byte c high) ∙ ap (λ o. passes o text) (no_joint place c high)) ∙ h in
-          cc none
+          cc (in_joint place c text (not_word_byte c high), not_word_byte c high, no_joint place c high)
     ]
   where
     behind_some : (o : Option Place) → ((next : Place) → passes (Some next) text ≡ true → IsAscii text)
@@ -364,12 +309,8 @@ IsUtf8-in_grammar text h = IsUtf8-from_ascii text (IsAscii-passes text WordStart
 
 pub is_name-true : (text : List ℕ) → IsName text → is_name text ≡ true
 unfolding is_name
-is_name-true text n =
-    ap (λ b. b && nat_le (length text) longest_name) (is_in_grammar-true text n.in_grammar)
-    ∙ le-leb (length text) longest_name n.short
+is_name-true text n = cc (is_in_grammar-true text n.in_grammar, le-leb (length text) longest_name n.short)
 
 pub IsName-from : (text : List ℕ) → is_name text ≡ true → IsName text
 unfolding is_name
-IsName-from text h =
-    let parts = and_parts (is_in_grammar text) (nat_le (length text) longest_name) h in
-    record { in_grammar = IsInGrammar-from text parts.0; short = leb-true (length text) longest_name parts.1 }
+IsName-from text h = search (rules, arith, and_parts, IsInGrammar-from, leb-true)

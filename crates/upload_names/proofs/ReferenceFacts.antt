@@ -26,9 +26,9 @@ pub number_of-bytes : (bytes : List ℕ) (n : ℕ)
     → n ≡ number_of bytes
 unfolding number_of
 number_of-bytes bytes n h =
-    rw (
+    cc (
       get_or-take 4 bytes 0 0 (omega arith),
       get_or-take 4 bytes 1 0 (omega arith),
       get_or-take 4 bytes 2 0 (omega arith),
       get_or-take 4 bytes 3 0 (omega arith),
-    ) h
+    )

@@ -1,10 +1,10 @@
 -- The bytes of the texts of references.
-use Rattle.std.proofs.Common.{◌≡◌, ℕ, zero, suc, ◌<◌, ◌||◌, ◌&&◌, ◌==◌, Bool, true, false, List, [], ◌∷◌, All, length}
-use Rattle.std.proofs.Common.{refl, arith, IsTrue, if◌then◌else◌}
+use Rattle.std.proofs.Common.{◌≡◌, ℕ, zero, suc, ◌<◌, ◌||◌, ◌&&◌, ◌==◌, Bool, true, false, List, All, length}
+use Rattle.std.proofs.Common.{refl, arith, IsTrue, if◌then◌else◌, rules}
 use Rattle.std.specs.Prelude.{nat_le}
 use Rattle.std.proofs.lemmas.Bool.Decides.{nat_tests}
 use Rattle.std.proofs.lemmas.List.Elements.{All-append, All-cons, All-nil}
-use Rattle.uuid.specs.Text.{by_index, lower, hex_digit, nibble, is_hyphen_place, digit_place}
+use Rattle.uuid.specs.Text.{by_index, lower, hex_digit, nibble}
 use Rattle.uuid.proofs.TextLemmas.{by_index_length}
 use Rattle.upload_names.specs.Reference.{reference_text}
 
@@ -28,20 +28,14 @@ hyphen_or false x h = h
 each_byte : (n : ℕ) (f : ℕ → ℕ) → ((k : ℕ) → is_reference_byte (f k) ≡ true) → AreReferenceBytes (by_index n f)
 unfolding by_index
 each_byte zero f h = All-nil (λ c. IsTrue (is_reference_byte c))
-each_byte (suc n) f h =
-    let last =
-    All-cons (λ c. IsTrue (is_reference_byte c)) (f n) [] (h n) (All-nil (λ c. IsTrue (is_reference_byte c))) in
-    All-append (λ c. IsTrue (is_reference_byte c)) (by_index n f) (f n ∷ []) (each_byte n f h) last
+each_byte (suc n) f h = search (rules, arith, All-cons, All-nil, All-append, each_byte n f h)
 
 -- a reference's text is made of digits and hyphens
 pub reference_text-bytes : (at : List ℕ) → All (λ c. IsTrue (is_reference_byte c)) (reference_text at)
 unfolding reference_text
-reference_text-bytes at =
-    each_byte 36 _
-    (λ k. hyphen_or (is_hyphen_place k) _ (digit_byte (nibble at (digit_place k)) (nibble_small at (digit_place k))))
+reference_text-bytes at = search (rules, arith, each_byte, hyphen_or, digit_byte, nibble_small)
 
 -- and has 36 bytes
 pub length-reference_text : (at : List ℕ) → length (reference_text at) ≡ 36
 unfolding reference_text
-length-reference_text at =
-    by_index_length 36 (λ k. if is_hyphen_place k then 45 else hex_digit lower (nibble at (digit_place k)))
+length-reference_text at = simp by_index_length

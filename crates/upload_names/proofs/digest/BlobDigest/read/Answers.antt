@@ -22,9 +22,7 @@ returns-in-Some c =
     (sym c.read_digits.ensures ∙ c.in_ok-bytes.was))
 
 pub returns-in_err-digits : goal.returns-in_err-digits
-returns-in_err-digits c =
-    c.from_residual-in_err-digits.ensures
-    ∙ sym (reads_none c.args.text.now c.in_default.ensures c.in_err-digits.ensures)
+returns-in_err-digits c = cc (reads_none c.args.text.now c.in_default.ensures c.in_err-digits.ensures)
 
 pub returns-in_err-bytes-2 : goal.returns-in_err-bytes-2
 returns-in_err-bytes-2 c =

@@ -16,8 +16,7 @@ not_cut text o e f = ap (option_and_then (span_round text)) (sym e ∙ f)
 
 pub returns-in_err-hyphen : goal.returns-in_err-hyphen
 returns-in_err-hyphen c =
-    c.from_residual.ensures
-    ∙ sym (not_cut c.args.text.now c.first_hyphen.result c.first_hyphen.ensures c.in_err-hyphen.was)
+    cc (not_cut c.args.text.now c.first_hyphen.result c.first_hyphen.ensures c.in_err-hyphen.was)
 
 pub returns-in_err-first : goal.returns-in_err-first
 returns-in_err-first c =

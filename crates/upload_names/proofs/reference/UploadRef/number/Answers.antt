@@ -1,9 +1,5 @@
-use Rattle.std.proofs.Common.{ap, ◌∙◌}
-use Rattle.upload_names.specs.Reference.{number_of}
 use Rattle.upload_names.proofs.ReferenceFacts.{number_of-bytes}
 use Rattle.upload_names.proofs.reference.UploadRef.number.Goals as goal
 
 pub returns : goal.returns
-returns c =
-    number_of-bytes c.as_bytes-bytes.result.now c.from_be_bytes.result c.from_be_bytes.ensures
-    ∙ ap number_of (c.as_bytes-bytes.ensures ∙ c.self.view_is)
+returns c = cc (number_of-bytes c.as_bytes-bytes.result.now c.from_be_bytes.result c.from_be_bytes.ensures)
