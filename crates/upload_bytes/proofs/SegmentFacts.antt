@@ -1,6 +1,5 @@
 -- What one more part does to the bytes.
-use Rattle.std.proofs.Common.{◌≡◌, ℕ, List, [], ◌∷◌, ◌++◌, sym, ◌∙◌}
-use Rattle.std.proofs.Common.{ap}
+use Rattle.std.proofs.Common.{◌≡◌, ℕ, List, [], ◌∷◌, ◌++◌, sym}
 use Rattle.std.proofs.lemmas.List.{append-nil, append_assoc}
 use Rattle.std.proofs.lemmas.List.Folds.{concat-append}
 use Rattle.std.specs.List.{concat}
@@ -14,7 +13,4 @@ concat-with_part xs (b ∷ x) = concat-push xs (b ∷ x)
 -- segments, a tail, a body's parts and its last one, joined
 pub concat-segments : (xs : List (List ℕ)) (t : List ℕ) (ys : List (List ℕ)) (l : List ℕ)
     → concat (((xs ++ t ∷ []) ++ ys) ++ l ∷ []) ≡ (concat xs ++ t) ++ (concat ys ++ l)
-concat-segments xs t ys l =
-    concat-push ((xs ++ t ∷ []) ++ ys) l
-    ∙ ap (λ r. r ++ l) (concat-append (xs ++ t ∷ []) ys ∙ ap (λ r. r ++ concat ys) (concat-push xs t))
-    ∙ append_assoc (concat xs ++ t) (concat ys) l
+concat-segments xs t ys l = simp (concat-push, concat-append, append_assoc)
