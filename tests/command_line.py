@@ -81,7 +81,11 @@ def refuses_other_numbers_of_workers():
 def taken_address():
     with socket.create_server(("127.0.0.1", 0)) as taken:
         addr = address_of(taken)
-        told = f"blobd: can't listen at {addr}: Address already in use (os error 98)\n"
+        told = (
+            f"blobd: can't listen at {addr}: Address already in use (os error 98)\n"
+            f"blobd: another program has port {taken.getsockname()[1]} (ss -ltnp shows which; 5000 is also "
+            "docker-registry's)\n"
+        )
         equal("an address that is taken", run("serve", addr, "1"), ("fault: listen\n", 3, told))
 
 

@@ -235,6 +235,36 @@ def sends_on(peer, until):
             peer.sendall(b"x")
 
 
+def send_all_on(peers, until):
+    """Sends a byte to each that there is now and then, until it is told to stop."""
+    while not until.wait(0.2):
+        for peer in list(peers):
+            with contextlib.suppress(OSError):
+                peer.sendall(b"x")
+
+
+@case()
+def peers_that_send_on_hold_nobody():
+    """Peers that go on sending after their last reply are waited for all at once: one after another they would hold
+    the next clients for half a minute."""
+    with Server(env={"BLOBD_WORKERS": 16}) as server, contextlib.ExitStack() as staying:
+        peers, waits, over = [], [], threading.Event()
+        feeding = threading.Thread(target=send_all_on, args=(peers, over))
+        feeding.start()
+        for _ in range(200):
+            peer = staying.enter_context(server.connect())
+            gets_400("the reply to a peer that sends on", peer)
+            peers.append(peer)
+        for _ in range(40):
+            begun = time.monotonic()
+            ask_alone(server, "GET", "/v2/")
+            waits.append(time.monotonic() - begun)
+            time.sleep(0.1)
+        over.set()
+        feeding.join()
+        check("peers that send on hold nobody", max(waits) < 10, waits)
+
+
 @case()
 def sockets_are_closed():
     """A server keeps no descriptor of a connection that has ended, also if its peer stays and is silent, or sends on

@@ -3,6 +3,7 @@
 
     serve_faults.py PROGRAM
 """
+import contextlib
 import errno
 import os
 import subprocess
@@ -26,33 +27,46 @@ def is_answered(name, client):
 
 @case("cc")
 def no_descriptors(folder):
-    """Workers that find no descriptor for a connection, or for its halves, say so once and go on trying for as long as
-    it takes."""
-    for lacking, most in (("a connection", 4), ("its halves", 6)):
-        hasty = shims.loaded(folder, "minutes")
-        with Server(1, limits=[f"-S -n {most}"], env=hasty, stderr=subprocess.PIPE) as server:
-            clients = [server.connect(), server.connect()]
-            told = [server.told(60), server.told(60)]
-            equal(f"two workers without descriptors for {lacking}", told, [TOO_MANY_FILES] * 2)
-            # a wait takes five milliseconds here: more than a thousand of each worker
-            time.sleep(6)
-            check(f"they wait on for {lacking}", server.process.poll() is None, server.process.returncode)
-            server.allow_descriptors(64)
+    """Workers that find no descriptor for a connection say so once and go on trying for as long as it takes."""
+    hasty = shims.loaded(folder, "minutes")
+    with Server(1, limits=["-S -n 4"], env=hasty, stderr=subprocess.PIPE) as server:
+        clients = [server.connect(), server.connect()]
+        told = [server.told(60), server.told(60)]
+        equal("two workers without descriptors", told, [TOO_MANY_FILES] * 2)
+        # a wait takes five milliseconds here: more than a thousand of each worker
+        time.sleep(6)
+        check("they wait on", server.process.poll() is None, server.process.returncode)
+        server.allow_descriptors(64)
+        for client in clients:
+            with client:
+                client.sendall(LAST_BASE)
+                is_answered("a reply once there are descriptors", client)
+        ended = *server.ended(), server.process.stderr.read()
+        equal("the end after no descriptors", ended, (*SERVED, ""))
+
+
+@case()
+def few_descriptors():
+    """However few descriptors are free, each client is served in its turn."""
+    for free in (1, 2, 3):
+        with Server(limits=[f"-n {4 + free}"], stderr=subprocess.DEVNULL) as server, contextlib.ExitStack() as all_:
+            clients = [all_.enter_context(server.connect()) for _ in range(8)]
             for client in clients:
-                with client:
-                    client.sendall(LAST_BASE)
-                    is_answered(f"a reply once there are descriptors for {lacking}", client)
-            ended = *server.ended(), server.process.stderr.read()
-            equal(f"the end after no descriptors for {lacking}", ended, (*SERVED, ""))
+                client.sendall(LAST_BASE)
+            for client in clients:
+                is_answered(f"a reply with {free} descriptors", client)
+                client.close()
 
 
 @case()
 def descriptors_come_again():
     """A connection that finds no descriptor waits until there is one."""
-    with Server(1, stderr=subprocess.PIPE) as server:
+    with Server(2, stderr=subprocess.PIPE) as server:
         with server.client() as client:
             equal("a reply while there are descriptors", client.ask("GET", "/v2/").status, 200)
             server.allow_descriptors(server.descriptors() - 1)
+            # the other worker's accept, which had begun before
+            equal("a reply to who came before", ask_alone(server, "GET", "/v2/").status, 200)
             with server.connect() as waiting:
                 waiting.sendall(LAST_BASE)
                 check("no reply while there are none", is_silent(waiting, 1))
@@ -60,7 +74,7 @@ def descriptors_come_again():
                 equal("the other worker goes on meanwhile", client.ask("GET", "/v2/").status, 200)
                 server.allow_descriptors(64)
                 is_answered("a reply once there are descriptors", waiting)
-        equal("the last line after no descriptors", server.ended(), SERVED)
+        equal("the last line after no descriptors", server.end(), SERVED)
 
 
 # What accept(2) says of a connection that waits, and of signals.

@@ -5,12 +5,16 @@
 """
 import collections
 import contextlib
+import datetime
 import fcntl
+import itertools
 import os
+import random
 import re
 import subprocess
 import time
 
+from harness import shims
 from harness.running import SERVED, UNREADABLE, Server, ask_alone, base_replies
 from harness.suite import case, check, equal, main
 from harness.wire import PATIENCE, is_silent, sha256
@@ -79,9 +83,30 @@ def logs_requests():
             lines = server.process.stderr.read().splitlines()
         if value != "1":
             check(f"no log with BLOBD_LOG={value}", not lines, lines)
-    check("each line of a log ends with a time", all(re.fullmatch(r".* [0-9]+ms", line) for line in lines), lines)
+    has_times = all(re.fullmatch(r"[0-9T:-]+Z .* [0-9]+ms", line) for line in lines)
+    check("each line of a log has the time of day, and how long the reply took", has_times, lines)
     # a line comes behind its reply: the other worker's next one may be before it
-    equal("a line for each request", sorted(line.rsplit(" ", 1)[0] for line in lines), sorted(wanted))
+    equal("a line for each request", sorted(line.split(" ", 1)[1].rsplit(" ", 1)[0] for line in lines), sorted(wanted))
+
+
+@case("cc")
+def log_has_the_time_of_day(folder):
+    """In UTC, on each kind of day: the first of all, leap days, the days around them, ends of years and centuries."""
+    last_second = datetime.timedelta(hours=23, minutes=59, seconds=59)
+    first = datetime.datetime(1970, 1, 1, tzinfo=datetime.UTC)
+    ends = itertools.product((1972, 2000, 2026, 2100, 9999), ((1, 1), (2, 28), (3, 1), (12, 31)))
+    edges = [datetime.datetime(year, *rest, tzinfo=datetime.UTC) for year, rest in ends]
+    drawn = random.Random(1)
+    moments = [first, *edges, *(edge + last_second for edge in edges)]
+    moments += [first + datetime.timedelta(seconds=drawn.randrange(250_000_000_000)) for _ in range(20)]
+    for moment in moments:
+        seconds = round((moment - first).total_seconds())
+        env = {"BLOBD_LOG": 1, **shims.loaded(folder, "dates", DATES_SECONDS=seconds)}
+        with Server(1, env=env, stderr=subprocess.PIPE) as server:
+            ask_alone(server, "GET", "/v2/")
+            server.end()
+            told = server.process.stderr.readline().split(" ")[0]
+        equal(f"the time of day {seconds} s behind the first of 1970", told, f"{moment:%Y-%m-%dT%H:%M:%SZ}")
 
 
 @contextlib.contextmanager

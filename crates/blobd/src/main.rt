@@ -85,6 +85,17 @@ fn print_stop<R: Eprint>(rt: &R, seen: bool) {
     }
 }
 
+/// Says why nothing listens there.
+fn print_no_listener<R: Eprint>(rt: &R, addr: SocketAddr, error: &io::Error) {
+    let _ = eprintln!(rt; "blobd: can't listen at {addr}: {error}");
+    if error.kind() == ErrorKind::AddrInUse {
+        let port = addr.port();
+        let _ = eprintln!(rt;
+            "blobd: another program has port {port} (ss -ltnp shows which; 5000 is also docker-registry's)"
+        );
+    }
+}
+
 fn listen<R>(rt: &R, addr: SocketAddr, terms: Terms, seen: bool) -> u8
 where
     R: Threads + Wait + Sync + Copy + Send + 'static,
@@ -99,7 +110,7 @@ where
             run_serve(rt, &listener, terms, &mut out)
         }
         Err(error) => {
-            let _ = eprintln!(rt; "blobd: can't listen at {addr}: {error}");
+            print_no_listener(rt, addr, &error);
             print_line(&mut out, "fault: listen", FAULT)
         }
     }

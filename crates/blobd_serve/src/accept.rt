@@ -4,13 +4,12 @@ ghost use Rattle.http_wire.specs.Halves.{AreUnused};
 
 use crate::closing::Closing;
 use crate::log_lines::LogLines;
-use crate::paced::{Demand, Reader, Turn, Writer, halves};
+use crate::paced::{Demand, Reader, SharedSocket, Socket, Writer, halves};
 use crate::steps::{Step, step_behind};
-use std::alloc::{AllocError, Global};
+use std::alloc::Global;
 use std::io::{Eprint, ErrorKind};
-use std::net::{TcpListener, TcpStream};
+use std::net::TcpListener;
 use std::rt::Clock;
-use std::sync::atomic::AtomicBool;
 use std::sync::{Arc, Wait};
 use std::time::Duration;
 use std::{io, thread};
@@ -41,10 +40,8 @@ pub(crate) struct Accepted<'a, R> {
     /// How many more it takes.
     left: u64,
     demand: Demand,
-    /// Whether the connection that is served was written to since it was read from.
-    turn: Turn,
     /// The connection that is served.
-    stream: Option<TcpStream>,
+    socket: Option<SharedSocket>,
     /// Where it is closed when its halves are given back.
     closing: Closing,
     /// Where notices go if there is a log.
@@ -59,7 +56,7 @@ fn step_after(error: &io::Error) -> Step {
 }
 
 impl<'a, R: Clock + Eprint + Wait> Accepted<'a, R> {
-    /// The next connections of a listener. An error is out of memory.
+    /// The next connections of a listener.
     pub(crate) fn new(
         rt: &'a R,
         alloc: Global,
@@ -67,22 +64,20 @@ impl<'a, R: Clock + Eprint + Wait> Accepted<'a, R> {
         terms: Terms,
         closing: Closing,
         lines: Option<LogLines>,
-    ) -> Result<Accepted<'a, R>, AllocError>
-        ensures { IfOk result
-            (λ conns. (conns.left ≡ terms.count) × (conns.demand ≡ terms.demand)) }
+    ) -> Accepted<'a, R>
+        ensures { (result.left ≡ terms.count) × (result.demand ≡ terms.demand) }
     {
-        Ok(Accepted {
+        Accepted {
             rt,
             alloc,
             listener,
             left: terms.count,
             demand: terms.demand,
-            turn: Arc::new(alloc, AtomicBool::new(false))?,
-            stream: None,
+            socket: None,
             closing,
             lines,
             is_told: false,
-        })
+        }
     }
 
     /// Tells of an error on standard error. If there is a log, it is a line of that: no worker waits for who reads it.
@@ -111,10 +106,10 @@ impl<'a, R: Clock + Eprint + Wait> Accepted<'a, R> {
     }
 
     /// The next connection of the listener, however long that takes. An error says that the listener is none.
-    fn next_stream(&mut self) -> io::Result<TcpStream> {
+    fn next_socket(&mut self) -> io::Result<Socket> {
         for _ in 0..u64::MAX {
             let error = match self.listener.accept() {
-                Ok((stream, _)) => return Ok(stream),
+                Ok((stream, _)) => return Ok(Socket::new(stream)),
                 Err(error) => error,
             };
             match step_after(&error) {
@@ -126,31 +121,27 @@ impl<'a, R: Clock + Eprint + Wait> Accepted<'a, R> {
         Err(io::Error::from(ErrorKind::TimedOut))
     }
 
-    /// The halves of the next connection that can be served, which is kept. One for whose halves the system lacks
-    /// descriptors waits until there are some.
+    /// The same to be shared, once there is memory for that.
+    fn next_shared(&mut self) -> io::Result<SharedSocket> {
+        let mut socket = self.next_socket()?;
+        for _ in 0..u64::MAX {
+            match Arc::new(self.alloc, socket) {
+                Ok(shared) => return Ok(shared),
+                Err(failed) => socket = failed.value,
+            }
+            self.wait(&io::Error::from(ErrorKind::OutOfMemory));
+        }
+        Err(io::Error::from(ErrorKind::TimedOut))
+    }
+
+    /// The halves of the next connection, which is kept.
     fn accept(&mut self) -> io::Result<(Reader<'a, R>, Writer<'a, R>)>
         ensures { IfOk result (λ halves. AreUnused halves.0 halves.1) }
     {
-        let mut waiting: Option<TcpStream> = None;
-        for _ in 0..u64::MAX {
-            let stream = match waiting.take() {
-                Some(stream) => stream,
-                None => self.next_stream()?,
-            };
-            match halves(self.rt, &stream, &self.turn, self.demand) {
-                Ok(halves) => {
-                    self.stream = Some(stream);
-                    return Ok(halves);
-                }
-                Err(error) => {
-                    if step_after(&error) == Step::Wait {
-                        waiting = Some(stream);
-                        self.wait(&error);
-                    }
-                }
-            }
-        }
-        Err(io::Error::from(ErrorKind::TimedOut))
+        let socket = self.next_shared()?;
+        let halves = halves(self.rt, &socket, self.demand)?;
+        self.socket = Some(socket);
+        Ok(halves)
     }
 }
 
@@ -165,7 +156,7 @@ impl<'a, R: Clock + Eprint + Wait + Sync> Conns for Accepted<'a, R> {
         (new.left + 1 ≡ old.left) × AreUnused halves.0 halves.1) };
 
     // The connection isn't kept, and as many are left as before.
-    ghost takes_back = { λ old halves new. (new.stream ≡ None) × (new.left ≡ old.left) };
+    ghost takes_back = { λ old halves new. (new.socket ≡ None) × (new.left ≡ old.left) };
 
     /// Waits for the next connection. None if as many as were asked for are served, or if one couldn't be taken,
     /// which is told on standard error.
@@ -186,7 +177,7 @@ impl<'a, R: Clock + Eprint + Wait + Sync> Conns for Accepted<'a, R> {
     fn take_back(&mut self, source: Reader<'a, R>, sink: Writer<'a, R>) {
         drop(source);
         drop(sink);
-        if let Some(stream) = self.stream.take() {
+        if let Some(Socket { stream, .. }) = self.socket.take().and_then(Arc::into_inner) {
             self.closing.close(self.rt, stream);
         }
     }

@@ -16,7 +16,8 @@ pub(crate) trait Job: Send {
     /// How long the end of a server waits for the last jobs to be done, in seconds.
     const PATIENCE_SECONDS: u64;
 
-    fn run<R: Clock + Eprint>(self, rt: &R);
+    /// Does the jobs as they come, until no more can come and each is done.
+    fn run_all<R: Wait + Clock + Eprint>(rt: &R, alloc: Global, jobs: &Receiver<Self>);
 }
 
 /// A thread that does jobs as they come, and the channel to it.
@@ -38,7 +39,7 @@ impl<J: Job + Drop + 'static> Background<J> {
         let theirs = *rt;
         // It is never joined: a job that takes long would hold up the end of the program.
         let _thread = thread::spawn(rt, move || {
-            run_all(&theirs, &to_do);
+            J::run_all(&theirs, alloc, &to_do);
             drop(until_end);
         })
         .ok()?;
@@ -50,15 +51,5 @@ impl<J: Job + Drop + 'static> Background<J> {
         let Background { jobs, end } = self;
         drop(jobs);
         let _ = end.recv_timeout(rt, Duration::from_secs(J::PATIENCE_SECONDS));
-    }
-}
-
-/// Does jobs as they come, until no more can come.
-fn run_all<R: Wait + Clock + Eprint, J: Job + Drop>(rt: &R, jobs: &Receiver<J>) {
-    for _ in rt.forever() {
-        let Ok(job) = jobs.recv(rt) else {
-            break;
-        };
-        job.run(rt);
     }
 }

@@ -2,8 +2,8 @@
 ghost use Rattle.std.specs.Prelude.{◌≡◌, ◌⊎◌, ◌+◌, ◌-◌, ◌^◌, min, IfOk};
 
 use crate::background::{Background, Job};
-use crossbeam_channel::Sender;
-use std::alloc::AllocError;
+use crossbeam_channel::{Receiver, Sender};
+use std::alloc::{AllocError, Global};
 use std::io::Eprint;
 use std::rt::Clock;
 use std::sync::Wait;
@@ -23,13 +23,17 @@ impl Job for Line {
 
     const PATIENCE_SECONDS: u64 = 2;
 
-    // What a write answers is nothing to the requests.
-    fn run<R: Clock + Eprint>(self, rt: &R) {
-        let Line { lost, text } = self;
-        if lost > 0 {
-            let _ = eprintln!(rt; "blobd: {lost} lines lost");
+    fn run_all<R: Wait + Clock + Eprint>(rt: &R, _alloc: Global, lines: &Receiver<Line>) {
+        for _ in rt.forever() {
+            let Ok(Line { lost, text }) = lines.recv(rt) else {
+                break;
+            };
+            // What a write answers is nothing to the requests.
+            if lost > 0 {
+                let _ = eprintln!(rt; "blobd: {lost} lines lost");
+            }
+            let _ = eprintln!(rt; "{text}");
         }
-        let _ = eprintln!(rt; "{text}");
     }
 }
 

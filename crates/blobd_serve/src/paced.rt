@@ -7,7 +7,7 @@ ghost use Rattle.http_wire.specs.Halves.{AreUnused};
 ghost use Rattle.blobd_serve.specs.Pace.{pace_after, window_of};
 
 use http_wire::{FromRead, ToWrite};
-use std::alloc::Global;
+use std::alloc::{AllocError, Global};
 use std::io;
 use std::io::{ErrorKind, Read, Write};
 use std::net::TcpStream;
@@ -109,9 +109,29 @@ const SECOND: u64 = 1_000_000;
 /// that waits for much room, and the next write takes them.
 const LONGEST_CALL: u64 = 15;
 
-/// Whether a connection was written to since it was read from: what is read next belongs to another request. The halves
-/// of one connection share it.
-pub(crate) type Turn = Arc<AtomicBool, Global>;
+/// A connection that was accepted. Its two halves share it: it has one descriptor.
+#[derive(Drop)]
+pub(crate) struct Socket {
+    pub(crate) stream: TcpStream,
+    /// Whether it was written to since it was read from: what is read next belongs to another request.
+    is_answered: AtomicBool,
+}
+
+impl Socket {
+    /// A connection of which nothing was read yet. What is written leaves as it is written: a head and a small body are
+    /// one write.
+    pub(crate) fn new(stream: TcpStream) -> Socket {
+        // A peer that has gone already can make this fail; the reads and writes will tell.
+        let _ = stream.set_nodelay(true);
+        Socket {
+            stream,
+            is_answered: AtomicBool::new(false),
+        }
+    }
+}
+
+/// Such a connection, of which each half and the worker have a share.
+pub(crate) type SharedSocket = Arc<Socket, Global>;
 
 /// What a half answers once its client was too slow.
 fn too_slow() -> io::Error
@@ -125,8 +145,7 @@ fn too_slow() -> io::Error
 #[derive(Drop)]
 pub(crate) struct Half<'a, R> {
     rt: &'a R,
-    stream: TcpStream,
-    turn: Turn,
+    socket: SharedSocket,
     demand: Demand,
     /// None once the client was too slow.
     pace: Option<Pace>,
@@ -135,13 +154,11 @@ pub(crate) struct Half<'a, R> {
 }
 
 impl<'a, R: Clock> Half<'a, R> {
-    /// A half of a stream, of which nothing was read or written yet. An error comes if the system has no further handle
-    /// for the stream.
-    fn new(rt: &'a R, stream: &TcpStream, turn: &Turn, demand: Demand) -> io::Result<Half<'a, R>> {
+    /// A half of a connection, of which nothing was read or written yet. An error comes if too many share it.
+    fn new(rt: &'a R, socket: &SharedSocket, demand: Demand) -> Result<Half<'a, R>, AllocError> {
         Ok(Half {
             rt,
-            stream: stream.try_clone()?,
-            turn: Arc::try_clone(turn)?,
+            socket: Arc::try_clone(socket)?,
             demand,
             pace: Some(Pace::awaited()),
             allowed: 0,
@@ -165,7 +182,7 @@ impl<'a, R: Clock> Half<'a, R> {
     /// Tells the system how long a read may wait, if it doesn't know.
     fn allow_read(&mut self, pace: Pace) -> io::Result<()> {
         match self.limit(pace) {
-            Some(limit) => self.stream.set_read_timeout(Some(limit)),
+            Some(limit) => self.socket.stream.set_read_timeout(Some(limit)),
             None => Ok(()),
         }
     }
@@ -173,7 +190,7 @@ impl<'a, R: Clock> Half<'a, R> {
     /// Tells the system how long a write may wait, if it doesn't know.
     fn allow_write(&mut self, pace: Pace) -> io::Result<()> {
         match self.limit(pace) {
-            Some(limit) => self.stream.set_write_timeout(Some(limit)),
+            Some(limit) => self.socket.stream.set_write_timeout(Some(limit)),
             None => Ok(()),
         }
     }
@@ -238,7 +255,7 @@ impl<'a, R: Clock> Half<'a, R> {
         ensures bound { ReadsAtMost result buf.new }
         ensures resumed { IfErr result (λ error. error_kind error ≢ ErrorKind.Interrupted) }
     {
-        if self.turn.swap(false, Ordering::SeqCst) {
+        if self.socket.is_answered.swap(false, Ordering::SeqCst) {
             self.pace = Some(Pace::awaited());
         }
         for _ in 0..u64::MAX {
@@ -249,7 +266,7 @@ impl<'a, R: Clock> Half<'a, R> {
                 break;
             }
             let begun = self.now();
-            let read = self.stream.read(buf);
+            let read = (&self.socket.stream).read(buf);
             if !self.goes_on(pace, begun, &read) {
                 return read;
             }
@@ -263,7 +280,7 @@ impl<'a, R: Clock> Half<'a, R> {
         ensures bound { WritesAtMost result buf.now }
         ensures resumed { IfErr result (λ error. error_kind error ≢ ErrorKind.Interrupted) }
     {
-        if !self.turn.swap(true, Ordering::SeqCst) {
+        if !self.socket.is_answered.swap(true, Ordering::SeqCst) {
             self.pace = Some(Pace::begun());
         }
         for _ in 0..u64::MAX {
@@ -274,7 +291,7 @@ impl<'a, R: Clock> Half<'a, R> {
                 break;
             }
             let begun = self.now();
-            let wrote = self.stream.write(buf);
+            let wrote = (&self.socket.stream).write(buf);
             if !self.goes_on(pace, begun, &wrote) {
                 return wrote;
             }
@@ -295,25 +312,19 @@ impl<'a, R: Clock> Write for Half<'a, R> {
     }
 
     fn flush(&mut self) -> io::Result<()> {
-        self.stream.flush()
+        (&self.socket.stream).flush()
     }
 }
 
-/// The two halves of a connection of which nothing was read yet; no other connection uses this turn any more. What is
-/// written leaves as it is written: a head and a small body are one write. An error comes if the system has no
-/// further handle for the stream.
+/// The two halves of a connection of which nothing was read yet. An error comes if too many share it.
 pub(crate) fn halves<'a, R: Clock>(
     rt: &'a R,
-    stream: &TcpStream,
-    turn: &Turn,
+    socket: &SharedSocket,
     demand: Demand,
-) -> io::Result<(Reader<'a, R>, Writer<'a, R>)>
+) -> Result<(Reader<'a, R>, Writer<'a, R>), AllocError>
     ensures { IfOk result (λ halves. AreUnused halves.0 halves.1) }
 {
-    turn.store(false, Ordering::SeqCst);
-    // A peer that has gone already can make this fail; the reads and writes will tell.
-    let _ = stream.set_nodelay(true);
-    let reader = Half::new(rt, stream, turn, demand)?;
-    let writer = Half::new(rt, stream, turn, demand)?;
+    let reader = Half::new(rt, socket, demand)?;
+    let writer = Half::new(rt, socket, demand)?;
     Ok((FromRead::new(reader), ToWrite::new(writer)))
 }

@@ -4,10 +4,11 @@ ghost use Rattle.blobd_serve.specs.LogLine.{line_text};
 
 use crate::log_lines::LogLines;
 use crate::shown::shown_request;
+use crate::time_of_day::time_of_day;
 use std::alloc::{AllocError, Global};
 use std::rt::Clock;
 use std::sync::Wait;
-use std::time::Instant;
+use std::time::{Instant, SystemTime, UNIX_EPOCH};
 use upload_wire::{Observer, RequestLine};
 
 /// What is shown of a head that can't be read, and of one for which there is no memory.
@@ -59,7 +60,7 @@ impl<'a, R: Clock + Wait> Observer for RequestLog<'a, R> {
         if let Some(lines) = &mut self.lines {
             let millis = millis_since(self.rt, self.heard);
             let head = self.head.as_deref().unwrap_or(NO_HEAD);
-            match line_text(self.alloc, head, status, size, millis) {
+            match line_now(self.rt, self.alloc, head, status, size, millis) {
                 Ok(text) => lines.send(self.rt, text),
                 Err(_) => lines.lose(),
             }
@@ -85,15 +86,39 @@ fn head_of(alloc: Global, line: Option<RequestLine<'_>>) -> Option<String> {
     String::from_utf8(shown_request(alloc, line.method, line.target).ok()?).ok()
 }
 
-/// The line of a head that is shown so, and of its reply's status and size. An error is out of memory.
-fn line_text(
+/// The line of a head that is shown so, whose reply is written now. An error is out of memory.
+fn line_now<R: Clock>(
+    rt: &R,
     alloc: Global,
     head: &str,
     status: u16,
     size: u64,
     millis: u64,
+) -> Result<String, AllocError> {
+    let time = time_of_day(alloc, seconds_of_day(rt))?;
+    line_text(alloc, &time, head, status, size, millis)
+}
+
+/// The seconds since the start of 1970, or 0 if no time can be told.
+fn seconds_of_day<R: Clock>(rt: &R) -> u64 {
+    match SystemTime::now(rt) {
+        Ok(now) => now
+            .duration_since(UNIX_EPOCH)
+            .map_or(0, |passed| passed.as_secs()),
+        Err(_) => 0,
+    }
+}
+
+/// The line of a head that is shown so, and of its reply's status and size. An error is out of memory.
+fn line_text(
+    alloc: Global,
+    time: &str,
+    head: &str,
+    status: u16,
+    size: u64,
+    millis: u64,
 ) -> Result<String, AllocError>
-    ensures { IfOk result (λ text. string_bytes text ≡ line_text head.now status size millis) }
+    ensures { IfOk result (λ text. string_bytes text ≡ line_text time.now head.now status size millis) }
 {
-    format!(in alloc; "{head} {status} {size} {millis}ms")
+    format!(in alloc; "{time} {head} {status} {size} {millis}ms")
 }
