@@ -179,38 +179,62 @@ module _ (seat : ℕ) (gone : Bool) (j : LineView Message) (r : LineView Answer)
   same_by j' (Ok x) m = no_more_sent j' m
   same_by j' (Err b) m = ap (λ v. jobs_in (sent v.sending)) m.1
 
-abbrev seat_state : LineId Message → LineId Answer → ℕ → List Job → List Answer → Bool → SeatState
-seat_state jobs replies seat sent heard gone =
-    record { jobs = jobs; replies = replies; seat = seat; sent = sent; heard = heard; gone = gone }
+abbrev seat_state : LineId Message → LineId Answer → ℕ → List Job → List Answer → Bool → Bool → Bool → SeatState
+seat_state jobs replies seat sent heard gone sends takes = record {
+  jobs = jobs;
+  replies = replies;
+  seat = seat;
+  sent = sent;
+  heard = heard;
+  gone = gone;
+  sends = sends;
+  takes = takes;
+}
 
 pub told : (a a' : LineId Message) (b b' : LineId Answer) (seat : ℕ) (s s' : List Job) (h h' : List Answer)
-    (g g' last : Bool) (old : SeatState) (ms : List Job) (mh : List Answer) → seat_state a b seat s h g ≡ old → a' ≡ a
-    → b' ≡ b → s' ≡ s ++ ms → h' ≡ h ++ mh → g' ≡ last
-    → seat_state a' b' seat s' h' g' ≡ seat_state old.jobs old.replies old.seat (old.sent ++ ms) (old.heard ++ mh) last
-told a a' b b' seat s s' h h' g g' last old ms mh is p q u v w =
+    (g g' last o o' r r' : Bool) (old : SeatState) (ms : List Job) (mh : List Answer)
+    → seat_state a b seat s h g o r ≡ old → a' ≡ a → b' ≡ b → s' ≡ s ++ ms → h' ≡ h ++ mh → g' ≡ last → o' ≡ o → r' ≡ r
+    → seat_state a' b' seat s' h' g' o' r'
+    ≡ seat_state old.jobs old.replies old.seat (old.sent ++ ms) (old.heard ++ mh) last old.sends old.takes
+told a a' b b' seat s s' h h' g g' last o o' r r' old ms mh is p q u v w x y =
     λ i. record {
-      jobs = (p ∙ ap (λ o. o.jobs) is) i;
-      replies = (q ∙ ap (λ o. o.replies) is) i;
-      seat = ap (λ o. o.seat) is i;
-      sent = (u ∙ ap (λ o. o.sent ++ ms) is) i;
-      heard = (v ∙ ap (λ o. o.heard ++ mh) is) i;
+      jobs = (p ∙ ap (λ z. z.jobs) is) i;
+      replies = (q ∙ ap (λ z. z.replies) is) i;
+      seat = ap (λ z. z.seat) is i;
+      sent = (u ∙ ap (λ z. z.sent ++ ms) is) i;
+      heard = (v ∙ ap (λ z. z.heard ++ mh) is) i;
       gone = w i;
+      sends = (x ∙ ap (λ z. z.sends) is) i;
+      takes = (y ∙ ap (λ z. z.takes) is) i;
     }
 
 pub told_none : (a a' : LineId Message) (b b' : LineId Answer) (seat : ℕ) (s s' : List Job) (h h' : List Answer)
-    (g : Bool) (old : SeatState) (ms : List Job) → seat_state a b seat s h g ≡ old → a' ≡ a → b' ≡ b → s' ≡ s ++ ms → h'
-    ≡ h → seat_state a' b' seat s' h' true ≡ seat_state old.jobs old.replies old.seat (old.sent ++ ms) old.heard true
-told_none a a' b b' seat s s' h h' g old ms is p q u v =
+    (g o o' r r' : Bool) (old : SeatState) (ms : List Job) → seat_state a b seat s h g o r ≡ old → a' ≡ a → b' ≡ b
+    → s' ≡ s ++ ms → h' ≡ h → o' ≡ o → r' ≡ false → seat_state a' b' seat s' h' true o' r'
+    ≡ seat_state old.jobs old.replies old.seat (old.sent ++ ms) old.heard true old.sends false
+told_none a a' b b' seat s s' h h' g o o' r r' old ms is p q u v x y =
     λ i. record {
-      jobs = (p ∙ ap (λ o. o.jobs) is) i;
-      replies = (q ∙ ap (λ o. o.replies) is) i;
-      seat = ap (λ o. o.seat) is i;
-      sent = (u ∙ ap (λ o. o.sent ++ ms) is) i;
-      heard = (v ∙ ap (λ o. o.heard) is) i;
+      jobs = (p ∙ ap (λ z. z.jobs) is) i;
+      replies = (q ∙ ap (λ z. z.replies) is) i;
+      seat = ap (λ z. z.seat) is i;
+      sent = (u ∙ ap (λ z. z.sent ++ ms) is) i;
+      heard = (v ∙ ap (λ z. z.heard) is) i;
       gone = true;
+      sends = (x ∙ ap (λ z. z.sends) is) i;
+      takes = y i;
     }
 
-pub told_nothing : (a a' : LineId Message) (b : LineId Answer) (seat : ℕ) (s s' : List Job) (h : List Answer) (g : Bool)
-    (old : SeatState) → seat_state a b seat s h g ≡ old → a' ≡ a → s' ≡ s → seat_state a' b seat s' h g ≡ old
-told_nothing a a' b seat s s' h g old is p u =
-    (λ i. record { jobs = p i; replies = b; seat = seat; sent = u i; heard = h; gone = g }) ∙ is
+pub told_nothing : (a a' : LineId Message) (b : LineId Answer) (seat : ℕ) (s s' : List Job) (h : List Answer)
+    (g o o' r : Bool) (old : SeatState) → seat_state a b seat s h g o r ≡ old → a' ≡ a → s' ≡ s → o' ≡ o
+    → seat_state a' b seat s' h g o' r ≡ old
+told_nothing a a' b seat s s' h g o o' r old is p u x =
+    (λ i. record {
+      jobs = p i;
+      replies = b;
+      seat = seat;
+      sent = u i;
+      heard = h;
+      gone = g;
+      sends = x i;
+      takes = r;
+    }) ∙ is

@@ -134,16 +134,18 @@ pub settled_seat : (ledger : Ledger) (j : LineView Message) (lines : List ReplyL
     → SatToTheEnd number gone sj sr → (jt : LineView Message) → jt.takes ≡ true → jt.taken ≡ j.taken
     → ((waiting : List (Item Message)) × Waits (joined jt sj) waiting)
     → ((waiting : List (Item Answer)) × Waits (joined sr (known line.replies.pass)) waiting)
-    → (jobs : LineId Message) (replies : LineId Answer) (end : SeatState) → record {
+    → (jobs : LineId Message) (replies : LineId Answer) (open_jobs open_replies : Bool) (end : SeatState) → record {
       jobs = jobs;
       replies = replies;
       seat = number;
       sent = jobs_in (sent sj.sending);
       heard = whats sr.taken;
       gone = gone;
+      sends = open_jobs;
+      takes = open_replies;
     } ≡ end → IsSettledSeat seat ledger.steps end
 settled_seat ledger j lines k done seat line below line_is number gone sj sr number_is sat jt takes taken jobs_wait
-    replies_wait jobs replies end is =
+    replies_wait jobs replies open_jobs open_replies end is =
     let steps : List Step = ledger.steps in
     let kept = k.each seat line below in
     let finish : TookFinish seat j = kept.finish (done seat line below) in

@@ -61,6 +61,8 @@ seat_at place = record {
   sent = jobs_in (sent (view place.jobs.pass).sending);
   heard = whats (view place.replies.pass).taken;
   gone = place.gone;
+  sends = place.jobs.is_open;
+  takes = place.replies.is_open;
 }
 
 -- What a seat's passes know: what it sent, what it got, and that a seat which isn't gone got a reply to each job.

@@ -18,7 +18,7 @@ pub type LineReceiver<T> = RuledReceiver<Item<T>, LineView<T>, Ordered, Global>;
 
 pub type LinePass<T> = Pass<Item<T>, LineView<T>>;
 
-/// A sender, and what it sent. It is open until an item was handed back, which this module alone can say.
+/// A sender, and what it sent. It is open until `send` handed an item back, which this module alone can say.
 #[derive(Drop)]
 pub struct SendEnd<T: Drop> {
     sender: LineSender<T>,
@@ -27,11 +27,12 @@ pub struct SendEnd<T: Drop> {
     ghost at: { IsSeatAt (sends_on sender) pass } by { Prim.hlevel props },
 }
 
-/// The receiver, and what it took.
+/// The receiver, and what it took. It is open until it found nothing, which this module alone can say.
 #[derive(Drop)]
 pub struct TakeEnd<T: Drop> {
     receiver: LineReceiver<T>,
     pass: LinePass<T>,
+    is_open: bool,
     ghost at: { IsSeatAt (receives_on receiver) pass } by { Prim.hlevel props },
 }
 
@@ -53,18 +54,31 @@ impl<T: Drop> SendEnd<T> {
         ensures closing { MatchResult result (λ _. self.new.is_open ≡ self.old.is_open)
             (λ _. self.new.is_open ≡ false) }
     {
+        let sent = self.offer(rt, item);
+        if sent.is_err() {
+            self.is_open = false;
+        }
+        sent
+    }
+
+    /// The same for an item that nobody answers for: whether the end is open stays as it was.
+    pub fn offer<R: Wait>(&mut self, rt: &R, item: Item<T>) -> Result<(), Item<T>>
+        requires { is_sender item.seat (view self.old.pass).sending ≡ true }
+        ensures line { self.new.sender ≡ self.old.sender }
+        ensures sent { MatchResult result
+            (λ _. view self.new.pass ≡ with_sent item (view self.old.pass))
+            (λ back. (back ≡ item) × (view self.new.pass ≡ view self.old.pass)) }
+        ensures same { self.new.is_open ≡ self.old.is_open }
+    {
         match self.sender.send_as::<Sends, R>(rt, &mut self.pass, item) {
             Ok(()) => Ok(()),
-            Err(refused) => {
-                self.is_open = false;
-                Err(refused.into_inner())
-            }
+            Err(refused) => Err(refused.into_inner()),
         }
     }
 }
 
 impl<T: Drop> TakeEnd<T> {
-    /// Takes the item in front, which another pass sent, or finds nothing and changes nothing.
+    /// Takes the item in front, which another pass sent; or finds nothing, and isn't open any more.
     pub fn take<R: Wait>(&mut self, rt: &R) -> Option<Item<T>>
         requires { (view self.old.pass).takes ≡ true }
         ensures line { self.new.receiver ≡ self.old.receiver }
@@ -72,8 +86,14 @@ impl<T: Drop> TakeEnd<T> {
             (view self.new.pass ≡ view self.old.pass)
             (λ item. (view self.new.pass ≡ with_taken item (view self.old.pass))
             × IsOfAnother (view self.old.pass) item) }
+        ensures closing { MatchOption result (self.new.is_open ≡ false)
+            (λ _. self.new.is_open ≡ self.old.is_open) }
     {
-        self.receiver.recv_as::<Takes, R>(rt, &mut self.pass).ok()
+        let taken = self.receiver.recv_as::<Takes, R>(rt, &mut self.pass).ok();
+        if taken.is_none() {
+            self.is_open = false;
+        }
+        taken
     }
 }
 
@@ -85,11 +105,17 @@ pub fn open_line<T: Drop>(
     requires { 0 < capacity }
     ensures line { IfOk result (λ ends. receives_on ends.1.receiver ≡ sends_on ends.0) }
     ensures taker { IfOk result (λ ends. view ends.1.pass ≡ taker_view 0 []) }
+    ensures opened { IfOk result (λ ends. ends.1.is_open ≡ true) }
 {
     let (sender, receiver, pass) = bounded_with::<Item<T>, LineView<T>, Ordered, Global>(
         alloc, capacity,
     )?;
-    Ok((sender, TakeEnd { receiver, pass }))
+    let taker = TakeEnd {
+        receiver,
+        pass,
+        is_open: true,
+    };
+    Ok((sender, taker))
 }
 
 /// The sender of the next seat, cut off from the receiver. The number is for the proof.
@@ -105,6 +131,7 @@ pub fn next_sender<T: Drop>(
     ensures sender { IfOk result (λ end. view end.pass ≡ sender_view seat []) }
     ensures opened { IfOk result (λ end. end.is_open ≡ true) }
     ensures same_line { taker.new.receiver ≡ taker.old.receiver }
+    ensures same { taker.new.is_open ≡ taker.old.is_open }
     ensures taker { IfOk result (λ end. view taker.new.pass ≡ taker_view (seat + 1) []) }
 {
     let _ = seat;
@@ -123,7 +150,8 @@ pub fn reply_line<T: Drop>(alloc: Global) -> Result<(SendEnd<T>, TakeEnd<T>), Al
         (λ ends. line_of (receives_on ends.1.receiver) ≡ line_of (sends_on ends.0.sender)) }
     ensures views { IfOk result
         (λ ends. (view ends.0.pass ≡ sender_view 0 []) × (view ends.1.pass ≡ taker_view 1 [])) }
-    ensures opened { IfOk result (λ ends. ends.0.is_open ≡ true) }
+    ensures opened { IfOk result
+        (λ ends. (ends.0.is_open ≡ true) × (ends.1.is_open ≡ true)) }
 {
     let (sender, mut taker) = open_line(alloc, 1)?;
     let only = next_sender(&sender, &mut taker, 0)?;
@@ -135,6 +163,7 @@ pub fn reply_line<T: Drop>(alloc: Global) -> Result<(SendEnd<T>, TakeEnd<T>), Al
 pub fn settle_line<T: Drop>(sender: SendEnd<T>, taker: &mut TakeEnd<T>)
     requires { line_of (receives_on taker.old.receiver) ≡ line_of (sends_on sender.sender) }
     ensures line { taker.new.receiver ≡ taker.old.receiver }
+    ensures same { taker.new.is_open ≡ taker.old.is_open }
     ensures joined { view taker.new.pass ≡ joined (view taker.old.pass) (view sender.pass) }
     ensures settled { (waiting : List (Item T)) × Waits (view taker.new.pass) waiting }
 {

@@ -89,6 +89,8 @@ impl Seat {
           sent = [];
           heard = [];
           gone = false;
+          sends = jobs.is_open;
+          takes = replies.is_open;
         } }
     {
         let place = Place {
@@ -149,7 +151,7 @@ impl Seat {
             seat,
             what: Message::Hash(at, algorithm),
         };
-        let Ok(()) = self.place.jobs.send(rt, wish) else {
+        let Ok(()) = self.place.jobs.offer(rt, wish) else {
             return None;
         };
         match self.ends.recv(rt) {
@@ -191,7 +193,7 @@ impl Seat {
             seat: place.seat,
             what: Message::Finish,
         };
-        let _ = place.jobs.send(rt, finish);
+        let _ = place.jobs.offer(rt, finish);
         SeatEnd { place }
     }
 }

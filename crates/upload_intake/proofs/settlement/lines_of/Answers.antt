@@ -30,7 +30,13 @@ loop-seat-preserved c =
           (each_push (λ _ x. BeginsReplies x) _ _ was.begins (c.in_ok-replies.ensures.views.0, refl));
       fresh = subst (λ xs. (k : ℕ) (d : SeatState) → k < length xs → IsFresh (get_or xs k d)) (sym seats)
           (each_push (λ _ x. IsFresh x) _ _ was.fresh
-          (record { sent = ap (λ s. s.sent) here; heard = ap (λ s. s.heard) here; gone = ap (λ s. s.gone) here }));
+          (record {
+            sent = ap (λ s. s.sent) here;
+            heard = ap (λ s. s.heard) here;
+            gone = ap (λ s. s.gone) here;
+            sends = ap (λ s. s.sends) here ∙ c.in_ok-own.ensures.opened;
+            takes = ap (λ s. s.takes) here ∙ c.in_ok-replies.ensures.opened.1;
+          }));
       on =
           subst (λ (y : List SeatState × List ReplyLine). AreSeatsOn (line_of (sends_on c.in_ok-sender.sender))
           (map replies_on y.1) y.0) (λ i. (sym seats i, sym lines i))

@@ -14,4 +14,4 @@ returns-clause-settled c = λ ledger kept lines keeping done takes taken below l
     (view c.args.jobs.now.pass) takes taken
     (jobs.0, subst (λ v. Waits v jobs.0) c.settle_line.ensures.joined jobs.1)
     (replies.0, subst (λ v. Waits v replies.0) c.settle_line-2.ensures.joined replies.1)
-    _ _ c.args.end c.end.view_is
+    _ _ _ _ c.args.end c.end.view_is

@@ -15,20 +15,24 @@ invariant_of-self-in-None g c =
 pub returns-in-Some : goal.returns-in-Some
 returns-in-Some g c = (
   sym (ap (λ o. o.gone) c.self.view_is) ∙ c.if-self.false,
-  told _ _ _ _ _ _ _ _ _ _ _ _ _ _ _ c.self.view_is
+  told _ _ _ _ _ _ _ _ _ _ _ _ _ _ _ _ _ _ _ c.self.view_is
       (ap (λ s. line_of (sends_on s)) c.send.ensures.line)
       (ap (λ s. line_of (receives_on s)) c.take.ensures.line)
       (one_more_sent _ _ _ _ c.self.invariant _ _ _ c.in_default.ensures.sent)
       (ap (λ v. whats v.taken) c.in-Some.ensures.taken.0 ∙ whats_more _ _)
-      (ap (λ o. o.gone) c.self.view_is),
+      (ap (λ o. o.gone) c.self.view_is)
+      c.in_default.ensures.closing
+      c.in-Some.ensures.closing,
 )
 
 pub returns-in-None : goal.returns-in-None
 returns-in-None g c = (
   sym (ap (λ o. o.gone) c.self.view_is) ∙ c.if-self.false,
-  told_none _ _ _ _ _ _ _ _ _ _ _ _ c.self.view_is
+  told_none _ _ _ _ _ _ _ _ _ _ _ _ _ _ _ _ c.self.view_is
       (ap (λ s. line_of (sends_on s)) c.send.ensures.line)
       (ap (λ s. line_of (receives_on s)) c.take.ensures.line)
       (one_more_sent _ _ _ _ c.self.invariant _ _ _ c.in_default.ensures.sent)
-      (ap (λ v. whats v.taken) c.in-None.ensures.taken),
+      (ap (λ v. whats v.taken) c.in-None.ensures.taken)
+      c.in_default.ensures.closing
+      c.in-None.ensures.closing,
 )

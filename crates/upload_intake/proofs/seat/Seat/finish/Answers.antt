@@ -5,9 +5,10 @@ use Rattle.upload_intake.proofs.SeatMoves.{ended_by, same_by, told_nothing}
 use Rattle.upload_intake.proofs.seat.Seat.finish.Goals as goal
 
 pub invariant_of-result : goal.invariant_of-result
-invariant_of-result g c = ended_by _ _ _ _ c.self.invariant _ _ c.send.ensures.sent
+invariant_of-result g c = ended_by _ _ _ _ c.self.invariant _ _ c.offer.ensures.sent
 
 pub returns : goal.returns
-returns g c = told_nothing _ _ _ _ _ _ _ _ _ c.self.view_is
-    (ap (λ s. line_of (sends_on s)) c.send.ensures.line)
-    (same_by _ _ _ _ c.self.invariant _ _ c.send.ensures.sent)
+returns g c = told_nothing _ _ _ _ _ _ _ _ _ _ _ _ c.self.view_is
+    (ap (λ s. line_of (sends_on s)) c.offer.ensures.line)
+    (same_by _ _ _ _ c.self.invariant _ _ c.offer.ensures.sent)
+    c.offer.ensures.same
