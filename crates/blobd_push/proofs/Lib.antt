@@ -1,2 +1,4 @@
+pub mod Answered
+pub mod Dialing
 pub mod PrintedTexts
 pub mod PushedLines

@@ -1,3 +1,5 @@
+pub mod Answered
+pub mod Dials
 pub mod Pauses
 pub mod Pushed
 pub mod Trouble

@@ -1,6 +1,6 @@
 -- What a push prints, and the exit status that goes with it.
-use Rattle.std.specs.Prelude.{◌≡◌, ℕ, nat_lt, Bool, ◌&&◌, true, false, ◌⊎◌, List, ◌++◌, length, codes, decimal, Result}
-use Rattle.std.specs.Prelude.{Ok, Err, Option, Some, None, if◌then◌else◌}
+use Rattle.std.specs.Prelude.{◌≡◌, ℕ, nat_lt, Bool, ◌&&◌, true, false, ◌⊎◌, List, [], ◌++◌, length, codes, decimal}
+use Rattle.std.specs.Prelude.{Result, Ok, Err, Option, Some, None, if◌then◌else◌}
 use Rattle.std.specs.List.{list_all}
 use Rattle.std.specs.Char.{is_ascii_graphic}
 use Rattle.std.specs.Io.KnownBytes.{Appends}
@@ -11,8 +11,6 @@ use Rattle.upload_names.specs.Digest.{Digest, digest_text}
 use Rattle.upload_names.specs.declared.digest.Algorithm.TheVariants.{Sha256}
 use Rattle.upload_service.specs.declared.ask.Ask.TheVariants.{Has}
 use Rattle.upload_client.specs.declared.heard.Heard.{Heard}
-use Rattle.upload_client.specs.TransportText.{WireState}
-use Rattle.upload_push.specs.Dialed.{AsksDialed}
 use Rattle.upload_push.specs.Looking.{is_found}
 use Rattle.upload_push.specs.Slices.{Push, IsPush, Leads, AreUnheard, push_of, log_of, after_all}
 use Rattle.upload_push.specs.declared.pusher.Outcome.{Outcome}
@@ -23,6 +21,7 @@ use Rattle.upload_push.specs.declared.pushing.PushFault.{PushFault}
 use Rattle.upload_push.specs.declared.pushing.PushFault.TheVariants as faults
 use Rattle.upload_push.specs.declared.pusher.Phase.{Phase}
 use Rattle.upload_push.specs.declared.pusher.Phase.TheVariants.{Done, GaveUp}
+use Rattle.blobd_push.specs.Dials.{DialEvent, Dialing, AsksIn, dialing, history_at_end}
 use Rattle.blobd_shared.specs.Status.{IsPrinted, line}
 
 -- one or more bytes, all of them visible ASCII
@@ -62,38 +61,43 @@ IsEndLine digest (Err faults.NoMemory) before after status = status ≡ 3
 
 -- The look before a push to this host: what was heard to a HEAD of the blob, over a connection that was made for it,
 -- and the connection that is kept behind it.
-pub record Look (host name : List ℕ) (digest : Digest) : Type 0 where
+pub record Look (host name : List ℕ) (digest : Digest) (before : Dialing) : Type 0 where
   pub heard : Option Heard
-  pub kept : Option WireState
-  pub asked : AsksDialed host None (Has name digest true) heard kept
+  pub behind : Dialing
+  pub asked : AsksIn host before (Has name digest true) heard behind
 
 -- Behind the look the push ended so: as already there if the blob was found; else there is all that it heard, each over
 -- the connection that was kept or over a new one.
-abbrev pub IsSentBehind : (host : List ℕ) (p : Push) → Look host p.name p.digest → Result Outcome PushFault → Type 0
-IsSentBehind host p look end =
-    ((is_found look.heard ≡ true) × (end ≡ Ok Already))
-    ⊎ ((is_found look.heard ≡ false) × ((last : Option WireState) × IsPush (AsksDialed host) p look.kept last end))
+abbrev pub IsSentBehind : (host : List ℕ) (p : Push) {before : Dialing} → Look host p.name p.digest before → Dialing
+    → Result Outcome PushFault → Type 0
+IsSentBehind host p look after end =
+    ((is_found look.heard ≡ true) × (after ≡ look.behind) × (end ≡ Ok Already))
+    ⊎ ((is_found look.heard ≡ false) × IsPush (AsksIn host) p look.behind after end)
 
--- The push was sent to this host behind a look, and ended so; or it ended out of memory.
-abbrev pub IsSent : List ℕ → Push → Result Outcome PushFault → Type 0
-IsSent host p end = ((look : Look host p.name p.digest) × IsSentBehind host p look end) ⊎ (end ≡ Err faults.NoMemory)
+-- The push was sent to this host behind a look, and ended so; or it ended out of memory before it asked anything.
+abbrev pub IsSent : List ℕ → Push → Dialing → Dialing → Result Outcome PushFault → Type 0
+IsSent host p before after end =
+    ((look : Look host p.name p.digest before) × IsSentBehind host p look after end)
+    ⊎ ((end ≡ Err faults.NoMemory) × (after ≡ before))
 
--- The blob was found: its line was printed and nothing else.
-pub record IsFoundLine {host name : List ℕ} {digest : Digest} (look : Look host name digest)
-    (before after : Option (List ℕ)) (status : ℕ) : Type 0 where
+-- The blob was found: its line was printed and nothing else. All that was done with connections is this history's.
+pub record IsFoundLine {host name : List ℕ} {digest : Digest} {start : Dialing} (look : Look host name digest start)
+    (history : List DialEvent) (before after : Option (List ℕ)) (status : ℕ) : Type 0 where
   pub found : is_found look.heard ≡ true
+  pub given_back : history ≡ history_at_end look.behind
   pub is_status : status ≡ 0
   pub printed : Appends before after (line (outcome_word Already ++ (codes " " ++ digest_text digest)))
 
 -- The blob wasn't found, and there is all that the push heard behind the look: its asks in turn went over the
 -- connection that was kept or over a new one, and this was heard there. The line of that push's end was printed and
--- nothing else.
-pub record IsPushLine {host : List ℕ} (p : Push) (look : Look host p.name p.digest) (before after : Option (List ℕ))
-    (status : ℕ) : Type 0 where
+-- nothing else. All that was done with connections is this history's.
+pub record IsPushLine {host : List ℕ} (p : Push) {start : Dialing} (look : Look host p.name p.digest start)
+    (history : List DialEvent) (before after : Option (List ℕ)) (status : ℕ) : Type 0 where
   pub missing : is_found look.heard ≡ false
   pub heard : List (Option Heard)
-  pub last : Option WireState
-  pub over : Leads (AsksDialed host) look.kept (log_of p heard) last
+  pub last : Dialing
+  pub over : Leads (AsksIn host) look.behind (log_of p heard) last
+  pub given_back : history ≡ history_at_end last
   pub text : List ℕ
   -- if nothing was heard, as if no connection could be made, the line tells no status: it says that the tries are
   -- used up
@@ -101,20 +105,46 @@ pub record IsPushLine {host : List ℕ} (p : Push) (look : Look host p.name p.di
   pub told : PrintsPush p.digest (after_all p heard).phase status text
   pub printed : Appends before after (line text)
 
--- A push to this host looked first, and the line of the blob that was found or of the push's end was printed.
-abbrev pub IsLookedLine : List ℕ → Push → Option (List ℕ) → Option (List ℕ) → ℕ → Type 0
-IsLookedLine host p before after status =
-    (look : Look host p.name p.digest) × (IsFoundLine look before after status ⊎ IsPushLine p look before after status)
+-- A push to this host looked first, and the line of the blob that was found or of the push's end was printed. The
+-- connections went from the first history to the second.
+abbrev pub IsLookedLine : List ℕ → Push → List DialEvent → List DialEvent → Option (List ℕ) → Option (List ℕ) → ℕ
+    → Type 0
+IsLookedLine host p old new before after status =
+    (look : Look host p.name p.digest (dialing old))
+    × (IsFoundLine look new before after status ⊎ IsPushLine p look new before after status)
 
 -- The name isn't one, and a line that says so was printed and nothing else, with status 1.
 abbrev pub IsNameLine : List ℕ → Option (List ℕ) → Option (List ℕ) → ℕ → Type 0
 IsNameLine name before after status =
     ¬ (IsName name) × (status ≡ 1) × Appends before after (line (codes "refused: name"))
 
--- The name isn't one; or a file was pushed under it to this address with 5 tries, unless it was found there, and the
--- line of that was printed, with its status; or the status is that of a fault.
+-- A push to this host was begun, whatever came of it: it looked, and if the blob wasn't found this was heard to what it
+-- asked behind the look, over the connection that was kept or over a new one. All that was done with connections is
+-- this history's.
+pub record HasAsked (host : List ℕ) (p : Push) (old new : List DialEvent) : Type 0 where
+  pub look : Look host p.name p.digest (dialing old)
+  pub heard : List (Option Heard)
+  pub found : is_found look.heard ≡ true → heard ≡ []
+  pub last : Dialing
+  pub over : Leads (AsksIn host) look.behind (log_of p heard) last
+  pub given_back : new ≡ history_at_end last
+
+-- the same, or no connection was made
+abbrev pub IsBegun : List ℕ → Push → List DialEvent → List DialEvent → Type 0
+IsBegun host p old new = (new ≡ old) ⊎ HasAsked host p old new
+
+-- The name isn't one, and no connection was made; or a file was pushed under it to this host with 5 tries, unless it
+-- was found there, over the connections that were made from the first history to the second, and the line of that was
+-- printed, with its status; or the status is that of a fault, with which a push may end once it was begun.
+abbrev pub IsPushedOver : List ℕ → List ℕ → List ℕ → ℕ → List DialEvent → List DialEvent → Option (List ℕ)
+    → Option (List ℕ) → ℕ → Type 0
+IsPushedOver host name file chunk old new before after status =
+    ((IsNameLine name before after status × (new ≡ old))
+    ⊎ (IsName name × IsLookedLine host (push_of Sha256 name file chunk 5) old new before after status))
+    ⊎ ((status ≡ 3) × IsBegun host (push_of Sha256 name file chunk 5) old new)
+
+-- The same of an address, over connections that began with none.
 abbrev pub IsPushed : SocketAddr → List ℕ → List ℕ → ℕ → Option (List ℕ) → Option (List ℕ) → ℕ → Type 0
 IsPushed addr name file chunk before after status =
-    (IsNameLine name before after status
-    ⊎ (IsName name × IsLookedLine (socket_text addr) (push_of Sha256 name file chunk 5) before after status))
-    ⊎ (status ≡ 3)
+    (history : List DialEvent)
+    × IsPushedOver (socket_text addr) name file chunk [] history before after status

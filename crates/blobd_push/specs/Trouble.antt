@@ -27,9 +27,16 @@ is_http bytes = starts_with nat_eq bytes (codes "HTTP/") || starts_with nat_eq (
 abbrev pub trouble_in : List ℕ → Option Trouble
 trouble_in bytes = if is_tls bytes then Some Tls else if is_http bytes then None else Some NotHttp
 
--- Linux's number of an error; EAGAIN is that of a read or a write that no byte moved in time
-abbrev pub error_trouble : ℕ → Trouble
-error_trouble number = if number == 11 then Silence else System number
+-- Linux's number of an error; EAGAIN is that of a read or a write that no byte moved in time, and a connection that
+-- wasn't made in time has none
+abbrev pub error_trouble : Option ℕ → Trouble
+error_trouble None = NoConnection
+error_trouble (Some number) = if number == 11 then Silence else System number
+
+-- the first trouble of a request is what went wrong with it
+abbrev pub first_trouble : Trouble → Trouble → Trouble
+first_trouble NoReply new = new
+first_trouble before new = before
 
 -- nothing was asked yet
 abbrev pub new_course : Course

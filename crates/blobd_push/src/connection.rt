@@ -1,57 +1,52 @@
-//! A connection of a push: it ends if nothing moves for too long, goes on after a signal, and notes what went wrong.
-ghost use Rattle.std.specs.Prelude.{◌≡◌, ◌≢◌, IfErr, IfOk, IsErr};
-ghost use Rattle.std.specs.Duration.{as_nanos};
-ghost use Rattle.std.specs.Io.{ReadsAtMost, WritesAtMost};
+//! The two halves of a connection of a push: a signal ends no read and no write, and what goes wrong is noted.
+ghost use Rattle.std.specs.Prelude.{◌≡◌, ◌≢◌, ◌≤◌, [], length, IfErr, IfOk, false};
 ghost use Rattle.std.specs.IoError.{error_kind};
-ghost use Rattle.http_wire.specs.Halves.{AreUnused};
+ghost use Rattle.blobd_push.specs.Dials.{ReadGives, WriteTakes};
 
-use crate::trouble::{Trouble, error_trouble, trouble_in};
-use http_wire::{FromRead, ToWrite};
+use crate::dials::{Inlet, Outlet};
+use crate::trouble::{Trouble, error_trouble, first_trouble, trouble_in};
+use http_wire::{ByteSink, ByteSource, Failed, History};
 use std::cell::Cell;
 use std::io;
-use std::io::{ErrorKind, Read, Write};
-use std::net::{Net, SocketAddr, TcpStream};
-use std::time::Duration;
-
-/// How long a push waits for a connection, in seconds.
-const CONNECT_SECONDS: u64 = 10;
-
-/// How long a server may be silent, and how long it may take no byte, in seconds.
-const SILENCE_SECONDS: u64 = 30;
-
-/// What is read from a connection.
-pub(crate) type Reader<'n> = FromRead<Half<'n>>;
-
-/// What is written to it.
-pub(crate) type Writer<'n> = ToWrite<Half<'n>>;
+use std::io::ErrorKind;
 
 /// One half of a connection. What goes wrong is noted, the first trouble of a request alone.
 #[derive(Drop)]
-pub(crate) struct Half<'n> {
-    stream: TcpStream,
+pub(crate) struct Half<'n, S> {
+    stream: S,
     trouble: &'n Cell<Trouble>,
     /// Whether a byte was read.
     begun: bool,
+    // For contracts alone: an item for each call, for each that failed, and for each write that no flush handed on.
+    calls: History<()>,
+    failed: History<()>,
+    unflushed: History<()>,
 }
 
 /// Notes a trouble, unless there was one before.
 fn note(trouble: &Cell<Trouble>, new: Trouble) {
-    if trouble.get() == Trouble::NoReply {
-        trouble.set(new);
+    trouble.set(first_trouble(trouble.get(), new));
+}
+
+/// Notes what an error is.
+pub(crate) fn note_error(trouble: &Cell<Trouble>, error: &io::Error) {
+    let number = error.raw_os_error().map(|number| number.unsigned_abs());
+    note(trouble, error_trouble(number));
+}
+
+/// Notes what is wrong with bytes that were read, the first of a connection or not.
+fn note_read(trouble: &Cell<Trouble>, first: bool, read: &[u8]) {
+    if read.is_empty() {
+        note(trouble, Trouble::Closed);
+    } else if first && let Some(wrong) = trouble_in(read) {
+        note(trouble, wrong);
     }
 }
 
-/// What the system's error comes to; an error that has no number is that of a connection which wasn't made in time.
-fn trouble_of(error: &io::Error) -> Trouble {
-    match error.raw_os_error() {
-        Some(number) => error_trouble(number.unsigned_abs()),
-        None => Trouble::NoConnection,
-    }
-}
-
-/// Reads, and again if a signal ended the read.
-fn read_through(stream: &mut TcpStream, buf: &mut [u8]) -> io::Result<usize>
-    ensures bound { ReadsAtMost result buf.new }
+/// Reads, and again if a signal ended the read. What it gives is what the stream gave.
+fn read_through<S: Inlet>(stream: &mut S, buf: &mut [u8]) -> io::Result<usize>
+    ensures bound { IfOk result (λ n. n ≤ length buf.new) }
+    ensures told { ReadGives (S.given stream.old) (S.given stream.new) result buf.new }
     ensures through { IfErr result (λ error. error_kind error ≢ ErrorKind.Interrupted) }
 {
     for _ in 0..u64::MAX {
@@ -63,9 +58,10 @@ fn read_through(stream: &mut TcpStream, buf: &mut [u8]) -> io::Result<usize>
     Err(io::Error::from(ErrorKind::TimedOut))
 }
 
-/// Writes, and again if a signal ended the write.
-fn write_through(stream: &mut TcpStream, buf: &[u8]) -> io::Result<usize>
-    ensures bound { WritesAtMost result buf.now }
+/// Writes, and again if a signal ended the write. What it takes is what the stream took.
+fn write_through<S: Outlet>(stream: &mut S, buf: &[u8]) -> io::Result<usize>
+    ensures bound { IfOk result (λ n. n ≤ length buf.now) }
+    ensures told { WriteTakes (S.taken stream.old) (S.taken stream.new) result buf.now }
     ensures through { IfErr result (λ error. error_kind error ≢ ErrorKind.Interrupted) }
 {
     for _ in 0..u64::MAX {
@@ -77,90 +73,100 @@ fn write_through(stream: &mut TcpStream, buf: &[u8]) -> io::Result<usize>
     Err(io::Error::from(ErrorKind::TimedOut))
 }
 
-impl<'n> Half<'n> {
-    fn new(stream: TcpStream, trouble: &'n Cell<Trouble>) -> Half<'n> {
+impl<'n, S> Half<'n, S> {
+    /// A half over a stream, with no call counted.
+    pub(crate) fn new(stream: S, trouble: &'n Cell<Trouble>) -> Half<'n, S>
+        ensures stream { result.stream ≡ stream }
+        ensures uncalled { (result.calls ≡ []) × (result.failed ≡ []) × (result.unflushed ≡ []) }
+    {
         Half {
             stream,
             trouble,
             begun: false,
+            calls: History::none(),
+            failed: History::none(),
+            unflushed: History::none(),
         }
     }
 
-    /// Notes what is wrong with what was read.
-    fn look_at(&mut self, read: &[u8]) {
-        if read.is_empty() {
-            note(self.trouble, Trouble::Closed);
-        } else if !self.begun {
-            self.begun = true;
-            if let Some(trouble) = trouble_in(read) {
-                note(self.trouble, trouble);
+    /// The stream, with what moved over it.
+    pub(crate) fn into_stream(self) -> S
+        ensures { result ≡ self.entry.stream }
+    {
+        let Half { stream, .. } = self;
+        stream
+    }
+}
+
+impl<'n, S: Inlet> ByteSource for Half<'n, S> {
+    ghost use Rattle.std.specs.Prelude.{length, None};
+
+    // What it gives is what its stream gave; what that will give isn't known.
+    ghost state = { λ h. record {
+      given = (S.given h.stream).bytes;
+      ended = (S.given h.stream).ended;
+      remaining = None;
+      reads = length h.calls;
+      failed_reads = length h.failed;
+    } };
+
+    fn read(&mut self, buf: &mut [u8]) -> Result<usize, Failed> {
+        self.calls = self.calls.and(&());
+        match read_through(&mut self.stream, buf) {
+            Ok(count) => {
+                note_read(self.trouble, !self.begun, &buf[..count]);
+                self.begun = self.begun || count > 0;
+                Ok(count)
+            }
+            Err(error) => {
+                note_error(self.trouble, &error);
+                self.failed = self.failed.and(&());
+                Err(Failed)
             }
         }
     }
 }
 
-impl<'n> Read for Half<'n> {
-    fn read(&mut self, buf: &mut [u8]) -> io::Result<usize> {
-        let result = read_through(&mut self.stream, buf);
-        match &result {
-            Ok(count) => self.look_at(&buf[..*count]),
-            Err(error) => note(self.trouble, trouble_of(error)),
+impl<'n, S: Outlet> ByteSink for Half<'n, S> {
+    ghost use Rattle.std.specs.Prelude.{length, None, ◌==◌};
+
+    // What it takes is what its stream took.
+    ghost state = { λ h. record {
+      taken = S.taken h.stream;
+      contents = None;
+      writes = length h.calls;
+      failed_writes = length h.failed;
+      flushed = length h.unflushed == 0;
+    } };
+
+    fn write(&mut self, buf: &[u8]) -> Result<usize, Failed> {
+        self.calls = self.calls.and(&());
+        self.unflushed = self.unflushed.and(&());
+        match write_through(&mut self.stream, buf) {
+            Ok(count) if count > 0 || buf.is_empty() => Ok(count),
+            Ok(_) => {
+                self.failed = self.failed.and(&());
+                Err(Failed)
+            }
+            Err(error) => {
+                note_error(self.trouble, &error);
+                self.failed = self.failed.and(&());
+                Err(Failed)
+            }
         }
-        result
     }
-}
 
-impl<'n> Write for Half<'n> {
-    fn write(&mut self, buf: &[u8]) -> io::Result<usize> {
-        let result = write_through(&mut self.stream, buf);
-        if let Err(error) = &result {
-            note(self.trouble, trouble_of(error));
+    fn flush(&mut self) -> Result<(), Failed> {
+        self.calls = self.calls.and(&());
+        match self.stream.flush() {
+            Ok(()) => {
+                self.unflushed = History::none();
+                Ok(())
+            }
+            Err(_) => {
+                self.failed = self.failed.and(&());
+                Err(Failed)
+            }
         }
-        result
     }
-
-    fn flush(&mut self) -> io::Result<()> {
-        self.stream.flush()
-    }
-}
-
-/// Ends the reads and writes of a connection that move no byte for as long as `silence`, which is more than zero: they
-/// fail.
-fn end_silence(stream: &TcpStream, silence: Duration) -> io::Result<()>
-    ensures { as_nanos silence ≡ 0 → IsErr result }
-{
-    stream.set_read_timeout(Some(silence))?;
-    stream.set_write_timeout(Some(silence))
-}
-
-/// The two halves of a new connection. An error is the system's, or says that no connection was made in time; it is
-/// noted.
-pub(crate) fn connect<'n, R: Net<Stream = TcpStream>>(
-    rt: &R,
-    addr: SocketAddr,
-    trouble: &'n Cell<Trouble>,
-) -> io::Result<(Reader<'n>, Writer<'n>)>
-    ensures { IfOk result (λ halves. AreUnused halves.0 halves.1) }
-{
-    let made = halves(rt, addr, trouble);
-    if let Err(error) = &made {
-        note(trouble, trouble_of(error));
-    }
-    made
-}
-
-fn halves<'n, R: Net<Stream = TcpStream>>(
-    rt: &R,
-    addr: SocketAddr,
-    trouble: &'n Cell<Trouble>,
-) -> io::Result<(Reader<'n>, Writer<'n>)>
-    ensures { IfOk result (λ halves. AreUnused halves.0 halves.1) }
-{
-    let stream = TcpStream::connect_timeout(rt, &addr, Duration::from_secs(CONNECT_SECONDS))?;
-    end_silence(&stream, Duration::from_secs(SILENCE_SECONDS))?;
-    // A peer that has gone already can make this fail; the reads and writes will tell.
-    let _ = stream.set_nodelay(true);
-    let reader = Half::new(stream.try_clone()?, trouble);
-    let writer = Half::new(stream, trouble);
-    Ok((FromRead::new(reader), ToWrite::new(writer)))
 }

@@ -1,21 +1,24 @@
 //! The connections of a push, which are made anew after a fault.
-ghost use Rattle.std.specs.Prelude.{◌≡◌, IfSome, None, string_bytes};
+ghost use Rattle.std.specs.Prelude.{◌≡◌, ◌++◌, ◌∷◌, [], IfSome, IfNone, None};
 ghost use Rattle.std.specs.List.{list_all};
 ghost use Rattle.std.specs.Char.{is_ascii_graphic};
 ghost use Rattle.upload_client.specs.AskText.{CanBeWritten, ask_of_chunk};
-ghost use Rattle.upload_push.specs.Dialed.{AsksDialed, Connects, IsNew, kept_or};
+ghost use Rattle.upload_push.specs.Dialed.{IsNew};
+ghost use Rattle.blobd_push.specs.Dials.{AsksIn, Gets, GetsNone, behind_ask, dialing, dialing_of};
+ghost use Rattle.blobd_push.specs.Dials.{history_at_end, with_back};
+ghost use Rattle.blobd_push.specs.Dials.DialEvent.{made};
 ghost use Rattle.blobd_push.specs.Pushed.{is_word};
 ghost use Rattle.blobd_push.specs.Trouble.{course_after, new_course};
 ghost use Rattle.blobd_push.specs.Pauses.{pause_after};
 
 use crate::bar::Bar;
-use crate::connection::{Reader, Writer, connect};
+use crate::connection::{Half, note_error};
+use crate::dials::Dials;
 use crate::pauses::pause_after;
 use crate::trouble::{Course, Trouble, course_after, status_trouble};
 use std::alloc::{AllocError, Global};
 use std::cell::Cell;
 use std::io::Eprint;
-use std::net::{Net, SocketAddr, TcpStream};
 use std::rt::Clock;
 use std::thread;
 use std::time::Duration;
@@ -36,19 +39,20 @@ pub(crate) fn is_word(text: &[u8]) -> bool
     !text.is_empty() && are_visible(text)
 }
 
-/// A connection over sockets.
-type Wire<'r> = WireTransport<Reader<'r>, Writer<'r>>;
+/// A connection of a dialer.
+type Wire<'r, D> = WireTransport<Half<'r, <D as Dials>::In>, Half<'r, <D as Dials>::Out>>;
 
 /// The asks of one push, over a connection to its server. After a fault, and behind a reply that ends it, the
-/// connection is closed, and the next ask makes another.
+/// connection is given back, and the next ask makes another.
 #[derive(Drop)]
-pub(crate) struct Dialer<'r, R> {
+pub(crate) struct Dialer<'r, D: Dials, R> {
     rt: &'r R,
     alloc: Global,
-    addr: SocketAddr,
-    host: String,
+    /// Where its connections come from.
+    dials: D,
+    host: &'r str,
     /// The connection that is kept.
-    wire: Option<Wire<'r>>,
+    wire: Option<WireTransport<Half<'r, D::In>, Half<'r, D::Out>>>,
     /// How long it waits before the next ask, in milliseconds.
     pause: u64,
     /// How its asks went.
@@ -58,24 +62,25 @@ pub(crate) struct Dialer<'r, R> {
     bar: Bar<'r, R>,
 }
 
-impl<'r, R: Net<Stream = TcpStream>> Dialer<'r, R> {
-    /// Asks that go to an address, which is their Host too. No connection is made before the first.
+impl<'r, D: Dials + Drop, R> Dialer<'r, D, R> {
+    /// Asks to this host. No connection is made before the first.
     pub(crate) fn new(
         rt: &'r R,
         alloc: Global,
-        addr: SocketAddr,
-        host: String,
+        dials: D,
+        host: &'r str,
         trouble: &'r Cell<Trouble>,
         bar: Bar<'r, R>,
-    ) -> Dialer<'r, R>
-        ensures host { string_bytes result.host ≡ string_bytes host }
-        ensures unconnected { result.wire ≡ None }
+    ) -> Dialer<'r, D, R>
+        ensures host { result.host.now ≡ host.now }
+        ensures unconnected { dialing_of D.history result.wire result.dials
+            ≡ dialing (D.history dials) }
         ensures fresh { (result.pause ≡ 0) × (result.course ≡ new_course) }
     {
         Dialer {
             rt,
             alloc,
-            addr,
+            dials,
             host,
             wire: None,
             pause: 0,
@@ -88,28 +93,63 @@ impl<'r, R: Net<Stream = TcpStream>> Dialer<'r, R> {
         }
     }
 
-    /// How its asks went, and the bar, which is needed no more here.
-    pub(crate) fn into_parts(self) -> (Course, Bar<'r, R>)
-        ensures { (result.0 ≡ self.entry.course) × (result.1 ≡ self.entry.bar) }
+    /// Gives back the connection that is kept. How its asks went, the bar, which is needed no more here, and where its
+    /// connections came from.
+    pub(crate) fn into_parts(self) -> (Course, Bar<'r, R>, D)
+        ensures parts { (result.0 ≡ self.entry.course) × (result.1 ≡ self.entry.bar) }
+        ensures history { D.history result.2
+            ≡ history_at_end (dialing_of D.history self.entry.wire self.entry.dials) }
     {
-        let Dialer { course, bar, .. } = self;
-        (course, bar)
+        let Dialer {
+            course,
+            bar,
+            mut dials,
+            wire,
+            ..
+        } = self;
+        if let Some(wire) = wire {
+            hand_back(&mut dials, wire);
+        }
+        (course, bar, dials)
     }
 
     /// A new connection, or `None` if it can't be made, also if memory is full.
-    fn dial(&self) -> Option<Wire<'r>>
-        ensures { IfSome result (IsNew (string_bytes self.now.host)) }
+    fn dial(&mut self) -> Option<Wire<'r, D>>
+        ensures some { IfSome result (λ wire. IsNew self.old.host.now wire
+            × (D.history self.new.dials ≡ D.history self.old.dials ++ made ∷ [])) }
+        ensures none { IfNone result (GetsNone self.old.host.now None
+            (D.history self.old.dials) (D.history self.new.dials)) }
+        ensures same { (self.new.host ≡ self.old.host) × (self.new.pause ≡ self.old.pause)
+            × (self.new.course ≡ self.old.course) × (self.new.wire ≡ self.old.wire) }
     {
         if !is_word(self.host.as_bytes()) {
             return None;
         }
-        let (reader, writer) = connect(self.rt, self.addr, self.trouble).ok()?;
-        WireTransport::new(self.alloc, reader, writer, self.host.as_bytes()).ok()
+        let (source, sink) = match self.dials.dial() {
+            Ok(ends) => ends,
+            Err(error) => {
+                note_error(self.trouble, &error);
+                return None;
+            }
+        };
+        let source = Half::new(source, self.trouble);
+        let sink = Half::new(sink, self.trouble);
+        match WireTransport::over(self.alloc, source, sink, self.host.as_bytes()) {
+            Ok(wire) => Some(wire),
+            Err((source, sink)) => {
+                self.dials
+                    .take_back(source.into_stream(), sink.into_stream());
+                None
+            }
+        }
     }
 
     /// The connection that was kept, or a new one.
-    fn connected(&mut self) -> Option<Wire<'r>>
-        ensures found { Connects (string_bytes self.old.host) self.old.wire result }
+    fn connected(&mut self) -> Option<Wire<'r, D>>
+        ensures some { IfSome result (λ wire. Gets self.old.host.now self.old.wire
+            (D.history self.old.dials) wire (D.history self.new.dials)) }
+        ensures none { IfNone result (GetsNone self.old.host.now self.old.wire
+            (D.history self.old.dials) (D.history self.new.dials)) }
         ensures left { self.new.wire ≡ None }
         ensures same { (self.new.host ≡ self.old.host) × (self.new.pause ≡ self.old.pause)
             × (self.new.course ≡ self.old.course) }
@@ -120,22 +160,27 @@ impl<'r, R: Net<Stream = TcpStream>> Dialer<'r, R> {
         }
     }
 
-    /// Keeps a connection over which more can be asked.
-    fn keep(&mut self, wire: Wire<'r>)
-        ensures kept { self.new.wire ≡ kept_or self.old.wire wire.entry }
+    /// Keeps a connection over which more can be asked, and gives another back.
+    fn keep(&mut self, wire: Wire<'r, D>)
+        requires { self.old.wire ≡ None }
+        ensures kept { dialing_of D.history self.new.wire self.new.dials
+            ≡ behind_ask (D.history self.old.dials) wire.entry }
         ensures same { (self.new.host ≡ self.old.host) × (self.new.pause ≡ self.old.pause)
             × (self.new.course ≡ self.old.course) }
     {
         if wire.stays_open() {
             self.wire = Some(wire);
+        } else {
+            hand_back(&mut self.dials, wire);
         }
     }
 
     /// The reply to a request over the connection, or over a new one if there is none.
     fn exchange(&mut self, ask: Ask) -> Option<Heard>
         requires { CanBeWritten ask }
-        ensures asked { AsksDialed (string_bytes self.old.host) self.old.wire ask
-            result self.new.wire }
+        ensures asked { AsksIn self.old.host.now
+            (dialing_of D.history self.old.wire self.old.dials) ask
+            result (dialing_of D.history self.new.wire self.new.dials) }
         ensures same { (self.new.host ≡ self.old.host) × (self.new.pause ≡ self.old.pause)
             × (self.new.course ≡ self.old.course) }
     {
@@ -148,22 +193,29 @@ impl<'r, R: Net<Stream = TcpStream>> Dialer<'r, R> {
     /// The same of a chunk, which is written from the bytes that are lent.
     fn exchange_chunk(&mut self, chunk: &LentChunk<'_>) -> Option<Heard>
         requires { CanBeWritten (ask_of_chunk chunk.now) }
-        ensures asked { AsksDialed (string_bytes self.old.host) self.old.wire
-            (ask_of_chunk chunk.now) result self.new.wire }
+        ensures asked { AsksIn self.old.host.now
+            (dialing_of D.history self.old.wire self.old.dials) (ask_of_chunk chunk.now)
+            result (dialing_of D.history self.new.wire self.new.dials) }
         ensures same { (self.new.host ≡ self.old.host) × (self.new.pause ≡ self.old.pause)
             × (self.new.course ≡ self.old.course) }
     {
         let mut wire = self.connected()?;
         // It takes no memory for a copy: there is always an answer.
-        let Ok(heard) = wire.ask_chunk(chunk) else {
-            return None;
-        };
+        let heard = wire.ask_chunk(chunk).unwrap_or(None);
         self.keep(wire);
         heard
     }
 }
 
-impl<'r, R: Net<Stream = TcpStream> + Clock + Eprint> Dialer<'r, R> {
+/// Gives a connection back.
+fn hand_back<'r, D: Dials>(dials: &mut D, wire: Wire<'r, D>)
+    ensures { D.history dials.new ≡ with_back (D.history dials.old) wire.entry }
+{
+    let (source, sink) = wire.into_halves();
+    dials.take_back(source.into_stream(), sink.into_stream());
+}
+
+impl<'r, D: Dials + Drop, R: Clock + Eprint> Dialer<'r, D, R> {
     /// Waits as long as what was heard last wants. Nothing has gone wrong with the next ask yet.
     fn begin(&self) {
         if self.pause > 0 {
@@ -174,7 +226,8 @@ impl<'r, R: Net<Stream = TcpStream> + Clock + Eprint> Dialer<'r, R> {
 
     /// Keeps what follows from what was heard: how long to wait, and how the asks went.
     fn end(&mut self, heard: &Option<Heard>)
-        ensures kept { (self.new.host ≡ self.old.host) × (self.new.wire ≡ self.old.wire) }
+        ensures kept { (self.new.host ≡ self.old.host) × (self.new.wire ≡ self.old.wire)
+            × (self.new.dials ≡ self.old.dials) }
         ensures pause { self.new.pause ≡ pause_after heard.now self.old.pause }
         ensures course { self.new.course ≡ course_after heard.now self.old.course }
     {
@@ -189,11 +242,12 @@ impl<'r, R: Net<Stream = TcpStream> + Clock + Eprint> Dialer<'r, R> {
     }
 }
 
-impl<'r, R: Net<Stream = TcpStream> + Clock + Eprint> Transport for Dialer<'r, R> {
+impl<'r, D: Dials + Drop, R: Clock + Eprint> Transport for Dialer<'r, D, R> {
     // What is heard is what its connections say, and how long it waits before the next ask is kept; nothing is said of
     // what a network delivers.
     ghost asked = { λ old ask heard new.
-        AsksDialed (string_bytes old.host) old.wire ask heard new.wire
+        AsksIn old.host.now (dialing_of D.history old.wire old.dials) ask heard
+        (dialing_of D.history new.wire new.dials)
         × (new.host ≡ old.host) × (new.pause ≡ pause_after heard old.pause)
         × (new.course ≡ course_after heard old.course) };
 

@@ -1,20 +1,22 @@
 //! `blobd push`: a file goes up, over connections that are made anew after a fault.
-ghost use Rattle.std.specs.Prelude.{length, ◌≡◌, ◌≤◌, ◌^◌, ◌++◌, codes, string_bytes, None, Some};
+ghost use Rattle.std.specs.Prelude.{length, ◌≡◌, ◌≤◌, ◌^◌, ◌++◌, codes, None, Some};
 ghost use Rattle.upload_names.specs.Digest.{content_digest, digest_text};
 ghost use Rattle.upload_names.specs.declared.digest.Algorithm.{Algorithm};
 ghost use Rattle.upload_push.specs.Slices.{push_under};
 ghost use Rattle.blobd_shared.specs.Status.{IsPrinted};
-ghost use Rattle.blobd_push.specs.Pushed.{IsEndLine, IsPushed, IsSent, outcome_word, shown_code, why_text};
+ghost use Rattle.blobd_push.specs.Dials.{dialing_of};
+ghost use Rattle.blobd_push.specs.Pushed.{IsEndLine, IsPushedOver, IsSent, outcome_word};
+ghost use Rattle.blobd_push.specs.Pushed.{shown_code, why_text};
 
 use crate::bar::Bar;
 use crate::dialer::{Dialer, is_word};
+use crate::dials::Dials;
 use crate::trouble::{Course, NAME_RULE, Trouble, reason_of};
 use blobd_shared::{DONE, FAULT, REFUSED, print_line};
 use sha2::{Digest, Sha256};
 use std::alloc::Global;
 use std::cell::Cell;
 use std::io::{Eprint, Write};
-use std::net::{Net, SocketAddr, TcpStream};
 use std::rt::Clock;
 use upload_names::{BlobDigest, Bytes, NameFault, RepoName};
 use upload_push::{Outcome, PushFault, Why, has_blob, push_under};
@@ -99,8 +101,8 @@ fn hash_file<R: Clock + Eprint>(file: &[u8], bar: &mut Bar<'_, R>) -> BlobDigest
 }
 
 /// Pushes a file under its digest over a dialer, unless the repository has the blob already, and says how that ended.
-fn send<R>(
-    dialer: &mut Dialer<'_, R>,
+fn send<D, R>(
+    dialer: &mut Dialer<'_, D, R>,
     alloc: Global,
     name: &RepoName,
     file: &[u8],
@@ -108,12 +110,14 @@ fn send<R>(
     digest: BlobDigest,
 ) -> Result<Outcome, PushFault>
 where
-    R: Net<Stream = TcpStream> + Clock + Eprint,
+    D: Dials + Drop,
+    R: Clock + Eprint,
     requires size { length file.now ≤ 2 ^ 40 }
     requires chunk { (1 ≤ chunk) × (chunk ≤ 2 ^ 31) }
-    requires unconnected { dialer.old.wire ≡ None }
-    ensures { IsSent (string_bytes dialer.old.host)
-        (push_under digest name.now file.now chunk 5) result }
+    ensures { IsSent dialer.old.host.now
+        (push_under digest name.now file.now chunk 5)
+        (dialing_of D.history dialer.old.wire dialer.old.dials)
+        (dialing_of D.history dialer.new.wire dialer.new.dials) result }
 {
     match has_blob(alloc, dialer, name, digest) {
         Ok(true) => Ok(Outcome::Already),
@@ -133,59 +137,53 @@ fn refuse_name<R: Eprint, W: Write>(rt: &R, out: &mut W) -> u8
 }
 
 /// Tells on standard error why a push was given up, if its line says too little. Nothing is promised of it.
-fn tell_why<R: Eprint>(rt: &R, addr: SocketAddr, why: &Why, course: Course, trouble: Trouble) {
+fn tell_why<R: Eprint>(rt: &R, host: &str, why: &Why, course: Course, trouble: Trouble) {
     if let Some(reason) = reason_of(why, course, trouble) {
-        let _ = eprintln!(rt; "blobd: can't push to {addr}: {reason}");
+        let _ = eprintln!(rt; "blobd: can't push to {host}: {reason}");
     }
 }
 
-/// Pushes a file's bytes under a repository's name to the server at `addr`, in chunks of at most `chunk` bytes, unless
-/// the repository has the blob already. Prints one line, and gives the exit status:
-///
-/// - `pushed` or `already` and the digest, 0: what each is worth is said at [`push`]. `already` comes too if a HEAD
-///   before the push was answered 200: then nothing is sent;
-/// - `refused: name` if `name` isn't one, and nothing is sent; `refused:` and the status and the error code of the
-///   reply that ended the push; `refused: bad server` after a reply that no such service gives; `refused: out of
-///   tries` after too many asks that weren't heard; 1;
-/// - `fault: memory`, 3; and 3 if the line can't be printed.
-///
-/// Standard error says more of what was refused. If it is a terminal, and so `seen`, a bar stands there meanwhile.
-pub fn run_push<R, W>(
-    rt: &R,
-    addr: SocketAddr,
-    name: &[u8],
-    file: &[u8],
-    chunk: u64,
-    seen: bool,
-    out: &mut W,
-) -> u8
+/// A file that is to be pushed.
+#[derive(Clone, Copy)]
+pub struct Job<'a> {
+    /// The repository's name.
+    pub name: &'a [u8],
+    pub file: &'a [u8],
+    /// How many bytes a chunk has at most.
+    pub chunk: u64,
+    /// Whether a bar is drawn on standard error.
+    pub seen: bool,
+}
+
+/// Pushes a file over connections to `host`, which it makes and gives back, and prints one line; gives the exit
+/// status, and hands back what it was lent: see [`run_push`](crate::run_push). What it heard was read over these
+/// connections, and it made no other.
+pub fn push_over<D, R, W>(rt: &R, dials: D, host: &str, job: Job<'_>, out: &mut W) -> (u8, D)
 where
-    R: Net<Stream = TcpStream> + AllocGlobal + Clock + Eprint,
+    D: Dials + Drop,
+    R: AllocGlobal + Clock + Eprint,
     W: Write,
-    requires size { length file.now ≤ 2 ^ 40 }
-    requires chunk { (1 ≤ chunk) × (chunk ≤ 2 ^ 31) }
-    ensures { IsPushed addr name.now file.now chunk (W.contents out.old)
-        (W.contents out.new) result }
+    requires size { length job.file.now ≤ 2 ^ 40 }
+    requires chunk { (1 ≤ job.chunk) × (job.chunk ≤ 2 ^ 31) }
+    ensures { IsPushedOver host.now job.entry.name.now job.entry.file.now job.entry.chunk
+        (D.history dials) (D.history result.1) (W.contents out.old) (W.contents out.new) result.0 }
 {
-    let name = match RepoName::read(rt.alloc(), name) {
+    let name = match RepoName::read(rt.alloc(), job.name) {
         Ok(name) => name,
-        Err(NameFault::NoMemory) => return print_line(out, "fault: memory", FAULT),
-        Err(NameFault::NotAName) => return refuse_name(rt, out),
-        Err(NameFault::TooLong) => return refuse_name(rt, out),
+        Err(NameFault::NoMemory) => return (print_line(out, "fault: memory", FAULT), dials),
+        Err(NameFault::NotAName) => return (refuse_name(rt, out), dials),
+        Err(NameFault::TooLong) => return (refuse_name(rt, out), dials),
     };
-    let Ok(host) = format!(in rt.alloc(); "{addr}") else {
-        return print_line(out, "fault: memory", FAULT);
-    };
-    let mut bar = Bar::new(rt, file.len() as u64, seen);
-    let digest = hash_file(file, &mut bar);
+    let mut bar = Bar::new(rt, job.file.len() as u64, job.seen);
+    let digest = hash_file(job.file, &mut bar);
     bar.begin("sending");
     let trouble = Cell::new(Trouble::NoReply);
-    let mut dialer = Dialer::new(rt, rt.alloc(), addr, host, &trouble, bar);
-    let ended = send(&mut dialer, rt.alloc(), &name, file, chunk, digest);
-    let (course, mut bar) = dialer.into_parts();
+    let mut dialer = Dialer::new(rt, rt.alloc(), dials, host, &trouble, bar);
+    let ended = send(&mut dialer, rt.alloc(), &name, job.file, job.chunk, digest);
+    let (course, mut bar, dials) = dialer.into_parts();
     bar.clear();
     if let Err(PushFault::GaveUp(why)) = &ended {
-        tell_why(rt, addr, why, course, trouble.get());
+        tell_why(rt, host, why, course, trouble.get());
     }
-    print_end(out, ended, digest)
+    (print_end(out, ended, digest), dials)
 }

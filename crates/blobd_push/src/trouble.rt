@@ -1,6 +1,7 @@
 //! What goes wrong with a push, and the words for it on standard error.
 ghost use Rattle.std.specs.Prelude.{◌≡◌};
-ghost use Rattle.blobd_push.specs.Trouble.{advice_on, course_after, error_trouble, is_http, is_tls, reason_of};
+ghost use Rattle.blobd_push.specs.Trouble.{advice_on, course_after, error_trouble, first_trouble, is_http};
+ghost use Rattle.blobd_push.specs.Trouble.{is_tls, reason_of};
 ghost use Rattle.blobd_push.specs.Trouble.{status_trouble, trouble_in, words_of, words_of_advice};
 
 use std::{fmt, io};
@@ -69,13 +70,25 @@ pub(crate) fn trouble_in(bytes: &[u8]) -> Option<Trouble>
     }
 }
 
-/// What the system's error of this number is to a connection.
-pub(crate) fn error_trouble(number: u32) -> Trouble
+/// What an error is to a connection, by the system's number of it. One without a number is that of a connection which
+/// wasn't made in time.
+pub(crate) fn error_trouble(number: Option<u32>) -> Trouble
     ensures { result ≡ error_trouble number }
 {
     match number {
-        EAGAIN => Trouble::Silence,
-        _ => Trouble::System(number),
+        Some(EAGAIN) => Trouble::Silence,
+        Some(number) => Trouble::System(number),
+        None => Trouble::NoConnection,
+    }
+}
+
+/// What went wrong with a request, once something more did: the first trouble stands.
+pub(crate) fn first_trouble(before: Trouble, new: Trouble) -> Trouble
+    ensures { result ≡ first_trouble before new }
+{
+    match before {
+        Trouble::NoReply => new,
+        _ => before,
     }
 }
 

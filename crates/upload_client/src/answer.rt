@@ -212,13 +212,27 @@ impl<S: ByteSource> AnswerReader<S> {
         }) }
     {
         let buffer = ReadBuffer::new(alloc)?;
-        Ok(AnswerReader {
+        Ok(AnswerReader::over(alloc, source, buffer))
+    }
+
+    /// A reader of the replies that the source gives, through this buffer, which is empty.
+    pub(crate) fn over(alloc: Global, source: S, buffer: ReadBuffer) -> AnswerReader<S>
+    where
+        S: Drop,
+        requires { buffer ≡ [] }
+        ensures { result ≡ record {
+          input = input_state [] (S.state source);
+          ended = false;
+          keep = true;
+        } }
+    {
+        AnswerReader {
             alloc,
             source,
             buffer,
             ended: false,
             keep: true,
-        })
+        }
     }
 
     /// Reads the reply to one request, whose method was HEAD if `head`, and takes just its bytes.
@@ -261,6 +275,14 @@ impl<S: ByteSource> AnswerReader<S> {
         ensures { result ≡ self.now.keep }
     {
         self.keep
+    }
+
+    /// The source, as the replies that were read left it.
+    pub fn into_source(self) -> S
+        ensures { S.state result ≡ self.input.source }
+    {
+        let AnswerReader { source, .. } = self;
+        source
     }
 
     /// Whether nothing was read behind that reply.

@@ -1,5 +1,5 @@
 //! A transport over a reader and a writer of bytes.
-ghost use Rattle.std.specs.Prelude.{◌≡◌, IfOk, IsOk, OnErr, IsTrue, [], false, true};
+ghost use Rattle.std.specs.Prelude.{◌≡◌, IfErr, IfOk, IsOk, OnErr, IsTrue, [], false, true};
 ghost use Rattle.upload_service.specs.declared.ask.Ask.{Ask as AskModel};
 ghost use Rattle.http_wire.specs.States.{input_state};
 ghost use Rattle.upload_client.specs.AskText.{CanBeWritten, ask_of_chunk, is_host, wants_head};
@@ -10,7 +10,7 @@ use crate::answer::AnswerReader;
 use crate::ask::{is_bodiless, write_ask, write_chunk};
 use crate::heard::{Heard, HeardFault};
 use crate::transport::{LentChunk, Transport};
-use http_wire::{ByteSink, ByteSource, WriteFault};
+use http_wire::{ByteSink, ByteSource, ReadBuffer, WriteFault};
 use std::alloc::{AllocError, Global};
 use std::marker::Model;
 use upload_names::Bytes;
@@ -70,14 +70,53 @@ impl<S: ByteSource, W: ByteSink> WireTransport<S, W> {
           broken = false;
         }) }
     {
-        let reader = AnswerReader::new(alloc, source)?;
-        let host = Bytes::of(Vec::from_slice(alloc, host)?);
+        WireTransport::over(alloc, source, writer, host).map_err(|_| AllocError)
+    }
+
+    /// The same, but for want of memory both halves are given back as they are.
+    pub fn over(
+        alloc: Global,
+        source: S,
+        writer: W,
+        host: &[u8],
+    ) -> Result<WireTransport<S, W>, (S, W)>
+    where
+        S: Drop,
+        W: Drop,
+        requires { IsTrue (is_host host.now) }
+        ensures made { IfOk result (λ transport. transport ≡ record {
+          reader = record {
+            input = input_state [] (S.state source);
+            ended = false;
+            keep = true;
+          };
+          writer = W.state writer;
+          host = host.now;
+          broken = false;
+        }) }
+        ensures given_back { IfErr result (λ halves. (S.state halves.0 ≡ S.state source)
+            × (W.state halves.1 ≡ W.state writer)) }
+    {
+        let Ok(buffer) = ReadBuffer::new(alloc) else {
+            return Err((source, writer));
+        };
+        let Ok(host) = Vec::from_slice(alloc, host) else {
+            return Err((source, writer));
+        };
         Ok(WireTransport {
-            reader,
+            reader: AnswerReader::over(alloc, source, buffer),
             writer,
-            host,
+            host: Bytes::of(host),
             broken: false,
         })
+    }
+
+    /// Both halves, as the asks left them.
+    pub fn into_halves(self) -> (S, W)
+        ensures { (S.state result.0 ≡ self.reader.input.source) × (W.state result.1 ≡ self.writer) }
+    {
+        let WireTransport { reader, writer, .. } = self;
+        (reader.into_source(), writer)
     }
 
     /// Whether more can be asked: no fault broke the transport, the reply that was heard last keeps the connection, and

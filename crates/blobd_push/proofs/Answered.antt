@@ -1,0 +1,347 @@
+-- A push that ends with 0 was answered over its last connection.
+use Rattle.std.proofs.Common.{◌≡◌, ℕ, Bool, true, false, List, [], ◌∷◌, ◌++◌, refl, sym, ap, subst, ◌∙◌}
+use Rattle.std.proofs.Common.{arith, rules, append-nil, append_assoc, inl, inr, ◌⊎◌, Option, Some, None}
+use Rattle.std.specs.Prelude.{Result, Ok, Err, ⊤, codes}
+use Rattle.std.specs.Io.KnownBytes.{Appends}
+use Rattle.std.specs.Result.{result_ok}
+use Rattle.std.proofs.lemmas.Bool.{and_parts, eqb-true}
+use Rattle.std.proofs.lemmas.List.{nil_from_length}
+use Rattle.std.proofs.lemmas.Option.{none-some}
+use Rattle.upload_names.specs.declared.digest.Algorithm.TheVariants.{Sha256}
+use Rattle.upload_service.specs.declared.ask.Ask.{Ask}
+use Rattle.upload_service.specs.declared.ask.Ask.TheVariants.{Close, Has}
+use Rattle.upload_service.specs.declared.ask.Extent.TheVariants.{Absent}
+use Rattle.http_wire.specs.Writing.{Wrote}
+use Rattle.http_wire.specs.declared.writing.WriteFault.{WriteFault}
+use Rattle.upload_client.specs.AskText.{ask_text, wants_head}
+use Rattle.upload_client.specs.AnswerText.{TellsHeard}
+use Rattle.upload_client.specs.TransportText.{WireState, AsksWhere, HearsBehind, ReadsReply}
+use Rattle.upload_client.specs.TransportText.{awaited, refusal_in, stays_open}
+use Rattle.upload_client.specs.declared.heard.Heard.{Heard}
+use Rattle.upload_client.specs.declared.heard.HeardFault.{HeardFault}
+use Rattle.upload_push.specs.Looking.{is_found}
+use Rattle.upload_push.specs.Slices.{Push, Attempt, HeardStatus, IsClose, IsHead, LastIsAnswered, Leads, request}
+use Rattle.upload_push.specs.Slices.{after_all, log_of, logged, push_of}
+use Rattle.upload_push.specs.declared.pusher.PushAsk.{PushAsk}
+use Rattle.upload_push.specs.declared.pusher.PushAsk.TheVariants as asks
+use Rattle.upload_push.specs.declared.pusher.Outcome.TheVariants.{Pushed, Already}
+use Rattle.upload_push.specs.declared.pusher.Phase.{Phase}
+use Rattle.upload_push.specs.declared.pusher.Phase.TheVariants as phases
+use Rattle.upload_push.proofs.Sound.{pushed_last, already_last}
+use Rattle.upload_push.proofs.Cases.{cond_case}
+use Rattle.blobd_shared.specs.Status.{line}
+use Rattle.blobd_push.specs.Dials.{DialEvent, Dialing, AsksIn, Gets, GetsNone, behind_ask, dialing, history_at_end}
+use Rattle.blobd_push.specs.Dials.{with_back}
+use Rattle.blobd_push.specs.Dials.DialEvent.{made, given_back}
+use Rattle.blobd_push.specs.Answered.{EndsAnswered, IsReply, PrintsDigest, PushesAreAnswered}
+use Rattle.blobd_push.specs.Pushed.{PrintsPush}
+
+zero_one : ◌≡◌ {A = ℕ} 0 1 → ⊥
+zero_one h = omega arith
+
+zero_three : ◌≡◌ {A = ℕ} 0 3 → ⊥
+zero_three h = omega arith
+
+-- ---- one reply
+
+-- a refusal has another status than these
+refused_else : (reply : Result Heard HeardFault) (heard : Heard) → Some heard ≡ refusal_in reply
+    → (heard.status ≡ 200) ⊎ (heard.status ≡ 201) → ⊥
+refused_else (Ok other) heard is ends = grind arith
+refused_else (Err fault) heard is ends = absurd (none-some heard (sym is))
+
+-- over a connection over which more can be asked no byte is held
+none_held : (w : WireState) → stays_open w ≡ true → w.reader.input.held ≡ []
+none_held w is = search (rules, arith, and_parts, nil_from_length, eqb-true)
+
+-- what was written and read by an exchange that was answered so
+pub record WasAnswered (old new : WireState) (ask : Ask) (status : ℕ) : Type 0 where
+  pub reply : List ℕ
+  pub taken : new.writer.taken ≡ old.writer.taken ++ ask_text ask old.host
+  pub given : new.reader.input.source.given ≡ old.reader.input.source.given ++ reply
+  pub answers : IsReply (wants_head ask) reply status
+
+heard_whole : (old new : WireState) (ask : Ask) (heard : Heard) (status : ℕ) (reply : Result Heard HeardFault)
+    → old.reader.input.held ≡ [] → new.writer.taken ≡ old.writer.taken ++ ask_text ask old.host
+    → ReadsReply (wants_head ask) old.reader reply new.reader → reply ≡ Ok heard → heard.status ≡ status
+    → WasAnswered old new ask status
+heard_whole old new ask heard status reply held taken reads is same =
+    let as_heard =
+    subst (λ (r : Result Heard HeardFault). ReadsReply (wants_head ask) old.reader r new.reader) is reads in
+    let text_is : old.reader.input.held ++ as_heard.read.given ≡ as_heard.read.given =
+    ap (λ t. t ++ as_heard.read.given) held in
+    record {
+      reply = as_heard.read.given;
+      taken = taken;
+      given = as_heard.read.gives.told;
+      answers = record {
+        input = new.reader.input;
+        heard = heard;
+        keep = new.reader.keep;
+        tells =
+            subst (λ t. TellsHeard (wants_head ask) t new.reader.input heard new.reader.keep) text_is
+            as_heard.read.found;
+        is_status = same;
+      };
+    }
+
+ok_of : (reply : Result Heard HeardFault) (heard : Heard) → Some heard ≡ result_ok reply
+    → reply ≡ Ok heard
+ok_of (Ok other) heard is = grind arith
+ok_of (Err fault) heard is = absurd (none-some heard (sym is))
+
+by_written : (old new : WireState) (ask : Ask) (heard : Heard) (status : ℕ) (written : Result ⊤ WriteFault)
+    (body : Bool)
+    → old.reader.input.held ≡ []
+    → Wrote old.writer new.writer (ask_text ask old.host) written
+    → HearsBehind (awaited written body) (wants_head ask) old (Some heard) new → heard.status ≡ status
+    → (status ≡ 200) ⊎ (status ≡ 201) → WasAnswered old new ask status
+by_written old new ask heard status (Ok u) body held wrote hears same ends =
+    heard_whole old new ask heard status hears.0 held wrote.takes.told hears.1 (ok_of hears.0 heard hears.2) same
+by_written old new ask heard status (Err fault) true held wrote hears same ends =
+    absurd (refused_else hears.0 heard hears.2
+    (subst (λ (n : ℕ). (n ≡ 200) ⊎ (n ≡ 201)) (sym same) ends))
+by_written old new ask heard status (Err fault) false held wrote hears same ends =
+    absurd (none-some heard (sym hears.0))
+
+by_asked : (goes : Bool) (old new : WireState) (ask : Ask) (heard : Heard) (status : ℕ) → stays_open old ≡ goes
+    → AsksWhere goes old ask (Some heard) new → heard.status ≡ status → (status ≡ 200) ⊎ (status ≡ 201)
+    → WasAnswered old new ask status
+by_asked true old new ask heard status going asked same ends =
+    by_written old new ask heard status asked.written _ (none_held old going) asked.wrote asked.hears same ends
+by_asked false old new ask heard status going asked same ends = absurd (none-some heard (sym asked.0))
+
+-- ---- one ask of a push
+
+-- a connection that is kept is one to the host
+abbrev KeptTo : List ℕ → Option WireState → Type 0
+KeptTo host None = Unit {0}
+KeptTo host (Some wire) = wire.host ≡ host
+
+gets_host : (host : List ℕ) (kept : Option WireState) (h : List DialEvent) (wire : WireState) (behind : List DialEvent)
+    → KeptTo host kept → Gets host kept h wire behind → wire.host ≡ host
+gets_host host (Some k) h wire behind to got = ap (λ (w : WireState). w.host) got.0 ∙ to
+gets_host host None h wire behind to got = ap (λ (w : WireState). w.host) got.0.2
+
+asked_host : (goes : Bool) (old new : WireState) (ask : Ask) (heard : Option Heard) → AsksWhere goes old ask heard new
+    → new.host ≡ old.host
+asked_host true old new ask heard asked = asked.same_host
+asked_host false old new ask heard asked = ap (λ (w : WireState). w.host) asked.1
+
+behind_to : (host : List ℕ) (h : List DialEvent) (wire : WireState) → wire.host ≡ host
+    → KeptTo host (behind_ask h wire).kept
+behind_to host h wire to =
+    cond_case (λ (s : Dialing). KeptTo host s.kept) (stays_open wire) _ _ (λ _. to) (λ _. tt)
+
+none_to : (host : List ℕ) (kept : Option WireState) → kept ≡ None → KeptTo host kept
+none_to host kept none = subst (KeptTo host) (sym none) tt
+
+-- a history goes on from another
+abbrev GoesOn : List DialEvent → List DialEvent → Type 0
+GoesOn old new = (since : List DialEvent) × (new ≡ old ++ since)
+
+gets_more : (host : List ℕ) (kept : Option WireState) (h : List DialEvent) (wire : WireState) (behind : List DialEvent)
+    → Gets host kept h wire behind → GoesOn h behind
+gets_more host (Some k) h wire behind got = ([], got.1 ∙ sym (append-nil h))
+gets_more host None h wire behind got = (made ∷ [], got.1)
+
+gets_none : (host : List ℕ) (kept : Option WireState) (h behind : List DialEvent) → GetsNone host kept h behind
+    → GoesOn h behind
+gets_none host (Some k) h behind got = absurd got
+gets_none host None h behind (inl same) = ([], same ∙ sym (append-nil h))
+gets_none host None h behind (inr (wire, is, more)) = (_, more ∙ append_assoc h (made ∷ []) _)
+
+goes_further : (a b c : List DialEvent) → GoesOn a b → GoesOn b c → GoesOn a c
+goes_further a b c first second =
+    let both = second.1 ∙ ap (λ (h : List DialEvent). h ++ second.0) first.1 in
+    (first.0 ++ second.0, both ∙ append_assoc a first.0 second.0)
+
+behind_more : (h : List DialEvent) (wire : WireState) → GoesOn h (behind_ask h wire).history
+behind_more h wire =
+    cond_case (λ (s : Dialing). GoesOn h s.history) (stays_open wire) _ _ (λ _. ([], sym (append-nil h)))
+    (λ _. (_, refl))
+
+-- an ask keeps the history and the host
+asks_on : (host : List ℕ) (s : Dialing) (ask : Ask) (heard : Option Heard) (t : Dialing) → KeptTo host s.kept
+    → AsksIn host s ask heard t → KeptTo host t.kept × GoesOn s.history t.history
+asks_on host s ask heard t to (inl (wire, new, h, got, asked, is)) =
+    let here = gets_host host s.kept s.history wire h to got in
+    let there = asked_host (stays_open wire) wire new ask heard asked ∙ here in (
+      subst (λ (u : Dialing). KeptTo host u.kept) (sym is) (behind_to host h new there),
+      goes_further s.history h t.history (gets_more host s.kept s.history wire h got)
+          (subst (λ (u : Dialing). GoesOn h u.history) (sym is) (behind_more h new)),
+    )
+asks_on host s ask heard t to (inr (got, unheard, kept)) =
+    (none_to host t.kept kept, gets_none host s.kept s.history t.history got)
+
+all_on : (host : List ℕ) (s : Dialing) → KeptTo host s.kept → (log : List Attempt) (t : Dialing)
+    → Leads (AsksIn host) s log t → KeptTo host t.kept × GoesOn s.history t.history
+all_on host s to [] t leads = (
+  subst (λ (u : Dialing). KeptTo host u.kept) (sym leads) to,
+  ([], ap (λ (u : Dialing). u.history) leads ∙ sym (append-nil s.history)),
+)
+all_on host s to (e ∷ log) t leads =
+    let earlier = all_on host s to log leads.0 leads.1 in
+    let here = asks_on host leads.0 e.ask e.heard t earlier.0 leads.2 in
+    (here.0, goes_further s.history leads.0.history t.history earlier.1 here.1)
+
+-- at the end the connection of the last ask is given back behind all others
+ends_with : (h : List DialEvent) (wire : WireState) → history_at_end (behind_ask h wire) ≡ with_back h wire
+ends_with h wire =
+    cond_case (λ (s : Dialing). history_at_end s ≡ with_back h wire) (stays_open wire) _ _ (λ _. refl) (λ _. refl)
+
+-- a connection that was given back behind all others
+abbrev with_end : List DialEvent → List ℕ → Bool → List ℕ → List DialEvent
+with_end h given ended taken = h ++ given_back (record { bytes = given; ended = ended }) taken ∷ []
+
+-- the last ask of a push was answered so
+answered : (host : List ℕ) (old : List DialEvent) (s : Dialing) (ask : Ask) (heard : Heard) (status : ℕ) (t : Dialing)
+    (new : List DialEvent)
+    → GoesOn old s.history → KeptTo host s.kept → AsksIn host s ask (Some heard) t → heard.status ≡ status
+    → (status ≡ 200) ⊎ (status ≡ 201) → new ≡ history_at_end t → EndsAnswered host ask status old new
+answered host old s ask heard status t new from to (inr (got, unheard, kept)) same ends back =
+    absurd (none-some heard (sym unheard))
+answered host old s ask heard status t new from to (inl (wire, behind, h, got, asked, is)) same ends back =
+    let was = by_asked (stays_open wire) wire behind ask heard status refl asked same ends in
+    let on = goes_further old s.history h from (gets_more host s.kept s.history wire h got) in
+    let taken = was.taken ∙ ap (λ (o : List ℕ). wire.writer.taken ++ ask_text ask o)
+    (gets_host host s.kept s.history wire h to got) in
+    let there : new ≡ with_back h behind = back ∙ ap history_at_end is ∙ ends_with h behind in
+    let ended = behind.reader.input.source.ended in
+    let given = wire.reader.input.source.given ++ was.reply in
+    record {
+      since = on.0;
+      asked = wire.writer.taken;
+      told = wire.reader.input.source.given;
+      reply = was.reply;
+      ended = ended;
+      last =
+          there ∙ ap (λ (g : List ℕ). with_end h g ended behind.writer.taken) was.given
+          ∙ ap (with_end h given ended) taken
+          ∙ ap (λ (o : List DialEvent). with_end o given ended (wire.writer.taken ++ ask_text ask host)) on.1;
+      answers = was.answers;
+    }
+
+-- ---- a whole push
+
+answered_with : (host : List ℕ) (old : List DialEvent) (s : Dialing) (ask : Ask) (heard : Option Heard) (status : ℕ)
+    (t : Dialing) (new : List DialEvent)
+    → GoesOn old s.history → KeptTo host s.kept → AsksIn host s ask heard t → HeardStatus heard status
+    → (status ≡ 200) ⊎ (status ≡ 201) → new ≡ history_at_end t → EndsAnswered host ask status old new
+answered_with host old s ask None status t new from to asked same ends back = absurd same
+answered_with host old s ask (Some h) status t new from to asked same ends back =
+    answered host old s ask h status t new from to asked same ends back
+
+-- the last request was one of this kind, and was answered so
+by_log : (host : List ℕ) (P : Ask → Type 0) (status : ℕ) (old new : List DialEvent) (s : Dialing)
+    → GoesOn old s.history → KeptTo host s.kept → (log : List Attempt) (t : Dialing) → LastIsAnswered P status log
+    → Leads (AsksIn host) s log t → (status ≡ 200) ⊎ (status ≡ 201) → new ≡ history_at_end t
+    → (e : Attempt) × (rest : List Attempt) × (log ≡ e ∷ rest) × P e.ask × EndsAnswered host e.ask status old new
+by_log host P status old new s from to [] t last leads ends back = absurd last
+by_log host P status old new s from to (e ∷ log) t last leads ends back =
+    let earlier = all_on host s to log leads.0 leads.1 in (
+      e,
+      log,
+      refl,
+      last.0,
+      answered_with host old leads.0 e.ask e.heard status t new
+          (goes_further old s.history leads.0.history from earlier.1) earlier.0 leads.2 last.1 ends back,
+    )
+
+-- each request of a push is one of its table
+abbrev IsOwn : Push → List Attempt → Type 0
+IsOwn p [] = Unit {0}
+IsOwn p (e ∷ log) = (q : PushAsk) × (e.ask ≡ request p q)
+
+own_next : (p : Push) (ask : Option PushAsk) (heard : Option Heard) (log : List Attempt) → IsOwn p log
+    → IsOwn p (logged p ask heard log)
+own_next p None heard log own = own
+own_next p (Some q) heard log own = (q, refl)
+
+all_own : (p : Push) (heard : List (Option Heard)) → IsOwn p (log_of p heard)
+all_own p [] = tt
+all_own p (h ∷ earlier) = own_next p _ h (log_of p earlier) (all_own p earlier)
+
+-- its close is one of the file, and its HEAD too
+close_of : (p : Push) (q : PushAsk) → IsClose (request p q)
+    → (at : List ℕ) × (request p q ≡ Close p.name at Absent (Some p.digest) [])
+close_of p asks.Opening is = grind arith
+close_of p (asks.Chunk at range) is = grind arith
+close_of p (asks.Status at) is = grind arith
+close_of p (asks.Close at) is = (at, refl)
+close_of p asks.Head is = grind arith
+
+head_of : (p : Push) (q : PushAsk) → IsHead (request p q) → request p q ≡ Has p.name p.digest true
+head_of p asks.Opening is = grind arith
+head_of p (asks.Chunk at range) is = grind arith
+head_of p (asks.Status at) is = grind arith
+head_of p (asks.Close at) is = grind arith
+head_of p asks.Head is = refl
+
+closed : (host : List ℕ) (p : Push) (old new : List DialEvent) (ask : Ask) (q : PushAsk) → ask ≡ request p q
+    → IsClose ask → EndsAnswered host ask 201 old new
+    → (at : List ℕ) × EndsAnswered host (Close p.name at Absent (Some p.digest) []) 201 old new
+closed host p old new ask q own is ends =
+    let close = close_of p q (subst IsClose own is) in
+    (close.0, subst (λ (a : Ask). EndsAnswered host a 201 old new) (own ∙ close.1) ends)
+
+looked : (host : List ℕ) (p : Push) (old new : List DialEvent) (ask : Ask) (q : PushAsk) → ask ≡ request p q
+    → IsHead ask → EndsAnswered host ask 200 old new → EndsAnswered host (Has p.name p.digest true) 200 old new
+looked host p old new ask q own is ends =
+    subst (λ (a : Ask). EndsAnswered host a 200 old new) (own ∙ head_of p q (subst IsHead own is)) ends
+
+-- how the end of a push was answered
+abbrev IsAnswered : List ℕ → Push → List DialEvent → List DialEvent → Option (List ℕ) → Option (List ℕ) → Type 0
+IsAnswered host p old new before after =
+    (PrintsDigest (codes "pushed") p.digest before after
+    × ((at : List ℕ) × EndsAnswered host (Close p.name at Absent (Some p.digest) []) 201 old new))
+    ⊎ (PrintsDigest (codes "already") p.digest before after × EndsAnswered host (Has p.name p.digest true) 200 old new)
+
+by_phase : (host : List ℕ) (p : Push) (old new : List DialEvent) (before after : Option (List ℕ)) (s : Dialing)
+    (heard : List (Option Heard)) (t : Dialing) (phase : Phase) (text : List ℕ)
+    → GoesOn old s.history → KeptTo host s.kept → Leads (AsksIn host) s (log_of p heard) t → new ≡ history_at_end t
+    → (after_all p heard).phase ≡ phase → PrintsPush p.digest phase 0 text → Appends before after (line text)
+    → IsAnswered host p old new before after
+by_phase host p old new before after s heard t (phases.Done Pushed) text from to leads back is told printed =
+    let last = pushed_last p heard is in
+    let at = by_log host IsClose 201 old new s from to (log_of p heard) t last leads (inr refl) back in
+    let own = subst (IsOwn p) at.2 (all_own p heard) in
+    inl (
+      subst (λ (x : List ℕ). Appends before after (line x)) told.1 printed,
+      closed host p old new at.0.ask own.0 own.1 at.3 at.4,
+    )
+by_phase host p old new before after s heard t (phases.Done Already) text from to leads back is told printed =
+    let last = already_last p heard is in
+    let at = by_log host IsHead 200 old new s from to (log_of p heard) t last leads (inl refl) back in
+    let own = subst (IsOwn p) at.2 (all_own p heard) in
+    inr (
+      subst (λ (x : List ℕ). Appends before after (line x)) told.1 printed,
+      looked host p old new at.0.ask own.0 own.1 at.3 at.4,
+    )
+by_phase host p old new before after s heard t (phases.GaveUp why) text from to leads back is told printed =
+    absurd (zero_one told.0)
+by_phase host p old new before after s heard t phase text from to leads back is told printed = absurd told
+
+-- a look that found the blob was answered
+found_heard : (heard : Option Heard) → is_found heard ≡ true → (h : Heard) × (heard ≡ Some h) × (h.status ≡ 200)
+found_heard (Some h) is = (h, refl, eqb-true h.status 200 is)
+found_heard None is = grind arith
+
+pub all_answered : PushesAreAnswered
+all_answered host name file chunk old new before after (inr (three, begun)) = absurd (zero_three three)
+all_answered host name file chunk old new before after (inl (inl (line, is))) = absurd (zero_one line.1)
+all_answered host name file chunk old new before after (inl (inr (named, (look, inl found)))) =
+    let h = found_heard look.heard found.found in
+    let p = push_of Sha256 name file chunk 5 in
+    let ask = Has p.name p.digest true in
+    let asked = subst (λ (o : Option Heard). AsksIn host (dialing old) ask o look.behind) h.1 look.asked in
+    inr (
+      found.printed,
+      answered host old (dialing old) ask h.0 200 look.behind new ([], sym (append-nil old)) tt asked h.2 (inl refl)
+          found.given_back,
+    )
+all_answered host name file chunk old new before after (inl (inr (named, (look, inr push)))) =
+    let p = push_of Sha256 name file chunk 5 in
+    let on = asks_on host (dialing old) (Has p.name p.digest true) look.heard look.behind tt look.asked in
+    by_phase host p old new before after look.behind push.heard push.last _ push.text on.1 on.0 push.over
+    push.given_back refl push.told push.printed
