@@ -118,7 +118,8 @@ fn line_text(
     size: u64,
     millis: u64,
 ) -> Result<String, AllocError>
-    ensures { IfOk result (λ text. string_bytes text ≡ line_text time.now head.now status size millis) }
+    ensures { IfOk result
+        (λ text. string_bytes text ≡ line_text time.now head.now status size millis) }
 {
     format!(in alloc; "{time} {head} {status} {size} {millis}ms")
 }
