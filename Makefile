@@ -34,7 +34,7 @@ SOURCES := crates.txt $(shell find $(foreach crate,$(CRATES),$(foreach part,src 
 # is free in it is free for each.
 MALLOC = GLIBC_TUNABLES=glibc.malloc.hugetlb=1:glibc.malloc.mmap_threshold=1048576:glibc.malloc.arena_max=1
 
-.PHONY: help try once serve run upload registry adapter build native image dist test edits wrong-bodies check format figures fuzz soak long large growths bench
+.PHONY: help try once serve run upload registry adapter build native image dist test edits edges wrong-bodies check format figures fuzz soak long large growths bench
 # A build that fails leaves no program behind that looks newer than its sources.
 .DELETE_ON_ERROR:
 
@@ -58,6 +58,7 @@ help:
 	@echo '              the checks of the repository; an hour or two'
 	@echo 'make check    proves what changed since the last check; make test is the judge'
 	@echo 'make edits    the further must-fail edits, which make test leaves out: an hour or two (MINUTES=30 some of them, by turns)'
+	@echo 'make edges    programs that the contracts allow and that a reader would not expect: the prover must accept each'
 	@echo 'make wrong-bodies  a table of all must-fail edits: what each does wrong, and which contracts refuse it'
 	@echo 'make format   lays out the sources'
 	@echo 'make growths  the program and the built tests with each growth of memory refused in turn (after make test, which does it too)'
@@ -131,6 +132,9 @@ test:
 
 edits:
 	@python3 tests/edits.py $(if $(MINUTES),--minutes $(MINUTES))
+
+edges:
+	@python3 tests/edges.py
 
 wrong-bodies:
 	@python3 tests/wrong_bodies.py

@@ -18,7 +18,6 @@ from functions import PROGRAM, TOP
 HANDLES = "Handles allowed: Threads, Wait, Net.\n"
 
 HOLE = re.compile(r"(=\s*\?|[( ]\?[ ),]|\?\s*$)")
-EDITS = re.compile(r"/(?:must-fail|further-edits)/")
 # A link of a page, and a heading that one may lead to.
 LINK = re.compile(r"\]\(([^)\s]+)\)")
 HEADING = re.compile(r"^#+ (.*)$", re.MULTILINE)
@@ -163,26 +162,9 @@ def unlisted(_):
     return [f"{WRONG_BODIES}: {name} of {crate}" for crate, name in sorted(listed ^ known)]
 
 
-def edited_once(path):
-    """Whether each old text of an edit stands once in its file, where the texts before it were replaced."""
-    texts, target, old = {}, None, None
-    for line in text_of(path).splitlines():
-        word, _, text = line.partition(": ")
-        if word == "file":
-            target = f"{EDITS.split(path)[0]}/{text.strip()}"
-        elif word == "old":
-            old = text
-        elif word == "new":
-            before = texts.get(target, text_of(target))
-            if before.count(old) != 1:
-                return False
-            texts[target] = before.replace(old, text)
-    return bool(texts)
-
-
 def unapplied(paths):
     """Edits that the sources have left behind."""
-    return [path for path in paths if EDITS.search(path) and not edited_once(path)]
+    return [path for path in paths if path.endswith(".edit") and wrong_bodies.edited(path) is None]
 
 
 def anchors(text):

@@ -52,6 +52,29 @@ def edit_at(path):
     )
 
 
+def edited(path):
+    """The files that an edit of the repository changes, with what is in them then. None if an old text doesn't stand
+    once in its file, where the texts before it were replaced."""
+    texts, target, old = {}, None, None
+    crate = os.path.dirname(os.path.dirname(path))
+    with open(os.path.join(TOP, path), encoding="utf-8") as file:
+        lines = file.read().splitlines()
+    for line in lines:
+        word, _, text = line.partition(": ")
+        if word == "file":
+            target = f"{crate}/{text.strip()}"
+            if target not in texts:
+                with open(os.path.join(TOP, target), encoding="utf-8") as file:
+                    texts[target] = file.read()
+        elif word == "old":
+            old = text
+        elif word == "new":
+            if texts[target].count(old) != 1:
+                return None
+            texts[target] = texts[target].replace(old, text)
+    return texts or None
+
+
 def edits():
     """Every edit, by crate and name."""
     found = []
