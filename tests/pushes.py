@@ -140,6 +140,11 @@ def reply_of(status, body=b"", fields=b""):
     return head % (status.encode(), fields, len(body)) + body
 
 
+def head_of(length, fields=b""):
+    """A reply to a HEAD that tells this length, behind which its server closes."""
+    return b"HTTP/1.1 200 OK\r\n%bContent-Length: %d\r\nConnection: close\r\n\r\n" % (fields, length)
+
+
 PLACE = b"Location: /v2/lib/a/blobs/uploads/00000001-0000-8000-8000-000000000000\r\n"
 LOCATION_ELSEWHERE = b"Location: https://h/v2/lib/a/blobs/uploads/1?_state=x\r\n"
 CODED = b'{"errors":[{"code":"DENIED"}]}'
@@ -237,22 +242,40 @@ def methods_logged(server):
 
 @case()
 def what_is_there(folder):
-    """A HEAD goes first. If it finds the blob nothing is sent; what another repository has is sent."""
+    """A HEAD goes first. If it and another find the blob nothing is sent; what another repository has is sent."""
     abc = written(folder, b"abc")
-    with logging_server(2) as server:
+    with logging_server(3) as server:
         equal("a first push", push(server.addr, "lib/a", abc, 2), pushed(b"abc"))
         equal("what is there", push(server.addr, "lib/a", abc, 2), already(b"abc"))
         equal("another repository", push(server.addr, "lib/b", abc, 2), pushed(b"abc"))
         ended = push(server.addr, "B", abc, 2)
         equal("what is there, of a name that isn't one", ended[0], "refused: name\n")
-        equal("what was asked", methods_logged(server), {"HEAD": 3, "POST": 2, "PATCH": 4, "PUT": 2})
-    with Scripted([reply_of("200 OK")]) as there:
+        equal("what was asked", methods_logged(server), {"HEAD": 4, "POST": 2, "PATCH": 4, "PUT": 2})
+    with Scripted([head_of(3)]) as there:
         equal("a server that has it", push(there.addr, "lib/a", abc, 2), already(b"abc"))
-        wanted = [[f"HEAD /v2/lib/a/blobs/{sha256(b'abc')} HTTP/1.1"]]
-        equal("one request to a server that has it", there.asked, wanted)
+        wanted = [[f"HEAD /v2/lib/a/blobs/{sha256(b'abc')} HTTP/1.1"]] * 2
+        equal("two requests to a server that has it", there.asked, wanted)
     with Scripted([{"HEAD": reply_of("500 Internal Server Error"), "POST": reply_of("403 Forbidden")}]) as unsure:
         equal("a HEAD that is refused", push(unsure.addr, "lib/a", abc, 2), ("refused: 403 -\n", 1, ""))
         equal("a push behind a HEAD that is refused", unsure.methods(), [["HEAD"], ["POST"]])
+
+
+@case()
+def what_only_seems_to_be_there(folder):
+    """A 200 to a HEAD that tells no length, another one or another digest finds nothing: the push goes on."""
+    abc = written(folder, b"abc")
+    told = b"Docker-Content-Digest: %b\r\n"
+    replies = {
+        "no length": b"HTTP/1.1 200 OK\r\nConnection: close\r\n\r\n",
+        "another length": head_of(4),
+        "another digest": head_of(3, told % sha256(b"abd").encode()),
+    }
+    for name, reply in replies.items():
+        with Scripted([{"HEAD": reply, "POST": reply_of("403 Forbidden")}]) as server:
+            equal(f"a push behind {name}", push(server.addr, "lib/a", abc, 2), ("refused: 403 -\n", 1, ""))
+            equal(f"what was asked behind {name}", server.methods(), [["HEAD"], ["HEAD"], ["POST"]])
+    with Scripted([head_of(3, told % sha256(b"abc").encode())]) as server:
+        equal("a server that tells the digest", push(server.addr, "lib/a", abc, 2), already(b"abc"))
 
 
 @case()
@@ -295,8 +318,9 @@ def silent_servers(folder):
 
 @case()
 def signals_between(folder):
-    """A signal that comes while a push waits for a reply costs no try: it is one request, over one connection."""
-    with Scripted([reply_of("200 OK")], delay=2) as server:
+    """A signal that comes while a push waits for a reply costs no try: it is one request, over one connection, and the
+    next is that of the other HEAD."""
+    with Scripted([head_of(3)], delay=2) as server:
         words = [OPTIONS.program, "push", server.addr, "lib/a", written(folder, b"abc"), "2"]
         with subprocess.Popen(words, stdout=subprocess.PIPE, stderr=subprocess.PIPE, text=True) as ran:
             for _ in range(3):
@@ -304,7 +328,7 @@ def signals_between(folder):
                 halt(ran, 0.1)
             out, error = ran.communicate(timeout=PATIENCE)
         equal("a push that is stopped and goes on", (out, ran.returncode, error), already(b"abc"))
-        equal("one request of it", [len(lines) for lines in server.asked], [1])
+        equal("two requests of it", [len(lines) for lines in server.asked], [1, 1])
 
 
 EVERYTHING = 1 << 62

@@ -1,5 +1,5 @@
 -- A push that ends with 0 was answered over its last connection.
-use Rattle.std.proofs.Common.{◌≡◌, ℕ, Bool, true, false, List, [], ◌∷◌, ◌++◌, refl, sym, ap, subst, ◌∙◌}
+use Rattle.std.proofs.Common.{◌≡◌, ℕ, Bool, true, false, List, [], ◌∷◌, ◌++◌, length, refl, sym, ap, subst, ◌∙◌}
 use Rattle.std.proofs.Common.{arith, rules, append-nil, append_assoc, inl, inr, ◌⊎◌, Option, Some, None}
 use Rattle.std.specs.Prelude.{Result, Ok, Err, ⊤, codes}
 use Rattle.std.specs.Io.KnownBytes.{Appends}
@@ -7,6 +7,7 @@ use Rattle.std.specs.Result.{result_ok}
 use Rattle.std.proofs.lemmas.Bool.{and_parts, eqb-true}
 use Rattle.std.proofs.lemmas.List.{nil_from_length}
 use Rattle.std.proofs.lemmas.Option.{none-some}
+use Rattle.upload_names.specs.Digest.{Digest}
 use Rattle.upload_names.specs.declared.digest.Algorithm.TheVariants.{Sha256}
 use Rattle.upload_service.specs.declared.ask.Ask.{Ask}
 use Rattle.upload_service.specs.declared.ask.Ask.TheVariants.{Close, Has}
@@ -19,25 +20,35 @@ use Rattle.upload_client.specs.TransportText.{WireState, AsksWhere, HearsBehind,
 use Rattle.upload_client.specs.TransportText.{awaited, refusal_in, stays_open}
 use Rattle.upload_client.specs.declared.heard.Heard.{Heard}
 use Rattle.upload_client.specs.declared.heard.HeardFault.{HeardFault}
-use Rattle.upload_push.specs.Looking.{is_found}
-use Rattle.upload_push.specs.Slices.{Push, Attempt, HeardStatus, IsClose, IsHead, LastIsAnswered, Leads, request}
+use Rattle.upload_push.specs.Slices.{Push, Attempt, HeardStatus, IsClose, LastIsAnswered, Leads, request}
 use Rattle.upload_push.specs.Slices.{after_all, log_of, logged, push_of}
 use Rattle.upload_push.specs.declared.pusher.PushAsk.{PushAsk}
 use Rattle.upload_push.specs.declared.pusher.PushAsk.TheVariants as asks
 use Rattle.upload_push.specs.declared.pusher.Outcome.TheVariants.{Pushed, Already}
 use Rattle.upload_push.specs.declared.pusher.Phase.{Phase}
 use Rattle.upload_push.specs.declared.pusher.Phase.TheVariants as phases
-use Rattle.upload_push.proofs.Sound.{pushed_last, already_last}
+use Rattle.upload_push.proofs.Sound.{pushed_last}
 use Rattle.upload_push.proofs.Cases.{cond_case}
 use Rattle.blobd_shared.specs.Status.{line}
 use Rattle.blobd_push.specs.Dials.{DialEvent, Dialing, AsksIn, Gets, GetsNone, behind_ask, dialing, history_at_end}
-use Rattle.blobd_push.specs.Dials.{with_back}
+use Rattle.blobd_push.specs.Dials.{with_back, with_kept_back}
 use Rattle.blobd_push.specs.Dials.DialEvent.{made, given_back}
-use Rattle.blobd_push.specs.Answered.{EndsAnswered, IsReply, PrintsDigest, PushesAreAnswered}
-use Rattle.blobd_push.specs.Pushed.{PrintsPush}
+use Rattle.blobd_push.specs.Sights.{AreSeen}
+use Rattle.blobd_push.specs.declared.sight.Sight.{Sight}
+use Rattle.blobd_push.specs.declared.sight.Sight.TheVariants as sights
+use Rattle.blobd_push.specs.Answered.{EndsAnswered, EndsSeen, IsReply, PrintsDigest, PushesAreAnswered}
+use Rattle.blobd_push.specs.Pushed.{IsLooked, IsShown, Look, PrintsPush, phase_at}
 
 zero_one : ◌≡◌ {A = ℕ} 0 1 → ⊥
 zero_one h = omega arith
+
+blob_nothing : sights.Blob ≡ sights.Nothing → ⊥
+blob_nothing h = grind arith
+
+-- the request was written whole, since something was seen
+asked_whole : (text taken : List ℕ) → (sights.Blob ≡ sights.Nothing) ⊎ (taken ≡ text) → taken ≡ text
+asked_whole text taken (inl nothing) = absurd (blob_nothing nothing)
+asked_whole text taken (inr is) = is
 
 zero_three : ◌≡◌ {A = ℕ} 0 3 → ⊥
 zero_three h = omega arith
@@ -262,7 +273,7 @@ all_own : (p : Push) (heard : List (Option Heard)) → IsOwn p (log_of p heard)
 all_own p [] = tt
 all_own p (h ∷ earlier) = own_next p _ h (log_of p earlier) (all_own p earlier)
 
--- its close is one of the file, and its HEAD too
+-- its close is one of the file
 close_of : (p : Push) (q : PushAsk) → IsClose (request p q)
     → (at : List ℕ) × (request p q ≡ Close p.name at Absent (Some p.digest) [])
 close_of p asks.Opening is = grind arith
@@ -271,13 +282,6 @@ close_of p (asks.Status at) is = grind arith
 close_of p (asks.Close at) is = (at, refl)
 close_of p asks.Head is = grind arith
 
-head_of : (p : Push) (q : PushAsk) → IsHead (request p q) → request p q ≡ Has p.name p.digest true
-head_of p asks.Opening is = grind arith
-head_of p (asks.Chunk at range) is = grind arith
-head_of p (asks.Status at) is = grind arith
-head_of p (asks.Close at) is = grind arith
-head_of p asks.Head is = refl
-
 closed : (host : List ℕ) (p : Push) (old new : List DialEvent) (ask : Ask) (q : PushAsk) → ask ≡ request p q
     → IsClose ask → EndsAnswered host ask 201 old new
     → (at : List ℕ) × EndsAnswered host (Close p.name at Absent (Some p.digest) []) 201 old new
@@ -285,63 +289,119 @@ closed host p old new ask q own is ends =
     let close = close_of p q (subst IsClose own is) in
     (close.0, subst (λ (a : Ask). EndsAnswered host a 201 old new) (own ∙ close.1) ends)
 
-looked : (host : List ℕ) (p : Push) (old new : List DialEvent) (ask : Ask) (q : PushAsk) → ask ≡ request p q
-    → IsHead ask → EndsAnswered host ask 200 old new → EndsAnswered host (Has p.name p.digest true) 200 old new
-looked host p old new ask q own is ends =
-    subst (λ (a : Ask). EndsAnswered host a 200 old new) (own ∙ head_of p q (subst IsHead own is)) ends
+-- at the end the history goes on from what it was, also by the connection that was kept
+end_more : (h : List DialEvent) (kept : Option WireState) → GoesOn h (with_kept_back h kept)
+end_more h None = ([], sym (append-nil h))
+end_more h (Some wire) = (_, refl)
+
+-- the blob was seen over the last connection
+seen_last : (host name : List ℕ) (digest : Digest) (size : ℕ) (old new : List DialEvent) (s t : Dialing)
+    → GoesOn old s.history → AreSeen host name digest size s sights.Blob t → new ≡ history_at_end t
+    → EndsSeen host name digest size old new
+seen_last host name digest size old new s t from (kept, inr (nothing, same)) back = absurd (blob_nothing nothing)
+seen_last host name digest size old new s t from (kept, inl seen) back =
+    let on = goes_further old s.history (history_at_end s) from (end_more s.history s.kept) in
+    let here = goes_further old (history_at_end s) (history_at_end s ++ made ∷ []) on (made ∷ [], refl) in
+    let there = back ∙ ap (with_kept_back t.history) kept ∙ seen.over in
+    let with_events =
+    there ∙ ap (λ (h : List DialEvent). h ++ given_back seen.given seen.taken ∷ []) here.1 in
+    record {
+      since = here.0;
+      given = seen.given;
+      last =
+          with_events ∙ ap (λ (t : List ℕ). (old ++ here.0) ++ given_back seen.given t ∷ [])
+          (asked_whole (ask_text (Has name digest true) host) seen.taken seen.asked);
+      shows = seen.seen;
+    }
 
 -- how the end of a push was answered
 abbrev IsAnswered : List ℕ → Push → List DialEvent → List DialEvent → Option (List ℕ) → Option (List ℕ) → Type 0
 IsAnswered host p old new before after =
     (PrintsDigest (codes "pushed") p.digest before after
     × ((at : List ℕ) × EndsAnswered host (Close p.name at Absent (Some p.digest) []) 201 old new))
-    ⊎ (PrintsDigest (codes "already") p.digest before after × EndsAnswered host (Has p.name p.digest true) 200 old new)
+    ⊎ (PrintsDigest (codes "already") p.digest before after × EndsSeen host p.name p.digest (length p.file) old new)
 
-by_phase : (host : List ℕ) (p : Push) (old new : List DialEvent) (before after : Option (List ℕ)) (s : Dialing)
-    (heard : List (Option Heard)) (t : Dialing) (phase : Phase) (text : List ℕ)
-    → GoesOn old s.history → KeptTo host s.kept → Leads (AsksIn host) s (log_of p heard) t → new ≡ history_at_end t
-    → (after_all p heard).phase ≡ phase → PrintsPush p.digest phase 0 text → Appends before after (line text)
+by_shown : (host : List ℕ) (p : Push) (old new : List DialEvent) (before after : Option (List ℕ))
+    (last behind : Dialing) (sight : Sight) (text : List ℕ)
+    → GoesOn old last.history → AreSeen host p.name p.digest (length p.file) last sight behind
+    → new ≡ history_at_end behind → PrintsPush p.digest (phase_at sight) 0 text → Appends before after (line text)
     → IsAnswered host p old new before after
-by_phase host p old new before after s heard t (phases.Done Pushed) text from to leads back is told printed =
-    let last = pushed_last p heard is in
-    let at = by_log host IsClose 201 old new s from to (log_of p heard) t last leads (inr refl) back in
-    let own = subst (IsOwn p) at.2 (all_own p heard) in
-    inl (
-      subst (λ (x : List ℕ). Appends before after (line x)) told.1 printed,
-      closed host p old new at.0.ask own.0 own.1 at.3 at.4,
-    )
-by_phase host p old new before after s heard t (phases.Done Already) text from to leads back is told printed =
-    let last = already_last p heard is in
-    let at = by_log host IsHead 200 old new s from to (log_of p heard) t last leads (inl refl) back in
-    let own = subst (IsOwn p) at.2 (all_own p heard) in
+by_shown host p old new before after last behind sights.Blob text from seen back told printed =
     inr (
       subst (λ (x : List ℕ). Appends before after (line x)) told.1 printed,
-      looked host p old new at.0.ask own.0 own.1 at.3 at.4,
+      seen_last host p.name p.digest (length p.file) old new last behind from seen back,
     )
-by_phase host p old new before after s heard t (phases.GaveUp why) text from to leads back is told printed =
+by_shown host p old new before after last behind sights.Other text from seen back told printed =
     absurd (zero_one told.0)
-by_phase host p old new before after s heard t phase text from to leads back is told printed = absurd told
+by_shown host p old new before after last behind sights.Nothing text from seen back told printed =
+    absurd (zero_one told.0)
 
--- a look that found the blob was answered
-found_heard : (heard : Option Heard) → is_found heard ≡ true → (h : Heard) × (heard ≡ Some h) × (h.status ≡ 200)
-found_heard (Some h) is = (h, refl, eqb-true h.status 200 is)
-found_heard None is = grind arith
+by_phase : (host : List ℕ) (p : Push) (old new : List DialEvent) (before after : Option (List ℕ)) (s : Dialing)
+    (heard : List (Option Heard)) (last behind : Dialing) (phase shown : Phase) (text : List ℕ)
+    → GoesOn old s.history → KeptTo host s.kept → Leads (AsksIn host) s (log_of p heard) last
+    → new ≡ history_at_end behind → (after_all p heard).phase ≡ phase → IsShown host p last phase behind shown
+    → PrintsPush p.digest shown 0 text → Appends before after (line text) → IsAnswered host p old new before after
+by_phase host p old new before after s heard last behind (phases.Done Pushed) shown text from to leads back is shows
+    told printed =
+    let closing = pushed_last p heard is in
+    let here = back ∙ ap history_at_end shows.1 in
+    let at = by_log host IsClose 201 old new s from to (log_of p heard) last closing leads (inr refl) here in
+    let own = subst (IsOwn p) at.2 (all_own p heard) in
+    let said = subst (λ (q : Phase). PrintsPush p.digest q 0 text) shows.0 told in
+    inl (
+      subst (λ (x : List ℕ). Appends before after (line x)) said.1 printed,
+      closed host p old new at.0.ask own.0 own.1 at.3 at.4,
+    )
+by_phase host p old new before after s heard last behind (phases.Done Already) shown text from to leads back is
+    (sight, seen, same) told printed =
+    let on = all_on host s to (log_of p heard) last leads in
+    by_shown host p old new before after last behind sight text
+    (goes_further old s.history last.history from on.1) seen back
+    (subst (λ (q : Phase). PrintsPush p.digest q 0 text) same told) printed
+by_phase host p old new before after s heard last behind (phases.GaveUp why) shown text from to leads back is shows
+    told printed =
+    absurd (zero_one (subst (λ (q : Phase). PrintsPush p.digest q 0 text) shows.0 told).0)
+by_phase host p old new before after s heard last behind phase shown text from to leads back is shows told printed =
+    absurd (subst (λ (q : Phase). PrintsPush p.digest q 0 text) shows.0 told)
+
+-- behind a look that didn't find the blob the history goes on, and a connection that is kept is one to the host
+sight_on : (host name : List ℕ) (digest : Digest) (size : ℕ) (s : Dialing) (sight : Sight) (t : Dialing)
+    → AreSeen host name digest size s sight t → KeptTo host t.kept × GoesOn s.history t.history
+sight_on host name digest size s sight t (kept, inl seen) = (
+  none_to host t.kept kept,
+  goes_further s.history (history_at_end s) t.history (end_more s.history s.kept)
+      (_, seen.over ∙ append_assoc (history_at_end s) (made ∷ []) _),
+)
+sight_on host name digest size s sight t (kept, inr (nothing, same)) = (
+  none_to host t.kept kept,
+  goes_further s.history (history_at_end s) t.history (end_more s.history s.kept)
+      ([], same ∙ sym (append-nil (history_at_end s))),
+)
+
+looked_on : (host name : List ℕ) (digest : Digest) (old : List DialEvent) (size : ℕ)
+    (look : Look host name digest (dialing old)) (mid : Dialing) → IsLooked size look false mid
+    → KeptTo host mid.kept × GoesOn old mid.history
+looked_on host name digest old size look mid (inl (is, same)) =
+    let on = asks_on host (dialing old) (Has name digest true) look.heard look.behind tt look.asked in
+    subst (λ (s : Dialing). KeptTo host s.kept × GoesOn old s.history) (sym same) on
+looked_on host name digest old size look mid (inr (is, sight, other, seen)) =
+    let on = asks_on host (dialing old) (Has name digest true) look.heard look.behind tt look.asked in
+    let more = sight_on host name digest size look.behind sight mid seen in
+    (more.0, goes_further old look.behind.history mid.history on.1 more.1)
 
 pub all_answered : PushesAreAnswered
 all_answered host name file chunk old new before after (inr (three, begun)) = absurd (zero_three three)
 all_answered host name file chunk old new before after (inl (inl (line, is))) = absurd (zero_one line.1)
 all_answered host name file chunk old new before after (inl (inr (named, (look, inl found)))) =
-    let h = found_heard look.heard found.found in
     let p = push_of Sha256 name file chunk 5 in
-    let ask = Has p.name p.digest true in
-    let asked = subst (λ (o : Option Heard). AsksIn host (dialing old) ask o look.behind) h.1 look.asked in
+    let on = asks_on host (dialing old) (Has p.name p.digest true) look.heard look.behind tt look.asked in
     inr (
       found.printed,
-      answered host old (dialing old) ask h.0 200 look.behind new ([], sym (append-nil old)) tt asked h.2 (inl refl)
+      seen_last host p.name p.digest (length p.file) old new look.behind found.behind on.1 found.found.1
           found.given_back,
     )
 all_answered host name file chunk old new before after (inl (inr (named, (look, inr push)))) =
     let p = push_of Sha256 name file chunk 5 in
-    let on = asks_on host (dialing old) (Has p.name p.digest true) look.heard look.behind tt look.asked in
-    by_phase host p old new before after look.behind push.heard push.last _ push.text on.1 on.0 push.over
-    push.given_back refl push.told push.printed
+    let on = looked_on host p.name p.digest old (length p.file) look push.mid push.missing in
+    by_phase host p old new before after push.mid push.heard push.last push.behind _ push.shown push.text on.1 on.0
+    push.over push.given_back refl push.shows push.told push.printed

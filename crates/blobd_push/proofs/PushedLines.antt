@@ -1,6 +1,6 @@
 -- The line that a push prints.
 use Rattle.std.proofs.Common.{◌≡◌, ℕ, ◌<◌, List, [], ◌∷◌, length, Option, Some, inl, inr, ◌⊎◌, true, false, refl}
-use Rattle.std.proofs.Common.{sym, ap, subst, arith, ◌∙◌}
+use Rattle.std.proofs.Common.{sym, ap, subst, arith, ◌∙◌, Bool, ◌≢◌}
 use Rattle.std.specs.Prelude.{Result, Ok, Err, codes}
 use Rattle.std.specs.Io.KnownBytes.{Appends}
 use Rattle.std.specs.Net.Text.{socket_text}
@@ -9,22 +9,28 @@ use Rattle.upload_names.specs.Name.{IsName, IsInGrammar, longest_name}
 use Rattle.upload_names.specs.Digest.{Digest, content_digest}
 use Rattle.upload_names.specs.declared.digest.Algorithm.TheVariants.{Sha256}
 use Rattle.upload_service.specs.declared.ask.Ask.{Ask}
-use Rattle.upload_service.specs.declared.ask.Ask.TheVariants.{Has}
 use Rattle.upload_client.specs.declared.heard.Heard.{Heard}
 use Rattle.upload_push.specs.Looking.{is_found}
 use Rattle.upload_push.specs.Slices.{Push, Attempt, IsPush, IsEnd, Leads, log_of, push_of, push_under, after_all}
 use Rattle.upload_push.specs.declared.pusher.Outcome.{Outcome}
-use Rattle.upload_push.specs.declared.pusher.Outcome.TheVariants.{Already}
+use Rattle.upload_push.specs.declared.pusher.Outcome.TheVariants.{Already, Pushed}
 use Rattle.upload_push.specs.declared.pushing.PushFault.{PushFault}
 use Rattle.upload_push.specs.declared.pushing.PushFault.TheVariants as faults
 use Rattle.upload_push.specs.declared.pusher.Phase.{Phase}
 use Rattle.upload_push.specs.declared.pusher.Phase.TheVariants.{Opening, Done, GaveUp}
-use Rattle.upload_push.specs.declared.pusher.Why.TheVariants.{OutOfTries}
+use Rattle.upload_push.specs.declared.pusher.Why.TheVariants.{BadServer, OutOfTries}
 use Rattle.upload_push.proofs.Sound.{unheard_waits}
 use Rattle.blobd_shared.specs.Status.{IsPrinted, line}
 use Rattle.blobd_push.specs.Dials.{DialEvent, Dialing, AsksIn, dialing, history_at_end}
+use Rattle.blobd_push.specs.Sights.{AreSeen, is_blob}
+use Rattle.blobd_push.specs.declared.sight.Sight.{Sight}
+use Rattle.blobd_push.specs.declared.sight.Sight.TheVariants as sights
+use Rattle.blobd_push.specs.Pushed.{IsConfirmed, IsLooked, IsShown, end_at}
 use Rattle.blobd_push.specs.Pushed.{IsBegun, IsLookedLine, IsPushed, IsPushedOver, IsSent, IsEndLine, PrintsPush}
 use Rattle.blobd_push.specs.Pushed.{Look, why_text}
+
+false_true : false ≡ true → ⊥
+false_true h = grind arith
 
 -- what an ask says of the host and of the connections
 abbrev pub KeepsDialing : {S : Type 0} → (S → Ask → Option Heard → S → Type 0) → (S → List ℕ) → (S → Dialing) → Type 0
@@ -43,31 +49,25 @@ dialed asked host state keeps at old same (e ∷ log) new leads =
       step.1 ∙ earlier.1,
     )
 
--- a look that found the blob
-pub found : (at : List ℕ) (p : Push) (before : Dialing) (first : Option Heard) (behind : Dialing)
-    → AsksIn at before (Has p.name p.digest true) first behind → true ≡ is_found first
-    → IsSent at p before behind (Ok Already)
-found at p before first behind asks is =
-    inl (record { heard = first; behind = behind; asked = asks }, inl (sym is, refl, refl))
-
--- a push behind a look that didn't find it
-pub sent : {S : Type 0} {asked : S → Ask → Option Heard → S → Type 0} (host : S → List ℕ) (state : S → Dialing)
+-- the asks of a push behind a look went over its connections
+pub over_them : {S : Type 0} {asked : S → Ask → Option Heard → S → Type 0} (host : S → List ℕ) (state : S → Dialing)
     → KeepsDialing asked host state → {p : Push} {mid new : S} {end : Result Outcome PushFault} (at : List ℕ)
-    (before : Dialing) (first : Option Heard)
-    → AsksIn at before (Has p.name p.digest true) first (state mid) → host mid ≡ at → false ≡ is_found first
-    → IsPush asked p mid new end → IsSent at p before (state new) end
-sent {asked = asked} host state keeps {p} {mid} {new} {end} at before first asks same is push =
-    inl (
-      record { heard = first; behind = state mid; asked = asks },
-      inr (
-        sym is,
-        record {
-          heard = push.heard;
-          leads = (dialed asked host state keeps at mid same (log_of p push.heard) new push.leads).0;
-          ends = push.ends;
-        },
-      ),
-    )
+    → host mid ≡ at → IsPush asked p mid new end
+    → IsPush (AsksIn at) p (state mid) (state new) end × (host new ≡ at)
+over_them {asked = asked} host state keeps {p} {mid} {new} {end} at same push =
+    let over = dialed asked host state keeps at mid same (log_of p push.heard) new push.leads in
+    (record { heard = push.heard; leads = over.0; ends = push.ends }, over.1)
+
+-- whether a look found the blob, by what was seen behind it
+pub seen_so : {host name : List ℕ} {digest : Digest} {start : Dialing} (size : ℕ) (look : Look host name digest start)
+    (sight : Sight) (blob : Bool) (after : Dialing) → true ≡ is_found look.heard → blob ≡ is_blob sight
+    → AreSeen host name digest size look.behind sight after → IsLooked size look blob after
+seen_so size look sights.Blob true after found is seen = (sym found, seen)
+seen_so size look sights.Blob false after found is seen = absurd (false_true is)
+seen_so size look sights.Other true after found is seen = absurd (false_true (sym is))
+seen_so size look sights.Other false after found is seen = inr (sym found, sights.Other, refl, seen)
+seen_so size look sights.Nothing true after found is seen = absurd (false_true (sym is))
+seen_so size look sights.Nothing false after found is seen = inr (sym found, sights.Nothing, refl, seen)
 
 -- the same push, of a name that is equal, of the file's digest, to an equal host, and from an equal start
 same_push : (at host own name file : List ℕ) (chunk : ℕ) (digest : Digest) (before start after : Dialing)
@@ -88,98 +88,203 @@ pub untold : (digest : Digest) (phase : Phase) (status : ℕ) (text : List ℕ)
 untold digest phase status text (inl is) told = absurd (subst (λ (p : Phase). PrintsPush digest p status text) is told)
 untold digest phase status text (inr is) told = subst (λ (p : Phase). PrintsPush digest p status text) is told
 
-false_true : false ≡ true → ⊥
-false_true h = grind arith
-
 -- the line of a blob that was found
 found_line : (host : List ℕ) (p : Push) (old new : List DialEvent) (state : Dialing) (before after : Option (List ℕ))
     (result : ℕ) (look : Look host p.name p.digest (dialing old))
-    → is_found look.heard ≡ true → state ≡ look.behind → new ≡ history_at_end state
+    → IsLooked (length p.file) look true state → new ≡ history_at_end state
     → IsEndLine p.digest (Ok Already) before after result
     → IsLookedLine host p old new before after result ⊎ (result ≡ 3)
-found_line host p old new state before after result look is last back (inr fault) = inr fault
-found_line host p old new state before after result look is last back (inl (zero, printed)) =
+found_line host p old new state before after result look is back (inr fault) = inr fault
+found_line host p old new state before after result look is back (inl (zero, printed)) =
     inl (
       look,
-      inl (record {
-        found = is;
-        given_back = back ∙ ap history_at_end last;
-        is_status = zero;
-        printed = printed;
-      }),
+      inl (record { behind = state; found = is; given_back = back; is_status = zero; printed = printed }),
     )
 
+-- what is shown of a push that waits for its opening, or is out of tries, is that
+still_waits : (host : List ℕ) (p : Push) (last : Dialing) (phase : Phase) (behind : Dialing) (shown : Phase)
+    → (phase ≡ Opening) ⊎ (phase ≡ GaveUp OutOfTries) → IsShown host p last phase behind shown
+    → (shown ≡ Opening) ⊎ (shown ≡ GaveUp OutOfTries)
+still_waits host p last phase behind shown (inl is) shows =
+    inl (subst (λ (q : Phase). IsShown host p last q behind shown) is shows).0
+still_waits host p last phase behind shown (inr is) shows =
+    inr (subst (λ (q : Phase). IsShown host p last q behind shown) is shows).0
+
 -- the line of the end of a push
-lined : (host : List ℕ) (p : Push) (old new : List DialEvent) (last : Dialing) (end : Result Outcome PushFault)
-    (phase : Phase) (text : List ℕ) (before after : Option (List ℕ)) (result : ℕ)
-    → (look : Look host p.name p.digest (dialing old)) → is_found look.heard ≡ false
-    → IsPush (AsksIn host) p look.behind last end → new ≡ history_at_end last
-    → ((q : Phase) → IsEnd q end → q ≡ phase) → PrintsPush p.digest phase result text → Appends before after (line text)
+lined : (host : List ℕ) (p : Push) (old new : List DialEvent) (mid last behind : Dialing)
+    (pushed : Result Outcome PushFault) (phase shown : Phase) (text : List ℕ) (before after : Option (List ℕ))
+    (result : ℕ) → (look : Look host p.name p.digest (dialing old)) → IsLooked (length p.file) look false mid
+    → IsPush (AsksIn host) p mid last pushed → ((q : Phase) → IsEnd q pushed → q ≡ phase)
+    → IsShown host p last phase behind shown → new ≡ history_at_end behind
+    → PrintsPush p.digest shown result text → Appends before after (line text)
     → IsLookedLine host p old new before after result ⊎ (result ≡ 3)
-lined host p old new last end phase text before after result look missing push back at told printed =
-    let at_the_end : PrintsPush p.digest (after_all p push.heard).phase result text =
-    subst (λ q. PrintsPush p.digest q result text) (sym (at _ push.ends)) told in
+lined host p old new mid last behind pushed phase shown text before after result look missing push at shows back told
+    printed =
+    let is = at _ push.ends in
+    let here = subst (λ (q : Phase). IsShown host p last q behind shown) (sym is) shows in
     inl (
       look,
       inr (record {
+        mid = mid;
         missing = missing;
         heard = push.heard;
         last = last;
         over = push.leads;
+        behind = behind;
+        shown = shown;
+        shows = here;
         given_back = back;
         text = text;
         unheard =
             λ none.
-            untold p.digest (after_all p push.heard).phase result text (unheard_waits p push.heard none) at_the_end;
-        told = at_the_end;
+            untold p.digest shown result text
+            (still_waits host p last (after_all p push.heard).phase behind shown (unheard_waits p push.heard none) here)
+            told;
+        told = told;
         printed = printed;
       }),
     )
 
-by_end : (host : List ℕ) (p : Push) (old new : List DialEvent) (last : Dialing) (end : Result Outcome PushFault)
+-- an end that was found by the push itself, and what was shown of it then
+by_sight : (host : List ℕ) (p : Push) (old new : List DialEvent) (mid last behind : Dialing) (sight : Sight)
     (before after : Option (List ℕ)) (result : ℕ)
-    → (look : Look host p.name p.digest (dialing old)) → is_found look.heard ≡ false
-    → IsPush (AsksIn host) p look.behind last end → new ≡ history_at_end last
+    → (look : Look host p.name p.digest (dialing old)) → IsLooked (length p.file) look false mid
+    → IsPush (AsksIn host) p mid last (Ok Already)
+    → AreSeen host p.name p.digest (length p.file) last sight behind → new ≡ history_at_end behind
+    → IsEndLine p.digest (end_at sight) before after result
+    → IsLookedLine host p old new before after result ⊎ (result ≡ 3)
+by_sight host p old new mid last behind sights.Blob before after result look missing push seen back (inr fault) =
+    inr fault
+by_sight host p old new mid last behind sights.Blob before after result look missing push seen back
+    (inl (zero, printed)) =
+    lined host p old new mid last behind (Ok Already) (Done Already) (Done Already) _ before after result look missing
+    push (λ q ends. ends) (sights.Blob, seen, refl) back (zero, refl) printed
+by_sight host p old new mid last behind sights.Other before after result look missing push seen back (inr fault) =
+    inr fault
+by_sight host p old new mid last behind sights.Other before after result look missing push seen back
+    (inl (one, printed)) =
+    lined host p old new mid last behind (Ok Already) (Done Already) (GaveUp BadServer) _ before after result look
+    missing push (λ q ends. ends) (sights.Other, seen, refl) back (one, refl) printed
+by_sight host p old new mid last behind sights.Nothing before after result look missing push seen back (inr fault) =
+    inr fault
+by_sight host p old new mid last behind sights.Nothing before after result look missing push seen back
+    (inl (one, printed)) =
+    lined host p old new mid last behind (Ok Already) (Done Already) (GaveUp OutOfTries) _ before after result look
+    missing push (λ q ends. ends) (sights.Nothing, seen, refl) back (one, refl) printed
+
+-- an end that stands as it is
+as_it_is : (host : List ℕ) (p : Push) (old new : List DialEvent) (mid last behind : Dialing)
+    (pushed : Result Outcome PushFault) (before after : Option (List ℕ)) (result : ℕ)
+    → (look : Look host p.name p.digest (dialing old)) → IsLooked (length p.file) look false mid
+    → IsPush (AsksIn host) p mid last pushed → pushed ≢ Ok Already → behind ≡ last → new ≡ history_at_end behind
+    → IsEndLine p.digest pushed before after result
+    → IsLookedLine host p old new before after result ⊎ (result ≡ 3)
+as_it_is host p old new mid last behind (Ok Pushed) before after result look missing push other same back
+    (inr fault) = inr fault
+as_it_is host p old new mid last behind (Ok Pushed) before after result look missing push other same back
+    (inl (zero, printed)) =
+    lined host p old new mid last behind (Ok Pushed) (Done Pushed) (Done Pushed) _ before after result look missing
+    push (λ q ends. ends) (refl, same) back (zero, refl) printed
+as_it_is host p old new mid last behind (Ok Already) before after result look missing push other same back told =
+    absurd (other refl)
+as_it_is host p old new mid last behind (Err (faults.GaveUp why)) before after result look missing push other same back
+    (inr fault) = inr fault
+as_it_is host p old new mid last behind (Err (faults.GaveUp why)) before after result look missing push other same back
+    (inl (one, printed)) =
+    lined host p old new mid last behind (Err (faults.GaveUp why)) (GaveUp why) (GaveUp why) _ before after result look
+    missing push (λ q ends. ends) (refl, same) back (one, refl) printed
+as_it_is host p old new mid last behind (Err faults.NoMemory) before after result look missing push other same back
+    fault = inr fault
+
+by_end : (host : List ℕ) (p : Push) (old new : List DialEvent) (mid last behind : Dialing)
+    (pushed end : Result Outcome PushFault) (before after : Option (List ℕ)) (result : ℕ)
+    → (look : Look host p.name p.digest (dialing old)) → IsLooked (length p.file) look false mid
+    → IsPush (AsksIn host) p mid last pushed
+    → IsConfirmed host p.name p.digest (length p.file) last pushed behind end → new ≡ history_at_end behind
     → IsEndLine p.digest end before after result
     → IsLookedLine host p old new before after result ⊎ (result ≡ 3)
-by_end host p old new last (Ok outcome) before after result look missing push back (inr fault) = inr fault
-by_end host p old new last (Ok outcome) before after result look missing push back (inl (zero, printed)) =
-    lined host p old new last (Ok outcome) (Done outcome) _ before after result look missing push back (λ q ends. ends)
-    (zero, refl) printed
-by_end host p old new last (Err (faults.GaveUp why)) before after result look missing push back (inr fault) = inr fault
-by_end host p old new last (Err (faults.GaveUp why)) before after result look missing push back (inl (one, printed)) =
-    lined host p old new last (Err (faults.GaveUp why)) (GaveUp why) _ before after result look missing push back
-    (λ q ends. ends) (one, refl) printed
-by_end host p old new last (Err faults.NoMemory) before after result look missing push back fault = inr fault
+by_end host p old new mid last behind (Ok Already) end before after result look missing push
+    (inl (sight, seen, is)) back told =
+    by_sight host p old new mid last behind sight before after result look missing push seen back
+    (subst (λ e. IsEndLine p.digest e before after result) is told)
+by_end host p old new mid last behind (Ok Already) end before after result look missing push (inr (is, same)) back
+    told = inr (subst (λ e. IsEndLine p.digest e before after result) is told)
+by_end host p old new mid last behind (Ok Pushed) end before after result look missing push (is, same) back told =
+    as_it_is host p old new mid last behind (Ok Pushed) before after result look missing push
+    (λ h. grind arith) same back (subst (λ e. IsEndLine p.digest e before after result) is told)
+by_end host p old new mid last behind (Err fault) end before after result look missing push (is, same) back told =
+    as_it_is host p old new mid last behind (Err fault) before after result look missing push
+    (λ h. grind arith) same back (subst (λ e. IsEndLine p.digest e before after result) is told)
 
 -- what was sent behind a look, and the line of its end
 by_sent : (host : List ℕ) (p : Push) (old new : List DialEvent) (last : Dialing) (end : Result Outcome PushFault)
     (before after : Option (List ℕ)) (result : ℕ)
     → IsSent host p (dialing old) last end → new ≡ history_at_end last → IsEndLine p.digest end before after result
     → IsLookedLine host p old new before after result ⊎ (result ≡ 3)
-by_sent host p old new last end before after result (inl (look, inl (is, behind, already))) back told =
-    found_line host p old new last before after result look is behind back
+by_sent host p old new behind end before after result (inl (look, is, already)) back told =
+    found_line host p old new behind before after result look is back
     (subst (λ e. IsEndLine p.digest e before after result) already told)
-by_sent host p old new last end before after result (inl (look, inr (missing, push))) back told =
-    by_end host p old new last end before after result look missing push back told
-by_sent host p old new last end before after result (inr (lacks, same)) back told =
+by_sent host p old new behind end before after result
+    (inr (inl (look, mid, last, pushed, missing, push, confirmed))) back told =
+    by_end host p old new mid last behind pushed end before after result look missing push confirmed back told
+by_sent host p old new behind end before after result (inr (inr (lacks, begun))) back told =
     inr (subst (λ e. IsEndLine p.digest e before after result) lacks told)
 
 -- what was asked of the host by then, if memory was out or the line couldn't be printed too
-begun : (host : List ℕ) (p : Push) (old new : List DialEvent) (last : Dialing) (end : Result Outcome PushFault)
-    → IsSent host p (dialing old) last end → new ≡ history_at_end last → IsBegun host p old new
-begun host p old new last end (inl (look, inl (is, behind, already))) back =
-    inr (record { look = look; heard = []; found = λ _. refl; last = last; over = behind; given_back = back })
-begun host p old new last end (inl (look, inr (missing, push))) back =
+was_looked : {host name : List ℕ} {digest : Digest} {start : Dialing} (size : ℕ) (look : Look host name digest start)
+    (found : Bool) (mid : Dialing) → IsLooked size look found mid
+    → (mid ≡ look.behind) ⊎ ((sight : Sight) × AreSeen host name digest size look.behind sight mid)
+was_looked size look true mid is = inr (sights.Blob, is.1)
+was_looked size look false mid (inl is) = inl is.1
+was_looked size look false mid (inr is) = inr (is.1, is.3)
+
+was_confirmed : (host name : List ℕ) (digest : Digest) (size : ℕ) (last behind : Dialing)
+    (pushed end : Result Outcome PushFault) → IsConfirmed host name digest size last pushed behind end
+    → (behind ≡ last) ⊎ ((sight : Sight) × AreSeen host name digest size last sight behind)
+was_confirmed host name digest size last behind (Ok Already) end (inl (sight, seen, is)) = inr (sight, seen)
+was_confirmed host name digest size last behind (Ok Already) end (inr (is, same)) = inl same
+was_confirmed host name digest size last behind (Ok Pushed) end (is, same) = inl same
+was_confirmed host name digest size last behind (Err fault) end (is, same) = inl same
+
+begun : (host : List ℕ) (p : Push) (old new : List DialEvent) (behind : Dialing) (end : Result Outcome PushFault)
+    → IsSent host p (dialing old) behind end → new ≡ history_at_end behind → IsBegun host p old new
+begun host p old new behind end (inl (look, is, already)) back =
     inr (record {
       look = look;
-      heard = push.heard;
-      found = λ is. absurd (false_true (sym missing ∙ is));
-      last = last;
-      over = push.leads;
+      mid = behind;
+      looked = was_looked (length p.file) look true behind is;
+      heard = [];
+      last = behind;
+      over = refl;
+      behind = behind;
+      confirmed = inl refl;
       given_back = back;
     })
-begun host p old new last end (inr (lacks, same)) back = inl (back ∙ ap history_at_end same)
+begun host p old new behind end (inr (inl (look, mid, last, pushed, missing, push, confirmed))) back =
+    inr (record {
+      look = look;
+      mid = mid;
+      looked = was_looked (length p.file) look false mid missing;
+      heard = push.heard;
+      last = last;
+      over = push.leads;
+      behind = behind;
+      confirmed = was_confirmed host p.name p.digest (length p.file) last behind pushed end confirmed;
+      given_back = back;
+    })
+begun host p old new behind end (inr (inr (lacks, inl same))) back = inl (back ∙ ap history_at_end same)
+begun host p old new behind end (inr (inr (lacks, inr (look, same)))) back =
+    inr (record {
+      look = look;
+      mid = behind;
+      looked = inl same;
+      heard = [];
+      last = behind;
+      over = refl;
+      behind = behind;
+      confirmed = inl refl;
+      given_back = back;
+    })
 
 -- the line of a push whose name is one
 under_name : (host name file : List ℕ) (chunk : ℕ) (old new : List DialEvent) (before after : Option (List ℕ))

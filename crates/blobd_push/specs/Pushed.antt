@@ -22,6 +22,9 @@ use Rattle.upload_push.specs.declared.pushing.PushFault.TheVariants as faults
 use Rattle.upload_push.specs.declared.pusher.Phase.{Phase}
 use Rattle.upload_push.specs.declared.pusher.Phase.TheVariants.{Done, GaveUp}
 use Rattle.blobd_push.specs.Dials.{DialEvent, Dialing, AsksIn, dialing, history_at_end}
+use Rattle.blobd_push.specs.Sights.{AreSeen, is_blob}
+use Rattle.blobd_push.specs.declared.sight.Sight.{Sight}
+use Rattle.blobd_push.specs.declared.sight.Sight.TheVariants as sights
 use Rattle.blobd_shared.specs.Status.{IsPrinted, line}
 
 -- one or more bytes, all of them visible ASCII
@@ -66,25 +69,63 @@ pub record Look (host name : List ℕ) (digest : Digest) (before : Dialing) : Ty
   pub behind : Dialing
   pub asked : AsksIn host before (Has name digest true) heard behind
 
--- Behind the look the push ended so: as already there if the blob was found; else there is all that it heard, each over
--- the connection that was kept or over a new one.
-abbrev pub IsSentBehind : (host : List ℕ) (p : Push) {before : Dialing} → Look host p.name p.digest before → Dialing
-    → Result Outcome PushFault → Type 0
-IsSentBehind host p look after end =
-    ((is_found look.heard ≡ true) × (after ≡ look.behind) × (end ≡ Ok Already))
-    ⊎ ((is_found look.heard ≡ false) × IsPush (AsksIn host) p look.behind after end)
+-- Whether a look found the blob: a HEAD was answered 200, and the reply to another shows the blob of this length.
+abbrev pub IsLooked : {host name : List ℕ} {digest : Digest} {before : Dialing} → ℕ → Look host name digest before
+    → Bool → Dialing → Type 0
+IsLooked {host} {name} {digest} size look true after =
+    (is_found look.heard ≡ true) × AreSeen host name digest size look.behind sights.Blob after
+IsLooked {host} {name} {digest} size look false after =
+    ((is_found look.heard ≡ false) × (after ≡ look.behind))
+    ⊎ ((is_found look.heard ≡ true) × (sight : Sight) × (is_blob sight ≡ false)
+    × AreSeen host name digest size look.behind sight after)
 
--- The push was sent to this host behind a look, and ended so; or it ended out of memory before it asked anything.
+-- a look was begun, and memory may have been out before it or behind its first HEAD
+abbrev pub IsLookedAt : List ℕ → List ℕ → Digest → Dialing → Dialing → Type 0
+IsLookedAt host name digest before after =
+    (after ≡ before) ⊎ ((look : Look host name digest before) × (after ≡ look.behind))
+
+-- how a push ends that found the blob at its own HEAD, by what the reply to another shows
+abbrev pub end_at : Sight → Result Outcome PushFault
+end_at sights.Blob = Ok Already
+end_at sights.Other = Err (faults.GaveUp BadServer)
+end_at sights.Nothing = Err (faults.GaveUp OutOfTries)
+
+abbrev pub phase_at : Sight → Phase
+phase_at sights.Blob = Done Already
+phase_at sights.Other = GaveUp BadServer
+phase_at sights.Nothing = GaveUp OutOfTries
+
+-- How a push ends, and what is done behind it: one that found the blob at its own HEAD asks another.
+abbrev pub IsConfirmed : List ℕ → List ℕ → Digest → ℕ → Dialing → Result Outcome PushFault → Dialing
+    → Result Outcome PushFault → Type 0
+IsConfirmed host name digest size last (Ok Already) after end =
+    ((sight : Sight) × AreSeen host name digest size last sight after × (end ≡ end_at sight))
+    ⊎ ((end ≡ Err faults.NoMemory) × (after ≡ last))
+IsConfirmed host name digest size last pushed after end = (end ≡ pushed) × (after ≡ last)
+
+-- the same of the phase in which it ended, and of the one whose line is printed
+abbrev pub IsShown : List ℕ → Push → Dialing → Phase → Dialing → Phase → Type 0
+IsShown host p last (Done Already) after shown =
+    (sight : Sight) × AreSeen host p.name p.digest (length p.file) last sight after × (shown ≡ phase_at sight)
+IsShown host p last phase after shown = (shown ≡ phase) × (after ≡ last)
+
+-- The push was sent to this host behind a look, and ended so: as already there if the blob was found; else there is all
+-- that it heard, each over the connection that was kept or over a new one. Or it ended out of memory at its look.
 abbrev pub IsSent : List ℕ → Push → Dialing → Dialing → Result Outcome PushFault → Type 0
 IsSent host p before after end =
-    ((look : Look host p.name p.digest before) × IsSentBehind host p look after end)
-    ⊎ ((end ≡ Err faults.NoMemory) × (after ≡ before))
+    ((look : Look host p.name p.digest before) × IsLooked (length p.file) look true after × (end ≡ Ok Already))
+    ⊎ (((look : Look host p.name p.digest before) × (mid last : Dialing) × (pushed : Result Outcome PushFault)
+    × IsLooked (length p.file) look false mid × IsPush (AsksIn host) p mid last pushed
+    × IsConfirmed host p.name p.digest (length p.file) last pushed after end)
+    ⊎ ((end ≡ Err faults.NoMemory) × IsLookedAt host p.name p.digest before after))
 
 -- The blob was found: its line was printed and nothing else. All that was done with connections is this history's.
-pub record IsFoundLine {host name : List ℕ} {digest : Digest} {start : Dialing} (look : Look host name digest start)
-    (history : List DialEvent) (before after : Option (List ℕ)) (status : ℕ) : Type 0 where
-  pub found : is_found look.heard ≡ true
-  pub given_back : history ≡ history_at_end look.behind
+pub record IsFoundLine {host name : List ℕ} {digest : Digest} {start : Dialing} (size : ℕ)
+    (look : Look host name digest start) (history : List DialEvent) (before after : Option (List ℕ)) (status : ℕ)
+    : Type 0 where
+  pub behind : Dialing
+  pub found : IsLooked size look true behind
+  pub given_back : history ≡ history_at_end behind
   pub is_status : status ≡ 0
   pub printed : Appends before after (line (outcome_word Already ++ (codes " " ++ digest_text digest)))
 
@@ -93,16 +134,20 @@ pub record IsFoundLine {host name : List ℕ} {digest : Digest} {start : Dialing
 -- nothing else. All that was done with connections is this history's.
 pub record IsPushLine {host : List ℕ} (p : Push) {start : Dialing} (look : Look host p.name p.digest start)
     (history : List DialEvent) (before after : Option (List ℕ)) (status : ℕ) : Type 0 where
-  pub missing : is_found look.heard ≡ false
+  pub mid : Dialing
+  pub missing : IsLooked (length p.file) look false mid
   pub heard : List (Option Heard)
   pub last : Dialing
-  pub over : Leads (AsksIn host) look.behind (log_of p heard) last
-  pub given_back : history ≡ history_at_end last
+  pub over : Leads (AsksIn host) mid (log_of p heard) last
+  pub behind : Dialing
+  pub shown : Phase
+  pub shows : IsShown host p last (after_all p heard).phase behind shown
+  pub given_back : history ≡ history_at_end behind
   pub text : List ℕ
   -- if nothing was heard, as if no connection could be made, the line tells no status: it says that the tries are
   -- used up
   pub unheard : AreUnheard heard → (status ≡ 1) × (text ≡ why_text OutOfTries)
-  pub told : PrintsPush p.digest (after_all p heard).phase status text
+  pub told : PrintsPush p.digest shown status text
   pub printed : Appends before after (line text)
 
 -- A push to this host looked first, and the line of the blob that was found or of the push's end was printed. The
@@ -111,23 +156,30 @@ abbrev pub IsLookedLine : List ℕ → Push → List DialEvent → List DialEven
     → Type 0
 IsLookedLine host p old new before after status =
     (look : Look host p.name p.digest (dialing old))
-    × (IsFoundLine look new before after status ⊎ IsPushLine p look new before after status)
+    × (IsFoundLine (length p.file) look new before after status ⊎ IsPushLine p look new before after status)
 
 -- The name isn't one, and a line that says so was printed and nothing else, with status 1.
 abbrev pub IsNameLine : List ℕ → Option (List ℕ) → Option (List ℕ) → ℕ → Type 0
 IsNameLine name before after status =
     ¬ (IsName name) × (status ≡ 1) × Appends before after (line (codes "refused: name"))
 
--- A push to this host was begun, whatever came of it: it looked, and if the blob wasn't found this was heard to what it
--- asked behind the look, over the connection that was kept or over a new one. All that was done with connections is
--- this history's.
+-- a further HEAD of the push's blob may have been asked
+abbrev pub MayLook : List ℕ → Push → Dialing → Dialing → Type 0
+MayLook host p before after =
+    (after ≡ before) ⊎ ((sight : Sight) × AreSeen host p.name p.digest (length p.file) before sight after)
+
+-- A push to this host was begun, whatever came of it: it looked, and this was heard to what it asked behind the look,
+-- over the connection that was kept or over a new one. All that was done with connections is this history's.
 pub record HasAsked (host : List ℕ) (p : Push) (old new : List DialEvent) : Type 0 where
   pub look : Look host p.name p.digest (dialing old)
+  pub mid : Dialing
+  pub looked : MayLook host p look.behind mid
   pub heard : List (Option Heard)
-  pub found : is_found look.heard ≡ true → heard ≡ []
   pub last : Dialing
-  pub over : Leads (AsksIn host) look.behind (log_of p heard) last
-  pub given_back : new ≡ history_at_end last
+  pub over : Leads (AsksIn host) mid (log_of p heard) last
+  pub behind : Dialing
+  pub confirmed : MayLook host p last behind
+  pub given_back : new ≡ history_at_end behind
 
 -- the same, or no connection was made
 abbrev pub IsBegun : List ℕ → Push → List DialEvent → List DialEvent → Type 0

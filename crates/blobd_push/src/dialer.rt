@@ -1,5 +1,5 @@
 //! The connections of a push, which are made anew after a fault.
-ghost use Rattle.std.specs.Prelude.{◌≡◌, ◌++◌, ◌∷◌, [], IfSome, IfNone, None};
+ghost use Rattle.std.specs.Prelude.{◌≡◌, ◌++◌, ◌∷◌, [], false, true, IfSome, IfNone, IfOk, OnErr, None};
 ghost use Rattle.std.specs.List.{list_all};
 ghost use Rattle.std.specs.Char.{is_ascii_graphic};
 ghost use Rattle.upload_client.specs.AskText.{CanBeWritten, ask_of_chunk};
@@ -8,6 +8,7 @@ ghost use Rattle.blobd_push.specs.Dials.{AsksIn, Gets, GetsNone, behind_ask, dia
 ghost use Rattle.blobd_push.specs.Dials.{history_at_end, with_back};
 ghost use Rattle.blobd_push.specs.Dials.DialEvent.{made};
 ghost use Rattle.blobd_push.specs.Pushed.{is_word};
+ghost use Rattle.blobd_push.specs.Sights.{AreSeen, IsSightOver};
 ghost use Rattle.blobd_push.specs.Trouble.{course_after, new_course};
 ghost use Rattle.blobd_push.specs.Pauses.{pause_after};
 
@@ -15,7 +16,9 @@ use crate::bar::Bar;
 use crate::connection::{Half, note_error};
 use crate::dials::Dials;
 use crate::pauses::pause_after;
+use crate::sight::{Marks, Sight, look_over};
 use crate::trouble::{Course, Trouble, course_after, status_trouble};
+use http_wire::ReadBuffer;
 use std::alloc::{AllocError, Global};
 use std::cell::Cell;
 use std::io::Eprint;
@@ -23,6 +26,7 @@ use std::rt::Clock;
 use std::thread;
 use std::time::Duration;
 use upload_client::{Heard, LentChunk, Transport, WireTransport};
+use upload_names::{BlobDigest, RepoName};
 use upload_service::{Ask, Extent};
 
 fn are_visible(text: &[u8]) -> bool
@@ -113,6 +117,29 @@ impl<'r, D: Dials + Drop, R> Dialer<'r, D, R> {
         (course, bar, dials)
     }
 
+    /// The two ends of a new connection, or `None` if it can't be made; why is noted.
+    fn ends(&mut self) -> Option<(D::In, D::Out)>
+        ensures word { IfSome result (λ ends. is_word self.old.host.now ≡ true) }
+        ensures some { IfSome result (λ ends.
+            (D.In.given ends.0 ≡ record { bytes = []; ended = false })
+            × (D.Out.taken ends.1 ≡ [])
+            × (D.history self.new.dials ≡ D.history self.old.dials ++ made ∷ [])) }
+        ensures none { IfNone result (D.history self.new.dials ≡ D.history self.old.dials) }
+        ensures same { (self.new.host ≡ self.old.host) × (self.new.pause ≡ self.old.pause)
+            × (self.new.course ≡ self.old.course) × (self.new.wire ≡ self.old.wire) }
+    {
+        if !is_word(self.host.as_bytes()) {
+            return None;
+        }
+        match self.dials.dial() {
+            Ok(ends) => Some(ends),
+            Err(error) => {
+                note_error(self.trouble, &error);
+                None
+            }
+        }
+    }
+
     /// A new connection, or `None` if it can't be made, also if memory is full.
     fn dial(&mut self) -> Option<Wire<'r, D>>
         ensures some { IfSome result (λ wire. IsNew self.old.host.now wire
@@ -122,16 +149,7 @@ impl<'r, D: Dials + Drop, R> Dialer<'r, D, R> {
         ensures same { (self.new.host ≡ self.old.host) × (self.new.pause ≡ self.old.pause)
             × (self.new.course ≡ self.old.course) × (self.new.wire ≡ self.old.wire) }
     {
-        if !is_word(self.host.as_bytes()) {
-            return None;
-        }
-        let (source, sink) = match self.dials.dial() {
-            Ok(ends) => ends,
-            Err(error) => {
-                note_error(self.trouble, &error);
-                return None;
-            }
-        };
+        let (source, sink) = self.ends()?;
         let source = Half::new(source, self.trouble);
         let sink = Half::new(sink, self.trouble);
         match WireTransport::over(self.alloc, source, sink, self.host.as_bytes()) {
@@ -207,6 +225,42 @@ impl<'r, D: Dials + Drop, R> Dialer<'r, D, R> {
     }
 }
 
+impl<'r, D: Dials + Drop, R> Dialer<'r, D, R> {
+    /// Gives back the connection that is kept.
+    fn let_go(&mut self)
+        ensures given_back { dialing_of D.history self.new.wire self.new.dials
+            ≡ dialing (history_at_end (dialing_of D.history self.old.wire self.old.dials)) }
+        ensures same { (self.new.host ≡ self.old.host) × (self.new.pause ≡ self.old.pause)
+            × (self.new.course ≡ self.old.course) }
+    {
+        if let Some(wire) = self.wire.take() {
+            hand_back(&mut self.dials, wire);
+        }
+    }
+
+    /// Asks for a blob by a HEAD over a new connection, which is given back behind it.
+    fn look(&mut self, buffer: &mut ReadBuffer, ask: &Ask, marks: Marks<'_>) -> Sight
+        requires writable { CanBeWritten ask.now }
+        requires empty { buffer.old ≡ [] }
+        requires unconnected { self.old.wire ≡ None }
+        ensures seen { IsSightOver self.old.host.now ask.now marks.entry.size.now
+            marks.entry.digest.now (D.history self.old.dials) result (D.history self.new.dials) }
+        ensures same { (self.new.host ≡ self.old.host) × (self.new.pause ≡ self.old.pause)
+            × (self.new.course ≡ self.old.course) × (self.new.wire ≡ self.old.wire) }
+    {
+        let Some((source, sink)) = self.ends() else {
+            return Sight::Nothing;
+        };
+        let mut source = Half::new(source, self.trouble);
+        let mut sink = Half::new(sink, self.trouble);
+        let host = self.host.as_bytes();
+        let sight = look_over(buffer, &mut source, &mut sink, host, ask, marks);
+        self.dials
+            .take_back(source.into_stream(), sink.into_stream());
+        sight
+    }
+}
+
 /// Gives a connection back.
 fn hand_back<'r, D: Dials>(dials: &mut D, wire: Wire<'r, D>)
     ensures { D.history dials.new ≡ with_back (D.history dials.old) wire.entry }
@@ -222,6 +276,36 @@ impl<'r, D: Dials + Drop, R: Clock + Eprint> Dialer<'r, D, R> {
             thread::sleep(self.rt, Duration::from_millis(self.pause));
         }
         self.trouble.set(Trouble::NoReply);
+    }
+
+    /// What a further HEAD of a blob of so many bytes shows, over a connection of its own. An error means that there
+    /// was no memory for it; nothing was asked.
+    pub(crate) fn sight(
+        &mut self,
+        name: &RepoName,
+        digest: BlobDigest,
+        size: u64,
+    ) -> Result<Sight, AllocError>
+        ensures seen { IfOk result (λ sight. AreSeen self.old.host.now name.now digest size
+            (dialing_of D.history self.old.wire self.old.dials) sight
+            (dialing_of D.history self.new.wire self.new.dials)) }
+        ensures unasked { OnErr result (self.new ≡ self.old) }
+        ensures host { self.new.host ≡ self.old.host }
+    {
+        let name = name.copy(self.alloc)?;
+        let Ok(length) = format!(in self.alloc; "{size}") else {
+            return Err(AllocError);
+        };
+        let mut buffer = ReadBuffer::new(self.alloc)?;
+        let text = digest.text();
+        let marks = Marks {
+            size: length.as_bytes(),
+            digest: text.as_bytes(),
+        };
+        let head = true;
+        self.begin();
+        self.let_go();
+        Ok(self.look(&mut buffer, &Ask::Has { name, digest, head }, marks))
     }
 
     /// Keeps what follows from what was heard: how long to wait, and how the asks went.

@@ -13,6 +13,7 @@ mod dials;
 mod laws;
 mod pauses;
 mod push;
+mod sight;
 mod sockets;
 mod trouble;
 

@@ -1,25 +1,26 @@
 //! `blobd push`: a file goes up, over connections that are made anew after a fault.
-ghost use Rattle.std.specs.Prelude.{length, ◌≡◌, ◌≤◌, ◌^◌, ◌++◌, codes, None, Some};
+ghost use Rattle.std.specs.Prelude.{length, ◌≡◌, ◌≤◌, ◌^◌, ◌++◌, codes, IfOk, OnErr, None, Some};
 ghost use Rattle.upload_names.specs.Digest.{content_digest, digest_text};
 ghost use Rattle.upload_names.specs.declared.digest.Algorithm.{Algorithm};
 ghost use Rattle.upload_push.specs.Slices.{push_under};
 ghost use Rattle.blobd_shared.specs.Status.{IsPrinted};
 ghost use Rattle.blobd_push.specs.Dials.{dialing_of};
-ghost use Rattle.blobd_push.specs.Pushed.{IsEndLine, IsPushedOver, IsSent, outcome_word};
-ghost use Rattle.blobd_push.specs.Pushed.{shown_code, why_text};
+ghost use Rattle.blobd_push.specs.Pushed.{IsConfirmed, IsEndLine, IsLooked, IsLookedAt, IsPushedOver, IsSent};
+ghost use Rattle.blobd_push.specs.Pushed.{Look, outcome_word, shown_code, why_text};
 
 use crate::bar::Bar;
 use crate::dialer::{Dialer, is_word};
 use crate::dials::Dials;
+use crate::sight::Sight;
 use crate::trouble::{Course, NAME_RULE, Trouble, reason_of};
 use blobd_shared::{DONE, FAULT, REFUSED, print_line};
 use sha2::{Digest, Sha256};
-use std::alloc::Global;
+use std::alloc::{AllocError, Global};
 use std::cell::Cell;
 use std::io::{Eprint, Write};
 use std::rt::Clock;
 use upload_names::{BlobDigest, Bytes, NameFault, RepoName};
-use upload_push::{Outcome, PushFault, Why, has_blob, push_under};
+use upload_push::{Outcome, PushFault, Why, push_under};
 
 /// How often a push may go on after a request whose reply wasn't heard.
 const TRIES: u32 = 5;
@@ -100,6 +101,62 @@ fn hash_file<R: Clock + Eprint>(file: &[u8], bar: &mut Bar<'_, R>) -> BlobDigest
     BlobDigest::of_hashed(hash)
 }
 
+/// Whether the repository has the blob already: a HEAD was answered 200, and the reply to another shows the blob. Any
+/// server that answers 200 to everything would be taken for one that has it, if only the first was asked.
+fn has_blob<D, R>(
+    dialer: &mut Dialer<'_, D, R>,
+    alloc: Global,
+    name: &RepoName,
+    digest: BlobDigest,
+    size: u64,
+) -> Result<bool, AllocError>
+where
+    D: Dials + Drop,
+    R: Clock + Eprint,
+    ensures looked { IfOk result (λ found. (look : Look dialer.old.host.now name.now digest
+        (dialing_of D.history dialer.old.wire dialer.old.dials))
+        × IsLooked size look found (dialing_of D.history dialer.new.wire dialer.new.dials)) }
+    ensures begun { OnErr result (IsLookedAt dialer.old.host.now name.now digest
+        (dialing_of D.history dialer.old.wire dialer.old.dials)
+        (dialing_of D.history dialer.new.wire dialer.new.dials)) }
+    ensures host { dialer.new.host ≡ dialer.old.host }
+{
+    match upload_push::has_blob(alloc, dialer, name, digest) {
+        Ok(true) => match dialer.sight(name, digest, size) {
+            Ok(sight) => Ok(sight.is_blob()),
+            Err(_) => Err(AllocError),
+        },
+        Ok(false) => Ok(false),
+        Err(_) => Err(AllocError),
+    }
+}
+
+/// How a push ends whose table ended so: if it found the blob at its own HEAD, the reply to another has to show it.
+fn confirmed<D, R>(
+    dialer: &mut Dialer<'_, D, R>,
+    name: &RepoName,
+    digest: BlobDigest,
+    size: u64,
+    ended: Result<Outcome, PushFault>,
+) -> Result<Outcome, PushFault>
+where
+    D: Dials + Drop,
+    R: Clock + Eprint,
+    ensures { IsConfirmed dialer.old.host.now name.now digest size
+        (dialing_of D.history dialer.old.wire dialer.old.dials) ended
+        (dialing_of D.history dialer.new.wire dialer.new.dials) result }
+{
+    match ended {
+        Ok(Outcome::Already) => match dialer.sight(name, digest, size) {
+            Ok(Sight::Blob) => Ok(Outcome::Already),
+            Ok(Sight::Other) => Err(PushFault::GaveUp(Why::BadServer)),
+            Ok(Sight::Nothing) => Err(PushFault::GaveUp(Why::OutOfTries)),
+            Err(_) => Err(PushFault::NoMemory),
+        },
+        ended => ended,
+    }
+}
+
 /// Pushes a file under its digest over a dialer, unless the repository has the blob already, and says how that ended.
 fn send<D, R>(
     dialer: &mut Dialer<'_, D, R>,
@@ -119,9 +176,13 @@ where
         (dialing_of D.history dialer.old.wire dialer.old.dials)
         (dialing_of D.history dialer.new.wire dialer.new.dials) result }
 {
-    match has_blob(alloc, dialer, name, digest) {
+    let size = file.len() as u64;
+    match has_blob(dialer, alloc, name, digest, size) {
         Ok(true) => Ok(Outcome::Already),
-        Ok(false) => push_under(alloc, dialer, file, name, chunk, TRIES, digest),
+        Ok(false) => {
+            let ended = push_under(alloc, dialer, file, name, chunk, TRIES, digest);
+            confirmed(dialer, name, digest, size, ended)
+        }
         Err(_) => Err(PushFault::NoMemory),
     }
 }

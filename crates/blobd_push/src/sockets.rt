@@ -130,8 +130,8 @@ impl<'r, R: Net<Stream = TcpStream>> Dials for Sockets<'r, R> {
 /// Pushes a file's bytes under a repository's name to the server at `addr`, in chunks of at most `chunk` bytes, unless
 /// the repository has the blob already. Prints one line, and gives the exit status:
 ///
-/// - `pushed` or `already` and the digest, 0: what each is worth is said at [`push`]. `already` comes too if a HEAD
-///   before the push was answered 200: then nothing is sent;
+/// - `pushed` or `already` and the digest, 0: what each is worth is said at [`push`]. `already` comes
+///   only if the reply to a HEAD tells the file's length and no other digest; before the push nothing is sent then;
 /// - `refused: name` if `name` isn't one, and nothing is sent; `refused:` and the status and the error code of the
 ///   reply that ended the push; `refused: bad server` after a reply that no such service gives; `refused: out of
 ///   tries` after too many asks that weren't heard; 1;

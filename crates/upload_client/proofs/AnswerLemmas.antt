@@ -50,11 +50,11 @@ front_printed text p f =
     f.head.1.1.reads.1 ∙ ap (λ t. print_response (the_head f) ++ t) (drop_all p.spans.len text f.in_range)
     ∙ append-nil (print_response (the_head f))
 
-fields_same : (text : List ℕ) (p : ParsedResponse) (f : IsHeadAtFront response_spans text p)
+pub fields_same : (text : List ℕ) (p : ParsedResponse) (f : IsHeadAtFront response_spans text p)
     → fields_of response_spans (take p.spans.len text) p ≡ head_fields (the_head f).fields
 fields_same text p f = f.head.1.1.fields
 
-head_reads : (text : List ℕ) (p : ParsedResponse) (f : IsHeadAtFront response_spans text p)
+pub head_reads : (text : List ℕ) (p : ParsedResponse) (f : IsHeadAtFront response_spans text p)
     → ReadsHead responses text (the_head f) (drop p.spans.len text)
 head_reads text p f =
     let printed = front_printed text p f in

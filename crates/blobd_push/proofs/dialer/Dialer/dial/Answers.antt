@@ -4,13 +4,13 @@ use Rattle.blobd_push.specs.Dials.{transcript_of}
 use Rattle.blobd_push.proofs.Dialing.{unused}
 use Rattle.blobd_push.proofs.dialer.Dialer.dial.Goals as goal
 
-pub returns-in-Err-over-clause-none : goal.returns-in-Err-over-clause-none
-returns-in-Err-over-clause-none g c =
+pub returns-in-Err-clause-none : goal.returns-in-Err-clause-none
+returns-in-Err-clause-none g c =
     let read =
-    ap g.D.In.Inlet.given c.into_stream.ensures ∙ ap transcript_of c.in-Err-over.ensures.given_back.0
-    ∙ ap g.D.In.Inlet.given c.new-source.ensures.stream ∙ c.in-Ok.ensures.new.0 in
+    ap g.D.In.Inlet.given c.into_stream.ensures ∙ ap transcript_of c.in-Err.ensures.given_back.0
+    ∙ ap g.D.In.Inlet.given c.new-source.ensures.stream ∙ c.in_ok-source.ensures.some.0 in
     let written =
-    ap g.D.Out.Outlet.taken c.into_stream-in-Err-over.ensures
-    ∙ ap (λ (s : SinkState). s.taken) c.in-Err-over.ensures.given_back.1
-    ∙ ap g.D.Out.Outlet.taken c.new-sink.ensures.stream ∙ c.in-Ok.ensures.new.1 in
-    unused c.args.self.now.host.now read written c.in-Ok.ensures.told c.take_back.ensures
+    ap g.D.Out.Outlet.taken c.into_stream-in-Err.ensures
+    ∙ ap (λ (s : SinkState). s.taken) c.in-Err.ensures.given_back.1
+    ∙ ap g.D.Out.Outlet.taken c.new-sink.ensures.stream ∙ c.in_ok-source.ensures.some.1 in
+    unused c.args.self.now.host.now read written c.in_ok-source.ensures.some.2 c.take_back.ensures
