@@ -1,0 +1,197 @@
+//! A shelf in a folder of the system. Each method makes the call that it notes, and no other.
+ghost use Rattle.std.specs.Prelude.{◌≡◌, ◌≢◌, [], ◌∷◌, ℕ, Bool, List, Option, IfOk, IsTrue};
+ghost use Rattle.bodies.specs.declared.calls.Call.TheVariants as Call;
+ghost use Rattle.bodies.specs.declared.fault.BodyFault.TheVariants.{Missing};
+
+use crate::calls::Call;
+use crate::fault::BodyFault;
+use crate::shelf::Shelf;
+use journal_file::{
+    FileFrom, Folder, Notes, OpenFault, Start, make_file, make_folder, sync_folder,
+};
+use std::alloc::Global;
+use std::fs;
+use std::io::{self, ErrorKind};
+use std::marker::PhantomData;
+use std::os::unix::fs::FileExt;
+use std::snapshot::Snapshot;
+
+/// What is supposed of the bodies as a folder is opened. A function over `H: Holds` is proved for all.
+pub trait Holds {
+    /// The file of each number, as a read finds it.
+    ghost bodies: { ℕ → Option (List ℕ) };
+
+    /// The disk has what a read finds. Of a body that was not finished, or was removed, it may have something else.
+    ghost is_kept: { ℕ → Bool };
+}
+
+/// How many folders there are: one for each value of a number's low byte.
+const FOLDERS: u64 = 256;
+
+/// Bodies in a folder of 256 folders, which the low byte of the number names, so that none is large. `S` stands for a
+/// file that is new, and `H` for the bodies that were there.
+#[derive(Drop)]
+pub struct FolderShelf<S: Start, H: Holds> {
+    rt: HostRuntime,
+    path: String,
+    calls: Notes<Call<Snapshot<FileFrom<S>>>>,
+    is_usable: bool,
+    held: PhantomData<H>,
+    ghost empty: { S.Start.db ≡ [] },
+}
+
+impl<S: Start, H: Holds> FolderShelf<S, H> {
+    /// Opens the shelf of this name in a folder, and makes what is missing of it, each folder with mode 0700.
+    pub fn open(
+        rt: &HostRuntime,
+        folder: &Folder,
+        name: &str,
+    ) -> Result<FolderShelf<S, H>, OpenFault>
+        requires empty { S.Start.db ≡ [] }
+        ensures fresh { IfOk result (λ shelf. (shelf.calls ≡ []) × IsTrue shelf.is_usable) }
+    {
+        let path = folder.path_of(rt, name)?;
+        make_folder(rt, path.as_str())?;
+        for low in 0..FOLDERS {
+            make_folder(rt, path_within(rt, path.as_str(), low)?.as_str())?;
+        }
+        sync_folder(rt, path.as_str())?;
+        folder.sync()?;
+        Ok(FolderShelf {
+            rt: *rt,
+            path,
+            calls: Notes::none(),
+            is_usable: true,
+            held: PhantomData,
+        })
+    }
+
+    /// The folder that a number's file is in.
+    fn folder_of(&self, number: u64) -> io::Result<String> {
+        path_within(&self.rt, self.path.as_str(), number % FOLDERS)
+    }
+
+    fn path_of(&self, number: u64) -> io::Result<String> {
+        Ok(format!(in self.rt.alloc(); "{}/{number}", self.folder_of(number)?.as_str())?)
+    }
+
+    /// Why a file can't be read or removed. That it isn't there is noted.
+    fn refuse(&mut self, number: u64, error: io::Error) -> BodyFault
+        ensures missing { result ≡ Missing → self.new.calls ≡ Call.Missing number ∷ self.old.calls }
+        ensures other { result ≢ Missing → self.new.calls ≡ self.old.calls }
+        ensures usable { self.new.is_usable ≡ self.old.is_usable }
+    {
+        if error.kind() != ErrorKind::NotFound {
+            return BodyFault::Io(error);
+        }
+        self.note(Call::Missing(number));
+        BodyFault::Missing
+    }
+
+    /// Notes a call with its answer.
+    fn note(&mut self, call: Call<Snapshot<FileFrom<S>>>)
+        ensures calls { self.new.calls ≡ call ∷ self.old.calls }
+        ensures usable { self.new.is_usable ≡ self.old.is_usable }
+    {
+        self.calls = self.calls.and(&call);
+    }
+}
+
+fn path_within(rt: &HostRuntime, path: &str, low: u64) -> io::Result<String> {
+    Ok(format!(in rt.alloc(); "{path}/{low:02x}")?)
+}
+
+/// The number that a file is named by, if it is in its folder.
+fn number_of(name: &str, low: u64) -> Option<u64> {
+    let number = name.parse::<u64>().ok()?;
+    let is_plain = name == "0" || !(name.starts_with('0') || name.starts_with('+'));
+    (is_plain && number % FOLDERS == low).then_some(number)
+}
+
+/// Adds the numbers of the files in a folder.
+fn list(rt: &HostRuntime, path: &str, low: u64, numbers: &mut Vec<u64>) -> io::Result<()> {
+    for entry in fs::read_dir(rt, path)? {
+        if let Some(number) = number_of(entry?.file_name(), low) {
+            numbers.push(number)?;
+        }
+    }
+    Ok(())
+}
+
+impl<S: Start, H: Holds> Shelf for FolderShelf<S, H> {
+    ghost use Rattle.bodies.specs.Calls.{held_after, left_after, IsHonest};
+    ghost use Rattle.bodies.specs.FolderFiles.{seen_of, may_leave_of};
+
+    type File = FileFrom<S>;
+
+    ghost held = { λ shelf. held_after (seen_of S.Start) H.Holds.bodies shelf.calls };
+
+    ghost may_leave = { λ shelf. left_after (seen_of S.Start) H.Holds.bodies
+        (may_leave_of S.Start) H.Holds.is_kept shelf.calls };
+
+    ghost is_usable = { λ shelf. shelf.is_usable };
+
+    ghost IsClean = { λ shelf. IsHonest (seen_of S.Start) H.Holds.bodies shelf.calls };
+
+    fn may_be_used(&self) -> bool {
+        self.is_usable
+    }
+
+    fn make(&mut self, number: u64) -> Result<FileFrom<S>, BodyFault> {
+        let path = self.path_of(number)?;
+        match make_file(&self.rt, path.as_str()) {
+            Ok(file) => {
+                self.note(Call::Made(number));
+                Ok(file)
+            }
+            Err(error) if error.kind() == ErrorKind::AlreadyExists => {
+                self.note(Call::Taken(number));
+                Err(BodyFault::Taken)
+            }
+            Err(error) => Err(BodyFault::Io(error)),
+        }
+    }
+
+    fn close(&mut self, number: u64, file: FileFrom<S>) -> io::Result<()> {
+        self.note(Call::Closed(number, Snapshot::of(&file)));
+        Ok(())
+    }
+
+    fn sync(&mut self, number: u64) -> io::Result<()> {
+        self.is_usable = false;
+        sync_folder(&self.rt, self.folder_of(number)?.as_str())?;
+        self.note(Call::Synced(number));
+        self.is_usable = true;
+        Ok(())
+    }
+
+    fn read_at(&mut self, number: u64, at: usize, buf: &mut [u8]) -> Result<usize, BodyFault> {
+        let path = self.path_of(number)?;
+        let file = match fs::File::open(&self.rt, path.as_str()) {
+            Ok(file) => file,
+            Err(error) => return Err(self.refuse(number, error)),
+        };
+        let n = file.read_at(buf, at as u64)?;
+        let read = Notes::of_bytes(&buf[..n]);
+        self.note(Call::Read(number, at as u64, buf.len() as u64, read));
+        Ok(n)
+    }
+
+    fn remove(&mut self, number: u64) -> Result<(), BodyFault> {
+        let path = self.path_of(number)?;
+        match fs::remove_file(&self.rt, path.as_str()) {
+            Ok(()) => self.note(Call::Removed(number)),
+            Err(error) => return Err(self.refuse(number, error)),
+        }
+        Ok(())
+    }
+
+    fn numbers(&mut self, alloc: Global) -> Result<Vec<u64>, BodyFault> {
+        let mut numbers = Vec::new(alloc);
+        for low in 0..FOLDERS {
+            list(&self.rt, self.folder_of(low)?.as_str(), low, &mut numbers)?;
+        }
+        self.note(Call::Listed(Snapshot::of(&numbers)));
+        Ok(numbers)
+    }
+}

@@ -1,0 +1,239 @@
+//! A shelf in memory, for tests. It keeps its calls, so that a crash may leave all that its contract allows.
+ghost use Rattle.std.specs.Prelude.{◌≡◌, ◌≤◌, ◌↔◌, ◌∷◌, [], ℕ, List, Option, Some, None, length, take, Contains};
+ghost use Rattle.std.specs.Prelude.{IsSome, IfOk, IfSome, IfNone, OnOk, OnErr, IsTrue};
+ghost use Rattle.bodies.specs.MemoryFiles.{held_in, left_in, named, AreListed, MayBeAny};
+ghost use Rattle.bodies.specs.Shelf.{IsPiece};
+
+use crate::calls::Call;
+use crate::fault::BodyFault;
+use crate::shelf::Shelf;
+use sqlite_disk::{Disk, Memory};
+use std::alloc::Global;
+use std::io;
+
+/// Files in memory by their numbers.
+#[derive(Drop)]
+pub struct MemoryShelf {
+    alloc: Global,
+    /// The calls that changed something, the newest last.
+    calls: Vec<Call<Memory>>,
+    is_usable: bool,
+}
+
+impl MemoryShelf {
+    ghost use Rattle.bodies.specs.Shelf.{KeepsOthers};
+    ghost use Rattle.bodies.specs.MemoryShelf.{calls_of, is_usable_of, held_of, left_of};
+
+    /// No file.
+    pub fn new(alloc: Global) -> MemoryShelf
+        ensures empty { calls_of result ≡ [] }
+        ensures usable { IsTrue (is_usable_of result) }
+    {
+        MemoryShelf {
+            alloc,
+            calls: Vec::new(alloc),
+            is_usable: true,
+        }
+    }
+
+    /// What a crash may do: the file of this number is lost, unless its name is on the disk.
+    pub fn lose(&mut self, number: u64) -> io::Result<()>
+        ensures left { OnOk result (left_of self.old number (held_of self.new number)) }
+        ensures fewer { (file : Option (List ℕ)) → left_of self.new number file
+            → left_of self.old number file }
+        ensures others { KeepsOthers held_of left_of self.old self.new number }
+    {
+        if may_be_lost(&self.calls, number) {
+            self.note(Call::Removed(number))?;
+        }
+        Ok(())
+    }
+
+    /// What a crash may do: the file of this number has these bytes, if it was being written.
+    pub fn tear(&mut self, number: u64, bytes: &[u8]) -> io::Result<()>
+        ensures left { OnOk result (left_of self.old number (held_of self.new number)) }
+        ensures fewer { (file : Option (List ℕ)) → left_of self.new number file
+            → left_of self.old number file }
+        ensures others { KeepsOthers held_of left_of self.old self.new number }
+    {
+        if is_being_written(&self.calls, number) {
+            let mut file = Memory::new(self.alloc);
+            file.write_at(0, bytes)?;
+            self.note(Call::Closed(number, file))?;
+        }
+        Ok(())
+    }
+
+    fn note(&mut self, call: Call<Memory>) -> io::Result<()>
+        ensures ok { OnOk result (calls_of self.new ≡ call ∷ calls_of self.old) }
+        ensures err { OnErr result (calls_of self.new ≡ calls_of self.old) }
+        ensures usable { is_usable_of self.new ≡ is_usable_of self.old }
+    {
+        self.calls.push(call)?;
+        Ok(())
+    }
+}
+
+/// The bytes of a number's file, if there is one.
+fn find(calls: &[Call<Memory>], number: u64) -> Option<&[u8]>
+    ensures some { IfSome result (λ bytes. held_in calls.now number ≡ Some bytes.now) }
+    ensures none { IfNone result (held_in calls.now number ≡ None) }
+{
+    let mut left = calls.len();
+    while left > 0 {
+        left -= 1;
+        match &calls[left] {
+            Call::Made(made) if *made == number => return Some(&[]),
+            Call::Closed(closed, file) if *closed == number => return Some(file.bytes()),
+            Call::Removed(removed) if *removed == number => return None,
+            _ => {}
+        }
+    }
+    None
+}
+
+/// Whether a crash may leave no file of this number.
+fn may_be_lost(calls: &[Call<Memory>], number: u64) -> bool
+    ensures { IsTrue result → left_in calls.now number None }
+{
+    let mut left = calls.len();
+    while left > 0 {
+        left -= 1;
+        match &calls[left] {
+            Call::Made(made) if *made == number => return true,
+            Call::Closed(closed, _) if *closed == number => return true,
+            Call::Removed(removed) if *removed == number => return true,
+            Call::Synced(synced) if *synced == number => return false,
+            _ => {}
+        }
+    }
+    true
+}
+
+/// Whether a crash may leave anything of this number's file.
+fn is_being_written(calls: &[Call<Memory>], number: u64) -> bool
+    ensures { IsTrue result → MayBeAny calls.now number }
+{
+    let mut left = calls.len();
+    while left > 0 {
+        left -= 1;
+        match &calls[left] {
+            Call::Made(made) if *made == number => return true,
+            Call::Closed(closed, _) if *closed == number => return false,
+            Call::Removed(removed) if *removed == number => return false,
+            Call::Synced(synced) if *synced == number => return false,
+            _ => {}
+        }
+    }
+    false
+}
+
+/// The number whose file a call makes.
+fn named(call: &Call<Memory>) -> Option<u64>
+    ensures { result ≡ named call.now }
+{
+    match call {
+        Call::Made(number) | Call::Closed(number, _) => Some(*number),
+        _ => None,
+    }
+}
+
+/// The number that a call names, if it has a file and isn't listed.
+fn unlisted(calls: &[Call<Memory>], call: &Call<Memory>, numbers: &[u64]) -> Option<u64>
+    ensures some { IfSome result (λ number.
+        (named call.now ≡ Some number) × IsSome (held_in calls.now number)) }
+    ensures none { IfNone result (AreListed calls.now call.now numbers.now) }
+{
+    let number = named(call)?;
+    if find(calls, number).is_none() || numbers.contains(&number) {
+        return None;
+    }
+    Some(number)
+}
+
+/// The numbers that have a file.
+fn list(calls: &[Call<Memory>], alloc: Global) -> io::Result<Vec<u64>>
+    ensures { IfOk result (λ numbers. (number : ℕ)
+        → Contains numbers.items number ↔ IsSome (held_in calls.now number)) }
+{
+    let mut numbers = Vec::new(alloc);
+    let mut left = calls.len();
+    while left > 0 {
+        left -= 1;
+        if let Some(number) = unlisted(calls, &calls[left], &numbers) {
+            numbers.push(number)?;
+        }
+    }
+    Ok(numbers)
+}
+
+/// Copies bytes at an offset, and says how many.
+fn copy(bytes: &[u8], at: usize, buf: &mut [u8]) -> usize
+    ensures count { result ≤ length buf.old }
+    ensures copied { IsPiece (Some bytes.now) at (length buf.old) (take result buf.new) }
+{
+    if at >= bytes.len() {
+        return 0;
+    }
+    let rest = &bytes[at..];
+    let n = rest.len().min(buf.len());
+    buf[..n].copy_from_slice(&rest[..n]);
+    n
+}
+
+impl Shelf for MemoryShelf {
+    ghost use Rattle.std.specs.Prelude.{true};
+    ghost use Rattle.bodies.specs.MemoryFiles.{held_in as held_in_calls, left_in};
+
+    type File = Memory;
+
+    ghost held = { λ shelf. held_in_calls shelf.calls.items };
+
+    ghost may_leave = { λ shelf. left_in shelf.calls.items };
+
+    ghost is_usable = { λ shelf. shelf.is_usable };
+
+    ghost IsClean = { λ _. Unit {0} };
+
+    fn may_be_used(&self) -> bool {
+        self.is_usable
+    }
+
+    fn make(&mut self, number: u64) -> Result<Memory, BodyFault> {
+        if find(&self.calls, number).is_some() {
+            return Err(BodyFault::Taken);
+        }
+        self.note(Call::Made(number))?;
+        Ok(Memory::new(self.alloc))
+    }
+
+    fn close(&mut self, number: u64, file: Memory) -> io::Result<()> {
+        self.note(Call::Closed(number, file))
+    }
+
+    fn sync(&mut self, number: u64) -> io::Result<()> {
+        self.is_usable = false;
+        self.note(Call::Synced(number))?;
+        self.is_usable = true;
+        Ok(())
+    }
+
+    fn read_at(&mut self, number: u64, at: usize, buf: &mut [u8]) -> Result<usize, BodyFault> {
+        match find(&self.calls, number) {
+            Some(bytes) => Ok(copy(bytes, at, buf)),
+            None => Err(BodyFault::Missing),
+        }
+    }
+
+    fn remove(&mut self, number: u64) -> Result<(), BodyFault> {
+        if find(&self.calls, number).is_none() {
+            return Err(BodyFault::Missing);
+        }
+        self.note(Call::Removed(number))?;
+        Ok(())
+    }
+
+    fn numbers(&mut self, alloc: Global) -> Result<Vec<u64>, BodyFault> {
+        Ok(list(&self.calls, alloc)?)
+    }
+}

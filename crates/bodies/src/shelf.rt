@@ -1,0 +1,91 @@
+//! Files by their numbers, as a store of bodies sees them.
+ghost use Rattle.std.specs.Prelude.{◌≡◌, ◌⊎◌, ◌↔◌, ◌≤◌, ℕ, Bool, List, Option, Some, None, Err, length, take, is_ok};
+ghost use Rattle.std.specs.Prelude.{Contains, IsSome, IfOk, OnOk, OnErr, IsTrue};
+ghost use Rattle.bodies.specs.Shelf.{Keeps, KeepsAll, KeepsOthers, IsPiece};
+ghost use Rattle.bodies.specs.Files.{IsEmpty};
+ghost use Rattle.bodies.specs.declared.fault.BodyFault.TheVariants.{Taken, Missing};
+
+use crate::fault::BodyFault;
+use sqlite_disk::Disk;
+use std::alloc::Global;
+use std::io;
+
+/// Files by their numbers.
+pub trait Shelf {
+    /// A file while it is written.
+    type File: Disk + Drop;
+
+    /// The file of each number, if there is one, as a read finds it. Of a file that is being written nothing is said
+    /// but that it is there.
+    ghost held: { Self → ℕ → Option (List ℕ) };
+
+    /// What a crash at this moment may leave at each number.
+    ghost may_leave: { Self → ℕ → Option (List ℕ) → Type 0 };
+
+    /// No sync of names has failed. After one has, names may be lost with no further error.
+    ghost is_usable: { Self → Bool };
+
+    /// No wrong answer has been taken as true. No code can tell, so only what is said of answers rests on it.
+    ghost IsClean: { Self → Type 0 };
+
+    fn may_be_used(&self) -> bool
+        ensures { result ≡ is_usable self.now };
+
+    /// Makes the file of this number, which is empty. `Taken` says that the number has one.
+    fn make(&mut self, number: u64) -> Result<Self::File, BodyFault>
+        ensures empty { IfOk result (IsEmpty Self.File.Disk) }
+        ensures free { OnOk result (IsClean self.new → held self.old number ≡ None) }
+        ensures taken { result ≡ Err Taken → IsClean self.new → IsSome (held self.old number) }
+        ensures err { OnErr result (Keeps held may_leave self.old self.new number) }
+        ensures others { KeepsOthers held may_leave self.old self.new number }
+        ensures usable { is_usable self.new ≡ is_usable self.old }
+        ensures clean { IsClean self.new → IsClean self.old };
+
+    /// Closes the file of this number, to which no more is written. A crash may lose its name until `sync`. At an error
+    /// a crash may leave anything of it.
+    fn close(&mut self, number: u64, file: Self::File) -> io::Result<()>
+        ensures held { OnOk result (held self.new number ≡ Some (Self.File.Disk.seen file)) }
+        ensures left { OnOk result ((left : Option (List ℕ)) → may_leave self.new number left
+            → (left ≡ None) ⊎ ((bytes : List ℕ) × Self.File.Disk.may_leave file bytes
+            × (left ≡ Some bytes))) }
+        ensures others { KeepsOthers held may_leave self.old self.new number }
+        ensures usable { is_usable self.new ≡ is_usable self.old }
+        ensures clean { IsClean self.new → IsClean self.old };
+
+    /// Puts the name of this number's file on the disk.
+    fn sync(&mut self, number: u64) -> io::Result<()>
+        requires { IsTrue (is_usable self.old) }
+        ensures kept { OnOk result ((left : Option (List ℕ)) → may_leave self.new number left
+            → IsSome (held self.old number) → IsSome left) }
+        ensures same { KeepsAll held may_leave self.old self.new }
+        ensures usable { is_usable self.new ≡ is_ok result }
+        ensures clean { IsClean self.new → IsClean self.old };
+
+    /// Reads bytes of this number's file at an offset into the front of `buf`, and says how many: none is its end.
+    fn read_at(&mut self, number: u64, at: usize, buf: &mut [u8]) -> Result<usize, BodyFault>
+        ensures count { IfOk result (λ n. n ≤ length buf.old) }
+        ensures read { IfOk result (λ n. IsClean self.new
+            → IsPiece (held self.old number) at (length buf.old) (take n buf.new)) }
+        ensures missing { result ≡ Err Missing → IsClean self.new → held self.old number ≡ None }
+        ensures same { KeepsAll held may_leave self.old self.new }
+        ensures usable { is_usable self.new ≡ is_usable self.old }
+        ensures clean { IsClean self.new → IsClean self.old };
+
+    /// Removes this number's file. A crash may bring it back.
+    fn remove(&mut self, number: u64) -> Result<(), BodyFault>
+        ensures held { OnOk result (held self.new number ≡ None) }
+        ensures left { (left : Option (List ℕ)) → may_leave self.new number left
+            → (left ≡ None) ⊎ may_leave self.old number left }
+        ensures missing { result ≡ Err Missing → IsClean self.new → held self.old number ≡ None }
+        ensures others { KeepsOthers held may_leave self.old self.new number }
+        ensures usable { is_usable self.new ≡ is_usable self.old }
+        ensures clean { IsClean self.new → IsClean self.old };
+
+    /// The numbers that have a file, in any order.
+    fn numbers(&mut self, alloc: Global) -> Result<Vec<u64>, BodyFault>
+        ensures listed { IfOk result (λ numbers. IsClean self.new
+            → (number : ℕ) → Contains numbers.items number ↔ IsSome (held self.old number)) }
+        ensures same { KeepsAll held may_leave self.old self.new }
+        ensures usable { is_usable self.new ≡ is_usable self.old }
+        ensures clean { IsClean self.new → IsClean self.old };
+}
