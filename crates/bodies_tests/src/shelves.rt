@@ -1,0 +1,120 @@
+//! Bodies in a folder of the system.
+ghost use Rattle.std.specs.Prelude.{None, true};
+
+use crate::folders::mode_of;
+use bodies::{Body, BodyFault, FolderShelf, Holds, Shelf, begin, finish};
+use journal_file::{Folder, OpenFault, Wary};
+use sqlite_disk::{Fuse, Memory};
+use std::fs;
+use std::test::Fail;
+
+/// A folder that is new has no bodies.
+#[derive(Drop)]
+pub struct NoBodies;
+
+impl Holds for NoBodies {
+    ghost bodies = { λ _. None };
+
+    ghost is_kept = { λ _. true };
+}
+
+/// A shelf in a new folder of this name.
+pub fn new_shelf(
+    rt: &HostRuntime,
+    name: &str,
+) -> Result<(Folder, FolderShelf<Wary, NoBodies>), OpenFault> {
+    let _ = fs::remove_dir_all(rt, name);
+    let folder = Folder::open(rt, name)?;
+    let shelf = FolderShelf::open(rt, &folder, "bodies")?;
+    Ok((folder, shelf))
+}
+
+/// Puts a body of two pieces on a shelf.
+pub fn put<S: Shelf>(
+    shelf: &mut S,
+    number: u64,
+    first: &[u8],
+    second: &[u8],
+) -> Result<(), BodyFault> {
+    let mut body = begin(shelf, number)?;
+    body.append(first)?;
+    body.append(second)?;
+    finish(shelf, body)
+}
+
+#[test]
+fn a_body_is_a_file_in_the_folder_of_its_low_byte(rt: HostRuntime) -> Result<(), Fail> {
+    let (_folder, mut shelf) = new_shelf(&rt, "placed")?;
+    put(&mut shelf, 0x1ab, b"abc", b"def")?;
+    assert_eq!(rt;
+        fs::read(&rt, "placed/bodies/ab/427")?.as_slice(),
+        b"abcdef".as_slice()
+    );
+    assert_eq!(rt; mode_of(&rt, "placed/bodies/ab/427")?, 0o600);
+    assert_eq!(rt; mode_of(&rt, "placed/bodies/ab")?, 0o700);
+    assert_eq!(rt; mode_of(&rt, "placed/bodies")?, 0o700);
+    Ok(())
+}
+
+#[test]
+fn a_number_is_written_once(rt: HostRuntime) -> Result<(), Fail> {
+    let (_folder, mut shelf) = new_shelf(&rt, "once")?;
+    put(&mut shelf, 7, b"abc", b"")?;
+    assert!(rt; matches!(begin(&mut shelf, 7), Err(BodyFault::Taken)));
+    let mut back = [0; 4];
+    assert_eq!(rt; shelf.read_at(7, 0, &mut back)?, 3);
+    assert_eq!(rt; back, *b"abc\0");
+    assert!(rt; matches!(shelf.read_at(8, 0, &mut back), Err(BodyFault::Missing)));
+    assert!(rt; matches!(shelf.remove(8), Err(BodyFault::Missing)));
+    Ok(())
+}
+
+#[test]
+fn a_shelf_is_opened_again(rt: HostRuntime) -> Result<(), Fail> {
+    let (folder, mut shelf) = new_shelf(&rt, "again")?;
+    put(&mut shelf, 300, b"abc", b"d")?;
+    put(&mut shelf, 44, b"", b"")?;
+    fs::write(&rt, "again/bodies/2c/0300", b"".as_slice())?;
+    fs::write(&rt, "again/bodies/2c/45", b"".as_slice())?;
+    drop(shelf);
+    let mut shelf: FolderShelf<Wary, NoBodies> = FolderShelf::open(&rt, &folder, "bodies")?;
+    let mut numbers = shelf.numbers(rt.alloc())?;
+    numbers.sort_unstable();
+    assert_eq!(rt; numbers.as_slice(), [44, 300].as_slice());
+    let mut back = [0; 2];
+    assert_eq!(rt; shelf.read_at(300, 3, &mut back)?, 1);
+    assert_eq!(rt; back, *b"d\0");
+    Ok(())
+}
+
+/// A disk whose calls fail from one on.
+#[test]
+fn a_body_says_whether_it_may_go_on(rt: HostRuntime) {
+    let mut body = Body::new(1, Fuse::new(Memory::new(rt.alloc()), 1));
+    assert!(rt; body.append(b"abc").is_ok() && body.is_open());
+    assert!(rt; matches!(body.append(b"def"), Err(BodyFault::Io(_))));
+    assert!(rt; !body.is_open());
+    assert!(rt; matches!(body.append(b"def"), Err(BodyFault::Ended)));
+    assert_eq!(rt; body.number(), 1);
+}
+
+#[test]
+fn faults_are_told(rt: HostRuntime) -> Result<(), Fail> {
+    let faults = [
+        (BodyFault::Taken, "a body of this number is there"),
+        (BodyFault::Missing, "no body of this number is there"),
+        (
+            BodyFault::Ended,
+            "no more is written after a call that failed",
+        ),
+        (BodyFault::TooLong, "a body of 2^63 bytes or more"),
+        (
+            BodyFault::Io(std::io::ErrorKind::NotFound.into()),
+            "entity not found",
+        ),
+    ];
+    for (fault, text) in faults.iter() {
+        assert_eq!(rt; format!(in rt.alloc(); "{fault}")?.as_str(), *text);
+    }
+    Ok(())
+}
