@@ -1,0 +1,6 @@
+pub mod Files
+pub mod Names
+pub mod Exact
+pub mod Values
+pub mod Texts
+pub mod Restart

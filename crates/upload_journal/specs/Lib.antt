@@ -1,0 +1,4 @@
+pub mod Fields
+pub mod Entries
+pub mod Short
+pub mod Restart

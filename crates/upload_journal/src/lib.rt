@@ -1,0 +1,19 @@
+//! What a journal keeps of a service: entries, each of which is the text of one request that changed something, with
+//! its secret, its moment and its answer in short. Read back and run through a service again, they lead to the same
+//! state. This crate knows no disk, no socket and no thread: a text is a list of bytes, and large bodies come from
+//! whoever has them.
+#![tactic(auto)]
+
+mod body;
+mod draft;
+mod entries;
+mod fault;
+mod laws;
+mod reading;
+
+pub use body::{BodyFile, BodyFiles, KeptBody};
+pub use draft::Draft;
+pub use entries::{Entry, KeptAsk, KeptExchange, Told};
+pub use fault::{EntryFault, ReadError};
+pub use laws::{changes_are_enough, entries_are_read_back};
+pub use reading::{MOST_HERE, read_entry};
