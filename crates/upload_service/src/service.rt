@@ -1,5 +1,5 @@
 //! The service: its tables, the step that serves one request, and runs of it.
-ghost use Rattle.std.specs.Prelude.{◌≡◌, ◌↔◌, IsTrue, List, ℕ, length, IfOk, OnErr};
+ghost use Rattle.std.specs.Prelude.{◌≡◌, ◌↔◌, IsTrue, List, ℕ, length, max, IfOk, OnErr};
 ghost use Rattle.upload_service.specs.Machine.{State, IsLawful, AreLawful, Turn, empty_state, holds as holds_of};
 ghost use Rattle.std.specs.FinMap as map;
 ghost use Rattle.std.specs.Option.{option_map};
@@ -146,6 +146,15 @@ impl Service {
         self.tables
             .sessions
             .catch_up(place, self.tables.alloc, at, algorithm)
+    }
+
+    /// Has the numbers up to this one count as used up, so that no session gets one of them. Nothing else changes, and
+    /// it takes no memory.
+    pub fn use_up(&mut self, numbers: u32)
+        ensures used_up { self.new ≡ record self.old { issued = max self.old.issued numbers } }
+        ensures lawful { IsLawful self.new }
+    {
+        self.tables.issued = self.tables.issued.max(numbers);
     }
 
     /// How many bytes a session has received, or None if no such session is open. One that is idle counts
