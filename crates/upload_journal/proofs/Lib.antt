@@ -4,3 +4,4 @@ pub mod Exact
 pub mod Values
 pub mod Texts
 pub mod Restart
+pub mod Replays

@@ -51,7 +51,8 @@ pub turn_leads : (old : State) (ask : Ask) (secret : List ℕ) (now : ℕ) (answ
 unfolding Turn
 turn_leads old ask secret now answer new other (inl turn) (inl again) some = again.1 ∙ sym turn.1
 turn_leads old ask secret now answer new other (inr turn) again some = absurd (told_is _ (ap told_of turn.1) some)
-turn_leads old ask secret now answer new other (inl turn) (inr again) some = absurd (told_is _ (ap told_of again.1) some)
+turn_leads old ask secret now answer new other (inl turn) (inr again) some =
+    absurd (told_is _ (ap told_of again.1) some)
 
 -- ---- runs
 
@@ -88,7 +89,7 @@ run_on old (x ∷ xs) mid ys new run more = (run.0, run.1, run_on run.0 xs mid y
 
 -- ---- moments
 
-earlier : (first then' : ℕ) (xs : List Exchange) → first ≤ then' → NeverBefore then' xs → NeverBefore first xs
+pub earlier : (first then' : ℕ) (xs : List Exchange) → first ≤ then' → NeverBefore then' xs → NeverBefore first xs
 earlier first then' [] le h = tt
 earlier first then' (x ∷ xs) le h = let later = h.0 in (omega arith, h.1)
 
@@ -162,7 +163,8 @@ silent : (s : State) (ask : Ask) (files : List BodyFile) (secret : List ℕ) (no
 silent s asks.Base files secret now e = nothing _ refl
 silent s (asks.Has name digest head) files secret now e = silent_if _ _ _ (silent_blob digest head _) (nothing _ refl)
 silent s (asks.Opening name) files secret now e = absurd cc
-silent s (asks.Single name None body) files secret now e = silent_unless _ _ (fault_if _ _ None refl no_fault) (nothing _ refl)
+silent s (asks.Single name None body) files secret now e =
+    silent_unless _ _ (fault_if _ _ None refl no_fault) (nothing _ refl)
 silent s (asks.Single name (Some digest) body) files secret now e = absurd cc
 silent s (asks.Mount name digest source) files secret now e = absurd cc
 silent s (asks.Chunk name at Absent body) files secret now e = absurd cc

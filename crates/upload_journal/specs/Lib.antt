@@ -2,3 +2,5 @@ pub mod Fields
 pub mod Entries
 pub mod Short
 pub mod Restart
+pub mod Replay
+pub mod Codes

@@ -102,7 +102,8 @@ fn put_files(out: &mut Vec<u8>, files: &[BodyFile]) -> Result<(), AllocError>
 fn put_body(out: &mut Vec<u8>, body: &Body, files: &[BodyFile]) -> Result<(), AllocError>
     requires placed { HasPlace body.now files.now }
     requires few { length files.now < 2 ^ 32 }
-    ensures { OnOk result (out.new.items ≡ out.old.items ++ body_text (kept_body body.now files.now)) }
+    ensures { OnOk result (out.new.items
+        ≡ out.old.items ++ body_text (kept_body body.now files.now)) }
 {
     if files.is_empty() {
         out.push(0)?;

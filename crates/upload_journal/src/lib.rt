@@ -4,16 +4,20 @@
 //! whoever has them.
 #![tactic(auto)]
 
+mod bodies;
 mod body;
 mod draft;
 mod entries;
 mod fault;
 mod laws;
 mod reading;
+mod replay;
 
+pub use bodies::{Bodies, BodyFault};
 pub use body::{BodyFile, BodyFiles, KeptBody};
 pub use draft::Draft;
 pub use entries::{Entry, KeptAsk, KeptExchange, Told};
 pub use fault::{EntryFault, ReadError};
-pub use laws::{changes_are_enough, entries_are_read_back};
+pub use laws::{changes_are_enough, entries_are_read_back, replays_are_runs};
 pub use reading::{MOST_HERE, read_entry};
+pub use replay::{Replay, ReplayFault};

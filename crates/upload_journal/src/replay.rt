@@ -1,0 +1,352 @@
+//! A service that entries are run through again.
+ghost use Rattle.std.specs.Prelude.{◌≡◌, ◌⊎◌, ◌++◌, ◌≤◌, max, List, ℕ, length, Some, OnOk, OnErr, IfOk, IfSome};
+ghost use Rattle.std.specs.Prelude.{IsTrue, Err, take};
+ghost use Rattle.upload_journal.specs.declared.entries.Entry.{Entry as EntryValue};
+ghost use Rattle.upload_journal.specs.Entries.{IsEntry, entry_text};
+ghost use Rattle.upload_journal.specs.Short.{told_of};
+ghost use Rattle.upload_journal.specs.Replay.{Joins, IsBodyOf, extent_of, IsAskOf, IsExchangeOf, Exchanged, Point};
+ghost use Rattle.upload_journal.specs.Replay.{Applies};
+ghost use Rattle.upload_service.specs.Run.{Exchange};
+
+use crate::bodies::{Bodies, BodyFault};
+use crate::body::{BodyFile, KeptBody};
+use crate::entries::{Entry, KeptAsk, KeptExchange, Told};
+use crate::fault::{EntryFault, ReadError};
+use crate::reading::read_entry;
+use std::alloc::Global;
+use std::marker::Model;
+use upload_bytes::{Body, BodyBuilder, InPlace};
+use upload_names::{BlobDigest, ByteRange, UploadRef};
+use upload_service::{Answer, Ask, Extent, Service};
+
+/// Why an entry was not applied.
+#[derive(Clone, Copy, Debug, Drop, PartialEq, Eq)]
+pub enum ReplayFault {
+    /// There was no memory, here or in the service.
+    NoMemory,
+    /// The text is not an entry.
+    NotAnEntry(EntryFault),
+    /// The moment is before that of an exchange before it.
+    MomentFalls,
+    /// A file of the body was not read.
+    NoBody {
+        /// The number of the file.
+        number: u64,
+        fault: BodyFault,
+    },
+    /// A file of the body doesn't have the length that the entry says.
+    OtherLength {
+        /// The number of the file.
+        number: u64,
+    },
+    /// The service's answer isn't the one that was recorded.
+    NotAsRecorded,
+}
+
+/// The range of a request, as it is kept.
+fn extent_of(range: Option<ByteRange>) -> Extent
+    ensures { result ≡ extent_of range }
+{
+    match range {
+        None => Extent::Absent,
+        Some(range) => Extent::Given(range),
+    }
+}
+
+/// Whether an answer says that this session was begun.
+fn is_begun(given: &Answer, at: &UploadRef) -> bool
+    ensures { IsTrue result → told_of given.now ≡ Some (Told.Begun at.now) }
+{
+    match given {
+        Answer::Begun { at: mine, .. } => mine.same(at),
+        _ => false,
+    }
+}
+
+/// Whether an answer says that a chunk was taken, and that the session has received this many bytes now.
+fn is_taken(given: &Answer, next: u64) -> bool
+    ensures { IsTrue result → told_of given.now ≡ Some (Told.Taken next) }
+{
+    match given {
+        Answer::Taken { next: mine, .. } => *mine == next,
+        _ => false,
+    }
+}
+
+/// Whether an answer says that the blob of this digest stands.
+fn is_stored(given: &Answer, digest: &BlobDigest) -> bool
+    ensures { IsTrue result → told_of given.now ≡ Some (Told.Stored digest.now) }
+{
+    match given {
+        Answer::Stored { digest: mine, .. } => mine.same(digest),
+        _ => false,
+    }
+}
+
+/// Whether an answer is, in short, the one that was recorded.
+fn is_told(given: &Answer, recorded: &Told) -> bool
+    ensures { IsTrue result → told_of given.now ≡ Some recorded.now }
+{
+    match recorded {
+        Told::Begun(at) => is_begun(given, at),
+        Told::Taken(next) => is_taken(given, *next),
+        Told::Stored(digest) => is_stored(given, digest),
+    }
+}
+
+/// Puts the part of a body that a file has behind those before it.
+fn read_file<B: Bodies>(
+    bodies: &mut B,
+    file: BodyFile,
+    body: &mut BodyBuilder,
+) -> Result<(), ReplayFault>
+    ensures read { OnOk result ((bytes : List ℕ) × B.stands bodies.new file.number bytes
+        × (length bytes ≡ file.len) × (body.new ≡ body.old ++ bytes)) }
+    ensures same { (n : ℕ) (bytes : List ℕ) → B.stands bodies.old n bytes
+        → B.stands bodies.new n bytes }
+{
+    let number = file.number;
+    let before = body.len() as u64;
+    match bodies.read(number, body) {
+        Ok(()) => {}
+        Err(BodyFault::NoMemory) => return Err(ReplayFault::NoMemory),
+        Err(fault) => return Err(ReplayFault::NoBody { number, fault }),
+    }
+    let after = body.len() as u64;
+    if after - before != file.len {
+        return Err(ReplayFault::OtherLength { number });
+    }
+    Ok(())
+}
+
+/// The bytes of files, one part behind another.
+fn read_files<B: Bodies>(
+    alloc: Global,
+    bodies: &mut B,
+    files: &[BodyFile],
+) -> Result<Body, ReplayFault>
+    ensures read { IfOk result (λ body. Joins (B.stands bodies.new) files.now body) }
+    ensures same { (n : ℕ) (bytes : List ℕ) → B.stands bodies.old n bytes
+        → B.stands bodies.new n bytes }
+{
+    let mut body = BodyBuilder::new(alloc, None);
+    for file in files {
+        read_file(bodies, *file, &mut body)?;
+    }
+    Ok(body.finish(&InPlace))
+}
+
+/// The whole body of a request.
+fn read_body<B: Bodies>(alloc: Global, bodies: &mut B, body: KeptBody) -> Result<Body, ReplayFault>
+    ensures read { IfOk result (λ whole. IsBodyOf (B.stands bodies.new) body whole) }
+    ensures same { (n : ℕ) (bytes : List ℕ) → B.stands bodies.old n bytes
+        → B.stands bodies.new n bytes }
+{
+    match body {
+        KeptBody::Here(body) => Ok(body),
+        KeptBody::InFiles(files) => read_files(alloc, bodies, files.as_slice()),
+    }
+}
+
+/// The request that is kept so.
+fn ask_of<B: Bodies>(alloc: Global, bodies: &mut B, ask: KeptAsk) -> Result<Ask, ReplayFault>
+    ensures asked { IfOk result (λ asked. IsAskOf (B.stands bodies.new) ask asked) }
+    ensures same { (n : ℕ) (bytes : List ℕ) → B.stands bodies.old n bytes
+        → B.stands bodies.new n bytes }
+{
+    match ask {
+        KeptAsk::Opening { name } => Ok(Ask::Opening { name }),
+        KeptAsk::Single { name, digest, body } => {
+            let body = read_body(alloc, bodies, body)?;
+            let digest = Some(digest);
+            Ok(Ask::Single { name, digest, body })
+        }
+        KeptAsk::Mount {
+            name,
+            digest,
+            source,
+        } => Ok(Ask::Mount {
+            name,
+            digest,
+            source,
+        }),
+        KeptAsk::Chunk {
+            name,
+            at,
+            range,
+            body,
+        } => {
+            let body = read_body(alloc, bodies, body)?;
+            let range = extent_of(range);
+            Ok(Ask::Chunk {
+                name,
+                at,
+                range,
+                body,
+            })
+        }
+        KeptAsk::Close {
+            name,
+            at,
+            range,
+            digest,
+            body,
+        } => {
+            let body = read_body(alloc, bodies, body)?;
+            let range = extent_of(range);
+            let digest = Some(digest);
+            Ok(Ask::Close {
+                name,
+                at,
+                range,
+                digest,
+                body,
+            })
+        }
+    }
+}
+
+/// A service that entries are run through again, one after another. It is seen as how far it has come.
+#[derive(Drop)]
+pub struct Replay {
+    service: Service,
+    /// The moment of the last exchange.
+    last: u64,
+    /// The moment up to which answers may have been given.
+    upto: u64,
+}
+
+impl Model for Replay {
+    ghost use Rattle.upload_journal.specs.Replay.{Point};
+    ghost use Rattle.upload_journal.specs.Codes.{point_code};
+
+    ghost Value = { Point };
+
+    ghost coded = { point_code };
+
+    ghost view = { λ a. record { state = a.service; last = a.last; upto = a.upto } };
+}
+
+impl Replay {
+    /// Begins with this service, before its first exchange.
+    pub fn new(service: Service) -> Replay
+        ensures { result ≡ record { state = service; last = 0; upto = 0 } }
+    {
+        Replay {
+            service,
+            last: 0,
+            upto: 0,
+        }
+    }
+
+    /// The moment to go on at, in seconds: no answer was given at a later one.
+    pub fn moment(&self) -> u64
+        ensures { result ≡ max self.now.last self.now.upto }
+    {
+        self.last.max(self.upto)
+    }
+
+    /// The service, as the entries have left it.
+    pub fn into_service(self) -> Service
+        ensures { result ≡ self.state }
+    {
+        let Replay { service, .. } = self;
+        service
+    }
+
+    /// Applies one entry, which is all of the bytes. A body that isn't in its entry comes from `bodies`.
+    ///
+    /// After an `Err` the entry has done nothing, except after `NotAsRecorded`: then the service did something else
+    /// than it did before, and isn't to be used.
+    pub fn apply<B: Bodies>(
+        &mut self,
+        alloc: Global,
+        bodies: &mut B,
+        bytes: &[u8],
+    ) -> Result<(), ReplayFault>
+        ensures ok { OnOk result ((entry : EntryValue) × IsEntry entry
+            × (bytes.now ≡ entry_text entry)
+            × Applies (B.stands bodies.new) self.old entry self.new) }
+        ensures err { OnErr result ((result ≡ Err ReplayFault.NotAsRecorded)
+            ⊎ (self.new ≡ self.old)) }
+        ensures same { (n : ℕ) (bytes : List ℕ) → B.stands bodies.old n bytes
+            → B.stands bodies.new n bytes }
+    {
+        let entry = match read_entry(alloc, bytes) {
+            Ok(entry) => entry,
+            Err(ReadError::NoMemory) => return Err(ReplayFault::NoMemory),
+            Err(ReadError::Fault(fault)) => return Err(ReplayFault::NotAnEntry(fault)),
+        };
+        match entry {
+            Entry::Exchange(exchange) => self.run(alloc, bodies, exchange),
+            Entry::NumbersUpTo(number) => {
+                self.service.use_up(number);
+                Ok(())
+            }
+            Entry::MomentsUpTo(moment) => {
+                self.upto = self.upto.max(moment);
+                Ok(())
+            }
+        }
+    }
+
+    /// Has the service serve a request again.
+    fn run<B: Bodies>(
+        &mut self,
+        alloc: Global,
+        bodies: &mut B,
+        exchange: KeptExchange,
+    ) -> Result<(), ReplayFault>
+        ensures ok { OnOk result ((x : Exchange)
+            × IsExchangeOf (B.stands bodies.new) exchange x × Exchanged self.old x self.new) }
+        ensures err { OnErr result ((result ≡ Err ReplayFault.NotAsRecorded)
+            ⊎ (self.new ≡ self.old)) }
+        ensures same { (n : ℕ) (bytes : List ℕ) → B.stands bodies.old n bytes
+            → B.stands bodies.new n bytes }
+    {
+        let KeptExchange {
+            ask,
+            secret,
+            now,
+            answer,
+        } = exchange;
+        if now < self.last {
+            return Err(ReplayFault::MomentFalls);
+        }
+        let ask = match ask_of(alloc, bodies, ask) {
+            Ok(ask) => ask,
+            Err(fault) => return Err(fault),
+        };
+        match compare(self.service.step(ask, secret, now), answer) {
+            Compared::Same => {
+                self.last = now;
+                Ok(())
+            }
+            Compared::NoMemory => Err(ReplayFault::NoMemory),
+            Compared::Other => Err(ReplayFault::NotAsRecorded),
+        }
+    }
+}
+
+/// How an answer compares with a recorded one.
+#[derive(Clone, Copy)]
+enum Compared {
+    Same,
+    NoMemory,
+    Other,
+}
+
+/// Compares an answer with a recorded one.
+fn compare(given: Answer, recorded: Told) -> Compared
+    ensures same { result ≡ Compared.Same → told_of given ≡ Some recorded }
+    ensures no_memory { result ≡ Compared.NoMemory → given ≡ Answer.NoMemory }
+{
+    if let Answer::NoMemory = given {
+        return Compared::NoMemory;
+    }
+    if is_told(&given, &recorded) {
+        Compared::Same
+    } else {
+        Compared::Other
+    }
+}
