@@ -1,5 +1,5 @@
 -- What is kept of a request, and of its answer.
-use Rattle.std.specs.Prelude.{◌≡◌, ℕ, ◌≤◌, Bool, true, false, List, [], ◌∷◌, ◌++◌, length, Option, Some, None}
+use Rattle.std.specs.Prelude.{◌≡◌, ℕ, ◌<◌, ◌≤◌, ◌^◌, Bool, true, false, List, [], ◌∷◌, ◌++◌, length, Option, Some, None}
 use Rattle.std.specs.Prelude.{option_map}
 use Rattle.upload_names.specs.ByteRange.{Span}
 use Rattle.upload_service.specs.declared.ask.Extent.{Extent}
@@ -67,6 +67,10 @@ IsPlaced (asks.Single name digest body) files = HasPlace body files
 IsPlaced (asks.Chunk name at range body) files = HasPlace body files
 IsPlaced (asks.Close name at range digest body) files = HasPlace body files
 IsPlaced other files = Unit {0}
+
+-- a request with these files has a text
+abbrev pub Fits : Ask → List BodyFile → Type 0
+Fits ask files = (length files < 2 ^ 32) × IsPlaced ask files
 
 -- the most bytes of the text of an answer in short
 abbrev pub most_told : ℕ

@@ -1,6 +1,6 @@
 //! Entries, written: before a step what it is given, and behind it the answer.
 ghost use Rattle.std.specs.Prelude.{◌≡◌, ◌<◌, ◌≤◌, ◌^◌, ◌++◌, ◌+◌, List, ℕ, length, take, IfOk, OnOk, option_map};
-ghost use Rattle.std.specs.Prelude.{vec_len, vec_capacity, IsOk, ◌∷◌, []};
+ghost use Rattle.std.specs.Prelude.{vec_len, vec_capacity, IsTrue, ◌↔◌};
 ghost use Rattle.std.specs.Int.{w64, to_be_bytes};
 ghost use Rattle.std.specs.List.{concat, flat_map};
 ghost use Rattle.upload_names.specs.Digest.{digest_text};
@@ -8,10 +8,11 @@ ghost use Rattle.upload_names.specs.Reference.{reference_text};
 ghost use Rattle.upload_journal.specs.Fields.{measured, range_text, file_text, body_text, told_text};
 ghost use Rattle.upload_journal.specs.Entries.{ask_text, asked_text};
 ghost use Rattle.upload_journal.specs.Short.{told_of, kept_body, kept_range, kept_of, HasPlace, IsPlaced};
-ghost use Rattle.upload_journal.specs.Short.{most_told, PutsAsk};
+ghost use Rattle.upload_journal.specs.Short.{most_told, PutsAsk, Fits};
 
 use crate::body::BodyFile;
 use crate::entries::Told;
+use crate::reading::MOST_HERE;
 use std::alloc::{AllocError, Global};
 use std::marker::Model;
 use upload_bytes::{Body, Part};
@@ -185,6 +186,27 @@ fn put_ask(out: &mut Vec<u8>, ask: &Ask, files: &[BodyFile]) -> Result<bool, All
     Ok(true)
 }
 
+/// Whether the body of a request is in files, or short enough for the entry.
+fn is_placed(ask: &Ask, files: &[BodyFile]) -> bool
+    ensures { IsTrue result ↔ IsPlaced ask.now files.now }
+{
+    match ask {
+        Ask::Single { body, .. } => has_place(body, files),
+        Ask::Chunk { body, .. } => has_place(body, files),
+        Ask::Close { body, .. } => has_place(body, files),
+        _ => true,
+    }
+}
+
+fn has_place(body: &Body, files: &[BodyFile]) -> bool
+    ensures { IsTrue result ↔ HasPlace body.now files.now }
+{
+    match files {
+        [] => body.len() <= MOST_HERE,
+        [_, ..] => true,
+    }
+}
+
 /// The range that is kept, unless it is bad: then the body is never taken.
 fn kept_range(range: Extent) -> Option<Option<ByteRange>>
     ensures { result ≡ kept_range range }
@@ -218,9 +240,15 @@ impl Model for Draft {
 }
 
 impl Draft {
+    /// Whether a body has its place: it is in these files, or has at most `MOST_HERE` bytes. So it is if there is none.
+    pub fn fits(ask: &Ask, files: &[BodyFile]) -> bool
+        ensures { IsTrue result ↔ Fits ask.now files.now }
+    {
+        files.len() <= u32::MAX as usize && is_placed(ask, files)
+    }
+
     /// The text of a request with its secret and its moment, or `None` if the request can't change anything. A body is
-    /// in these files, one part behind another, or, if there are none, in the entry: then it has at most `MOST_HERE`
-    /// bytes.
+    /// in these files, one part behind another, or, if there are none, in the entry.
     pub fn of(
         alloc: Global,
         ask: &Ask,
@@ -228,8 +256,7 @@ impl Draft {
         secret: &[u8; 12],
         now: u64,
     ) -> Result<Option<Draft>, AllocError>
-        requires placed { IsPlaced ask.now files.now }
-        requires few { length files.now < 2 ^ 32 }
+        requires { Fits ask.now files.now }
         ensures { IfOk result (λ draft. draft
             ≡ option_map (λ kept. asked_text kept secret.now now) (kept_of ask.now files.now)) }
     {
