@@ -70,6 +70,62 @@ pub enum Told {
     Refused(Refusal),
 }
 
+/// The kinds of answers.
+#[derive(Clone, Copy, PartialEq, Eq)]
+pub enum Kind {
+    Base,
+    /// With the blob's bytes.
+    Blob,
+    /// To a HEAD.
+    Size,
+    Begun,
+    Stored,
+    Taken,
+    Standing,
+    Misplaced,
+    Refused(Refusal),
+    NoMemory,
+}
+
+/// What an answer says, but for its name and a blob's bytes.
+#[derive(Clone, Copy, PartialEq, Eq)]
+pub struct Said {
+    pub kind: Kind,
+    at: Option<UploadRef>,
+    digest: Option<BlobDigest>,
+    /// How many bytes the blob or the upload has.
+    pub size: Option<u64>,
+}
+
+impl Said {
+    pub fn of(kind: Kind) -> Said {
+        Said {
+            kind,
+            at: None,
+            digest: None,
+            size: None,
+        }
+    }
+
+    pub fn of_upload(kind: Kind, at: UploadRef, size: Option<u64>) -> Said {
+        Said {
+            kind,
+            at: Some(at),
+            digest: None,
+            size,
+        }
+    }
+
+    pub fn of_blob(kind: Kind, digest: Option<BlobDigest>, size: Option<u64>) -> Said {
+        Said {
+            kind,
+            at: None,
+            digest,
+            size,
+        }
+    }
+}
+
 /// A request under a name at a moment, and its answer.
 #[derive(Clone, Copy)]
 pub struct Line {
@@ -165,7 +221,7 @@ pub fn is_content(bytes: &BlobBytes, content: &[u8]) -> bool {
     rest.is_empty()
 }
 
-fn extent(place: Place) -> Extent {
+pub fn extent(place: Place) -> Extent {
     match place {
         Place::Absent => Extent::Absent,
         Place::Bad => Extent::Bad,
@@ -232,13 +288,18 @@ fn close(name: RepoName, at: At, place: Place, digest: &[u8], body: Body) -> Res
     })
 }
 
+/// A digest that is known to be one.
+pub fn digest_of(text: &[u8]) -> Result<BlobDigest, Unmade> {
+    BlobDigest::read(text).ok_or(Unmade::NoDigest)
+}
+
 fn has(name: RepoName, digest: &[u8], head: bool) -> Result<Ask, Unmade> {
-    let digest = BlobDigest::read(digest).ok_or(Unmade::NoDigest)?;
+    let digest = digest_of(digest)?;
     Ok(Ask::Has { name, digest, head })
 }
 
 fn mount(alloc: Global, target: RepoName, digest: &[u8], source: &[u8]) -> Result<Ask, Unmade> {
-    let digest = BlobDigest::read(digest).ok_or(Unmade::NoDigest)?;
+    let digest = digest_of(digest)?;
     let source = name(alloc, source)?;
     Ok(Ask::Mount {
         name: target,
@@ -247,37 +308,88 @@ fn mount(alloc: Global, target: RepoName, digest: &[u8], source: &[u8]) -> Resul
     })
 }
 
-/// Whether an answer is what the line says, under the line's name.
-pub fn is_told(answer: &Answer, line: Line) -> bool {
-    match (line.told, answer) {
-        (Told::Base, Answer::Base) => true,
-        (Told::Bytes(text), Answer::Blob { size, bytes, .. }) => match bytes {
-            Some(bytes) => is_content(bytes, text) && *size == text.len() as u64,
-            None => false,
-        },
-        (Told::Size(wanted), Answer::Blob { size, bytes, .. }) => {
-            bytes.is_none() && *size == wanted
+pub fn said_of(answer: &Answer) -> Said {
+    match answer {
+        Answer::Base => Said::of(Kind::Base),
+        Answer::Blob {
+            digest,
+            size,
+            bytes,
+        } => {
+            let kind = if bytes.is_some() {
+                Kind::Blob
+            } else {
+                Kind::Size
+            };
+            Said::of_blob(kind, Some(*digest), Some(*size))
         }
-        (Told::Begun(number), Answer::Begun { name, at }) => {
-            is_named(name, line) && at.same(&reference(At(number, 0)))
-        }
-        (Told::Stored(text), Answer::Stored { name, digest }) => {
-            is_named(name, line) && BlobDigest::read(text) == Some(*digest)
-        }
-        (Told::Taken(wanted, upto), Answer::Taken { name, at, next }) => {
-            is_named(name, line) && at.same(&reference(wanted)) && *next == upto
-        }
-        (Told::Standing(wanted, upto), Answer::Standing { name, at, next }) => {
-            is_named(name, line) && at.same(&reference(wanted)) && *next == upto
-        }
-        (Told::Misplaced(wanted, upto), Answer::Misplaced { name, at, next }) => {
-            is_named(name, line) && at.same(&reference(wanted)) && *next == upto
-        }
-        (Told::Refused(wanted), Answer::Refused(refusal)) => wanted == *refusal,
-        _ => false,
+        Answer::Begun { at, .. } => Said::of_upload(Kind::Begun, *at, None),
+        Answer::Stored { digest, .. } => Said::of_blob(Kind::Stored, Some(*digest), None),
+        Answer::Taken { at, next, .. } => Said::of_upload(Kind::Taken, *at, Some(*next)),
+        Answer::Standing { at, next, .. } => Said::of_upload(Kind::Standing, *at, Some(*next)),
+        Answer::Misplaced { at, next, .. } => Said::of_upload(Kind::Misplaced, *at, Some(*next)),
+        Answer::Refused(refusal) => Said::of(Kind::Refused(*refusal)),
+        Answer::NoMemory => Said::of(Kind::NoMemory),
     }
 }
 
-fn is_named(name: &RepoName, line: Line) -> bool {
-    name.as_str().as_bytes() == line.name
+/// The digest of the blob that is asked for.
+fn digest_asked(word: Word) -> Option<BlobDigest> {
+    match word {
+        Word::Get(digest) | Word::Head(digest) => BlobDigest::read(digest),
+        _ => None,
+    }
+}
+
+/// What a line's answer says.
+fn said_by(line: Line) -> Said {
+    match line.told {
+        Told::Base => Said::of(Kind::Base),
+        Told::Bytes(content) => {
+            let size = content.len() as u64;
+            Said::of_blob(Kind::Blob, digest_asked(line.word), Some(size))
+        }
+        Told::Size(size) => Said::of_blob(Kind::Size, digest_asked(line.word), Some(size)),
+        Told::Begun(number) => Said::of_upload(Kind::Begun, reference(At(number, 0)), None),
+        Told::Stored(text) => Said::of_blob(Kind::Stored, BlobDigest::read(text), None),
+        Told::Taken(at, next) => Said::of_upload(Kind::Taken, reference(at), Some(next)),
+        Told::Standing(at, next) => Said::of_upload(Kind::Standing, reference(at), Some(next)),
+        Told::Misplaced(at, next) => Said::of_upload(Kind::Misplaced, reference(at), Some(next)),
+        Told::Refused(refusal) => Said::of(Kind::Refused(refusal)),
+    }
+}
+
+/// Whether an answer is what the line says, under the line's name.
+pub fn is_told(answer: &Answer, line: Line) -> bool {
+    said_of(answer) == said_by(line) && is_named(answer, line.name) && has_bytes(answer, line.told)
+}
+
+/// Whether an answer that has a name has this one.
+pub fn is_named(answer: &Answer, wanted: &[u8]) -> bool {
+    match answer {
+        Answer::Begun { name, .. }
+        | Answer::Stored { name, .. }
+        | Answer::Taken { name, .. }
+        | Answer::Standing { name, .. }
+        | Answer::Misplaced { name, .. } => name.as_str().as_bytes() == wanted,
+        Answer::Base | Answer::Blob { .. } | Answer::Refused(_) | Answer::NoMemory => true,
+    }
+}
+
+fn has_bytes(answer: &Answer, told: Told) -> bool {
+    match told {
+        Told::Bytes(content) => gives(answer, content),
+        _ => true,
+    }
+}
+
+/// Whether an answer hands out a blob of this content.
+pub fn gives(answer: &Answer, content: &[u8]) -> bool {
+    match answer {
+        Answer::Blob {
+            bytes: Some(bytes),
+            ..
+        } => is_content(bytes, content),
+        _ => false,
+    }
 }

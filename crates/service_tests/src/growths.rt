@@ -8,7 +8,6 @@ use crate::asks::{At, Line, Place, Told, Unmade, Word, ask_of, is_told, name, ro
 use crate::serving::{ABC, ABC_512, Job, NOTHING, check, jobs_of, limits};
 use std::alloc::Global;
 use std::process::Abort;
-use std::test::Fail;
 use upload_names::{Algorithm, BlobDigest, RepoName, UploadRef};
 use upload_service::{Answer, Ask, Form, Limits, Refusal, Service};
 
@@ -105,6 +104,20 @@ impl Watched {
         }
         Ok(())
     }
+}
+
+/// Serves lines to a new service with these limits. The blob of this content is looked for.
+fn check_anew(
+    rt: &impl Abort,
+    alloc: Global,
+    limits: Limits,
+    content: &[u8],
+    lines: &[Line],
+) -> Result<(), Unmade>
+    requires { AreLawful limits }
+{
+    let mut watched = Watched::new(alloc, limits, content)?;
+    watched.check_lines(rt, lines)
 }
 
 /// How a line's request is answered.
@@ -250,9 +263,8 @@ fn small() -> Limits
 }
 
 #[test]
-fn a_refused_growth_changes_nothing(rt: HostRuntime) -> Result<(), Fail> {
-    let mut watched = Watched::new(rt.alloc(), small(), b"abc")?;
-    Ok(watched.check_lines(&rt, &LINES)?)
+fn a_refused_growth_changes_nothing(rt: HostRuntime) -> Result<(), Unmade> {
+    check_anew(&rt, rt.alloc(), small(), b"abc", &LINES)
 }
 
 /// A body that stays as it is, since it is large.
@@ -293,9 +305,9 @@ static LARGE_LINES: [Line; 10] = [
 ];
 
 #[test]
-fn a_refused_growth_for_a_large_body_changes_nothing(rt: HostRuntime) -> Result<(), Fail> {
-    let mut watched = Watched::new(rt.alloc(), limits(100_000, 2, 3_600), LARGER)?;
-    Ok(watched.check_lines(&rt, &LARGE_LINES)?)
+fn a_refused_growth_for_a_large_body_changes_nothing(rt: HostRuntime) -> Result<(), Unmade> {
+    let limits = limits(100_000, 2, 3_600);
+    check_anew(&rt, rt.alloc(), limits, LARGER, &LARGE_LINES)
 }
 
 /// Two requests, of which each is answered the same without the other.
@@ -319,7 +331,7 @@ impl Watched {
         if let Ok(answers) = self.service.run_all(self.alloc, once) {
             return Ok(answers);
         }
-        assert!(rt; self.look() == before);
+        check(rt, self.look() == before, 0, "the list changed something");
         let again = jobs_for(self.alloc, lines)?;
         Ok(self.service.run_all(self.alloc, again)?)
     }
@@ -362,26 +374,27 @@ impl Watched {
         Ok(())
     }
 
-    fn serve_all(&mut self, rt: &impl Abort, lines: &[Line]) -> Result<(), Unmade> {
+    /// Serves a list, and what was refused of it once more: the blob is stored then, and the upload open.
+    fn check_list(&mut self, rt: &impl Abort, lines: &[Line]) -> Result<(), Unmade> {
         let answers = self.serve_list(rt, lines)?;
-        assert!(rt; answers.len() == lines.len());
+        check(rt, answers.len() == lines.len(), 0, "how many answers");
         self.check_seen(rt, answers.as_slice(), lines);
-        self.check_second_answers(rt, answers.as_slice(), lines)
+        self.check_second_answers(rt, answers.as_slice(), lines)?;
+        let seen = self.look();
+        let is_all_seen = seen.held && seen.first == Some(0);
+        check(rt, is_all_seen, lines.len(), "what is seen after it");
+        Ok(())
     }
 }
 
-/// What is seen when a list was served, and what was refused of it.
-fn seen_after(rt: &impl Abort, alloc: Global, lines: &[Line]) -> Result<Seen, Unmade> {
+fn check_list(rt: &impl Abort, alloc: Global, lines: &[Line]) -> Result<(), Unmade> {
     let mut watched = Watched::new(alloc, small(), b"abc")?;
-    watched.serve_all(rt, lines)?;
-    Ok(watched.look())
+    watched.check_list(rt, lines)
 }
 
 #[test]
-fn a_refused_growth_in_a_list_is_of_one_request_or_of_all(rt: HostRuntime) -> Result<(), Fail> {
-    let seen = seen_after(&rt, rt.alloc(), &PAIR)?;
-    assert!(rt; seen.held && seen.first == Some(0));
-    Ok(())
+fn a_refused_growth_in_a_list_is_of_one_request_or_of_all(rt: HostRuntime) -> Result<(), Unmade> {
+    check_list(&rt, rt.alloc(), &PAIR)
 }
 
 /// What is served before memory is full.
@@ -422,18 +435,34 @@ static UNCHANGING: [Line; 8] = [
 /// More than any memory has.
 const NEVER_FREE: usize = 0x1000_0000_0000_0000;
 
-#[test]
-fn a_change_leaves_memory_free(rt: HostRuntime) -> Result<(), Fail> {
-    let mut watched = Watched::new(rt.alloc(), limits(9, 3, 3_600), b"abc")?;
-    watched.check_lines(&rt, &BEFORE_FULL)?;
-    watched.service.keep_free(NEVER_FREE);
-    let before = watched.look();
-    for (i, line) in CHANGES.iter().enumerate() {
-        let outcome = watched.serve(*line)?;
-        check(&rt, outcome == Outcome::NoMemory, i, "a change is made");
-        check(&rt, watched.look() == before, i, "what is seen after it");
+impl Watched {
+    /// While no memory is free, each of these changes is refused, and nothing is changed.
+    fn check_refused(&mut self, rt: &impl Abort, changes: &[Line]) -> Result<(), Unmade> {
+        let before = self.look();
+        for (i, line) in changes.iter().enumerate() {
+            let outcome = self.serve(*line)?;
+            check(rt, outcome == Outcome::NoMemory, i, "a change is made");
+            check(rt, self.look() == before, i, "what is seen after it");
+        }
+        Ok(())
     }
-    watched.check_lines(&rt, &UNCHANGING)?;
-    watched.service.keep_free(1_000);
-    Ok(watched.check_lines(&rt, &CHANGES)?)
+
+    fn check_free_memory(&mut self, rt: &impl Abort) -> Result<(), Unmade> {
+        self.check_lines(rt, &BEFORE_FULL)?;
+        self.service.keep_free(NEVER_FREE);
+        self.check_refused(rt, &CHANGES)?;
+        self.check_lines(rt, &UNCHANGING)?;
+        self.service.keep_free(1_000);
+        self.check_lines(rt, &CHANGES)
+    }
+}
+
+fn check_free_memory(rt: &impl Abort, alloc: Global) -> Result<(), Unmade> {
+    let mut watched = Watched::new(alloc, limits(9, 3, 3_600), b"abc")?;
+    watched.check_free_memory(rt)
+}
+
+#[test]
+fn a_change_leaves_memory_free(rt: HostRuntime) -> Result<(), Unmade> {
+    check_free_memory(&rt, rt.alloc())
 }

@@ -3,18 +3,19 @@
 ghost use Rattle.upload_service.specs.Machine.{AreLawful};
 
 use crate::asks::{
-    At, HASHES, Hashed, Line, Place, Told, Unmade, Word, ask_of, body_in_pieces, body_of,
-    is_content, name, reference, row, under,
+    At, HASHES, Hashed, Kind, Line, Place, Said, Told, Unmade, Word, ask_of, body_in_pieces, gives,
+    is_named, name, reference, row, said_of, under,
 };
-use crate::model::{Model, alike};
-use crate::serving::{ABC, ABC_512, Job, NOTHING, answers_to, check, limits};
+use crate::model::Model;
+use crate::serving::{
+    ABC, ABC_512, Job, NOTHING, add, answers_to, check, is_said, judge_by_model, limits,
+};
 use std::alloc::{AllocError, Global};
 use std::process::Abort;
 use std::slice::Iter;
 use std::sync::Wait;
-use std::test::Fail;
 use std::thread::Threads;
-use upload_bytes::{InPlace, InThreads};
+use upload_bytes::{Body, InPlace, InThreads};
 use upload_names::{Algorithm, BlobDigest};
 use upload_service::{Answer, Ask, Extent, Limits, Refusal, Service};
 
@@ -115,6 +116,8 @@ struct Play {
     model: Model,
     now: u64,
     issued: u64,
+    /// What the model said last.
+    said: Said,
 }
 
 impl Play {
@@ -126,6 +129,7 @@ impl Play {
             model: Model::after(alloc, small(), 0),
             now: 0,
             issued: 0,
+            said: Said::of(Kind::Base),
         }
     }
 
@@ -139,85 +143,104 @@ impl Play {
         }
     }
 
-    /// The next request, and the model's answer to it.
-    fn turn(&mut self) -> Result<Turn, Unmade> {
-        let line = self.line();
-        let ask = ask_of(self.alloc, hashed(&mut self.dice), line)?;
-        let wanted = self.model.step(&ask, [0; 12], line.now)?;
-        if let Answer::Begun { .. } = wanted {
+    /// Has the model answer a request.
+    fn turn(&mut self, line: Line) -> Result<(), AllocError> {
+        self.said = self.model.step(line)?;
+        if self.said.kind == Kind::Begun {
             self.issued = self.issued.saturating_add(1);
         }
-        let job = (ask, [0; 12], line.now);
-        Ok(Turn { job, wanted })
+        Ok(())
     }
 
-    /// Whether the service answers the next request as the model does.
+    /// Whether the service answers a request as the model did.
+    fn is_served(&mut self, line: Line) -> Result<bool, Unmade> {
+        let hashed = hashed(&mut self.dice);
+        let ask = ask_of(self.alloc, hashed, line)?;
+        let answer = self.service.step(ask, [0; 12], line.now);
+        Ok(is_said(&self.model, &answer, line, self.said))
+    }
+
     fn is_alike(&mut self) -> Result<bool, Unmade> {
-        let Turn { job, wanted } = self.turn()?;
-        let answer = self.service.step(job.0, job.1, job.2);
-        Ok(alike(&answer, &wanted))
+        let line = self.line();
+        self.turn(line)?;
+        self.is_served(line)
+    }
+
+    /// Plays 200 requests.
+    fn check_turns(&mut self, rt: &impl Abort, seed: u64) -> Result<(), Unmade> {
+        for number in 0..200u64 {
+            let is_alike = self.is_alike()?;
+            check_turn(rt, is_alike, number, seed);
+        }
+        check_turn(rt, self.issued > 10, self.issued, seed);
+        Ok(())
     }
 }
 
-/// A request, and the answer that is wanted.
-#[derive(Drop)]
-struct Turn {
-    job: Job,
-    wanted: Answer,
+fn check_turn(rt: &impl Abort, is_right: bool, turn: u64, seed: u64) {
+    assert!(rt; is_right, "turn {turn} of {seed}");
 }
 
-fn check_turn(rt: &impl Abort, is_alike: bool, turn: u64, seed: u64) {
-    assert!(rt; is_alike, "turn {turn} of {seed}");
-}
-
-/// Plays 200 requests, and gives how many uploads they began.
-fn uploads_begun(rt: &impl Abort, alloc: Global, seed: u64) -> Result<u64, Unmade> {
+fn play_by_rule(rt: &impl Abort, alloc: Global, seed: u64) -> Result<(), Unmade> {
     let mut play = Play::new(alloc, seed);
-    for turn in 0..200u64 {
-        check_turn(rt, play.is_alike()?, turn, seed);
-    }
-    Ok(play.issued)
+    play.check_turns(rt, seed)
 }
 
 #[test]
-fn lists_are_served_as_by_the_model(rt: HostRuntime) -> Result<(), Fail> {
+fn lists_are_served_as_by_the_model(rt: HostRuntime) -> Result<(), Unmade> {
     for seed in 1..6u64 {
-        let begun = uploads_begun(&rt, rt.alloc(), seed)?;
-        assert!(rt; begun > 10);
+        play_by_rule(&rt, rt.alloc(), seed)?;
     }
+    Ok(())
+}
+
+fn keep(lines: &mut Vec<Line>, line: Line) -> Result<(), AllocError> {
+    lines.push(line)?;
     Ok(())
 }
 
 /// How many requests a long list has.
 const MANY: usize = 2_000;
 
-/// A long list of requests, and the model's answers, one by one.
-fn long_list(alloc: Global) -> Result<(Vec<Job>, Vec<Answer>), Unmade> {
-    let mut play = Play::new(alloc, 7);
-    let mut jobs = Vec::new(alloc);
-    let mut answers = Vec::new(alloc);
-    for _ in 0..MANY {
-        keep(&mut jobs, &mut answers, play.turn()?)?;
+impl Play {
+    fn lines(&mut self) -> Result<Vec<Line>, AllocError> {
+        let mut lines = Vec::new(self.alloc);
+        for _ in 0..MANY {
+            let line = self.line();
+            self.turn(line)?;
+            keep(&mut lines, line)?;
+        }
+        Ok(lines)
     }
-    Ok((jobs, answers))
+
+    fn jobs_of(&mut self, lines: &[Line]) -> Result<Vec<Job>, Unmade> {
+        let mut jobs = Vec::new(self.alloc);
+        for line in lines {
+            let hashed = hashed(&mut self.dice);
+            add(&mut jobs, ask_of(self.alloc, hashed, *line)?, line.now)?;
+        }
+        Ok(jobs)
+    }
+
+    fn answers_to(&mut self, lines: &[Line]) -> Result<Vec<Answer>, Unmade> {
+        let jobs = self.jobs_of(lines)?;
+        Ok(self.service.run_all(self.alloc, jobs)?)
+    }
 }
 
-fn keep(jobs: &mut Vec<Job>, answers: &mut Vec<Answer>, turn: Turn) -> Result<(), AllocError> {
-    jobs.push(turn.job)?;
-    answers.push(turn.wanted)?;
-    Ok(())
+/// Has a service answer the requests as one list, and another model after it.
+fn play_long(rt: &impl Abort, alloc: Global, play: &mut Play) -> Result<(), Unmade> {
+    let lines = play.lines()?;
+    let answers = play.answers_to(lines.as_slice())?;
+    check(rt, answers.len() == MANY, 0, "how many answers");
+    let mut model = Model::after(alloc, small(), 0);
+    Ok(judge_by_model(rt, &mut model, answers.as_slice(), lines.as_slice())?)
 }
 
 #[test]
-fn long_lists_are_served_as_by_the_model(rt: HostRuntime) -> Result<(), Fail> {
-    let alloc = rt.alloc();
-    let (jobs, wanted) = long_list(alloc)?;
-    let answers = Service::new(alloc, small()).run_all(alloc, jobs)?;
-    assert!(rt; answers.len() == MANY);
-    for (i, (answer, wanted)) in answers.iter().zip(wanted.iter()).enumerate() {
-        check(&rt, alike(answer, wanted), i, "the answer");
-    }
-    Ok(())
+fn long_lists_are_served_as_by_the_model(rt: HostRuntime) -> Result<(), Unmade> {
+    let mut play = Play::new(rt.alloc(), 7);
+    play_long(&rt, rt.alloc(), &mut play)
 }
 
 const ONE: At = At(1, 0);
@@ -246,19 +269,14 @@ fn lines_under(alloc: Global, name: &[u8]) -> Result<Vec<Line>, AllocError> {
     Ok(lines)
 }
 
-/// Whether the next of the answers is like this one.
-fn is_next(answers: &mut Iter<Answer>, wanted: &Answer) -> bool {
+/// Whether the next of the answers is like this one, and both have this name.
+fn is_next(answers: &mut Iter<Answer>, wanted: &Answer, name: &[u8]) -> bool {
     match answers.next() {
-        Some(answer) => alike(answer, wanted),
+        Some(answer) => {
+            said_of(answer) == said_of(wanted) && is_named(answer, name) && is_named(wanted, name)
+        }
         None => false,
     }
-}
-
-/// The answers to the lines under a name alone, over a service whose numbers up to `issued` are used up.
-fn answers_under(alloc: Global, name: &[u8], issued: u32) -> Result<Vec<Answer>, Unmade> {
-    let lines = lines_under(alloc, name)?;
-    let usual = limits(1_000, 10, 3_600);
-    answers_to(alloc, usual, issued, None, lines.as_slice())
 }
 
 /// Ends a test in which the requests under a name aren't answered among the others as they are alone.
@@ -266,22 +284,38 @@ fn check_alone(rt: &impl Abort, together: &[Answer], alone: &[Answer], name: &[u
     check(rt, alone.len() == 4, 0, "how many answers");
     let mut rest = alone.iter();
     for (i, (line, answer)) in BOTH.iter().zip(together.iter()).enumerate() {
-        let is_same = line.name != name || is_next(&mut rest, answer);
-        check(rt, is_same, i, "the answer alone");
+        if line.name == name {
+            check(rt, is_next(&mut rest, answer, name), i, "the answer alone");
+        }
     }
     check(rt, rest.next().is_none(), 8, "the answers left");
 }
 
-#[test]
-fn sessions_are_answered_as_if_alone(rt: HostRuntime) -> Result<(), Fail> {
-    let alloc = rt.alloc();
-    let first = answers_under(alloc, b"lib/a", 0)?;
-    let second = answers_under(alloc, b"lib/b", 1)?;
-    let both = answers_to(alloc, limits(1_000, 10, 3_600), 0, None, &BOTH)?;
-    assert!(rt; both.len() == 8);
-    check_alone(&rt, both.as_slice(), first.as_slice(), b"lib/a");
-    check_alone(&rt, both.as_slice(), second.as_slice(), b"lib/b");
+/// Serves the lines under a name alone, over a service whose numbers up to `issued` are used up.
+fn serve_alone(
+    rt: &impl Abort,
+    alloc: Global,
+    together: &[Answer],
+    name: &[u8],
+    issued: u32,
+) -> Result<(), Unmade> {
+    let lines = lines_under(alloc, name)?;
+    let usual = limits(1_000, 10, 3_600);
+    let alone = answers_to(alloc, usual, issued, None, lines.as_slice())?;
+    check_alone(rt, together, alone.as_slice(), name);
     Ok(())
+}
+
+fn check_both(rt: &impl Abort, alloc: Global) -> Result<(), Unmade> {
+    let both = answers_to(alloc, limits(1_000, 10, 3_600), 0, None, &BOTH)?;
+    check(rt, both.len() == 8, 0, "how many answers");
+    serve_alone(rt, alloc, both.as_slice(), b"lib/a", 0)?;
+    serve_alone(rt, alloc, both.as_slice(), b"lib/b", 1)
+}
+
+#[test]
+fn sessions_are_answered_as_if_alone(rt: HostRuntime) -> Result<(), Unmade> {
+    check_both(&rt, rt.alloc())
 }
 
 /// So many bytes of a pattern.
@@ -294,37 +328,81 @@ fn pattern(alloc: Global, size: usize) -> Result<Vec<u8>, AllocError> {
     Ok(bytes)
 }
 
+fn opening_of(alloc: Global) -> Result<Ask, Unmade> {
+    Ok(Ask::Opening {
+        name: name(alloc, b"lib/a")?,
+    })
+}
+
+fn chunk_of(alloc: Global, body: Body) -> Result<Ask, Unmade> {
+    Ok(Ask::Chunk {
+        name: name(alloc, b"lib/a")?,
+        at: reference(ONE),
+        range: Extent::Absent,
+        body,
+    })
+}
+
+fn close_of(alloc: Global, digest: BlobDigest, body: Body) -> Result<Ask, Unmade> {
+    Ok(Ask::Close {
+        name: name(alloc, b"lib/a")?,
+        at: reference(ONE),
+        range: Extent::Absent,
+        digest: Some(digest),
+        body,
+    })
+}
+
+fn get_of(alloc: Global, digest: BlobDigest) -> Result<Ask, Unmade> {
+    Ok(Ask::Has {
+        name: name(alloc, b"lib/a")?,
+        digest,
+        head: false,
+    })
+}
+
+/// Whether an answer hands out a blob of this content, and says its size.
+fn is_blob(answer: &Answer, content: &[u8]) -> bool {
+    said_of(answer).size == Some(content.len() as u64) && gives(answer, content)
+}
+
 /// A session of a new service.
 #[derive(Drop)]
 struct Upload {
     alloc: Global,
     service: Service,
     way: Way,
+    /// Of pieces of how many bytes its bodies are put together.
+    piece: usize,
 }
 
 impl Upload {
-    fn begin(alloc: Global, way: Way) -> Result<Upload, Unmade> {
-        let opening = Ask::Opening {
-            name: name(alloc, b"lib/a")?,
-        };
-        let mut service = Service::new(alloc, limits(1_000_000, 1, 10));
-        let _begun = service.step(opening, [0; 12], 0);
-        Ok(Upload {
+    fn new(alloc: Global, way: Way, piece: usize) -> Upload {
+        Upload {
             alloc,
-            service,
+            service: Service::new(alloc, limits(2 * LARGE_SIZE as u64, 1, 10)),
             way,
-        })
+            piece,
+        }
+    }
+
+    fn body(&self, content: &[u8]) -> Result<Body, AllocError> {
+        body_in_pieces(self.alloc, self.way.hashed, content, self.piece)
+    }
+
+    fn ask(&mut self, ask: Ask) -> Kind {
+        said_of(&self.service.step(ask, [0; 12], 0)).kind
+    }
+
+    fn begin(&mut self) -> Result<(), Unmade> {
+        let opening = opening_of(self.alloc)?;
+        self.ask(opening);
+        Ok(())
     }
 
     fn takes(&mut self, body: &[u8]) -> Result<bool, Unmade> {
-        let chunk = Ask::Chunk {
-            name: name(self.alloc, b"lib/a")?,
-            at: reference(ONE),
-            range: Extent::Absent,
-            body: body_of(self.alloc, self.way.hashed, body)?,
-        };
-        let answer = self.service.step(chunk, [0; 12], 0);
-        Ok(matches!(&answer, Answer::Taken { .. }))
+        let chunk = chunk_of(self.alloc, self.body(body)?)?;
+        Ok(self.ask(chunk) == Kind::Taken)
     }
 
     /// Has the hash of the session catch up, and that of one which isn't there.
@@ -342,12 +420,12 @@ impl Upload {
         }
     }
 
-    fn step(&mut self, rt: &(impl Threads + Wait), ask: Ask) -> Answer {
+    fn step(&mut self, rt: &(impl Threads + Wait), ask: Ask) -> Kind {
         match self.way.hashing {
             Hashing::BesideAndJoined | Hashing::BeforeTheCloses => {
-                self.service.step_joining(rt, ask, [0; 12], 0)
+                said_of(&self.service.step_joining(rt, ask, [0; 12], 0)).kind
             }
-            _ => self.service.step(ask, [0; 12], 0),
+            _ => self.ask(ask),
         }
     }
 
@@ -358,20 +436,15 @@ impl Upload {
         }
     }
 
+    /// What a close is answered.
     fn close(
         &mut self,
         rt: &(impl Threads + Wait),
         digest: BlobDigest,
         body: &[u8],
-    ) -> Result<Answer, Unmade> {
+    ) -> Result<Kind, Unmade> {
         self.prepare_close(rt);
-        let close = Ask::Close {
-            name: name(self.alloc, b"lib/a")?,
-            at: reference(ONE),
-            range: Extent::Absent,
-            digest: Some(digest),
-            body: body_of(self.alloc, self.way.hashed, body)?,
-        };
+        let close = close_of(self.alloc, digest, self.body(body)?)?;
         Ok(self.step(rt, close))
     }
 
@@ -381,37 +454,14 @@ impl Upload {
         body: &[u8],
     ) -> Result<bool, Unmade> {
         let wrong = BlobDigest::of(self.way.algorithm, b"another content");
-        let answer = self.close(rt, wrong, body)?;
-        Ok(matches!(&answer, Answer::Refused(Refusal::Mismatch)))
-    }
-
-    fn stores(
-        &mut self,
-        rt: &(impl Threads + Wait),
-        digest: BlobDigest,
-        body: &[u8],
-    ) -> Result<bool, Unmade> {
-        let answer = self.close(rt, digest, body)?;
-        Ok(matches!(&answer, Answer::Stored { .. }))
+        Ok(self.close(rt, wrong, body)? == Kind::Refused(Refusal::Mismatch))
     }
 
     fn gives(&mut self, digest: BlobDigest, content: &[u8]) -> Result<bool, Unmade> {
-        let get = Ask::Has {
-            name: name(self.alloc, b"lib/a")?,
-            digest,
-            head: false,
-        };
-        match self.service.step(get, [0; 12], 0) {
-            Answer::Blob {
-                bytes: Some(bytes),
-                ..
-            } => Ok(is_content(&bytes, content)),
-            _ => Ok(false),
-        }
+        let get = get_of(self.alloc, digest)?;
+        Ok(is_blob(&self.service.step(get, [0; 12], 0), content))
     }
-}
 
-impl Upload {
     /// Sends a content in chunks of those sizes, with a refused close of the same bytes before each. Gives what is
     /// left.
     fn send<'c>(
@@ -422,8 +472,8 @@ impl Upload {
     ) -> Result<&'c [u8], Unmade> {
         let mut rest = content;
         for (i, size) in sizes.iter().enumerate() {
-            assert!(rt; *size <= rest.len());
-            let (body, later) = rest.split_at(*size);
+            check(rt, *size <= rest.len(), i, "the size");
+            let (body, later) = rest.split_at(rest.len().min(*size));
             rest = later;
             let refuses = self.refuses_another_content(rt, body)?;
             check(rt, refuses, i, "the close is refused");
@@ -441,11 +491,35 @@ impl Upload {
         content: &[u8],
         left: &[u8],
     ) -> Result<(), Unmade> {
+        let refuses = self.refuses_another_content(rt, left)?;
+        check(rt, refuses, left.len(), "the close is refused");
+        self.store_and_pull(rt, content, left)
+    }
+
+    fn store_and_pull(
+        &mut self,
+        rt: &(impl Abort + Threads + Wait),
+        content: &[u8],
+        left: &[u8],
+    ) -> Result<(), Unmade> {
         let digest = BlobDigest::of(self.way.algorithm, content);
-        assert!(rt; self.refuses_another_content(rt, left)?);
-        assert!(rt; self.stores(rt, digest, left)?);
-        assert!(rt; self.gives(digest, content)?);
+        let stores = self.close(rt, digest, left)? == Kind::Stored;
+        check(rt, stores, left.len(), "the close is taken");
+        let gives = self.gives(digest, content)?;
+        check(rt, gives, left.len(), "the blob");
         Ok(())
+    }
+
+    /// Uploads a content in pieces of these sizes, and pulls it back.
+    fn upload(
+        &mut self,
+        rt: &(impl Abort + Threads + Wait),
+        content: &[u8],
+        sizes: &[usize],
+    ) -> Result<(), Unmade> {
+        self.begin()?;
+        let left = self.send(rt, content, sizes)?;
+        self.close_and_pull(rt, content, left)
     }
 }
 
@@ -500,8 +574,10 @@ macro_rules! way {
     };
 }
 
+const IN_TURN: Way = way!(Sha256, None, InTurn);
+
 static WAYS: [Way; 11] = [
-    way!(Sha256, None, InTurn),
+    IN_TURN,
     way!(Sha256, None, AtTheCloses),
     way!(Sha256, None, Beside),
     way!(Sha256, None, BesideAndJoined),
@@ -514,6 +590,18 @@ static WAYS: [Way; 11] = [
     way!(Sha512, Some(Algorithm::Sha512), BeforeTheCloses),
 ];
 
+/// Whether a thread has nothing to take into the hash of a session.
+fn has_caught_up(
+    rt: &(impl Threads + Wait),
+    service: &mut Service,
+    at: At,
+    algorithm: Algorithm,
+) -> bool {
+    service
+        .catch_up(&InThreads(rt), &reference(at), algorithm)
+        .is_none()
+}
+
 /// Prepares a close of a session of which nothing else comes: at most once there is something to wait for. Says whether
 /// that is so.
 fn wait_for_hash(
@@ -522,12 +610,10 @@ fn wait_for_hash(
     at: At,
     algorithm: Algorithm,
 ) -> bool {
-    let at = reference(at);
-    let place = InThreads(rt);
-    if let Some(end) = service.catch_up(&place, &at, algorithm) {
+    if let Some(end) = service.catch_up(&InThreads(rt), &reference(at), algorithm) {
         end.wait(rt);
     }
-    service.catch_up(&place, &at, algorithm).is_none()
+    has_caught_up(rt, service, at, algorithm)
 }
 
 /// Uploads a content in pieces of many sizes, and pulls it back.
@@ -538,21 +624,37 @@ fn upload_in_many_sizes(
     way: Way,
 ) -> Result<(), Unmade> {
     for sizes in SIZES.iter() {
-        let mut upload = Upload::begin(alloc, way)?;
-        let left = upload.send(rt, content, sizes)?;
-        upload.close_and_pull(rt, content, left)?;
+        upload_in_sizes(rt, alloc, content, way, sizes)?;
+    }
+    Ok(())
+}
+
+fn upload_in_sizes(
+    rt: &(impl Abort + Threads + Wait),
+    alloc: Global,
+    content: &[u8],
+    way: Way,
+    sizes: &[usize],
+) -> Result<(), Unmade> {
+    let mut upload = Upload::new(alloc, way, usize::MAX);
+    upload.upload(rt, content, sizes)
+}
+
+fn upload_in_all_ways(
+    rt: &(impl Abort + Threads + Wait),
+    alloc: Global,
+    content: &[u8],
+) -> Result<(), Unmade> {
+    for way in WAYS.iter() {
+        upload_in_many_sizes(rt, alloc, content, *way)?;
     }
     Ok(())
 }
 
 #[test]
-fn pieces_of_many_sizes_are_one_blob(rt: HostRuntime) -> Result<(), Fail> {
-    let alloc = rt.alloc();
-    let content = pattern(alloc, 900_000)?;
-    for way in WAYS.iter() {
-        upload_in_many_sizes(&rt, alloc, content.as_slice(), *way)?;
-    }
-    Ok(())
+fn pieces_of_many_sizes_are_one_blob(rt: HostRuntime) -> Result<(), Unmade> {
+    let content = pattern(rt.alloc(), 900_000)?;
+    upload_in_all_ways(&rt, rt.alloc(), content.as_slice())
 }
 
 /// More than a part of a body, which is read in pieces of 64 KiB.
@@ -569,94 +671,114 @@ fn blocks(alloc: Global, size: usize) -> Result<Vec<u8>, AllocError> {
     Ok(content)
 }
 
-/// The answers to an upload of two bodies of several parts, and to a GET of it: whether the GET has both bodies.
-fn is_pulled_whole(alloc: Global, hashed: Hashed, content: &[u8]) -> Result<bool, Unmade> {
-    let digest = BlobDigest::of_sha256(content);
-    let (first, last) = content.split_at(content.len() / 2);
-    let at = reference(ONE);
-    let chunk = Ask::Chunk {
-        name: name(alloc, b"lib/a")?,
-        at,
-        range: Extent::Absent,
-        body: body_in_pieces(alloc, hashed, first, 65_536)?,
-    };
-    let close = Ask::Close {
-        name: name(alloc, b"lib/a")?,
-        at,
-        range: Extent::Absent,
-        digest: Some(digest),
-        body: body_in_pieces(alloc, hashed, last, 65_536)?,
-    };
-    let opening = Ask::Opening {
-        name: name(alloc, b"lib/a")?,
-    };
-    let get = Ask::Has {
-        name: name(alloc, b"lib/a")?,
-        digest,
-        head: false,
-    };
-    let mut service = Service::new(alloc, limits(2 * LARGE_SIZE as u64, 1, 10));
-    let mut pulled = false;
-    for ask in [opening, chunk, close, get] {
-        if let Answer::Blob {
-            size,
-            bytes: Some(bytes),
-            ..
-        } = service.step(ask, [0; 12], 0)
-        {
-            pulled = size == content.len() as u64 && is_content(&bytes, content);
-        }
+impl Upload {
+    /// Uploads a content in two bodies, and pulls it back.
+    fn upload_halves(
+        &mut self,
+        rt: &(impl Abort + Threads + Wait),
+        content: &[u8],
+    ) -> Result<(), Unmade> {
+        let (first, last) = content.split_at(content.len() / 2);
+        self.begin()?;
+        let takes = self.takes(first)?;
+        check(rt, takes, first.len(), "the chunk is taken");
+        self.store_and_pull(rt, content, last)
     }
-    Ok(pulled)
 }
 
-#[test]
-fn bodies_of_several_parts_are_one_blob(rt: HostRuntime) -> Result<(), Fail> {
-    let alloc = rt.alloc();
-    let content = blocks(alloc, 2 * LARGE_SIZE)?;
+/// Uploads two bodies of several parts, with each hash that they may carry.
+fn upload_parts(
+    rt: &(impl Abort + Threads + Wait),
+    alloc: Global,
+    content: &[u8],
+) -> Result<(), Unmade> {
     for hashed in HASHES.iter() {
-        assert!(rt;
-            is_pulled_whole(alloc, *hashed, content.as_slice())?,
-            "{hashed:?}"
-        );
+        upload_halves(rt, alloc, content, *hashed)?;
     }
     Ok(())
 }
 
-/// What a hash has caught up with is no work for a thread: there is nothing to wait for.
-#[test]
-fn a_hash_that_has_caught_up_is_done(rt: HostRuntime) -> Result<(), Fail> {
-    let alloc = rt.alloc();
-    let content = pattern(alloc, 900_000)?;
-    let mut upload = Upload::begin(alloc, WAYS[0])?;
-    assert!(rt; upload.takes(content.as_slice())?);
-    let at = reference(ONE);
-    let end = upload.service.catch_up(&InPlace, &at, Algorithm::Sha256);
-    assert!(rt; end.is_none());
-    let end = upload
-        .service
-        .catch_up(&InThreads(&rt), &at, Algorithm::Sha256);
-    assert!(rt; end.is_none());
-    Ok(())
+fn upload_halves(
+    rt: &(impl Abort + Threads + Wait),
+    alloc: Global,
+    content: &[u8],
+    hashed: Hashed,
+) -> Result<(), Unmade> {
+    let way = Way { hashed, ..IN_TURN };
+    let mut upload = Upload::new(alloc, way, 65_536);
+    upload.upload_halves(rt, content)
 }
 
 #[test]
-fn a_hash_that_is_waited_for_is_done(rt: HostRuntime) -> Result<(), Fail> {
-    let alloc = rt.alloc();
-    let content = pattern(alloc, 300_000)?;
-    for algorithm in [Algorithm::Sha256, Algorithm::Sha512] {
-        let mut upload = Upload::begin(alloc, WAYS[0])?;
+fn bodies_of_several_parts_are_one_blob(rt: HostRuntime) -> Result<(), Unmade> {
+    let content = blocks(rt.alloc(), 2 * LARGE_SIZE)?;
+    upload_parts(&rt, rt.alloc(), content.as_slice())
+}
+
+impl Upload {
+    /// What a hash has caught up with is no work for a thread: there is nothing to wait for.
+    fn check_caught_up(
+        &mut self,
+        rt: &(impl Abort + Threads + Wait),
+        content: &[u8],
+    ) -> Result<(), Unmade> {
+        self.begin()?;
+        let takes = self.takes(content)?;
+        check(rt, takes, 0, "the chunk is taken");
+        let end = self
+            .service
+            .catch_up(&InPlace, &reference(ONE), Algorithm::Sha256);
+        check(rt, end.is_none(), 0, "the hash, in place");
+        let is_done = has_caught_up(rt, &mut self.service, ONE, Algorithm::Sha256);
+        check(rt, is_done, 0, "the hash, in a thread");
+        Ok(())
+    }
+
+    fn check_waited_for(
+        &mut self,
+        rt: &(impl Abort + Threads + Wait),
+        content: &[u8],
+        algorithm: Algorithm,
+    ) -> Result<(), Unmade> {
+        self.begin()?;
         // no bytes, and no such upload
-        for at in [ONE, TWO] {
-            let end = upload
-                .service
-                .catch_up(&InThreads(&rt), &reference(at), algorithm);
-            assert!(rt; end.is_none());
+        for (i, at) in [ONE, TWO].iter().enumerate() {
+            let is_done = has_caught_up(rt, &mut self.service, *at, algorithm);
+            check(rt, is_done, i, "nothing to wait for");
         }
-        assert!(rt; upload.takes(content.as_slice())?);
-        assert!(rt; wait_for_hash(&rt, &mut upload.service, ONE, algorithm));
-        assert!(rt; upload.takes(content.as_slice())?);
-        assert!(rt; wait_for_hash(&rt, &mut upload.service, ONE, algorithm));
+        for i in 0..2usize {
+            let takes = self.takes(content)?;
+            check(rt, takes, i, "the chunk is taken");
+            let is_done = wait_for_hash(rt, &mut self.service, ONE, algorithm);
+            check(rt, is_done, i, "the hash");
+        }
+        Ok(())
     }
-    Ok(())
+}
+
+fn catch_up(rt: &(impl Abort + Threads + Wait), alloc: Global) -> Result<(), Unmade> {
+    let content = pattern(alloc, 900_000)?;
+    let mut upload = Upload::new(alloc, IN_TURN, usize::MAX);
+    upload.check_caught_up(rt, content.as_slice())
+}
+
+#[test]
+fn a_hash_that_has_caught_up_is_done(rt: HostRuntime) -> Result<(), Unmade> {
+    catch_up(&rt, rt.alloc())
+}
+
+fn wait_for(
+    rt: &(impl Abort + Threads + Wait),
+    alloc: Global,
+    algorithm: Algorithm,
+) -> Result<(), Unmade> {
+    let content = pattern(alloc, 300_000)?;
+    let mut upload = Upload::new(alloc, IN_TURN, usize::MAX);
+    upload.check_waited_for(rt, content.as_slice(), algorithm)
+}
+
+#[test]
+fn a_hash_that_is_waited_for_is_done(rt: HostRuntime) -> Result<(), Unmade> {
+    wait_for(&rt, rt.alloc(), Algorithm::Sha256)?;
+    wait_for(&rt, rt.alloc(), Algorithm::Sha512)
 }

@@ -1,15 +1,15 @@
-//! The service written plainly and slowly: lists that are searched from the front, bodies that are copied, and
-//! digests that are computed anew.
+//! The service written plainly and slowly, over the lines of a table: lists that are searched from the front, bodies
+//! that are copied, and digests that are computed anew.
 
+use crate::asks::{At, Kind, Line, Place, Said, Word, extent, is_content, reference};
 use std::alloc::{AllocError, Global};
-use upload_bytes::{BlobBytes, Body};
-use upload_names::{BlobDigest, Bytes, RepoName, UploadRef};
-use upload_service::{Answer, Ask, Extent, Limits, Refusal};
+use upload_names::{BlobDigest, UploadRef};
+use upload_service::{Answer, Extent, Limits, Refusal};
 
 #[derive(Drop)]
 struct Open {
     at: UploadRef,
-    name: RepoName,
+    name: &'static [u8],
     received: Vec<u8>,
     seen: u64,
 }
@@ -20,18 +20,11 @@ struct Stored {
     bytes: Vec<u8>,
 }
 
-#[derive(Drop)]
-struct Pair {
-    name: RepoName,
-    digest: BlobDigest,
-}
-
-/// Why a session doesn't take a body.
+/// A blob that a repository has, by the text of its digest.
 #[derive(Clone, Copy)]
-enum Fault {
-    /// It stands at another offset.
-    Misplaced(u64),
-    Refused(Refusal),
+struct Pair {
+    name: &'static [u8],
+    digest: &'static [u8],
 }
 
 #[derive(Drop)]
@@ -56,56 +49,48 @@ impl Model {
         }
     }
 
-    pub fn step(&mut self, ask: &Ask, secret: [u8; 12], now: u64) -> Result<Answer, AllocError> {
-        match ask {
-            Ask::Base => Ok(Answer::Base),
-            Ask::Refused(refusal) => Ok(Answer::Refused(*refusal)),
-            Ask::Has { name, digest, head } => self.has(name, digest, *head),
-            Ask::Opening { name } => self.opening(name, secret, now),
-            Ask::Single { name, digest, body } => self.single(name, *digest, slice_of(body)),
-            Ask::Mount {
-                name,
-                digest,
-                source,
-            } => {
-                if self.holds(source, digest) {
-                    self.note(name, *digest)
-                } else {
-                    self.opening(name, secret, now)
-                }
-            }
-            Ask::Chunk {
-                name,
-                at,
-                range,
-                body,
-            } => self.chunk(name, at, *range, slice_of(body), now),
-            Ask::Status { name, at } => self.status(name, at, now),
-            Ask::Close {
-                name,
-                at,
-                range,
-                digest,
-                body,
-            } => self.close(name, at, *range, *digest, slice_of(body), now),
+    /// What the answer to a line's request says.
+    pub fn step(&mut self, line: Line) -> Result<Said, AllocError> {
+        match line.word {
+            Word::Base => Ok(Said::of(Kind::Base)),
+            Word::Refused(refusal) => Ok(refused(refusal)),
+            Word::Get(digest) => Ok(self.has(line.name, digest, Kind::Blob)),
+            Word::Head(digest) => Ok(self.has(line.name, digest, Kind::Size)),
+            Word::Open => self.opening(line),
+            Word::Single(digest, body) => self.single(line.name, digest, body),
+            Word::Mount(digest, source) => self.mount(line, digest, source),
+            Word::Chunk(at, place, body) => self.chunk(line, reference(at), place, body),
+            Word::Status(at) => Ok(self.status(line, reference(at))),
+            Word::Close(at, place, digest, body) => self.close(line, at, place, digest, body),
         }
     }
 
-    fn status(&self, name: &RepoName, at: &UploadRef, now: u64) -> Result<Answer, AllocError> {
-        match self.find(name, at, now) {
-            Some(i) => Ok(Answer::Standing {
-                name: name.copy(self.alloc)?,
-                at: *at,
-                next: self.next(i),
-            }),
-            None => Ok(Answer::Refused(Refusal::NoUpload)),
+    /// Whether a blob that is handed out has the bytes that are stored.
+    pub fn has_bytes_of(&self, answer: &Answer) -> bool {
+        match answer {
+            Answer::Blob {
+                digest,
+                bytes: Some(bytes),
+                ..
+            } => match self.blob(digest) {
+                Some(content) => is_content(bytes, content),
+                None => false,
+            },
+            _ => true,
         }
     }
 
-    /// Where the session stands that is open under the name and not idle.
-    fn find(&self, name: &RepoName, at: &UploadRef, now: u64) -> Option<usize> {
+    fn status(&self, line: Line, at: UploadRef) -> Said {
+        match self.find(line, &at) {
+            Some(i) => Said::of_upload(Kind::Standing, at, Some(self.next(i))),
+            None => refused(Refusal::NoUpload),
+        }
+    }
+
+    /// Where the session stands that is open under the line's name and not idle.
+    fn find(&self, line: Line, at: &UploadRef) -> Option<usize> {
         for (i, open) in self.open.iter().enumerate() {
-            if open.at.same(at) && open.name.same(name) && !is_idle(open, self.limits, now) {
+            if open.at.same(at) && open.name == line.name && !is_idle(open, self.limits, line.now) {
                 return Some(i);
             }
         }
@@ -119,92 +104,94 @@ impl Model {
         }
     }
 
-    fn holds(&self, name: &RepoName, digest: &BlobDigest) -> bool {
+    fn holds(&self, name: &[u8], digest: &[u8]) -> bool {
         self.pairs
             .iter()
-            .any(|pair| pair.name.same(name) && pair.digest.same(digest))
+            .any(|pair| pair.name == name && pair.digest == digest)
     }
 
-    fn note(&mut self, name: &RepoName, digest: BlobDigest) -> Result<Answer, AllocError> {
-        self.pairs.push(Pair {
-            name: name.copy(self.alloc)?,
-            digest,
-        })?;
-        Ok(Answer::Stored {
-            name: name.copy(self.alloc)?,
-            digest,
-        })
+    fn note(&mut self, name: &'static [u8], digest: &'static [u8]) -> Result<Said, AllocError> {
+        self.pairs.push(Pair { name, digest })?;
+        Ok(Said::of_blob(Kind::Stored, BlobDigest::read(digest), None))
     }
 
-    fn has(&self, name: &RepoName, digest: &BlobDigest, head: bool) -> Result<Answer, AllocError> {
-        if !self.holds(name, digest) {
-            return Ok(Answer::Refused(Refusal::NoBlob));
-        }
+    fn blob(&self, digest: &BlobDigest) -> Option<&[u8]> {
         for stored in self.stored.iter() {
             if stored.digest.same(digest) {
-                let bytes = if head {
-                    None
-                } else {
-                    let copy = Bytes::of(stored.bytes.as_slice().to_vec(self.alloc)?);
-                    Some(BlobBytes::of(self.alloc, copy)?)
-                };
-                return Ok(Answer::Blob {
-                    digest: *digest,
-                    size: stored.bytes.len() as u64,
-                    bytes,
-                });
+                return Some(stored.bytes.as_slice());
             }
         }
-        Ok(Answer::Refused(Refusal::NoBlob))
+        None
     }
 
-    fn opening(
-        &mut self,
-        name: &RepoName,
-        secret: [u8; 12],
-        now: u64,
-    ) -> Result<Answer, AllocError> {
-        let limits = self.limits;
-        if self.issued == u32::MAX {
-            return Ok(Answer::Refused(Refusal::TooMany));
+    /// How many bytes the blob has, if it is stored.
+    fn size_of(&self, digest: &[u8]) -> Option<u64> {
+        let digest = BlobDigest::read(digest)?;
+        let bytes = self.blob(&digest)?;
+        Some(bytes.len() as u64)
+    }
+
+    fn has(&self, name: &[u8], digest: &[u8], kind: Kind) -> Said {
+        if !self.holds(name, digest) {
+            return refused(Refusal::NoBlob);
         }
-        if self.open.len() >= self.limits.max_open as usize {
-            if !self.open.iter().any(|open| is_idle(open, limits, now)) {
-                return Ok(Answer::Refused(Refusal::TooMany));
-            }
+        let size = self.size_of(digest);
+        Said::of_blob(kind, BlobDigest::read(digest), size)
+    }
+
+    /// Whether one more session may be open, for which idle ones are let go.
+    fn makes_room(&mut self, now: u64) -> bool {
+        let limits = self.limits;
+        if self.open.len() as u64 >= u64::from(limits.max_open) {
             self.open.retain(|open| !is_idle(open, limits, now));
         }
-        self.issued += 1;
-        let at = UploadRef::make(self.issued, secret);
+        (self.open.len() as u64) < u64::from(limits.max_open)
+    }
+
+    fn opening(&mut self, line: Line) -> Result<Said, AllocError> {
+        if self.issued == u32::MAX || !self.makes_room(line.now) {
+            return Ok(refused(Refusal::TooMany));
+        }
+        self.issued = self.issued.saturating_add(1);
+        let at = reference(At(self.issued, 0));
         self.open.push(Open {
             at,
-            name: name.copy(self.alloc)?,
+            name: line.name,
             received: Vec::new(self.alloc),
-            seen: now,
+            seen: line.now,
         })?;
-        Ok(Answer::Begun {
-            name: name.copy(self.alloc)?,
-            at,
-        })
+        Ok(Said::of_upload(Kind::Begun, at, None))
+    }
+
+    fn mount(
+        &mut self,
+        line: Line,
+        digest: &'static [u8],
+        source: &[u8],
+    ) -> Result<Said, AllocError> {
+        if self.holds(source, digest) {
+            self.note(line.name, digest)
+        } else {
+            self.opening(line)
+        }
     }
 
     fn single(
         &mut self,
-        name: &RepoName,
-        digest: Option<BlobDigest>,
+        name: &'static [u8],
+        digest: &'static [u8],
         body: &[u8],
-    ) -> Result<Answer, AllocError> {
+    ) -> Result<Said, AllocError> {
         if body.len() as u64 > self.limits.max_blob {
-            return Ok(Answer::Refused(Refusal::TooLarge));
+            return Ok(refused(Refusal::TooLarge));
         }
-        let Some(digest) = digest else {
-            return Ok(Answer::Refused(Refusal::NoDigest));
-        };
-        if !BlobDigest::of(digest.algorithm(), body).same(&digest) {
-            return Ok(Answer::Refused(Refusal::Mismatch));
+        match verified(digest, body) {
+            Ok(sum) => {
+                self.store(sum, body.to_vec(self.alloc)?)?;
+                self.note(name, digest)
+            }
+            Err(refusal) => Ok(refused(refusal)),
         }
-        self.store(digest, body.to_vec(self.alloc)?)?;
-        self.note(name, digest)
     }
 
     fn store(&mut self, digest: BlobDigest, bytes: Vec<u8>) -> Result<(), AllocError> {
@@ -213,87 +200,83 @@ impl Model {
         Ok(())
     }
 
-    /// Why a body isn't taken by the session at a place, if it isn't.
-    fn fault(&self, i: usize, range: Extent, size: u64) -> Option<Fault> {
+    /// Where the session stands that takes a body, or what is said if none does.
+    fn taking(&self, line: Line, at: UploadRef, place: Place, body: &[u8]) -> Result<usize, Said> {
+        let Some(i) = self.find(line, &at) else {
+            return Err(refused(Refusal::NoUpload));
+        };
         let next = self.next(i);
-        if let Extent::Bad = range {
-            return Some(Fault::Refused(Refusal::BadRange));
-        }
-        if let Extent::Given(given) = range {
-            if given.first != next {
-                return Some(Fault::Misplaced(next));
+        let size = body.len() as u64;
+        match extent(place) {
+            Extent::Bad => return Err(refused(Refusal::BadRange)),
+            Extent::Given(given) => {
+                if given.first != next {
+                    return Err(Said::of_upload(Kind::Misplaced, at, Some(next)));
+                }
+                if given.last < given.first || given.last - given.first != size.wrapping_sub(1) {
+                    return Err(refused(Refusal::WrongLength));
+                }
             }
-            if given.last < given.first || given.last - given.first != size.wrapping_sub(1) {
-                return Some(Fault::Refused(Refusal::WrongLength));
-            }
+            Extent::Absent => {}
         }
         if next.saturating_add(size) > self.limits.max_blob {
-            return Some(Fault::Refused(Refusal::TooLarge));
+            return Err(refused(Refusal::TooLarge));
         }
-        None
-    }
-
-    fn refuse(&self, fault: Fault, name: &RepoName, at: &UploadRef) -> Result<Answer, AllocError> {
-        match fault {
-            Fault::Refused(refusal) => Ok(Answer::Refused(refusal)),
-            Fault::Misplaced(next) => Ok(Answer::Misplaced {
-                name: name.copy(self.alloc)?,
-                at: *at,
-                next,
-            }),
-        }
+        Ok(i)
     }
 
     fn chunk(
         &mut self,
-        name: &RepoName,
-        at: &UploadRef,
-        range: Extent,
+        line: Line,
+        at: UploadRef,
+        place: Place,
         body: &[u8],
-        now: u64,
-    ) -> Result<Answer, AllocError> {
-        let Some(i) = self.find(name, at, now) else {
-            return Ok(Answer::Refused(Refusal::NoUpload));
+    ) -> Result<Said, AllocError> {
+        let i = match self.taking(line, at, place, body) {
+            Ok(i) => i,
+            Err(said) => return Ok(said),
         };
-        if let Some(fault) = self.fault(i, range, body.len() as u64) {
-            return self.refuse(fault, name, at);
-        }
         if let Some(open) = self.open.get_mut(i) {
             open.received.extend_from_slice(body)?;
-            open.seen = now;
+            open.seen = line.now;
         }
-        Ok(Answer::Taken {
-            name: name.copy(self.alloc)?,
-            at: *at,
-            next: self.next(i),
-        })
+        Ok(Said::of_upload(Kind::Taken, at, Some(self.next(i))))
     }
 
     fn close(
         &mut self,
-        name: &RepoName,
-        at: &UploadRef,
-        range: Extent,
-        digest: Option<BlobDigest>,
+        line: Line,
+        at: At,
+        place: Place,
+        digest: &'static [u8],
         body: &[u8],
-        now: u64,
-    ) -> Result<Answer, AllocError> {
-        let Some(i) = self.find(name, at, now) else {
-            return Ok(Answer::Refused(Refusal::NoUpload));
-        };
-        if let Some(fault) = self.fault(i, range, body.len() as u64) {
-            return self.refuse(fault, name, at);
+    ) -> Result<Said, AllocError> {
+        let at = reference(at);
+        match self.taking(line, at, place, body) {
+            Ok(i) => {
+                let content = self.content(i, body)?;
+                self.close_with(line.name, at, digest, content)
+            }
+            Err(said) => Ok(said),
         }
-        let Some(digest) = digest else {
-            return Ok(Answer::Refused(Refusal::NoDigest));
-        };
-        let content = self.content(i, body)?;
-        if !BlobDigest::of(digest.algorithm(), content.as_slice()).same(&digest) {
-            return Ok(Answer::Refused(Refusal::Mismatch));
+    }
+
+    /// Closes a session whose bytes are this content.
+    fn close_with(
+        &mut self,
+        name: &'static [u8],
+        at: UploadRef,
+        digest: &'static [u8],
+        content: Vec<u8>,
+    ) -> Result<Said, AllocError> {
+        match verified(digest, content.as_slice()) {
+            Ok(sum) => {
+                self.open.retain(|open| !open.at.same(&at));
+                self.store(sum, content)?;
+                self.note(name, digest)
+            }
+            Err(refusal) => Ok(refused(refusal)),
         }
-        self.open.retain(|open| !open.at.same(at));
-        self.store(digest, content)?;
-        self.note(name, digest)
     }
 
     /// What the session at a place received, and a last body.
@@ -311,81 +294,18 @@ fn is_idle(open: &Open, limits: Limits, now: u64) -> bool {
     now > open.seen && now - open.seen > limits.max_idle
 }
 
-/// Whether two answers are the same.
-pub fn alike(one: &Answer, other: &Answer) -> bool {
-    match (one, other) {
-        (Answer::Base, Answer::Base) => true,
-        (Answer::NoMemory, Answer::NoMemory) => true,
-        (Answer::Refused(one), Answer::Refused(other)) => one == other,
-        (
-            Answer::Blob {
-                digest,
-                size,
-                bytes,
-            },
-            Answer::Blob {
-                digest: digest2,
-                size: size2,
-                bytes: bytes2,
-            },
-        ) => digest.same(digest2) && size == size2 && same_bytes(bytes, bytes2),
-        (
-            Answer::Begun { name, at },
-            Answer::Begun {
-                name: name2,
-                at: at2,
-            },
-        ) => name.same(name2) && at.same(at2),
-        (
-            Answer::Stored { name, digest },
-            Answer::Stored {
-                name: name2,
-                digest: digest2,
-            },
-        ) => name.same(name2) && digest.same(digest2),
-        (
-            Answer::Taken { name, at, next },
-            Answer::Taken {
-                name: name2,
-                at: at2,
-                next: next2,
-            },
-        ) => name.same(name2) && at.same(at2) && next == next2,
-        (
-            Answer::Standing { name, at, next },
-            Answer::Standing {
-                name: name2,
-                at: at2,
-                next: next2,
-            },
-        ) => name.same(name2) && at.same(at2) && next == next2,
-        (
-            Answer::Misplaced { name, at, next },
-            Answer::Misplaced {
-                name: name2,
-                at: at2,
-                next: next2,
-            },
-        ) => name.same(name2) && at.same(at2) && next == next2,
-        _ => false,
+fn refused(refusal: Refusal) -> Said {
+    Said::of(Kind::Refused(refusal))
+}
+
+/// The digest that a text is, if it is one and that of the content.
+fn verified(digest: &[u8], content: &[u8]) -> Result<BlobDigest, Refusal> {
+    let Some(digest) = BlobDigest::read(digest) else {
+        return Err(Refusal::NoDigest);
+    };
+    if BlobDigest::of(digest.algorithm(), content).same(&digest) {
+        Ok(digest)
+    } else {
+        Err(Refusal::Mismatch)
     }
-}
-
-fn same_bytes(one: &Option<BlobBytes>, other: &Option<BlobBytes>) -> bool {
-    match (one, other) {
-        (None, None) => true,
-        (Some(one), Some(other)) => same_content(one, other),
-        _ => false,
-    }
-}
-
-fn same_content(one: &BlobBytes, other: &BlobBytes) -> bool {
-    let mine = one.parts().iter().flat_map(|part| part.as_slice());
-    let theirs = other.parts().iter().flat_map(|part| part.as_slice());
-    mine.eq(theirs)
-}
-
-/// The bytes of a body that came in one piece.
-fn slice_of(body: &Body) -> &[u8] {
-    body.pieces().last.as_slice()
 }

@@ -2,9 +2,8 @@
 
 ghost use Rattle.upload_service.specs.Machine.{AreLawful};
 
-use crate::asks::{At, Line, Place, Told, Word, row, then, under};
+use crate::asks::{At, Line, Place, Told, Unmade, Word, row, then, under};
 use crate::serving::{ABC, ABC_512, NOTHING, limits, serve};
-use std::test::Fail;
 use upload_service::{Form, Limits, Refusal};
 
 const U1: At = At(1, 0);
@@ -18,7 +17,7 @@ fn usual() -> Limits
 }
 
 #[test]
-fn chunks_are_taken_in_order_and_closed(rt: HostRuntime) -> Result<(), Fail> {
+fn chunks_are_taken_in_order_and_closed(rt: HostRuntime) -> Result<(), Unmade> {
     static LINES: [Line; 17] = [
         row!(Word::Open, Told::Begun(1)),
         row!(Word::Status(U1), Told::Standing(U1, 0)),
@@ -57,7 +56,7 @@ fn chunks_are_taken_in_order_and_closed(rt: HostRuntime) -> Result<(), Fail> {
 }
 
 #[test]
-fn misplaced_and_wrong_ranges_change_nothing(rt: HostRuntime) -> Result<(), Fail> {
+fn misplaced_and_wrong_ranges_change_nothing(rt: HostRuntime) -> Result<(), Unmade> {
     static LINES: [Line; 13] = [
         row!(Word::Open, Told::Begun(1)),
         row!(
@@ -108,7 +107,7 @@ fn misplaced_and_wrong_ranges_change_nothing(rt: HostRuntime) -> Result<(), Fail
 }
 
 #[test]
-fn refused_closes_change_nothing(rt: HostRuntime) -> Result<(), Fail> {
+fn refused_closes_change_nothing(rt: HostRuntime) -> Result<(), Unmade> {
     static LINES: [Line; 11] = [
         row!(Word::Open, Told::Begun(1)),
         row!(
@@ -144,7 +143,7 @@ fn refused_closes_change_nothing(rt: HostRuntime) -> Result<(), Fail> {
 }
 
 #[test]
-fn a_blob_in_one_request(rt: HostRuntime) -> Result<(), Fail> {
+fn a_blob_in_one_request(rt: HostRuntime) -> Result<(), Unmade> {
     static LINES: [Line; 13] = [
         row!(Word::Single(NOTHING, b""), Told::Stored(NOTHING)),
         row!(Word::Single(ABC, b"abd"), Told::Refused(Refusal::Mismatch)),
@@ -173,7 +172,7 @@ fn a_blob_in_one_request(rt: HostRuntime) -> Result<(), Fail> {
 }
 
 #[test]
-fn references_are_compared_by_value(rt: HostRuntime) -> Result<(), Fail> {
+fn references_are_compared_by_value(rt: HostRuntime) -> Result<(), Unmade> {
     const OTHER_SECRET: Word = Word::Chunk(At(1, 1), Place::Absent, b"a");
     static FROM_ONE: [Line; 5] = [
         row!(Word::Open, Told::Begun(1)),
@@ -204,7 +203,7 @@ fn references_are_compared_by_value(rt: HostRuntime) -> Result<(), Fail> {
 }
 
 #[test]
-fn sessions_are_interleaved(rt: HostRuntime) -> Result<(), Fail> {
+fn sessions_are_interleaved(rt: HostRuntime) -> Result<(), Unmade> {
     static LINES: [Line; 10] = [
         row!(Word::Open, Told::Begun(1)),
         under!(b"lib/b", Word::Open, Told::Begun(2)),
@@ -236,7 +235,7 @@ fn sessions_are_interleaved(rt: HostRuntime) -> Result<(), Fail> {
 }
 
 #[test]
-fn a_digest_is_checked_by_its_own_algorithm(rt: HostRuntime) -> Result<(), Fail> {
+fn a_digest_is_checked_by_its_own_algorithm(rt: HostRuntime) -> Result<(), Unmade> {
     const DIGITS_OF_THE_OTHER: &[u8] =
         b"sha512:ba7816bf8f01cfea414140de5dae2223b00361a396177a9cb410ff61f20015ad";
     static LINES: [Line; 6] = [
@@ -260,7 +259,7 @@ fn a_digest_is_checked_by_its_own_algorithm(rt: HostRuntime) -> Result<(), Fail>
 }
 
 #[test]
-fn idle_sessions_lapse_and_leave_a_full_table(rt: HostRuntime) -> Result<(), Fail> {
+fn idle_sessions_lapse_and_leave_a_full_table(rt: HostRuntime) -> Result<(), Unmade> {
     const NO_UPLOAD: Told = Told::Refused(Refusal::NoUpload);
     const TOO_MANY: Told = Told::Refused(Refusal::TooMany);
     static LINES: [Line; 11] = [
@@ -289,7 +288,7 @@ fn idle_sessions_lapse_and_leave_a_full_table(rt: HostRuntime) -> Result<(), Fai
 
 // The answers are looked at when their service is gone.
 #[test]
-fn a_blob_that_was_handed_out_outlives_its_replacement(rt: HostRuntime) -> Result<(), Fail> {
+fn a_blob_that_was_handed_out_outlives_its_replacement(rt: HostRuntime) -> Result<(), Unmade> {
     static LINES: [Line; 7] = [
         row!(Word::Single(ABC, b"abc"), Told::Stored(ABC)),
         row!(Word::Get(ABC), Told::Bytes(b"abc")),

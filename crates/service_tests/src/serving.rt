@@ -4,13 +4,13 @@ ghost use Rattle.std.specs.Prelude.{◌≡◌, ◌≤◌, ◌^◌};
 ghost use Rattle.upload_service.specs.Machine.{AreLawful};
 
 use crate::asks::{
-    self, At, HASHES, Hashed, Line, Place, Told, Unmade, Word, ask_of, is_told, row,
+    self, At, HASHES, Hashed, Line, Place, Said, Told, Unmade, Word, ask_of, is_named, is_told,
+    row, said_of,
 };
-use crate::model::{Model, alike};
+use crate::model::Model;
 use std::alloc::{AllocError, Global};
 use std::process::Abort;
-use std::test::Fail;
-use upload_names::{BlobDigest, RepoName};
+use upload_names::BlobDigest;
 use upload_service::{Answer, Ask, Limits, Service};
 
 /// The digest of `abc` by SHA-256 (FIPS 180-4, first example).
@@ -54,7 +54,7 @@ pub fn jobs_of(alloc: Global, hashed: Hashed, lines: &[Line]) -> Result<Vec<Job>
     Ok(jobs)
 }
 
-fn add(jobs: &mut Vec<Job>, ask: Ask, now: u64) -> Result<(), AllocError> {
+pub fn add(jobs: &mut Vec<Job>, ask: Ask, now: u64) -> Result<(), AllocError> {
     jobs.push((ask, [0; 12], now))?;
     Ok(())
 }
@@ -87,46 +87,57 @@ pub fn serve(
     limits: Limits,
     issued: u32,
     lines: &[Line],
-) -> Result<(), Fail>
+) -> Result<(), Unmade>
     requires { AreLawful limits }
 {
     for hashed in HASHES.iter() {
-        let answers = answers_to(alloc, limits, issued, *hashed, lines)?;
-        assert!(rt; answers.len() == lines.len());
-        let mut model = Model::after(alloc, limits, issued);
-        judge(rt, alloc, &mut model, answers.as_slice(), lines)?;
+        serve_hashed(rt, alloc, limits, issued, *hashed, lines)?;
     }
     Ok(())
 }
 
-/// Ends a test whose lines are answered otherwise than they say, or than the model says.
-fn judge(
+fn serve_hashed(
     rt: &impl Abort,
     alloc: Global,
+    limits: Limits,
+    issued: u32,
+    hashed: Hashed,
+    lines: &[Line],
+) -> Result<(), Unmade>
+    requires { AreLawful limits }
+{
+    let answers = answers_to(alloc, limits, issued, hashed, lines)?;
+    judge(rt, answers.as_slice(), lines);
+    let mut model = Model::after(alloc, limits, issued);
+    Ok(judge_by_model(rt, &mut model, answers.as_slice(), lines)?)
+}
+
+/// Ends a test whose lines are answered otherwise than they say.
+fn judge(rt: &impl Abort, answers: &[Answer], lines: &[Line]) {
+    check(rt, answers.len() == lines.len(), 0, "how many answers");
+    for (i, (answer, line)) in answers.iter().zip(lines.iter()).enumerate() {
+        check(rt, is_told(answer, *line), i, "the answer");
+    }
+}
+
+/// Ends a test whose lines are answered otherwise than the model says.
+pub fn judge_by_model(
+    rt: &impl Abort,
     model: &mut Model,
     answers: &[Answer],
     lines: &[Line],
-) -> Result<(), Unmade> {
+) -> Result<(), AllocError> {
     for (i, (answer, line)) in answers.iter().zip(lines.iter()).enumerate() {
-        check(rt, is_told(answer, *line), i, "the answer");
-        let is_same = is_by_model(model, alloc, answer, *line)?;
+        let said = model.step(*line)?;
+        let is_same = is_said(model, answer, *line, said);
         check(rt, is_same, i, "the model's answer");
     }
     Ok(())
 }
 
-fn is_by_model(
-    model: &mut Model,
-    alloc: Global,
-    answer: &Answer,
-    line: Line,
-) -> Result<bool, Unmade> {
-    let wanted = model_answer(model, ask_of(alloc, None, line)?, line.now)?;
-    Ok(alike(answer, &wanted))
-}
-
-fn model_answer(model: &mut Model, ask: Ask, now: u64) -> Result<Answer, AllocError> {
-    model.step(&ask, [0; 12], now)
+/// Whether an answer to a line is the one that the model gave.
+pub fn is_said(model: &Model, answer: &Answer, line: Line, said: Said) -> bool {
+    said_of(answer) == said && is_named(answer, line.name) && model.has_bytes_of(answer)
 }
 
 const LARGE: u64 = 1 << 40;
@@ -181,34 +192,37 @@ static OFFSETS: [(Line, Option<u64>, bool); 3] = [
     ),
 ];
 
-/// Whether the first upload has received so many bytes, and `lib/a` has the blob `abc` or not.
-fn is_seen(service: &Service, name: &RepoName, received: Option<u64>, held: bool) -> bool {
-    let abc = BlobDigest::of_sha256(b"abc");
-    service.next_of(&asks::reference(At(1, 0))) == received && service.holds(name, &abc) == held
+/// Whether a request is answered as its line says.
+fn is_answered(alloc: Global, service: &mut Service, line: Line) -> Result<bool, Unmade> {
+    let ask = ask_of(alloc, None, line)?;
+    Ok(is_told(&service.step(ask, [0; 12], 0), line))
 }
 
-fn check_offsets(
-    rt: &impl Abort,
+/// Whether the first upload has received so many bytes, and `lib/a` has the blob `abc` or not.
+fn is_seen(
     alloc: Global,
-    service: &mut Service,
-    name: &RepoName,
-) -> Result<(), Unmade> {
+    service: &Service,
+    received: Option<u64>,
+    held: bool,
+) -> Result<bool, Unmade> {
+    let name = asks::name(alloc, b"lib/a")?;
+    let is_held = service.holds(&name, &BlobDigest::of_sha256(b"abc"));
+    Ok(service.next_of(&asks::reference(At(1, 0))) == received && is_held == held)
+}
+
+fn check_offsets(rt: &impl Abort, alloc: Global, service: &mut Service) -> Result<(), Unmade> {
     for (i, (line, received, held)) in OFFSETS.iter().enumerate() {
-        let ask = ask_of(alloc, None, *line)?;
-        let answer = service.step(ask, [0; 12], 0);
-        check(rt, is_told(&answer, *line), i, "the answer");
-        let is_seen = is_seen(service, name, *received, *held);
+        let is_answered = is_answered(alloc, service, *line)?;
+        check(rt, is_answered, i, "the answer");
+        let is_seen = is_seen(alloc, service, *received, *held)?;
         check(rt, is_seen, i, "the offset and the pair");
     }
+    check(rt, service.limits().max_open == 10, 3, "the limits");
     Ok(())
 }
 
 #[test]
-fn offsets_and_pairs_are_told(rt: HostRuntime) -> Result<(), Fail> {
-    let alloc = rt.alloc();
-    let name = asks::name(alloc, b"lib/a")?;
-    let mut service = Service::new(alloc, limits(1_000, 10, 3_600));
-    check_offsets(&rt, alloc, &mut service, &name)?;
-    assert!(rt; service.limits().max_open == 10);
-    Ok(())
+fn offsets_and_pairs_are_told(rt: HostRuntime) -> Result<(), Unmade> {
+    let mut service = Service::new(rt.alloc(), limits(1_000, 10, 3_600));
+    check_offsets(&rt, rt.alloc(), &mut service)
 }
