@@ -237,7 +237,7 @@ def logging_server(count):
 def methods_logged(server):
     """Those of the requests that the server had."""
     server.end()
-    return collections.Counter(line.split(" ")[0] for line in server.process.stderr.read().splitlines())
+    return collections.Counter(line.split(" ")[1] for line in server.process.stderr.read().splitlines())
 
 
 @case()

@@ -106,7 +106,7 @@ IMAGE_CLIENTS = {"skopeo": by_skopeo, "podman": by_a_store_of("podman"), "builda
 def stored_blobs(log, name, count):
     """The digests of the blobs that a server's log says were stored in a repository, once there are so many: a line
     comes behind its reply."""
-    wanted = re.compile(rf"^PUT /v2/{name}/blobs/uploads/\S+[?&]digest=(\S+) 201 ", re.MULTILINE)
+    wanted = re.compile(rf"^\S+ PUT /v2/{name}/blobs/uploads/\S+[?&]digest=(\S+) 201 ", re.MULTILINE)
 
     def told():
         with open(log, encoding="utf-8") as file:
