@@ -1,0 +1,347 @@
+-- What a crash leaves in each step of a commit.
+use Rattle.std.proofs.Common.{◌≡◌, ◌≢◌, ◌⊎◌, inl, inr, ℕ, zero, suc, ◌+◌, ◌-◌, ◌<◌, ◌≤◌, ◌^◌, max, List, [], ◌∷◌}
+use Rattle.std.proofs.Common.{◌++◌, length, take, drop, get_or, slice_index, Some, None, refl, sym, ◌∙◌, ap, subst}
+use Rattle.std.proofs.Common.{arith, append_assoc, length-append, length-take, length-drop, take-append-drop}
+use Rattle.std.proofs.Common.{get_or-drop, get_or-take}
+use Rattle.std.proofs.lemmas.Bool.{cases_eq}
+use Rattle.std.proofs.lemmas.List.{take_at, drop_at, append-nil, nil_from_length, drop-drop, drop-take}
+use Rattle.std.proofs.Math.Seq.{take-add}
+use Rattle.sqlite_disk.specs.Disk.{Holds, Torn, Follows}
+use Rattle.journal.specs.Format.{Kept, sector, whole, number_of, number_bytes, head, number_in, time_in, length_in}
+use Rattle.journal.specs.Format.{span, records, behind, next, batches, stored, Lie, Rests, IsBeforeOrAfter}
+use Rattle.journal.specs.Gate.{IsStaged}
+use Rattle.journal.proofs.Reading.{length-number_bytes, number_of-number_bytes}
+use Rattle.journal.proofs.Listing.{is_whole, there, behind_there, next_open, next_shut, batches_none, lie_more}
+use Rattle.journal.proofs.Places.{same_front, same_back, held, take_within}
+use Rattle.journal.proofs.Tears.{holds_still}
+
+-- the first line, and then what stands behind it
+pub behind_line : (line body rest file : List ℕ) (end : ℕ) → length line ≡ sector → take end file ≡ line ++ body →
+    drop sector file ≡ body ++ drop end file
+behind_line line body rest file end long front =
+    ap (λ (l : List ℕ). drop sector l) (sym (take-append-drop end file) ∙ ap (λ (l : List ℕ). l ++ drop end file)
+    front ∙ append_assoc line body (drop end file))
+    ∙ drop_at line (body ++ drop end file) sector long
+
+pub first_at_end : (file : List ℕ) (end : ℕ) → slice_index (drop end file) 0 ≡ slice_index file end
+first_at_end file end =
+    let same : end + 0 ≡ end = omega arith in get_or-drop end file 0 0 ∙ ap (λ (n : ℕ). slice_index file n) same
+
+-- a file at rest by its parts, and from them
+pub record Parts (line : List ℕ) (all : List Kept) (end : ℕ) (file : List ℕ) : Type 0 where
+  pub body : List ℕ
+  pub front : take end file ≡ line ++ body
+  pub line_long : length line ≡ sector
+  pub lie : Lie 0 body all
+
+pub parts : (line : List ℕ) (all : List Kept) (end len : ℕ) (file : List ℕ) → Rests line all end len file → Parts line
+    all end file
+parts line all end len file rests = record {
+  body = drop sector (take end file);
+  front =
+      sym (take-append-drop sector (take end file)) ∙ ap (λ (l : List ℕ). l ++ drop sector (take end file))
+      (take_within file 0 sector end rests.begins ∙ rests.front);
+  line_long =
+      ap length (sym rests.front) ∙ (let e : length (take sector file) ≡ sector = omega
+      (arith, length-take sector file, rests.begins, rests.within, rests.there) in e);
+  lie = rests.lie;
+}
+
+pub rests_of : (line : List ℕ) (all : List Kept) (end len : ℕ) (file : List ℕ) → Parts line all end file → end < len →
+    len ≤ length file → slice_index file end ≢ 1 → Rests line all end len file
+rests_of line all end len file p within there shut =
+    let begins : sector ≤ end = omega (
+      arith,
+      ap length p.front,
+      p.line_long,
+      length-append line p.body,
+      length-take
+          end file,
+    ) in
+    let body_is : drop sector (take end file) ≡ p.body = ap (λ (l : List ℕ). drop sector l) p.front ∙ drop_at line
+    p.body sector p.line_long in
+    record {
+      front =
+          sym (take_within file 0 sector end begins) ∙ ap (λ (l : List ℕ). take sector l) p.front ∙ take_at line
+          p.body sector p.line_long;
+      begins = begins;
+      lie = subst (λ (b : List ℕ). Lie 0 b all) (sym body_is) p.lie;
+      within = within;
+      there = there;
+      shut = shut;
+    }
+
+pub stored_rests : (line : List ℕ) (all : List Kept) (end len : ℕ) (file : List ℕ) → Rests line all end len file →
+    stored file ≡ all
+stored_rests line all end len file rests =
+    let p = parts line all end len file rests in
+    let none : next (0 + length all) (drop end file) ≡ None = next_shut (0 + length all) (drop end file)
+    (λ is. rests.shut (sym (first_at_end file end) ∙ is)) in
+    ap (batches 0) (behind_line line p.body [] file end p.line_long p.front) ∙ p.lie (drop end file)
+    ∙ ap (λ (l : List Kept). all ++ l) (batches_none (0 + length all) (drop end file) none) ∙ append-nil all
+
+pub zero_shuts : (file : List ℕ) (gate : ℕ) → slice_index file gate ≡ 0 → slice_index file gate ≢ 1
+zero_shuts file gate none is = let never : 0 ≡ 1 = sym none ∙ is in absurd (omega (arith, never))
+
+pub first_held : (file : List ℕ) (at : ℕ) (bytes : List ℕ) → Holds file at bytes → 0 < length bytes → slice_index file
+    at ≡ slice_index bytes 0
+first_held file at bytes holds some =
+    let here : at + 0 ≡ at = omega arith in ap (λ (n : ℕ). slice_index file n) (sym here) ∙ holds.each 0 some
+
+-- a write behind the gate leaves what the file stands for
+pub still_rests : (line : List ℕ) (all : List Kept) (end len at n : ℕ) (old new : List ℕ) → end < at → Torn at n old
+    new → Rests line all end len old → Rests line all end len new
+still_rests line all end len at n old new past torn rests =
+    let p = parts line all end len old rests in
+    rests_of line all end len new (record {
+      body = p.body;
+      front = same_front at n old new torn end (omega arith) (omega (arith, rests.within, rests.there)) ∙ p.front;
+      line_long = p.line_long;
+      lie = p.lie;
+    }) rests.within (omega (arith, rests.there, torn.no_shorter))
+    (λ is. rests.shut (sym (torn.below end (omega (arith, rests.within, rests.there)) past) ∙ is))
+
+pub all_rest : (line : List ℕ) (all : List Kept) (end len at n : ℕ) (old new : List ℕ → Type 0) → end < at → Follows
+    (Torn at n) old new
+    → ((c : List ℕ) → old c → Rests line all end len c) → (c : List ℕ) → new c → Rests line all end len c
+all_rest line all end len at n old new past follows each c left =
+    let from = follows c left in
+    still_rests line all end len at n from.0 c past from.2 (each from.0 from.1)
+
+-- the head and the records of a batch, and whatever fills their last sector
+module _ (number time : ℕ) (bytes pad : List ℕ) (number_fits : number < 2 ^ 64) (time_fits : time < 2 ^ 64)
+    (long : length bytes < 2 ^ 64) where
+  abbrev it : List ℕ
+  it = (head number time (length bytes) ++ bytes) ++ pad
+
+  abbrev behind_head : List ℕ
+  behind_head = bytes ++ pad
+
+  eight : (n : ℕ) → length (number_bytes n) ≡ 8
+  eight = length-number_bytes
+
+  split : it ≡ number_bytes number ++ (number_bytes time ++ (number_bytes (length bytes) ++ behind_head))
+  split =
+      append_assoc (head number time (length bytes)) bytes pad ∙ append_assoc (number_bytes number)
+      (number_bytes time ++ number_bytes (length bytes)) behind_head
+      ∙ ap (λ (l : List ℕ). number_bytes number ++ l)
+      (append_assoc (number_bytes time) (number_bytes (length bytes)) behind_head)
+
+  number_is : number_in it ≡ number
+  number_is =
+      ap (λ (l : List ℕ). number_of (take 8 l)) split
+      ∙ ap number_of (take_at (number_bytes number)
+      (number_bytes time ++ (number_bytes (length bytes) ++ behind_head)) 8 (eight number)) ∙
+      number_of-number_bytes number number_fits
+
+  behind_number : drop 8 it ≡ number_bytes time ++ (number_bytes (length bytes) ++ behind_head)
+  behind_number =
+      ap (λ (l : List ℕ). drop 8 l) split ∙ drop_at (number_bytes number)
+      (number_bytes time ++ (number_bytes (length bytes) ++ behind_head)) 8 (eight number)
+
+  time_is : time_in it ≡ time
+  time_is =
+      ap (λ (l : List ℕ). number_of (take 8 l)) behind_number
+      ∙ ap number_of (take_at (number_bytes time) (number_bytes (length bytes) ++ behind_head) 8 (eight time)) ∙
+      number_of-number_bytes time time_fits
+
+  behind_time : drop 16 it ≡ number_bytes (length bytes) ++ behind_head
+  behind_time =
+      sym (drop-drop 8 8 it) ∙ ap (λ (l : List ℕ). drop 8 l) behind_number ∙ drop_at (number_bytes time)
+      (number_bytes (length bytes) ++ behind_head) 8 (eight time)
+
+  length_is : length_in it ≡ length bytes
+  length_is =
+      ap (λ (l : List ℕ). number_of (take 8 l)) behind_time
+      ∙ ap number_of (take_at (number_bytes (length bytes)) behind_head 8 (eight (length bytes))) ∙
+      number_of-number_bytes (length bytes) long
+
+  behind_length : drop 24 it ≡ behind_head
+  behind_length =
+      sym (drop-drop 8 16 it) ∙ ap (λ (l : List ℕ). drop 8 l) behind_time ∙ drop_at (number_bytes (length bytes))
+      behind_head 8 (eight (length bytes))
+
+  body_is : take (length_in it) (drop 24 it) ≡ bytes
+  body_is = ap (λ (l : List ℕ). take (length_in it) l) behind_length ∙ take_at bytes pad (length_in it) (sym length_is)
+
+  pub behind_written : length it ≡ whole (24 + length bytes) → behind number it ≡ Some ((time, records bytes), [])
+  behind_written padded =
+      let span_is : span it ≡ whole (24 + length bytes) = ap (λ (n : ℕ). whole (24 + n)) length_is in
+      let nothing : drop (span it) it ≡ [] = nil_from_length (drop (span it) it)
+      (omega (arith, span_is, padded, length-drop (span it) it)) in
+      behind_there number it number_is (omega (arith, span_is, padded)) ∙
+      (λ i. Some ((time_is i, records (body_is i)), nothing i))
+
+-- a batch that was written behind a gate, and then a shut gate behind it
+module _ (gate number time : ℕ) (bytes first second : List ℕ) (number_fits : number < 2 ^ 64)
+    (time_fits : time < 2 ^ 64) (long : length bytes < 2 ^ 64) where
+  abbrev width : ℕ
+  width = whole (24 + length bytes)
+
+  abbrev after_it : ℕ
+  after_it = gate + sector + width
+
+  module _ (holds : Holds first (gate + sector) (head number time (length bytes) ++ bytes))
+      (torn : Torn after_it sector first second) (fits : after_it + sector ≤ length second)
+      (gate_shut : slice_index second after_it ≢ 1) where
+    abbrev text : List ℕ
+    text = head number time (length bytes) ++ bytes
+
+    text_long : length text ≡ 24 + length bytes
+    text_long =
+        omega (
+          arith,
+          length-append (head number time (length bytes)) bytes,
+          length-append (number_bytes number)
+              (number_bytes time ++ number_bytes (length bytes)),
+          length-append (number_bytes time)
+              (number_bytes (length bytes)),
+          length-number_bytes number,
+          length-number_bytes time,
+          length-number_bytes
+              (length bytes),
+        )
+
+    still : Holds second (gate + sector) text
+    still =
+        holds_still (gate + sector) after_it sector text first second
+        (let w = is_whole (24 + length bytes) in omega (arith, text_long, w.no_less)) torn holds
+
+    abbrev place : List ℕ
+    place = drop (gate + sector) second
+
+    abbrev fills : ℕ
+    fills = width - length text
+
+    region : take width place ≡ text ++ take fills (drop (length text) place)
+    region =
+        let w = is_whole (24 + length bytes) in
+        let sum : width ≡ length text + fills = omega (arith, text_long, w.no_less) in
+        ap (λ (n : ℕ). take n place) sum ∙ take-add (length text) fills place ∙ ap
+        (λ (l : List ℕ). l ++ take fills (drop (length text) place)) (held second (gate + sector) text still)
+
+    region_long : length (take width place) ≡ width
+    region_long = omega (arith, length-take width place, length-drop (gate + sector) second, fits)
+
+    pub staged : IsStaged gate after_it number (time, records bytes) second
+    staged = record {
+      is =
+          let n_is : after_it - (gate + sector) ≡ width = omega arith in
+          ap (λ (n : ℕ). behind number (take n place)) n_is ∙ ap (behind number) region
+          ∙ behind_written number time bytes (take fills (drop (length text) place)) number_fits time_fits long
+          (ap length (sym region) ∙ region_long);
+      after = let w = is_whole (24 + length bytes) in omega (arith, w.no_less);
+      within = fits;
+      shut = gate_shut;
+    }
+
+-- the gate of a batch that is in its place
+module _ (line : List ℕ) (old : List Kept) (gate len after_it : ℕ) (added : Kept) (file : List ℕ)
+    (rests : Rests line old gate len file) (stage : IsStaged gate after_it (length old) added file) (c : List ℕ)
+    (torn : Torn gate sector file c) where
+  length_same : length c ≡ length file
+  length_same = omega (arith, torn.no_shorter, torn.no_longer, stage.within, stage.after)
+
+  front_same : take gate c ≡ take gate file
+  front_same = same_front gate sector file c torn gate (omega arith) (omega (arith, rests.within, rests.there))
+
+  back_same : drop (gate + sector) c ≡ drop (gate + sector) file
+  back_same = same_back gate sector file c torn (omega (arith, stage.within, stage.after))
+
+  abbrev wide : ℕ
+  wide = after_it - gate
+
+  abbrev part : List ℕ
+  part = take wide (drop gate c)
+
+  part_behind : drop sector part ≡ take (after_it - (gate + sector)) (drop (gate + sector) file)
+  part_behind =
+      let sum : wide ≡ sector + (after_it - (gate + sector)) = omega (arith, stage.after) in
+      ap (λ (n : ℕ). drop sector (take n (drop gate c))) sum ∙ drop-take sector (after_it - (gate + sector))
+      (drop gate c)
+      ∙ ap (λ (l : List ℕ). take (after_it - (gate + sector)) l) (drop-drop sector gate c ∙ back_same)
+
+  -- an open gate adds the batch
+  pub if_open : slice_index c gate ≡ 1 → Rests line (old ++ added ∷ []) after_it (after_it + sector) c
+  if_open open_gate =
+      let sum : after_it ≡ gate + wide = omega (arith, stage.after) in
+      let part_long : length part ≡ wide = omega
+      (arith, length-take wide (drop gate c), length-drop gate c, length_same, stage.within, stage.after) in
+      let first_is : slice_index part 0 ≡ 1 = get_or-take wide (drop gate c) 0 0 (omega (arith, stage.after)) ∙
+      first_at_end c gate ∙ open_gate in
+      let found : next (length old) part ≡ Some (added, []) = next_open (length old) part first_is ∙ ap
+      (behind (length old)) part_behind ∙ stage.is in
+      let p = parts line old gate len file rests in
+      rests_of line (old ++ added ∷ []) after_it (after_it + sector) c (record {
+        body = p.body ++ part;
+        front =
+            ap (λ (n : ℕ). take n c) sum ∙ take-add gate wide c ∙ ap (λ (l : List ℕ). l ++ part)
+            (front_same ∙ p.front) ∙ append_assoc line p.body part;
+        line_long = p.line_long;
+        lie =
+            lie_more 0 p.body part old added p.lie
+            (let e : length old ≡ 0 + length old = omega arith in subst (λ (n : ℕ). next n part ≡ Some (added, [])) e
+            found);
+      }) (omega arith) (omega (arith, length_same, stage.within))
+      (λ it. stage.shut (sym (torn.above after_it (omega (arith, stage.within)) (omega (arith, stage.after))) ∙
+      it))
+
+  -- any other gate adds nothing
+  pub if_shut : slice_index c gate ≢ 1 → Rests line old gate len c
+  if_shut shut =
+      let p = parts line old gate len file rests in
+      rests_of line old gate len c (record {
+        body = p.body;
+        front = front_same ∙ p.front;
+        line_long = p.line_long;
+        lie
+            = p.lie;
+      })
+      rests.within (omega (arith, length_same, rests.there)) shut
+
+  pub before_or_after : IsBeforeOrAfter old added c
+  before_or_after = elim (cases_eq (slice_index c gate) 1) [
+    | inl open_gate ↦ inr (stored_rests line (old ++ added ∷ []) after_it (after_it + sector) c (if_open open_gate))
+    | inr shut ↦ inl (stored_rests line old gate len c (if_shut shut))
+  ]
+
+pub rests_longer : (line : List ℕ) (all : List Kept) (end len len2 : ℕ) (file : List ℕ) → Rests line all end len file
+    → end < len2 → len2 ≤ length file → Rests line all end len2 file
+rests_longer line all end len len2 file rests within there =
+    record {
+      front = rests.front;
+      begins = rests.begins;
+      lie = rests.lie;
+      within = within;
+      there = there;
+      shut =
+          rests.shut;
+    }
+
+-- a whole commit: from a batch that lies behind its gate to what the write of the gate left
+module _ (line : List ℕ) (old : List Kept) (end len count time : ℕ) (bytes items staged_file now : List ℕ)
+    (rests : Rests line old end len staged_file)
+    (stage : IsStaged end (end + sector + whole (24 + length bytes)) count (time, records bytes) staged_file)
+    (count_is : count ≡ length old) (same : bytes ≡ items)
+    (torn : Torn end sector staged_file now) where
+  stage_here : IsStaged end (end + sector + whole (24 + length bytes)) (length old) (time, records items) staged_file
+  stage_here =
+      subst (λ (n : ℕ). IsStaged end (end + sector + whole (24 + length bytes)) n (time, records items) staged_file)
+      count_is
+      (subst (λ (l : List ℕ). IsStaged end (end + sector + whole (24 + length bytes)) count (time, records l)
+      staged_file) same stage)
+
+  pub either : IsBeforeOrAfter old (time, records items) now
+  either =
+      before_or_after line old end len (end + sector + whole (24 + length bytes)) (time, records items) staged_file
+      rests stage_here now torn
+
+  pub committed : slice_index now end ≡ 1 → (behind_it len2 : ℕ) → behind_it ≡ end + sector + whole
+      (24 + length bytes) → len2 ≡ max len (behind_it + sector)
+      → Rests line (old ++ (time, records items) ∷ []) behind_it len2 now
+  committed open_gate behind_it len2 place longer =
+      let done = if_open line old end len (end + sector + whole (24 + length bytes)) (time, records items) staged_file
+      rests stage_here now torn open_gate in
+      rests_longer line (old ++ (time, records items) ∷ []) behind_it (behind_it + sector) len2 now
+      (subst (λ (n : ℕ). Rests line (old ++ (time, records items) ∷ []) n (n + sector) now) (sym place) done)
+      (omega (arith, longer)) (omega (arith, longer, place, rests.there, stage.within, torn.no_shorter))

@@ -1,0 +1,9 @@
+pub mod Places
+pub mod Reading
+pub mod Batches
+pub mod Listing
+pub mod Tears
+pub mod Commit
+pub mod Scan
+pub mod Ending
+pub mod Causes

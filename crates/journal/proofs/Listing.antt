@@ -1,0 +1,273 @@
+-- What batches stand for that lie one behind the other.
+use Rattle.std.proofs.Common.{◌≡◌, ◌≢◌, ◌⊎◌, inl, inr, ℕ, zero, suc, ◌+◌, ◌*◌, ◌/◌, ◌%◌, ◌<◌, ◌≤◌, ◌^◌, Bool, true}
+use Rattle.std.proofs.Common.{false, cond, ◌&&◌, nat_le, eqb, List, [], ◌∷◌, ◌++◌, length, take, drop, get_or}
+use Rattle.std.proofs.Common.{slice_index, Some, None, refl, sym, ◌∙◌, ap, subst, arith, append_assoc, length-append}
+use Rattle.std.proofs.Common.{length-take, length-drop, get_or-take}
+use Rattle.std.proofs.lemmas.List.{take_at, drop_at, take-append-le, drop-append-le, append-nil, get_or_append_left}
+use Rattle.std.proofs.lemmas.List.{nil_from_length, drop-take}
+use Rattle.std.proofs.lemmas.Bool.{cases_Bool, le-leb, eq-eqb, eqb-true, lt-leb, cases_eq, cases_lt}
+use Rattle.std.proofs.lemmas.Bool.Decides.{nat_tests}
+use Rattle.journal.specs.Format.{Kept, sector, whole, number_of, number_bytes, head, number_in, time_in, length_in}
+use Rattle.journal.specs.Format.{span, records, behind, next, with_more, batches_within, batches, Lie}
+use Rattle.journal.proofs.Places.{take_within}
+use Rattle.journal.proofs.Reading.{length-number_bytes, number_of-number_bytes}
+
+pub record IsWhole (n : ℕ) : Type 0 where
+  pub no_less : n ≤ whole n
+  pub no_more : whole n < n + 4096
+  pub even : whole n % 4096 ≡ 0
+
+pub is_whole : (n : ℕ) → IsWhole n
+unfolding whole
+is_whole n = record { no_less = omega arith; no_more = omega arith; even = omega arith }
+
+-- a batch takes a sector at least
+pub span_some : (bytes : List ℕ) → 4096 ≤ span bytes
+span_some bytes = let w = is_whole (24 + length_in bytes) in omega (arith, w.no_less, w.even)
+
+-- what stands behind a gate, if all of it is there
+abbrev pub there : List ℕ → Kept × List ℕ
+there bytes = ((time_in bytes, records (take (length_in bytes) (drop 24 bytes))), drop (span bytes) bytes)
+
+pub behind_there : (number : ℕ) (bytes : List ℕ) → number_in bytes ≡ number → span bytes ≤ length bytes → behind
+    number bytes ≡ Some (there bytes)
+unfolding behind
+behind_there number bytes same fits =
+    ap (λ (b : Bool). cond (b && nat_le (span bytes) (length bytes)) (Some (there bytes)) None)
+    (eq-eqb (number_in bytes) number same)
+    ∙ ap (λ (b : Bool). cond b (Some (there bytes)) None) (le-leb (span bytes) (length bytes) fits)
+
+pub behind_other : (number : ℕ) (bytes : List ℕ) → number_in bytes ≢ number → behind number bytes ≡ None
+unfolding behind
+behind_other number bytes other =
+    elim (cases_Bool (eqb (number_in bytes) number)) [
+      | inl same ↦ absurd (other (eqb-true (number_in bytes) number same))
+      | inr not ↦ ap (λ (b : Bool). cond (b && nat_le (span bytes) (length bytes)) (Some (there bytes)) None) not
+    ]
+
+pub behind_short : (number : ℕ) (bytes : List ℕ) → length bytes < span bytes → behind number bytes ≡ None
+unfolding behind
+behind_short number bytes short =
+    elim (cases_Bool (eqb (number_in bytes) number)) [
+      | inl same ↦
+          ap (λ (b : Bool). cond (b && nat_le (span bytes) (length bytes)) (Some (there bytes)) None) same
+          ∙ ap (λ (b : Bool). cond b (Some (there bytes)) None) (lt-leb (span bytes) (length bytes) short)
+      | inr not ↦ ap (λ (b : Bool). cond (b && nat_le (span bytes) (length bytes)) (Some (there bytes)) None) not
+    ]
+
+-- a batch that is found, and why
+pub record IsThere (number : ℕ) (bytes : List ℕ) (found : Kept × List ℕ) : Type 0 where
+  pub number_is : number_in bytes ≡ number
+  pub fits : span bytes ≤ length bytes
+  pub is : there bytes ≡ found
+
+pub is_there : (number : ℕ) (bytes : List ℕ) (found : Kept × List ℕ) → behind number bytes ≡ Some found → IsThere
+    number bytes found
+is_there number bytes found is =
+    elim (cases_eq (number_in bytes) number) [
+      | inr other ↦ absurd (cc (sym (behind_other number bytes other) ∙ is))
+      | inl same ↦ elim (cases_lt (length bytes) (span bytes)) [
+        | inl short ↦ absurd (cc (sym (behind_short number bytes short) ∙ is))
+        | inr fits ↦ record {
+          number_is = same;
+          fits = fits;
+          is = let e : Some (there bytes) ≡ Some found = sym
+              (behind_there number bytes same fits) ∙ is in cc;
+        }
+      ]
+    ]
+
+-- what follows it doesn't matter
+pub behind_more : (number : ℕ) (p q : List ℕ) (found : Kept × List ℕ) → behind number p ≡ Some found → behind number
+    (p ++ q) ≡ Some (found.0, found.1 ++ q)
+behind_more number p q found is =
+    let it = is_there number p found is in
+    let some = span_some p in
+    let wide = is_whole (24 + length_in p) in
+    let long : 24 + length_in p ≤ length p = omega (arith, it.fits, wide.no_less) in
+    let number_same : number_in (p ++ q) ≡ number_in p = ap number_of (take-append-le 8 p q (omega arith)) in
+    let time_same : time_in (p ++ q) ≡ time_in p =
+    ap (λ (l : List ℕ). number_of (take 8 l)) (drop-append-le 8 p q (omega arith)) ∙ ap number_of
+    (take-append-le 8 (drop 8 p) q (omega (arith, length-drop 8 p))) in
+    let length_same : length_in (p ++ q) ≡ length_in p =
+    ap (λ (l : List ℕ). number_of (take 8 l)) (drop-append-le 16 p q (omega arith)) ∙ ap number_of
+    (take-append-le 8 (drop 16 p) q (omega (arith, length-drop 16 p))) in
+    let span_same : span (p ++ q) ≡ span p = ap (λ (n : ℕ). whole (24 + n)) length_same in
+    let body_same : take (length_in (p ++ q)) (drop 24 (p ++ q)) ≡ take (length_in p) (drop 24 p) =
+    ap (λ (n : ℕ). take n (drop 24 (p ++ q))) length_same ∙ ap (λ (l : List ℕ). take (length_in p) l)
+    (drop-append-le 24 p q (omega arith))
+    ∙ take-append-le (length_in p) (drop 24 p) q (omega (arith, length-drop 24 p)) in
+    let rest_same : drop (span (p ++ q)) (p ++ q) ≡ drop (span p) p ++ q =
+    ap (λ (n : ℕ). drop n (p ++ q)) span_same ∙ drop-append-le (span p) p q it.fits in
+    behind_there number (p ++ q) (number_same ∙ it.number_is) (omega (arith, span_same, it.fits, length-append p q))
+    ∙ (λ i. Some ((time_same i, records (body_same i)), rest_same i))
+    ∙ ap (λ (f : Kept × List ℕ). Some (f.0, f.1 ++ q)) it.is
+
+pub next_open : (number : ℕ) (bytes : List ℕ) → slice_index bytes 0 ≡ 1 → next number bytes ≡ behind number
+    (drop sector bytes)
+unfolding next
+next_open number bytes open_gate =
+    ap (λ (b : Bool). cond b (behind number (drop sector bytes)) None) (eq-eqb (slice_index bytes 0) 1 open_gate)
+
+pub next_shut : (number : ℕ) (bytes : List ℕ) → slice_index bytes 0 ≢ 1 → next number bytes ≡ None
+unfolding next
+next_shut number bytes shut = elim (cases_Bool (eqb (slice_index bytes 0) 1)) [
+  | inl open_gate ↦ absurd (shut (eqb-true (slice_index bytes 0) 1 open_gate))
+  | inr is_shut ↦ ap (λ (b : Bool). cond b (behind number (drop sector bytes)) None) is_shut
+]
+
+-- less than a gate and a sector behind it
+pub next_short : (number : ℕ) (bytes : List ℕ) → length bytes < sector + sector → next number bytes ≡ None
+next_short number bytes short = elim (cases_eq (slice_index bytes 0) 1) [
+  | inl open_gate ↦
+      next_open number bytes open_gate ∙ behind_short number (drop sector bytes)
+      (let some = span_some (drop sector bytes) in omega (arith, some, length-drop sector bytes))
+  | inr shut ↦ next_shut number bytes shut
+]
+
+pub next_nil : (number : ℕ) → next number [] ≡ None
+next_nil number = next_short number [] (omega arith)
+
+pub next_is : (number : ℕ) (bytes : List ℕ) (found : Kept × List ℕ) → next number bytes ≡ Some found →
+    (slice_index bytes 0 ≡ 1) × (behind number (drop sector bytes) ≡ Some found)
+next_is number bytes found is = elim (cases_eq (slice_index bytes 0) 1) [
+  | inl open_gate ↦ (open_gate, sym (next_open number bytes open_gate) ∙ is)
+  | inr shut ↦ absurd (cc (sym (next_shut number bytes shut) ∙ is))
+]
+
+pub next_less : (number : ℕ) (bytes : List ℕ) (found : Kept × List ℕ) → next number bytes ≡ Some found → length
+    found.1 + (sector + sector) ≤ length bytes
+next_less number bytes found is =
+    let it = is_there number (drop sector bytes) found (next_is number bytes found is).1 in
+    let some = span_some (drop sector bytes) in
+    let rest : drop (span (drop sector bytes)) (drop sector bytes) ≡ found.1 = ap (λ (f : Kept × List ℕ). f.1) it.is in
+    omega (
+      arith,
+      some,
+      it.fits,
+      ap length rest,
+      length-drop (span (drop sector bytes)) (drop sector bytes),
+      length-drop sector bytes,
+    )
+
+pub next_more : (number : ℕ) (p q : List ℕ) (found : Kept × List ℕ) → next number p ≡ Some found → next number
+    (p ++ q) ≡ Some (found.0, found.1 ++ q)
+next_more number p q found is =
+    let it = next_is number p found is in
+    let less = next_less number p found is in
+    next_open number (p ++ q) (get_or_append_left p q 0 0 (omega (arith, less)) ∙ it.0) ∙ ap (behind number)
+    (drop-append-le sector p q (omega (arith, less)))
+    ∙ behind_more number (drop sector p) q found it.1
+
+none_within : (n number : ℕ) (bytes : List ℕ) → next number bytes ≡ None → batches_within n number bytes ≡ []
+none_within zero number bytes none = refl
+none_within (suc n) number bytes none = ap (with_more (batches_within n (number + 1))) none
+
+some_within : (n number : ℕ) (bytes : List ℕ) (found : Kept × List ℕ) → next number bytes ≡ Some found →
+    batches_within (suc n) number bytes ≡ found.0 ∷ batches_within n (number + 1) found.1
+some_within n number bytes found is = ap (with_more (batches_within n (number + 1))) is
+
+cases_next : (number : ℕ) (bytes : List ℕ) → (next number bytes ≡ None) ⊎
+    ((found : Kept × List ℕ) × (next number bytes ≡ Some found))
+cases_next number bytes =
+    elim (next number bytes) as (λ r. (r ≡ None) ⊎ ((found : Kept × List ℕ) × (r ≡ Some found)))
+    [ None ↦ inl refl | Some found ↦ inr (found, refl) ]
+
+-- any number that is no less than the length is enough
+enough : (m n number : ℕ) (bytes : List ℕ) → length bytes ≤ m → length bytes ≤ n → batches_within m number bytes ≡
+    batches_within n number bytes
+enough zero n number [] m_is n_is = sym (none_within n number [] (next_nil number))
+enough zero n number (b ∷ bytes) m_is n_is = absurd (omega arith)
+enough (suc m) zero number [] m_is n_is = none_within (suc m) number [] (next_nil number)
+enough (suc m) zero number (b ∷ bytes) m_is n_is = absurd (omega arith)
+enough (suc m) (suc n) number bytes m_is n_is =
+    elim (cases_next number bytes) [
+      | inl none ↦ none_within (suc m) number bytes none ∙ sym (none_within (suc n) number bytes none)
+      | inr found ↦
+          let less = next_less number bytes found.0 found.1 in
+          some_within m number bytes found.0 found.1
+          ∙ ap (λ (ks : List Kept). found.0.0 ∷ ks)
+          (enough m n (number + 1) found.0.1 (omega (arith, less)) (omega (arith, less)))
+          ∙ sym (some_within n number bytes found.0 found.1)
+    ]
+
+pub batches_none : (number : ℕ) (bytes : List ℕ) → next number bytes ≡ None → batches number bytes ≡ []
+unfolding batches
+batches_none number bytes none = none_within (length bytes) number bytes none
+
+pub batches_some : (number : ℕ) (bytes : List ℕ) (found : Kept × List ℕ) → next number bytes ≡ Some found → batches
+    number bytes ≡ found.0 ∷ batches (number + 1) found.1
+unfolding batches
+batches_some number bytes found is =
+    let less = next_less number bytes found is in
+    enough (length bytes) (suc (length bytes)) number bytes (omega arith) (omega arith) ∙ some_within (length bytes)
+    number bytes found is
+    ∙ ap (λ (ks : List Kept). found.0 ∷ ks)
+    (enough (length bytes) (length found.1) (number + 1) found.1 (omega (arith, less)) (omega arith))
+
+-- one batch more at the end
+pub lie_more : (number : ℕ) (p q : List ℕ) (all : List Kept) (kept : Kept) → Lie number p all → next
+    (number + length all) q ≡ Some (kept, []) → Lie number (p ++ q) (all ++ kept ∷ [])
+lie_more number p q all kept lie is more =
+    let at = number + length all in
+    let on : number + length all + 1 ≡ number + length (all ++ kept ∷ []) = omega
+    (arith, length-append all (kept ∷ [])) in
+    ap (batches number) (append_assoc p q more) ∙ lie (q ++ more)
+    ∙ ap (λ (l : List Kept). all ++ l) (batches_some (number + length all) (q ++ more) (kept, more)
+    (next_more (number + length all) q more (kept, []) is))
+    ∙ sym (append_assoc all (kept ∷ []) (batches (number + length all + 1) more)) ∙ ap
+    (λ (n : ℕ). (all ++ kept ∷ []) ++ batches n more) on
+
+pub next_none : (number : ℕ) (bytes : List ℕ) → behind number (drop sector bytes) ≡ None → next number bytes ≡ None
+next_none number bytes none = elim (cases_eq (slice_index bytes 0) 1) [
+  | inl open_gate ↦ next_open number bytes open_gate ∙ none
+  | inr shut ↦ next_shut number bytes shut
+]
+
+-- the sectors of a batch alone
+pub behind_front : (number : ℕ) (bytes : List ℕ) (found : Kept × List ℕ) → behind number bytes ≡ Some found → behind
+    number (take (span bytes) bytes) ≡ Some (found.0, [])
+behind_front number bytes found is =
+    let it = is_there number bytes found is in
+    let some = span_some bytes in
+    let wide = is_whole (24 + length_in bytes) in
+    let part = take (span bytes) bytes in
+    let part_long : length (take (span bytes) bytes) ≡ span bytes = omega
+    (arith, length-take (span bytes) bytes, it.fits) in
+    let number_same : number_in part ≡ number_in bytes = ap number_of
+    (take_within bytes 0 8 (span bytes) (omega arith)) in
+    let time_same : time_in part ≡ time_in bytes = ap number_of (take_within bytes 8 8 (span bytes) (omega arith)) in
+    let length_same : length_in part ≡ length_in bytes = ap number_of
+    (take_within bytes 16 8 (span bytes) (omega arith)) in
+    let span_same : span part ≡ span bytes = ap (λ (n : ℕ). whole (24 + n)) length_same in
+    let body_same : take (length_in part) (drop 24 part) ≡ take (length_in bytes) (drop 24 bytes) =
+    ap (λ (n : ℕ). take n (drop 24 part)) length_same ∙ take_within bytes 24 (length_in bytes) (span bytes)
+    (omega (arith, wide.no_less)) in
+    let nothing : drop (span part) part ≡ [] = nil_from_length (drop (span part) part)
+    (omega (arith, part_long, span_same, length-drop (span part) part)) in
+    behind_there number part (number_same ∙ it.number_is) (omega (arith, span_same, part_long))
+    ∙ (λ i. Some ((time_same i, records (body_same i)), nothing i))
+    ∙ ap (λ (f : Kept × List ℕ). Some (f.0, [])) it.is
+
+pub next_front : (number : ℕ) (bytes : List ℕ) (found : Kept × List ℕ) → next number bytes ≡ Some found → (wide : ℕ) →
+    length bytes ≡ wide + length found.1
+    → next number (take wide bytes) ≡ Some (found.0, [])
+next_front number bytes found is wide sum =
+    let open_is = next_is number bytes found is in
+    let it = is_there number (drop sector bytes) found open_is.1 in
+    let some = span_some (drop sector bytes) in
+    let rest : drop (span (drop sector bytes)) (drop sector bytes) ≡ found.1 = ap (λ (f : Kept × List ℕ). f.1) it.is in
+    let wide_is : wide ≡ sector + span (drop sector bytes) =
+    omega (
+      arith,
+      sum,
+      it.fits,
+      some,
+      ap length rest,
+      length-drop (span (drop sector bytes)) (drop sector bytes),
+      length-drop sector bytes,
+    ) in
+    next_open number (take wide bytes) (get_or-take wide bytes 0 0 (omega arith) ∙ open_is.0)
+    ∙ ap (λ (n : ℕ). behind number (drop sector (take n bytes))) wide_is ∙ ap (behind number)
+    (drop-take sector (span (drop sector bytes)) bytes)
+    ∙ behind_front number (drop sector bytes) found open_is.1

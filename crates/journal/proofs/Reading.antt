@@ -1,0 +1,117 @@
+-- What blocks stand for.
+use Rattle.std.proofs.Common.{◌≡◌, ◌⊎◌, inl, inr, ℕ, zero, suc, ◌+◌, ◌<◌, ◌≤◌, ◌^◌, Bool, true, cond, nat_le, List}
+use Rattle.std.proofs.Common.{[], ◌∷◌, ◌++◌, length, take, drop, Some, None, refl, sym, ◌∙◌, ap, arith, append_assoc}
+use Rattle.std.proofs.Common.{length-append, length-drop}
+use Rattle.std.proofs.lemmas.List.{take_at, drop_at}
+use Rattle.std.proofs.lemmas.Bool.{cases_Bool, le-leb}
+use Rattle.std.proofs.lemmas.Bool.Decides.{nat_tests}
+use Rattle.std.proofs.lemmas.Nat.{from_be_bytes-to_be_bytes_8}
+use Rattle.std.proofs.lemmas.List.Elements.{All-tail, All-head}
+use Rattle.journal.specs.Format.{number_bytes, number_of, block, blocks, IsShort, AreShort, first, and_more}
+use Rattle.journal.specs.Format.{records_within, records}
+
+pub length-number_bytes : (n : ℕ) → length (number_bytes n) ≡ 8
+unfolding number_bytes
+length-number_bytes n = refl
+
+pub number_of-number_bytes : (n : ℕ) → n < 2 ^ 64 → number_of (number_bytes n) ≡ n
+unfolding number_bytes number_of
+number_of-number_bytes n fits = from_be_bytes-to_be_bytes_8 n fits
+
+-- one that is there leaves less
+pub first_less : (bytes : List ℕ) (found : List ℕ × List ℕ) → first bytes ≡ Some found → length found.1 < length bytes
+unfolding first
+first_less bytes found is =
+    let size = number_of (take 8 bytes) in
+    elim (cases_Bool (nat_le (8 + size) (length bytes))) [
+      | inl whole ↦
+          let there : Some (take size (drop 8 bytes), drop (8 + size) bytes) ≡ Some found =
+          sym (ap (λ (b : Bool). cond b (Some (take size (drop 8 bytes), drop (8 + size) bytes)) None) whole) ∙ is in
+          let rest : drop (8 + size) bytes ≡ found.1 = cc in
+          let long : 8 + size ≤ length bytes = grind (arith, nat_tests) in
+          omega (arith, ap length rest, length-drop (8 + size) bytes)
+      | inr part ↦ absurd (cc (sym (ap (λ (b : Bool). cond b (Some (take size (drop 8 bytes), drop (8 + size) bytes))
+          None) part) ∙ is))
+    ]
+
+pub first_short : (bytes : List ℕ) → length bytes < 8 + number_of (take 8 bytes) → first bytes ≡ None
+unfolding first
+first_short bytes short = grind (arith, nat_tests)
+
+pub first_nil : first [] ≡ None
+first_nil = first_short [] (omega arith)
+
+none_within : (n : ℕ) (bytes : List ℕ) → first bytes ≡ None → records_within n bytes ≡ []
+none_within zero bytes none = refl
+none_within (suc n) bytes none = ap (and_more (records_within n)) none
+
+some_within : (n : ℕ) (bytes : List ℕ) (found : List ℕ × List ℕ) → first bytes ≡ Some found → records_within (suc n)
+    bytes ≡ found.0 ∷ records_within n found.1
+some_within n bytes found is = ap (and_more (records_within n)) is
+
+cases_first : (bytes : List ℕ) → (first bytes ≡ None) ⊎ ((found : List ℕ × List ℕ) × (first bytes ≡ Some found))
+cases_first bytes =
+    elim (first bytes) as (λ r. (r ≡ None) ⊎ ((found : List ℕ × List ℕ) × (r ≡ Some found)))
+    [ None ↦ inl refl | Some found ↦ inr (found, refl) ]
+
+-- any number that is no less than the length is enough
+enough : (m n : ℕ) (bytes : List ℕ) → length bytes ≤ m → length bytes ≤ n → records_within m bytes ≡ records_within n
+    bytes
+enough zero n [] m_is n_is = sym (none_within n [] first_nil)
+enough zero n (b ∷ bytes) m_is n_is = absurd (omega arith)
+enough (suc m) zero [] m_is n_is = none_within (suc m) [] first_nil
+enough (suc m) zero (b ∷ bytes) m_is n_is = absurd (omega arith)
+enough (suc m) (suc n) bytes m_is n_is =
+    elim (cases_first bytes) [
+      | inl none ↦ none_within (suc m) bytes none ∙ sym (none_within (suc n) bytes none)
+      | inr found ↦
+          let less = first_less bytes found.0 found.1 in
+          some_within m bytes found.0 found.1
+          ∙ ap (λ (rs : List (List ℕ)). found.0.0 ∷ rs) (enough m n found.0.1 (omega arith) (omega arith))
+          ∙ sym (some_within n bytes found.0 found.1)
+    ]
+
+pub records_none : (bytes : List ℕ) → first bytes ≡ None → records bytes ≡ []
+unfolding records
+records_none bytes none = none_within (length bytes) bytes none
+
+pub records_some : (bytes : List ℕ) (found : List ℕ × List ℕ) → first bytes ≡ Some found → records bytes ≡ found.0 ∷
+    records found.1
+unfolding records
+records_some bytes found is =
+    let less = first_less bytes found is in
+    enough (length bytes) (suc (length bytes)) bytes (omega arith) (omega arith) ∙ some_within (length bytes) bytes
+    found is
+    ∙ ap (λ (rs : List (List ℕ)). found.0 ∷ rs)
+    (enough (length bytes) (length found.1) found.1 (omega arith) (omega arith))
+
+pub first_block : (bytes rest : List ℕ) → length bytes < 2 ^ 64 → first (block bytes ++ rest) ≡ Some (bytes, rest)
+unfolding first
+first_block bytes rest fits =
+    let head = number_bytes (length bytes) in
+    let all = (head ++ bytes) ++ rest in
+    let regroup : all ≡ head ++ (bytes ++ rest) = append_assoc head bytes rest in
+    let eight = length-number_bytes (length bytes) in
+    let size = number_of (take 8 all) in
+    let sized : size ≡ length bytes =
+    ap (λ (l : List ℕ). number_of (take 8 l)) regroup ∙ ap number_of (take_at head (bytes ++ rest) 8 eight) ∙
+    number_of-number_bytes (length bytes) fits in
+    let body : take size (drop 8 all) ≡ bytes =
+    ap (λ (l : List ℕ). take size (drop 8 l)) regroup ∙ ap (λ (l : List ℕ). take size l)
+    (drop_at head (bytes ++ rest) 8 eight) ∙ take_at bytes rest size (sym sized) in
+    let left : drop (8 + size) all ≡ rest = drop_at (head ++ bytes) rest (8 + size)
+    (omega (arith, length-append head bytes)) in
+    let whole : nat_le (8 + size) (length all) ≡ true = le-leb (8 + size) (length all)
+    (omega (arith, length-append (head ++ bytes) rest, length-append head bytes)) in
+    ap (λ (b : Bool). cond b (Some (take size (drop 8 all), drop (8 + size) all)) None) whole
+    ∙ (λ i. Some (body i, left i))
+
+-- blocks, and then whatever the rest stands for
+pub records-blocks : (recorded : List (List ℕ)) (rest : List ℕ) → AreShort recorded → records
+    (blocks recorded ++ rest) ≡ recorded ++ records rest
+records-blocks [] rest short = refl
+records-blocks (bytes ∷ recorded) rest short =
+    let is = first_block bytes (blocks recorded ++ rest) (All-head IsShort bytes recorded short) in
+    ap records (append_assoc (block bytes) (blocks recorded) rest)
+    ∙ records_some (block bytes ++ (blocks recorded ++ rest)) (bytes, blocks recorded ++ rest) is
+    ∙ ap (λ (rs : List (List ℕ)). bytes ∷ rs) (records-blocks recorded rest (All-tail IsShort bytes recorded short))

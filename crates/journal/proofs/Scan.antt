@@ -1,0 +1,224 @@
+-- What the bytes that were read say of the file.
+use Rattle.std.proofs.Common.{◌≡◌, ◌≢◌, ◌⊎◌, inl, inr, ℕ, ◌+◌, ◌-◌, ◌<◌, ◌≤◌, ◌^◌, Bool, true, cond, nat_le, List, []}
+use Rattle.std.proofs.Common.{◌∷◌, ◌++◌, length, take, drop, get_or, slice_index, Some, None, refl, sym, ◌∙◌, ap}
+use Rattle.std.proofs.Common.{subst, arith, append_assoc, length-append, length-drop, length-take, take-append-drop}
+use Rattle.std.proofs.Common.{get_or-take, get_or-drop}
+use Rattle.std.proofs.lemmas.List.{drop-drop, ext_get_or, append-nil, take_all}
+use Rattle.std.proofs.lemmas.Bool.{le-leb}
+use Rattle.sqlite_disk.specs.Disk.{Holds, Torn}
+use Rattle.journal.specs.Format.{Kept, sector, whole, number_of, number_in, time_in, length_in, span, records, first}
+use Rattle.journal.specs.Format.{behind, next, batches, stored, Lie}
+use Rattle.journal.specs.Reads.{EndsAt}
+use Rattle.std.proofs.Math.Seq.{take-add}
+use Rattle.journal.specs.Machine.{Runs, RunsRecords}
+use Rattle.journal.proofs.Reading.{first_short, records_some, records_none}
+use Rattle.journal.proofs.Places.{take_within}
+use Rattle.journal.proofs.Listing.{is_whole, there, behind_there, behind_other, behind_short, next_open, next_shut}
+use Rattle.journal.proofs.Listing.{next_none, next_short, batches_some, batches_none, lie_more, next_front}
+
+-- a part of the bytes that stand in a file
+pub part_held : (file : List ℕ) (at : ℕ) (bytes : List ℕ) (k n : ℕ) → Holds file at bytes → k + n ≤ length bytes →
+    take n (drop (at + k) file) ≡ take n (drop k bytes)
+part_held file at bytes k n holds fits =
+    let left_is : length (take n (drop (at + k) file)) ≡ n = omega
+    (arith, length-take n (drop (at + k) file), length-drop (at + k) file, holds.within) in
+    let right_is : length (take n (drop k bytes)) ≡ n = omega
+    (arith, length-take n (drop k bytes), length-drop k bytes) in
+    ext_get_or 0 (take n (drop (at + k) file)) (take n (drop k bytes)) (left_is ∙ sym right_is) (λ i low.
+    let below : i < n = omega (arith, left_is) in
+    let on : at + k + i ≡ at + (k + i) = omega arith in
+    get_or-take n (drop (at + k) file) i 0 below ∙ get_or-drop (at + k) file i 0 ∙ ap (λ (m : ℕ). get_or file m 0) on
+    ∙ holds.each (k + i) (omega arith)
+    ∙ sym (get_or-drop k bytes i 0) ∙ sym (get_or-take n (drop k bytes) i 0 below))
+
+pub first_found : (bytes body : List ℕ) (size : ℕ) → number_of (take 8 bytes) ≡ size → 8 + size ≤ length bytes → take
+    size (drop 8 bytes) ≡ body → first bytes ≡ Some (body, drop (8 + size) bytes)
+unfolding first
+first_found bytes body size is fits body_is =
+    let n_is : nat_le (8 + number_of (take 8 bytes)) (length bytes) ≡ true = le-leb (8 + number_of (take 8 bytes))
+    (length bytes) (omega (arith, is)) in
+    ap (λ (b : Bool). cond b (Some (
+      take (number_of (take 8 bytes)) (drop 8 bytes),
+      drop
+          (8 + number_of (take 8 bytes)) bytes,
+    )) None) n_is
+    ∙ ap (λ (n : ℕ). Some (take n (drop 8 bytes), drop (8 + n) bytes)) is ∙ ap
+    (λ (l : List ℕ). Some (l, drop (8 + size) bytes)) body_is
+
+-- the records of a batch that ends here
+module _ (file : List ℕ) (at end : ℕ) (fits : end ≤ length file) where
+  region_long : length (drop at (take end file)) ≡ end - at
+  region_long = omega (arith, length-drop at (take end file), length-take end file)
+
+  pub none_tiny : end - at < 8 → first (drop at (take end file)) ≡ None
+  none_tiny tiny = first_short (drop at (take end file)) (omega (arith, region_long))
+
+  module _ (head : List ℕ) (holds : Holds file at head) (eight : length head ≡ 8) (inside : at + 8 ≤ end) where
+    size_is : number_of (take 8 (drop at (take end file))) ≡ number_of head
+    size_is =
+        let here : at + 0 ≡ at = omega arith in
+        ap number_of (take_within file at 8 end inside) ∙ ap (λ (n : ℕ). number_of (take 8 (drop n file))) (sym here)
+        ∙ ap number_of (part_held file at head 0 8 holds (omega arith)) ∙ ap (λ (n : ℕ). number_of (take n head))
+        (sym eight) ∙ ap number_of (take_all (length head) head (omega arith))
+
+    pub none_past : end - (at + 8) < number_of head → first (drop at (take end file)) ≡ None
+    none_past past = first_short (drop at (take end file)) (omega (arith, region_long, size_is))
+
+    pub found_record : (bytes : List ℕ) → at + 8 + number_of head ≤ end → take (number_of head) (drop (at + 8) file) ≡
+        bytes
+        → first (drop at (take end file)) ≡ Some (bytes, drop (at + 8 + number_of head) (take end file))
+    found_record bytes whole_there body =
+        let on : at + (8 + number_of head) ≡ at + 8 + number_of head = omega arith in
+        first_found (drop at (take end file)) bytes (number_of head) size_is (omega (arith, region_long))
+        (ap (λ (l : List ℕ). take (number_of head) l) (drop-drop 8 at (take end file)) ∙ take_within file (at + 8)
+        (number_of head) end whole_there ∙ body)
+        ∙ ap (λ (l : List ℕ). Some (bytes, l))
+        (drop-drop (8 + number_of head) at (take end file) ∙ ap (λ (n : ℕ). drop n (take end file)) on)
+
+-- the head of a batch
+module _ (file : List ℕ) (at number : ℕ) where
+  behind_gate : drop sector (drop at file) ≡ drop (at + sector) file
+  behind_gate = drop-drop sector at file
+
+  pub none_near : length file - at < sector + sector → next number (drop at file) ≡ None
+  none_near near = next_short number (drop at file) (omega (arith, length-drop at file))
+
+  gate_is : slice_index (drop at file) 0 ≡ slice_index file at
+  gate_is = let here : at + 0 ≡ at = omega arith in get_or-drop at file 0 0 ∙ ap (λ (n : ℕ). slice_index file n) here
+
+  byte_is : (gate : List ℕ) → Holds file at gate → 0 < length gate → slice_index file at ≡ slice_index gate 0
+  byte_is gate holds some = let here : at + 0 ≡ at = omega arith in ap (λ (n : ℕ). slice_index file n) (sym here) ∙
+      holds.each 0 some
+
+  pub none_shut : (gate : List ℕ) → Holds file at gate → 0 < length gate → slice_index gate 0 ≢ 1 → next number
+      (drop at file) ≡ None
+  none_shut gate holds some shut = next_shut number (drop at file)
+      (λ is. shut (sym (byte_is gate holds some) ∙ sym gate_is ∙ is))
+
+  module _ (head : List ℕ) (holds : Holds file (at + sector) head) (long : length head ≡ 24) where
+    number_here : number_in (drop sector (drop at file)) ≡ number_of (take 8 head)
+    number_here =
+        let here : at + sector + 0 ≡ at + sector = omega arith in
+        ap (λ (l : List ℕ). number_of (take 8 l)) (behind_gate ∙ ap (λ (n : ℕ). drop n file) (sym here)) ∙ ap
+        number_of (part_held file (at + sector) head 0 8 holds (omega arith))
+
+    time_here : time_in (drop sector (drop at file)) ≡ number_of (take 8 (drop 8 head))
+    time_here =
+        ap (λ (l : List ℕ). number_of (take 8 (drop 8 l))) behind_gate ∙ ap (λ (l : List ℕ). number_of (take 8 l))
+        (drop-drop 8 (at + sector) file) ∙ ap number_of (part_held file (at + sector) head 8 8 holds (omega arith))
+
+    length_here : length_in (drop sector (drop at file)) ≡ number_of (take 8 (drop 16 head))
+    length_here =
+        ap (λ (l : List ℕ). number_of (take 8 (drop 16 l))) behind_gate ∙ ap (λ (l : List ℕ). number_of (take 8 l))
+        (drop-drop 16 (at + sector) file) ∙ ap number_of (part_held file (at + sector) head 16 8 holds (omega arith))
+
+    pub none_number : number_of (take 8 head) ≢ number → next number (drop at file) ≡ None
+    none_number other = next_none number (drop at file)
+        (behind_other number (drop sector (drop at file)) (λ is. other (sym number_here ∙ is)))
+
+    pub none_span : length file - at - sector < whole (24 + number_of (take 8 (drop 16 head))) → next number
+        (drop at file) ≡ None
+    none_span past =
+        next_none number (drop at file) (behind_short number (drop sector (drop at file))
+        (omega (
+          arith,
+          ap (λ (n : ℕ). whole (24 + n)) length_here,
+          length-drop sector (drop at file),
+          length-drop at
+              file,
+        )))
+
+    pub found_batch : (gate : List ℕ) (time size : ℕ) → Holds file at gate → 0 < length gate → slice_index gate 0 ≡ 1
+        → number_of (take 8 head) ≡ number
+        → time ≡ number_of (take 8 (drop 8 head)) → size ≡ number_of (take 8 (drop 16 head)) → at + sector + whole
+        (24 + size) ≤ length file
+        → next number (drop at file) ≡ Some (
+          (time, records (take size (drop (at + sector + 24) file))),
+          drop
+              (at + sector + whole (24 + size)) file,
+        )
+    found_batch gate time size gate_holds some open_gate number_is time_is size_is fits =
+        let place = drop sector (drop at file) in
+        let sized : length_in place ≡ size = length_here ∙ sym size_is in
+        let timed : time_in place ≡ time = time_here ∙ sym time_is in
+        let span_is : span place ≡ whole (24 + size) = ap (λ (n : ℕ). whole (24 + n)) sized in
+        let inside : span place ≤ length place = omega
+        (arith, span_is, length-drop sector (drop at file), length-drop at file) in
+        let body : take (length_in place) (drop 24 place) ≡ take size (drop (at + sector + 24) file) =
+        ap (λ (n : ℕ). take n (drop 24 place)) sized ∙ ap (λ (l : List ℕ). take size (drop 24 l)) behind_gate ∙ ap
+        (λ (l : List ℕ). take size l) (drop-drop 24 (at + sector) file) in
+        let rest : drop (span place) place ≡ drop (at + sector + whole (24 + size)) file =
+        ap (λ (n : ℕ). drop n place) span_is ∙ ap (λ (l : List ℕ). drop (whole (24 + size)) l) behind_gate ∙ drop-drop
+        (whole (24 + size)) (at + sector) file in
+        next_open number (drop at file) (gate_is ∙ byte_is gate gate_holds some ∙ open_gate)
+        ∙ behind_there number place (number_here ∙ number_is) inside ∙ (λ i. Some ((timed i, records (body i)), rest i))
+
+-- a run goes on by one record, and by one batch
+pub records_more : {M : Type 0} (steps : M → ℕ → List ℕ → M → Type 0) (time : ℕ) (old mid new : M)
+    (done : List (List ℕ)) (bytes : List ℕ)
+    → RunsRecords steps time old done mid → steps mid time bytes new → RunsRecords steps time old (done ++ bytes ∷ [])
+    new
+records_more {M} steps time old mid new [] bytes run step = (new, subst (λ m. steps m time bytes new) run step, refl)
+records_more {M} steps time old mid new (r ∷ done) bytes run step =
+    (run.0, run.1, records_more steps time run.0 mid new done bytes run.2 step)
+
+pub runs_more : {M : Type 0} (steps : M → ℕ → List ℕ → M → Type 0) (old mid new : M) (done : List Kept) (kept : Kept)
+    → Runs steps old done mid → RunsRecords steps kept.0 mid kept.1 new → Runs steps old (done ++ kept ∷ []) new
+runs_more {M} steps old mid new [] kept run step =
+    (new, subst (λ m. RunsRecords steps kept.0 m kept.1 new) run step, refl)
+runs_more {M} steps old mid new (k ∷ done) kept run step =
+    (run.0, run.1, runs_more steps run.0 mid new done kept run.2 step)
+
+-- what has been read of a file: these batches, up to here
+pub record HasRead (file : List ℕ) (done : List Kept) (at : ℕ) : Type 0 where
+  pub body : List ℕ
+  pub front : take at file ≡ take sector file ++ body
+  pub lie : Lie 0 body done
+  pub all : stored file ≡ done ++ batches (length done) (drop at file)
+
+pub read_none : (file : List ℕ) → HasRead file [] sector
+read_none file = record { body = []; front = sym (append-nil (take sector file)); lie = λ more. refl; all = refl }
+
+pub read_more : (file : List ℕ) (done : List Kept) (at behind_it : ℕ) (kept : Kept) → HasRead file done at → at ≤
+    behind_it → behind_it ≤ length file
+    → next (length done) (drop at file) ≡ Some (kept, drop behind_it file) → HasRead file (done ++ kept ∷ []) behind_it
+read_more file done at behind_it kept read from within is =
+    let wide = behind_it - at in
+    let on : at + wide ≡ behind_it = omega arith in
+    let one_more : length (done ++ kept ∷ []) ≡ length done + 1 = length-append done (kept ∷ []) in
+    let there_is = next_front (length done) (drop at file) (kept, drop behind_it file) is wide
+    (omega (arith, length-drop at file, length-drop behind_it file)) in
+    record {
+      body = read.body ++ take wide (drop at file);
+      front =
+          ap (λ (n : ℕ). take n file) (sym on) ∙ take-add at wide file ∙ ap
+          (λ (l : List ℕ). l ++ take wide (drop at file)) read.front
+          ∙ append_assoc (take sector file) read.body (take wide (drop at file));
+      lie = lie_more 0 read.body (take wide (drop at file)) done kept read.lie
+          (let e : length done ≡ 0 + length done = omega arith in subst
+          (λ (n : ℕ). next n (take wide (drop at file)) ≡ Some (kept, [])) e there_is);
+      all =
+          read.all ∙ ap (λ (l : List Kept). done ++ l)
+          (batches_some (length done) (drop at file) (kept, drop behind_it file) is)
+          ∙ sym (append_assoc done (kept ∷ []) (batches (length done + 1) (drop behind_it file)))
+          ∙ ap (λ (n : ℕ). (done ++ kept ∷ []) ++ batches n (drop behind_it file)) (sym one_more);
+    }
+
+pub read_all : (file : List ℕ) (done : List Kept) (at count : ℕ) → HasRead file done at → count ≡ length done → at ≤
+    length file → next count (drop at file) ≡ None
+    → (stored file ≡ done) × EndsAt file at count
+read_all file done at count read counted within none =
+    let none_here : next (length done) (drop at file) ≡ None = subst (λ (n : ℕ). next n (drop at file) ≡ None) counted
+    none in
+    let all : stored file ≡ done = read.all ∙ ap (λ (l : List Kept). done ++ l)
+    (batches_none (length done) (drop at file) none_here) ∙ append-nil done in (
+      all,
+      record {
+        body = read.body;
+        front = read.front;
+        lie = subst (λ (l : List Kept). Lie 0 read.body l) (sym all) read.lie;
+        none = none;
+        count_is = counted ∙ ap length (sym all);
+        within = within;
+      },
+    )

@@ -1,0 +1,53 @@
+-- What is known of a file that is read from its start.
+use Rattle.std.specs.Prelude.{◌≡◌, ◌≢◌, ◌⊎◌, ℕ, ◌+◌, ◌<◌, ◌≤◌}
+use Rattle.std.specs.Prelude.{List, ◌++◌, length, take, drop, slice_index, Option, Some, None, IsTrue}
+use Rattle.sqlite_disk.specs.declared.Disk.{Ghosts}
+use Rattle.sqlite_disk.specs.Disk.{Torn}
+use Rattle.journal.specs.Format.{records, first, next, stored, whole, Lie, sector}
+use Rattle.journal.specs.declared.head.Head.{Head}
+
+-- nothing is written
+pub record OnlyReads {D : Type 0} (g : Ghosts D) (old new : D) : Type 0 where
+  pub seen : g.seen new ≡ g.seen old
+  pub clean : IsTrue (g.is_clean new) → IsTrue (g.is_clean old)
+  pub usable : IsTrue (g.is_usable new)
+  pub faults : g.faults old ≤ g.faults new
+  pub crash : (c : List ℕ) → g.may_leave new c → g.may_leave old c
+
+-- a read of the next record: its bytes, and where the one behind it begins, or none stands here
+abbrev pub Finds : List ℕ → ℕ → List ℕ → Option ℕ → Type 0
+Finds file at bytes (Some behind) = first (drop at file) ≡ Some (bytes, drop behind file)
+Finds file at bytes None = first (drop at file) ≡ None
+
+-- a read of the next head: its batch stands here, or none does
+abbrev pub FindsBatch : List ℕ → ℕ → ℕ → Option Head → Type 0
+FindsBatch file at number (Some head) =
+    next number (drop at file)
+    ≡ Some (
+      (head.time, records (take head.len (drop (at + sector + 24) file))),
+      drop (at + sector + whole (24 + head.len)) file,
+    )
+FindsBatch file at number None = next number (drop at file) ≡ None
+
+-- all batches of a file stand before this place, and there none begins
+pub record EndsAt (file : List ℕ) (end count : ℕ) : Type 0 where
+  pub body : List ℕ
+  pub front : take end file ≡ take sector file ++ body
+  pub lie : Lie 0 body (stored file)
+  pub none : next count (drop end file) ≡ None
+  pub count_is : count ≡ length (stored file)
+  pub within : end ≤ length file
+
+-- no gate has all of its sector here, or one that reads as open
+abbrev pub LooksOpen : List ℕ → ℕ → Type 0
+LooksOpen file gate = (length file < gate + sector) ⊎ (slice_index file gate ≡ 1)
+
+-- nothing is changed but the sector of a gate that looks open
+abbrev pub Repairs : ℕ → List ℕ → List ℕ → Type 0
+Repairs gate old new = (new ≡ old) ⊎ (LooksOpen old gate × Torn gate sector old new)
+
+-- a file that begins otherwise, and to which nothing was written
+pub record Refuses {D : Type 0} (g : Ghosts D) (line : List ℕ) (old new : D) : Type 0 where
+  pub same : g.seen new ≡ g.seen old
+  pub no_more : (c : List ℕ) → g.may_leave new c → g.may_leave old c
+  pub other : IsTrue (g.is_clean new) → take sector (g.seen old) ≢ line

@@ -1,0 +1,275 @@
+// A first line, and batches behind one another, each behind a gate, which is open if the batch counts. A shut gate
+// stands behind the last batch, on the disk before anything is written behind it.
+ghost use Rattle.std.specs.Prelude.{◌≡◌, ◌+◌, ◌-◌, ◌%◌, ◌<◌, ◌≤◌, ◌^◌, ◌++◌, ◌∷◌, []};
+ghost use Rattle.std.specs.Prelude.{ℕ, List, false, length, IfOk};
+ghost use Rattle.std.specs.Prelude.{IfErr, OnOk, OnErr, IsTrue, MatchOption};
+ghost use Rattle.sqlite_disk.specs.Disk.{MoreFaults};
+ghost use Rattle.journal.specs.Machine.{Runs};
+ghost use Rattle.journal.specs.Errors.{Because, Never};
+ghost use Rattle.journal.specs.Format.{stored, whole, sector, Rests, IsBeforeOrAfter};
+ghost use Rattle.journal.specs.Reads.{Refuses};
+
+use crate::gate::{blank, open_gate, stage};
+use crate::head::HEAD_LEN;
+use crate::recovery::{MAX_LEN, prepare};
+use crate::sectors::{SECTOR, whole};
+use crate::{Batch, Error, Line, Machine};
+use sqlite_disk::{Crash, Disk};
+use std::alloc::Global;
+
+/// Batches of records in one file.
+///
+/// It is opened by `recover`, and stays open until a sync or the write of a gate fails.
+#[derive(Drop)]
+pub struct Journal<D: Disk> {
+    disk: D,
+    line: Line,
+    is_open: bool,
+    /// Where the shut gate stands.
+    end: usize,
+    /// How many batches stand before it.
+    count: usize,
+    /// The file has at least so many bytes.
+    len: usize,
+    ghost usable: { IsTrue is_open → IsTrue (D.Disk.is_usable disk) },
+    ghost begins: { end % 4096 ≡ 0 },
+    ghost few: { count ≤ end },
+    ghost long: { IsTrue is_open → end + 4096 ≤ len },
+    ghost fits: { len < 2 ^ 63 },
+    ghost small: { end + 4096 < 2 ^ 63 },
+    ghost counted: { IsTrue is_open → IsTrue (D.Disk.is_clean disk) → count
+        ≡ length (stored (D.Disk.seen disk)) },
+    ghost rests: { IsTrue is_open → IsTrue (D.Disk.is_clean disk)
+        → (c : List ℕ) → D.Disk.may_leave disk c
+        → Rests line.bytes (stored (D.Disk.seen disk)) end len c },
+}
+
+/// Where the gate behind a batch of so many bytes stands, if it still ends before 2^63.
+fn next_gate(gate: usize, len: usize) -> Option<usize>
+    requires { gate + sector < 2 ^ 63 }
+    ensures { MatchOption result (2 ^ 63 ≤ gate + sector + whole (24 + len) + sector)
+        (λ next. (next ≡ gate + sector + whole (24 + len)) × (next + sector < 2 ^ 63)) }
+{
+    if len >= MAX_LEN - 2 * SECTOR {
+        return None;
+    }
+    let next = gate + SECTOR + whole(HEAD_LEN + len);
+    if next >= MAX_LEN - SECTOR {
+        return None;
+    }
+    Some(next)
+}
+
+impl<D: Disk> Journal<D> {
+    ghost use Rattle.journal.specs.Journal.{disk_of, line_of, is_open, kept, room_of};
+    ghost use Rattle.journal.specs.Batch.{batch_records, batch_size};
+
+    /// A journal over a file that begins with this line, or over an empty one. It reads nothing yet: `recover` opens
+    /// it.
+    pub fn new(disk: D, line: Line) -> Journal<D>
+        ensures disk { disk_of result ≡ disk }
+        ensures line { line_of result ≡ line }
+        ensures closed { is_open result ≡ false }
+    {
+        Journal {
+            disk,
+            line,
+            is_open: false,
+            end: 0,
+            count: 0,
+            len: 0,
+        }
+    }
+
+    /// Gives the disk back.
+    pub fn into_disk(self) -> D
+        ensures { result ≡ disk_of self }
+    {
+        self.disk
+    }
+
+    /// It was recovered, and nothing has failed since that leaves it in doubt what the file holds.
+    pub fn is_open(&self) -> bool
+        ensures is { result ≡ is_open self.now }
+        // Each crash leaves the batches of an open journal.
+        ensures durable { IsTrue (is_open self.now) → IsTrue (D.Disk.is_clean (disk_of self.now))
+            → (c : List ℕ) → D.Disk.may_leave (disk_of self.now) c → stored c ≡ kept self.now }
+    {
+        self.is_open
+    }
+
+    /// How many batches an open journal has.
+    pub fn count(&self) -> usize
+        ensures { IsTrue (is_open self.now) → IsTrue (D.Disk.is_clean (disk_of self.now))
+            → result ≡ length (kept self.now) }
+    {
+        self.count
+    }
+
+    /// How many bytes of batches, by their `size`, fit in what is written already.
+    pub fn room(&self) -> usize
+        ensures room { result ≡ room_of self.now }
+        // The file has them, and has them after a crash.
+        ensures there { IsTrue (is_open self.now) → IsTrue (D.Disk.is_clean (disk_of self.now))
+            → (c : List ℕ) → D.Disk.may_leave (disk_of self.now) c → result ≤ length c }
+    {
+        self.len.saturating_sub(self.end + SECTOR)
+    }
+
+    /// Runs a machine over the batches of the file, and repairs its end. It writes the first line into an empty file.
+    /// It may crash too: a crash leaves what one from before the call would have left.
+    pub fn recover<M: Machine>(&mut self, alloc: Global, machine: &mut M) -> Result<(), Error>
+        ensures ran { OnOk result (IsTrue (D.Disk.is_clean (disk_of self.new))
+            → Runs M.steps machine.old (kept self.old) machine.new) }
+        ensures same { OnOk result (IsTrue (D.Disk.is_clean (disk_of self.new)) → kept self.new
+            ≡ kept self.old) }
+        ensures open { OnOk result (IsTrue (is_open self.new)) }
+        ensures closed { OnErr result (is_open self.new ≡ false) }
+        ensures line { line_of self.new ≡ line_of self.old }
+        ensures durable { OnOk result (IsTrue (D.Disk.is_clean (disk_of self.new))
+            → (c : List ℕ) → D.Disk.may_leave (disk_of self.new) c → stored c ≡ kept self.old) }
+        ensures clean { IsTrue (D.Disk.is_clean (disk_of self.new))
+            → IsTrue (D.Disk.is_clean (disk_of self.old)) }
+
+        // Why it gives up: a disk whose sync has failed, another first line, a file of almost 2^63 bytes, a call of the
+        // disk, or the machine.
+        ensures cause { IfErr result (Because
+            (D.Disk.is_usable (disk_of self.old) ≡ false)
+            (Refuses D.Disk (line_of self.old).bytes (disk_of self.old) (disk_of self.new))
+            (IsTrue (D.Disk.is_clean (disk_of self.new))
+            → 2 ^ 63 ≤ length (D.Disk.seen (disk_of self.old)) + sector + sector)
+            (MoreFaults (D.Disk.faults (disk_of self.old)) (D.Disk.faults (disk_of self.new)))
+            (M.has_refused machine.new)) }
+
+        // Whatever the call met, a crash leaves a file that stands for what one from before it would have stood for.
+        ensures any_crash { IsTrue (D.Disk.is_clean (disk_of self.new))
+            → (c : List ℕ) → D.Disk.may_leave (disk_of self.new) c
+            → (d : List ℕ) × D.Disk.may_leave (disk_of self.old) d × (stored c ≡ stored d) }
+    {
+        self.is_open = false;
+        if !self.disk.may_be_used() {
+            return Err(Error::Closed);
+        }
+        let ready = prepare(&mut self.disk, self.line.bytes(), alloc, machine)?;
+        self.end = ready.end;
+        self.count = ready.count;
+        self.len = ready.len;
+        self.is_open = true;
+        Ok(())
+    }
+
+    /// Writes zeros behind the end, so that batches of so many bytes, by their `size`, find room on a disk that fills
+    /// up. At an error that leaves the journal open nothing has changed.
+    pub fn reserve(&mut self, bytes: usize) -> Result<(), Error>
+        ensures room { OnOk result (bytes ≤ room_of self.new) }
+        ensures same { IsTrue (is_open self.new) → IsTrue (D.Disk.is_clean (disk_of self.new))
+            → kept self.new ≡ kept self.old }
+        ensures open { OnOk result (IsTrue (is_open self.new)) }
+        ensures line { line_of self.new ≡ line_of self.old }
+        ensures clean { IsTrue (D.Disk.is_clean (disk_of self.new))
+            → IsTrue (D.Disk.is_clean (disk_of self.old)) }
+        ensures cause { IfErr result (Because (is_open self.old ≡ false) Never
+            (2 ^ 63 ≤ self.old.end + sector + bytes + 65536)
+            (MoreFaults (D.Disk.faults (disk_of self.old)) (D.Disk.faults (disk_of self.new)))
+            Never) }
+        ensures any_crash { IsTrue (is_open self.old) → IsTrue (D.Disk.is_clean (disk_of self.new))
+            → (c : List ℕ) → D.Disk.may_leave (disk_of self.new) c → stored c ≡ kept self.old }
+    {
+        if !self.is_open {
+            return Err(Error::Closed);
+        }
+        if bytes <= self.room() {
+            return Ok(());
+        }
+        if bytes >= MAX_LEN - 0x1_0000 || self.end + SECTOR + bytes >= MAX_LEN - 0x1_0000 {
+            return Err(Error::TooLong);
+        }
+        self.is_open = false;
+        let from = self.len / SECTOR * SECTOR;
+        match blank(&mut self.disk, self.end, from, self.end + SECTOR + bytes) {
+            Ok(len) => {
+                self.len = len;
+                self.is_open = true;
+                Ok(())
+            }
+            Err(error) => {
+                self.is_open = self.disk.may_be_used();
+                Err(Error::Disk(error))
+            }
+        }
+    }
+
+    /// Adds a batch, with the time of day in seconds since 1970. At `Ok` it is on the disk, and each crash from then
+    /// on leaves it. A journal that is still open after an error has what it had. One that is not can't be used any
+    /// more: `recover` decides what it has.
+    pub fn append(&mut self, batch: &Batch, time: u64) -> Result<(), Error>
+        ensures added { OnOk result (IsTrue (D.Disk.is_clean (disk_of self.new))
+            → kept self.new ≡ kept self.old ++ (time, batch_records batch.now) ∷ []) }
+        ensures open { OnOk result (IsTrue (is_open self.new)) }
+        ensures line { line_of self.new ≡ line_of self.old }
+        ensures durable { OnOk result (IsTrue (D.Disk.is_clean (disk_of self.new)) → (c : List ℕ)
+            → D.Disk.may_leave (disk_of self.new) c → stored c ≡ kept self.old
+            ++ (time, batch_records batch.now) ∷ []) }
+        ensures clean { IsTrue (D.Disk.is_clean (disk_of self.new))
+            → IsTrue (D.Disk.is_clean (disk_of self.old)) }
+        ensures refused { OnErr result (IsTrue (is_open self.new)
+            → IsTrue (D.Disk.is_clean (disk_of self.new))
+            → kept self.new ≡ kept self.old) }
+
+        // Whatever the call met, a crash leaves the batches from before it, with the whole new one or without it.
+        ensures any_crash { IsTrue (is_open self.old) → IsTrue (D.Disk.is_clean (disk_of self.new))
+            → (c : List ℕ) → D.Disk.may_leave (disk_of self.new) c
+            → IsBeforeOrAfter (kept self.old) (time, batch_records batch.now) c }
+
+        // A batch for which there is room doesn't make the file longer, and leaves the rest of the room.
+        ensures in_room { OnOk result (batch_size batch.now ≤ room_of self.old
+            → room_of self.new ≡ room_of self.old - batch_size batch.now) }
+
+        // It doesn't give up by itself.
+        ensures cause { IfErr result (Because (is_open self.old ≡ false) Never
+            (2 ^ 63 ≤ self.old.end + sector + batch_size batch.now)
+            (MoreFaults (D.Disk.faults (disk_of self.old)) (D.Disk.faults (disk_of self.new)))
+            Never) }
+    {
+        if !self.is_open {
+            return Err(Error::Closed);
+        }
+        let bytes = batch.bytes();
+        let Some(next) = next_gate(self.end, bytes.len()) else {
+            return Err(Error::TooLong);
+        };
+        self.is_open = false;
+        if let Err(error) = stage(&mut self.disk, self.end, self.count, time, bytes) {
+            self.is_open = self.disk.may_be_used();
+            return Err(Error::Disk(error));
+        }
+        if let Err(error) = open_gate(&mut self.disk, self.end) {
+            return Err(Error::Disk(error));
+        }
+        self.end = next;
+        self.count += 1;
+        self.len = self.len.max(next + SECTOR);
+        self.is_open = true;
+        Ok(())
+    }
+}
+
+impl<D: Crash> Journal<D> {
+    ghost use Rattle.journal.specs.Journal.{disk_of, line_of, is_open};
+
+    /// For theorems and tests: the machine goes down and comes back.
+    pub fn crash(&mut self)
+        ensures left { D.Disk.may_leave (disk_of self.old) (D.Disk.seen (disk_of self.new)) }
+        ensures no_more { (c : List ℕ) → D.Disk.may_leave (disk_of self.new) c
+            → D.Disk.may_leave (disk_of self.old) c }
+        ensures line { line_of self.new ≡ line_of self.old }
+        ensures usable { IsTrue (D.Disk.is_usable (disk_of self.new)) }
+        ensures faults { D.Disk.faults (disk_of self.new) ≡ D.Disk.faults (disk_of self.old) }
+        ensures clean { IsTrue (D.Disk.is_clean (disk_of self.new))
+            → IsTrue (D.Disk.is_clean (disk_of self.old)) }
+        ensures closed { is_open self.new ≡ false }
+    {
+        self.is_open = false;
+        self.disk.crash();
+    }
+}

@@ -1,0 +1,26 @@
+//! A journal: batches of records in one file, each on the disk before it is acknowledged.
+//!
+//! A file (`line`) begins with a sector that says what it is. Behind it lie batches (`batch`, `head`), each behind a
+//! gate that has a sector of its own (`gate`, `sectors`). A journal (`journal`) adds to them; a start reads them in
+//! order (`replay`), runs a machine (`machine`) over them, and repairs the end (`recovery`). `life` says what all this
+//! comes to, whatever crashes come.
+#![tactic(auto)]
+
+mod batch;
+mod error;
+mod gate;
+mod head;
+mod journal;
+mod life;
+mod line;
+mod machine;
+mod recovery;
+mod replay;
+mod sectors;
+
+pub use batch::Batch;
+pub use error::Error;
+pub use journal::Journal;
+pub use life::{append_each, live_on, restart};
+pub use line::Line;
+pub use machine::Machine;

@@ -1,0 +1,17 @@
+//! What the records are for.
+ghost use Rattle.std.specs.Prelude.{List, ℕ, OnOk, OnErr};
+
+use std::io;
+
+/// A state that records change, one after the other.
+pub trait Machine {
+    /// What a record of a batch with this time may make of it.
+    ghost steps: { Self → ℕ → List ℕ → Self → Type 0 };
+
+    /// It has refused a record, and says so until it is let go.
+    ghost has_refused: { Self → Type 0 };
+
+    fn apply(&mut self, time: u64, bytes: &[u8]) -> io::Result<()>
+        ensures step { OnOk result (steps self.old time bytes.now self.new) }
+        ensures refused { OnErr result (has_refused self.new) };
+}

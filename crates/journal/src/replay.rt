@@ -1,0 +1,221 @@
+//! The batches of a file are read in order, each once, and never more than one record at a time.
+ghost use Rattle.std.specs.Prelude.{◌≡◌, ◌+◌, ◌%◌, ◌<◌, ◌≤◌, ◌^◌, ℕ, List};
+ghost use Rattle.std.specs.Prelude.{length, take, drop, slice_index};
+ghost use Rattle.std.specs.Prelude.{IfOk, IfErr, OnOk, IfSome, IsTrue};
+ghost use Rattle.sqlite_disk.specs.Disk.{Holds, Only, MoreFaults};
+ghost use Rattle.journal.specs.Format.{records, stored, whole, sector};
+ghost use Rattle.journal.specs.Machine.{Runs, RunsRecords};
+ghost use Rattle.journal.specs.Errors.{OnlyDisk, OnlyReplay};
+ghost use Rattle.journal.specs.Reads.{OnlyReads, Finds, FindsBatch, EndsAt};
+
+use crate::gate::OPEN;
+use crate::head::{HEAD_LEN, Head, number_in};
+use crate::sectors::{SECTOR, whole};
+use crate::{Error, Machine};
+use sqlite_disk::Disk;
+use std::alloc::Global;
+
+/// Reads what stands at `at`, in a file of `len` bytes.
+pub fn read<D: Disk>(disk: &mut D, len: usize, at: usize, bytes: &mut [u8]) -> Result<(), Error>
+    requires usable { IsTrue (D.Disk.is_usable disk.old) }
+    requires measured { IsTrue (D.Disk.is_clean disk.old) → len ≡ length (D.Disk.seen disk.old) }
+    requires within { at + length bytes.old ≤ len }
+    ensures read { OnOk result (IsTrue (D.Disk.is_clean disk.new) → 0 < length bytes.old
+        → Holds (D.Disk.seen disk.old) at bytes.new) }
+    ensures cause { IfErr result (OnlyDisk
+        (MoreFaults (D.Disk.faults disk.old) (D.Disk.faults disk.new))) }
+    ensures reads { OnlyReads D.Disk disk.old disk.new }
+{
+    match disk.read_at(at, bytes) {
+        Ok(()) => Ok(()),
+        Err(error) => Err(Error::Disk(error)),
+    }
+}
+
+/// Reads so many bytes into an empty `bytes`.
+fn read_to<D: Disk>(
+    disk: &mut D,
+    len: usize,
+    at: usize,
+    size: usize,
+    bytes: &mut Vec<u8>,
+) -> Result<(), Error>
+    requires usable { IsTrue (D.Disk.is_usable disk.old) }
+    requires measured { IsTrue (D.Disk.is_clean disk.old) → len ≡ length (D.Disk.seen disk.old) }
+    requires within { at + size ≤ len }
+    ensures len { OnOk result (length bytes.new.items ≡ size) }
+    ensures read { OnOk result (IsTrue (D.Disk.is_clean disk.new)
+        → take size (drop at (D.Disk.seen disk.old)) ≡ bytes.new.items) }
+    ensures cause { IfErr result (OnlyDisk
+        (MoreFaults (D.Disk.faults disk.old) (D.Disk.faults disk.new))) }
+    ensures reads { OnlyReads D.Disk disk.old disk.new }
+{
+    bytes.clear();
+    if bytes.resize(size, 0).is_err() {
+        return Err(Error::NoMemory);
+    }
+    if size == 0 {
+        return Ok(());
+    }
+    read(disk, len, at, bytes.as_mut_slice())
+}
+
+/// Reads the record at `at` into `bytes`, and answers where the next one begins. The batch ends at `end`.
+fn read_record<D: Disk>(
+    disk: &mut D,
+    len: usize,
+    at: usize,
+    end: usize,
+    bytes: &mut Vec<u8>,
+) -> Result<Option<usize>, Error>
+    requires usable { IsTrue (D.Disk.is_usable disk.old) }
+    requires measured { IsTrue (D.Disk.is_clean disk.old) → len ≡ length (D.Disk.seen disk.old) }
+    requires within { at ≤ end }
+    requires fits { end ≤ len }
+    ensures found { IfOk result (λ behind. IsTrue (D.Disk.is_clean disk.new)
+        → Finds (take end (D.Disk.seen disk.old)) at bytes.new.items behind) }
+    ensures next { IfOk result (λ behind. IfSome behind (λ n. (at < n) × (n ≤ end))) }
+    ensures cause { IfErr result (OnlyDisk
+        (MoreFaults (D.Disk.faults disk.old) (D.Disk.faults disk.new))) }
+    ensures reads { OnlyReads D.Disk disk.old disk.new }
+{
+    if end - at < 8 {
+        return Ok(None);
+    }
+    let mut head = [0; 8];
+    read(disk, len, at, &mut head)?;
+    let size = number_in(&head) as usize;
+    let start = at + 8;
+    if size > end - start {
+        return Ok(None);
+    }
+    read_to(disk, len, start, size, bytes)?;
+    Ok(Some(start + size))
+}
+
+/// Runs the machine over the records of a batch, which stand from `start` up to `end`.
+fn run_records<D: Disk, M: Machine>(
+    disk: &mut D,
+    len: usize,
+    start: usize,
+    end: usize,
+    time: u64,
+    bytes: &mut Vec<u8>,
+    machine: &mut M,
+) -> Result<(), Error>
+    requires usable { IsTrue (D.Disk.is_usable disk.old) }
+    requires measured { IsTrue (D.Disk.is_clean disk.old) → len ≡ length (D.Disk.seen disk.old) }
+    requires within { start ≤ end }
+    requires fits { end ≤ len }
+    ensures ran { OnOk result (IsTrue (D.Disk.is_clean disk.new)
+        → RunsRecords M.steps time machine.old
+        (records (drop start (take end (D.Disk.seen disk.old)))) machine.new) }
+    ensures cause { IfErr result (OnlyReplay
+        (MoreFaults (D.Disk.faults disk.old) (D.Disk.faults disk.new))
+        (M.has_refused machine.new)) }
+    ensures reads { OnlyReads D.Disk disk.old disk.new }
+{
+    let mut at = start;
+    while let Some(next) = read_record(disk, len, at, end, bytes)? {
+        if let Err(error) = machine.apply(time, bytes) {
+            return Err(Error::Machine(error));
+        }
+        at = next;
+    }
+    Ok(())
+}
+
+/// Reads the head of the batch with this number, if its gate stands open at `at` and all of it is there.
+fn read_head<D: Disk>(
+    disk: &mut D,
+    len: usize,
+    at: usize,
+    number: usize,
+) -> Result<Option<Head>, Error>
+    requires usable { IsTrue (D.Disk.is_usable disk.old) }
+    requires measured { IsTrue (D.Disk.is_clean disk.old) → len ≡ length (D.Disk.seen disk.old) }
+    requires within { at ≤ len }
+    requires fits { len < 2 ^ 63 }
+    ensures found { IfOk result (λ head. IsTrue (D.Disk.is_clean disk.new)
+        → FindsBatch (D.Disk.seen disk.old) at number head) }
+    ensures within { IfOk result (λ head. IfSome head
+        (λ h. at + sector + whole (24 + h.len) ≤ len)) }
+    ensures records { IfOk result (λ head. IfSome head (λ h. at + sector + 24 + h.len ≤ len)) }
+    ensures cause { IfErr result (OnlyDisk
+        (MoreFaults (D.Disk.faults disk.old) (D.Disk.faults disk.new))) }
+    ensures reads { OnlyReads D.Disk disk.old disk.new }
+{
+    if len - at < SECTOR + SECTOR {
+        return Ok(None);
+    }
+    let mut gate = [0];
+    read(disk, len, at, &mut gate)?;
+    if gate[0] != OPEN {
+        return Ok(None);
+    }
+    let mut head = [0; HEAD_LEN];
+    read(disk, len, at + SECTOR, &mut head)?;
+    let number_there = number_in(&head[..8]);
+    if number_there != number as u64 {
+        return Ok(None);
+    }
+    let size = number_in(&head[16..]) as usize;
+    let room = len - at - SECTOR;
+    if size > room {
+        return Ok(None);
+    }
+    if whole(HEAD_LEN + size) > room {
+        return Ok(None);
+    }
+    let time = number_in(&head[8..16]);
+    Ok(Some(Head { time, len: size }))
+}
+
+/// Where the batches of a file end, and how many there are.
+#[derive(Clone, Copy)]
+pub struct End {
+    pub at: usize,
+    pub count: usize,
+}
+
+/// Runs the machine over the batches behind the first line.
+pub fn replay<D: Disk, M: Machine>(
+    disk: &mut D,
+    len: usize,
+    alloc: Global,
+    machine: &mut M,
+) -> Result<End, Error>
+    requires usable { IsTrue (D.Disk.is_usable disk.old) }
+    requires measured { IsTrue (D.Disk.is_clean disk.old) → len ≡ length (D.Disk.seen disk.old) }
+    requires line { sector ≤ len }
+    requires fits { len < 2 ^ 63 }
+    ensures ran { OnOk result (IsTrue (D.Disk.is_clean disk.new)
+        → Runs M.steps machine.old (stored (D.Disk.seen disk.old)) machine.new) }
+    ensures end { IfOk result (λ end. IsTrue (D.Disk.is_clean disk.new)
+        → EndsAt (D.Disk.seen disk.old) end.at end.count) }
+    ensures begins { IfOk result (λ end. (sector ≤ end.at) × (end.at % 4096 ≡ 0)) }
+    ensures within { IfOk result (λ end. (end.at ≤ len) × (end.count ≤ end.at)) }
+    ensures cause { IfErr result (OnlyReplay
+        (MoreFaults (D.Disk.faults disk.old) (D.Disk.faults disk.new))
+        (M.has_refused machine.new)) }
+    ensures reads { OnlyReads D.Disk disk.old disk.new }
+{
+    let mut bytes = Vec::new(alloc);
+    let mut at = SECTOR;
+    let mut count = 0;
+    while let Some(head) = read_head(disk, len, at, count)? {
+        let start = at + SECTOR + HEAD_LEN;
+        run_records(
+            disk,
+            len,
+            start,
+            start + head.len,
+            head.time,
+            &mut bytes,
+            machine,
+        )?;
+        at += SECTOR + whole(HEAD_LEN + head.len);
+        count += 1;
+    }
+    Ok(End { at, count })
+}
