@@ -6,9 +6,9 @@ use crate::closing::Closing;
 use crate::log_lines::LogLines;
 use crate::paced::{Demand, Reader, SharedSocket, Socket, Writer, halves};
 use crate::steps::{Step, step_behind};
-use std::alloc::Global;
+use std::alloc::{AllocError, Global};
 use std::io::{Eprint, ErrorKind};
-use std::net::TcpListener;
+use std::net::{TcpListener, TcpStream};
 use std::rt::Clock;
 use std::sync::{Arc, Wait};
 use std::time::Duration;
@@ -42,6 +42,8 @@ pub(crate) struct Accepted<'a, R> {
     demand: Demand,
     /// The connection that is served.
     socket: Option<SharedSocket>,
+    /// Room for the next one, if none is served.
+    spare: Option<SharedSocket>,
     /// Where it is closed when its halves are given back.
     closing: Closing,
     /// Where notices go if there is a log.
@@ -56,7 +58,7 @@ fn step_after(error: &io::Error) -> Step {
 }
 
 impl<'a, R: Clock + Eprint + Wait> Accepted<'a, R> {
-    /// The next connections of a listener.
+    /// The next connections of a listener. An error is out of memory.
     pub(crate) fn new(
         rt: &'a R,
         alloc: Global,
@@ -64,20 +66,22 @@ impl<'a, R: Clock + Eprint + Wait> Accepted<'a, R> {
         terms: Terms,
         closing: Closing,
         lines: Option<LogLines>,
-    ) -> Accepted<'a, R>
-        ensures { (result.left ≡ terms.count) × (result.demand ≡ terms.demand) }
+    ) -> Result<Accepted<'a, R>, AllocError>
+        ensures { IfOk result
+            (λ conns. (conns.left ≡ terms.count) × (conns.demand ≡ terms.demand)) }
     {
-        Accepted {
+        Ok(Accepted {
             rt,
             alloc,
             listener,
             left: terms.count,
             demand: terms.demand,
             socket: None,
+            spare: Some(Arc::new(alloc, Socket::none())?),
             closing,
             lines,
             is_told: false,
-        }
+        })
     }
 
     /// Tells of an error on standard error. If there is a log, it is a line of that: no worker waits for who reads it.
@@ -106,10 +110,10 @@ impl<'a, R: Clock + Eprint + Wait> Accepted<'a, R> {
     }
 
     /// The next connection of the listener, however long that takes. An error says that the listener is none.
-    fn next_socket(&mut self) -> io::Result<Socket> {
+    fn next_stream(&mut self) -> io::Result<TcpStream> {
         for _ in 0..u64::MAX {
             let error = match self.listener.accept() {
-                Ok((stream, _)) => return Ok(Socket::new(stream)),
+                Ok((stream, _)) => return Ok(stream),
                 Err(error) => error,
             };
             match step_after(&error) {
@@ -121,26 +125,21 @@ impl<'a, R: Clock + Eprint + Wait> Accepted<'a, R> {
         Err(io::Error::from(ErrorKind::TimedOut))
     }
 
-    /// The same to be shared, once there is memory for that.
-    fn next_shared(&mut self) -> io::Result<SharedSocket> {
-        let mut socket = self.next_socket()?;
-        for _ in 0..u64::MAX {
-            match Arc::new(self.alloc, socket) {
-                Ok(shared) => return Ok(shared),
-                Err(failed) => socket = failed.value,
-            }
-            self.wait(&io::Error::from(ErrorKind::OutOfMemory));
-        }
-        Err(io::Error::from(ErrorKind::TimedOut))
-    }
-
     /// The halves of the next connection, which is kept.
     fn accept(&mut self) -> io::Result<(Reader<'a, R>, Writer<'a, R>)>
         ensures { IfOk result (λ halves. AreUnused halves.0 halves.1) }
     {
-        let socket = self.next_shared()?;
-        let halves = halves(self.rt, &socket, self.demand)?;
-        self.socket = Some(socket);
+        let stream = self.next_stream()?;
+        // There is one, unless the halves before weren't given back.
+        let mut shared = match self.spare.take() {
+            Some(spare) => spare,
+            None => Arc::new(self.alloc, Socket::none())?,
+        };
+        if let Some(socket) = Arc::get_mut(&mut shared) {
+            *socket = Socket::of(stream);
+        }
+        let halves = halves(self.rt, &shared, self.demand)?;
+        self.socket = Some(shared);
         Ok(halves)
     }
 }
@@ -177,8 +176,14 @@ impl<'a, R: Clock + Eprint + Wait + Sync> Conns for Accepted<'a, R> {
     fn take_back(&mut self, source: Reader<'a, R>, sink: Writer<'a, R>) {
         drop(source);
         drop(sink);
-        if let Some(Socket { stream, .. }) = self.socket.take().and_then(Arc::into_inner) {
+        let Some(mut shared) = self.socket.take() else {
+            return;
+        };
+        if let Some(socket) = Arc::get_mut(&mut shared)
+            && let Some(stream) = socket.stream.take()
+        {
             self.closing.close(self.rt, stream);
         }
+        self.spare = Some(shared);
     }
 }

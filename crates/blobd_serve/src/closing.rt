@@ -1,5 +1,7 @@
 //! Connections that are closed by a thread of their own, all at once: no worker waits for a peer that stays, and no
 //! peer for another.
+ghost use Rattle.std.specs.Prelude.{◌≡◌, IfOk, is_some};
+
 use crate::background::{Background, Job};
 use crossbeam_channel::{Receiver, RecvTimeoutError, Sender};
 use std::alloc::{AllocError, Global};
@@ -146,25 +148,31 @@ impl Job for TcpStream {
     }
 }
 
-/// Where the connections of one worker go once they are served.
+/// Where the connections of one worker go once they are served; nowhere if there is no thread for them.
 #[derive(Drop)]
-pub(crate) struct Closing(Sender<TcpStream>);
+pub(crate) struct Closing(Option<Sender<TcpStream>>);
 
 impl Closing {
     /// A place for the connections of a worker. An error is out of memory.
-    pub(crate) fn new(closer: &Closer) -> Result<Closing, AllocError> {
-        Ok(Closing(closer.jobs.clone()?))
+    pub(crate) fn new(closer: &Option<Closer>) -> Result<Closing, AllocError>
+        ensures { IfOk result (λ closing. is_some closing.0 ≡ is_some closer.now) }
+    {
+        match closer {
+            Some(closer) => Ok(Closing(Some(closer.jobs.clone()?))),
+            None => Ok(Closing(None)),
+        }
     }
 
     /// Closes a connection that is served. Its peer reads the end at once, and the rest is left to the thread. Where
     /// the peer still sends, as behind a refused head, a close at once would reset the connection, and the peer's
     /// system would drop the reply that it hasn't read. So what comes is read and dropped until the peer closes, is
-    /// silent for half a second, or has sent for five seconds, or until 256 others came behind it. If too many wait for
-    /// the thread, it is closed outright.
+    /// silent for half a second, or has sent for five seconds, or until 256 others came behind it. If there is no
+    /// thread, or too many wait for it, it is closed outright.
     pub(crate) fn close<R: Wait>(&self, rt: &R, stream: TcpStream) {
         // An error means that the peer has gone.
-        if stream.shutdown(Shutdown::Write).is_ok() {
-            let _ = self.0.try_send(rt, stream);
+        let is_there = stream.shutdown(Shutdown::Write).is_ok();
+        if let (true, Some(streams)) = (is_there, &self.0) {
+            let _ = streams.try_send(rt, stream);
         }
     }
 }

@@ -109,22 +109,30 @@ const SECOND: u64 = 1_000_000;
 /// that waits for much room, and the next write takes them.
 const LONGEST_CALL: u64 = 15;
 
-/// A connection that was accepted. Its two halves share it: it has one descriptor.
+/// The connection of a worker, if it has one. Its two halves share it, so it has one descriptor; and it is made once for
+/// all connections of a worker, one behind the other, so that none of them takes memory.
 #[derive(Drop)]
 pub(crate) struct Socket {
-    pub(crate) stream: TcpStream,
+    pub(crate) stream: Option<TcpStream>,
     /// Whether it was written to since it was read from: what is read next belongs to another request.
     is_answered: AtomicBool,
 }
 
 impl Socket {
+    pub(crate) fn none() -> Socket {
+        Socket {
+            stream: None,
+            is_answered: AtomicBool::new(false),
+        }
+    }
+
     /// A connection of which nothing was read yet. What is written leaves as it is written: a head and a small body are
     /// one write.
-    pub(crate) fn new(stream: TcpStream) -> Socket {
+    pub(crate) fn of(stream: TcpStream) -> Socket {
         // A peer that has gone already can make this fail; the reads and writes will tell.
         let _ = stream.set_nodelay(true);
         Socket {
-            stream,
+            stream: Some(stream),
             is_answered: AtomicBool::new(false),
         }
     }
@@ -181,17 +189,19 @@ impl<'a, R: Clock> Half<'a, R> {
 
     /// Tells the system how long a read may wait, if it doesn't know.
     fn allow_read(&mut self, pace: Pace) -> io::Result<()> {
-        match self.limit(pace) {
-            Some(limit) => self.socket.stream.set_read_timeout(Some(limit)),
-            None => Ok(()),
+        let limit = self.limit(pace);
+        match (&self.socket.stream, limit) {
+            (Some(stream), Some(limit)) => stream.set_read_timeout(Some(limit)),
+            _ => Ok(()),
         }
     }
 
     /// Tells the system how long a write may wait, if it doesn't know.
     fn allow_write(&mut self, pace: Pace) -> io::Result<()> {
-        match self.limit(pace) {
-            Some(limit) => self.socket.stream.set_write_timeout(Some(limit)),
-            None => Ok(()),
+        let limit = self.limit(pace);
+        match (&self.socket.stream, limit) {
+            (Some(stream), Some(limit)) => stream.set_write_timeout(Some(limit)),
+            _ => Ok(()),
         }
     }
 
@@ -266,7 +276,10 @@ impl<'a, R: Clock> Half<'a, R> {
                 break;
             }
             let begun = self.now();
-            let read = (&self.socket.stream).read(buf);
+            let Some(mut stream) = self.socket.stream.as_ref() else {
+                break;
+            };
+            let read = stream.read(buf);
             if !self.goes_on(pace, begun, &read) {
                 return read;
             }
@@ -291,7 +304,10 @@ impl<'a, R: Clock> Half<'a, R> {
                 break;
             }
             let begun = self.now();
-            let wrote = (&self.socket.stream).write(buf);
+            let Some(mut stream) = self.socket.stream.as_ref() else {
+                break;
+            };
+            let wrote = stream.write(buf);
             if !self.goes_on(pace, begun, &wrote) {
                 return wrote;
             }
@@ -312,7 +328,8 @@ impl<'a, R: Clock> Write for Half<'a, R> {
     }
 
     fn flush(&mut self) -> io::Result<()> {
-        (&self.socket.stream).flush()
+        // A socket has nothing to flush.
+        Ok(())
     }
 }
 

@@ -4,6 +4,7 @@ ghost use Rattle.upload_intake.specs.Pools.Working.{lending, means};
 ghost use Rattle.blobd_serve.specs.Serving.{HasServed, ServingEnds};
 
 use crate::accept::{Accepted, Terms};
+use crate::background::{Background, Job};
 use crate::closing::{Closer, Closing};
 use crate::log_lines::{Log, LogLines};
 use crate::paced::{Reader, Writer};
@@ -111,13 +112,20 @@ fn lines_of(log: &Option<Log>) -> Result<Option<LogLines>, Lack> {
     }
 }
 
+/// Waits until such a thread has done its jobs, if there is one; but not for ever.
+fn finish<R: Wait + Clock, J: Job + Drop + 'static>(rt: &R, background: Option<Background<J>>) {
+    if let Some(background) = background {
+        background.finish(rt);
+    }
+}
+
 /// The next connections of a worker.
 fn conns_of<'a, R>(
     rt: &'a R,
     listener: &'a TcpListener,
     terms: Terms,
     log: &Option<Log>,
-    closer: &Closer,
+    closer: &Option<Closer>,
 ) -> Result<Accepted<'a, R>, Lack>
 where
     R: AllocGlobal + Clock + Eprint + Wait,
@@ -128,7 +136,10 @@ where
     let Ok(closing) = Closing::new(closer) else {
         return Err(Lack::Memory);
     };
-    Ok(Accepted::new(rt, rt.alloc(), listener, terms, closing, lines))
+    match Accepted::new(rt, rt.alloc(), listener, terms, closing, lines) {
+        Ok(conns) => Ok(conns),
+        Err(_) => Err(Lack::Memory),
+    }
 }
 
 /// A worker, with secrets of its own. It takes connections once it is served.
@@ -137,7 +148,7 @@ fn make_worker<'a, R>(
     listener: &'a TcpListener,
     terms: Terms,
     log: &Option<Log>,
-    closer: &Closer,
+    closer: &Option<Closer>,
 ) -> Result<ListenerWorker<'a, R>, Lack>
 where
     R: AllocGlobal + Clock + RandomSource + Eprint + Wait,
@@ -161,7 +172,7 @@ fn make_workers<'a, R>(
     listener: &'a TcpListener,
     terms: Terms,
     log: &Option<Log>,
-    closer: &Closer,
+    closer: &Option<Closer>,
     workers: &mut Vec<ListenerWorker<'a, R>>,
 ) -> Result<(), Lack>
 where
@@ -256,9 +267,7 @@ where
         Ok(log) => log,
         Err(lack) => return print_line(out, lack.line(), FAULT),
     };
-    let Some(closer) = Closer::start(rt, rt.alloc()) else {
-        return print_line(out, Lack::Memory.line(), FAULT);
-    };
+    let closer = Closer::start(rt, rt.alloc());
     if let Err(lack) = make_workers(rt, listener, terms, &log, &closer, &mut workers) {
         return print_line(out, lack.line(), FAULT);
     }
@@ -266,10 +275,8 @@ where
         return FAULT;
     }
     let served = serve_all(rt, rt.alloc(), workers, terms);
-    closer.finish(rt);
-    if let Some(log) = log {
-        log.finish(rt);
-    }
+    finish(rt, closer);
+    finish(rt, log);
     match served {
         Ok(true) => print_line(out, "served", DONE),
         Ok(false) => print_line(out, "fault: accept", FAULT),
