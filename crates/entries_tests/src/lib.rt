@@ -1,0 +1,12 @@
+//! Tests of `upload_journal`, in a crate of their own: the prover goes through a crate with tests twice, and its
+//! must-fail edits wait for both.
+#![tactic(auto)]
+
+#[cfg(test)]
+mod play;
+#[cfg(test)]
+mod replays;
+#[cfg(test)]
+mod shelf;
+#[cfg(test)]
+mod texts;
