@@ -161,7 +161,7 @@ LOGIN = (
 )
 OTHER = "it is another kind of server, as by the form of its Location: push through deploy/adapter.cfg"
 NO_REGISTRY = "it takes no uploads into this repository: is it a registry?"
-LOST = "it lost the upload, as a server does that is started again: push again"
+LOST = "it lost the upload: push again, or through deploy/adapter.cfg if it is docker-registry"
 NO_HTTP = "the reply isn't HTTP: is this https? (tried 7 times)"
 TLS = f"the reply is TLS: {HTTPS} (tried 7 times)"
 CLOSED = "the server closed the connection before it had replied: is this https? (tried 7 times)"

@@ -184,7 +184,7 @@ fn words_of_advice(advice: Advice) -> &'static str
              r.cfg"
         }
         Advice::PushAgain =>
-            "it lost the upload, as a server does that is started again: push again",
+            "it lost the upload: push again, or through deploy/adapter.cfg if it is docker-registry",
         Advice::IsItARegistry => "it takes no uploads into this repository: is it a registry?",
         Advice::Adapter =>
             "it is another kind of server, as by the form of its Location: push through deploy/adapter.cfg",
