@@ -7,7 +7,6 @@ pub mod Reading
 pub mod Inputs
 pub mod Writing
 pub mod Transcripts
-pub mod Halves
 pub mod Fronts
 pub mod Fields
 pub mod HeadText

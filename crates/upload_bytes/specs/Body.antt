@@ -3,13 +3,16 @@ use Rattle.std.specs.Prelude.{ℕ, List, Option, ◌≡◌, ◌++◌, length}
 use Rattle.std.specs.List.{concat}
 use Rattle.upload_bytes.specs.declared.hashing.Running.{Running}
 use Rattle.upload_bytes.specs.declared.body.Pieces.{Pieces}
+use Rattle.upload_bytes.specs.declared.body.Behind.{Behind}
 use Rattle.upload_bytes.specs.Running.{HoldsIfCarried}
+use Rattle.upload_bytes.specs.Fronts.{HoldsBehind}
 
 -- their bytes: those of the parts, and what came behind them
 abbrev pub bytes_in : Pieces → List ℕ
 bytes_in pieces = concat pieces.parts.items ++ pieces.last.items
 
--- The hash that a body carries, and its length, are those of its bytes.
-pub record IsBody (running : Option Running) (len : ℕ) (bytes : List ℕ) : Type 0 where
+-- The hashes that a body carries, and its length, are those of its bytes.
+pub record IsBody (running : Option Running) (hashed : Option Behind) (len : ℕ) (bytes : List ℕ) : Type 0 where
   pub carries : HoldsIfCarried running bytes
+  pub behind : HoldsBehind hashed bytes
   pub counted : len ≡ length bytes

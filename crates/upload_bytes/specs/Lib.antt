@@ -1,5 +1,6 @@
 pub mod Running
 pub mod Hashing
+pub mod Fronts
 pub mod Body
 pub mod Segments
 pub mod Prefixes

@@ -1,15 +1,18 @@
 //! Bodies of requests, in the parts that they were read in, and what a body is read into.
-ghost use Rattle.std.specs.Prelude.{◌≡◌, ◌++◌, List, ℕ, length, Some, IfSome, [], OnOk, OnErr};
+ghost use Rattle.std.specs.Prelude.{◌≡◌, ◌++◌, List, ℕ, length, Some, None, IfOk, IfSome, [], OnOk, OnErr};
 ghost use Rattle.sha2.specs.Hashers.{Holds256, Holds512};
 ghost use Rattle.upload_names.specs.Digest.{content_digest};
 ghost use Rattle.upload_bytes.specs.Body.{bytes_in, IsBody};
 ghost use Rattle.std.specs.List.{concat};
 ghost use Rattle.upload_bytes.specs.Running.{HoldsIfCarried};
 ghost use Rattle.upload_bytes.specs.Prefixes.{HoldsIfAny};
+ghost use Rattle.upload_bytes.specs.Segments.{whole};
 
+use crate::front::Front;
 use crate::hashing::{HashPlace, Running};
-use crate::part::{Part, take_in};
+use crate::part::{Part, share_all, take_in};
 use crate::prefix_hash::PrefixHash;
+use crate::segments::Segments;
 use sha2::{Digest, Sha256, Sha512};
 use std::alloc::{AllocError, Global};
 use std::marker::Model;
@@ -23,6 +26,13 @@ pub struct Pieces {
     pub last: Vec<u8>,
 }
 
+/// A hash that holds what an upload had received, and the bytes of a body behind it.
+#[derive(Drop)]
+pub struct Behind {
+    pub front: Front,
+    pub hash: Running,
+}
+
 /// The body of a request, seen as its list of bytes. It may carry a hash that holds just these bytes, so that who takes
 /// it need not hash them again.
 #[derive(Drop)]
@@ -31,6 +41,8 @@ pub struct Body {
     len: usize,
     /// The hash of all the bytes, if they were hashed as they came.
     running: Option<Running>,
+    /// The hash of what an upload had received and all the bytes behind it, if they were hashed so.
+    behind: Option<Behind>,
 }
 
 impl Model for Body {
@@ -42,7 +54,7 @@ impl Model for Body {
 
     ghost view = { λ a. bytes_in a.pieces };
 
-    ghost invariant = { λ a. IsBody a.running a.len (bytes_in a.pieces) };
+    ghost invariant = { λ a. IsBody a.running a.behind a.len (bytes_in a.pieces) };
 }
 
 impl Body {
@@ -59,18 +71,52 @@ impl Body {
             pieces,
             len,
             running: None,
+            behind: None,
         }
     }
 
     /// These pieces, of so many bytes in all, and their hash if there is one.
     pub(crate) fn carrying(pieces: Pieces, len: usize, running: Option<Running>) -> Body
-        requires { IsBody running len (bytes_in pieces) }
+        requires { IsBody running None len (bytes_in pieces) }
         ensures { result ≡ bytes_in pieces }
     {
         Body {
             pieces,
             len,
             running,
+            behind: None,
+        }
+    }
+
+    /// The same bytes, hashed here behind what an upload had received. That hash serves a close of the upload, if
+    /// nothing else came to it meanwhile.
+    pub fn hashed_behind(self, front: Front) -> Body
+        ensures { result ≡ self }
+    {
+        let Body {
+            pieces,
+            len,
+            running,
+            behind: _,
+        } = self;
+        let hash = front.hash().with_parts(pieces.parts.as_slice());
+        let hash = hash.with(pieces.last.as_slice());
+        Body {
+            pieces,
+            len,
+            running,
+            behind: Some(Behind { front, hash }),
+        }
+    }
+
+    /// A hash that holds these segments and the bytes behind them, if they were hashed behind just these.
+    pub(crate) fn behind(&self, segments: &Segments) -> Option<Running>
+        ensures { IfSome result
+            (λ hash. HoldsIfCarried (Some hash) (whole segments.now ++ self.now)) }
+    {
+        match &self.behind {
+            Some(behind) if behind.front.is_of(segments) => Some(behind.hash.copy()),
+            _ => None,
         }
     }
 
@@ -125,6 +171,17 @@ impl Body {
             Algorithm::Sha256 => BlobDigest::of_hashed(sha256_of(self)),
             Algorithm::Sha512 => BlobDigest::of_hashed_512(sha512_of(self)),
         }
+    }
+
+    /// The same bytes once more, with no hash. The parts are shared, and only what came behind them is copied: less than
+    /// 4 MiB of what a `BodyBuilder` made, and all of what `of` did.
+    pub fn share(&self, alloc: Global) -> Result<Body, AllocError>
+        ensures { IfOk result (λ body. body ≡ self.now) }
+    {
+        let parts = share_all(alloc, self.pieces.parts.as_slice())?;
+        let mut last = Vec::with_capacity(alloc, self.pieces.last.len())?;
+        last.extend_from_slice(self.pieces.last.as_slice())?;
+        Ok(Body::carrying(Pieces { parts, last }, self.len, None))
     }
 
     /// Its pieces, which are moved and not copied.

@@ -25,14 +25,15 @@ impl HashEnd {
         Ok(HashEnd { state })
     }
 
-    /// The same end, for one more to wait for or to tell. It takes no memory.
-    pub(crate) fn share(&self) -> Result<HashEnd, AllocError> {
+    /// The same end, for one more to wait for or to tell. It takes no memory. An `Err` comes only if there are more
+    /// owners than can be counted.
+    pub fn share(&self) -> Result<HashEnd, AllocError> {
         let state = Arc::try_clone(&self.state)?;
         Ok(HashEnd { state })
     }
 
-    /// Whether the thread has nothing left to do.
-    pub(crate) fn is_over(&self) -> bool {
+    /// Whether the thread has nothing left to do: who joins it doesn't wait.
+    pub fn is_over(&self) -> bool {
         self.state.load(Ordering::SeqCst) == OVER
     }
 

@@ -3,11 +3,13 @@
 //! A body (`body`) is read into parts (`part`), which have several owners and are never copied, and is hashed as it
 //! comes (`hashing`), in place or in a thread, for whose end others may wait (`hash_end`). What an upload received
 //! (`received`) are the parts of its bodies, one after another (`segments`), with hashes that catch up with them
-//! (`prefix_hash`). A blob (`blob`) is kept in the parts that it arrived in, and is handed out in them (`shared`).
+//! (`prefix_hash`). A body may be hashed behind that (`front`). A blob (`blob`) is kept in the parts that it arrived in,
+//! and is handed out in them (`shared`).
 #![tactic(auto)]
 
 mod blob;
 mod body;
+mod front;
 mod hash_end;
 mod hashing;
 mod part;
@@ -18,6 +20,7 @@ mod shared;
 
 pub use blob::{Blob, Several};
 pub use body::{Body, BodyBuilder, Pieces};
+pub use front::Front;
 pub use hash_end::HashEnd;
 pub use hashing::{HashPlace, InPlace, InThreads};
 pub use part::Part;

@@ -61,6 +61,32 @@ impl PrefixHash {
         self.running.end()
     }
 
+    /// Has the hash back from a thread that has ended, if it can be joined at this place. Nobody waits. Gives the end
+    /// of the thread that is at work, if one is.
+    pub fn take_back<P: HashPlace>(&mut self, place: &P) -> Option<HashEnd>
+        ensures { (by : By) (settled : List (List ℕ)) → HoldsPrefix by settled self.old
+            → HoldsPrefix by settled self.new }
+    {
+        if !self.running.is_at_work() {
+            let before = mem::replace(self, PrefixHash::new(Algorithm::Sha256));
+            *self = before.at_home(place);
+        }
+        self.running.end()
+    }
+
+    /// The same hash, without its thread if that can be joined at this place. It is waited for.
+    fn at_home<P: HashPlace>(self, place: &P) -> PrefixHash
+        ensures { (by : By) (settled : List (List ℕ)) → HoldsPrefix by settled self
+            → HoldsPrefix by settled result }
+    {
+        let PrefixHash { running, held } = self;
+        let running = match place.join(running) {
+            Ok(hash) => Hashing::Here(hash),
+            Err(running) => running,
+        };
+        PrefixHash { running, held }
+    }
+
     /// The hash with all segments taken in, if its thread can be joined at this place. It is waited for.
     fn with_all<P: HashPlace>(self, place: &P, alloc: Global, settled: &[Part]) -> PrefixHash
         requires { self.held ≤ length settled.now }

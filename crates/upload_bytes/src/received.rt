@@ -1,5 +1,5 @@
 //! What a session received, with its running hashes.
-ghost use Rattle.std.specs.Prelude.{◌≡◌, ◌↔◌, ◌+◌, ◌<◌, ◌^◌, ◌++◌, [], length, IsTrue, OnOk, OnErr};
+ghost use Rattle.std.specs.Prelude.{◌≡◌, ◌↔◌, ◌+◌, ◌<◌, ◌^◌, ◌++◌, [], length, IsTrue, IfSome, OnOk, OnErr};
 ghost use Rattle.sha2.specs.Sha256.{sha256};
 ghost use Rattle.sha2.specs.Sha512.{sha512};
 ghost use Rattle.upload_names.specs.Digest.{HasDigest};
@@ -7,8 +7,10 @@ ghost use Rattle.std.specs.List.{concat};
 ghost use Rattle.upload_bytes.specs.Segments.{whole};
 
 use crate::body::Body;
+use crate::front::Front;
 use crate::hash_end::HashEnd;
 use crate::hashing::{HashPlace, Running};
+use crate::part::share_all;
 use crate::prefix_hash::PrefixHash;
 use crate::segments::Segments;
 use sha2::Digest;
@@ -98,6 +100,40 @@ impl Received {
         }
     }
 
+    /// Has the hash by an algorithm back from a thread that has ended, whose stack goes with that, if the thread can be
+    /// joined at this place. Nobody waits, and nothing that is seen changes. Gives the end of the thread that is at
+    /// work, if one is.
+    pub fn take_back<P: HashPlace>(&mut self, place: &P, algorithm: Algorithm) -> Option<HashEnd>
+        ensures { self.new ≡ self.old }
+    {
+        match algorithm {
+            Algorithm::Sha256 => self.sha256.take_back(place),
+            Algorithm::Sha512 => self.sha512.take_back(place),
+        }
+    }
+
+    /// What was received, with its hash by an algorithm, for who hashes a last body behind it (`Body::hashed_behind`).
+    /// None if there is no memory for it. A thread that hashes for that is waited for, if the place has threads. Nothing
+    /// that is seen changes.
+    pub fn front<P: HashPlace>(
+        &mut self,
+        place: &P,
+        alloc: Global,
+        algorithm: Algorithm,
+    ) -> Option<Front>
+        ensures front { IfSome result (λ front. front ≡ self.old) }
+        ensures same { self.new ≡ self.old }
+    {
+        let settled = self.segments.settled();
+        let hash = match algorithm {
+            Algorithm::Sha256 => self.sha256.of_settled(place, Algorithm::Sha256, settled),
+            Algorithm::Sha512 => self.sha512.of_settled(place, Algorithm::Sha512, settled),
+        };
+        let shares = share_all(alloc, settled).ok()?;
+        let tail = Vec::from_slice(alloc, self.segments.tail()).ok()?;
+        Some(Front::of(shares, tail, self.segments.total(), hash))
+    }
+
     /// Whether what was received and a last body have a digest, by the algorithm of that digest. A thread that hashes
     /// for that is waited for, if the place has threads. The body is hashed into a copy, so nothing that is seen
     /// changes.
@@ -129,6 +165,9 @@ impl Received {
                 return hash.finalize();
             }
         }
+        if let Some(Running::Sha256(hash)) = body.behind(&self.segments) {
+            return hash.finalize();
+        }
         let settled = self.segments.settled();
         match self.sha256.of_settled(place, Algorithm::Sha256, settled) {
             Running::Sha256(hash) => finish(hash, &self.segments, body),
@@ -145,6 +184,9 @@ impl Received {
             if let Some(hash) = body.sha512() {
                 return hash.finalize();
             }
+        }
+        if let Some(Running::Sha512(hash)) = body.behind(&self.segments) {
+            return hash.finalize();
         }
         let settled = self.segments.settled();
         match self.sha512.of_settled(place, Algorithm::Sha512, settled) {

@@ -1,5 +1,5 @@
 -- The headline's claims, one by one, as the lemmas prove them.
-use Rattle.std.specs.Prelude.{◌≡◌, ◌≢◌, ℕ, Bool, List, [], ◌∷◌, ◌++◌, length, Option, Some, IsTrue}
+use Rattle.std.specs.Prelude.{◌≡◌, ◌≢◌, ℕ, Bool, true, false, List, [], ◌∷◌, ◌++◌, length, Option, Some, IsTrue}
 use Rattle.std.specs.FinMap as map
 use Rattle.upload_names.specs.Digest.{Digest}
 use Rattle.upload_service.specs.declared.ask.Extent.{Extent}
@@ -10,7 +10,7 @@ use Rattle.upload_service.specs.Machine.{State, Turn, IsLawful}
 use Rattle.upload_service.specs.Run.{Exchange, Run, NeverFall}
 use Rattle.upload_service.specs.Session.{carries, received, session_is_closed}
 use Rattle.upload_service.specs.Headline.{Aim, aim_of, IsAwake, IsCommitted}
-use Rattle.upload_service.specs.Stored.{IsHandedOut, IsStoreAfter, stored, last_under}
+use Rattle.upload_service.specs.Stored.{IsHandedOut, IsGiven, IsStoreAfter, is_held, stored, last_under}
 use Rattle.upload_service.specs.Alone.{IsToldAsAlone}
 
 -- A run up to an exchange, and that exchange.
@@ -68,6 +68,22 @@ BlobIsWhatWasStored =
     → (name : List ℕ) (digest : Digest) (head : Bool) (of : Digest) (size : ℕ) (bytes : Option (List ℕ))
     → x.ask ≡ asks.Has name digest head → x.answer ≡ answers.Blob of size bytes
     → IsHandedOut digest head (last_under digest (stored start front) (map.get start.blobs digest)) x.answer
+
+abbrev pub HeldIsGiven : Type 0
+HeldIsGiven =
+    (start : State) (front : List Exchange) (before : State) (x : Exchange) (after : State)
+    → Moment start front before x after
+    → (name : List ℕ) (digest : Digest) (head : Bool) → x.ask ≡ asks.Has name digest head
+    → is_held start front name digest ≡ true
+    → IsGiven digest head (last_under digest (stored start front) (map.get start.blobs digest)) x.answer
+    × (after ≡ before)
+
+abbrev pub OthersAreNoBlob : Type 0
+OthersAreNoBlob =
+    (start : State) (front : List Exchange) (before : State) (x : Exchange) (after : State)
+    → Moment start front before x after
+    → (name : List ℕ) (digest : Digest) (head : Bool) → x.ask ≡ asks.Has name digest head
+    → is_held start front name digest ≡ false → (x.answer ≡ answers.Refused refusals.NoBlob) × (after ≡ before)
 
 abbrev pub StaysLawful : Type 0
 StaysLawful = (start : State) (xs : List Exchange) (end : State) → IsLawful start → Run start xs end → IsLawful end

@@ -1,24 +1,28 @@
 -- The store after a run.
 use Rattle.std.proofs.Common.{◌≡◌, ℕ, List, [], ◌∷◌, ◌++◌, Bool, true, false, Option, Some, None, refl, sym, ◌∙◌, ap}
 use Rattle.std.proofs.Common.{subst, inl, inr, cond}
-use Rattle.std.specs.Prelude.{◌||◌, is_some, if◌then◌else◌}
+use Rattle.std.specs.Prelude.{◌||◌, is_some, IsSome, if◌then◌else◌}
+use Rattle.std.proofs.lemmas.Bool.{true≢false}
 use Rattle.std.specs.FinMap as map
 use Rattle.std.specs.FinSet as set
 use Rattle.upload_names.specs.Digest.{Digest}
 use Rattle.upload_service.specs.declared.ask.Ask.TheVariants as asks
 use Rattle.upload_service.specs.declared.answer.Answer.TheVariants as answers
+use Rattle.upload_service.specs.declared.answer.Refusal.TheVariants as refusals
 use Rattle.upload_service.specs.Machine.{same_digest, State, Outcome, effect, answer_of, blobs_with, pairs_with, holds}
-use Rattle.upload_service.specs.Machine.{outcome}
+use Rattle.upload_service.specs.Machine.{outcome, state_after, refused, blob_reply, may_lack_memory}
 use Rattle.std.specs.List.{list_any}
 use Rattle.upload_service.specs.Machine.{Turn, IsLawful}
-use Rattle.upload_service.proofs.Claims.{StoreIsWhatWasStored, BlobIsWhatWasStored}
+use Rattle.upload_service.proofs.Claims.{StoreIsWhatWasStored, BlobIsWhatWasStored, HeldIsGiven, OthersAreNoBlob}
 use Rattle.upload_service.specs.Run.{Exchange, Run}
 use Rattle.upload_service.specs.Session.{carries, accepted_of, joined_chunks, received}
 use Rattle.upload_service.specs.UploadView.{upload_view, answer_view}
-use Rattle.upload_service.specs.Stored.{Stored, stored_as, stored_by, stored_from, last_under, is_pair, notes}
+use Rattle.upload_service.specs.Stored.{Stored, stored, stored_as, stored_by, stored_from, last_under, is_pair, notes}
+use Rattle.upload_service.specs.Stored.{is_held, IsHandedOut, IsGiven}
+use Rattle.upload_service.proofs.Lawful.{stays_lawful}
 use Rattle.upload_service.proofs.Keeping.Tables.{same_itself, blob-insert, contains-insert}
 use Rattle.upload_service.proofs.Steps.{outcome_sound}
-use Rattle.upload_service.proofs.Effects.{IsBlob, IsCommit, FitsStore, FitsAnswer, IsOutcome}
+use Rattle.upload_service.proofs.Effects.{IsCommit, FitsStore, IsOutcome}
 use Rattle.upload_service.proofs.Alone.{numbered_if_lawful}
 use Rattle.upload_service.proofs.Chunks.{append_none, gave, gave_own, received-push, open_is_received}
 
@@ -145,24 +149,68 @@ unfolding Turn
 store_is_what_was_stored start xs end lawful run =
     record { blobs = blobs_run xs start [] start end lawful refl run; pairs = pairs_run xs start end run }
 
-pub blob_is_what_was_stored : BlobIsWhatWasStored
+-- a turn of a request for a blob that the repository has, and of another one
+given_turn : (s : State) (x : Exchange) (t : State) (digest : Digest) (head : Bool) (blob : List ℕ)
+    → Turn s x.ask x.secret x.now x.answer t → outcome s x.ask x.secret x.now ≡ blob_reply digest head (Some blob)
+    → IsGiven digest head (Some blob) x.answer × (t ≡ s)
 unfolding Turn
+given_turn s x t digest head blob (inl did) e = (
+  inl (record { content = blob; is_content = refl; is_answer = did.0 ∙ ap answer_of e }),
+  did.1 ∙ ap (state_after s x.now) e,
+)
+given_turn s x t digest head blob (inr lacked) e =
+    (inr (no_head head (sym (ap may_lack_memory e) ∙ lacked.0), lacked.1), lacked.2)
+  where
+    no_head : (h : Bool) → is_some (if h then None else Some blob) ≡ true → h ≡ false
+    no_head true c = absurd (true≢false (sym c))
+    no_head false c = refl
+
+refused_turn : (s : State) (x : Exchange) (t : State) → Turn s x.ask x.secret x.now x.answer t
+    → outcome s x.ask x.secret x.now ≡ refused refusals.NoBlob
+    → (x.answer ≡ answers.Refused refusals.NoBlob) × (t ≡ s)
+unfolding Turn
+refused_turn s x t (inl did) e = (did.0 ∙ ap answer_of e, did.1 ∙ ap (state_after s x.now) e)
+refused_turn s x t (inr lacked) e = absurd (true≢false (sym lacked.0 ∙ ap may_lack_memory e))
+
+-- what a request for a blob comes to
+has_outcome : (s : State) (x : Exchange) (name : List ℕ) (digest : Digest) (head held : Bool)
+    → x.ask ≡ asks.Has name digest head → holds s name digest ≡ held → outcome s x.ask x.secret x.now
+    ≡ (if held then blob_reply digest head (map.get s.blobs digest) else refused refusals.NoBlob)
+has_outcome s x name digest head held a h =
+    ap (λ ask. outcome s ask x.secret x.now) a
+    ∙ ap (λ b. if b then blob_reply digest head (map.get s.blobs digest) else refused refusals.NoBlob) h
+
+pub held_is_given : HeldIsGiven
+held_is_given start front before x after m name digest head a held =
+    let holds_it : holds before name digest ≡ true = pairs_run front start before m.so_far name digest ∙ held in
+    let there = (stays_lawful start front before m.lawful m.so_far).stored name digest holds_it in
+    by_blob (map.get before.blobs digest) refl holds_it there
+  where
+    by_blob : (b : Option (List ℕ)) → map.get before.blobs digest ≡ b → holds before name digest ≡ true → IsSome b
+        → IsGiven digest head (last_under digest (stored start front) (map.get start.blobs digest)) x.answer
+        × (after ≡ before)
+    by_blob (Some blob) is h there =
+        subst (λ b. IsGiven digest head b x.answer × (after ≡ before))
+        (sym is ∙ blobs_run front start [] start before m.lawful refl m.so_far digest)
+        (given_turn before x after digest head blob m.turn
+        (has_outcome before x name digest head true a h ∙ ap (blob_reply digest head) is))
+    by_blob None is h there = absurd (true≢false (sym there))
+
+pub others_are_no_blob : OthersAreNoBlob
+others_are_no_blob start front before x after m name digest head a not_held =
+    refused_turn before x after m.turn (has_outcome before x name digest head false a
+    (pairs_run front start before m.so_far name digest ∙ not_held))
+
+pub blob_is_what_was_stored : BlobIsWhatWasStored
 blob_is_what_was_stored start front before x after m name digest head of size bytes a r =
-    elim m.turn [
-      | inl did ↦
-          let f : IsBlob before x.ask of size bytes =
-          subst (FitsAnswer before x.now x.ask) (sym did.0 ∙ r) (outcome_sound before x.now x.ask x.secret).answered in
-          let has : asks.Has f.name of f.head ≡ asks.Has name digest head = sym f.asked ∙ a in
-          let of_is : of ≡ digest = cc in
-          let head_is : f.head ≡ head = cc in
-          let is_bytes : bytes ≡ (if head then None else Some f.blob) =
-          f.is_bytes ∙ ap (λ h. if h then None else Some f.blob) head_is in
-          record {
-            content = f.blob;
-            is_content =
-                sym (blobs_run front start [] start before m.lawful refl m.so_far digest)
-                ∙ ap (map.get before.blobs) (sym of_is) ∙ f.is_stored;
-            is_answer = r ∙ (λ i. answers.Blob (of_is i) (f.is_size i) (is_bytes i));
-          }
+    by_held (is_held start front name digest) refl
+  where
+    by_held : (b : Bool) → is_held start front name digest ≡ b
+        → IsHandedOut digest head (last_under digest (stored start front) (map.get start.blobs digest)) x.answer
+    by_held true held = elim (held_is_given start front before x after m name digest head a held).0 [
+      | inl given ↦ given
       | inr lacked ↦ let bad : answers.NoMemory ≡ answers.Blob of size bytes = sym lacked.1 ∙ r in cc
     ]
+    by_held false not_held =
+        let told = (others_are_no_blob start front before x after m name digest head a not_held).0 in
+        let bad : answers.Refused refusals.NoBlob ≡ answers.Blob of size bytes = sym told ∙ r in cc

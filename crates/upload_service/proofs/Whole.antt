@@ -10,7 +10,8 @@ use Rattle.upload_service.specs.Headline.{IsOrderly, HeadlineHolds}
 use Rattle.upload_service.proofs.Headline.{commits_its_chunks, missed_chunk_changes_nothing, misplaced_only_there}
 use Rattle.upload_service.proofs.Headline.{closed_takes_nothing}
 use Rattle.upload_service.proofs.Alone.{answered_as_alone}
-use Rattle.upload_service.proofs.Store.{run-push, store_is_what_was_stored, blob_is_what_was_stored}
+use Rattle.upload_service.proofs.Store.{run-push, store_is_what_was_stored, blob_is_what_was_stored, held_is_given}
+use Rattle.upload_service.proofs.Store.{others_are_no_blob}
 use Rattle.upload_service.proofs.Lawful.{stays_lawful}
 
 pub orderly : (start : State) (front : List Exchange) (before : State) (x : Exchange) (after : State)
@@ -23,6 +24,8 @@ orderly start front before x after m =
       misplaced = misplaced_only_there start front before x after m;
       closed = closed_takes_nothing start front before x after m;
       blob = blob_is_what_was_stored start front before x after m;
+      has = held_is_given start front before x after m;
+      has_not = others_are_no_blob start front before x after m;
     }
 
 -- a run comes apart at each of its exchanges

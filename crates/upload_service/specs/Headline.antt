@@ -1,5 +1,5 @@
 -- What holds of every run.
-use Rattle.std.specs.Prelude.{◌≡◌, ◌≢◌, ℕ, Bool, false, List, [], ◌∷◌, ◌++◌, length, Option, Some, None, IsTrue, ◌⊎◌}
+use Rattle.std.specs.Prelude.{◌≡◌, ◌≢◌, ℕ, Bool, true, false, List, [], ◌∷◌, ◌++◌, length, Option, Some, None, IsTrue, ◌⊎◌}
 use Rattle.std.specs.FinMap as map
 use Rattle.upload_names.specs.Digest.{Digest, HasDigest}
 use Rattle.upload_service.specs.declared.ask.Extent.{Extent}
@@ -14,7 +14,7 @@ use Rattle.upload_service.specs.Machine.{is_idle, awake, Session, State, Turn, I
 use Rattle.upload_service.specs.Run.{Exchange, Run, NeverFall}
 use Rattle.upload_service.specs.Session.{carries, received, session_is_closed}
 use Rattle.upload_service.specs.Alone.{IsToldAsAlone}
-use Rattle.upload_service.specs.Stored.{Stored, stored, last_under, IsStoreAfter, IsHandedOut}
+use Rattle.upload_service.specs.Stored.{Stored, stored, last_under, is_held, IsStoreAfter, IsHandedOut, IsGiven}
 
 -- Where a Given range is aimed: a session, and the first position.
 pub record Aim : Type 0 where
@@ -72,6 +72,14 @@ pub record IsOrderly (start : State) (front : List Exchange) (before : State) (x
   pub blob : (name : List ℕ) (digest : Digest) (head : Bool) (of : Digest) (size : ℕ) (bytes : Option (List ℕ))
       → x.ask ≡ asks.Has name digest head → x.answer ≡ answers.Blob of size bytes
       → IsHandedOut digest head (last_under digest (stored start front) (map.get start.blobs digest)) x.answer
+  -- a blob that the repository has is given, and nothing changes
+  pub has : (name : List ℕ) (digest : Digest) (head : Bool) → x.ask ≡ asks.Has name digest head
+      → is_held start front name digest ≡ true
+      → IsGiven digest head (last_under digest (stored start front) (map.get start.blobs digest)) x.answer
+      × (after ≡ before)
+  -- of a blob that it doesn't have it is told so, and nothing changes
+  pub has_not : (name : List ℕ) (digest : Digest) (head : Bool) → x.ask ≡ asks.Has name digest head
+      → is_held start front name digest ≡ false → (x.answer ≡ answers.Refused refusals.NoBlob) × (after ≡ before)
 
 -- The headline of a run: each exchange is orderly, each session is told what it would be told alone, and the store is
 -- what was stored.

@@ -1,6 +1,7 @@
 -- What a run stored, and the store after it.
 use Rattle.std.specs.List.{list_any}
-use Rattle.std.specs.Prelude.{◌≡◌, ℕ, ◌||◌, Bool, false, List, [], ◌∷◌, ◌++◌, length, Option, Some, None, if◌then◌else◌}
+use Rattle.std.specs.Prelude.{◌≡◌, ◌⊎◌, ℕ, ◌||◌, Bool, false, List, [], ◌∷◌, ◌++◌, length, Option, Some, None}
+use Rattle.std.specs.Prelude.{if◌then◌else◌}
 use Rattle.std.specs.FinMap as map
 use Rattle.upload_names.specs.Digest.{Digest}
 use Rattle.upload_service.specs.declared.ask.Ask.{Ask}
@@ -58,16 +59,25 @@ is_pair pair (Some got) = eq_by_cmp pair_cmp pair got
 abbrev pub notes : List ℕ → Digest → Answer → Bool
 notes name digest answer = is_pair (name, digest) (answer_view answer).pair
 
+-- the repository has the blob after these exchanges: it had it at the start, or was told so since
+abbrev pub is_held : State → List Exchange → List ℕ → Digest → Bool
+is_held start xs name digest = holds start name digest || list_any (λ x. notes name digest x.answer) xs
+
 -- What is stored after a run: under each digest the last blob that was stored there, else what was there at the start;
 -- and the pairs are those of the start and those that were answered Stored.
 pub record IsStoreAfter (start : State) (xs : List Exchange) (end : State) : Type 0 where
   pub blobs : (digest : Digest)
       → map.get end.blobs digest ≡ last_under digest (stored start xs) (map.get start.blobs digest)
   pub pairs : (name : List ℕ) (digest : Digest)
-      → holds end name digest ≡ (holds start name digest || list_any (λ x. notes name digest x.answer) xs)
+      → holds end name digest ≡ is_held start xs name digest
 
 -- what is handed out of a blob: its own digest, its length, and its bytes, but for a HEAD
 pub record IsHandedOut (digest : Digest) (head : Bool) (blob : Option (List ℕ)) (answer : Answer) : Type 0 where
   pub content : List ℕ
   pub is_content : blob ≡ Some content
   pub is_answer : answer ≡ answers.Blob digest (length content) (if head then None else Some content)
+
+-- what is answered of a blob that the repository has: it is handed out, or memory was refused for its bytes
+abbrev pub IsGiven : Digest → Bool → Option (List ℕ) → Answer → Type 0
+IsGiven digest head blob answer =
+    IsHandedOut digest head blob answer ⊎ ((head ≡ false) × (answer ≡ answers.NoMemory))

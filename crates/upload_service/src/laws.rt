@@ -7,7 +7,8 @@ ghost use Rattle.upload_service.specs.RuledOut.{HeadlineRulesOut};
 /// fall: a blob that a session commits is that session's accepted chunks joined in the order taken, each once, and
 /// has the digest asked for; a chunk that misses the next offset is answered so and changes nothing; a closed
 /// session takes nothing more; every session's replies are those that it would get alone, refusals for memory left
-/// out; and the store is what was stored.
+/// out; the store is what was stored; and a request for a blob is answered with it if the repository has it, or memory
+/// was refused for its bytes, and with NoBlob if not.
 pub fn headline_holds()
     ensures { HeadlineHolds }
 {}

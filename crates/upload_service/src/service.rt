@@ -1,5 +1,5 @@
 //! The service: its tables, the step that serves one request, and runs of it.
-ghost use Rattle.std.specs.Prelude.{◌≡◌, ◌↔◌, IsTrue, List, ℕ, length, max, IfOk, OnErr};
+ghost use Rattle.std.specs.Prelude.{◌≡◌, ◌↔◌, IsTrue, List, ℕ, length, max, Some, IfSome, IfOk, OnErr};
 ghost use Rattle.upload_service.specs.Machine.{State, IsLawful, AreLawful, Turn, empty_state, holds as holds_of};
 ghost use Rattle.std.specs.FinMap as map;
 ghost use Rattle.std.specs.Option.{option_map};
@@ -16,7 +16,7 @@ use crate::turn::{Tables, turn};
 use std::alloc::{AllocError, Global};
 use std::marker::Model;
 use std::thread::Threads;
-use upload_bytes::{HashEnd, HashPlace, InPlace, InThreads};
+use upload_bytes::{Front, HashEnd, HashPlace, InPlace, InThreads};
 use upload_names::{Algorithm, BlobDigest, RepoName, UploadRef};
 
 /// The upload service: the open sessions, the stored blobs, and which repository has which blob. It and its
@@ -111,7 +111,9 @@ impl Service {
         ensures turn { Turn self.old ask secret now result self.new }
         ensures lawful { IsLawful self.new }
     {
-        self.step_at(&InThreads(rt), ask, secret, now)
+        let place = InThreads(rt);
+        self.take_back(&place);
+        self.step_at(&place, ask, secret, now)
     }
 
     /// Serves one request. A close hashes what is left at a place.
@@ -127,10 +129,11 @@ impl Service {
     /// chunk, of the SHA-512 before a close. Nothing that is seen changes. A reference of no open session is no work.
     ///
     /// `InPlace` hashes here, and takes no memory. `InThreads` has a thread of the session's own do it if there is
-    /// enough to hash, so that the caller serves other requests meanwhile; from then on the caller calls `step_joining`
-    /// in place of `step`. A session has one such thread at a time for each algorithm. While that is at work nothing is
-    /// done: what is left to do then is for the next one. The thread is given shares of the session's bytes and no
-    /// copy. If there is no memory for it, or none can be made, all is taken in here.
+    /// enough to hash, so that the caller serves other requests meanwhile; from then on the caller calls
+    /// `step_joining` in place of `step`. A session has one such thread at a time for each algorithm. A thread that has
+    /// ended is joined by the next `catch_up` or `step_joining`, of whichever session, and keeps no stack from then on.
+    /// While that is at work nothing is done: what is left to do then is for the next one. The thread is given shares of
+    /// the session's bytes and no copy. If there is no memory for it, or none can be made, all is taken in here.
     ///
     /// Gives the end of the thread that is at work, so that who is to close the session can wait for it. Behind it
     /// there may be more to take in, if chunks came meanwhile or the thread was at work already, so the caller then
@@ -143,9 +146,39 @@ impl Service {
     ) -> Option<HashEnd>
         ensures { self.new ≡ self.old }
     {
+        self.take_back(place);
         self.tables
             .sessions
             .catch_up(place, self.tables.alloc, at, algorithm)
+    }
+
+    /// What an open session received, with its hash by an algorithm, for who hashes the body of a close behind it before
+    /// asking for the close (`Body::hashed_behind`). Then the step of that close only compares what the session received
+    /// with this, unless a chunk came meanwhile. None if there is no such session, a thread is at work for it
+    /// (`catch_up` gives its end), or no memory is left. Nothing that is seen changes.
+    pub fn front<P: HashPlace>(
+        &mut self,
+        place: &P,
+        at: &UploadRef,
+        algorithm: Algorithm,
+    ) -> Option<Front>
+        ensures front { IfSome result (λ front.
+            option_map (λ session. session.received) (map.get self.old.sessions at.now) ≡ Some front) }
+        ensures same { self.new ≡ self.old }
+    {
+        if self.catch_up(place, at, algorithm).is_some() {
+            return None;
+        }
+        self.tables
+            .sessions
+            .front(place, self.tables.alloc, at, algorithm)
+    }
+
+    /// Joins the threads that have ended hashing.
+    fn take_back<P: HashPlace>(&mut self, place: &P)
+        ensures { self.new ≡ self.old }
+    {
+        self.tables.sessions.take_back(place);
     }
 
     /// Has the numbers up to this one count as used up, so that no session gets one of them. Nothing else changes, and
@@ -155,6 +188,13 @@ impl Service {
         ensures lawful { IsLawful self.new }
     {
         self.tables.issued = self.tables.issued.max(numbers);
+    }
+
+    /// The last number that a session was given or that counts as used up, or 0. The next session gets the one behind.
+    pub fn issued(&self) -> u32
+        ensures { result ≡ self.now.issued }
+    {
+        self.tables.issued
     }
 
     /// How many bytes a session has received, or None if no such session is open. One that is idle counts

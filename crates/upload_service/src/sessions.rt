@@ -2,15 +2,16 @@
 ghost use Rattle.std.specs.Prelude.{◌≡◌, ◌↔◌, ◌+◌, ◌<◌, ◌≤◌, ◌^◌, ◌++◌, [], ℕ, length, filter, nat_le, Some, None};
 ghost use Rattle.std.specs.Prelude.{IsTrue, IsSome, IfSome, IfNone, OnOk, OnErr};
 ghost use Rattle.std.specs.FinMap as map;
+ghost use Rattle.std.specs.Option.{option_map};
 ghost use Rattle.upload_names.specs.Digest.{HasDigest};
 ghost use Rattle.upload_service.specs.Machine.{Session, is_idle, awake_of, swept_of};
 ghost use Rattle.upload_service.specs.Kept.Entries.{session_of, is_kept};
 
 use crate::limits::Limits;
 use std::alloc::{AllocError, Global};
-use std::collections::BTreeMap;
+use std::collections::{BTreeMap, VecDeque};
 use std::marker::Model;
-use upload_bytes::{Body, HashEnd, HashPlace, Received};
+use upload_bytes::{Body, Front, HashEnd, HashPlace, Received};
 use upload_names::{Algorithm, BlobDigest, RepoName, UploadRef};
 
 /// A session that was opened and not yet closed.
@@ -42,10 +43,21 @@ impl OpenSession {
     }
 }
 
+/// A thread that was started to hash for a session by an algorithm, and its end.
+#[derive(Drop)]
+struct Started {
+    at: UploadRef,
+    algorithm: Algorithm,
+    end: HashEnd,
+}
+
 /// The open sessions, seen as a map from their references.
 #[derive(Drop)]
 pub struct Sessions {
     open: BTreeMap<UploadRef, OpenSession>,
+    /// The threads that hash, and those that have ended since `take_back`. One that isn't noted for want of memory is
+    /// joined when its session is hashed again.
+    started: VecDeque<Started>,
 }
 
 impl Model for Sessions {
@@ -71,6 +83,7 @@ impl Sessions {
     {
         Sessions {
             open: BTreeMap::new(alloc),
+            started: VecDeque::new(alloc),
         }
     }
 
@@ -150,10 +163,92 @@ impl Sessions {
     ) -> Option<HashEnd>
         ensures { self.new ≡ self.old }
     {
+        let end = self.hash_more(place, alloc, at, algorithm)?;
+        if !self.is_noted(at, algorithm) {
+            if let Ok(end) = end.share() {
+                self.note(*at, algorithm, end);
+            }
+        }
+        Some(end)
+    }
+
+    /// Whether a thread that hashes for a session by an algorithm is noted.
+    fn is_noted(&self, at: &UploadRef, algorithm: Algorithm) -> bool {
+        self.started.iter().any(|started| started.algorithm == algorithm && started.at == *at)
+    }
+
+    /// The same as `catch_up`, but that a thread which starts isn't noted.
+    fn hash_more<P: HashPlace>(
+        &mut self,
+        place: &P,
+        alloc: Global,
+        at: &UploadRef,
+        algorithm: Algorithm,
+    ) -> Option<HashEnd>
+        ensures { self.new ≡ self.old }
+    {
         let Some(session) = self.open.get_mut(at) else {
             return None;
         };
         session.received.catch_up(place, alloc, algorithm)
+    }
+
+    /// Notes a thread that hashes for a session by an algorithm, by its end.
+    fn note(&mut self, at: UploadRef, algorithm: Algorithm, end: HashEnd)
+        ensures { self.new ≡ self.old }
+    {
+        let _ = self.started.push_back(Started { at, algorithm, end });
+    }
+
+    /// Joins the threads that have ended hashing, if that can be done at this place, so that they keep no stack. Nobody
+    /// waits, and nothing that is seen changes.
+    pub fn take_back<P: HashPlace>(&mut self, place: &P)
+        ensures { self.new ≡ self.old }
+    {
+        for _ in 0..self.started.len() {
+            let Some(Started { at, algorithm, end }) = self.started.pop_front() else {
+                return;
+            };
+            if !end.is_over() {
+                self.note(at, algorithm, end);
+            } else if let Some(end) = self.take_back_one(place, &at, algorithm) {
+                self.note(at, algorithm, end);
+            }
+        }
+    }
+
+    /// Has the hash of a session by an algorithm back from its thread, if that has ended, else gives its end.
+    fn take_back_one<P: HashPlace>(
+        &mut self,
+        place: &P,
+        at: &UploadRef,
+        algorithm: Algorithm,
+    ) -> Option<HashEnd>
+        ensures { self.new ≡ self.old }
+    {
+        let Some(session) = self.open.get_mut(at) else {
+            return None;
+        };
+        session.received.take_back(place, algorithm)
+    }
+
+    /// What an open session received, with its hash by an algorithm, if there is such a session and memory for it. A
+    /// thread that hashes for that is waited for, if the place has threads. Nothing that is seen changes.
+    pub fn front<P: HashPlace>(
+        &mut self,
+        place: &P,
+        alloc: Global,
+        at: &UploadRef,
+        algorithm: Algorithm,
+    ) -> Option<Front>
+        ensures front { IfSome result (λ front.
+            option_map (λ session. session.received) (map.get self.old at.now) ≡ Some front) }
+        ensures same { self.new ≡ self.old }
+    {
+        let Some(session) = self.open.get_mut(at) else {
+            return None;
+        };
+        session.received.front(place, alloc, algorithm)
     }
 
     /// Whether what an open session received and a last body have a digest, by the algorithm of that digest.

@@ -18,7 +18,7 @@ use Rattle.upload_service.specs.declared.limits.Limits.{Limits}
 use Rattle.upload_service.specs.declared.sessions.OpenSession.{OpenSession}
 use Rattle.upload_service.specs.Machine.{Session, Table, same, is_idle, unless_idle, awake_of, swept_of}
 use Rattle.upload_service.specs.Kept.Entries.{kept_as, session_of, is_kept}
-use Rattle.upload_service.proofs.Keeping.Kept.{get-kept, len_distinct, len-kept}
+use Rattle.upload_service.proofs.Keeping.Kept.{get-kept, kept-written, len_distinct, len-kept}
 use Rattle.upload_service.proofs.Sweeps.{get-awake_of}
 
 abbrev pub bytes_cmp : List ℕ → List ℕ → Ordering
@@ -32,6 +32,19 @@ Entries = List (List ℕ × OpenSession)
 
 abbrev pub table : Entries → Table Session
 table es = kept_as bytes_cmp session_of es
+
+-- an open session with other bytes
+abbrev pub with_received : OpenSession → List ℕ → OpenSession
+with_received s received = record { name = s.name; received = received; seen = s.seen }
+
+-- entries of which one has bytes that are seen the same
+pub received_same : (es fs : Entries) (k : List ℕ) (old : OpenSession) (received : List ℕ) → Some old ≡ lookup (same k) es
+    → ((q : List ℕ)
+    → lookup (same q) fs ≡ cond (same k q) (Some (with_received old received)) (lookup (same q) es))
+    → received ≡ old.received → table fs ≡ table es
+received_same es fs k old received has h is =
+    kept-written nat_list_cmp_total keys_exact session_of es fs k old (with_received old received) has h
+    (λ i. record { name = old.name; received = is i; seen = old.seen })
 
 only_awake : (max_idle now : ℕ) (o : Option OpenSession)
     → option_map session_of (option_filter (λ s. not (is_idle max_idle now (session_of s))) o)

@@ -8,8 +8,8 @@ use Rattle.upload_names.specs.Digest.{HasDigest}
 use Rattle.upload_service.specs.Machine.{Table, Session}
 use Rattle.upload_service.specs.Kept.Entries.{session_of}
 use Rattle.upload_service.specs.declared.sessions.OpenSession.{OpenSession}
-use Rattle.upload_service.proofs.Keeping.Kept.{kept-written, get-kept}
-use Rattle.upload_service.proofs.Keeping.Swept.{keys_exact}
+use Rattle.upload_service.proofs.Keeping.Kept.{get-kept}
+use Rattle.upload_service.proofs.Keeping.Swept.{keys_exact, with_received, received_same}
 use Rattle.upload_service.proofs.sessions.Sessions.has_digest.Goals as goal
 
 pub unreachable-requires : goal.unreachable-requires
@@ -34,10 +34,7 @@ returns-clause-is g c = λ session e.
 
 pub returns-clause-same : goal.returns-clause-same
 returns-clause-same g c =
-    let old : OpenSession = c.in-Some.session.now in
-    let at : OpenSession = record { name = old.name; received = c.has_digest.new.self; seen = old.seen } in
-    kept-written nat_list_cmp_total keys_exact session_of c.self.inside.open.entries
-    (c.get_mut.follows.lender at).entries c.args.at.now old at c.in-Some.ensures.value
-    (((c.get_mut.follows.holds at).3 (ap is_some (sym c.in-Some.ensures.value))).0)
-    (λ i. record { name = old.name; received = c.has_digest.ensures.same i; seen = old.seen })
+    received_same _ _ _ c.in-Some.session.now _ c.in-Some.ensures.value
+    (((c.get_mut.follows.holds (with_received c.in-Some.session.now c.has_digest.new.self)).3
+    (ap is_some (sym c.in-Some.ensures.value))).0) c.has_digest.ensures.same
     ∙ c.self.view_is
