@@ -1,6 +1,6 @@
 -- Records that are added to a batch.
 use Rattle.std.proofs.Common.{◌≡◌, ◌⊎◌, inl, inr, ℕ, ◌<◌, ◌^◌, List, [], ◌∷◌, ◌++◌, length, Result, Ok, Err, OnOk}
-use Rattle.std.proofs.Common.{OnErr, refl, sym, ◌∙◌, ap, arith}
+use Rattle.std.proofs.Common.{OnErr, sym, ◌∙◌, ap}
 use Rattle.std.proofs.lemmas.List.{append-nil}
 use Rattle.std.proofs.lemmas.List.Elements.{All-push, All-nil, All-same}
 use Rattle.std.proofs.lemmas.List.Concat.{flat_map-append}

@@ -1,10 +1,9 @@
 -- A cause that is told of a part of a call is one of the whole.
-use Rattle.std.proofs.Common.{ℕ, ◌+◌, ◌≤◌, ◌^◌, Result, Ok, Err, IfErr, arith}
-use Rattle.sqlite_disk.specs.Disk.{MoreFaults}
+use Rattle.std.proofs.Common.{◌≡◌, true, Result, Ok, Err, IfErr, is_err}
 use Rattle.journal.specs.declared.error.Error.{Error}
 use Rattle.journal.specs.declared.error.Error.TheVariants.{Closed, NotAJournal, OtherVersion, OtherParameters}
 use Rattle.journal.specs.declared.error.Error.TheVariants.{TooLong, NoMemory, Disk, Machine}
-use Rattle.journal.specs.Errors.{Because, Never}
+use Rattle.journal.specs.Errors.{Because, WhyNot, Never}
 
 pub because_weaker : (closed closed2 other other2 long long2 disk disk2 machine machine2 : Type 0) →
     (closed → closed2) → (other → other2) → (long → long2) → (disk → disk2) → (machine → machine2)
@@ -25,3 +24,20 @@ if_err_weaker (Err error) P Q weaker given = weaker error given
 
 pub never : (P : Type 0) → Never → P
 never P false_is = absurd (cc false_is)
+
+-- what follows from each cause follows
+pub why_not : (closed long disk same goal : Type 0) → (closed → goal) → (long → goal) → (disk → goal) → (error : Error)
+    → WhyNot closed long disk same error → goal
+why_not closed long disk same goal a b c Closed why = a why.0
+why_not closed long disk same goal a b c NotAJournal why = never goal why
+why_not closed long disk same goal a b c OtherVersion why = never goal why
+why_not closed long disk same goal a b c OtherParameters why = never goal why
+why_not closed long disk same goal a b c TooLong why = b why.0
+why_not closed long disk same goal a b c NoMemory why = never goal why
+why_not closed long disk same goal a b c (Disk error) why = c why
+why_not closed long disk same goal a b c (Machine error) why = never goal why
+
+pub if_err_told : {T : Type 0} (result : Result T Error) (P : Error → Type 0) → is_err result ≡ true → IfErr result P
+    → (error : Error) × P error
+if_err_told (Ok x) P is told = absurd (cc is)
+if_err_told (Err error) P is told = (error, told)

@@ -1,6 +1,6 @@
 -- What a crash leaves in each step of a commit.
-use Rattle.std.proofs.Common.{◌≡◌, ◌≢◌, ◌⊎◌, inl, inr, ℕ, zero, suc, ◌+◌, ◌-◌, ◌<◌, ◌≤◌, ◌^◌, max, List, [], ◌∷◌}
-use Rattle.std.proofs.Common.{◌++◌, length, take, drop, get_or, slice_index, Some, None, refl, sym, ◌∙◌, ap, subst}
+use Rattle.std.proofs.Common.{◌≡◌, ◌≢◌, inl, inr, ℕ, ◌+◌, ◌-◌, ◌<◌, ◌≤◌, ◌^◌, max, List, [], ◌∷◌}
+use Rattle.std.proofs.Common.{◌++◌, length, take, drop, slice_index, Some, None, sym, ◌∙◌, ap, subst}
 use Rattle.std.proofs.Common.{arith, append_assoc, length-append, length-take, length-drop, take-append-drop}
 use Rattle.std.proofs.Common.{get_or-drop, get_or-take}
 use Rattle.std.proofs.lemmas.Bool.{cases_eq}
@@ -10,6 +10,7 @@ use Rattle.sqlite_disk.specs.Disk.{Holds, Torn, Follows}
 use Rattle.journal.specs.Format.{Kept, sector, whole, number_of, number_bytes, head, number_in, time_in, length_in}
 use Rattle.journal.specs.Format.{span, records, behind, next, batches, stored, Lie, Rests, IsBeforeOrAfter}
 use Rattle.journal.specs.Gate.{IsStaged}
+use Rattle.journal.specs.Reads.{EndsAt}
 use Rattle.journal.proofs.Reading.{length-number_bytes, number_of-number_bytes}
 use Rattle.journal.proofs.Listing.{is_whole, there, behind_there, next_open, next_shut, batches_none, lie_more}
 use Rattle.journal.proofs.Places.{same_front, same_back, held, take_within}
@@ -345,3 +346,60 @@ module _ (line : List ℕ) (old : List Kept) (end len count time : ℕ) (bytes i
       rests_longer line (old ++ (time, records items) ∷ []) behind_it (behind_it + sector) len2 now
       (subst (λ (n : ℕ). Rests line (old ++ (time, records items) ∷ []) n (n + sector) now) (sym place) done)
       (omega (arith, longer)) (omega (arith, longer, place, rests.there, stage.within, torn.no_shorter))
+
+-- what the write of the gate leaves behind it
+pub staged_still : (gate next number : ℕ) (kept : Kept) (old new : List ℕ) → Torn gate sector old new → IsStaged gate
+    next number kept old → IsStaged gate next number kept new
+staged_still gate next number kept old new torn staged = record {
+  is =
+      ap (λ (l : List ℕ). behind number (take (next - (gate + sector)) l))
+      (same_back gate sector old new torn (omega (arith, staged.within, staged.after)))
+      ∙ staged.is;
+  after = staged.after;
+  within = omega (arith, staged.within, torn.no_shorter);
+  shut = λ is.
+      staged.shut (sym (torn.above next (omega (arith, staged.within)) (omega (arith, staged.after))) ∙ is);
+}
+
+-- the file still begins with its line
+pub front_stays : (line : List ℕ) (all : List Kept) (end len at : ℕ) (old new : List ℕ) → Rests line all end len old
+    → end ≤ at → Torn at sector old new → take sector new ≡ line
+front_stays line all end len at old new rests past torn =
+    same_front at sector old new torn sector (omega (arith, rests.begins))
+    (omega (arith, rests.begins, rests.within, rests.there))
+    ∙ rests.front
+
+-- at the shut gate the batches end
+pub ends_at : (line : List ℕ) (all : List Kept) (end len count : ℕ) (file : List ℕ) → Rests line all end len file
+    → stored file ≡ all → count ≡ length all → EndsAt file end count
+ends_at line all end len count file rests is counted = record {
+  body = drop sector (take end file);
+  front =
+      sym (take-append-drop sector (take end file))
+      ∙ ap (λ (l : List ℕ). l ++ drop sector (take end file)) (take_within file 0 sector end rests.begins);
+  lie = subst (λ (l : List Kept). Lie 0 (drop sector (take end file)) l) (sym is) rests.lie;
+  none = next_shut count (drop end file) (λ open_is. rests.shut (sym (first_at_end file end) ∙ open_is));
+  count_is = counted ∙ ap length (sym is);
+  within = omega (arith, rests.within, rests.there);
+}
+
+-- a file at rest, of what another one stands for
+pub still_kept : (line : List ℕ) (all : List Kept) (end len : ℕ) (file left : List ℕ) → Rests line all end len file
+    → Rests line all end len left → Rests line (stored file) end len left
+still_kept line all end len file left rests there =
+    subst (λ (l : List Kept). Rests line l end len left) (sym (stored_rests line all end len file rests)) there
+
+pub kept_alone : (line : List ℕ) (all : List Kept) (end len : ℕ) (file left : List ℕ) → Rests line all end len file
+    → left ≡ file → Rests line (stored file) end len left
+kept_alone line all end len file left rests same =
+    still_kept line all end len file left rests (subst (λ (f : List ℕ). Rests line all end len f) (sym same) rests)
+
+pub one_more : (line : List ℕ) (old : List Kept) (added : Kept) (end len : ℕ) (file : List ℕ) {count : ℕ}
+    → count ≡ length old → Rests line (old ++ added ∷ []) end len file → count + 1 ≡ length (stored file)
+one_more line old added end len file counted rests =
+    omega (
+      arith,
+      counted,
+      ap length (stored_rests line (old ++ added ∷ []) end len file rests),
+      length-append old (added ∷ []),
+    )

@@ -1,13 +1,12 @@
 -- The end of a file, as a crash left it and as it is repaired.
-use Rattle.std.proofs.Common.{◌≡◌, ◌≢◌, ◌⊎◌, inl, inr, ℕ, ◌+◌, ◌<◌, ◌≤◌, List, [], ◌∷◌, ◌++◌, length, take, drop}
-use Rattle.std.proofs.Common.{slice_index, None, refl, sym, ◌∙◌, ap, subst, arith, length-drop, length-take}
-use Rattle.std.proofs.Common.{append_assoc}
+use Rattle.std.proofs.Common.{◌≡◌, ◌≢◌, inl, inr, ℕ, ◌+◌, ◌<◌, ◌≤◌, List, [], ◌++◌, length, take, drop}
+use Rattle.std.proofs.Common.{slice_index, None, sym, ◌∙◌, ap, subst, arith, length-drop, length-take}
 use Rattle.std.proofs.lemmas.Bool.{cases_eq, cases_lt}
 use Rattle.std.proofs.lemmas.List.{append-nil, drop-drop}
 use Rattle.sqlite_disk.specs.Disk.{Torn, Only, Follows}
-use Rattle.journal.specs.Format.{Kept, sector, next, behind, batches, stored, Lie, Rests}
-use Rattle.journal.specs.Reads.{EndsAt, LooksOpen, Repairs}
-use Rattle.journal.proofs.Places.{same_front, same_back}
+use Rattle.journal.specs.Format.{Kept, sector, next, behind, batches, stored, Rests}
+use Rattle.journal.specs.Reads.{EndsAt, Repairs}
+use Rattle.journal.proofs.Places.{same_front, same_back, take_within}
 use Rattle.journal.proofs.Listing.{next_open, next_shut, next_short, batches_none}
 use Rattle.journal.proofs.Commit.{behind_line, first_at_end, rests_of}
 
@@ -46,6 +45,11 @@ module _ (file : List ℕ) (end count : ℕ) (begins : sector ≤ end) (ends : E
   front_is : Repairs end file c → take end c ≡ take end file
   front_is (inl same) = ap (λ (l : List ℕ). take end l) same
   front_is (inr torn) = same_front end sector file c torn.1 end (omega arith) ends.within
+
+  pub line_repaired : Repairs end file c → take sector c ≡ take sector file
+  line_repaired repairs =
+      sym (take_within c 0 sector end begins) ∙ ap (λ (l : List ℕ). take sector l) (front_is repairs)
+      ∙ take_within file 0 sector end begins
 
   none_short : length file < end + sector → Torn end sector file c → next count (drop end c) ≡ None
   none_short short torn = next_short count (drop end c) (omega (arith, length-drop end c, torn.no_longer))

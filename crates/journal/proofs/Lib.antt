@@ -7,3 +7,4 @@ pub mod Commit
 pub mod Scan
 pub mod Ending
 pub mod Causes
+pub mod Keeping

@@ -1,16 +1,14 @@
 -- What batches stand for that lie one behind the other.
-use Rattle.std.proofs.Common.{◌≡◌, ◌≢◌, ◌⊎◌, inl, inr, ℕ, zero, suc, ◌+◌, ◌*◌, ◌/◌, ◌%◌, ◌<◌, ◌≤◌, ◌^◌, Bool, true}
-use Rattle.std.proofs.Common.{false, cond, ◌&&◌, nat_le, eqb, List, [], ◌∷◌, ◌++◌, length, take, drop, get_or}
-use Rattle.std.proofs.Common.{slice_index, Some, None, refl, sym, ◌∙◌, ap, subst, arith, append_assoc, length-append}
+use Rattle.std.proofs.Common.{◌≡◌, ◌≢◌, ◌⊎◌, inl, inr, ℕ, zero, suc, ◌+◌, ◌%◌, ◌<◌, ◌≤◌, Bool}
+use Rattle.std.proofs.Common.{cond, ◌&&◌, nat_le, eqb, List, [], ◌∷◌, ◌++◌, length, take, drop}
+use Rattle.std.proofs.Common.{slice_index, Option, Some, None, refl, sym, ◌∙◌, ap, arith, append_assoc, length-append}
 use Rattle.std.proofs.Common.{length-take, length-drop, get_or-take}
-use Rattle.std.proofs.lemmas.List.{take_at, drop_at, take-append-le, drop-append-le, append-nil, get_or_append_left}
+use Rattle.std.proofs.lemmas.List.{take-append-le, drop-append-le, get_or_append_left}
 use Rattle.std.proofs.lemmas.List.{nil_from_length, drop-take}
 use Rattle.std.proofs.lemmas.Bool.{cases_Bool, le-leb, eq-eqb, eqb-true, lt-leb, cases_eq, cases_lt}
-use Rattle.std.proofs.lemmas.Bool.Decides.{nat_tests}
-use Rattle.journal.specs.Format.{Kept, sector, whole, number_of, number_bytes, head, number_in, time_in, length_in}
-use Rattle.journal.specs.Format.{span, records, behind, next, with_more, batches_within, batches, Lie}
+use Rattle.journal.specs.Format.{Kept, sector, whole, number_of, number_in, time_in, length_in}
+use Rattle.journal.specs.Format.{span, records, behind, next, staged, with_more, one_by_one, batches, later, Lie}
 use Rattle.journal.proofs.Places.{take_within}
-use Rattle.journal.proofs.Reading.{length-number_bytes, number_of-number_bytes}
 
 pub record IsWhole (n : ℕ) : Type 0 where
   pub no_less : n ≤ whole n
@@ -125,9 +123,6 @@ next_short number bytes short = elim (cases_eq (slice_index bytes 0) 1) [
   | inr shut ↦ next_shut number bytes shut
 ]
 
-pub next_nil : (number : ℕ) → next number [] ≡ None
-next_nil number = next_short number [] (omega arith)
-
 pub next_is : (number : ℕ) (bytes : List ℕ) (found : Kept × List ℕ) → next number bytes ≡ Some found →
     (slice_index bytes 0 ≡ 1) × (behind number (drop sector bytes) ≡ Some found)
 next_is number bytes found is = elim (cases_eq (slice_index bytes 0) 1) [
@@ -135,10 +130,10 @@ next_is number bytes found is = elim (cases_eq (slice_index bytes 0) 1) [
   | inr shut ↦ absurd (cc (sym (next_shut number bytes shut) ∙ is))
 ]
 
-pub next_less : (number : ℕ) (bytes : List ℕ) (found : Kept × List ℕ) → next number bytes ≡ Some found → length
+pub staged_less : (number : ℕ) (bytes : List ℕ) (found : Kept × List ℕ) → staged number bytes ≡ Some found → length
     found.1 + (sector + sector) ≤ length bytes
-next_less number bytes found is =
-    let it = is_there number (drop sector bytes) found (next_is number bytes found is).1 in
+staged_less number bytes found is =
+    let it = is_there number (drop sector bytes) found is in
     let some = span_some (drop sector bytes) in
     let rest : drop (span (drop sector bytes)) (drop sector bytes) ≡ found.1 = ap (λ (f : Kept × List ℕ). f.1) it.is in
     omega (
@@ -150,6 +145,10 @@ next_less number bytes found is =
       length-drop sector bytes,
     )
 
+pub next_less : (number : ℕ) (bytes : List ℕ) (found : Kept × List ℕ) → next number bytes ≡ Some found → length
+    found.1 + (sector + sector) ≤ length bytes
+next_less number bytes found is = staged_less number bytes found (next_is number bytes found is).1
+
 pub next_more : (number : ℕ) (p q : List ℕ) (found : Kept × List ℕ) → next number p ≡ Some found → next number
     (p ++ q) ≡ Some (found.0, found.1 ++ q)
 next_more number p q found is =
@@ -159,51 +158,76 @@ next_more number p q found is =
     (drop-append-le sector p q (omega (arith, less)))
     ∙ behind_more number (drop sector p) q found it.1
 
-none_within : (n number : ℕ) (bytes : List ℕ) → next number bytes ≡ None → batches_within n number bytes ≡ []
-none_within zero number bytes none = refl
-none_within (suc n) number bytes none = ap (with_more (batches_within n (number + 1))) none
+-- one after another, by a step that takes two sectors at least
+module _ (step : ℕ → List ℕ → Option (Kept × List ℕ)) (less : (number : ℕ) (bytes : List ℕ) (found : Kept × List ℕ)
+    → step number bytes ≡ Some found → length found.1 + (sector + sector) ≤ length bytes) where
+  cases_step : (number : ℕ) (bytes : List ℕ) → (step number bytes ≡ None) ⊎
+      ((found : Kept × List ℕ) × (step number bytes ≡ Some found))
+  cases_step number bytes =
+      elim (step number bytes) as (λ r. (r ≡ None) ⊎ ((found : Kept × List ℕ) × (r ≡ Some found)))
+      [ None ↦ inl refl | Some found ↦ inr (found, refl) ]
 
-some_within : (n number : ℕ) (bytes : List ℕ) (found : Kept × List ℕ) → next number bytes ≡ Some found →
-    batches_within (suc n) number bytes ≡ found.0 ∷ batches_within n (number + 1) found.1
-some_within n number bytes found is = ap (with_more (batches_within n (number + 1))) is
+  none_within : (n number : ℕ) (bytes : List ℕ) → step number bytes ≡ None → one_by_one step n number bytes ≡ []
+  none_within zero number bytes none = refl
+  none_within (suc n) number bytes none = ap (with_more (one_by_one step n (number + 1))) none
 
-cases_next : (number : ℕ) (bytes : List ℕ) → (next number bytes ≡ None) ⊎
-    ((found : Kept × List ℕ) × (next number bytes ≡ Some found))
-cases_next number bytes =
-    elim (next number bytes) as (λ r. (r ≡ None) ⊎ ((found : Kept × List ℕ) × (r ≡ Some found)))
-    [ None ↦ inl refl | Some found ↦ inr (found, refl) ]
+  some_within : (n number : ℕ) (bytes : List ℕ) (found : Kept × List ℕ) → step number bytes ≡ Some found →
+      one_by_one step (suc n) number bytes ≡ found.0 ∷ one_by_one step n (number + 1) found.1
+  some_within n number bytes found is = ap (with_more (one_by_one step n (number + 1))) is
 
--- any number that is no less than the length is enough
-enough : (m n number : ℕ) (bytes : List ℕ) → length bytes ≤ m → length bytes ≤ n → batches_within m number bytes ≡
-    batches_within n number bytes
-enough zero n number [] m_is n_is = sym (none_within n number [] (next_nil number))
-enough zero n number (b ∷ bytes) m_is n_is = absurd (omega arith)
-enough (suc m) zero number [] m_is n_is = none_within (suc m) number [] (next_nil number)
-enough (suc m) zero number (b ∷ bytes) m_is n_is = absurd (omega arith)
-enough (suc m) (suc n) number bytes m_is n_is =
-    elim (cases_next number bytes) [
-      | inl none ↦ none_within (suc m) number bytes none ∙ sym (none_within (suc n) number bytes none)
-      | inr found ↦
-          let less = next_less number bytes found.0 found.1 in
-          some_within m number bytes found.0 found.1
-          ∙ ap (λ (ks : List Kept). found.0.0 ∷ ks)
-          (enough m n (number + 1) found.0.1 (omega (arith, less)) (omega (arith, less)))
-          ∙ sym (some_within n number bytes found.0 found.1)
-    ]
+  none_of_nil : (n number : ℕ) → one_by_one step n number [] ≡ []
+  none_of_nil n number = elim (cases_step number []) [
+    | inl none ↦ none_within n number [] none
+    | inr found ↦ let h = less number [] found.0 found.1 in absurd (omega (arith, h))
+  ]
+
+  -- any number that is no less than the length is enough
+  enough : (m n number : ℕ) (bytes : List ℕ) → length bytes ≤ m → length bytes ≤ n → one_by_one step m number bytes ≡
+      one_by_one step n number bytes
+  enough m n number [] m_is n_is = none_of_nil m number ∙ sym (none_of_nil n number)
+  enough zero n number (b ∷ bytes) m_is n_is = absurd (omega arith)
+  enough (suc m) zero number (b ∷ bytes) m_is n_is = absurd (omega arith)
+  enough (suc m) (suc n) number (b ∷ bytes) m_is n_is =
+      elim (cases_step number (b ∷ bytes)) [
+        | inl none ↦ none_within (suc m) number (b ∷ bytes) none ∙ sym (none_within (suc n) number (b ∷ bytes) none)
+        | inr found ↦
+            let h = less number (b ∷ bytes) found.0 found.1 in
+            some_within m number (b ∷ bytes) found.0 found.1
+            ∙ ap (λ (ks : List Kept). found.0.0 ∷ ks)
+            (enough m n (number + 1) found.0.1 (omega (arith, h)) (omega (arith, h)))
+            ∙ sym (some_within n number (b ∷ bytes) found.0 found.1)
+      ]
+
+  pub all_none : (number : ℕ) (bytes : List ℕ) → step number bytes ≡ None → one_by_one step (length bytes) number bytes
+      ≡ []
+  all_none number bytes none = none_within (length bytes) number bytes none
+
+  pub all_some : (number : ℕ) (bytes : List ℕ) (found : Kept × List ℕ) → step number bytes ≡ Some found → one_by_one
+      step (length bytes) number bytes ≡ found.0 ∷ one_by_one step (length found.1) (number + 1) found.1
+  all_some number bytes found is =
+      let h = less number bytes found is in
+      enough (length bytes) (suc (length bytes)) number bytes (omega arith) (omega arith) ∙ some_within (length bytes)
+      number bytes found is
+      ∙ ap (λ (ks : List Kept). found.0 ∷ ks)
+      (enough (length bytes) (length found.1) (number + 1) found.1 (omega (arith, h)) (omega arith))
 
 pub batches_none : (number : ℕ) (bytes : List ℕ) → next number bytes ≡ None → batches number bytes ≡ []
 unfolding batches
-batches_none number bytes none = none_within (length bytes) number bytes none
+batches_none number bytes none = all_none next next_less number bytes none
 
 pub batches_some : (number : ℕ) (bytes : List ℕ) (found : Kept × List ℕ) → next number bytes ≡ Some found → batches
     number bytes ≡ found.0 ∷ batches (number + 1) found.1
 unfolding batches
-batches_some number bytes found is =
-    let less = next_less number bytes found is in
-    enough (length bytes) (suc (length bytes)) number bytes (omega arith) (omega arith) ∙ some_within (length bytes)
-    number bytes found is
-    ∙ ap (λ (ks : List Kept). found.0 ∷ ks)
-    (enough (length bytes) (length found.1) (number + 1) found.1 (omega (arith, less)) (omega arith))
+batches_some number bytes found is = all_some next next_less number bytes found is
+
+pub later_none : (number : ℕ) (bytes : List ℕ) → staged number bytes ≡ None → later number bytes ≡ []
+unfolding later
+later_none number bytes none = all_none staged staged_less number bytes none
+
+pub later_some : (number : ℕ) (bytes : List ℕ) (found : Kept × List ℕ) → staged number bytes ≡ Some found → later
+    number bytes ≡ found.0 ∷ later (number + 1) found.1
+unfolding later
+later_some number bytes found is = all_some staged staged_less number bytes found is
 
 -- one batch more at the end
 pub lie_more : (number : ℕ) (p q : List ℕ) (all : List Kept) (kept : Kept) → Lie number p all → next

@@ -1,19 +1,20 @@
 -- What the bytes that were read say of the file.
-use Rattle.std.proofs.Common.{◌≡◌, ◌≢◌, ◌⊎◌, inl, inr, ℕ, ◌+◌, ◌-◌, ◌<◌, ◌≤◌, ◌^◌, Bool, true, cond, nat_le, List, []}
-use Rattle.std.proofs.Common.{◌∷◌, ◌++◌, length, take, drop, get_or, slice_index, Some, None, refl, sym, ◌∙◌, ap}
-use Rattle.std.proofs.Common.{subst, arith, append_assoc, length-append, length-drop, length-take, take-append-drop}
+use Rattle.std.proofs.Common.{◌≡◌, ◌≢◌, ℕ, ◌+◌, ◌-◌, ◌<◌, ◌≤◌, Bool, true, cond, nat_le, List, []}
+use Rattle.std.proofs.Common.{◌∷◌, ◌++◌, length, take, drop, get_or, slice_index, Option, Some, None, refl, sym, ◌∙◌, ap}
+use Rattle.std.proofs.Common.{subst, arith, append_assoc, length-append, length-drop, length-take}
 use Rattle.std.proofs.Common.{get_or-take, get_or-drop}
 use Rattle.std.proofs.lemmas.List.{drop-drop, ext_get_or, append-nil, take_all}
 use Rattle.std.proofs.lemmas.Bool.{le-leb}
-use Rattle.sqlite_disk.specs.Disk.{Holds, Torn}
+use Rattle.sqlite_disk.specs.Disk.{Holds}
 use Rattle.journal.specs.Format.{Kept, sector, whole, number_of, number_in, time_in, length_in, span, records, first}
-use Rattle.journal.specs.Format.{behind, next, batches, stored, Lie}
-use Rattle.journal.specs.Reads.{EndsAt}
+use Rattle.journal.specs.Format.{next, staged, batches, stored, Lie}
+use Rattle.journal.specs.Reads.{EndsAt, headed, FindsBatch, FindsStaged}
+use Rattle.journal.specs.declared.head.Head.{Head}
 use Rattle.std.proofs.Math.Seq.{take-add}
 use Rattle.journal.specs.Machine.{Runs, RunsRecords}
-use Rattle.journal.proofs.Reading.{first_short, records_some, records_none}
+use Rattle.journal.proofs.Reading.{first_short}
 use Rattle.journal.proofs.Places.{take_within}
-use Rattle.journal.proofs.Listing.{is_whole, there, behind_there, behind_other, behind_short, next_open, next_shut}
+use Rattle.journal.proofs.Listing.{span_some, behind_there, behind_other, behind_short, next_open, next_shut}
 use Rattle.journal.proofs.Listing.{next_none, next_short, batches_some, batches_none, lie_more, next_front}
 
 -- a part of the bytes that stand in a file
@@ -83,6 +84,11 @@ module _ (file : List ℕ) (at number : ℕ) where
   pub none_near : length file - at < sector + sector → next number (drop at file) ≡ None
   none_near near = next_short number (drop at file) (omega (arith, length-drop at file))
 
+  pub none_staged : length file - at < sector + sector → staged number (drop at file) ≡ None
+  none_staged near = behind_short number (drop sector (drop at file))
+      (let some = span_some (drop sector (drop at file)) in
+      omega (arith, some, length-drop sector (drop at file), length-drop at file))
+
   gate_is : slice_index (drop at file) 0 ≡ slice_index file at
   gate_is = let here : at + 0 ≡ at = omega arith in get_or-drop at file 0 0 ∙ ap (λ (n : ℕ). slice_index file n) here
 
@@ -112,46 +118,44 @@ module _ (file : List ℕ) (at number : ℕ) where
         ap (λ (l : List ℕ). number_of (take 8 (drop 16 l))) behind_gate ∙ ap (λ (l : List ℕ). number_of (take 8 l))
         (drop-drop 16 (at + sector) file) ∙ ap number_of (part_held file (at + sector) head 16 8 holds (omega arith))
 
-    pub none_number : number_of (take 8 head) ≢ number → next number (drop at file) ≡ None
-    none_number other = next_none number (drop at file)
-        (behind_other number (drop sector (drop at file)) (λ is. other (sym number_here ∙ is)))
+    pub none_number : number_of (take 8 head) ≢ number → staged number (drop at file) ≡ None
+    none_number other = behind_other number (drop sector (drop at file)) (λ is. other (sym number_here ∙ is))
 
-    pub none_span : length file - at - sector < whole (24 + number_of (take 8 (drop 16 head))) → next number
+    pub none_span : length file - at - sector < whole (24 + number_of (take 8 (drop 16 head))) → staged number
         (drop at file) ≡ None
     none_span past =
-        next_none number (drop at file) (behind_short number (drop sector (drop at file))
+        behind_short number (drop sector (drop at file))
         (omega (
           arith,
           ap (λ (n : ℕ). whole (24 + n)) length_here,
           length-drop sector (drop at file),
           length-drop at
               file,
-        )))
+        ))
 
-    pub found_batch : (gate : List ℕ) (time size : ℕ) → Holds file at gate → 0 < length gate → slice_index gate 0 ≡ 1
-        → number_of (take 8 head) ≡ number
-        → time ≡ number_of (take 8 (drop 8 head)) → size ≡ number_of (take 8 (drop 16 head)) → at + sector + whole
-        (24 + size) ≤ length file
-        → next number (drop at file) ≡ Some (
-          (time, records (take size (drop (at + sector + 24) file))),
-          drop
-              (at + sector + whole (24 + size)) file,
-        )
-    found_batch gate time size gate_holds some open_gate number_is time_is size_is fits =
+    pub found_staged : (it : Head) → number_of (take 8 head) ≡ number → it.time ≡ number_of (take 8 (drop 8 head))
+        → it.len ≡ number_of (take 8 (drop 16 head)) → at + sector + whole (24 + it.len) ≤ length file
+        → staged number (drop at file) ≡ Some (headed file at it)
+    found_staged it number_is time_is size_is fits =
         let place = drop sector (drop at file) in
-        let sized : length_in place ≡ size = length_here ∙ sym size_is in
-        let timed : time_in place ≡ time = time_here ∙ sym time_is in
-        let span_is : span place ≡ whole (24 + size) = ap (λ (n : ℕ). whole (24 + n)) sized in
+        let sized : length_in place ≡ it.len = length_here ∙ sym size_is in
+        let timed : time_in place ≡ it.time = time_here ∙ sym time_is in
+        let span_is : span place ≡ whole (24 + it.len) = ap (λ (n : ℕ). whole (24 + n)) sized in
         let inside : span place ≤ length place = omega
         (arith, span_is, length-drop sector (drop at file), length-drop at file) in
-        let body : take (length_in place) (drop 24 place) ≡ take size (drop (at + sector + 24) file) =
-        ap (λ (n : ℕ). take n (drop 24 place)) sized ∙ ap (λ (l : List ℕ). take size (drop 24 l)) behind_gate ∙ ap
-        (λ (l : List ℕ). take size l) (drop-drop 24 (at + sector) file) in
-        let rest : drop (span place) place ≡ drop (at + sector + whole (24 + size)) file =
-        ap (λ (n : ℕ). drop n place) span_is ∙ ap (λ (l : List ℕ). drop (whole (24 + size)) l) behind_gate ∙ drop-drop
-        (whole (24 + size)) (at + sector) file in
-        next_open number (drop at file) (gate_is ∙ byte_is gate gate_holds some ∙ open_gate)
-        ∙ behind_there number place (number_here ∙ number_is) inside ∙ (λ i. Some ((timed i, records (body i)), rest i))
+        let body : take (length_in place) (drop 24 place) ≡ take it.len (drop (at + sector + 24) file) =
+        ap (λ (n : ℕ). take n (drop 24 place)) sized ∙ ap (λ (l : List ℕ). take it.len (drop 24 l)) behind_gate ∙ ap
+        (λ (l : List ℕ). take it.len l) (drop-drop 24 (at + sector) file) in
+        let rest : drop (span place) place ≡ drop (at + sector + whole (24 + it.len)) file =
+        ap (λ (n : ℕ). drop n place) span_is ∙ ap (λ (l : List ℕ). drop (whole (24 + it.len)) l) behind_gate ∙ drop-drop
+        (whole (24 + it.len)) (at + sector) file in
+        behind_there number place (number_here ∙ number_is) inside ∙ (λ i. Some ((timed i, records (body i)), rest i))
+
+  pub finds_open : (gate : List ℕ) → Holds file at gate → 0 < length gate → slice_index gate 0 ≡ 1
+      → (found : Option Head) → FindsStaged file at number found → FindsBatch file at number found
+  finds_open gate holds some open_gate None found = next_none number (drop at file) found
+  finds_open gate holds some open_gate (Some it) found =
+      next_open number (drop at file) (gate_is ∙ byte_is gate holds some ∙ open_gate) ∙ found
 
 -- a run goes on by one record, and by one batch
 pub records_more : {M : Type 0} (steps : M → ℕ → List ℕ → M → Type 0) (time : ℕ) (old mid new : M)

@@ -1,5 +1,6 @@
 -- What a `Batch` shows.
 use Rattle.std.specs.Prelude.{ℕ, ◌+◌, List, map, length}
+use Rattle.std.specs.List.{sum_by}
 use Rattle.journal.specs.Format.{Kept, records, whole, sector}
 use Rattle.journal.specs.declared.batch.Batch.{Batch}
 
@@ -18,3 +19,7 @@ kept_at time batch = (time, batch_records batch)
 -- these batches, in order, if they are added at this time
 abbrev pub kept_of : ℕ → List Batch → List Kept
 kept_of time batches = map (kept_at time) batches
+
+-- where the gate behind these batches stands, if they are added at this gate
+abbrev pub ends_behind : ℕ → List Batch → ℕ
+ends_behind gate batches = gate + sum_by batch_size batches

@@ -19,10 +19,18 @@ Because closed other long disk machine (Machine _) = machine
 abbrev pub Never : Type 0
 Never = IsTrue false
 
--- a call of the disk failed, or memory is short
-abbrev pub OnlyDisk : Type 0 → Error → Type 0
-OnlyDisk disk = Because Never Never Never disk Never
+-- Why no batch was added, or no room made: the journal isn't open, or the file would be too long, and then nothing has
+-- changed; or a call of the disk failed. There is no other cause.
+abbrev pub WhyNot : (closed long disk unchanged : Type 0) → Error → Type 0
+WhyNot closed long disk unchanged Closed = closed × unchanged
+WhyNot closed long disk unchanged TooLong = long × unchanged
+WhyNot closed long disk unchanged (Disk _) = disk
+WhyNot closed long disk unchanged _ = Never
 
--- one of these, or the machine refused a record
+-- a call of the disk failed
+abbrev pub OnlyDisk : Type 0 → Error → Type 0
+OnlyDisk disk = WhyNot Never Never disk ⊤
+
+-- a call of the disk failed, memory is short, or the machine refused a record
 abbrev pub OnlyReplay : Type 0 → Type 0 → Error → Type 0
 OnlyReplay disk machine = Because Never Never Never disk machine

@@ -1,5 +1,5 @@
 -- What the bytes of a file stand for.
-use Rattle.std.specs.Prelude.{◌≡◌, ◌≢◌, ◌⊎◌, ℕ, zero, suc, ◌+◌, ◌-◌, ◌*◌, ◌/◌, ◌<◌, ◌≤◌, ◌^◌, ◌==◌, nat_le, ◌&&◌}
+use Rattle.std.specs.Prelude.{◌≡◌, ◌≢◌, ◌⊎◌, ℕ, zero, suc, ◌+◌, ◌*◌, ◌/◌, ◌<◌, ◌≤◌, ◌^◌, ◌==◌, nat_le, ◌&&◌}
 use Rattle.std.specs.Prelude.{if◌then◌else◌, List, [], ◌∷◌, ◌++◌, length, take, drop, slice_index, Option, Some, None}
 use Rattle.std.specs.List.{flat_map, All}
 use Rattle.std.specs.Int.{w64, to_be_bytes, from_be_bytes}
@@ -89,15 +89,23 @@ abbrev pub with_more : (List ℕ → List Kept) → Option (Kept × List ℕ) �
 with_more rest None = []
 with_more rest (Some found) = found.0 ∷ rest found.1
 
--- one batch after another, numbered from here, at most so many
-abbrev pub batches_within : ℕ → ℕ → List ℕ → List Kept
-batches_within zero number bytes = []
-batches_within (suc n) number bytes = with_more (batches_within n (number + 1)) (next number bytes)
+-- one batch after another by such a step, numbered from here, at most so many
+abbrev pub one_by_one : (ℕ → List ℕ → Option (Kept × List ℕ)) → ℕ → ℕ → List ℕ → List Kept
+one_by_one step zero number bytes = []
+one_by_one step (suc n) number bytes = with_more (one_by_one step n (number + 1)) (step number bytes)
 
 -- the batches from this number on: those up to the first gate that is shut, or that has not the whole next batch behind
 -- it
 unfoldable pub batches : ℕ → List ℕ → List Kept
-batches number bytes = batches_within (length bytes) number bytes
+batches number bytes = one_by_one next (length bytes) number bytes
+
+-- the batch with this number behind a gate, whether the gate is open or shut
+abbrev pub staged : ℕ → List ℕ → Option (Kept × List ℕ)
+staged number bytes = behind number (drop sector bytes)
+
+-- the batches from this number on that stand one behind another, whatever their gates say
+unfoldable pub later : ℕ → List ℕ → List Kept
+later number bytes = one_by_one staged (length bytes) number bytes
 
 -- the batches that a file stands for, whatever a crash made of it; its first sector is the first line
 abbrev pub stored : List ℕ → List Kept

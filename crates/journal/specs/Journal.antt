@@ -16,6 +16,14 @@ module _ {D : Type 0} {g : Ghosts D} where
   abbrev pub is_open : Journal D g → Bool
   is_open it = it.is_open
 
+  -- where its shut gate stands, which is behind its batches
+  abbrev pub end_of : Journal D g → ℕ
+  end_of it = it.end
+
+  -- how many batches it has
+  abbrev pub count_of : Journal D g → ℕ
+  count_of it = it.count
+
   -- the batches in the file
   abbrev pub kept : Journal D g → List Kept
   kept it = stored (g.seen it.disk)

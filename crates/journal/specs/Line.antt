@@ -1,6 +1,6 @@
 -- What a file begins with.
-use Rattle.std.specs.Prelude.{ℕ, List, ◌++◌, length}
-use Rattle.journal.specs.Format.{head}
+use Rattle.std.specs.Prelude.{◌≡◌, ℕ, List, ◌++◌, length, take}
+use Rattle.journal.specs.Format.{head, sector}
 use Rattle.journal.specs.declared.line.Line.{Line}
 
 -- the first bytes of the first line: "journal\n" (this number in eight bytes), the version of the format, the length of
@@ -10,3 +10,7 @@ line_text parameters = head 7669477824773843978 1 (length parameters) ++ paramet
 
 abbrev pub line_bytes : Line → List ℕ
 line_bytes line = line.bytes
+
+-- the file begins with this line
+abbrev pub BeginsWith : Line → List ℕ → Type 0
+BeginsWith line file = take sector file ≡ line.bytes

@@ -3,7 +3,7 @@ use Rattle.std.specs.Prelude.{◌≡◌, ◌≢◌, ◌⊎◌, ℕ, ◌+◌, ◌
 use Rattle.std.specs.Prelude.{List, ◌++◌, length, take, drop, slice_index, Option, Some, None, IsTrue}
 use Rattle.sqlite_disk.specs.declared.Disk.{Ghosts}
 use Rattle.sqlite_disk.specs.Disk.{Torn}
-use Rattle.journal.specs.Format.{records, first, next, stored, whole, Lie, sector}
+use Rattle.journal.specs.Format.{Kept, records, first, next, staged, stored, whole, Lie, sector}
 use Rattle.journal.specs.declared.head.Head.{Head}
 
 -- nothing is written
@@ -19,15 +19,20 @@ abbrev pub Finds : List ℕ → ℕ → List ℕ → Option ℕ → Type 0
 Finds file at bytes (Some behind) = first (drop at file) ≡ Some (bytes, drop behind file)
 Finds file at bytes None = first (drop at file) ≡ None
 
+-- the batch of this head, and what follows it
+abbrev pub headed : List ℕ → ℕ → Head → Kept × List ℕ
+headed file at head =
+    ((head.time, records (take head.len (drop (at + sector + 24) file))), drop (at + sector + whole (24 + head.len)) file)
+
 -- a read of the next head: its batch stands here, or none does
 abbrev pub FindsBatch : List ℕ → ℕ → ℕ → Option Head → Type 0
-FindsBatch file at number (Some head) =
-    next number (drop at file)
-    ≡ Some (
-      (head.time, records (take head.len (drop (at + sector + 24) file))),
-      drop (at + sector + whole (24 + head.len)) file,
-    )
+FindsBatch file at number (Some head) = next number (drop at file) ≡ Some (headed file at head)
 FindsBatch file at number None = next number (drop at file) ≡ None
+
+-- the same, whatever its gate says
+abbrev pub FindsStaged : List ℕ → ℕ → ℕ → Option Head → Type 0
+FindsStaged file at number (Some head) = staged number (drop at file) ≡ Some (headed file at head)
+FindsStaged file at number None = staged number (drop at file) ≡ None
 
 -- all batches of a file stand before this place, and there none begins
 pub record EndsAt (file : List ℕ) (end count : ℕ) : Type 0 where

@@ -1,17 +1,19 @@
 // A first line, and batches behind one another, each behind a gate, which is open if the batch counts. A shut gate
 // stands behind the last batch, on the disk before anything is written behind it.
-ghost use Rattle.std.specs.Prelude.{◌≡◌, ◌+◌, ◌-◌, ◌%◌, ◌<◌, ◌≤◌, ◌^◌, ◌++◌, ◌∷◌, []};
+ghost use Rattle.std.specs.Prelude.{◌≡◌, ◌⊎◌, ◌+◌, ◌-◌, ◌%◌, ◌<◌, ◌≤◌, ◌^◌, ◌++◌, ◌∷◌, []};
 ghost use Rattle.std.specs.Prelude.{ℕ, List, false, length, IfOk};
 ghost use Rattle.std.specs.Prelude.{IfErr, OnOk, OnErr, IsTrue, MatchOption};
 ghost use Rattle.sqlite_disk.specs.Disk.{MoreFaults};
 ghost use Rattle.journal.specs.Machine.{Runs};
-ghost use Rattle.journal.specs.Errors.{Because, Never};
+ghost use Rattle.journal.specs.Errors.{Because, WhyNot};
 ghost use Rattle.journal.specs.Format.{stored, whole, sector, Rests, IsBeforeOrAfter};
+ghost use Rattle.journal.specs.Gate.{IsStaged};
 ghost use Rattle.journal.specs.Reads.{Refuses};
 
 use crate::gate::{blank, open_gate, stage};
 use crate::head::HEAD_LEN;
-use crate::recovery::{MAX_LEN, prepare};
+use crate::recovery::{MAX_LEN, measure, prepare};
+use crate::replay::count_later;
 use crate::sectors::{SECTOR, whole};
 use crate::{Batch, Error, Line, Machine};
 use sqlite_disk::{Crash, Disk};
@@ -61,8 +63,9 @@ fn next_gate(gate: usize, len: usize) -> Option<usize>
 }
 
 impl<D: Disk> Journal<D> {
-    ghost use Rattle.journal.specs.Journal.{disk_of, line_of, is_open, kept, room_of};
+    ghost use Rattle.journal.specs.Journal.{disk_of, line_of, is_open, end_of, count_of, kept, room_of};
     ghost use Rattle.journal.specs.Batch.{batch_records, batch_size};
+    ghost use Rattle.journal.specs.Line.{BeginsWith};
 
     /// A journal over a file that begins with this line, or over an empty one. It reads nothing yet: `recover` opens
     /// it.
@@ -94,13 +97,17 @@ impl<D: Disk> Journal<D> {
         // Each crash leaves the batches of an open journal.
         ensures durable { IsTrue (is_open self.now) → IsTrue (D.Disk.is_clean (disk_of self.now))
             → (c : List ℕ) → D.Disk.may_leave (disk_of self.now) c → stored c ≡ kept self.now }
+        ensures front { IsTrue (is_open self.now) → IsTrue (D.Disk.is_clean (disk_of self.now))
+            → (c : List ℕ) → D.Disk.may_leave (disk_of self.now) c
+            → BeginsWith (line_of self.now) c }
     {
         self.is_open
     }
 
     /// How many batches an open journal has.
     pub fn count(&self) -> usize
-        ensures { IsTrue (is_open self.now) → IsTrue (D.Disk.is_clean (disk_of self.now))
+        ensures count { result ≡ count_of self.now }
+        ensures all { IsTrue (is_open self.now) → IsTrue (D.Disk.is_clean (disk_of self.now))
             → result ≡ length (kept self.now) }
     {
         self.count
@@ -121,6 +128,7 @@ impl<D: Disk> Journal<D> {
     pub fn recover<M: Machine>(&mut self, alloc: Global, machine: &mut M) -> Result<(), Error>
         ensures ran { OnOk result (IsTrue (D.Disk.is_clean (disk_of self.new))
             → Runs M.steps machine.old (kept self.old) machine.new) }
+        ensures keeps { (first : M) → M.keeps first machine.old → M.keeps first machine.new }
         ensures same { OnOk result (IsTrue (D.Disk.is_clean (disk_of self.new)) → kept self.new
             ≡ kept self.old) }
         ensures open { OnOk result (IsTrue (is_open self.new)) }
@@ -141,10 +149,19 @@ impl<D: Disk> Journal<D> {
             (MoreFaults (D.Disk.faults (disk_of self.old)) (D.Disk.faults (disk_of self.new)))
             (M.has_refused machine.new)) }
 
-        // Whatever the call met, a crash leaves a file that stands for what one from before it would have stood for.
+        // Whatever the call met, a crash leaves a file that stands for what one from before it would have stood for,
+        // and that begins with the line if they all did.
         ensures any_crash { IsTrue (D.Disk.is_clean (disk_of self.new))
             → (c : List ℕ) → D.Disk.may_leave (disk_of self.new) c
             → (d : List ℕ) × D.Disk.may_leave (disk_of self.old) d × (stored c ≡ stored d) }
+        ensures front { ((d : List ℕ) → D.Disk.may_leave (disk_of self.old) d
+            → BeginsWith (line_of self.old) d)
+            → IsTrue (D.Disk.is_clean (disk_of self.new))
+            → (c : List ℕ) → D.Disk.may_leave (disk_of self.new) c
+            → BeginsWith (line_of self.old) c }
+        ensures longer { length (D.Disk.seen (disk_of self.old))
+            ≤ length (D.Disk.seen (disk_of self.new)) }
+        ensures faults { D.Disk.faults (disk_of self.old) ≤ D.Disk.faults (disk_of self.new) }
     {
         self.is_open = false;
         if !self.disk.may_be_used() {
@@ -159,7 +176,8 @@ impl<D: Disk> Journal<D> {
     }
 
     /// Writes zeros behind the end, so that batches of so many bytes, by their `size`, find room on a disk that fills
-    /// up. At an error that leaves the journal open nothing has changed.
+    /// up. At an error that leaves the journal open it has what it had, and as much room. So it is on a full disk: only
+    /// a sync that fails closes it.
     pub fn reserve(&mut self, bytes: usize) -> Result<(), Error>
         ensures room { OnOk result (bytes ≤ room_of self.new) }
         ensures same { IsTrue (is_open self.new) → IsTrue (D.Disk.is_clean (disk_of self.new))
@@ -168,12 +186,20 @@ impl<D: Disk> Journal<D> {
         ensures line { line_of self.new ≡ line_of self.old }
         ensures clean { IsTrue (D.Disk.is_clean (disk_of self.new))
             → IsTrue (D.Disk.is_clean (disk_of self.old)) }
-        ensures cause { IfErr result (Because (is_open self.old ≡ false) Never
-            (2 ^ 63 ≤ self.old.end + sector + bytes + 65536)
+        ensures cause { IfErr result (WhyNot (is_open self.old ≡ false)
+            (2 ^ 63 ≤ end_of self.old + sector + bytes + 65536)
             (MoreFaults (D.Disk.faults (disk_of self.old)) (D.Disk.faults (disk_of self.new)))
-            Never) }
+            (self.new ≡ self.old)) }
+        ensures closes { OnErr result (IsTrue (is_open self.old)
+            → is_open self.new ≡ D.Disk.is_usable (disk_of self.new)) }
+        ensures no_room { OnErr result (room_of self.new ≡ room_of self.old) }
         ensures any_crash { IsTrue (is_open self.old) → IsTrue (D.Disk.is_clean (disk_of self.new))
             → (c : List ℕ) → D.Disk.may_leave (disk_of self.new) c → stored c ≡ kept self.old }
+        ensures front { IsTrue (is_open self.old) → IsTrue (D.Disk.is_clean (disk_of self.new))
+            → (c : List ℕ) → D.Disk.may_leave (disk_of self.new) c
+            → BeginsWith (line_of self.old) c }
+        ensures place { (end_of self.new ≡ end_of self.old) × (count_of self.new ≡ count_of self.old) }
+        ensures faults { D.Disk.faults (disk_of self.old) ≤ D.Disk.faults (disk_of self.new) }
     {
         if !self.is_open {
             return Err(Error::Closed);
@@ -200,8 +226,11 @@ impl<D: Disk> Journal<D> {
     }
 
     /// Adds a batch, with the time of day in seconds since 1970. At `Ok` it is on the disk, and each crash from then
-    /// on leaves it. A journal that is still open after an error has what it had. One that is not can't be used any
-    /// more: `recover` decides what it has.
+    /// on leaves it. A journal that is still open after an error has what it had, and as much room. One that is not
+    /// can't be used any more: `recover` decides what it has.
+    ///
+    /// A full disk leaves it open: only a sync that fails closes it, and the write of a gate, behind which the whole
+    /// batch stands already.
     pub fn append(&mut self, batch: &Batch, time: u64) -> Result<(), Error>
         ensures added { OnOk result (IsTrue (D.Disk.is_clean (disk_of self.new))
             → kept self.new ≡ kept self.old ++ (time, batch_records batch.now) ∷ []) }
@@ -216,20 +245,33 @@ impl<D: Disk> Journal<D> {
             → IsTrue (D.Disk.is_clean (disk_of self.new))
             → kept self.new ≡ kept self.old) }
 
-        // Whatever the call met, a crash leaves the batches from before it, with the whole new one or without it.
+        ensures closes { OnErr result (IsTrue (is_open self.old)
+            → (is_open self.new ≡ D.Disk.is_usable (disk_of self.new))
+            ⊎ IsStaged (end_of self.old) (end_of self.old + batch_size batch.now)
+            (count_of self.old) (time, batch_records batch.now)
+            (D.Disk.seen (disk_of self.new))) }
+
+        // Whatever the call met, a crash leaves the batches from before it, with the whole new one or without it,
+        // behind the first line.
         ensures any_crash { IsTrue (is_open self.old) → IsTrue (D.Disk.is_clean (disk_of self.new))
             → (c : List ℕ) → D.Disk.may_leave (disk_of self.new) c
             → IsBeforeOrAfter (kept self.old) (time, batch_records batch.now) c }
+        ensures front { IsTrue (is_open self.old) → IsTrue (D.Disk.is_clean (disk_of self.new))
+            → (c : List ℕ) → D.Disk.may_leave (disk_of self.new) c
+            → BeginsWith (line_of self.old) c }
 
         // A batch for which there is room doesn't make the file longer, and leaves the rest of the room.
         ensures in_room { OnOk result (batch_size batch.now ≤ room_of self.old
             → room_of self.new ≡ room_of self.old - batch_size batch.now) }
+        ensures no_room { OnErr result (room_of self.new ≡ room_of self.old) }
+        ensures ends { OnOk result (end_of self.new ≡ end_of self.old + batch_size batch.now) }
 
         // It doesn't give up by itself.
-        ensures cause { IfErr result (Because (is_open self.old ≡ false) Never
-            (2 ^ 63 ≤ self.old.end + sector + batch_size batch.now)
+        ensures cause { IfErr result (WhyNot (is_open self.old ≡ false)
+            (2 ^ 63 ≤ end_of self.old + sector + batch_size batch.now)
             (MoreFaults (D.Disk.faults (disk_of self.old)) (D.Disk.faults (disk_of self.new)))
-            Never) }
+            (self.new ≡ self.old)) }
+        ensures faults { D.Disk.faults (disk_of self.old) ≤ D.Disk.faults (disk_of self.new) }
     {
         if !self.is_open {
             return Err(Error::Closed);
@@ -251,6 +293,51 @@ impl<D: Disk> Journal<D> {
         self.len = self.len.max(next + SECTOR);
         self.is_open = true;
         Ok(())
+    }
+}
+
+impl<D: Disk> Journal<D> {
+    ghost use Rattle.std.specs.Prelude.{drop, ⊤};
+    ghost use Rattle.journal.specs.Format.{later};
+    ghost use Rattle.journal.specs.Reads.{OnlyReads, EndsAt};
+    ghost use Rattle.journal.specs.Journal.{disk_of, line_of, is_open, end_of, count_of, room_of};
+
+    /// How many batches stand behind the end of an open journal, one behind another, with the numbers that follow on,
+    /// whatever their gates say. Nothing is written, and nothing is read but heads, so it takes no memory.
+    ///
+    /// It is asked after `recover`. One such batch is there after a crash that came before its gate was open. Two are
+    /// there only if a gate was damaged: a batch is written only behind the open gate of the one before. Then at least
+    /// this many batches are lost, but for the last of them, which may not have been acknowledged. That there is no
+    /// false alarm isn't proved: a crash may leave any bytes of what wasn't synced.
+    pub fn later_batches(&mut self) -> Result<usize, Error>
+        ensures counted { IfOk result (λ n. IsTrue (D.Disk.is_clean (disk_of self.new))
+            → n ≡ length (later (count_of self.old)
+            (drop (end_of self.old) (D.Disk.seen (disk_of self.old))))) }
+        // The end is where the batches of the file end.
+        ensures end { OnOk result (IsTrue (D.Disk.is_clean (disk_of self.new))
+            → EndsAt (D.Disk.seen (disk_of self.old)) (end_of self.old) (count_of self.old)) }
+        ensures was_open { OnOk result (IsTrue (is_open self.old)) }
+        ensures reads { IsTrue (is_open self.old)
+            → OnlyReads D.Disk (disk_of self.old) (disk_of self.new) }
+        ensures open { is_open self.new ≡ is_open self.old }
+        ensures line { line_of self.new ≡ line_of self.old }
+        ensures place { (end_of self.new ≡ end_of self.old) × (count_of self.new ≡ count_of self.old)
+            × (room_of self.new ≡ room_of self.old) }
+        ensures cause { IfErr result (WhyNot (is_open self.old ≡ false)
+            (IsTrue (D.Disk.is_clean (disk_of self.new))
+            → 2 ^ 63 ≤ length (D.Disk.seen (disk_of self.old)) + sector + sector)
+            (MoreFaults (D.Disk.faults (disk_of self.old)) (D.Disk.faults (disk_of self.new)))
+            ⊤) }
+    {
+        if !self.is_open {
+            return Err(Error::Closed);
+        }
+        let len = measure(&mut self.disk)?;
+        if len < self.end {
+            return Ok(0);
+        }
+        let found = count_later(&mut self.disk, len, self.end, self.count)?;
+        Ok(found)
     }
 }
 

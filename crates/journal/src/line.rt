@@ -116,6 +116,8 @@ fn is_ours<D: Disk>(disk: &mut D, len: usize, line: &[u8; SECTOR]) -> Result<boo
     ensures there { IfOk result (λ is. is ≡ true → IsTrue (D.Disk.is_clean disk.new)
         → take sector (D.Disk.seen disk.old) ≡ line.now) }
     ensures long { IfOk result (λ is. is ≡ true → sector ≤ len) }
+    ensures other { IfOk result (λ is. is ≡ false → IsTrue (D.Disk.is_clean disk.new)
+        → take sector (D.Disk.seen disk.old) ≢ line.now) }
     ensures small { IfOk result (λ is. is ≡ false → len ≤ sector + sector) }
     ensures cause { IfErr result (Because Never
         (IsTrue (D.Disk.is_clean disk.new) → take sector (D.Disk.seen disk.old) ≢ line.now)
@@ -153,6 +155,10 @@ pub fn begin<D: Disk>(disk: &mut D, len: usize, line: &[u8; SECTOR]) -> Result<u
         (MoreFaults (D.Disk.faults disk.old) (D.Disk.faults disk.new)) Never) }
     ensures crash { IsTrue (D.Disk.is_clean disk.new) → (c : List ℕ) → D.Disk.may_leave disk.new c
         → stored c ≡ stored (D.Disk.seen disk.old) }
+    ensures front { take sector (D.Disk.seen disk.old) ≡ line.now
+        → IsTrue (D.Disk.is_clean disk.new) → (c : List ℕ) → D.Disk.may_leave disk.new c
+        → take sector c ≡ line.now }
+    ensures longer { length (D.Disk.seen disk.old) ≤ length (D.Disk.seen disk.new) }
 {
     let stands = match is_ours(disk, len, line) {
         Ok(stands) => stands,

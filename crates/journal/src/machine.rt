@@ -11,7 +11,11 @@ pub trait Machine {
     /// It has refused a record, and says so until it is let go.
     ghost has_refused: { Self → Type 0 };
 
+    /// The second keeps what the first has. Whoever has a machine says here what no record changes.
+    ghost keeps: { Self → Self → Type 0 } = { λ _ _. Unit {0} };
+
     fn apply(&mut self, time: u64, bytes: &[u8]) -> io::Result<()>
         ensures step { OnOk result (steps self.old time bytes.now self.new) }
-        ensures refused { OnErr result (has_refused self.new) };
+        ensures refused { OnErr result (has_refused self.new) }
+        ensures keeps { (first : Self) → keeps first self.old → keeps first self.new };
 }

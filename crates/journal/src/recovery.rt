@@ -1,11 +1,11 @@
 //! A file as a crash left it is made ready: it is measured, read, and its end repaired.
 ghost use Rattle.std.specs.Prelude.{◌≡◌, ◌≢◌, ◌⊎◌, ◌+◌, ◌%◌, ◌<◌, ◌≤◌, ◌^◌, ℕ};
 ghost use Rattle.std.specs.Prelude.{List, true, false, length, take};
-ghost use Rattle.std.specs.Prelude.{slice_index, IfOk, IfErr, OnOk, IsTrue};
+ghost use Rattle.std.specs.Prelude.{slice_index, IfOk, IfErr, OnOk, IsTrue, ⊤};
 ghost use Rattle.sqlite_disk.specs.Disk.{Torn, Follows, Only, MoreFaults};
 ghost use Rattle.journal.specs.Format.{stored, sector, Rests};
 ghost use Rattle.journal.specs.Machine.{Runs};
-ghost use Rattle.journal.specs.Errors.{Because, OnlyDisk, Never};
+ghost use Rattle.journal.specs.Errors.{Because, WhyNot, OnlyDisk, Never};
 ghost use Rattle.journal.specs.Reads.{OnlyReads, LooksOpen, Refuses, Repairs};
 
 use crate::gate::{OPEN, shut_gate};
@@ -37,15 +37,15 @@ pub fn sync<D: Disk>(disk: &mut D) -> Result<(), Error>
 }
 
 /// How long the file is.
-fn measure<D: Disk>(disk: &mut D) -> Result<usize, Error>
+pub fn measure<D: Disk>(disk: &mut D) -> Result<usize, Error>
     requires usable { IsTrue (D.Disk.is_usable disk.old) }
     ensures measured { IfOk result (λ n. IsTrue (D.Disk.is_clean disk.new) → n
         ≡ length (D.Disk.seen disk.old)) }
     ensures fits { IfOk result (λ n. n + sector + sector < 2 ^ 63) }
-    ensures cause { IfErr result (Because Never Never
+    ensures cause { IfErr result (WhyNot Never
         (IsTrue (D.Disk.is_clean disk.new)
         → 2 ^ 63 ≤ length (D.Disk.seen disk.old) + sector + sector)
-        (MoreFaults (D.Disk.faults disk.old) (D.Disk.faults disk.new)) Never) }
+        (MoreFaults (D.Disk.faults disk.old) (D.Disk.faults disk.new)) ⊤) }
     ensures reads { OnlyReads D.Disk disk.old disk.new }
 {
     match disk.len() {
@@ -97,6 +97,7 @@ fn repair<D: Disk>(disk: &mut D, len: usize, end: usize) -> Result<usize, Error>
         (MoreFaults (D.Disk.faults disk.old) (D.Disk.faults disk.new))) }
     ensures crash { IsTrue (D.Disk.is_clean disk.new) → (c : List ℕ) → D.Disk.may_leave disk.new c
         → Repairs end (D.Disk.seen disk.old) c }
+    ensures longer { length (D.Disk.seen disk.old) ≤ length (D.Disk.seen disk.new) }
 {
     if !looks_open(disk, len, end)? {
         return Ok(len);
@@ -130,6 +131,10 @@ fn settle<D: Disk>(disk: &mut D, line: &[u8; SECTOR]) -> Result<usize, Error>
     ensures any_crash { IsTrue (D.Disk.is_clean disk.new) → (c : List ℕ)
         → D.Disk.may_leave disk.new c
         → (d : List ℕ) × D.Disk.may_leave disk.old d × (stored c ≡ stored d) }
+    ensures front { ((d : List ℕ) → D.Disk.may_leave disk.old d → take sector d ≡ line.now)
+        → IsTrue (D.Disk.is_clean disk.new) → (c : List ℕ) → D.Disk.may_leave disk.new c
+        → take sector c ≡ line.now }
+    ensures longer { length (D.Disk.seen disk.old) ≤ length (D.Disk.seen disk.new) }
 {
     sync(disk)?;
     let len = measure(disk)?;
@@ -157,6 +162,7 @@ pub fn prepare<D: Disk, M: Machine>(
     requires usable { IsTrue (D.Disk.is_usable disk.old) }
     ensures ran { OnOk result (IsTrue (D.Disk.is_clean disk.new)
         → Runs M.steps machine.old (stored (D.Disk.seen disk.old)) machine.new) }
+    ensures keeps { (first : M) → M.keeps first machine.old → M.keeps first machine.new }
     ensures rests { IfOk result (λ ready. IsTrue (D.Disk.is_clean disk.new)
         → Rests line.now (stored (D.Disk.seen disk.old)) ready.end ready.len
         (D.Disk.seen disk.new)) }
@@ -168,6 +174,7 @@ pub fn prepare<D: Disk, M: Machine>(
     ensures synced { OnOk result (Only (D.Disk.seen disk.new) (D.Disk.may_leave disk.new)) }
     ensures usable { OnOk result (IsTrue (D.Disk.is_usable disk.new)) }
     ensures clean { IsTrue (D.Disk.is_clean disk.new) → IsTrue (D.Disk.is_clean disk.old) }
+    ensures faults { D.Disk.faults disk.old ≤ D.Disk.faults disk.new }
     ensures cause { IfErr result (Because Never
         (Refuses D.Disk line.now disk.old disk.new)
         (IsTrue (D.Disk.is_clean disk.new)
@@ -177,6 +184,10 @@ pub fn prepare<D: Disk, M: Machine>(
     ensures any_crash { IsTrue (D.Disk.is_clean disk.new) → (c : List ℕ)
         → D.Disk.may_leave disk.new c
         → (d : List ℕ) × D.Disk.may_leave disk.old d × (stored c ≡ stored d) }
+    ensures front { ((d : List ℕ) → D.Disk.may_leave disk.old d → take sector d ≡ line.now)
+        → IsTrue (D.Disk.is_clean disk.new) → (c : List ℕ) → D.Disk.may_leave disk.new c
+        → take sector c ≡ line.now }
+    ensures longer { length (D.Disk.seen disk.old) ≤ length (D.Disk.seen disk.new) }
 {
     let begun = settle(disk, line)?;
     let end = replay(disk, begun, alloc, machine)?;

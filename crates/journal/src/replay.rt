@@ -3,10 +3,10 @@ ghost use Rattle.std.specs.Prelude.{◌≡◌, ◌+◌, ◌%◌, ◌<◌, ◌≤
 ghost use Rattle.std.specs.Prelude.{length, take, drop, slice_index};
 ghost use Rattle.std.specs.Prelude.{IfOk, IfErr, OnOk, IfSome, IsTrue};
 ghost use Rattle.sqlite_disk.specs.Disk.{Holds, Only, MoreFaults};
-ghost use Rattle.journal.specs.Format.{records, stored, whole, sector};
+ghost use Rattle.journal.specs.Format.{records, stored, later, whole, sector};
 ghost use Rattle.journal.specs.Machine.{Runs, RunsRecords};
-ghost use Rattle.journal.specs.Errors.{OnlyDisk, OnlyReplay};
-ghost use Rattle.journal.specs.Reads.{OnlyReads, Finds, FindsBatch, EndsAt};
+ghost use Rattle.journal.specs.Errors.{OnlyDisk, OnlyReplay, Never};
+ghost use Rattle.journal.specs.Reads.{OnlyReads, Finds, FindsBatch, FindsStaged, EndsAt};
 
 use crate::gate::OPEN;
 use crate::head::{HEAD_LEN, Head, number_in};
@@ -46,8 +46,8 @@ fn read_to<D: Disk>(
     ensures len { OnOk result (length bytes.new.items ≡ size) }
     ensures read { OnOk result (IsTrue (D.Disk.is_clean disk.new)
         → take size (drop at (D.Disk.seen disk.old)) ≡ bytes.new.items) }
-    ensures cause { IfErr result (OnlyDisk
-        (MoreFaults (D.Disk.faults disk.old) (D.Disk.faults disk.new))) }
+    ensures cause { IfErr result (OnlyReplay
+        (MoreFaults (D.Disk.faults disk.old) (D.Disk.faults disk.new)) Never) }
     ensures reads { OnlyReads D.Disk disk.old disk.new }
 {
     bytes.clear();
@@ -75,8 +75,8 @@ fn read_record<D: Disk>(
     ensures found { IfOk result (λ behind. IsTrue (D.Disk.is_clean disk.new)
         → Finds (take end (D.Disk.seen disk.old)) at bytes.new.items behind) }
     ensures next { IfOk result (λ behind. IfSome behind (λ n. (at < n) × (n ≤ end))) }
-    ensures cause { IfErr result (OnlyDisk
-        (MoreFaults (D.Disk.faults disk.old) (D.Disk.faults disk.new))) }
+    ensures cause { IfErr result (OnlyReplay
+        (MoreFaults (D.Disk.faults disk.old) (D.Disk.faults disk.new)) Never) }
     ensures reads { OnlyReads D.Disk disk.old disk.new }
 {
     if end - at < 8 {
@@ -110,6 +110,7 @@ fn run_records<D: Disk, M: Machine>(
     ensures ran { OnOk result (IsTrue (D.Disk.is_clean disk.new)
         → RunsRecords M.steps time machine.old
         (records (drop start (take end (D.Disk.seen disk.old)))) machine.new) }
+    ensures keeps { (first : M) → M.keeps first machine.old → M.keeps first machine.new }
     ensures cause { IfErr result (OnlyReplay
         (MoreFaults (D.Disk.faults disk.old) (D.Disk.faults disk.new))
         (M.has_refused machine.new)) }
@@ -123,6 +124,48 @@ fn run_records<D: Disk, M: Machine>(
         at = next;
     }
     Ok(())
+}
+
+/// Reads the head of the batch with this number behind the gate at `at`, if all of the batch is there. It doesn't ask
+/// whether the gate is open.
+fn read_staged<D: Disk>(
+    disk: &mut D,
+    len: usize,
+    at: usize,
+    number: usize,
+) -> Result<Option<Head>, Error>
+    requires usable { IsTrue (D.Disk.is_usable disk.old) }
+    requires measured { IsTrue (D.Disk.is_clean disk.old) → len ≡ length (D.Disk.seen disk.old) }
+    requires within { at ≤ len }
+    requires fits { len < 2 ^ 63 }
+    ensures found { IfOk result (λ head. IsTrue (D.Disk.is_clean disk.new)
+        → FindsStaged (D.Disk.seen disk.old) at number head) }
+    ensures within { IfOk result (λ head. IfSome head
+        (λ h. at + sector + whole (24 + h.len) ≤ len)) }
+    ensures records { IfOk result (λ head. IfSome head (λ h. at + sector + 24 + h.len ≤ len)) }
+    ensures cause { IfErr result (OnlyDisk
+        (MoreFaults (D.Disk.faults disk.old) (D.Disk.faults disk.new))) }
+    ensures reads { OnlyReads D.Disk disk.old disk.new }
+{
+    if len - at < SECTOR + SECTOR {
+        return Ok(None);
+    }
+    let mut head = [0; HEAD_LEN];
+    read(disk, len, at + SECTOR, &mut head)?;
+    let number_there = number_in(&head[..8]);
+    if number_there != number as u64 {
+        return Ok(None);
+    }
+    let size = number_in(&head[16..]) as usize;
+    let room = len - at - SECTOR;
+    if size > room {
+        return Ok(None);
+    }
+    if whole(HEAD_LEN + size) > room {
+        return Ok(None);
+    }
+    let time = number_in(&head[8..16]);
+    Ok(Some(Head { time, len: size }))
 }
 
 /// Reads the head of the batch with this number, if its gate stands open at `at` and all of it is there.
@@ -153,22 +196,36 @@ fn read_head<D: Disk>(
     if gate[0] != OPEN {
         return Ok(None);
     }
-    let mut head = [0; HEAD_LEN];
-    read(disk, len, at + SECTOR, &mut head)?;
-    let number_there = number_in(&head[..8]);
-    if number_there != number as u64 {
-        return Ok(None);
+    let head = read_staged(disk, len, at, number)?;
+    Ok(head)
+}
+
+/// How many batches from this number on stand one behind another, from a gate on, whatever the gates say. Nothing is
+/// read but heads.
+pub fn count_later<D: Disk>(
+    disk: &mut D,
+    len: usize,
+    gate: usize,
+    number: usize,
+) -> Result<usize, Error>
+    requires usable { IsTrue (D.Disk.is_usable disk.old) }
+    requires measured { IsTrue (D.Disk.is_clean disk.old) → len ≡ length (D.Disk.seen disk.old) }
+    requires within { gate ≤ len }
+    requires fits { len < 2 ^ 63 }
+    requires few { number ≤ gate }
+    ensures counted { IfOk result (λ n. IsTrue (D.Disk.is_clean disk.new)
+        → n ≡ length (later number (drop gate (D.Disk.seen disk.old)))) }
+    ensures cause { IfErr result (OnlyDisk
+        (MoreFaults (D.Disk.faults disk.old) (D.Disk.faults disk.new))) }
+    ensures reads { OnlyReads D.Disk disk.old disk.new }
+{
+    let mut at = gate;
+    let mut found = 0;
+    while let Some(head) = read_staged(disk, len, at, number + found)? {
+        at += SECTOR + whole(HEAD_LEN + head.len);
+        found += 1;
     }
-    let size = number_in(&head[16..]) as usize;
-    let room = len - at - SECTOR;
-    if size > room {
-        return Ok(None);
-    }
-    if whole(HEAD_LEN + size) > room {
-        return Ok(None);
-    }
-    let time = number_in(&head[8..16]);
-    Ok(Some(Head { time, len: size }))
+    Ok(found)
 }
 
 /// Where the batches of a file end, and how many there are.
@@ -191,6 +248,7 @@ pub fn replay<D: Disk, M: Machine>(
     requires fits { len < 2 ^ 63 }
     ensures ran { OnOk result (IsTrue (D.Disk.is_clean disk.new)
         → Runs M.steps machine.old (stored (D.Disk.seen disk.old)) machine.new) }
+    ensures keeps { (first : M) → M.keeps first machine.old → M.keeps first machine.new }
     ensures end { IfOk result (λ end. IsTrue (D.Disk.is_clean disk.new)
         → EndsAt (D.Disk.seen disk.old) end.at end.count) }
     ensures begins { IfOk result (λ end. (sector ≤ end.at) × (end.at % 4096 ≡ 0)) }

@@ -1,6 +1,7 @@
 //! A journal over a disk in memory that fails from some call on. What was not synced is then lost, kept or torn, sector
 //! by sector, as a seed says; what is recovered is compared with the list that a plain program would have.
-use journal::{Batch, Error, Journal, Line, Machine};
+use crate::text::{START, Text, batch_of, empty_text, line, model};
+use journal::{Error, Journal};
 use sqlite_disk::{Crash, Disk, Fuse, Memory};
 use std::alloc::Global;
 use std::io;
@@ -8,78 +9,6 @@ use std::test::Fail;
 
 /// What a device may tear a write into.
 const PIECE: usize = 512;
-
-/// The time of the first batch.
-const START: u64 = 1_700_000_000;
-
-/// The batches in order: of each record the time, less `START`, its length and its first byte.
-#[derive(Drop)]
-struct Text {
-    seen: Vec<(u64, usize, u8)>,
-}
-
-impl Machine for Text {
-    ghost steps = { λ _ _ _ _. Unit {0} };
-
-    ghost has_refused = { λ _. Unit {0} };
-
-    fn apply(&mut self, time: u64, bytes: &[u8]) -> io::Result<()> {
-        let first = bytes.first().copied().unwrap_or(0);
-        self.seen
-            .push((time.saturating_sub(START), bytes.len(), first))?;
-        Ok(())
-    }
-}
-
-fn empty_text(alloc: Global) -> Text {
-    Text {
-        seen: Vec::new(alloc),
-    }
-}
-
-/// How long the records of a batch are: within a sector, over one, and over several.
-fn lens(number: u64) -> [usize; 2] {
-    match number % 3 {
-        0 => [3, 0],
-        1 => [4000, 100],
-        _ => [9000, 4096],
-    }
-}
-
-/// The byte that the records of a batch are made of.
-fn byte_of(number: u64) -> u8 {
-    (number % 256) as u8
-}
-
-fn batch_of(alloc: Global, number: u64) -> Result<Batch, Error> {
-    let mut batch = Batch::new(alloc);
-    let mut bytes = Vec::new(alloc);
-    for len in lens(number) {
-        bytes.clear();
-        if bytes.resize(len, byte_of(number)).is_err() || batch.add(&bytes).is_err() {
-            return Err(Error::NoMemory);
-        }
-    }
-    Ok(batch)
-}
-
-/// What a machine has seen of so many batches.
-fn model(alloc: Global, count: u64) -> Result<Text, Error> {
-    let mut text = empty_text(alloc);
-    for number in 0..count {
-        for len in lens(number) {
-            let first = if len == 0 { 0 } else { byte_of(number) };
-            if text.seen.push((number, len, first)).is_err() {
-                return Err(Error::NoMemory);
-            }
-        }
-    }
-    Ok(text)
-}
-
-fn line() -> Result<Line, Error> {
-    Line::new(b"four limits").ok_or(Error::NotAJournal)
-}
 
 /// A number that a seed gives, and the next seed.
 fn mixed(seed: u64) -> u64 {
@@ -107,18 +36,21 @@ fn torn(alloc: Global, old: &[u8], new: &[u8], seed: u64) -> io::Result<Memory> 
     Ok(disk)
 }
 
-/// Recovers a file, after a recovery that is cut off at a call.
+/// Recovers a file, after a recovery that is cut off at a call. Behind its end one batch stands at most.
 fn recovered(alloc: Global, disk: Memory, calls: u64) -> Result<Text, Error> {
     let mut journal = Journal::new(Fuse::new(disk, calls), line()?);
     let _ = journal.recover(alloc, &mut empty_text(alloc));
     journal.crash();
     let mut text = empty_text(alloc);
     journal.recover(alloc, &mut text)?;
+    if journal.later_batches()? > 1 {
+        return Err(Error::TooLong);
+    }
     Ok(text)
 }
 
 /// Adds five batches over a disk that fails after so many calls. Answers how many were acknowledged, and the disk.
-fn lived(alloc: Global, calls: u64) -> Result<(u64, Fuse<Memory>), Error> {
+pub fn lived(alloc: Global, calls: u64) -> Result<(u64, Fuse<Memory>), Error> {
     let mut journal = Journal::new(Fuse::new(Memory::new(alloc), calls), line()?);
     let mut acknowledged = 0;
     if journal.recover(alloc, &mut empty_text(alloc)).is_ok() {
@@ -176,37 +108,5 @@ fn all_is_acknowledged_on_a_disk_that_works(rt: HostRuntime) -> Result<(), Fail>
         Err(_) => 0,
     };
     assert_eq!(rt; acknowledged, 5);
-    Ok(())
-}
-
-/// What opening a file with another line comes to.
-fn opened_as(alloc: Global, parameters: &[u8]) -> Result<(), Error> {
-    let (_, disk) = lived(alloc, 1000)?;
-    let line = Line::new(parameters).ok_or(Error::NotAJournal)?;
-    Journal::new(disk, line).recover(alloc, &mut empty_text(alloc))
-}
-
-/// What opening a file that holds these bytes comes to.
-fn opened(alloc: Global, bytes: &[u8]) -> Result<(), Error> {
-    let mut disk = Memory::new(alloc);
-    if let Err(error) = disk.write_at(0, bytes) {
-        return Err(Error::Disk(error));
-    }
-    Journal::new(disk, line()?).recover(alloc, &mut empty_text(alloc))
-}
-
-#[test]
-fn other_files_are_refused_by_name(rt: HostRuntime) -> Result<(), Fail> {
-    let alloc = rt.alloc();
-    assert!(rt; opened_as(alloc, b"four limits").is_ok());
-    assert!(rt;
-        matches!(
-            opened_as(alloc, b"five limits"),
-            Err(Error::OtherParameters)
-        )
-    );
-    assert!(rt; matches!(opened(alloc, b"text"), Err(Error::NotAJournal)));
-    assert!(rt; matches!(opened(alloc, &[7; 9000]), Err(Error::NotAJournal)));
-    assert!(rt; opened(alloc, &[0; 5000]).is_ok());
     Ok(())
 }

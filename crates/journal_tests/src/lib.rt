@@ -1,5 +1,14 @@
-//! Tests of `journal`, in a crate of their own: power cuts at every call, with a model beside the disk.
+//! Tests of `journal`, in a crate of their own: power cuts at every call, with a model beside the disk; a full disk, a
+//! gate that is damaged, and files that are refused.
 #![tactic(auto)]
 
 #[cfg(test)]
 mod crashes;
+#[cfg(test)]
+mod faults;
+#[cfg(test)]
+mod full;
+#[cfg(test)]
+mod long;
+#[cfg(test)]
+mod text;

@@ -1,4 +1,4 @@
-use Rattle.std.proofs.Common.{◌≡◌, ◌≤◌, ◌<◌, ◌+◌, ℕ, length, inl, inr, arith, rules, ◌∙◌, ap, sym}
+use Rattle.std.proofs.Common.{inr, arith, rules}
 use Rattle.journal.proofs.Commit.{all_rest}
 use Rattle.journal.proofs.gate.blank.Goals as goal
 

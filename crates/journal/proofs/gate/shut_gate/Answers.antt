@@ -1,4 +1,4 @@
-use Rattle.std.proofs.Common.{◌≡◌, ◌∙◌, ◌<◌, length, slice_index, arith, rules, refl}
+use Rattle.std.proofs.Common.{◌∙◌, rules, refl}
 use Rattle.std.proofs.lemmas.Result.{on_ok_weaker}
 use Rattle.journal.proofs.Commit.{first_held}
 use Rattle.journal.proofs.gate.shut_gate.Goals as goal

@@ -1,8 +1,8 @@
-use Rattle.std.proofs.Common.{◌≡◌, ◌≢◌, slice_index, ◌+◌, ◌++◌, ◌%◌, ◌<◌, ◌≤◌, ℕ, List, length, drop, arith, rules}
-use Rattle.std.proofs.Common.{refl, subst, sym, ap}
+use Rattle.std.proofs.Common.{◌≡◌, slice_index, ◌+◌, ◌++◌, ◌≤◌, ℕ, List, length, arith, rules}
+use Rattle.std.proofs.Common.{subst, sym}
 use Rattle.std.proofs.lemmas.Result.{on_ok_weaker}
 use Rattle.sqlite_disk.specs.Disk.{Holds, Torn}
-use Rattle.journal.specs.Format.{whole, sector, head, records}
+use Rattle.journal.specs.Format.{whole, sector, records}
 use Rattle.journal.specs.Gate.{IsStaged}
 use Rattle.journal.proofs.Listing.{is_whole}
 use Rattle.journal.proofs.Commit.{staged, all_rest, zero_shuts}

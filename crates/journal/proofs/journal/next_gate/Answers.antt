@@ -1,4 +1,4 @@
-use Rattle.std.proofs.Common.{◌≡◌, ◌≤◌, ◌+◌, arith}
+use Rattle.std.proofs.Common.{◌+◌, arith}
 use Rattle.journal.proofs.Listing.{is_whole}
 use Rattle.journal.proofs.journal.next_gate.Goals as goal
 

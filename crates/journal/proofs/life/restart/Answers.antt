@@ -1,7 +1,10 @@
+use Rattle.std.proofs.Common.{◌∙◌, ap, sym, subst, arith}
+use Rattle.journal.specs.Line.{BeginsWith}
+use Rattle.journal.proofs.Causes.{because_weaker}
 use Rattle.journal.proofs.life.restart.Goals as goal
 
-pub returns-in_err-recover-clause-any_crash : goal.returns-in_err-recover-clause-any_crash
-returns-in_err-recover-clause-any_crash g c clean file may =
+pub returns-in-Err-clause-any_crash : goal.returns-in-Err-clause-any_crash
+returns-in-Err-clause-any_crash g c clean file may =
     let before = c.recover.ensures.any_crash clean file may in
     (before.0, c.crash.ensures.no_more before.0 before.1, before.2)
 
@@ -9,3 +12,28 @@ pub returns-clause-any_crash : goal.returns-clause-any_crash
 returns-clause-any_crash g c clean file may =
     let before = c.recover.ensures.any_crash clean file may in
     (before.0, c.crash.ensures.no_more before.0 before.1, before.2)
+
+pub returns-in-Err-clause-front : goal.returns-in-Err-clause-front
+returns-in-Err-clause-front g c all clean file may =
+    let line = c.crash.ensures.line in
+    subst (λ l. BeginsWith l file) line
+    (c.recover.ensures.front
+    (λ d was. subst (λ l. BeginsWith l d) (sym line) (all d (c.crash.ensures.no_more d was))) clean file may)
+
+pub returns-clause-front : goal.returns-clause-front
+returns-clause-front g c all clean file may =
+    let line = c.crash.ensures.line in
+    subst (λ l. BeginsWith l file) line
+    (c.recover.ensures.front
+    (λ d was. subst (λ l. BeginsWith l d) (sym line) (all d (c.crash.ensures.no_more d was))) clean file may)
+
+pub returns-in-Err-clause-cause : goal.returns-in-Err-clause-cause
+returns-in-Err-clause-cause g c =
+    because_weaker _ _ _ _ _ _ _ _ _ _ (λ closed. sym closed ∙ c.crash.ensures.usable)
+    (λ refuses clean. (
+      _,
+      c.crash.ensures.left,
+      λ begins. absurd (refuses.other clean (begins ∙ ap (λ l. l.bytes) (sym c.crash.ensures.line))),
+    ))
+    (λ long clean. omega (arith, long clean, c.recover.ensures.longer))
+    (λ more. omega (arith, more, c.crash.ensures.faults)) (λ refused. refused) c.in-Err.error c.in-Err.ensures.cause

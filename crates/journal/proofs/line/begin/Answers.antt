@@ -1,4 +1,4 @@
-use Rattle.std.proofs.Common.{◌≡◌, ◌≤◌, ◌<◌, ◌+◌, ◌∙◌, length, length-take, take, sym, ap, subst, arith, rules}
+use Rattle.std.proofs.Common.{◌≡◌, length, length-take, ap, arith, rules}
 use Rattle.journal.specs.Format.{sector}
 use Rattle.journal.proofs.Ending.{begun_follows}
 use Rattle.journal.proofs.Causes.{because_weaker}

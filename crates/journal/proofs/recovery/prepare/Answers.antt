@@ -1,7 +1,7 @@
-use Rattle.std.proofs.Common.{◌≡◌, ◌≢◌, ◌≤◌, ◌<◌, ◌+◌, ◌∙◌, length, take, sym, ap, subst, arith, rules}
-use Rattle.journal.specs.Format.{stored, sector, Rests}
-use Rattle.journal.specs.Reads.{EndsAt, Repairs}
-use Rattle.journal.proofs.Ending.{same_repaired, rests_repaired}
+use Rattle.std.proofs.Common.{◌∙◌, subst, arith}
+use Rattle.journal.specs.Format.{Rests}
+use Rattle.journal.specs.Reads.{Repairs}
+use Rattle.journal.proofs.Ending.{same_repaired, line_repaired, rests_repaired}
 use Rattle.journal.proofs.recovery.prepare.Goals as goal
 
 pub returns-in_err-len-clause-any_crash : goal.returns-in_err-len-clause-any_crash
@@ -47,3 +47,25 @@ returns-clause-rests g c clean =
     (rests_repaired mid at c.in_ok-end.end.count c.in_ok-end.ensures.begins.0 ends now c.args.line.now len
     (c.in_ok-begun.ensures.line mid_clean) repairs
     (omega (arith, c.in_ok-len.ensures.long.0)) (c.in_ok-len.ensures.there clean) (c.in_ok-len.ensures.shut clean))
+
+pub returns-in_err-len-clause-front : goal.returns-in_err-len-clause-front
+returns-in_err-len-clause-front g c all clean file may =
+    let mid = g.D.Disk.seen c.settle.new.disk in
+    let at = c.in_ok-end.end.at in
+    let read_clean = c.repair.ensures.clean clean in
+    let ends = c.in_ok-end.ensures.end read_clean in
+    let repairs : Repairs at mid file = subst (λ f. Repairs at f file) c.replay.ensures.reads.seen
+    (c.repair.ensures.crash clean file may) in
+    line_repaired mid at c.in_ok-end.end.count c.in_ok-end.ensures.begins.0 ends file repairs
+    ∙ c.in_ok-begun.ensures.line (c.replay.ensures.reads.clean read_clean)
+
+pub returns-clause-front : goal.returns-clause-front
+returns-clause-front g c all clean file may =
+    let mid = g.D.Disk.seen c.settle.new.disk in
+    let at = c.in_ok-end.end.at in
+    let read_clean = c.repair.ensures.clean clean in
+    let ends = c.in_ok-end.ensures.end read_clean in
+    let repairs : Repairs at mid file = subst (λ f. Repairs at f file) c.replay.ensures.reads.seen
+    (c.repair.ensures.crash clean file may) in
+    line_repaired mid at c.in_ok-end.end.count c.in_ok-end.ensures.begins.0 ends file repairs
+    ∙ c.in_ok-begun.ensures.line (c.replay.ensures.reads.clean read_clean)

@@ -1,4 +1,4 @@
-use Rattle.std.proofs.Common.{◌≡◌, ◌≢◌, ◌≤◌, ◌+◌, ◌^◌, ◌∙◌, IsTrue, length, take, sym, ap, subst, arith, rules}
+use Rattle.std.proofs.Common.{◌≤◌, ◌+◌, ◌^◌, ◌∙◌, IsTrue, length, take, ap, arith}
 use Rattle.sqlite_disk.specs.Disk.{MoreFaults}
 use Rattle.journal.specs.Errors.{Because, Never}
 use Rattle.journal.specs.Format.{sector}

@@ -1,4 +1,4 @@
-use Rattle.std.proofs.Common.{◌≡◌, ◌<◌, ◌≤◌, ◌+◌, length, take, drop, Some, arith, rules, ap, sym, ◌∙◌, subst}
+use Rattle.std.proofs.Common.{◌≡◌, ◌+◌, take, drop, Some, arith, rules, ap, sym, ◌∙◌}
 use Rattle.journal.specs.Format.{number_of}
 use Rattle.journal.proofs.Scan.{none_tiny, none_past, found_record}
 use Rattle.journal.proofs.replay.read_record.Goals as goal

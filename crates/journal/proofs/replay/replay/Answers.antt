@@ -1,11 +1,11 @@
-use Rattle.std.proofs.Common.{◌≡◌, ◌≤◌, ◌+◌, ◌++◌, ◌∷◌, [], ℕ, List, Some, None, length, take, drop, length-append}
+use Rattle.std.proofs.Common.{◌≡◌, ◌+◌, ◌++◌, ◌∷◌, [], Some, None, length, take, drop, length-append}
 use Rattle.std.proofs.Common.{refl, subst, sym, ap, ◌∙◌, arith, rules}
 use Rattle.std.proofs.lemmas.List.{drop-take}
-use Rattle.journal.specs.Format.{Kept, records, next, sector, whole, stored}
+use Rattle.journal.specs.Format.{records, next, sector, whole}
 use Rattle.journal.specs.Machine.{Runs, RunsRecords}
 use Rattle.journal.specs.Reads.{FindsBatch}
 use Rattle.journal.proofs.Listing.{is_whole}
-use Rattle.journal.proofs.Scan.{HasRead, read_none, read_more, read_all, runs_more}
+use Rattle.journal.proofs.Scan.{read_none, read_more, read_all, runs_more}
 use Rattle.journal.proofs.replay.replay.Goals as goal
 
 pub loop-bytes-preserved : goal.loop-bytes-preserved
@@ -29,6 +29,7 @@ loop-bytes-preserved g c =
         faults = search rules;
         crash = λ left may. so_far.reads.crash left (one.crash left (two.crash left may));
       };
+      others = λ first kept. c.run_records.ensures.keeps first (so_far.others first kept);
       ran = λ clean.
           let mid_clean = two.clean clean in
           let before = so_far.ran (one.clean mid_clean) in
@@ -79,6 +80,7 @@ loop-bytes-init g c = record {
         crash = λ left
             may. may;
       };
+  others = λ first kept. kept;
   ran = λ clean. ([], read_none (g.D.Disk.seen c.args.disk.now), refl, refl);
 }
 

@@ -23,6 +23,7 @@ loop-next-preserved g c =
         faults = search rules;
         crash = λ left may. so_far.reads.crash left (one.crash left may);
       };
+      others = λ first kept. c.apply.ensures.keeps first (so_far.others first kept);
       ran = λ clean.
           let before = so_far.ran (one.clean clean) in
           let found = c.in_ok-next.ensures.found clean in

@@ -1,4 +1,4 @@
-use Rattle.std.proofs.Common.{arith, rules, ap, sym, subst, length, take, drop, ℕ, List, ◌≡◌, ◌≤◌, ◌<◌, ◌+◌, ◌++◌}
+use Rattle.std.proofs.Common.{arith, rules, ap, sym, subst, length, ℕ, List, ◌≡◌, ◌+◌, ◌++◌}
 use Rattle.std.proofs.Common.{◌∙◌, append_assoc, length-append}
 use Rattle.std.proofs.lemmas.Result.{on_ok_weaker}
 use Rattle.sqlite_disk.specs.Disk.{Holds}

@@ -1,5 +1,4 @@
-use Rattle.std.proofs.Common.{arith, ap, sym, length, ℕ, ◌≡◌, ◌≤◌, ◌<◌, rules}
-use Rattle.journal.specs.Format.{whole}
+use Rattle.std.proofs.Common.{arith, length, ◌≡◌, ◌<◌, rules}
 use Rattle.journal.proofs.Listing.{is_whole}
 use Rattle.journal.proofs.Tears.{torn_wider, follows_wider}
 use Rattle.journal.proofs.sectors.write_last.Goals as goal

@@ -1,4 +1,4 @@
-use Rattle.std.proofs.Common.{arith, rules, ap, sym, length, take, drop, ℕ, ◌≡◌, ◌≤◌, ◌<◌, ◌+◌, ◌*◌, ◌/◌, refl}
+use Rattle.std.proofs.Common.{arith, length, ◌+◌, refl}
 use Rattle.journal.specs.Format.{whole}
 use Rattle.journal.proofs.Listing.{is_whole}
 use Rattle.journal.proofs.Tears.{torn_wider, torn_both, follows_wider, follows_both, joined}

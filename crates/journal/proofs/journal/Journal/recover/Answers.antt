@@ -1,6 +1,6 @@
-use Rattle.std.proofs.Common.{◌≡◌, length, subst, sym, ap, ◌∙◌, rules}
+use Rattle.std.proofs.Common.{length, subst, sym, ap, ◌∙◌}
 use Rattle.journal.specs.Format.{stored, Rests}
-use Rattle.journal.proofs.Commit.{stored_rests}
+use Rattle.journal.proofs.Commit.{stored_rests, kept_alone}
 use Rattle.journal.proofs.journal.Journal.recover.Goals as goal
 
 pub returns-clause-same : goal.returns-clause-same
@@ -18,9 +18,6 @@ pub invariant_of-self-2-clause-rests : goal.invariant_of-self-2-clause-rests
 invariant_of-self-2-clause-rests g c opened clean file may =
     let now = g.D.Disk.seen c.prepare.new.disk in
     let ready = c.in_ok-ready.ready in
-    let line = c.args.self.now.line.bytes in
-    let here : Rests line (stored now) ready.end ready.len now =
-    subst (λ l. Rests line l ready.end ready.len now) (sym (stored_rests _ _ _ _ _ (c.in_ok-ready.ensures.rests clean)))
-    (subst (λ l. Rests l (stored (g.D.Disk.seen c.args.self.now.disk)) ready.end ready.len now) c.bytes.ensures
-    (c.in_ok-ready.ensures.rests clean)) in
-    subst (λ f. Rests line (stored now) ready.end ready.len f) (sym (c.in_ok-ready.ensures.synced file may)) here
+    let here = subst (λ l. Rests l (stored (g.D.Disk.seen c.args.self.now.disk)) ready.end ready.len now)
+    c.bytes.ensures (c.in_ok-ready.ensures.rests clean) in
+    kept_alone _ _ _ _ now file here (c.in_ok-ready.ensures.synced file may)
