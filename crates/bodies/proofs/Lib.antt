@@ -1,3 +1,4 @@
 pub mod Listing
 mod Shelves
 mod Staying
+mod Cuts

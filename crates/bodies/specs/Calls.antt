@@ -1,9 +1,12 @@
 -- The files of a folder, by what it held and the calls on it.
 use Rattle.std.specs.Prelude.{◌≡◌, ◌≢◌, ◌⊎◌, ◌↔◌, ◌==◌, if◌then◌else◌, ℕ, Bool, List, [], ◌∷◌, Option, Some, None}
-use Rattle.std.specs.Prelude.{Contains, IsSome, IsTrue}
+use Rattle.std.specs.Prelude.{◌+◌, Contains, IsSome, IsTrue}
 use Rattle.bodies.specs.Shelf.{IsPiece}
+use Rattle.bodies.specs.declared.fault.BodyFault.{BodyFault}
+use Rattle.bodies.specs.declared.fault.BodyFault.TheVariants as faults
 use Rattle.bodies.specs.declared.calls.Call.{Call}
 use Rattle.bodies.specs.declared.calls.Call.TheVariants.{Made, Taken, Missing, Closed, Synced, Removed, Read, Listed}
+use Rattle.bodies.specs.declared.calls.Call.TheVariants.{Failed}
 
 -- by what a file holds, and what was held before the calls
 module _ {F : Type 0} (seen : F → List ℕ) (start : ℕ → Option (List ℕ)) where
@@ -41,3 +44,15 @@ module _ {F : Type 0} (seen : F → List ℕ) (start : ℕ → Option (List ℕ)
     left_after (Synced number ∷ earlier) n left =
         left_after earlier n left × (n ≡ number → IsSome (held_after earlier n) → IsSome left)
     left_after (_ ∷ earlier) n left = left_after earlier n left
+
+-- how many calls failed, or found no memory
+abbrev pub failed_in : {F : Type 0} → List (Call F) → ℕ
+failed_in [] = 0
+failed_in (Failed ∷ earlier) = failed_in earlier + 1
+failed_in (_ ∷ earlier) = failed_in earlier
+
+-- a call of this number that was refused: what is told of it is noted, that there is no file, or that the call failed
+abbrev pub Refused : {F : Type 0} → ℕ → BodyFault → List (Call F) → List (Call F) → Type 0
+Refused number faults.Missing old new = new ≡ Missing number ∷ old
+Refused number (faults.Io _) old new = new ≡ Failed ∷ old
+Refused number _ old new = ⊥

@@ -10,3 +10,12 @@ body_fault_text Missing = Some (codes "no body of this number is there")
 body_fault_text Ended = Some (codes "no more is written after a call that failed")
 body_fault_text TooLong = Some (codes "a body of 2^63 bytes or more")
 body_fault_text (Io error) = None
+
+-- by what each comes: a body of the number is there, none is there, nothing more is written, it would be too long, or a
+-- call failed
+abbrev pub Because : (taken missing ended long failed : Type 0) → BodyFault → Type 0
+Because taken missing ended long failed Taken = taken
+Because taken missing ended long failed Missing = missing
+Because taken missing ended long failed Ended = ended
+Because taken missing ended long failed TooLong = long
+Because taken missing ended long failed (Io _) = failed

@@ -4,5 +4,6 @@ pub mod Faults
 pub mod Files
 pub mod FolderFiles
 pub mod MemoryFiles
+pub mod FuseShelf
 pub mod MemoryShelf
 pub mod Shelf

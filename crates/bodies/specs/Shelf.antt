@@ -1,5 +1,9 @@
 -- Files by their numbers, and what a crash may leave of them.
-use Rattle.std.specs.Prelude.{◌≡◌, ◌≢◌, ◌≤◌, ◌<◌, ℕ, List, length, take, drop, Option, Some, None}
+use Rattle.std.specs.Prelude.{◌≡◌, ◌≢◌, ◌≤◌, ◌<◌, ℕ, List, length, take, drop, Option, Some, None, Result}
+use Rattle.std.specs.Prelude.{MatchResult}
+use Rattle.sqlite_disk.specs.Disk.{MoreFaults}
+use Rattle.bodies.specs.declared.fault.BodyFault.{BodyFault}
+use Rattle.bodies.specs.Faults.{Because}
 
 -- by the file of each number, and by what a crash may leave of it
 module _ {S : Type 0} (held : S → ℕ → Option (List ℕ)) (may_leave : S → ℕ → Option (List ℕ) → Type 0) where
@@ -25,3 +29,10 @@ IsPiece (Some file) at n bytes =
 -- every crash leaves exactly these bytes at this number
 abbrev pub Stored : {S : Type 0} → (S → ℕ → Option (List ℕ) → Type 0) → S → ℕ → List ℕ → Type 0
 Stored may_leave shelf number bytes = (left : Option (List ℕ)) → may_leave shelf number left → left ≡ Some bytes
+
+-- A call of a shelf, by the count of its faults: only one that failed is counted. Another error says that a body of the
+-- number is there, or that none is.
+abbrev pub Counts : {T : Type 0} → (taken missing : Type 0) → Result T BodyFault → ℕ → ℕ → Type 0
+Counts taken missing result old new =
+    MatchResult result (λ _. new ≡ old)
+    (Because (taken × (new ≡ old)) (missing × (new ≡ old)) ⊥ ⊥ (MoreFaults old new × (old ≤ new)))

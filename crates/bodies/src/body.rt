@@ -1,6 +1,8 @@
 //! A body that is being written.
-ghost use Rattle.std.specs.Prelude.{◌≡◌, ◌⊎◌, ◌+◌, ◌≤◌, ◌^◌, ◌++◌, length, false, OnOk, OnErr, IsErr, IsTrue};
+ghost use Rattle.std.specs.Prelude.{◌≡◌, ◌⊎◌, ◌+◌, ◌-◌, ◌≤◌, ◌^◌, ◌++◌, min, length, false};
+ghost use Rattle.std.specs.Prelude.{IfErr, OnOk, OnErr, IsTrue};
 ghost use Rattle.sqlite_disk.specs.Disk.{MoreFaults, Only};
+ghost use Rattle.bodies.specs.Faults.{Because};
 ghost use Rattle.bodies.specs.Files.{IsEmpty};
 
 use crate::fault::BodyFault;
@@ -62,9 +64,14 @@ impl<D: Disk> Body<D> {
         ensures was_open { OnOk result (IsTrue (is_open self.old)) }
         ensures open { OnOk result (IsTrue (is_open self.new)) }
         ensures number { number_of self.new ≡ number_of self.old }
-        ensures cause { IsErr result → (is_open self.old ≡ false)
-            ⊎ (2 ^ 63 ≤ length (bytes_of self.old) + length bytes.now)
-            ⊎ MoreFaults (D.Disk.faults (file_of self.old)) (D.Disk.faults (file_of self.new)) }
+        ensures cause { IfErr result (Because ⊥ ⊥
+            ((is_open self.old ≡ false) × (self.new ≡ self.old))
+            ((2 ^ 63 ≤ length (bytes_of self.old) + length bytes.now) × (self.new ≡ self.old))
+            (MoreFaults (D.Disk.faults (file_of self.old)) (D.Disk.faults (file_of self.new)))) }
+        // It is closed only if the write failed and the file couldn't be cut back, which are two faults.
+        ensures closes { IsTrue (is_open self.old) → IsTrue (is_open self.new)
+            ⊎ (min (D.Disk.faults (file_of self.old) + 2) (2 ^ 64 - 1)
+            ≤ D.Disk.faults (file_of self.new)) }
     {
         if !self.is_open {
             return Err(BodyFault::Ended);
@@ -89,6 +96,8 @@ impl<D: Disk> Body<D> {
     pub(crate) fn end(mut self) -> (D, Result<(), BodyFault>)
         ensures seen { D.Disk.seen result.0 ≡ bytes_of self }
         ensures stored { OnOk result.1 (Only (bytes_of self) (D.Disk.may_leave result.0)) }
+        ensures cause { IfErr result.1 (Because ⊥ ⊥ (is_open self ≡ false) ⊥
+            (MoreFaults (D.Disk.faults (file_of self)) (D.Disk.faults result.0))) }
     {
         if !self.is_open {
             return (self.file, Err(BodyFault::Ended));

@@ -21,4 +21,6 @@ pub enum Call<F> {
     Read(u64, u64, u64, Notes<u64>),
     /// These are all that were there.
     Listed(Snapshot<Vec<u64>>),
+    /// The system refused it, or there was no memory for it.
+    Failed,
 }

@@ -1,7 +1,9 @@
 //! A shelf in a folder of the system. Each method makes the call that it notes, and no other.
-ghost use Rattle.std.specs.Prelude.{◌≡◌, ◌≢◌, [], ◌∷◌, ℕ, Bool, List, Option, IfOk, IsTrue};
+ghost use Rattle.std.specs.Prelude.{◌≡◌, ◌≤◌, [], ◌∷◌, ℕ, Bool, List, Option, length, IfOk, IsTrue};
 ghost use Rattle.bodies.specs.declared.calls.Call.TheVariants as Call;
-ghost use Rattle.bodies.specs.declared.fault.BodyFault.TheVariants.{Missing};
+ghost use Rattle.bodies.specs.declared.fault.BodyFault.TheVariants.{Io};
+ghost use Rattle.bodies.specs.Calls.{Refused};
+ghost use Rattle.journal_file.specs.Opened.{IsJustOpened};
 
 use crate::calls::Call;
 use crate::fault::BodyFault;
@@ -75,17 +77,60 @@ impl<S: Start, H: Holds> FolderShelf<S, H> {
         Ok(format!(in self.rt.alloc(); "{}/{number}", self.folder_of(number)?.as_str())?)
     }
 
-    /// Why a file can't be read or removed. That it isn't there is noted.
+    /// Puts the name of this number's file on the disk.
+    fn sync_name(&self, number: u64) -> io::Result<()> {
+        sync_folder(&self.rt, self.folder_of(number)?.as_str())
+    }
+
+    /// Makes the file of this number.
+    fn make_new(&self, number: u64) -> io::Result<FileFrom<S>>
+        ensures { IfOk result (IsJustOpened S.Start) }
+    {
+        make_file(&self.rt, self.path_of(number)?.as_str())
+    }
+
+    /// Reads this number's file, as `read_at` does.
+    fn read(&self, number: u64, at: usize, buf: &mut [u8]) -> io::Result<usize>
+        ensures { IfOk result (λ n. n ≤ length buf.old) }
+    {
+        let file = fs::File::open(&self.rt, self.path_of(number)?.as_str())?;
+        file.read_at(buf, at as u64)
+    }
+
+    /// Removes this number's file.
+    fn remove_file(&self, number: u64) -> io::Result<()> {
+        fs::remove_file(&self.rt, self.path_of(number)?.as_str())
+    }
+
+    /// The numbers that have a file.
+    fn list_all(&self, alloc: Global) -> io::Result<Vec<u64>> {
+        let mut numbers = Vec::new(alloc);
+        for low in 0..FOLDERS {
+            list(&self.rt, self.folder_of(low)?.as_str(), low, &mut numbers)?;
+        }
+        Ok(numbers)
+    }
+
+    /// Why a file can't be read or removed. That it isn't there is noted, or that the call failed.
     fn refuse(&mut self, number: u64, error: io::Error) -> BodyFault
-        ensures missing { result ≡ Missing → self.new.calls ≡ Call.Missing number ∷ self.old.calls }
-        ensures other { result ≢ Missing → self.new.calls ≡ self.old.calls }
+        ensures noted { Refused number result self.old.calls self.new.calls }
         ensures usable { self.new.is_usable ≡ self.old.is_usable }
     {
         if error.kind() != ErrorKind::NotFound {
-            return BodyFault::Io(error);
+            return self.fail(error);
         }
         self.note(Call::Missing(number));
         BodyFault::Missing
+    }
+
+    /// Notes that a call failed.
+    fn fail(&mut self, error: io::Error) -> BodyFault
+        ensures is { result ≡ Io error }
+        ensures calls { self.new.calls ≡ Call.Failed ∷ self.old.calls }
+        ensures usable { self.new.is_usable ≡ self.old.is_usable }
+    {
+        self.note(Call::Failed);
+        BodyFault::Io(error)
     }
 
     /// Notes a call with its answer.
@@ -119,7 +164,7 @@ fn list(rt: &HostRuntime, path: &str, low: u64, numbers: &mut Vec<u64>) -> io::R
 }
 
 impl<S: Start, H: Holds> Shelf for FolderShelf<S, H> {
-    ghost use Rattle.bodies.specs.Calls.{held_after, left_after, IsHonest};
+    ghost use Rattle.bodies.specs.Calls.{held_after, left_after, failed_in, IsHonest};
     ghost use Rattle.bodies.specs.FolderFiles.{seen_of, may_leave_of};
 
     type File = FileFrom<S>;
@@ -133,13 +178,14 @@ impl<S: Start, H: Holds> Shelf for FolderShelf<S, H> {
 
     ghost IsClean = { λ shelf. IsHonest (seen_of S.Start) H.Holds.bodies shelf.calls };
 
+    ghost faults = { λ shelf. failed_in shelf.calls };
+
     fn may_be_used(&self) -> bool {
         self.is_usable
     }
 
     fn make(&mut self, number: u64) -> Result<FileFrom<S>, BodyFault> {
-        let path = self.path_of(number)?;
-        match make_file(&self.rt, path.as_str()) {
+        match self.make_new(number) {
             Ok(file) => {
                 self.note(Call::Made(number));
                 Ok(file)
@@ -148,7 +194,7 @@ impl<S: Start, H: Holds> Shelf for FolderShelf<S, H> {
                 self.note(Call::Taken(number));
                 Err(BodyFault::Taken)
             }
-            Err(error) => Err(BodyFault::Io(error)),
+            Err(error) => Err(self.fail(error)),
         }
     }
 
@@ -158,40 +204,47 @@ impl<S: Start, H: Holds> Shelf for FolderShelf<S, H> {
     }
 
     fn sync(&mut self, number: u64) -> io::Result<()> {
-        self.is_usable = false;
-        sync_folder(&self.rt, self.folder_of(number)?.as_str())?;
-        self.note(Call::Synced(number));
-        self.is_usable = true;
-        Ok(())
+        match self.sync_name(number) {
+            Ok(()) => {
+                self.note(Call::Synced(number));
+                Ok(())
+            }
+            Err(error) => {
+                self.is_usable = false;
+                self.note(Call::Failed);
+                Err(error)
+            }
+        }
     }
 
     fn read_at(&mut self, number: u64, at: usize, buf: &mut [u8]) -> Result<usize, BodyFault> {
-        let path = self.path_of(number)?;
-        let file = match fs::File::open(&self.rt, path.as_str()) {
-            Ok(file) => file,
-            Err(error) => return Err(self.refuse(number, error)),
-        };
-        let n = file.read_at(buf, at as u64)?;
-        let read = Notes::of_bytes(&buf[..n]);
-        self.note(Call::Read(number, at as u64, buf.len() as u64, read));
-        Ok(n)
+        match self.read(number, at, buf) {
+            Ok(n) => {
+                let read = Notes::of_bytes(&buf[..n]);
+                self.note(Call::Read(number, at as u64, buf.len() as u64, read));
+                Ok(n)
+            }
+            Err(error) => Err(self.refuse(number, error)),
+        }
     }
 
     fn remove(&mut self, number: u64) -> Result<(), BodyFault> {
-        let path = self.path_of(number)?;
-        match fs::remove_file(&self.rt, path.as_str()) {
-            Ok(()) => self.note(Call::Removed(number)),
-            Err(error) => return Err(self.refuse(number, error)),
+        match self.remove_file(number) {
+            Ok(()) => {
+                self.note(Call::Removed(number));
+                Ok(())
+            }
+            Err(error) => Err(self.refuse(number, error)),
         }
-        Ok(())
     }
 
     fn numbers(&mut self, alloc: Global) -> Result<Vec<u64>, BodyFault> {
-        let mut numbers = Vec::new(alloc);
-        for low in 0..FOLDERS {
-            list(&self.rt, self.folder_of(low)?.as_str(), low, &mut numbers)?;
+        match self.list_all(alloc) {
+            Ok(numbers) => {
+                self.note(Call::Listed(Snapshot::of(&numbers)));
+                Ok(numbers)
+            }
+            Err(error) => Err(self.fail(error)),
         }
-        self.note(Call::Listed(Snapshot::of(&numbers)));
-        Ok(numbers)
     }
 }

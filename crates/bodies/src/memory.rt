@@ -2,6 +2,7 @@
 ghost use Rattle.std.specs.Prelude.{◌≡◌, ◌≤◌, ◌↔◌, ◌∷◌, [], ℕ, List, Option, Some, None, length, take, Contains};
 ghost use Rattle.std.specs.Prelude.{IsSome, IfOk, IfSome, IfNone, OnOk, OnErr, IsTrue};
 ghost use Rattle.bodies.specs.MemoryFiles.{held_in, left_in, named, AreListed, MayBeAny};
+ghost use Rattle.sqlite_disk.specs.Disk.{CountsFault, MoreFaults};
 ghost use Rattle.bodies.specs.Shelf.{IsPiece};
 
 use crate::calls::Call;
@@ -18,11 +19,16 @@ pub struct MemoryShelf {
     /// The calls that changed something, the newest last.
     calls: Vec<Call<Memory>>,
     is_usable: bool,
+    /// How many calls found no memory.
+    faults: u64,
+    /// What the next power cut goes by.
+    seed: u64,
 }
 
 impl MemoryShelf {
     ghost use Rattle.bodies.specs.Shelf.{KeepsOthers};
-    ghost use Rattle.bodies.specs.MemoryShelf.{calls_of, is_usable_of, held_of, left_of};
+    ghost use Rattle.bodies.specs.MemoryShelf.{calls_of, is_usable_of, faults_of, held_of, left_of};
+    ghost use Rattle.bodies.specs.MemoryShelf.{IsCut, IsCutAt};
 
     /// No file.
     pub fn new(alloc: Global) -> MemoryShelf
@@ -33,15 +39,65 @@ impl MemoryShelf {
             alloc,
             calls: Vec::new(alloc),
             is_usable: true,
+            faults: 0,
+            seed: 1,
+        }
+    }
+
+    /// Has the next power cut go by this seed. Nothing else changes.
+    pub fn reseed(&mut self, seed: u64)
+        ensures calls { calls_of self.new ≡ calls_of self.old }
+        ensures usable { is_usable_of self.new ≡ is_usable_of self.old }
+        ensures faults { faults_of self.new ≡ faults_of self.old }
+    {
+        self.seed = seed;
+    }
+
+    /// The machine goes down and comes back: of each file that a crash may lose or tear, the seed says whether it does.
+    /// Without memory it leaves all as it is, as a crash may, too.
+    pub fn power_cut(&mut self)
+        ensures cut { IsCut self.old self.new }
+        ensures usable { IsTrue (is_usable_of self.new) }
+        ensures faults { faults_of self.old ≤ faults_of self.new }
+    {
+        self.is_usable = true;
+        let Ok(numbers) = list(&self.calls, self.alloc) else {
+            return;
+        };
+        for number in numbers.iter() {
+            self.cut_one(*number);
+        }
+    }
+
+    /// What a crash may do to the file of this number, by the seed.
+    fn cut_one(&mut self, number: u64)
+        ensures cut { IsCutAt self.old self.new number }
+        ensures usable { is_usable_of self.new ≡ is_usable_of self.old }
+        ensures faults { faults_of self.old ≤ faults_of self.new }
+    {
+        self.seed = self
+            .seed
+            .wrapping_mul(6_364_136_223_846_793_005)
+            .wrapping_add(1_442_695_040_888_963_407);
+        match (self.seed >> 33) % 3 {
+            0 => {
+                let _ = self.lose(number);
+            }
+            1 => {
+                let _ = self.tear(number, b"torn");
+            }
+            _ => {}
         }
     }
 
     /// What a crash may do: the file of this number is lost, unless its name is on the disk.
     pub fn lose(&mut self, number: u64) -> io::Result<()>
-        ensures left { OnOk result (left_of self.old number (held_of self.new number)) }
+        ensures left { left_of self.old number (held_of self.new number) }
         ensures fewer { (file : Option (List ℕ)) → left_of self.new number file
             → left_of self.old number file }
         ensures others { KeepsOthers held_of left_of self.old self.new number }
+        ensures usable { is_usable_of self.new ≡ is_usable_of self.old }
+        ensures faults { faults_of self.old ≤ faults_of self.new }
     {
         if may_be_lost(&self.calls, number) {
             self.note(Call::Removed(number))?;
@@ -51,10 +107,12 @@ impl MemoryShelf {
 
     /// What a crash may do: the file of this number has these bytes, if it was being written.
     pub fn tear(&mut self, number: u64, bytes: &[u8]) -> io::Result<()>
-        ensures left { OnOk result (left_of self.old number (held_of self.new number)) }
+        ensures left { left_of self.old number (held_of self.new number) }
         ensures fewer { (file : Option (List ℕ)) → left_of self.new number file
             → left_of self.old number file }
         ensures others { KeepsOthers held_of left_of self.old self.new number }
+        ensures usable { is_usable_of self.new ≡ is_usable_of self.old }
+        ensures faults { faults_of self.old ≤ faults_of self.new }
     {
         if is_being_written(&self.calls, number) {
             let mut file = Memory::new(self.alloc);
@@ -67,10 +125,24 @@ impl MemoryShelf {
     fn note(&mut self, call: Call<Memory>) -> io::Result<()>
         ensures ok { OnOk result (calls_of self.new ≡ call ∷ calls_of self.old) }
         ensures err { OnErr result (calls_of self.new ≡ calls_of self.old) }
+        ensures faults { CountsFault result (faults_of self.old) (faults_of self.new) }
         ensures usable { is_usable_of self.new ≡ is_usable_of self.old }
     {
-        self.calls.push(call)?;
+        if self.calls.push(call).is_err() {
+            return Err(self.fail());
+        }
         Ok(())
+    }
+
+    /// Counts a call that found no memory.
+    fn fail(&mut self) -> io::Error
+        ensures calls { calls_of self.new ≡ calls_of self.old }
+        ensures faults { MoreFaults (faults_of self.old) (faults_of self.new)
+            × (faults_of self.old ≤ faults_of self.new) }
+        ensures usable { is_usable_of self.new ≡ is_usable_of self.old }
+    {
+        self.faults = self.faults.saturating_add(1);
+        io::ErrorKind::OutOfMemory.into()
     }
 }
 
@@ -195,6 +267,8 @@ impl Shelf for MemoryShelf {
 
     ghost IsClean = { λ _. Unit {0} };
 
+    ghost faults = { λ shelf. shelf.faults };
+
     fn may_be_used(&self) -> bool {
         self.is_usable
     }
@@ -234,6 +308,9 @@ impl Shelf for MemoryShelf {
     }
 
     fn numbers(&mut self, alloc: Global) -> Result<Vec<u64>, BodyFault> {
-        Ok(list(&self.calls, alloc)?)
+        match list(&self.calls, alloc) {
+            Ok(numbers) => Ok(numbers),
+            Err(_) => Err(BodyFault::Io(self.fail())),
+        }
     }
 }

@@ -1,7 +1,8 @@
 //! Files by their numbers, as a store of bodies sees them.
 ghost use Rattle.std.specs.Prelude.{◌≡◌, ◌⊎◌, ◌↔◌, ◌≤◌, ℕ, Bool, List, Option, Some, None, Err, length, take, is_ok};
 ghost use Rattle.std.specs.Prelude.{Contains, IsSome, IfOk, OnOk, OnErr, IsTrue};
-ghost use Rattle.bodies.specs.Shelf.{Keeps, KeepsAll, KeepsOthers, IsPiece};
+ghost use Rattle.sqlite_disk.specs.Disk.{CountsFault};
+ghost use Rattle.bodies.specs.Shelf.{Keeps, KeepsAll, KeepsOthers, IsPiece, Counts};
 ghost use Rattle.bodies.specs.Files.{IsEmpty};
 ghost use Rattle.bodies.specs.declared.fault.BodyFault.TheVariants.{Taken, Missing};
 
@@ -28,6 +29,9 @@ pub trait Shelf {
     /// No wrong answer has been taken as true. No code can tell, so only what is said of answers rests on it.
     ghost IsClean: { Self → Type 0 };
 
+    /// How many calls have failed, or have found no memory.
+    ghost faults: { Self → ℕ };
+
     fn may_be_used(&self) -> bool
         ensures { result ≡ is_usable self.now };
 
@@ -39,6 +43,8 @@ pub trait Shelf {
         ensures err { OnErr result (Keeps held may_leave self.old self.new number) }
         ensures others { KeepsOthers held may_leave self.old self.new number }
         ensures usable { is_usable self.new ≡ is_usable self.old }
+        ensures faults { Counts (IsClean self.new → IsSome (held self.old number)) ⊥
+            result (faults self.old) (faults self.new) }
         ensures clean { IsClean self.new → IsClean self.old };
 
     /// Closes the file of this number, to which no more is written. A crash may lose its name until `sync`. At an error
@@ -50,6 +56,7 @@ pub trait Shelf {
             × (left ≡ Some bytes))) }
         ensures others { KeepsOthers held may_leave self.old self.new number }
         ensures usable { is_usable self.new ≡ is_usable self.old }
+        ensures faults { CountsFault result (faults self.old) (faults self.new) }
         ensures clean { IsClean self.new → IsClean self.old };
 
     /// Puts the name of this number's file on the disk.
@@ -59,6 +66,7 @@ pub trait Shelf {
             → IsSome (held self.old number) → IsSome left) }
         ensures same { KeepsAll held may_leave self.old self.new }
         ensures usable { is_usable self.new ≡ is_ok result }
+        ensures faults { CountsFault result (faults self.old) (faults self.new) }
         ensures clean { IsClean self.new → IsClean self.old };
 
     /// Reads bytes of this number's file at an offset into the front of `buf`, and says how many: none is its end.
@@ -69,6 +77,8 @@ pub trait Shelf {
         ensures missing { result ≡ Err Missing → IsClean self.new → held self.old number ≡ None }
         ensures same { KeepsAll held may_leave self.old self.new }
         ensures usable { is_usable self.new ≡ is_usable self.old }
+        ensures faults { Counts ⊥ (IsClean self.new → held self.old number ≡ None)
+            result (faults self.old) (faults self.new) }
         ensures clean { IsClean self.new → IsClean self.old };
 
     /// Removes this number's file. A crash may bring it back.
@@ -79,6 +89,8 @@ pub trait Shelf {
         ensures missing { result ≡ Err Missing → IsClean self.new → held self.old number ≡ None }
         ensures others { KeepsOthers held may_leave self.old self.new number }
         ensures usable { is_usable self.new ≡ is_usable self.old }
+        ensures faults { Counts ⊥ (IsClean self.new → held self.old number ≡ None)
+            result (faults self.old) (faults self.new) }
         ensures clean { IsClean self.new → IsClean self.old };
 
     /// The numbers that have a file, in any order.
@@ -87,5 +99,6 @@ pub trait Shelf {
             → (number : ℕ) → Contains numbers.items number ↔ IsSome (held self.old number)) }
         ensures same { KeepsAll held may_leave self.old self.new }
         ensures usable { is_usable self.new ≡ is_usable self.old }
+        ensures faults { Counts ⊥ ⊥ result (faults self.old) (faults self.new) }
         ensures clean { IsClean self.new → IsClean self.old };
 }

@@ -3,6 +3,7 @@
 use crate::shelves::{new_shelf, put};
 use bodies::{BodyFault, MemoryShelf, Shelf, begin};
 use std::alloc::{AllocError, Global};
+use std::fs;
 use std::process::Abort;
 use std::test::Fail;
 
@@ -148,6 +149,7 @@ fn a_folder_has_the_bodies_of_the_model(rt: HostRuntime) -> Result<(), Fail> {
         step(&rt, &mut shelf, &mut model, &mut dice)?;
     }
     compare(&rt, rt.alloc(), &mut shelf, &model)?;
+    fs::remove_dir_all(&rt, "listed")?;
     Ok(())
 }
 

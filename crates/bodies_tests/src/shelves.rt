@@ -53,6 +53,7 @@ fn a_body_is_a_file_in_the_folder_of_its_low_byte(rt: HostRuntime) -> Result<(),
     assert_eq!(rt; mode_of(&rt, "placed/bodies/ab/427")?, 0o600);
     assert_eq!(rt; mode_of(&rt, "placed/bodies/ab")?, 0o700);
     assert_eq!(rt; mode_of(&rt, "placed/bodies")?, 0o700);
+    fs::remove_dir_all(&rt, "placed")?;
     Ok(())
 }
 
@@ -66,6 +67,7 @@ fn a_number_is_written_once(rt: HostRuntime) -> Result<(), Fail> {
     assert_eq!(rt; back, *b"abc\0");
     assert!(rt; matches!(shelf.read_at(8, 0, &mut back), Err(BodyFault::Missing)));
     assert!(rt; matches!(shelf.remove(8), Err(BodyFault::Missing)));
+    fs::remove_dir_all(&rt, "once")?;
     Ok(())
 }
 
@@ -84,6 +86,7 @@ fn a_shelf_is_opened_again(rt: HostRuntime) -> Result<(), Fail> {
     let mut back = [0; 2];
     assert_eq!(rt; shelf.read_at(300, 3, &mut back)?, 1);
     assert_eq!(rt; back, *b"d\0");
+    fs::remove_dir_all(&rt, "again")?;
     Ok(())
 }
 
