@@ -15,6 +15,8 @@ pub struct Shelf {
 impl Bodies for Shelf {
     ghost stands = { λ shelf n bytes. slice_get shelf.files.items n ≡ Some bytes };
 
+    ghost keeps = { λ _ _. Unit {0} };
+
     fn read(&mut self, number: u64, body: &mut BodyBuilder) -> Result<(), BodyFault> {
         match self.files.get(number as usize) {
             None => Err(BodyFault::NotThere),

@@ -4,4 +4,6 @@ pub mod Exact
 pub mod Values
 pub mod Texts
 pub mod Restart
+pub mod Foresight
 pub mod Replays
+pub mod Failing

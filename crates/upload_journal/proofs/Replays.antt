@@ -19,6 +19,10 @@ use Rattle.upload_journal.proofs.Restart.{earlier}
 abbrev pub Keeps : (ℕ → List ℕ → Type 0) → (ℕ → List ℕ → Type 0) → Type 0
 Keeps old new = (n : ℕ) (bytes : List ℕ) → old n bytes → new n bytes
 
+-- what the old one kept, the new one keeps
+abbrev pub KeepsMore : {B : Type 0} → (B → B → Type 0) → B → B → Type 0
+KeepsMore {B} keeps old new = (first : B) → keeps first old → keeps first new
+
 pub joins_still : (old new : ℕ → List ℕ → Type 0) (files : List BodyFile) (bytes : List ℕ) → Keeps old new
     → Joins old files bytes → Joins new files bytes
 joins_still old new [] bytes keeps joins = joins

@@ -56,7 +56,7 @@ turn_leads old ask secret now answer new other (inl turn) (inr again) some =
 
 -- ---- runs
 
-both_ways : {A : Type 0} (b : Bool) → (b ≡ true → A) → (b ≡ false → A) → A
+pub both_ways : {A : Type 0} (b : Bool) → (b ≡ true → A) → (b ≡ false → A) → A
 both_ways true first second = first refl
 both_ways false first second = second refl
 
@@ -108,10 +108,10 @@ go_on first moment (x ∷ xs) ys le before after more = (before.0, go_on x.now m
 -- ---- requests that aren't kept
 
 -- what changes nothing
-record IsSilent (o : Outcome) : Type 0 where
+pub record IsSilent (o : Outcome) : Type 0 where
   pub none : told_of (answer_of o) ≡ None
 
-nothing : (answer : Answer) → told_of answer ≡ None → IsSilent (Replies answer)
+pub nothing : (answer : Answer) → told_of answer ≡ None → IsSilent (Replies answer)
 nothing answer e = record { none = e }
 
 silent_if : (b : Bool) (x y : Outcome) → IsSilent x → IsSilent y → IsSilent (cond b x y)
@@ -119,13 +119,13 @@ silent_if true x y h k = h
 silent_if false x y h k = k
 
 -- a fault that an answer tells which changes nothing
-record IsSilentFault (fault : Option Answer) : Type 0 where
+pub record IsSilentFault (fault : Option Answer) : Type 0 where
   pub none : (answer : Answer) → fault ≡ Some answer → told_of answer ≡ None
 
-no_fault : IsSilentFault None
+pub no_fault : IsSilentFault None
 no_fault = record { none = λ answer e. absurd cc }
 
-fault_if : (b : Bool) (answer : Answer) (f : Option Answer) → told_of answer ≡ None → IsSilentFault f
+pub fault_if : (b : Bool) (answer : Answer) (f : Option Answer) → told_of answer ≡ None → IsSilentFault f
     → IsSilentFault (cond b (Some answer) f)
 fault_if true answer f h k = record {
   none = λ other e.
@@ -137,7 +137,7 @@ silent_unless : (f : Option Answer) (o : Outcome) → IsSilentFault f → IsSile
 silent_unless None o h k = k
 silent_unless (Some answer) o h k = nothing answer (h.none answer refl)
 
-silent_body : (max_blob : ℕ) (upload : Progress) (range : Extent) (body : List ℕ)
+pub silent_body : (max_blob : ℕ) (upload : Progress) (range : Extent) (body : List ℕ)
     → IsSilentFault (body_fault max_blob upload range body)
 silent_body max_blob upload Absent body = fault_if _ _ None refl no_fault
 silent_body max_blob upload Bad body = fault_if true _ None refl no_fault

@@ -4,3 +4,5 @@ pub mod Short
 pub mod Restart
 pub mod Replay
 pub mod Codes
+pub mod Foreseen
+pub mod Stops

@@ -1,5 +1,5 @@
 //! Where a replay gets the bodies that aren't in their entries.
-ghost use Rattle.std.specs.Prelude.{◌≡◌, ◌++◌, List, ℕ, OnOk};
+ghost use Rattle.std.specs.Prelude.{◌≡◌, ◌++◌, List, ℕ, OnOk, IfErr};
 
 use upload_bytes::BodyBuilder;
 
@@ -16,13 +16,25 @@ pub enum BodyFault {
 
 /// Bodies, or parts of them, each under its number.
 pub trait Bodies {
+    ghost use Rattle.upload_journal.specs.declared.bodies.BodyFault.{BodyFault};
+
     /// These bytes stand under a number.
     ghost stands: { Self → ℕ → List ℕ → Type 0 };
+
+    /// The second keeps what the first has. Whoever has bodies says here what else of them no read changes.
+    ghost keeps: { Self → Self → Type 0 };
+
+    /// Since the first, a read of this number has ended with this fault. Who has bodies says here what that tells of
+    /// them.
+    ghost refused: { Self → Self → ℕ → BodyFault → Type 0 } = { λ _ _ _ _. Unit {0} };
 
     /// Puts the bytes under a number behind those of a body. What stood under any number before stands there still.
     fn read(&mut self, number: u64, body: &mut BodyBuilder) -> Result<(), BodyFault>
         ensures read { OnOk result ((bytes : List ℕ) × stands self.new number bytes
             × (body.new ≡ body.old ++ bytes)) }
+        ensures refused { (first : Self) → keeps first self.old
+            → IfErr result (refused first self.new number) }
         ensures same { (n : ℕ) (bytes : List ℕ) → stands self.old n bytes
-            → stands self.new n bytes };
+            → stands self.new n bytes }
+        ensures keeps { (first : Self) → keeps first self.old → keeps first self.new };
 }

@@ -9,6 +9,7 @@ mod body;
 mod draft;
 mod entries;
 mod fault;
+mod foreseen;
 mod laws;
 mod reading;
 mod replay;

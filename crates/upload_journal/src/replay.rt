@@ -1,17 +1,19 @@
 //! A service that entries are run through again.
 ghost use Rattle.std.specs.Prelude.{◌≡◌, ◌⊎◌, ◌++◌, ◌≤◌, max, List, ℕ, length, Some, OnOk, OnErr, IfOk, IfSome};
-ghost use Rattle.std.specs.Prelude.{IsTrue, Err, take};
+ghost use Rattle.std.specs.Prelude.{◌≢◌, ◌↔◌, IsTrue, Err, IfErr, take};
 ghost use Rattle.upload_journal.specs.declared.entries.Entry.{Entry as EntryValue};
-ghost use Rattle.upload_journal.specs.Entries.{IsEntry, entry_text};
+ghost use Rattle.upload_journal.specs.Entries.{IsEntry, entry_text, entry_of};
+ghost use Rattle.upload_journal.specs.Stops.{FileFails, FilesFail, files_of, files_in, ExchangeFails, Stops};
 ghost use Rattle.upload_journal.specs.Short.{told_of};
 ghost use Rattle.upload_journal.specs.Replay.{Joins, IsBodyOf, extent_of, IsAskOf, IsExchangeOf, Exchanged, Point};
-ghost use Rattle.upload_journal.specs.Replay.{Applies};
+ghost use Rattle.upload_journal.specs.Replay.{Applies, used_up};
 ghost use Rattle.upload_service.specs.Run.{Exchange};
 
 use crate::bodies::{Bodies, BodyFault};
 use crate::body::{BodyFile, KeptBody};
 use crate::entries::{Entry, KeptAsk, KeptExchange, Told};
 use crate::fault::{EntryFault, ReadError};
+use crate::foreseen::may_come;
 use crate::reading::read_entry;
 use std::alloc::Global;
 use std::marker::Model;
@@ -55,7 +57,7 @@ fn extent_of(range: Option<ByteRange>) -> Extent
 
 /// Whether an answer says that this session was begun.
 fn is_begun(given: &Answer, at: &UploadRef) -> bool
-    ensures { IsTrue result → told_of given.now ≡ Some (Told.Begun at.now) }
+    ensures { IsTrue result ↔ (told_of given.now ≡ Some (Told.Begun at.now)) }
 {
     match given {
         Answer::Begun { at: mine, .. } => mine.same(at),
@@ -65,7 +67,7 @@ fn is_begun(given: &Answer, at: &UploadRef) -> bool
 
 /// Whether an answer says that a chunk was taken, and that the session has received this many bytes now.
 fn is_taken(given: &Answer, next: u64) -> bool
-    ensures { IsTrue result → told_of given.now ≡ Some (Told.Taken next) }
+    ensures { IsTrue result ↔ (told_of given.now ≡ Some (Told.Taken next)) }
 {
     match given {
         Answer::Taken { next: mine, .. } => *mine == next,
@@ -75,7 +77,7 @@ fn is_taken(given: &Answer, next: u64) -> bool
 
 /// Whether an answer says that the blob of this digest stands.
 fn is_stored(given: &Answer, digest: &BlobDigest) -> bool
-    ensures { IsTrue result → told_of given.now ≡ Some (Told.Stored digest.now) }
+    ensures { IsTrue result ↔ (told_of given.now ≡ Some (Told.Stored digest.now)) }
 {
     match given {
         Answer::Stored { digest: mine, .. } => mine.same(digest),
@@ -85,7 +87,7 @@ fn is_stored(given: &Answer, digest: &BlobDigest) -> bool
 
 /// Whether an answer is, in short, the one that was recorded.
 fn is_told(given: &Answer, recorded: &Told) -> bool
-    ensures { IsTrue result → told_of given.now ≡ Some recorded.now }
+    ensures { IsTrue result ↔ (told_of given.now ≡ Some recorded.now) }
 {
     match recorded {
         Told::Begun(at) => is_begun(given, at),
@@ -102,8 +104,11 @@ fn read_file<B: Bodies>(
 ) -> Result<(), ReplayFault>
     ensures read { OnOk result ((bytes : List ℕ) × B.stands bodies.new file.number bytes
         × (length bytes ≡ file.len) × (body.new ≡ body.old ++ bytes)) }
+    ensures cause { (first : B) → B.keeps first bodies.old → IfErr result (λ fault.
+        FileFails (B.stands bodies.new) (B.refused first bodies.new) fault file) }
     ensures same { (n : ℕ) (bytes : List ℕ) → B.stands bodies.old n bytes
         → B.stands bodies.new n bytes }
+    ensures keeps { (first : B) → B.keeps first bodies.old → B.keeps first bodies.new }
 {
     let number = file.number;
     let before = body.len() as u64;
@@ -126,12 +131,17 @@ fn read_files<B: Bodies>(
     files: &[BodyFile],
 ) -> Result<Body, ReplayFault>
     ensures read { IfOk result (λ body. Joins (B.stands bodies.new) files.now body) }
+    ensures cause { (first : B) → B.keeps first bodies.old → IfErr result
+        (FilesFail (B.stands bodies.new) (B.refused first bodies.new) files.now) }
     ensures same { (n : ℕ) (bytes : List ℕ) → B.stands bodies.old n bytes
         → B.stands bodies.new n bytes }
+    ensures keeps { (first : B) → B.keeps first bodies.old → B.keeps first bodies.new }
 {
     let mut body = BodyBuilder::new(alloc, None);
     for file in files {
-        read_file(bodies, *file, &mut body)?;
+        if let Err(fault) = read_file(bodies, *file, &mut body) {
+            return Err(fault);
+        }
     }
     Ok(body.finish(&InPlace))
 }
@@ -139,8 +149,11 @@ fn read_files<B: Bodies>(
 /// The whole body of a request.
 fn read_body<B: Bodies>(alloc: Global, bodies: &mut B, body: KeptBody) -> Result<Body, ReplayFault>
     ensures read { IfOk result (λ whole. IsBodyOf (B.stands bodies.new) body whole) }
+    ensures cause { (first : B) → B.keeps first bodies.old → IfErr result
+        (FilesFail (B.stands bodies.new) (B.refused first bodies.new) (files_of body)) }
     ensures same { (n : ℕ) (bytes : List ℕ) → B.stands bodies.old n bytes
         → B.stands bodies.new n bytes }
+    ensures keeps { (first : B) → B.keeps first bodies.old → B.keeps first bodies.new }
 {
     match body {
         KeptBody::Here(body) => Ok(body),
@@ -151,8 +164,11 @@ fn read_body<B: Bodies>(alloc: Global, bodies: &mut B, body: KeptBody) -> Result
 /// The request that is kept so.
 fn ask_of<B: Bodies>(alloc: Global, bodies: &mut B, ask: KeptAsk) -> Result<Ask, ReplayFault>
     ensures asked { IfOk result (λ asked. IsAskOf (B.stands bodies.new) ask asked) }
+    ensures cause { (first : B) → B.keeps first bodies.old → IfErr result
+        (FilesFail (B.stands bodies.new) (B.refused first bodies.new) (files_in ask)) }
     ensures same { (n : ℕ) (bytes : List ℕ) → B.stands bodies.old n bytes
         → B.stands bodies.new n bytes }
+    ensures keeps { (first : B) → B.keeps first bodies.old → B.keeps first bodies.new }
 {
     match ask {
         KeptAsk::Opening { name } => Ok(Ask::Opening { name }),
@@ -246,6 +262,20 @@ impl Replay {
         self.last.max(self.upto)
     }
 
+    /// The last number that a session was given or that counts as used up, or 0.
+    pub fn issued(&self) -> u32
+        ensures { result ≡ self.now.state.issued }
+    {
+        self.service.issued()
+    }
+
+    /// Has the numbers up to this one count as used up, as an entry does that says so.
+    pub fn use_up(&mut self, numbers: u32)
+        ensures { self.new ≡ record self.old { state = used_up numbers self.old.state } }
+    {
+        self.service.use_up(numbers);
+    }
+
     /// The service, as the entries have left it.
     pub fn into_service(self) -> Service
         ensures { result ≡ self.state }
@@ -256,8 +286,10 @@ impl Replay {
 
     /// Applies one entry, which is all of the bytes. A body that isn't in its entry comes from `bodies`.
     ///
-    /// After an `Err` the entry has done nothing, except after `NotAsRecorded`: then the service did something else
-    /// than it did before, and isn't to be used.
+    /// `NotAnEntry` comes if the text is read as none, and says why; `MomentFalls` if the moment of its exchange is
+    /// before that of the last one; `NoBody` and `OtherLength` come of a file of its body; `NoMemory` says that there
+    /// was none, here, for a body or in the service; `NotAsRecorded` comes if the service answers otherwise than it
+    /// did. After each of these the entry has done nothing.
     pub fn apply<B: Bodies>(
         &mut self,
         alloc: Global,
@@ -267,10 +299,12 @@ impl Replay {
         ensures ok { OnOk result ((entry : EntryValue) × IsEntry entry
             × (bytes.now ≡ entry_text entry)
             × Applies (B.stands bodies.new) self.old entry self.new) }
-        ensures err { OnErr result ((result ≡ Err ReplayFault.NotAsRecorded)
-            ⊎ (self.new ≡ self.old)) }
+        ensures err { OnErr result (self.new ≡ self.old) }
+        ensures cause { (first : B) → B.keeps first bodies.old → IfErr result
+            (Stops (B.stands bodies.new) (B.refused first bodies.new) self.old (entry_of bytes.now)) }
         ensures same { (n : ℕ) (bytes : List ℕ) → B.stands bodies.old n bytes
             → B.stands bodies.new n bytes }
+        ensures keeps { (first : B) → B.keeps first bodies.old → B.keeps first bodies.new }
     {
         let entry = match read_entry(alloc, bytes) {
             Ok(entry) => entry,
@@ -299,10 +333,12 @@ impl Replay {
     ) -> Result<(), ReplayFault>
         ensures ok { OnOk result ((x : Exchange)
             × IsExchangeOf (B.stands bodies.new) exchange x × Exchanged self.old x self.new) }
-        ensures err { OnErr result ((result ≡ Err ReplayFault.NotAsRecorded)
-            ⊎ (self.new ≡ self.old)) }
+        ensures err { OnErr result (self.new ≡ self.old) }
+        ensures cause { (first : B) → B.keeps first bodies.old → IfErr result
+            (ExchangeFails (B.stands bodies.new) (B.refused first bodies.new) self.old exchange) }
         ensures same { (n : ℕ) (bytes : List ℕ) → B.stands bodies.old n bytes
             → B.stands bodies.new n bytes }
+        ensures keeps { (first : B) → B.keeps first bodies.old → B.keeps first bodies.new }
     {
         let KeptExchange {
             ask,
@@ -317,6 +353,10 @@ impl Replay {
             Ok(ask) => ask,
             Err(fault) => return Err(fault),
         };
+        // A request that may come to another change isn't served at all.
+        if !may_come(&self.service, &ask, &secret, &answer) {
+            return Err(ReplayFault::NotAsRecorded);
+        }
         match compare(self.service.step(ask, secret, now), answer) {
             Compared::Same => {
                 self.last = now;
@@ -340,6 +380,8 @@ enum Compared {
 fn compare(given: Answer, recorded: Told) -> Compared
     ensures same { result ≡ Compared.Same → told_of given ≡ Some recorded }
     ensures no_memory { result ≡ Compared.NoMemory → given ≡ Answer.NoMemory }
+    ensures other { result ≡ Compared.Other → (told_of given ≢ Some recorded)
+        × (given ≢ Answer.NoMemory) }
 {
     if let Answer::NoMemory = given {
         return Compared::NoMemory;

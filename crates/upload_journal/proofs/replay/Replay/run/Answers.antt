@@ -1,9 +1,12 @@
-use Rattle.std.proofs.Common.{refl, ap, subst, ◌∙◌, inr}
+use Rattle.std.proofs.Common.{◌≡◌, ◌≤◌, Bool, true, false, sym, refl, ap, subst, ◌∙◌}
+use Rattle.upload_journal.specs.Stops.{AnswersOtherwise}
 use Rattle.upload_service.specs.Machine.{State}
 use Rattle.upload_service.specs.Run.{Exchange}
 use Rattle.upload_journal.specs.Short.{told_of}
 use Rattle.upload_journal.specs.Replay.{Exchanged, Point}
+use Rattle.upload_journal.proofs.Failing.{files_fail}
 use Rattle.upload_journal.proofs.Restart.{turn_stays}
+use Rattle.upload_journal.proofs.Foresight.{never_comes, answer_is, tells_none}
 use Rattle.upload_journal.proofs.replay.Replay.run.Goals as goal
 
 pub returns-in-Same-clause-ok : goal.returns-in-Same-clause-ok
@@ -27,5 +30,56 @@ returns-in-NoMemory-clause-err g c =
     let none = ap told_of (c.in-NoMemory.ensures.no_memory refl) in
     let same = turn_stays c.self.inside.service c.in-Ok.ask c.args.exchange.secret c.args.exchange.now c.step.result
     c.step.new.self c.step.ensures.turn none in
-    inr (ap (λ (s : State). record { state = s; last = c.self.inside.last; upto = c.self.inside.upto }) same
-    ∙ c.self.view_is)
+    ap (λ (s : State). record { state = s; last = c.self.inside.last; upto = c.self.inside.upto }) same ∙ c.self.view_is
+
+apart : (b : Bool) → b ≡ true → b ≡ false → ⊥
+apart b e n = absurd (cc (sym e ∙ n))
+
+pub returns-in-Other-clause-err : goal.returns-in-Other-clause-err
+returns-in-Other-clause-err g c =
+    let other = c.in-Other.ensures.other refl in
+    let will = c.may_come.ensures.0 c.if-not-may_come.false in
+    let none = tells_none c.self.inside.service c.in-Ok.ask c.args.exchange.secret c.args.exchange.now c.step.result
+    c.step.new.self c.args.exchange.answer c.step.ensures.turn other.1 will other.0 in
+    let same = turn_stays c.self.inside.service c.in-Ok.ask c.args.exchange.secret c.args.exchange.now c.step.result
+    c.step.new.self c.step.ensures.turn none in
+    ap (λ (s : State). record { state = s; last = c.self.inside.last; upto = c.self.inside.upto }) same ∙ c.self.view_is
+
+pub returns-in-Other-clause-cause : goal.returns-in-Other-clause-cause
+returns-in-Other-clause-cause g c first kept =
+    let stands = g.B.Bodies.stands c.ask_of.new.bodies in
+    let other = c.in-Other.ensures.other refl in
+    let is = answer_is c.self.inside.service c.in-Ok.ask c.args.exchange.secret c.args.exchange.now c.step.result
+    c.step.new.self c.step.ensures.turn other.1 in
+    let it : Point =
+    record { state = c.self.inside.service; last = c.self.inside.last; upto = c.self.inside.upto } in
+    let otherwise : AnswersOtherwise stands (g.B.Bodies.refused first c.ask_of.new.bodies) it c.args.exchange = record {
+      ask = c.in-Ok.ask;
+      asked = c.in-Ok.ensures.asked;
+      other = λ told. other.0 (ap told_of is ∙ told);
+      later = c.if-now-self.false;
+    } in
+    subst (λ p. AnswersOtherwise stands (g.B.Bodies.refused first c.ask_of.new.bodies) p c.args.exchange) c.self.view_is
+    otherwise
+
+pub returns-then-not-may_come-clause-cause : goal.returns-then-not-may_come-clause-cause
+returns-then-not-may_come-clause-cause g c first kept =
+    let stands = g.B.Bodies.stands c.ask_of.new.bodies in
+    let it : Point =
+    record { state = c.self.inside.service; last = c.self.inside.last; upto = c.self.inside.upto } in
+    let otherwise : AnswersOtherwise stands (g.B.Bodies.refused first c.ask_of.new.bodies) it c.args.exchange = record {
+      ask = c.in-Ok.ask;
+      asked = c.in-Ok.ensures.asked;
+      other =
+          never_comes c.self.inside.service c.in-Ok.ask c.args.exchange.secret c.args.exchange.now
+          c.args.exchange.answer (λ will. apart _ (c.may_come.ensures.1 will) c.if-not-may_come.true);
+      later = c.if-now-self.false;
+    } in
+    subst (λ p. AnswersOtherwise stands (g.B.Bodies.refused first c.ask_of.new.bodies) p c.args.exchange) c.self.view_is
+    otherwise
+
+pub returns-in-Err-clause-cause : goal.returns-in-Err-clause-cause
+returns-in-Err-clause-cause g c first kept =
+    files_fail _ _ c.args.self.now c.args.exchange
+    (subst (λ (p : Point). p.last ≤ c.args.exchange.now) c.self.view_is c.if-now-self.false) c.in-Err.fault
+    (c.in-Err.ensures.cause first kept)

@@ -1,0 +1,152 @@
+-- A request that changes something is answered as was foreseen.
+use Rattle.std.proofs.Common.{◌≡◌, ◌≢◌, ◌⊎◌, ◌∙◌, inl, inr, ℕ, Bool, true, false, List, ◌++◌, length, Option, Some}
+use Rattle.std.proofs.Common.{None, refl, sym, ap, cond}
+use Rattle.std.proofs.Common.{length-append}
+use Rattle.std.specs.Prelude.{nat_le, ◌||◌, ◌+◌}
+use Rattle.std.specs.Option.{option_map}
+use Rattle.std.specs.FinMap as map
+use Rattle.upload_names.specs.Digest.{Digest}
+use Rattle.upload_service.specs.declared.answer.Answer.{Answer}
+use Rattle.upload_service.specs.declared.answer.Answer.TheVariants as answers
+use Rattle.upload_service.specs.declared.answer.Refusal.TheVariants as refusals
+use Rattle.upload_service.specs.declared.ask.Ask.{Ask}
+use Rattle.upload_service.specs.declared.ask.Ask.TheVariants as asks
+use Rattle.upload_service.specs.declared.ask.Extent.{Extent}
+use Rattle.upload_service.specs.Machine.{State, Session, Outcome, Replies, Begins, Mounts, blob_reply}
+use Rattle.upload_service.specs.Machine.{answer_of, outcome, unless_fault}
+use Rattle.upload_service.specs.Machine.{checked, at_session, in_session, unless_idle}
+use Rattle.upload_service.specs.Machine.{is_idle, opening}
+use Rattle.upload_service.specs.Machine.{last_number, progress_of, Turn, holds}
+use Rattle.upload_service.specs.UploadView.{Act, Sends, AsksOffset, Closes}
+use Rattle.upload_names.specs.Reference.{reference}
+use Rattle.upload_journal.specs.declared.entries.Told.{Told}
+use Rattle.upload_journal.specs.declared.entries.Told.TheVariants.{Taken, Stored}
+use Rattle.upload_journal.specs.Short.{told_of}
+use Rattle.upload_journal.specs.Foreseen.{change_of, next_told}
+use Rattle.upload_journal.proofs.Restart.{IsSilent, IsSilentFault, both_ways, nothing, silent_body, fault_if, no_fault}
+
+-- it changes nothing, or is told so
+pub record Tells (told : Option Told) (o : Outcome) : Type 0 where
+  pub tells : (told_of (answer_of o) ≡ None) ⊎ (told_of (answer_of o) ≡ told)
+
+as_told : (o : Outcome) → Tells (told_of (answer_of o)) o
+as_told o = record { tells = inr refl }
+
+tells_nothing : (told : Option Told) (o : Outcome) → IsSilent o → Tells told o
+tells_nothing told o h = record { tells = inl h.none }
+
+tells_if : (told : Option Told) (b : Bool) (x y : Outcome) → Tells told x → Tells told y → Tells told (cond b x y)
+tells_if told true x y h k = h
+tells_if told false x y h k = k
+
+tells_unless : (told : Option Told) (f : Option Answer) (o : Outcome) → IsSilentFault f → Tells told o
+    → Tells told (unless_fault f o)
+tells_unless told None o h k = k
+tells_unless told (Some answer) o h k = tells_nothing told (Replies answer) (nothing answer (h.none answer refl))
+
+tells_checked : (digest : Option Digest) (blob : List ℕ) (done : Digest → Outcome)
+    → ((d : Digest) → told_of (answer_of (done d)) ≡ Some (Stored d))
+    → Tells (option_map Stored digest) (checked digest blob done)
+tells_checked None blob done h = tells_nothing None _ (nothing _ refl)
+tells_checked (Some digest) blob done h =
+    tells_if (Some (Stored digest)) _ (done digest) _ (record { tells = inr (h digest) })
+    (tells_nothing (Some (Stored digest)) _ (nothing _ refl))
+
+-- an opening, by whether the table is full
+by_full : (b : Bool) (issued : ℕ) (name secret : List ℕ)
+    → Tells (next_told issued secret)
+    (cond (b || nat_le last_number issued) (Replies (answers.Refused refusals.TooMany))
+    (Begins name (reference (issued + 1) secret)))
+by_full true issued name secret = tells_nothing _ _ (nothing _ refl)
+by_full false issued name secret =
+    both_ways (nat_le last_number issued) (λ full. rw full (tells_nothing _ _ (nothing _ refl)))
+    (λ some. rw some (as_told _))
+
+tells_opening : (s : State) (name secret : List ℕ) (now : ℕ)
+    → Tells (next_told s.issued secret) (opening s name secret now)
+tells_opening s name secret now = by_full _ s.issued name secret
+
+by_idle : (told : Option Told) (max_blob : ℕ) (b : Bool) (session : Session) (name at : List ℕ) (act : Act)
+    → Tells told (in_session max_blob session name at act)
+    → Tells told (at_session max_blob (cond b None (Some session)) name at act)
+by_idle told max_blob true session name at act h = tells_nothing told _ (nothing _ refl)
+by_idle told max_blob false session name at act h = tells_if told _ _ _ h (tells_nothing told _ (nothing _ refl))
+
+tells_chunk : (max_blob max_idle now : ℕ) (found : Option Session) (name at : List ℕ) (range : Extent) (body : List ℕ)
+    → Tells (option_map (λ (session : Session). Taken (length session.received + length body)) found)
+    (at_session max_blob (unless_idle max_idle now found) name at (Sends range body))
+tells_chunk max_blob max_idle now None name at range body = tells_nothing None _ (nothing _ refl)
+tells_chunk max_blob max_idle now (Some session) name at range body =
+    by_idle _ max_blob (is_idle max_idle now session) session name at (Sends range body)
+    (tells_unless _ _ _ (silent_body max_blob (progress_of session name at) range body)
+    (record { tells = inr (ap (λ n. Some (Taken n)) (length-append session.received body)) }))
+
+tells_close : (max_blob max_idle now : ℕ) (found : Option Session) (name at : List ℕ) (range : Extent)
+    (digest : Option Digest) (body : List ℕ)
+    → Tells (option_map Stored digest)
+    (at_session max_blob (unless_idle max_idle now found) name at (Closes range digest body))
+tells_close max_blob max_idle now None name at range digest body = tells_nothing _ _ (nothing _ refl)
+tells_close max_blob max_idle now (Some session) name at range digest body =
+    by_idle _ max_blob (is_idle max_idle now session) session name at (Closes range digest body)
+    (tells_unless _ _ _ (silent_body max_blob (progress_of session name at) range body)
+    (tells_checked digest (session.received ++ body) _ (λ d. refl)))
+
+tells_mount : (s : State) (name source secret : List ℕ) (digest : Digest) (now : ℕ) (b : Bool)
+    → Tells (cond b (Some (Stored digest)) (next_told s.issued secret))
+    (cond b (Mounts name digest) (opening s name secret now))
+tells_mount s name source secret digest now true = as_told _
+tells_mount s name source secret digest now false = tells_opening s name secret now
+
+tells_blob : (told : Option Told) (digest : Digest) (head : Bool) (blob : Option (List ℕ))
+    → Tells told (blob_reply digest head blob)
+tells_blob told digest head None = tells_nothing told _ (nothing _ refl)
+tells_blob told digest head (Some blob) = tells_nothing told _ (nothing _ refl)
+
+tells_status : (max_blob : ℕ) (found : Option Session) (name at : List ℕ)
+    → Tells None (at_session max_blob found name at AsksOffset)
+tells_status max_blob None name at = tells_nothing None _ (nothing _ refl)
+tells_status max_blob (Some session) name at =
+    tells_if None _ _ _ (tells_nothing None _ (nothing _ refl)) (tells_nothing None _ (nothing _ refl))
+
+pub foreseen : (s : State) (ask : Ask) (secret : List ℕ) (now : ℕ)
+    → Tells (change_of s ask secret) (outcome s ask secret now)
+foreseen s asks.Base secret now = tells_nothing None _ (nothing _ refl)
+foreseen s (asks.Has name digest head) secret now =
+    tells_if None _ _ _ (tells_blob None digest head _) (tells_nothing None _ (nothing _ refl))
+foreseen s (asks.Opening name) secret now = tells_opening s name secret now
+foreseen s (asks.Single name digest body) secret now =
+    tells_unless _ _ _ (fault_if _ _ None refl no_fault) (tells_checked digest body _ (λ d. refl))
+foreseen s (asks.Mount name digest source) secret now =
+    tells_mount s name source secret digest now (holds s source digest)
+foreseen s (asks.Chunk name at range body) secret now = tells_chunk _ _ now (map.get s.sessions at) name at range body
+foreseen s (asks.Status name at) secret now = tells_status _ _ name at
+foreseen s (asks.Close name at range digest body) secret now =
+    tells_close _ _ now (map.get s.sessions at) name at range digest body
+foreseen s (asks.Refused refusal) secret now = tells_nothing None _ (nothing _ refl)
+
+-- an answer that wasn't foreseen doesn't come
+pub never_comes : (s : State) (ask : Ask) (secret : List ℕ) (now : ℕ) (told : Told)
+    → change_of s ask secret ≢ Some told → told_of (answer_of (outcome s ask secret now)) ≢ Some told
+never_comes s ask secret now told other comes =
+    elim (foreseen s ask secret now).tells [
+      | inl none ↦ absurd (cc (sym comes ∙ none))
+      | inr as_foreseen ↦ other (sym as_foreseen ∙ comes)
+    ]
+
+-- the answer is the one that the request comes to
+pub answer_is : (s : State) (ask : Ask) (secret : List ℕ) (now : ℕ) (answer : Answer) (t : State)
+    → Turn s ask secret now answer t → answer ≢ answers.NoMemory → answer ≡ answer_of (outcome s ask secret now)
+unfolding Turn
+answer_is s ask secret now answer t (inl turn) some = turn.0
+answer_is s ask secret now answer t (inr turn) some = absurd (some turn.1)
+
+-- so one that was foreseen and is told otherwise changes nothing
+pub tells_none : (s : State) (ask : Ask) (secret : List ℕ) (now : ℕ) (answer : Answer) (t : State) (told : Told)
+    → Turn s ask secret now answer t → answer ≢ answers.NoMemory → change_of s ask secret ≡ Some told
+    → told_of answer ≢ Some told → told_of answer ≡ None
+tells_none s ask secret now answer t told turn some will other =
+    let same = ap told_of (answer_is s ask secret now answer t turn some) in
+    elim (foreseen s ask secret now).tells [
+      | inl none ↦ same ∙ none
+      | inr as_foreseen ↦ absurd (other (same ∙ as_foreseen ∙ will))
+    ]

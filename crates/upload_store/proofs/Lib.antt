@@ -1,0 +1,11 @@
+pub mod Pieces
+pub mod Reading
+pub mod Same
+pub mod Reruns
+pub mod Crashes
+pub mod Rounds
+pub mod Causes
+pub mod Rescues
+pub mod Salvages
+pub mod Lossless
+pub mod Numbering

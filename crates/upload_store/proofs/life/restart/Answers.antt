@@ -1,0 +1,47 @@
+use Rattle.std.proofs.Common.{◌∙◌, ◌-◌, ◌^◌, IsSome, ap, sym, subst, arith}
+use Rattle.journal.proofs.Causes.{because_weaker}
+use Rattle.upload_store.proofs.Causes.{comes_weaker, fault_weaker}
+use Rattle.upload_store.specs.Store.{shelf_of}
+use Rattle.upload_store.proofs.Crashes.{crash_still, reads_still}
+use Rattle.upload_store.proofs.life.restart.Goals as goal
+
+pub returns-in-Err-clause-safe : goal.returns-in-Err-clause-safe
+returns-in-Err-clause-safe g c n bytes safe =
+    reads_still g.S.Shelf.held g.S.Shelf.may_leave g.S.Shelf.IsClean (shelf_of c.crash.new.self)
+    (shelf_of c.recover.new.self) c.recover.ensures.reads n bytes
+    (crash_still g.S.Shelf.held g.S.Shelf.may_leave (shelf_of c.args.store.now) (shelf_of c.crash.new.self)
+    c.crash.ensures.left_bodies c.crash.ensures.no_more_bodies n bytes safe)
+
+pub returns-in-Ok-clause-safe : goal.returns-in-Ok-clause-safe
+returns-in-Ok-clause-safe g c n bytes safe =
+    reads_still g.S.Shelf.held g.S.Shelf.may_leave g.S.Shelf.IsClean (shelf_of c.crash.new.self)
+    (shelf_of c.recover.new.self) c.recover.ensures.reads n bytes
+    (crash_still g.S.Shelf.held g.S.Shelf.may_leave (shelf_of c.args.store.now) (shelf_of c.crash.new.self)
+    c.crash.ensures.left_bodies c.crash.ensures.no_more_bodies n bytes safe)
+
+pub returns-in-Err-clause-any_crash : goal.returns-in-Err-clause-any_crash
+returns-in-Err-clause-any_crash g c clean file may =
+    let before = c.recover.ensures.any_crash clean file may in
+    (before.0, c.crash.ensures.no_more_files before.0 before.1, before.2)
+
+pub returns-in-Ok-clause-any_crash : goal.returns-in-Ok-clause-any_crash
+returns-in-Ok-clause-any_crash g c clean file may =
+    let before = c.recover.ensures.any_crash clean file may in
+    (before.0, c.crash.ensures.no_more_files before.0 before.1, before.2)
+
+pub returns-in-Err-clause-cause : goal.returns-in-Err-clause-cause
+returns-in-Err-clause-cause g c =
+    comes_weaker _ _ _ _ _ _ _ _
+    (because_weaker _ _ _ _ _ _ _ _ _ _ (λ closed. sym closed ∙ c.crash.ensures.usable.0)
+    (λ refuses clean. (
+      _,
+      c.crash.ensures.left_file,
+      λ begins. absurd (refuses.other clean.disk (begins ∙ ap (λ l. l.bytes) (sym c.crash.ensures.line))),
+    ))
+    (λ long clean. let longer = c.recover.ensures.longer in omega (arith, long clean.disk, longer))
+    (λ more. let same = c.crash.ensures.faults.0 in omega (arith, more, same)) (λ never. never))
+    (fault_weaker _ _ _ _ _ _ _ _ _ _ (λ never. never) (λ never. never) (λ never. never) (λ never. never)
+    (λ more. let fewer = c.crash.ensures.faults.1 in omega (arith, more, fewer)))
+    (λ it why. why)
+    (λ full clean. subst IsSome (sym (c.recover.ensures.reads.all.each (2 ^ 64 - 1)).same) (full clean.shelf))
+    c.in-Err.fault c.in-Err.ensures.cause

@@ -1,0 +1,24 @@
+use Rattle.std.proofs.Common.{◌<◌, ◌≤◌, ℕ, List, take, length, subst, arith}
+use Rattle.std.specs.List.{All}
+use Rattle.std.proofs.lemmas.List.{take_all}
+use Rattle.std.proofs.lemmas.List.Elements.{All-more, All-weaker}
+use Rattle.upload_store.proofs.store.above.Goals as goal
+
+pub loop-number-preserved : goal.loop-number-preserved
+loop-number-preserved c =
+    let at = c.loop-number.number-index in
+    let numbers : List ℕ = c.args.numbers.now in
+    let before : ℕ → Type 0 = λ n. n < c.loop-number.next in
+    let after : ℕ → Type 0 = λ n. n < c.max-next.result in
+    let larger : c.loop-number.next ≤ c.max-next.result = omega (arith, c.max-next.ensures) in
+    let within : at < length numbers =
+    omega (arith, c.loop-number-test.true, c.loop-number.auto.number-index-end) in
+    All-more after numbers at 0 within
+    (All-weaker before after (λ n h. omega (arith, h, larger)) (take at numbers) c.loop-number.invariant)
+    (omega (arith, c.max-next.ensures, c.in_ok-behind.ensures.1))
+
+pub returns-clause-some : goal.returns-clause-some
+returns-clause-some c =
+    let numbers : List ℕ = c.args.numbers.now in
+    subst (All (λ n. n < c.loop-number.next))
+    (take_all c.loop-number.number-index numbers (omega (arith, c.loop-number-test.false))) c.loop-number.invariant

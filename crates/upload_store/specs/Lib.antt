@@ -1,0 +1,12 @@
+pub mod Reading
+pub mod Rerun
+pub mod Found
+pub mod Safe
+pub mod Runs
+pub mod Rerunning
+pub mod Faults
+pub mod Store
+pub mod Rounds
+pub mod Salvage
+pub mod Rescuing
+pub mod Rescued

@@ -1,0 +1,57 @@
+//! Bodies for a replay, from the files of a shelf.
+ghost use Rattle.std.specs.Prelude.{◌≡◌};
+ghost use Rattle.upload_store.specs.Reading.{StandsIn};
+ghost use Rattle.upload_store.specs.Rescuing.{Since, RefusedSince, fault_told};
+
+use bodies::Shelf;
+use upload_bytes::{BodyBuilder, InPlace};
+use upload_journal::{Bodies, BodyFault};
+
+/// So many bytes of a file are read at once.
+const PIECE: usize = 65536;
+
+/// The files of a shelf, from which bodies are read.
+#[derive(Drop)]
+pub struct Files<S: Shelf> {
+    pub shelf: S,
+}
+
+/// Why a piece of a file was not read.
+fn fault_of(fault: bodies::BodyFault) -> BodyFault
+    ensures { result ≡ fault_told fault }
+{
+    match fault {
+        bodies::BodyFault::Missing => BodyFault::NotThere,
+        _ => BodyFault::NotRead,
+    }
+}
+
+impl<S: Shelf> Bodies for Files<S> {
+    ghost stands = { λ files. StandsIn S.Shelf.held S.Shelf.IsClean files.shelf };
+
+    ghost keeps = { λ first files. Since S.Shelf.held S.Shelf.may_leave S.Shelf.IsClean
+        S.Shelf.faults first.shelf files.shelf };
+
+    ghost refused = { λ first files. RefusedSince S.Shelf.held S.Shelf.may_leave S.Shelf.IsClean
+        S.Shelf.faults first.shelf files.shelf };
+
+    fn read(&mut self, number: u64, body: &mut BodyBuilder) -> Result<(), BodyFault> {
+        let mut piece = [0; PIECE];
+        let begun = body.len();
+        for _ in 0..u64::MAX {
+            let at = body.len() - begun;
+            let n = match self.shelf.read_at(number, at, &mut piece) {
+                Ok(n) => n,
+                Err(fault) => return Err(fault_of(fault)),
+            };
+            if n == 0 {
+                return Ok(());
+            }
+            if body.extend(&InPlace, &piece[..n]).is_err() {
+                return Err(BodyFault::NoMemory);
+            }
+        }
+        // As many bytes have no place in memory.
+        Err(BodyFault::NoMemory)
+    }
+}

@@ -1,0 +1,170 @@
+//! The records of a journal, run through a service again, behind records that can't be.
+ghost use Rattle.std.specs.Prelude.{◌≡◌, ◌↔◌, IfOk, OnOk, IsTrue};
+ghost use Rattle.std.specs.Result.{result_ok};
+ghost use Rattle.upload_journal.specs.Entries.{entry_of};
+ghost use Rattle.upload_journal.specs.declared.replay.ReplayFault.TheVariants as Fault;
+ghost use Rattle.upload_store.specs.Rescuing.{Rescues, Since, LacksMemory};
+ghost use Rattle.upload_store.specs.Salvage.{before, of_read, ready, lose_at};
+
+use crate::fault::{Loss, RefusedRecord};
+use crate::losses::Losses;
+use crate::numbers::{before, highest};
+use crate::rerun::Rerun;
+use bodies::Shelf;
+use journal::Machine;
+use std::alloc::{AllocError, Global};
+use std::io::{self, ErrorKind};
+use upload_journal::{Entry, ReadError, ReplayFault, read_entry};
+use upload_service::Limits;
+
+/// A service that the records of a journal are run through, over those that are lost.
+#[derive(Drop)]
+pub struct Rescue<S: Shelf> {
+    pub rerun: Rerun<S>,
+    pub losses: Losses,
+}
+
+/// What a record is read as, if it is an entry. At `Err` there is no memory.
+fn entry_in(alloc: Global, bytes: &[u8]) -> Result<Option<Entry>, AllocError>
+    ensures { IfOk result (λ entry. entry ≡ result_ok (entry_of bytes.now)) }
+{
+    match read_entry(alloc, bytes) {
+        Ok(entry) => Ok(Some(entry)),
+        Err(ReadError::Fault(_)) => Ok(None),
+        Err(ReadError::NoMemory) => Err(AllocError),
+    }
+}
+
+/// The number before that of the session that a record begins, or 0. At `Err` there is no memory.
+fn number_before(alloc: Global, bytes: &[u8]) -> Result<u32, AllocError>
+    ensures { IfOk result (λ n. n ≡ of_read before (entry_of bytes.now)) }
+{
+    match read_entry(alloc, bytes) {
+        Ok(entry) => Ok(before(&entry)),
+        Err(ReadError::Fault(_)) => Ok(0),
+        Err(ReadError::NoMemory) => Err(AllocError),
+    }
+}
+
+/// Whether there was no memory.
+fn is_want_of_memory(fault: &ReplayFault) -> bool
+    ensures { IsTrue result ↔ (fault.now ≡ Fault.NoMemory) }
+{
+    matches!(fault, ReplayFault::NoMemory)
+}
+
+impl<S: Shelf> Rescue<S> {
+    ghost use Rattle.upload_store.specs.Rescued.{files_at, shelf_at, stand_of};
+
+    /// Over these files, without a loss.
+    pub fn new(alloc: Global, rerun: Rerun<S>) -> Rescue<S>
+        ensures { shelf_at result ≡ rerun.files.shelf }
+    {
+        Rescue {
+            rerun,
+            losses: Losses::none(alloc),
+        }
+    }
+
+    /// Has a session that a record begins get the number that it had, if lost records may have had those before it. At
+    /// `Err` there is no memory.
+    fn make_ready(&mut self, bytes: &[u8]) -> Result<(), AllocError>
+        ensures ready { OnOk result (stand_of self.new ≡ record (stand_of self.old) {
+          point = ready (stand_of self.old) (entry_of bytes.now);
+        }) }
+        ensures files { files_at self.new ≡ files_at self.old }
+    {
+        if self.losses.count == 0 {
+            return Ok(());
+        }
+        let number = number_before(self.rerun.alloc, bytes)?;
+        let issued = u64::from(self.rerun.replay.issued());
+        if u64::from(number) <= self.losses.count.saturating_add(issued) {
+            self.rerun.replay.use_up(number);
+        }
+        Ok(())
+    }
+
+    /// Notes that a record is lost. At `Err` there is no memory.
+    fn lose(&mut self, time: u64, fault: ReplayFault, bytes: &[u8]) -> Result<(), AllocError>
+        ensures lost { OnOk result
+            (stand_of self.new ≡ lose_at (stand_of self.old) time bytes.now fault) }
+        ensures files { files_at self.new ≡ files_at self.old }
+    {
+        let entry = entry_in(self.rerun.alloc, bytes)?;
+        let named = match &entry {
+            Some(entry) => highest(entry),
+            None => 0,
+        };
+        let place = self.rerun.count;
+        let loss = Loss {
+            time,
+            place,
+            fault,
+            entry,
+        };
+        self.losses.add(loss, named)?;
+        self.rerun.count = place.saturating_add(1);
+        Ok(())
+    }
+
+    /// Refuses a record for want of memory, which is no loss.
+    fn give_up(&mut self, time: u64) -> io::Error
+        ensures refused { LacksMemory self.new.rerun.refused }
+        ensures files { files_at self.new ≡ files_at self.old }
+    {
+        self.rerun.refused = Some(RefusedRecord {
+            time,
+            place: self.rerun.count,
+            fault: ReplayFault::NoMemory,
+        });
+        ErrorKind::OutOfMemory.into()
+    }
+}
+
+impl<S: Shelf> Machine for Rescue<S> {
+    ghost steps = { λ old time text new. Rescues S.Shelf.held S.Shelf.may_leave S.Shelf.IsClean
+        S.Shelf.faults old.rerun.files.shelf
+        (record {
+          point = old.rerun.replay;
+          place = old.rerun.count;
+          lost = old.losses.count;
+          listed = old.losses.listed.items;
+          named = old.losses.named;
+        }) time text
+        new.rerun.files.shelf
+        (record {
+          point = new.rerun.replay;
+          place = new.rerun.count;
+          lost = new.losses.count;
+          listed = new.losses.listed.items;
+          named = new.losses.named;
+        }) };
+
+    ghost has_refused = { λ rescue. LacksMemory rescue.rerun.refused };
+
+    ghost keeps = { λ first rescue. Since S.Shelf.held S.Shelf.may_leave S.Shelf.IsClean
+        S.Shelf.faults first.rerun.files.shelf rescue.rerun.files.shelf };
+
+    fn apply(&mut self, time: u64, bytes: &[u8]) -> io::Result<()> {
+        if self.make_ready(bytes).is_err() {
+            return Err(self.give_up(time));
+        }
+        match self
+            .rerun
+            .replay
+            .apply(self.rerun.alloc, &mut self.rerun.files, bytes)
+        {
+            Ok(()) => {
+                self.rerun.count = self.rerun.count.saturating_add(1);
+                Ok(())
+            }
+            Err(fault) => {
+                if is_want_of_memory(&fault) || self.lose(time, fault, bytes).is_err() {
+                    return Err(self.give_up(time));
+                }
+                Ok(())
+            }
+        }
+    }
+}
