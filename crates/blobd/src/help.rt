@@ -8,7 +8,8 @@ pub const HELP: &str = "\
 blobd: the blob upload part of an image registry, and a client that pushes files to it
 
   blobd serve ADDR [COUNT]   listens at ADDR. Each worker takes COUNT connections (1 to
-                             1,000,000), or all that come. Blobs stay in memory.
+                             1,000,000), or all that come. Blobs stay in memory; with
+                             BLOBD_DATA they are on the disk too.
                                blobd serve 127.0.0.1:5000
 
   blobd push ADDR NAME FILE [CHUNK]
@@ -26,6 +27,8 @@ blobd: the blob upload part of an image registry, and a client that pushes files
 ADDR is an IP address and a port, as 127.0.0.1:5000 or [::1]:5000.
 
 In the environment:
+  BLOBD_DATA=DIR             serve keeps each change in the folder DIR before it answers, and
+                             has all of it again when it starts; not set: it writes nothing.
   BLOBD_WORKERS=N            serve has N workers (1 to 256), which serve a connection each;
                              not set: 2.
   BLOBD_LOG=1                serve writes a line for each request to standard error; 0, or

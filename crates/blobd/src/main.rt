@@ -10,6 +10,7 @@
 ghost use Rattle.std.specs.Prelude.{◌≡◌, ◌≤◌, IfOk};
 
 mod help;
+mod listening;
 mod once;
 mod size;
 mod streams;
@@ -18,12 +19,13 @@ mod tests;
 mod words;
 
 use crate::help::{HELP, VERSION};
+use crate::listening::{listen, listen_keeping};
 use crate::once::run_once;
 use crate::size::is_slow;
 use crate::streams::hold_standard_streams;
 use crate::words::{Command, USAGE, read_switch, read_words, read_workers};
 use blobd_push::run_push;
-use blobd_serve::{Demand, Terms, run_serve};
+use blobd_serve::{Demand, Terms};
 use blobd_shared::{DONE, FAULT, print_line};
 use http_wire::{FromRead, ToWrite};
 use std::env::VarError;
@@ -58,6 +60,9 @@ const WORKERS: &str = "BLOBD_WORKERS";
 /// How many it has without that.
 const USUAL_WORKERS: usize = 2;
 
+/// The variable of the environment that says where a server keeps what it has.
+const DATA: &str = "BLOBD_DATA";
+
 /// More connections than ever come.
 const ENDLESS: u64 = u64::MAX;
 
@@ -78,44 +83,6 @@ fn print_workers_usage(rt: &HostRuntime) -> u8 {
     NO_COMMAND
 }
 
-/// Tells somebody who looks on how a server is stopped.
-fn print_stop<R: Eprint>(rt: &R, seen: bool) {
-    if seen {
-        let _ = eprintln!(rt; "blobd: Ctrl-C stops it, and its blobs go with it");
-    }
-}
-
-/// Says why nothing listens there.
-fn print_no_listener<R: Eprint>(rt: &R, addr: SocketAddr, error: &io::Error) {
-    let _ = eprintln!(rt; "blobd: can't listen at {addr}: {error}");
-    if error.kind() == ErrorKind::AddrInUse {
-        let port = addr.port();
-        let _ = eprintln!(rt;
-            "blobd: another program has port {port} (ss -ltnp shows which; 5000 is also docker-registry's)"
-        );
-    }
-}
-
-fn listen<R>(rt: &R, addr: SocketAddr, terms: Terms, seen: bool) -> u8
-where
-    R: Threads + Wait + Sync + Copy + Send + 'static,
-    R: AllocGlobal + Clock + RandomSource + Print + Eprint,
-    R: Net<Listener = TcpListener, Stream = TcpStream>,
-    requires { 1 ≤ terms.workers }
-{
-    let mut out = io::writer(rt);
-    match TcpListener::bind(rt, addr) {
-        Ok(listener) => {
-            print_stop(rt, seen);
-            run_serve(rt, &listener, terms, &mut out)
-        }
-        Err(error) => {
-            print_no_listener(rt, addr, &error);
-            print_line(&mut out, "fault: listen", FAULT)
-        }
-    }
-}
-
 /// Tells whoever pushes that the chunks are small.
 fn print_slow<R: Eprint>(rt: &R, chunk: u64) {
     let _ = eprintln!(rt;
@@ -125,7 +92,7 @@ fn print_slow<R: Eprint>(rt: &R, chunk: u64) {
 
 fn push_file<R>(rt: &R, addr: SocketAddr, name: &str, path: &str, chunk: u64, seen: bool) -> u8
 where
-    R: AllocGlobal + Clock + Files + Print + Eprint + Net<Stream = TcpStream>,
+    R: AllocGlobal + Clock + Files + Print + Eprint + Net<Stream = TcpStream> + 'static,
     requires { (1 ≤ chunk) × (chunk ≤ 2147483648) }
 {
     let mut out = io::writer(rt);
@@ -188,6 +155,42 @@ fn workers_of(rt: &HostRuntime) -> Result<usize, u8>
     }
 }
 
+/// Says what may stand in the variable, and gives the exit status.
+fn print_no_folder(rt: &HostRuntime) -> u8 {
+    let _ = eprintln!(rt; "blobd: {DATA} is the path of a folder, or not set");
+    NO_COMMAND
+}
+
+/// Where a server keeps what it has, if the environment says so. An error is the exit status if that is no path, or out
+/// of memory.
+fn data_of(rt: &HostRuntime) -> Result<Option<String>, u8> {
+    match env::var(rt, DATA) {
+        Ok(path) if !path.is_empty() => Ok(Some(path)),
+        Ok(_) | Err(VarError::NotUnicode) => Err(print_no_folder(rt)),
+        Err(VarError::NotPresent) => Ok(None),
+        Err(VarError::OutOfMemory) => Err(print_no_memory(rt)),
+    }
+}
+
+/// A server, as its words and the environment say; gives the exit status. Both are the same: a server has threads, and
+/// what it keeps is in files.
+fn serve<R>(rt: &R, host: &HostRuntime, addr: SocketAddr, count: Option<u64>, seen: bool) -> u8
+where
+    R: Threads + Wait + Sync + Copy + Send + 'static,
+    R: AllocGlobal + Clock + RandomSource + Print + Eprint,
+    R: Net<Listener = TcpListener, Stream = TcpStream>,
+{
+    let terms = match terms_of(host, count) {
+        Ok(terms) => terms,
+        Err(status) => return status,
+    };
+    match data_of(host) {
+        Ok(None) => listen(rt, addr, terms, seen),
+        Ok(Some(path)) => listen_keeping(rt, host, addr, terms, path.as_str(), seen),
+        Err(status) => status,
+    }
+}
+
 /// The terms of a server, as its words and the environment say. An error is the exit status if the environment says
 /// what can't be read.
 fn terms_of(rt: &HostRuntime, count: Option<u64>) -> Result<Terms, u8>
@@ -236,10 +239,7 @@ fn main(rt: HostRuntime) -> ExitCode {
     let seen = rt.stderr().is_terminal();
     ExitCode::from(match read_words(&words) {
         Some(Command::Once) => serve_input(&rt),
-        Some(Command::Serve { addr, count }) => match terms_of(&rt, count) {
-            Ok(terms) => listen(&rt, addr, terms, seen),
-            Err(status) => status,
-        },
+        Some(Command::Serve { addr, count }) => serve(&rt, &rt, addr, count, seen),
         Some(Command::Help) => print_line(&mut io::writer(&rt), HELP, DONE),
         Some(Command::Version) => print_line(&mut io::writer(&rt), VERSION, DONE),
         Some(

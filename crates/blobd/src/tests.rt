@@ -30,7 +30,7 @@ type Printed = (Vec<u8>, u8);
 
 fn pushed<R>(rt: &R, addr: SocketAddr, name: &[u8]) -> Printed
 where
-    R: Net<Stream = TcpStream> + AllocGlobal + Clock + Eprint,
+    R: Net<Stream = TcpStream> + AllocGlobal + Clock + Eprint + 'static,
 {
     let mut out = Vec::new(rt.alloc());
     let status = run_push(rt, addr, name, b"abc", 2, false, &mut out);

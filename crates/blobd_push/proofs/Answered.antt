@@ -30,9 +30,10 @@ use Rattle.upload_push.specs.declared.pusher.Phase.TheVariants as phases
 use Rattle.upload_push.proofs.Sound.{pushed_last}
 use Rattle.upload_push.proofs.Cases.{cond_case}
 use Rattle.blobd_shared.specs.Status.{line}
-use Rattle.blobd_push.specs.Dials.{DialEvent, Dialing, AsksIn, Gets, GetsNone, behind_ask, dialing, history_at_end}
+use Rattle.blobd_shared.specs.Connections.{ConnEvent}
+use Rattle.blobd_push.specs.Dials.{Dialing, AsksIn, Gets, GetsNone, behind_ask, dialing, history_at_end}
 use Rattle.blobd_push.specs.Dials.{with_back, with_kept_back}
-use Rattle.blobd_push.specs.Dials.DialEvent.{made, given_back}
+use Rattle.blobd_shared.specs.Connections.ConnEvent.{made, given_back}
 use Rattle.blobd_push.specs.Sights.{AreSeen}
 use Rattle.blobd_push.specs.declared.sight.Sight.{Sight}
 use Rattle.blobd_push.specs.declared.sight.Sight.TheVariants as sights
@@ -129,7 +130,7 @@ abbrev KeptTo : List ℕ → Option WireState → Type 0
 KeptTo host None = Unit {0}
 KeptTo host (Some wire) = wire.host ≡ host
 
-gets_host : (host : List ℕ) (kept : Option WireState) (h : List DialEvent) (wire : WireState) (behind : List DialEvent)
+gets_host : (host : List ℕ) (kept : Option WireState) (h : List ConnEvent) (wire : WireState) (behind : List ConnEvent)
     → KeptTo host kept → Gets host kept h wire behind → wire.host ≡ host
 gets_host host (Some k) h wire behind to got = ap (λ (w : WireState). w.host) got.0 ∙ to
 gets_host host None h wire behind to got = ap (λ (w : WireState). w.host) got.0.2
@@ -139,7 +140,7 @@ asked_host : (goes : Bool) (old new : WireState) (ask : Ask) (heard : Option Hea
 asked_host true old new ask heard asked = asked.same_host
 asked_host false old new ask heard asked = ap (λ (w : WireState). w.host) asked.1
 
-behind_to : (host : List ℕ) (h : List DialEvent) (wire : WireState) → wire.host ≡ host
+behind_to : (host : List ℕ) (h : List ConnEvent) (wire : WireState) → wire.host ≡ host
     → KeptTo host (behind_ask h wire).kept
 behind_to host h wire to =
     cond_case (λ (s : Dialing). KeptTo host s.kept) (stays_open wire) _ _ (λ _. to) (λ _. tt)
@@ -148,26 +149,26 @@ none_to : (host : List ℕ) (kept : Option WireState) → kept ≡ None → Kept
 none_to host kept none = subst (KeptTo host) (sym none) tt
 
 -- a history goes on from another
-abbrev GoesOn : List DialEvent → List DialEvent → Type 0
-GoesOn old new = (since : List DialEvent) × (new ≡ old ++ since)
+abbrev GoesOn : List ConnEvent → List ConnEvent → Type 0
+GoesOn old new = (since : List ConnEvent) × (new ≡ old ++ since)
 
-gets_more : (host : List ℕ) (kept : Option WireState) (h : List DialEvent) (wire : WireState) (behind : List DialEvent)
+gets_more : (host : List ℕ) (kept : Option WireState) (h : List ConnEvent) (wire : WireState) (behind : List ConnEvent)
     → Gets host kept h wire behind → GoesOn h behind
 gets_more host (Some k) h wire behind got = ([], got.1 ∙ sym (append-nil h))
 gets_more host None h wire behind got = (made ∷ [], got.1)
 
-gets_none : (host : List ℕ) (kept : Option WireState) (h behind : List DialEvent) → GetsNone host kept h behind
+gets_none : (host : List ℕ) (kept : Option WireState) (h behind : List ConnEvent) → GetsNone host kept h behind
     → GoesOn h behind
 gets_none host (Some k) h behind got = absurd got
 gets_none host None h behind (inl same) = ([], same ∙ sym (append-nil h))
 gets_none host None h behind (inr (wire, is, more)) = (_, more ∙ append_assoc h (made ∷ []) _)
 
-goes_further : (a b c : List DialEvent) → GoesOn a b → GoesOn b c → GoesOn a c
+goes_further : (a b c : List ConnEvent) → GoesOn a b → GoesOn b c → GoesOn a c
 goes_further a b c first second =
-    let both = second.1 ∙ ap (λ (h : List DialEvent). h ++ second.0) first.1 in
+    let both = second.1 ∙ ap (λ (h : List ConnEvent). h ++ second.0) first.1 in
     (first.0 ++ second.0, both ∙ append_assoc a first.0 second.0)
 
-behind_more : (h : List DialEvent) (wire : WireState) → GoesOn h (behind_ask h wire).history
+behind_more : (h : List ConnEvent) (wire : WireState) → GoesOn h (behind_ask h wire).history
 behind_more h wire =
     cond_case (λ (s : Dialing). GoesOn h s.history) (stays_open wire) _ _ (λ _. ([], sym (append-nil h)))
     (λ _. (_, refl))
@@ -197,17 +198,17 @@ all_on host s to (e ∷ log) t leads =
     (here.0, goes_further s.history leads.0.history t.history earlier.1 here.1)
 
 -- at the end the connection of the last ask is given back behind all others
-ends_with : (h : List DialEvent) (wire : WireState) → history_at_end (behind_ask h wire) ≡ with_back h wire
+ends_with : (h : List ConnEvent) (wire : WireState) → history_at_end (behind_ask h wire) ≡ with_back h wire
 ends_with h wire =
     cond_case (λ (s : Dialing). history_at_end s ≡ with_back h wire) (stays_open wire) _ _ (λ _. refl) (λ _. refl)
 
 -- a connection that was given back behind all others
-abbrev with_end : List DialEvent → List ℕ → Bool → List ℕ → List DialEvent
+abbrev with_end : List ConnEvent → List ℕ → Bool → List ℕ → List ConnEvent
 with_end h given ended taken = h ++ given_back (record { bytes = given; ended = ended }) taken ∷ []
 
 -- the last ask of a push was answered so
-answered : (host : List ℕ) (old : List DialEvent) (s : Dialing) (ask : Ask) (heard : Heard) (status : ℕ) (t : Dialing)
-    (new : List DialEvent)
+answered : (host : List ℕ) (old : List ConnEvent) (s : Dialing) (ask : Ask) (heard : Heard) (status : ℕ) (t : Dialing)
+    (new : List ConnEvent)
     → GoesOn old s.history → KeptTo host s.kept → AsksIn host s ask (Some heard) t → heard.status ≡ status
     → (status ≡ 200) ⊎ (status ≡ 201) → new ≡ history_at_end t → EndsAnswered host ask status old new
 answered host old s ask heard status t new from to (inr (got, unheard, kept)) same ends back =
@@ -229,14 +230,14 @@ answered host old s ask heard status t new from to (inl (wire, behind, h, got, a
       last =
           there ∙ ap (λ (g : List ℕ). with_end h g ended behind.writer.taken) was.given
           ∙ ap (with_end h given ended) taken
-          ∙ ap (λ (o : List DialEvent). with_end o given ended (wire.writer.taken ++ ask_text ask host)) on.1;
+          ∙ ap (λ (o : List ConnEvent). with_end o given ended (wire.writer.taken ++ ask_text ask host)) on.1;
       answers = was.answers;
     }
 
 -- ---- a whole push
 
-answered_with : (host : List ℕ) (old : List DialEvent) (s : Dialing) (ask : Ask) (heard : Option Heard) (status : ℕ)
-    (t : Dialing) (new : List DialEvent)
+answered_with : (host : List ℕ) (old : List ConnEvent) (s : Dialing) (ask : Ask) (heard : Option Heard) (status : ℕ)
+    (t : Dialing) (new : List ConnEvent)
     → GoesOn old s.history → KeptTo host s.kept → AsksIn host s ask heard t → HeardStatus heard status
     → (status ≡ 200) ⊎ (status ≡ 201) → new ≡ history_at_end t → EndsAnswered host ask status old new
 answered_with host old s ask None status t new from to asked same ends back = absurd same
@@ -244,7 +245,7 @@ answered_with host old s ask (Some h) status t new from to asked same ends back 
     answered host old s ask h status t new from to asked same ends back
 
 -- the last request was one of this kind, and was answered so
-by_log : (host : List ℕ) (P : Ask → Type 0) (status : ℕ) (old new : List DialEvent) (s : Dialing)
+by_log : (host : List ℕ) (P : Ask → Type 0) (status : ℕ) (old new : List ConnEvent) (s : Dialing)
     → GoesOn old s.history → KeptTo host s.kept → (log : List Attempt) (t : Dialing) → LastIsAnswered P status log
     → Leads (AsksIn host) s log t → (status ≡ 200) ⊎ (status ≡ 201) → new ≡ history_at_end t
     → (e : Attempt) × (rest : List Attempt) × (log ≡ e ∷ rest) × P e.ask × EndsAnswered host e.ask status old new
@@ -282,7 +283,7 @@ close_of p (asks.Status at) is = grind arith
 close_of p (asks.Close at) is = (at, refl)
 close_of p asks.Head is = grind arith
 
-closed : (host : List ℕ) (p : Push) (old new : List DialEvent) (ask : Ask) (q : PushAsk) → ask ≡ request p q
+closed : (host : List ℕ) (p : Push) (old new : List ConnEvent) (ask : Ask) (q : PushAsk) → ask ≡ request p q
     → IsClose ask → EndsAnswered host ask 201 old new
     → (at : List ℕ) × EndsAnswered host (Close p.name at Absent (Some p.digest) []) 201 old new
 closed host p old new ask q own is ends =
@@ -290,12 +291,12 @@ closed host p old new ask q own is ends =
     (close.0, subst (λ (a : Ask). EndsAnswered host a 201 old new) (own ∙ close.1) ends)
 
 -- at the end the history goes on from what it was, also by the connection that was kept
-end_more : (h : List DialEvent) (kept : Option WireState) → GoesOn h (with_kept_back h kept)
+end_more : (h : List ConnEvent) (kept : Option WireState) → GoesOn h (with_kept_back h kept)
 end_more h None = ([], sym (append-nil h))
 end_more h (Some wire) = (_, refl)
 
 -- the blob was seen over the last connection
-seen_last : (host name : List ℕ) (digest : Digest) (size : ℕ) (old new : List DialEvent) (s t : Dialing)
+seen_last : (host name : List ℕ) (digest : Digest) (size : ℕ) (old new : List ConnEvent) (s t : Dialing)
     → GoesOn old s.history → AreSeen host name digest size s sights.Blob t → new ≡ history_at_end t
     → EndsSeen host name digest size old new
 seen_last host name digest size old new s t from (kept, inr (nothing, same)) back = absurd (blob_nothing nothing)
@@ -304,7 +305,7 @@ seen_last host name digest size old new s t from (kept, inl seen) back =
     let here = goes_further old (history_at_end s) (history_at_end s ++ made ∷ []) on (made ∷ [], refl) in
     let there = back ∙ ap (with_kept_back t.history) kept ∙ seen.over in
     let with_events =
-    there ∙ ap (λ (h : List DialEvent). h ++ given_back seen.given seen.taken ∷ []) here.1 in
+    there ∙ ap (λ (h : List ConnEvent). h ++ given_back seen.given seen.taken ∷ []) here.1 in
     record {
       since = here.0;
       given = seen.given;
@@ -315,13 +316,13 @@ seen_last host name digest size old new s t from (kept, inl seen) back =
     }
 
 -- how the end of a push was answered
-abbrev IsAnswered : List ℕ → Push → List DialEvent → List DialEvent → Option (List ℕ) → Option (List ℕ) → Type 0
+abbrev IsAnswered : List ℕ → Push → List ConnEvent → List ConnEvent → Option (List ℕ) → Option (List ℕ) → Type 0
 IsAnswered host p old new before after =
     (PrintsDigest (codes "pushed") p.digest before after
     × ((at : List ℕ) × EndsAnswered host (Close p.name at Absent (Some p.digest) []) 201 old new))
     ⊎ (PrintsDigest (codes "already") p.digest before after × EndsSeen host p.name p.digest (length p.file) old new)
 
-by_shown : (host : List ℕ) (p : Push) (old new : List DialEvent) (before after : Option (List ℕ))
+by_shown : (host : List ℕ) (p : Push) (old new : List ConnEvent) (before after : Option (List ℕ))
     (last behind : Dialing) (sight : Sight) (text : List ℕ)
     → GoesOn old last.history → AreSeen host p.name p.digest (length p.file) last sight behind
     → new ≡ history_at_end behind → PrintsPush p.digest (phase_at sight) 0 text → Appends before after (line text)
@@ -336,7 +337,7 @@ by_shown host p old new before after last behind sights.Other text from seen bac
 by_shown host p old new before after last behind sights.Nothing text from seen back told printed =
     absurd (zero_one told.0)
 
-by_phase : (host : List ℕ) (p : Push) (old new : List DialEvent) (before after : Option (List ℕ)) (s : Dialing)
+by_phase : (host : List ℕ) (p : Push) (old new : List ConnEvent) (before after : Option (List ℕ)) (s : Dialing)
     (heard : List (Option Heard)) (last behind : Dialing) (phase shown : Phase) (text : List ℕ)
     → GoesOn old s.history → KeptTo host s.kept → Leads (AsksIn host) s (log_of p heard) last
     → new ≡ history_at_end behind → (after_all p heard).phase ≡ phase → IsShown host p last phase behind shown
@@ -378,7 +379,7 @@ sight_on host name digest size s sight t (kept, inr (nothing, same)) = (
       ([], same ∙ sym (append-nil (history_at_end s))),
 )
 
-looked_on : (host name : List ℕ) (digest : Digest) (old : List DialEvent) (size : ℕ)
+looked_on : (host name : List ℕ) (digest : Digest) (old : List ConnEvent) (size : ℕ)
     (look : Look host name digest (dialing old)) (mid : Dialing) → IsLooked size look false mid
     → KeptTo host mid.kept × GoesOn old mid.history
 looked_on host name digest old size look mid (inl (is, same)) =

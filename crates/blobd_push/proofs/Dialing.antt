@@ -6,10 +6,11 @@ use Rattle.upload_client.specs.declared.heard.Heard.{Heard}
 use Rattle.upload_client.specs.TransportText.{WireState, stays_open}
 use Rattle.upload_push.specs.Dialed.{AsksDialed, Connects, kept_or, new_wire}
 use Rattle.upload_push.proofs.Cases.{cond_case_both}
-use Rattle.blobd_push.specs.Dials.{AsksAreDialed, AsksIn, DialEvent, Dialing, Gets, GetsNone, behind_ask}
-use Rattle.blobd_push.specs.Dials.DialEvent.{made, given_back}
+use Rattle.blobd_shared.specs.Connections.{ConnEvent}
+use Rattle.blobd_push.specs.Dials.{AsksAreDialed, AsksIn, Dialing, Gets, GetsNone, behind_ask}
+use Rattle.blobd_shared.specs.Connections.ConnEvent.{made, given_back}
 
-pub unused : (host : List ℕ) {before mid behind : List DialEvent} {given : TranscriptState} {taken : List ℕ}
+pub unused : (host : List ℕ) {before mid behind : List ConnEvent} {given : TranscriptState} {taken : List ℕ}
     → given ≡ record { bytes = []; ended = false } → taken ≡ [] → mid ≡ before ++ made ∷ []
     → behind ≡ mid ++ given_back given taken ∷ [] → GetsNone host None before behind
 unused host {before} {mid} {behind} {given} {taken} read written told back =
@@ -22,17 +23,17 @@ unused host {before} {mid} {behind} {given} {taken} read written told back =
     )
 
 -- a connection that is kept or made is one that `upload_push` has
-connects : (host : List ℕ) (kept : Option WireState) (h : List DialEvent) (wire : WireState) (behind : List DialEvent)
+connects : (host : List ℕ) (kept : Option WireState) (h : List ConnEvent) (wire : WireState) (behind : List ConnEvent)
     → Gets host kept h wire behind → Connects host kept (Some wire)
 connects host (Some k) h wire behind got = ap Some got.0
 connects host None h wire behind got = got.0
 
-connects_none : (host : List ℕ) (kept : Option WireState) (h behind : List DialEvent) → GetsNone host kept h behind
+connects_none : (host : List ℕ) (kept : Option WireState) (h behind : List ConnEvent) → GetsNone host kept h behind
     → Connects host kept None
 connects_none host (Some k) h behind got = absurd got
 connects_none host None h behind got = tt
 
-kept_behind : (h : List DialEvent) (wire : WireState) → (behind_ask h wire).kept ≡ kept_or None wire
+kept_behind : (h : List ConnEvent) (wire : WireState) → (behind_ask h wire).kept ≡ kept_or None wire
 kept_behind h wire =
     cond_case_both (λ (s : Dialing) (k : Option WireState). s.kept ≡ k) (stays_open wire) _ _ _ _ (λ _. refl)
     (λ _. refl)

@@ -21,7 +21,8 @@ use Rattle.upload_push.specs.declared.pusher.Phase.TheVariants.{Opening, Done, G
 use Rattle.upload_push.specs.declared.pusher.Why.TheVariants.{BadServer, OutOfTries}
 use Rattle.upload_push.proofs.Sound.{unheard_waits}
 use Rattle.blobd_shared.specs.Status.{IsPrinted, line}
-use Rattle.blobd_push.specs.Dials.{DialEvent, Dialing, AsksIn, dialing, history_at_end}
+use Rattle.blobd_shared.specs.Connections.{ConnEvent}
+use Rattle.blobd_push.specs.Dials.{Dialing, AsksIn, dialing, history_at_end}
 use Rattle.blobd_push.specs.Sights.{AreSeen, is_blob}
 use Rattle.blobd_push.specs.declared.sight.Sight.{Sight}
 use Rattle.blobd_push.specs.declared.sight.Sight.TheVariants as sights
@@ -89,7 +90,7 @@ untold digest phase status text (inl is) told = absurd (subst (λ (p : Phase). P
 untold digest phase status text (inr is) told = subst (λ (p : Phase). PrintsPush digest p status text) is told
 
 -- the line of a blob that was found
-found_line : (host : List ℕ) (p : Push) (old new : List DialEvent) (state : Dialing) (before after : Option (List ℕ))
+found_line : (host : List ℕ) (p : Push) (old new : List ConnEvent) (state : Dialing) (before after : Option (List ℕ))
     (result : ℕ) (look : Look host p.name p.digest (dialing old))
     → IsLooked (length p.file) look true state → new ≡ history_at_end state
     → IsEndLine p.digest (Ok Already) before after result
@@ -111,7 +112,7 @@ still_waits host p last phase behind shown (inr is) shows =
     inr (subst (λ (q : Phase). IsShown host p last q behind shown) is shows).0
 
 -- the line of the end of a push
-lined : (host : List ℕ) (p : Push) (old new : List DialEvent) (mid last behind : Dialing)
+lined : (host : List ℕ) (p : Push) (old new : List ConnEvent) (mid last behind : Dialing)
     (pushed : Result Outcome PushFault) (phase shown : Phase) (text : List ℕ) (before after : Option (List ℕ))
     (result : ℕ) → (look : Look host p.name p.digest (dialing old)) → IsLooked (length p.file) look false mid
     → IsPush (AsksIn host) p mid last pushed → ((q : Phase) → IsEnd q pushed → q ≡ phase)
@@ -146,7 +147,7 @@ lined host p old new mid last behind pushed phase shown text before after result
     )
 
 -- an end that was found by the push itself, and what was shown of it then
-by_sight : (host : List ℕ) (p : Push) (old new : List DialEvent) (mid last behind : Dialing) (sight : Sight)
+by_sight : (host : List ℕ) (p : Push) (old new : List ConnEvent) (mid last behind : Dialing) (sight : Sight)
     (before after : Option (List ℕ)) (result : ℕ)
     → (look : Look host p.name p.digest (dialing old)) → IsLooked (length p.file) look false mid
     → IsPush (AsksIn host) p mid last (Ok Already)
@@ -173,7 +174,7 @@ by_sight host p old new mid last behind sights.Nothing before after result look 
     missing push (λ q ends. ends) (sights.Nothing, seen, refl) back (one, refl) printed
 
 -- an end that stands as it is
-as_it_is : (host : List ℕ) (p : Push) (old new : List DialEvent) (mid last behind : Dialing)
+as_it_is : (host : List ℕ) (p : Push) (old new : List ConnEvent) (mid last behind : Dialing)
     (pushed : Result Outcome PushFault) (before after : Option (List ℕ)) (result : ℕ)
     → (look : Look host p.name p.digest (dialing old)) → IsLooked (length p.file) look false mid
     → IsPush (AsksIn host) p mid last pushed → pushed ≢ Ok Already → behind ≡ last → new ≡ history_at_end behind
@@ -196,7 +197,7 @@ as_it_is host p old new mid last behind (Err (faults.GaveUp why)) before after r
 as_it_is host p old new mid last behind (Err faults.NoMemory) before after result look missing push other same back
     fault = inr fault
 
-by_end : (host : List ℕ) (p : Push) (old new : List DialEvent) (mid last behind : Dialing)
+by_end : (host : List ℕ) (p : Push) (old new : List ConnEvent) (mid last behind : Dialing)
     (pushed end : Result Outcome PushFault) (before after : Option (List ℕ)) (result : ℕ)
     → (look : Look host p.name p.digest (dialing old)) → IsLooked (length p.file) look false mid
     → IsPush (AsksIn host) p mid last pushed
@@ -217,7 +218,7 @@ by_end host p old new mid last behind (Err fault) end before after result look m
     (λ h. grind arith) same back (subst (λ e. IsEndLine p.digest e before after result) is told)
 
 -- what was sent behind a look, and the line of its end
-by_sent : (host : List ℕ) (p : Push) (old new : List DialEvent) (last : Dialing) (end : Result Outcome PushFault)
+by_sent : (host : List ℕ) (p : Push) (old new : List ConnEvent) (last : Dialing) (end : Result Outcome PushFault)
     (before after : Option (List ℕ)) (result : ℕ)
     → IsSent host p (dialing old) last end → new ≡ history_at_end last → IsEndLine p.digest end before after result
     → IsLookedLine host p old new before after result ⊎ (result ≡ 3)
@@ -246,7 +247,7 @@ was_confirmed host name digest size last behind (Ok Already) end (inr (is, same)
 was_confirmed host name digest size last behind (Ok Pushed) end (is, same) = inl same
 was_confirmed host name digest size last behind (Err fault) end (is, same) = inl same
 
-begun : (host : List ℕ) (p : Push) (old new : List DialEvent) (behind : Dialing) (end : Result Outcome PushFault)
+begun : (host : List ℕ) (p : Push) (old new : List ConnEvent) (behind : Dialing) (end : Result Outcome PushFault)
     → IsSent host p (dialing old) behind end → new ≡ history_at_end behind → IsBegun host p old new
 begun host p old new behind end (inl (look, is, already)) back =
     inr (record {
@@ -287,7 +288,7 @@ begun host p old new behind end (inr (inr (lacks, inr (look, same)))) back =
     })
 
 -- the line of a push whose name is one
-under_name : (host name file : List ℕ) (chunk : ℕ) (old new : List DialEvent) (before after : Option (List ℕ))
+under_name : (host name file : List ℕ) (chunk : ℕ) (old new : List ConnEvent) (before after : Option (List ℕ))
     (result : ℕ)
     → IsName name → IsBegun host (push_of Sha256 name file chunk 5) old new
     → IsLookedLine host (push_of Sha256 name file chunk 5) old new before after result
@@ -296,7 +297,7 @@ under_name host name file chunk old new before after result named has (inl looke
 under_name host name file chunk old new before after result named has (inr fault) = inr (fault, has)
 
 -- a push that was sent, and the line of its end
-pub pushed : {at host own name file : List ℕ} {chunk : ℕ} {digest : Digest} {old new : List DialEvent}
+pub pushed : {at host own name file : List ℕ} {chunk : ℕ} {digest : Digest} {old new : List ConnEvent}
     {start last : Dialing} {end : Result Outcome PushFault}
     → IsSent at (push_under digest own file chunk 5) start last end → at ≡ host → own ≡ name → IsName name
     → digest ≡ content_digest Sha256 file → start ≡ dialing old → new ≡ history_at_end last
@@ -313,7 +314,7 @@ pushed {at} {host} {own} {name} {file} {chunk} {digest} {old} {new} {start} {las
     (subst (λ d. IsEndLine d end before after result) its_digest told))
 
 -- a name that isn't one
-pub no_name : (host name file : List ℕ) (chunk : ℕ) (history : List DialEvent) (before after : Option (List ℕ))
+pub no_name : (host name file : List ℕ) (chunk : ℕ) (history : List ConnEvent) (before after : Option (List ℕ))
     (result : ℕ)
     → ¬ (IsName name) → IsPrinted (Some (codes "refused: name")) before after 1 result
     → IsPushedOver host name file chunk history history before after result
@@ -327,12 +328,12 @@ faulted (inl (status, printed)) = status
 faulted (inr status) = status
 
 -- the same of an address, over connections that began with none
-pub to_address : (addr : SocketAddr) {at name file : List ℕ} {chunk : ℕ} {old new : List DialEvent}
+pub to_address : (addr : SocketAddr) {at name file : List ℕ} {chunk : ℕ} {old new : List ConnEvent}
     {before after : Option (List ℕ)} {result : ℕ} → at ≡ socket_text addr → old ≡ []
     → IsPushedOver at name file chunk old new before after result → IsPushed addr name file chunk before after result
 to_address addr {at} {name} {file} {chunk} {old} {new} {before} {after} {result} same none h = (
   new,
-  subst (λ (o : List DialEvent). IsPushedOver (socket_text addr) name file chunk o new before after result) none
+  subst (λ (o : List ConnEvent). IsPushedOver (socket_text addr) name file chunk o new before after result) none
       (subst (λ (t : List ℕ). IsPushedOver t name file chunk old new before after result) same h),
 )
 

@@ -11,8 +11,8 @@ use Rattle.upload_client.specs.AskText.{ask_text, wants_head}
 use Rattle.upload_client.specs.AnswerText.{TellsHeard}
 use Rattle.upload_client.specs.declared.heard.Heard.{Heard}
 use Rattle.blobd_shared.specs.Status.{line}
-use Rattle.blobd_push.specs.Dials.{DialEvent}
-use Rattle.blobd_push.specs.Dials.DialEvent.{given_back}
+use Rattle.blobd_shared.specs.Connections.{ConnEvent}
+use Rattle.blobd_shared.specs.Connections.ConnEvent.{given_back}
 use Rattle.blobd_push.specs.Pushed.{IsPushedOver}
 use Rattle.blobd_push.specs.Sights.{HasHead}
 
@@ -26,8 +26,8 @@ pub record IsReply (head_only : Bool) (text : List ℕ) (status : ℕ) : Type 0 
 
 -- The last connection of a push to this host was given back behind this request, which is the last that was written
 -- over it, and behind a reply with this status, the last that was read over it.
-pub record EndsAnswered (host : List ℕ) (ask : Ask) (status : ℕ) (old new : List DialEvent) : Type 0 where
-  pub since : List DialEvent
+pub record EndsAnswered (host : List ℕ) (ask : Ask) (status : ℕ) (old new : List ConnEvent) : Type 0 where
+  pub since : List ConnEvent
   -- what was written and read before
   pub asked : List ℕ
   pub told : List ℕ
@@ -39,8 +39,8 @@ pub record EndsAnswered (host : List ℕ) (ask : Ask) (status : ℕ) (old new : 
 
 -- The last connection of a push to this host was made for a HEAD of this blob, and given back behind it: that is all
 -- that was written over it, and what was read begins with a head that shows the blob, of this length.
-pub record EndsSeen (host name : List ℕ) (digest : Digest) (size : ℕ) (old new : List DialEvent) : Type 0 where
-  pub since : List DialEvent
+pub record EndsSeen (host name : List ℕ) (digest : Digest) (size : ℕ) (old new : List ConnEvent) : Type 0 where
+  pub since : List ConnEvent
   pub given : TranscriptState
   pub last : new ≡ (old ++ since) ++ given_back given (ask_text (Has name digest true) host) ∷ []
   pub shows : HasHead (decimal size) (digest_text digest) given.bytes true
@@ -54,7 +54,7 @@ PrintsDigest word digest before after = Appends before after (line (word ++ (cod
 -- behind either on any connection.
 abbrev pub PushesAreAnswered : Type 0
 PushesAreAnswered =
-    (host name file : List ℕ) (chunk : ℕ) (old new : List DialEvent) (before after : Option (List ℕ))
+    (host name file : List ℕ) (chunk : ℕ) (old new : List ConnEvent) (before after : Option (List ℕ))
     → IsPushedOver host name file chunk old new before after 0
     → (PrintsDigest (codes "pushed") (content_digest Sha256 file) before after
     × ((at : List ℕ) × EndsAnswered host (Close name at Absent (Some (content_digest Sha256 file)) []) 201 old new))

@@ -21,7 +21,8 @@ use Rattle.upload_push.specs.declared.pushing.PushFault.{PushFault}
 use Rattle.upload_push.specs.declared.pushing.PushFault.TheVariants as faults
 use Rattle.upload_push.specs.declared.pusher.Phase.{Phase}
 use Rattle.upload_push.specs.declared.pusher.Phase.TheVariants.{Done, GaveUp}
-use Rattle.blobd_push.specs.Dials.{DialEvent, Dialing, AsksIn, dialing, history_at_end}
+use Rattle.blobd_shared.specs.Connections.{ConnEvent}
+use Rattle.blobd_push.specs.Dials.{Dialing, AsksIn, dialing, history_at_end}
 use Rattle.blobd_push.specs.Sights.{AreSeen, is_blob}
 use Rattle.blobd_push.specs.declared.sight.Sight.{Sight}
 use Rattle.blobd_push.specs.declared.sight.Sight.TheVariants as sights
@@ -121,7 +122,7 @@ IsSent host p before after end =
 
 -- The blob was found: its line was printed and nothing else. All that was done with connections is this history's.
 pub record IsFoundLine {host name : List ℕ} {digest : Digest} {start : Dialing} (size : ℕ)
-    (look : Look host name digest start) (history : List DialEvent) (before after : Option (List ℕ)) (status : ℕ)
+    (look : Look host name digest start) (history : List ConnEvent) (before after : Option (List ℕ)) (status : ℕ)
     : Type 0 where
   pub behind : Dialing
   pub found : IsLooked size look true behind
@@ -133,7 +134,7 @@ pub record IsFoundLine {host name : List ℕ} {digest : Digest} {start : Dialing
 -- connection that was kept or over a new one, and this was heard there. The line of that push's end was printed and
 -- nothing else. All that was done with connections is this history's.
 pub record IsPushLine {host : List ℕ} (p : Push) {start : Dialing} (look : Look host p.name p.digest start)
-    (history : List DialEvent) (before after : Option (List ℕ)) (status : ℕ) : Type 0 where
+    (history : List ConnEvent) (before after : Option (List ℕ)) (status : ℕ) : Type 0 where
   pub mid : Dialing
   pub missing : IsLooked (length p.file) look false mid
   pub heard : List (Option Heard)
@@ -152,7 +153,7 @@ pub record IsPushLine {host : List ℕ} (p : Push) {start : Dialing} (look : Loo
 
 -- A push to this host looked first, and the line of the blob that was found or of the push's end was printed. The
 -- connections went from the first history to the second.
-abbrev pub IsLookedLine : List ℕ → Push → List DialEvent → List DialEvent → Option (List ℕ) → Option (List ℕ) → ℕ
+abbrev pub IsLookedLine : List ℕ → Push → List ConnEvent → List ConnEvent → Option (List ℕ) → Option (List ℕ) → ℕ
     → Type 0
 IsLookedLine host p old new before after status =
     (look : Look host p.name p.digest (dialing old))
@@ -170,7 +171,7 @@ MayLook host p before after =
 
 -- A push to this host was begun, whatever came of it: it looked, and this was heard to what it asked behind the look,
 -- over the connection that was kept or over a new one. All that was done with connections is this history's.
-pub record HasAsked (host : List ℕ) (p : Push) (old new : List DialEvent) : Type 0 where
+pub record HasAsked (host : List ℕ) (p : Push) (old new : List ConnEvent) : Type 0 where
   pub look : Look host p.name p.digest (dialing old)
   pub mid : Dialing
   pub looked : MayLook host p look.behind mid
@@ -182,13 +183,13 @@ pub record HasAsked (host : List ℕ) (p : Push) (old new : List DialEvent) : Ty
   pub given_back : new ≡ history_at_end behind
 
 -- the same, or no connection was made
-abbrev pub IsBegun : List ℕ → Push → List DialEvent → List DialEvent → Type 0
+abbrev pub IsBegun : List ℕ → Push → List ConnEvent → List ConnEvent → Type 0
 IsBegun host p old new = (new ≡ old) ⊎ HasAsked host p old new
 
 -- The name isn't one, and no connection was made; or a file was pushed under it to this host with 5 tries, unless it
 -- was found there, over the connections that were made from the first history to the second, and the line of that was
 -- printed, with its status; or the status is that of a fault, with which a push may end once it was begun.
-abbrev pub IsPushedOver : List ℕ → List ℕ → List ℕ → ℕ → List DialEvent → List DialEvent → Option (List ℕ)
+abbrev pub IsPushedOver : List ℕ → List ℕ → List ℕ → ℕ → List ConnEvent → List ConnEvent → Option (List ℕ)
     → Option (List ℕ) → ℕ → Type 0
 IsPushedOver host name file chunk old new before after status =
     ((IsNameLine name before after status × (new ≡ old))
@@ -198,5 +199,5 @@ IsPushedOver host name file chunk old new before after status =
 -- The same of an address, over connections that began with none.
 abbrev pub IsPushed : SocketAddr → List ℕ → List ℕ → ℕ → Option (List ℕ) → Option (List ℕ) → ℕ → Type 0
 IsPushed addr name file chunk before after status =
-    (history : List DialEvent)
+    (history : List ConnEvent)
     × IsPushedOver (socket_text addr) name file chunk [] history before after status

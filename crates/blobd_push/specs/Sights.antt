@@ -9,8 +9,9 @@ use Rattle.upload_names.specs.Digest.{Digest, digest_text}
 use Rattle.upload_service.specs.declared.ask.Ask.{Ask}
 use Rattle.upload_service.specs.declared.ask.Ask.TheVariants.{Has}
 use Rattle.upload_client.specs.AskText.{ask_text}
-use Rattle.blobd_push.specs.Dials.{DialEvent, Dialing, history_at_end}
-use Rattle.blobd_push.specs.Dials.DialEvent.{made, given_back}
+use Rattle.blobd_shared.specs.Connections.{ConnEvent}
+use Rattle.blobd_push.specs.Dials.{Dialing, history_at_end}
+use Rattle.blobd_shared.specs.Connections.ConnEvent.{made, given_back}
 use Rattle.blobd_push.specs.declared.sight.Sight.{Sight}
 use Rattle.blobd_push.specs.declared.sight.Sight.TheVariants as sights
 
@@ -49,8 +50,8 @@ SeesIn size digest sights.Nothing text = Unit {0}
 
 -- A connection was made and given back. Over it this request was written, whole unless nothing was seen, and this is
 -- seen in what was read.
-pub record SeesOver (host : List ℕ) (ask : Ask) (size digest : List ℕ) (before : List DialEvent) (sight : Sight)
-    (behind : List DialEvent) : Type 0 where
+pub record SeesOver (host : List ℕ) (ask : Ask) (size digest : List ℕ) (before : List ConnEvent) (sight : Sight)
+    (behind : List ConnEvent) : Type 0 where
   pub given : TranscriptState
   pub taken : List ℕ
   pub over : behind ≡ (before ++ made ∷ []) ++ given_back given taken ∷ []
@@ -58,7 +59,7 @@ pub record SeesOver (host : List ℕ) (ask : Ask) (size digest : List ℕ) (befo
   pub seen : SeesIn size digest sight given.bytes
 
 -- the same, or nothing was seen, since no connection was made
-abbrev pub IsSightOver : List ℕ → Ask → List ℕ → List ℕ → List DialEvent → Sight → List DialEvent → Type 0
+abbrev pub IsSightOver : List ℕ → Ask → List ℕ → List ℕ → List ConnEvent → Sight → List ConnEvent → Type 0
 IsSightOver host ask size digest before sight behind =
     SeesOver host ask size digest before sight behind ⊎ ((sight ≡ sights.Nothing) × (behind ≡ before))
 

@@ -23,6 +23,10 @@ is_tls _ = false
 abbrev pub is_http : List ℕ → Bool
 is_http bytes = starts_with nat_eq bytes (codes "HTTP/") || starts_with nat_eq (codes "HTTP/") bytes
 
+-- bytes that begin as a reply of a server that can't serve now
+abbrev pub is_unavailable : List ℕ → Bool
+is_unavailable bytes = starts_with nat_eq bytes (codes "HTTP/1.1 503 ")
+
 -- what is wrong with the first bytes that a server sends
 abbrev pub trouble_in : List ℕ → Option Trouble
 trouble_in bytes = if is_tls bytes then Some Tls else if is_http bytes then None else Some NotHttp
@@ -33,9 +37,10 @@ abbrev pub error_trouble : Option ℕ → Trouble
 error_trouble None = NoConnection
 error_trouble (Some number) = if number == 11 then Silence else System number
 
--- the first trouble of a request is what went wrong with it
+-- the first trouble of a request is what went wrong with it, unless its server can't serve now
 abbrev pub first_trouble : Trouble → Trouble → Trouble
 first_trouble NoReply new = new
+first_trouble before Unavailable = Unavailable
 first_trouble before new = before
 
 -- nothing was asked yet

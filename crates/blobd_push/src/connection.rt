@@ -1,11 +1,10 @@
 //! The two halves of a connection of a push: a signal ends no read and no write, and what goes wrong is noted.
-ghost use Rattle.std.specs.Prelude.{◌≡◌, ◌≢◌, ◌≤◌, [], length, IfErr, IfOk, false};
+ghost use Rattle.std.specs.Prelude.{◌≡◌, ◌≢◌, ◌≤◌, [], length, IfErr, IfOk};
 ghost use Rattle.std.specs.IoError.{error_kind};
-ghost use Rattle.blobd_push.specs.Dials.{ReadGives, WriteTakes};
+ghost use Rattle.blobd_shared.specs.Connections.{ReadGives, WriteTakes};
 
-use crate::dials::{Inlet, Outlet};
-use crate::trouble::{Trouble, error_trouble, first_trouble, trouble_in};
-use http_wire::{ByteSink, ByteSource, Failed, History};
+use crate::trouble::{Trouble, error_trouble, first_trouble, is_unavailable, trouble_in};
+use blobd_shared::{Counted, Inlet, Outlet};
 use std::cell::Cell;
 use std::io;
 use std::io::ErrorKind;
@@ -17,11 +16,10 @@ pub(crate) struct Half<'n, S> {
     trouble: &'n Cell<Trouble>,
     /// Whether a byte was read.
     begun: bool,
-    // For contracts alone: an item for each call, for each that failed, and for each write that no flush handed on.
-    calls: History<()>,
-    failed: History<()>,
-    unflushed: History<()>,
 }
+
+/// Such a half as a source or a sink of bytes.
+pub(crate) type CountedHalf<'n, S> = Counted<Half<'n, S>>;
 
 /// Notes a trouble, unless there was one before.
 fn note(trouble: &Cell<Trouble>, new: Trouble) {
@@ -38,6 +36,8 @@ pub(crate) fn note_error(trouble: &Cell<Trouble>, error: &io::Error) {
 fn note_read(trouble: &Cell<Trouble>, first: bool, read: &[u8]) {
     if read.is_empty() {
         note(trouble, Trouble::Closed);
+    } else if is_unavailable(read) {
+        note(trouble, Trouble::Unavailable);
     } else if first && let Some(wrong) = trouble_in(read) {
         note(trouble, wrong);
     }
@@ -73,45 +73,10 @@ fn write_through<S: Outlet>(stream: &mut S, buf: &[u8]) -> io::Result<usize>
     Err(io::Error::from(ErrorKind::TimedOut))
 }
 
-impl<'n, S> Half<'n, S> {
-    /// A half over a stream, with no call counted.
-    pub(crate) fn new(stream: S, trouble: &'n Cell<Trouble>) -> Half<'n, S>
-        ensures stream { result.stream ≡ stream }
-        ensures uncalled { (result.calls ≡ []) × (result.failed ≡ []) × (result.unflushed ≡ []) }
-    {
-        Half {
-            stream,
-            trouble,
-            begun: false,
-            calls: History::none(),
-            failed: History::none(),
-            unflushed: History::none(),
-        }
-    }
+impl<'n, S: Inlet> Inlet for Half<'n, S> {
+    ghost given = { λ h. S.given h.stream };
 
-    /// The stream, with what moved over it.
-    pub(crate) fn into_stream(self) -> S
-        ensures { result ≡ self.entry.stream }
-    {
-        let Half { stream, .. } = self;
-        stream
-    }
-}
-
-impl<'n, S: Inlet> ByteSource for Half<'n, S> {
-    ghost use Rattle.std.specs.Prelude.{length, None};
-
-    // What it gives is what its stream gave; what that will give isn't known.
-    ghost state = { λ h. record {
-      given = (S.given h.stream).bytes;
-      ended = (S.given h.stream).ended;
-      remaining = None;
-      reads = length h.calls;
-      failed_reads = length h.failed;
-    } };
-
-    fn read(&mut self, buf: &mut [u8]) -> Result<usize, Failed> {
-        self.calls = self.calls.and(&());
+    fn read(&mut self, buf: &mut [u8]) -> io::Result<usize> {
         match read_through(&mut self.stream, buf) {
             Ok(count) => {
                 note_read(self.trouble, !self.begun, &buf[..count]);
@@ -120,53 +85,46 @@ impl<'n, S: Inlet> ByteSource for Half<'n, S> {
             }
             Err(error) => {
                 note_error(self.trouble, &error);
-                self.failed = self.failed.and(&());
-                Err(Failed)
+                Err(error)
             }
         }
     }
 }
 
-impl<'n, S: Outlet> ByteSink for Half<'n, S> {
-    ghost use Rattle.std.specs.Prelude.{length, None, ◌==◌};
+impl<'n, S: Outlet> Outlet for Half<'n, S> {
+    ghost taken = { λ h. S.taken h.stream };
 
-    // What it takes is what its stream took.
-    ghost state = { λ h. record {
-      taken = S.taken h.stream;
-      contents = None;
-      writes = length h.calls;
-      failed_writes = length h.failed;
-      flushed = length h.unflushed == 0;
-    } };
-
-    fn write(&mut self, buf: &[u8]) -> Result<usize, Failed> {
-        self.calls = self.calls.and(&());
-        self.unflushed = self.unflushed.and(&());
+    fn write(&mut self, buf: &[u8]) -> io::Result<usize> {
         match write_through(&mut self.stream, buf) {
-            Ok(count) if count > 0 || buf.is_empty() => Ok(count),
-            Ok(_) => {
-                self.failed = self.failed.and(&());
-                Err(Failed)
-            }
+            Ok(count) => Ok(count),
             Err(error) => {
                 note_error(self.trouble, &error);
-                self.failed = self.failed.and(&());
-                Err(Failed)
+                Err(error)
             }
         }
     }
 
-    fn flush(&mut self) -> Result<(), Failed> {
-        self.calls = self.calls.and(&());
-        match self.stream.flush() {
-            Ok(()) => {
-                self.unflushed = History::none();
-                Ok(())
-            }
-            Err(_) => {
-                self.failed = self.failed.and(&());
-                Err(Failed)
-            }
-        }
+    fn flush(&mut self) -> io::Result<()> {
+        self.stream.flush()
     }
+}
+
+/// A half over a stream, with no call counted.
+pub(crate) fn counted<'n, S>(stream: S, trouble: &'n Cell<Trouble>) -> CountedHalf<'n, S>
+    ensures stream { result.end.stream ≡ stream }
+    ensures uncalled { (result.calls ≡ []) × (result.failed ≡ []) × (result.unflushed ≡ []) }
+{
+    Counted::new(Half {
+        stream,
+        trouble,
+        begun: false,
+    })
+}
+
+/// The stream of a half, with what moved over it.
+pub(crate) fn stream_of<'n, S>(half: CountedHalf<'n, S>) -> S
+    ensures { result ≡ half.entry.end.stream }
+{
+    let Half { stream, .. } = half.into_end();
+    stream
 }

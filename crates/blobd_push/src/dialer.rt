@@ -6,14 +6,14 @@ ghost use Rattle.upload_client.specs.AskText.{CanBeWritten, ask_of_chunk};
 ghost use Rattle.upload_push.specs.Dialed.{IsNew};
 ghost use Rattle.blobd_push.specs.Dials.{AsksIn, Gets, GetsNone, behind_ask, dialing, dialing_of};
 ghost use Rattle.blobd_push.specs.Dials.{history_at_end, with_back};
-ghost use Rattle.blobd_push.specs.Dials.DialEvent.{made};
+ghost use Rattle.blobd_shared.specs.Connections.ConnEvent.{made};
 ghost use Rattle.blobd_push.specs.Pushed.{is_word};
 ghost use Rattle.blobd_push.specs.Sights.{AreSeen, IsSightOver};
 ghost use Rattle.blobd_push.specs.Trouble.{course_after, new_course};
 ghost use Rattle.blobd_push.specs.Pauses.{pause_after};
 
 use crate::bar::Bar;
-use crate::connection::{Half, note_error};
+use crate::connection::{CountedHalf, counted, note_error, stream_of};
 use crate::dials::Dials;
 use crate::pauses::pause_after;
 use crate::sight::{Marks, Sight, look_over};
@@ -44,7 +44,10 @@ pub(crate) fn is_word(text: &[u8]) -> bool
 }
 
 /// A connection of a dialer.
-type Wire<'r, D> = WireTransport<Half<'r, <D as Dials>::In>, Half<'r, <D as Dials>::Out>>;
+type Wire<'r, D> = WireTransport<
+    CountedHalf<'r, <D as Dials>::In>,
+    CountedHalf<'r, <D as Dials>::Out>,
+>;
 
 /// The asks of one push, over a connection to its server. After a fault, and behind a reply that ends it, the
 /// connection is given back, and the next ask makes another.
@@ -56,7 +59,7 @@ pub(crate) struct Dialer<'r, D: Dials, R> {
     dials: D,
     host: &'r str,
     /// The connection that is kept.
-    wire: Option<WireTransport<Half<'r, D::In>, Half<'r, D::Out>>>,
+    wire: Option<WireTransport<CountedHalf<'r, D::In>, CountedHalf<'r, D::Out>>>,
     /// How long it waits before the next ask, in milliseconds.
     pause: u64,
     /// How its asks went.
@@ -150,13 +153,12 @@ impl<'r, D: Dials + Drop, R> Dialer<'r, D, R> {
             × (self.new.course ≡ self.old.course) × (self.new.wire ≡ self.old.wire) }
     {
         let (source, sink) = self.ends()?;
-        let source = Half::new(source, self.trouble);
-        let sink = Half::new(sink, self.trouble);
+        let source = counted(source, self.trouble);
+        let sink = counted(sink, self.trouble);
         match WireTransport::over(self.alloc, source, sink, self.host.as_bytes()) {
             Ok(wire) => Some(wire),
             Err((source, sink)) => {
-                self.dials
-                    .take_back(source.into_stream(), sink.into_stream());
+                self.dials.take_back(stream_of(source), stream_of(sink));
                 None
             }
         }
@@ -251,12 +253,11 @@ impl<'r, D: Dials + Drop, R> Dialer<'r, D, R> {
         let Some((source, sink)) = self.ends() else {
             return Sight::Nothing;
         };
-        let mut source = Half::new(source, self.trouble);
-        let mut sink = Half::new(sink, self.trouble);
+        let mut source = counted(source, self.trouble);
+        let mut sink = counted(sink, self.trouble);
         let host = self.host.as_bytes();
         let sight = look_over(buffer, &mut source, &mut sink, host, ask, marks);
-        self.dials
-            .take_back(source.into_stream(), sink.into_stream());
+        self.dials.take_back(stream_of(source), stream_of(sink));
         sight
     }
 }
@@ -266,7 +267,7 @@ fn hand_back<'r, D: Dials>(dials: &mut D, wire: Wire<'r, D>)
     ensures { D.history dials.new ≡ with_back (D.history dials.old) wire.entry }
 {
     let (source, sink) = wire.into_halves();
-    dials.take_back(source.into_stream(), sink.into_stream());
+    dials.take_back(stream_of(source), stream_of(sink));
 }
 
 impl<'r, D: Dials + Drop, R: Clock + Eprint> Dialer<'r, D, R> {

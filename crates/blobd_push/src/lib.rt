@@ -17,7 +17,7 @@ mod sight;
 mod sockets;
 mod trouble;
 
-pub use dials::{DialHistory, Dials, Inlet, Outlet};
+pub use dials::Dials;
 pub use laws::{asks_are_dialed, pushes_are_answered};
 pub use push::{Job, push_over};
 pub use sockets::run_push;

@@ -4,13 +4,13 @@ ghost use Rattle.std.specs.Prelude.{◌≡◌, ◌≤◌, ◌^◌, [], length, I
 ghost use Rattle.std.specs.Duration.{as_nanos};
 ghost use Rattle.blobd_push.specs.Pushed.{IsPushed};
 
-use crate::dials::{DialHistory, Dials, Inlet, Outlet};
+use crate::dials::Dials;
 use crate::push::{Job, push_over};
-use blobd_shared::{FAULT, print_line};
+use blobd_shared::{ConnHistory, FAULT, Inlet, Outlet, print_line};
 use http_wire::Transcript;
 use std::alloc::AllocGlobal;
 use std::io;
-use std::io::{Eprint, Read, Write};
+use std::io::{Eprint, ErrorKind, Read, Write};
 use std::net::{Net, SocketAddr, TcpStream};
 use std::rt::Clock;
 use std::time::Duration;
@@ -21,41 +21,93 @@ const CONNECT_SECONDS: u64 = 10;
 /// How long a server may be silent, and how long it may take no byte, in seconds.
 const SILENCE_SECONDS: u64 = 30;
 
+/// After how much of such a wait a terminal is told of it, in seconds.
+const TOLD_SECONDS: u64 = 5;
+
+/// How a push waits for its server. A wait that a terminal is told of has two parts, with a line between them.
+#[derive(Clone, Copy)]
+struct Waits {
+    addr: SocketAddr,
+    /// Whether standard error is a terminal.
+    seen: bool,
+}
+
+impl Waits {
+    /// The first part of a wait of so many seconds, and the rest.
+    fn parts(&self, seconds: u64) -> (Duration, Duration) {
+        let first = if self.seen { TOLD_SECONDS } else { seconds };
+        let rest = seconds.saturating_sub(TOLD_SECONDS);
+        (Duration::from_secs(first), Duration::from_secs(rest))
+    }
+
+    /// Whether a call ended because the first part of its wait is over: then the terminal is told.
+    fn tells<R: Eprint, T>(&self, rt: &R, ended: &io::Result<T>) -> bool {
+        let is_over = |error: &io::Error| {
+            matches!(error.kind(), ErrorKind::WouldBlock | ErrorKind::TimedOut)
+        };
+        let tells = self.seen && ended.as_ref().is_err_and(is_over);
+        if tells {
+            let addr = self.addr;
+            // Nothing is promised of standard error.
+            let _ = eprintln!(rt; "\r\x1b[Kblobd: waits for {addr}");
+        }
+        tells
+    }
+}
+
 /// One end of a socket, which is only read from or only written to, and what was read or written so far.
 #[derive(Drop)]
-pub(crate) struct Socket {
+pub(crate) struct Socket<'r, R> {
+    rt: &'r R,
     stream: TcpStream,
+    waits: Waits,
     /// For contracts alone.
     moved: Transcript,
 }
 
-impl Socket {
+impl<'r, R> Socket<'r, R> {
     /// The end of a stream over which nothing has moved so far.
-    fn new(stream: TcpStream) -> Socket
+    fn new(rt: &'r R, stream: TcpStream, waits: Waits) -> Socket<'r, R>
         ensures { result.moved ≡ record { bytes = []; ended = false } }
     {
         Socket {
+            rt,
             stream,
+            waits,
             moved: Transcript::none(),
         }
     }
 }
 
-impl Inlet for Socket {
+impl<'r, R: Eprint> Inlet for Socket<'r, R> {
     ghost given = { λ s. s.moved };
 
     fn read(&mut self, buf: &mut [u8]) -> io::Result<usize> {
-        let count = self.stream.read(buf)?;
+        let mut moved = self.stream.read(buf);
+        if self.waits.tells(self.rt, &moved) {
+            let (first, rest) = self.waits.parts(SILENCE_SECONDS);
+            let _ = self.stream.set_read_timeout(Some(rest));
+            moved = self.stream.read(buf);
+            let _ = self.stream.set_read_timeout(Some(first));
+        }
+        let count = moved?;
         self.moved = self.moved.and(&buf[..count]);
         Ok(count)
     }
 }
 
-impl Outlet for Socket {
+impl<'r, R: Eprint> Outlet for Socket<'r, R> {
     ghost taken = { λ s. s.moved.bytes };
 
     fn write(&mut self, buf: &[u8]) -> io::Result<usize> {
-        let count = self.stream.write(buf)?;
+        let mut moved = self.stream.write(buf);
+        if self.waits.tells(self.rt, &moved) {
+            let (first, rest) = self.waits.parts(SILENCE_SECONDS);
+            let _ = self.stream.set_write_timeout(Some(rest));
+            moved = self.stream.write(buf);
+            let _ = self.stream.set_write_timeout(Some(first));
+        }
+        let count = moved?;
         self.moved = self.moved.and(&buf[..count]);
         Ok(count)
     }
@@ -65,8 +117,7 @@ impl Outlet for Socket {
     }
 }
 
-/// Ends the reads and writes of a connection that move no byte for as long as `silence`, which is more than zero: they
-/// fail.
+/// Ends the reads and writes of a connection that move no byte for as long as `silence`: they fail. It isn't zero.
 fn end_silence(stream: &TcpStream, silence: Duration) -> io::Result<()>
     ensures { as_nanos silence ≡ 0 → IsErr result }
 {
@@ -74,55 +125,72 @@ fn end_silence(stream: &TcpStream, silence: Duration) -> io::Result<()>
     stream.set_write_timeout(Some(silence))
 }
 
+/// A new connection. An error is the system's, or says that none was made in time.
+fn reach<R>(rt: &R, waits: Waits) -> io::Result<TcpStream>
+where
+    R: Net<Stream = TcpStream> + Eprint,
+{
+    let (first, rest) = waits.parts(CONNECT_SECONDS);
+    let stream = TcpStream::connect_timeout(rt, &waits.addr, first);
+    if waits.tells(rt, &stream) {
+        return TcpStream::connect_timeout(rt, &waits.addr, rest);
+    }
+    stream
+}
+
 /// The two ends of a new connection. An error is the system's, or says that no connection was made in time.
-fn connect<R: Net<Stream = TcpStream>>(rt: &R, addr: SocketAddr) -> io::Result<(Socket, Socket)>
+fn connect<'r, R>(rt: &'r R, waits: Waits) -> io::Result<(Socket<'r, R>, Socket<'r, R>)>
+where
+    R: Net<Stream = TcpStream> + Eprint,
     ensures { IfOk result (λ ends. (ends.0.moved ≡ record { bytes = []; ended = false })
         × (ends.1.moved ≡ record { bytes = []; ended = false })) }
 {
-    let stream = TcpStream::connect_timeout(rt, &addr, Duration::from_secs(CONNECT_SECONDS))?;
-    end_silence(&stream, Duration::from_secs(SILENCE_SECONDS))?;
+    let stream = reach(rt, waits)?;
+    let (first, _) = waits.parts(SILENCE_SECONDS);
+    end_silence(&stream, first)?;
     // A peer that has gone already can make this fail; the reads and writes will tell.
     let _ = stream.set_nodelay(true);
-    Ok((Socket::new(stream.try_clone()?), Socket::new(stream)))
+    let source = Socket::new(rt, stream.try_clone()?, waits);
+    Ok((source, Socket::new(rt, stream, waits)))
 }
 
 /// Connections to an address.
 #[derive(Drop)]
-pub(crate) struct Sockets<'r, R> {
+pub(crate) struct Sockets<'r, R: Eprint> {
     rt: &'r R,
-    addr: SocketAddr,
+    waits: Waits,
     /// For contracts alone.
-    history: DialHistory<Socket, Socket>,
+    history: ConnHistory<Socket<'r, R>, Socket<'r, R>>,
 }
 
-impl<'r, R> Sockets<'r, R> {
+impl<'r, R: Eprint> Sockets<'r, R> {
     /// No connection was made so far.
-    pub(crate) fn new(rt: &'r R, addr: SocketAddr) -> Sockets<'r, R>
+    pub(crate) fn new(rt: &'r R, addr: SocketAddr, seen: bool) -> Sockets<'r, R>
         ensures { result.history ≡ [] }
     {
         Sockets {
             rt,
-            addr,
-            history: DialHistory::none(),
+            waits: Waits { addr, seen },
+            history: ConnHistory::none(),
         }
     }
 }
 
-impl<'r, R: Net<Stream = TcpStream>> Dials for Sockets<'r, R> {
-    type In = Socket;
+impl<'r, R: Net<Stream = TcpStream> + Eprint> Dials for Sockets<'r, R> {
+    type In = Socket<'r, R>;
 
-    type Out = Socket;
+    type Out = Socket<'r, R>;
 
     ghost history = { λ s. s.history };
 
-    fn dial(&mut self) -> io::Result<(Socket, Socket)> {
-        let ends = connect(self.rt, self.addr)?;
+    fn dial(&mut self) -> io::Result<(Socket<'r, R>, Socket<'r, R>)> {
+        let ends = connect(self.rt, self.waits)?;
         self.history.note_made();
         Ok(ends)
     }
 
     /// Closes the connection.
-    fn take_back(&mut self, source: Socket, sink: Socket) {
+    fn take_back(&mut self, source: Socket<'r, R>, sink: Socket<'r, R>) {
         self.history.note_back(&source, &sink);
     }
 }
@@ -137,7 +205,8 @@ impl<'r, R: Net<Stream = TcpStream>> Dials for Sockets<'r, R> {
 ///   tries` after too many asks that weren't heard; 1;
 /// - `fault: memory`, 3; and 3 if the line can't be printed.
 ///
-/// Standard error says more of what was refused. If it is a terminal, and so `seen`, a bar stands there meanwhile.
+/// Standard error says more of what was refused. If it is a terminal, and so `seen`, a bar stands there meanwhile, and
+/// a line says that the server is waited for once it was silent for five seconds.
 pub fn run_push<R, W>(
     rt: &R,
     addr: SocketAddr,
@@ -148,7 +217,7 @@ pub fn run_push<R, W>(
     out: &mut W,
 ) -> u8
 where
-    R: Net<Stream = TcpStream> + AllocGlobal + Clock + Eprint,
+    R: Net<Stream = TcpStream> + AllocGlobal + Clock + Eprint + 'static,
     W: Write,
     requires size { length file.now ≤ 2 ^ 40 }
     requires chunk { (1 ≤ chunk) × (chunk ≤ 2 ^ 31) }
@@ -158,7 +227,7 @@ where
     let Ok(host) = format!(in rt.alloc(); "{addr}") else {
         return print_line(out, "fault: memory", FAULT);
     };
-    let sockets = Sockets::new(rt, addr);
+    let sockets = Sockets::new(rt, addr, seen);
     let job = Job {
         name,
         file,

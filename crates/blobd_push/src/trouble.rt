@@ -1,7 +1,7 @@
 //! What goes wrong with a push, and the words for it on standard error.
 ghost use Rattle.std.specs.Prelude.{◌≡◌};
 ghost use Rattle.blobd_push.specs.Trouble.{advice_on, course_after, error_trouble, first_trouble, is_http};
-ghost use Rattle.blobd_push.specs.Trouble.{is_tls, reason_of};
+ghost use Rattle.blobd_push.specs.Trouble.{is_tls, is_unavailable, reason_of};
 ghost use Rattle.blobd_push.specs.Trouble.{status_trouble, trouble_in, words_of, words_of_advice};
 
 use std::{fmt, io};
@@ -57,6 +57,13 @@ fn is_http(bytes: &[u8]) -> bool
     bytes.starts_with(b"HTTP/") || b"HTTP/".starts_with(bytes)
 }
 
+/// Whether bytes begin as a reply of a server that can't serve now.
+pub(crate) fn is_unavailable(bytes: &[u8]) -> bool
+    ensures { result ≡ is_unavailable bytes.now }
+{
+    bytes.starts_with(b"HTTP/1.1 503 ")
+}
+
 /// What is wrong with the first bytes that a server sends, if anything is.
 pub(crate) fn trouble_in(bytes: &[u8]) -> Option<Trouble>
     ensures { result ≡ trouble_in bytes.now }
@@ -82,12 +89,13 @@ pub(crate) fn error_trouble(number: Option<u32>) -> Trouble
     }
 }
 
-/// What went wrong with a request, once something more did: the first trouble stands.
+/// What went wrong with a request, once something more did: the first trouble stands, unless the server says that it
+/// can't serve. It may say so, and close, while the request is still written.
 pub(crate) fn first_trouble(before: Trouble, new: Trouble) -> Trouble
     ensures { result ≡ first_trouble before new }
 {
-    match before {
-        Trouble::NoReply => new,
+    match (before, new) {
+        (Trouble::NoReply, _) | (_, Trouble::Unavailable) => new,
         _ => before,
     }
 }

@@ -1,3 +1,4 @@
+pub mod Doors
 pub mod Limits
 pub mod LogLine
 pub mod Pace

@@ -1,16 +1,16 @@
-//! The connections of a worker, as a listener accepts them.
-ghost use Rattle.std.specs.Prelude.{◌≡◌, ◌+◌, None, IfOk, IfSome};
-ghost use Rattle.http_wire.specs.Halves.{AreUnused};
+//! The connections of a worker, as it accepts them.
+ghost use Rattle.std.specs.Prelude.{◌≡◌, ◌+◌, ◌++◌, ◌∷◌, [], false, IfOk, MatchOption, OnErr};
+ghost use Rattle.blobd_shared.specs.Connections.ConnEvent.{made, given_back};
 
-use crate::closing::Closing;
+use crate::accepts::Accepts;
 use crate::log_lines::LogLines;
-use crate::paced::{Demand, Reader, SharedSocket, Socket, Writer, halves};
+use crate::paced::{Demand, Half, Turn};
 use crate::steps::{Step, step_behind};
+use blobd_shared::Counted;
 use std::alloc::{AllocError, Global};
 use std::io::{Eprint, ErrorKind};
-use std::net::{TcpListener, TcpStream};
 use std::rt::Clock;
-use std::sync::{Arc, Wait};
+use std::sync::Wait;
 use std::time::Duration;
 use std::{io, thread};
 use upload_intake::Conns;
@@ -31,21 +31,23 @@ pub struct Terms {
     pub logged: bool,
 }
 
-/// The connections of one worker: the next ones that the listener accepts, up to a count.
+/// What requests are read from.
+pub(crate) type Reader<'a, L, R> = Counted<Half<'a, <L as Accepts>::In, R>>;
+
+/// What replies are written to.
+pub(crate) type Writer<'a, L, R> = Counted<Half<'a, <L as Accepts>::Out, R>>;
+
+/// The connections of one worker: the next ones that come to it, up to a count.
 #[derive(Drop)]
-pub(crate) struct Accepted<'a, R> {
+pub(crate) struct Accepted<'a, L, R> {
     rt: &'a R,
     alloc: Global,
-    listener: &'a TcpListener,
+    /// Where they come from.
+    door: L,
     /// How many more it takes.
     left: u64,
     demand: Demand,
-    /// The connection that is served.
-    socket: Option<SharedSocket>,
-    /// Room for the next one, if none is served.
-    spare: Option<SharedSocket>,
-    /// Where it is closed when its halves are given back.
-    closing: Closing,
+    turn: Turn,
     /// Where notices go if there is a log.
     lines: Option<LogLines>,
     /// Whether it was said that a connection can't be taken now.
@@ -57,36 +59,41 @@ fn step_after(error: &io::Error) -> Step {
     step_behind(error.raw_os_error().map_or(0, i32::unsigned_abs))
 }
 
-impl<'a, R: Clock + Eprint + Wait> Accepted<'a, R> {
-    /// The next connections of a listener. An error is out of memory.
+impl<'a, L: Accepts + Drop, R: Clock + Eprint + Wait> Accepted<'a, L, R> {
+    /// The next connections of a worker. An error is out of memory.
     pub(crate) fn new(
         rt: &'a R,
         alloc: Global,
-        listener: &'a TcpListener,
+        door: L,
         terms: Terms,
-        closing: Closing,
         lines: Option<LogLines>,
-    ) -> Result<Accepted<'a, R>, AllocError>
-        ensures { IfOk result
-            (λ conns. (conns.left ≡ terms.count) × (conns.demand ≡ terms.demand)) }
+    ) -> Result<Accepted<'a, L, R>, AllocError>
+        ensures { IfOk result (λ conns. (conns.left ≡ terms.count)
+            × (conns.demand ≡ terms.demand) × (conns.door ≡ door)) }
     {
         Ok(Accepted {
             rt,
             alloc,
-            listener,
+            door,
             left: terms.count,
             demand: terms.demand,
-            socket: None,
-            spare: Some(Arc::new(alloc, Socket::none())?),
-            closing,
+            turn: Turn::new(alloc)?,
             lines,
             is_told: false,
         })
     }
 
+    /// Where they came from.
+    pub(crate) fn into_door(self) -> L
+        ensures { result ≡ self.entry.door }
+    {
+        let Accepted { door, .. } = self;
+        door
+    }
+
     /// Tells of an error on standard error. If there is a log, it is a line of that: no worker waits for who reads it.
     fn tell(&mut self, what: &str, error: &io::Error)
-        ensures { self.new.left ≡ self.old.left }
+        ensures { (self.new.left ≡ self.old.left) × (self.new.door ≡ self.old.door) }
     {
         let rt = self.rt;
         let Some(lines) = &mut self.lines else {
@@ -101,7 +108,9 @@ impl<'a, R: Clock + Eprint + Wait> Accepted<'a, R> {
     }
 
     /// Waits a little behind this error. The first is told, and no other: nobody may read it.
-    fn wait(&mut self, error: &io::Error) {
+    fn wait(&mut self, error: &io::Error)
+        ensures { (self.new.left ≡ self.old.left) × (self.new.door ≡ self.old.door) }
+    {
         if !self.is_told {
             self.is_told = true;
             self.tell("can't take a connection now, and goes on trying", error);
@@ -109,11 +118,18 @@ impl<'a, R: Clock + Eprint + Wait> Accepted<'a, R> {
         thread::sleep(self.rt, Duration::from_millis(WAIT_MILLIS));
     }
 
-    /// The next connection of the listener, however long that takes. An error says that the listener is none.
-    fn next_stream(&mut self) -> io::Result<TcpStream> {
+    /// The two ends of the next connection, however long that takes. An error says that none can come.
+    fn next_ends(&mut self) -> io::Result<(L::In, L::Out)>
+        ensures new { IfOk result (λ ends. (L.In.given ends.0
+            ≡ record { bytes = []; ended = false }) × (L.Out.taken ends.1 ≡ [])) }
+        ensures told { IfOk result (λ ends.
+            L.history self.new.door ≡ L.history self.old.door ++ made ∷ []) }
+        ensures none { OnErr result (L.history self.new.door ≡ L.history self.old.door) }
+        ensures same { self.new.left ≡ self.old.left }
+    {
         for _ in 0..u64::MAX {
-            let error = match self.listener.accept() {
-                Ok((stream, _)) => return Ok(stream),
+            let error = match self.door.accept() {
+                Ok(ends) => return Ok(ends),
                 Err(error) => error,
             };
             match step_after(&error) {
@@ -125,41 +141,54 @@ impl<'a, R: Clock + Eprint + Wait> Accepted<'a, R> {
         Err(io::Error::from(ErrorKind::TimedOut))
     }
 
-    /// The halves of the next connection, which is kept.
-    fn accept(&mut self) -> io::Result<(Reader<'a, R>, Writer<'a, R>)>
-        ensures { IfOk result (λ halves. AreUnused halves.0 halves.1) }
+    /// The halves of the next connection.
+    fn accept(&mut self) -> io::Result<(Reader<'a, L, R>, Writer<'a, L, R>)>
+        ensures new { IfOk result (λ halves. (L.In.given halves.0.end.stream
+            ≡ record { bytes = []; ended = false }) × (L.Out.taken halves.1.end.stream ≡ [])) }
+        ensures told { IfOk result (λ ends.
+            L.history self.new.door ≡ L.history self.old.door ++ made ∷ []) }
+        ensures none { OnErr result (L.history self.new.door ≡ L.history self.old.door) }
+        ensures same { self.new.left ≡ self.old.left }
     {
-        let stream = self.next_stream()?;
-        // There is one, unless the halves before weren't given back.
-        let mut shared = match self.spare.take() {
-            Some(spare) => spare,
-            None => Arc::new(self.alloc, Socket::none())?,
-        };
-        if let Some(socket) = Arc::get_mut(&mut shared) {
-            *socket = Socket::of(stream);
-        }
-        let halves = halves(self.rt, &shared, self.demand)?;
-        self.socket = Some(shared);
-        Ok(halves)
+        // Behind the accept nothing fails: no connection that came is dropped.
+        let (read, write) = (self.turn.share()?, self.turn.share()?);
+        let (source, sink) = self.next_ends()?;
+        self.turn.begin();
+        Ok((
+            Counted::new(Half::new(self.rt, source, read, self.demand)),
+            Counted::new(Half::new(self.rt, sink, write, self.demand)),
+        ))
     }
 }
 
-impl<'a, R: Clock + Eprint + Wait + Sync> Conns for Accepted<'a, R> {
-    type In = Reader<'a, R>;
+impl<'a, L, R> Conns for Accepted<'a, L, R>
+where
+    L: Accepts + Drop,
+    L::In: Send,
+    L::Out: Send,
+    R: Clock + Eprint + Wait + Sync,
+{
+    type In = Reader<'a, L, R>;
 
-    type Out = Writer<'a, R>;
+    type Out = Writer<'a, L, R>;
 
-    // One fewer is left behind each that it gives, and on that nothing was read or written. What a socket
-    // delivers, only std says.
-    ghost gives = { λ old given new. IfSome given (λ halves.
-        (new.left + 1 ≡ old.left) × AreUnused halves.0 halves.1) };
+    // One fewer is left behind each that it gives. That one was accepted, and nothing was read or written over it. If
+    // it gives none, none was accepted.
+    ghost gives = { λ old given new. MatchOption given
+        (L.history new.door ≡ L.history old.door)
+        (λ halves. (new.left + 1 ≡ old.left)
+        × (L.In.given halves.0.end.stream ≡ record { bytes = []; ended = false })
+        × (L.Out.taken halves.1.end.stream ≡ [])
+        × (L.history new.door ≡ L.history old.door ++ made ∷ [])) };
 
-    // The connection isn't kept, and as many are left as before.
-    ghost takes_back = { λ old halves new. (new.socket ≡ None) × (new.left ≡ old.left) };
+    // It was given back, with all that was read and written over it, and as many are left as before.
+    ghost takes_back = { λ old halves new. (new.left ≡ old.left)
+        × (L.history new.door ≡ L.history old.door
+        ++ given_back (L.In.given halves.0.end.stream) (L.Out.taken halves.1.end.stream) ∷ []) };
 
     /// Waits for the next connection. None if as many as were asked for are served, or if one couldn't be taken,
     /// which is told on standard error.
-    fn next_conn(&mut self) -> Option<(Reader<'a, R>, Writer<'a, R>)> {
+    fn next_conn(&mut self) -> Option<(Reader<'a, L, R>, Writer<'a, L, R>)> {
         let left = self.left.checked_sub(1)?;
         let accepted = self.accept();
         self.left = left;
@@ -172,18 +201,10 @@ impl<'a, R: Clock + Eprint + Wait + Sync> Conns for Accepted<'a, R> {
         }
     }
 
-    /// Closes the connection that was served.
-    fn take_back(&mut self, source: Reader<'a, R>, sink: Writer<'a, R>) {
-        drop(source);
-        drop(sink);
-        let Some(mut shared) = self.socket.take() else {
-            return;
-        };
-        if let Some(socket) = Arc::get_mut(&mut shared)
-            && let Some(stream) = socket.stream.take()
-        {
-            self.closing.close(self.rt, stream);
-        }
-        self.spare = Some(shared);
+    /// Gives back the connection that was served.
+    fn take_back(&mut self, source: Reader<'a, L, R>, sink: Writer<'a, L, R>) {
+        let source = source.into_end().into_stream();
+        let sink = sink.into_end().into_stream();
+        self.door.take_back(source, sink);
     }
 }

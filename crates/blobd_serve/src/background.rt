@@ -46,9 +46,12 @@ impl<J: Job + Drop + 'static> Background<J> {
         Some(Background { jobs, end })
     }
 
-    /// Waits until the jobs are done, once there is no other sender any more; but not for ever.
-    pub(crate) fn finish<R: Wait + Clock>(self, rt: &R) {
-        let Background { jobs, end } = self;
+    /// Waits until the jobs are done, once there is no other sender any more; but not for ever. Without such a thread
+    /// there is nothing to wait for.
+    pub(crate) fn finish<R: Wait + Clock>(background: Option<Background<J>>, rt: &R) {
+        let Some(Background { jobs, end }) = background else {
+            return;
+        };
         drop(jobs);
         let _ = end.recv_timeout(rt, Duration::from_secs(J::PATIENCE_SECONDS));
     }

@@ -1,16 +1,15 @@
 //! How slow a client may be, and the two halves of a connection that is served. A client that is too slow is cut, and
 //! a signal cuts none.
-ghost use Rattle.std.specs.Prelude.{◌≢◌, IfOk, IfErr, ◌≡◌, ◌-◌, true, false};
-ghost use Rattle.std.specs.Io.{ReadsAtMost, WritesAtMost};
+ghost use Rattle.std.specs.Prelude.{◌≡◌, ◌≢◌, ◌≤◌, ◌-◌, IfErr, IfOk, IsErr, length, true, false};
 ghost use Rattle.std.specs.IoError.{error_kind};
-ghost use Rattle.http_wire.specs.Halves.{AreUnused};
+ghost use Rattle.blobd_shared.specs.Connections.{ReadGives, WriteTakes};
 ghost use Rattle.blobd_serve.specs.Pace.{pace_after, window_of};
 
-use http_wire::{FromRead, ToWrite};
+use crate::accepts::Timed;
+use blobd_shared::{Inlet, Outlet};
 use std::alloc::{AllocError, Global};
 use std::io;
-use std::io::{ErrorKind, Read, Write};
-use std::net::TcpStream;
+use std::io::ErrorKind;
 use std::rt::Clock;
 use std::sync::Arc;
 use std::sync::atomic::{AtomicBool, Ordering};
@@ -96,12 +95,6 @@ impl Pace {
     }
 }
 
-/// What requests are read from.
-pub(crate) type Reader<'a, R> = FromRead<Half<'a, R>>;
-
-/// What replies are written to.
-pub(crate) type Writer<'a, R> = ToWrite<Half<'a, R>>;
-
 /// How many microseconds a second has.
 const SECOND: u64 = 1_000_000;
 
@@ -109,51 +102,41 @@ const SECOND: u64 = 1_000_000;
 /// that waits for much room, and the next write takes them.
 const LONGEST_CALL: u64 = 15;
 
-/// The connection of a worker, if it has one. Its two halves share it, so it has one descriptor; and it is made once for
-/// all connections of a worker, one behind the other, so that none of them takes memory.
+/// Whether a connection was written to since it was read from: what is read next belongs to another request. Its two
+/// halves share it, and all connections of a worker have the same, so that none of them takes memory.
 #[derive(Drop)]
-pub(crate) struct Socket {
-    pub(crate) stream: Option<TcpStream>,
-    /// Whether it was written to since it was read from: what is read next belongs to another request.
-    is_answered: AtomicBool,
-}
+pub(crate) struct Turn(Arc<AtomicBool, Global>);
 
-impl Socket {
-    pub(crate) fn none() -> Socket {
-        Socket {
-            stream: None,
-            is_answered: AtomicBool::new(false),
-        }
+impl Turn {
+    pub(crate) fn new(alloc: Global) -> Result<Turn, AllocError> {
+        Ok(Turn(Arc::new(alloc, AtomicBool::new(false))?))
     }
 
-    /// A connection of which nothing was read yet. What is written leaves as it is written: a head and a small body are
-    /// one write.
-    pub(crate) fn of(stream: TcpStream) -> Socket {
-        // A peer that has gone already can make this fail; the reads and writes will tell.
-        let _ = stream.set_nodelay(true);
-        Socket {
-            stream: Some(stream),
-            is_answered: AtomicBool::new(false),
-        }
+    /// The same for another half. An error comes if too many share it.
+    pub(crate) fn share(&self) -> Result<Turn, AllocError> {
+        Ok(Turn(Arc::try_clone(&self.0)?))
+    }
+
+    /// A connection begins with a request.
+    pub(crate) fn begin(&self) {
+        self.0.store(false, Ordering::SeqCst);
+    }
+
+    /// Something is read now. Says whether it belongs to another request than what was read before.
+    fn read(&self) -> bool {
+        self.0.swap(false, Ordering::SeqCst)
+    }
+
+    /// Something is written now. Says whether a reply begins.
+    fn write(&self) -> bool {
+        !self.0.swap(true, Ordering::SeqCst)
     }
 }
 
-/// Such a connection, of which each half and the worker have a share.
-pub(crate) type SharedSocket = Arc<Socket, Global>;
-
-/// What a half answers once its client was too slow.
-fn too_slow() -> io::Error
-    ensures { error_kind result ≢ ErrorKind.Interrupted }
-{
-    io::Error::from(ErrorKind::TimedOut)
-}
-
-/// One half of a connection, which is only read from or only written to. With the first bytes of a request, and with
-/// the first write of a reply, a window of time begins; before a request there is one to wait for its first bytes.
+/// What is too slow for a client, and how far it has come.
 #[derive(Drop)]
-pub(crate) struct Half<'a, R> {
+struct Watch<'a, R> {
     rt: &'a R,
-    socket: SharedSocket,
     demand: Demand,
     /// None once the client was too slow.
     pace: Option<Pace>,
@@ -161,18 +144,7 @@ pub(crate) struct Half<'a, R> {
     allowed: u64,
 }
 
-impl<'a, R: Clock> Half<'a, R> {
-    /// A half of a connection, of which nothing was read or written yet. An error comes if too many share it.
-    fn new(rt: &'a R, socket: &SharedSocket, demand: Demand) -> Result<Half<'a, R>, AllocError> {
-        Ok(Half {
-            rt,
-            socket: Arc::try_clone(socket)?,
-            demand,
-            pace: Some(Pace::awaited()),
-            allowed: 0,
-        })
-    }
-
+impl<'a, R: Clock> Watch<'a, R> {
     /// How long the next call may wait, if that isn't what the system was told last: whole seconds, so that it is told
     /// rarely.
     fn limit(&mut self, pace: Pace) -> Option<Duration> {
@@ -188,20 +160,18 @@ impl<'a, R: Clock> Half<'a, R> {
     }
 
     /// Tells the system how long a read may wait, if it doesn't know.
-    fn allow_read(&mut self, pace: Pace) -> io::Result<()> {
-        let limit = self.limit(pace);
-        match (&self.socket.stream, limit) {
-            (Some(stream), Some(limit)) => stream.set_read_timeout(Some(limit)),
-            _ => Ok(()),
+    fn allow_read<S: Timed>(&mut self, stream: &S, pace: Pace) -> io::Result<()> {
+        match self.limit(pace) {
+            Some(limit) => stream.limit_reads(limit),
+            None => Ok(()),
         }
     }
 
     /// Tells the system how long a write may wait, if it doesn't know.
-    fn allow_write(&mut self, pace: Pace) -> io::Result<()> {
-        let limit = self.limit(pace);
-        match (&self.socket.stream, limit) {
-            (Some(stream), Some(limit)) => stream.set_write_timeout(Some(limit)),
-            _ => Ok(()),
+    fn allow_write<S: Timed>(&mut self, stream: &S, pace: Pace) -> io::Result<()> {
+        match self.limit(pace) {
+            Some(limit) => stream.limit_writes(limit),
+            None => Ok(()),
         }
     }
 
@@ -241,7 +211,8 @@ impl<'a, R: Clock> Half<'a, R> {
     /// Counts a call that began then and came to this. Says whether it is made again: a signal interrupted it, or it
     /// waited for as long as it was allowed.
     fn goes_on(&mut self, pace: Pace, begun: Option<Instant>, came_to: &io::Result<usize>) -> bool
-        ensures { result ≡ false
+        ensures again { result ≡ true → IsErr came_to.now }
+        ensures ended { result ≡ false
             → IfErr came_to.now (λ error. error_kind error ≢ ErrorKind.Interrupted) }
     {
         match came_to {
@@ -259,89 +230,127 @@ impl<'a, R: Clock> Half<'a, R> {
             },
         }
     }
+}
 
-    /// Reads, and again for as long as the client may take its time. An error: the client is too slow, or the system's.
-    fn read_in_time(&mut self, buf: &mut [u8]) -> io::Result<usize>
-        ensures bound { ReadsAtMost result buf.new }
-        ensures resumed { IfErr result (λ error. error_kind error ≢ ErrorKind.Interrupted) }
+/// What a half answers once its client was too slow.
+fn too_slow() -> io::Error
+    ensures { error_kind result ≢ ErrorKind.Interrupted }
+{
+    io::Error::from(ErrorKind::TimedOut)
+}
+
+/// One half of a connection, which is only read from or only written to. With the first bytes of a request, and with
+/// the first write of a reply, a window of time begins; before a request there is one to wait for its first bytes. What
+/// moves over it is what its stream moves.
+#[derive(Drop)]
+pub(crate) struct Half<'a, S, R> {
+    stream: S,
+    turn: Turn,
+    watch: Watch<'a, R>,
+}
+
+impl<'a, S, R> Half<'a, S, R> {
+    /// The half over this end of a connection, of which nothing was read or written yet.
+    pub(crate) fn new(rt: &'a R, stream: S, turn: Turn, demand: Demand) -> Half<'a, S, R>
+        ensures { result.stream ≡ stream }
     {
-        if self.socket.is_answered.swap(false, Ordering::SeqCst) {
-            self.pace = Some(Pace::awaited());
+        Half {
+            stream,
+            turn,
+            watch: Watch {
+                rt,
+                demand,
+                pace: Some(Pace::awaited()),
+                allowed: 0,
+            },
         }
-        for _ in 0..u64::MAX {
-            let Some(pace) = self.pace else {
-                break;
-            };
-            if self.allow_read(pace).is_err() {
-                break;
-            }
-            let begun = self.now();
-            let Some(mut stream) = self.socket.stream.as_ref() else {
-                break;
-            };
-            let read = stream.read(buf);
-            if !self.goes_on(pace, begun, &read) {
-                return read;
-            }
-        }
-        Err(too_slow())
     }
 
-    /// Writes, and again for as long as the client may take its time. An error: the client is too slow, or the
-    /// system's.
-    fn write_in_time(&mut self, buf: &[u8]) -> io::Result<usize>
-        ensures bound { WritesAtMost result buf.now }
-        ensures resumed { IfErr result (λ error. error_kind error ≢ ErrorKind.Interrupted) }
+    /// The stream, with what moved over it.
+    pub(crate) fn into_stream(self) -> S
+        ensures { result ≡ self.entry.stream }
     {
-        if !self.socket.is_answered.swap(true, Ordering::SeqCst) {
-            self.pace = Some(Pace::begun());
-        }
-        for _ in 0..u64::MAX {
-            let Some(pace) = self.pace else {
-                break;
-            };
-            if self.allow_write(pace).is_err() {
-                break;
-            }
-            let begun = self.now();
-            let Some(mut stream) = self.socket.stream.as_ref() else {
-                break;
-            };
-            let wrote = stream.write(buf);
-            if !self.goes_on(pace, begun, &wrote) {
-                return wrote;
-            }
-        }
-        Err(too_slow())
+        let Half { stream, .. } = self;
+        stream
     }
 }
 
-impl<'a, R: Clock> Read for Half<'a, R> {
+/// Reads, and again for as long as the client may take its time. What it gives is what the stream gave. An error: the
+/// client is too slow, or the system's.
+fn read_in_time<S: Inlet + Timed, R: Clock>(
+    stream: &mut S,
+    watch: &mut Watch<'_, R>,
+    buf: &mut [u8],
+) -> io::Result<usize>
+    ensures bound { IfOk result (λ n. n ≤ length buf.new) }
+    ensures told { ReadGives (S.given stream.old) (S.given stream.new) result buf.new }
+    ensures resumed { IfErr result (λ error. error_kind error ≢ ErrorKind.Interrupted) }
+{
+    for _ in 0..u64::MAX {
+        let Some(pace) = watch.pace else {
+            break;
+        };
+        if watch.allow_read(stream, pace).is_err() {
+            break;
+        }
+        let begun = watch.now();
+        let read = stream.read(buf);
+        if !watch.goes_on(pace, begun, &read) {
+            return read;
+        }
+    }
+    Err(too_slow())
+}
+
+/// Writes, and again for as long as the client may take its time. What it takes is what the stream took. An error: the
+/// client is too slow, or the system's.
+fn write_in_time<S: Outlet + Timed, R: Clock>(
+    stream: &mut S,
+    watch: &mut Watch<'_, R>,
+    buf: &[u8],
+) -> io::Result<usize>
+    ensures bound { IfOk result (λ n. n ≤ length buf.now) }
+    ensures told { WriteTakes (S.taken stream.old) (S.taken stream.new) result buf.now }
+    ensures resumed { IfErr result (λ error. error_kind error ≢ ErrorKind.Interrupted) }
+{
+    for _ in 0..u64::MAX {
+        let Some(pace) = watch.pace else {
+            break;
+        };
+        if watch.allow_write(stream, pace).is_err() {
+            break;
+        }
+        let begun = watch.now();
+        let wrote = stream.write(buf);
+        if !watch.goes_on(pace, begun, &wrote) {
+            return wrote;
+        }
+    }
+    Err(too_slow())
+}
+
+impl<'a, S: Inlet + Timed, R: Clock> Inlet for Half<'a, S, R> {
+    ghost given = { λ h. S.given h.stream };
+
     fn read(&mut self, buf: &mut [u8]) -> io::Result<usize> {
-        self.read_in_time(buf)
+        if self.turn.read() {
+            self.watch.pace = Some(Pace::awaited());
+        }
+        read_in_time(&mut self.stream, &mut self.watch, buf)
     }
 }
 
-impl<'a, R: Clock> Write for Half<'a, R> {
+impl<'a, S: Outlet + Timed, R: Clock> Outlet for Half<'a, S, R> {
+    ghost taken = { λ h. S.taken h.stream };
+
     fn write(&mut self, buf: &[u8]) -> io::Result<usize> {
-        self.write_in_time(buf)
+        if self.turn.write() {
+            self.watch.pace = Some(Pace::begun());
+        }
+        write_in_time(&mut self.stream, &mut self.watch, buf)
     }
 
     fn flush(&mut self) -> io::Result<()> {
-        // A socket has nothing to flush.
-        Ok(())
+        self.stream.flush()
     }
-}
-
-/// The two halves of a connection of which nothing was read yet. An error comes if too many share it.
-pub(crate) fn halves<'a, R: Clock>(
-    rt: &'a R,
-    socket: &SharedSocket,
-    demand: Demand,
-) -> Result<(Reader<'a, R>, Writer<'a, R>), AllocError>
-    ensures { IfOk result (λ halves. AreUnused halves.0 halves.1) }
-{
-    let reader = Half::new(rt, socket, demand)?;
-    let writer = Half::new(rt, socket, demand)?;
-    Ok((FromRead::new(reader), ToWrite::new(writer)))
 }

@@ -1,7 +1,12 @@
-//! What a server and a push share, since neither stands on the other: how a line is printed, and which exit status goes
-//! with it.
+//! What a server and a push share, since neither stands on the other: the ends of a connection with what moved over
+//! them (`connections`), also as a source or a sink of bytes (`counted`); how a line is printed, and which exit status
+//! goes with it (`status`).
 #![tactic(auto)]
 
+mod connections;
+mod counted;
 mod status;
 
+pub use connections::{ConnHistory, Inlet, Outlet};
+pub use counted::Counted;
 pub use status::{DONE, FAULT, REFUSED, print_line};

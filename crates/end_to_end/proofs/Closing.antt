@@ -63,7 +63,7 @@ closed_by p (e ∷ log) front sound ends last =
 
 -- ---- its answer
 
-status_told : (answer : Answer) (h : Heard) (status : ℕ) → IsHeardOf answer (Some h) → h.status ≡ status
+pub status_told : (answer : Answer) (h : Heard) (status : ℕ) → IsHeardOf answer (Some h) → h.status ≡ status
     → (reply_heard answer).status ≡ status
 status_told answer h status reaches is =
     elim reaches [

@@ -10,7 +10,7 @@ use Rattle.upload_push.specs.Dialed.{AsksDialed, Connects, kept_or}
 use Rattle.upload_push.specs.Slices.{Attempt, Leads}
 use Rattle.upload_push.proofs.Turns.{same_inside}
 use Rattle.wire_laws.specs.Joined.{TransportCall, AsksInTurn, IsNoGet}
-use Rattle.wire_laws.specs.WrittenExchanges.{MayBeAsked}
+use Rattle.wire_laws.specs.WrittenExchanges.{IsShortHost, IsWritable}
 use Rattle.end_to_end.specs.Network.{Connection, IsAskOf}
 use Rattle.end_to_end.specs.Dialing.{Leg, over, unmet, asked_in, asked_by, IsLegTo, DialedPushesHaveConnections}
 use Rattle.end_to_end.specs.Dialing.{DialedConnectionsAreCarried}
@@ -214,17 +214,18 @@ have_connections host earlier log kept last first leads =
 
 -- ---- connections that a network carried
 
-no_get_of : (log : List Attempt) (ask : Ask) → AllByRecursion (λ (e : Attempt). IsNoGet e.ask) log
-    → IsAskOf log ask → IsNoGet ask
-no_get_of log ask all is =
-    subst IsNoGet is.same
-    (all_second (λ (e : Attempt). IsNoGet e.ask) is.later (is.at ∷ is.earlier)
-    (subst (AllByRecursion (λ (e : Attempt). IsNoGet e.ask)) is.split all)).0
+of_log : (P : Ask → Type 0) (log : List Attempt) (ask : Ask) → AllByRecursion (λ (e : Attempt). P e.ask) log
+    → IsAskOf log ask → P ask
+of_log P log ask all is =
+    subst P is.same
+    (all_second (λ (e : Attempt). P e.ask) is.later (is.at ∷ is.earlier)
+    (subst (AllByRecursion (λ (e : Attempt). P e.ask)) is.split all)).0
 
 pub are_carried : {L : Lending} {S G O : Type 0} (m : Means L S G O) → DialedConnectionsAreCarried m
-are_carried m max_body host earlier log c made none t carries may = record {
+are_carried m max_body host earlier log c made none writable short t carries = record {
   carries = carries;
-  may = subst (λ h. AllByRecursion (λ x. MayBeAsked max_body x.ask h) (c.before ++ c.asks)) (sym made.host_is) may;
+  to_host = subst IsShortHost (sym made.host_is) short;
   own = made.own;
-  no_gets = all_weaker (λ x. no_get_of earlier x.ask none) c.before made.before_it;
+  no_gets = all_weaker (λ x. of_log IsNoGet earlier x.ask none) c.before made.before_it;
+  writable = all_weaker (λ x. of_log (IsWritable max_body) earlier x.ask writable) c.before made.before_it;
 }

@@ -1,5 +1,11 @@
+pub mod Asking
 pub mod Closing
 pub mod Dialing
+pub mod Handing
+pub mod Looking
+pub mod OneWorker
 pub mod Placing
+pub mod References
 pub mod Seating
 pub mod Serving
+pub mod Typing

@@ -24,7 +24,8 @@ use Rattle.upload_service.proofs.Keeping.Tables.{one_or_two, same_from_ne}
 use Rattle.upload_wire.proofs.Lists.{all_first, all_second, none_before}
 use Rattle.end_to_end.specs.Marks.{other, heard, unheard, Marked, exchanges_in, asked_and_told, heard_in, heard_by}
 use Rattle.end_to_end.specs.Marks.{Agrees}
-use Rattle.end_to_end.specs.Marks.{IsFair, AreApart, HasSecret}
+use Rattle.end_to_end.specs.Marks.{IsFair, AreApart}
+use Rattle.end_to_end.proofs.Typing.{HasSecret}
 
 -- ---- late requests of the push
 
@@ -157,7 +158,7 @@ split_run start (x ∷ xs) ys end run =
     let more = split_run run.0 xs ys end run.2 in
     record { mid = more.mid; first = (run.0, run.1, more.first); second = more.second }
 
-join_runs : (start : State) (xs ys : List served.Exchange) (mid end : State) → Run start xs mid → Run mid ys end
+pub join_runs : (start : State) (xs ys : List served.Exchange) (mid end : State) → Run start xs mid → Run mid ys end
     → Run start (xs ++ ys) end
 join_runs start [] ys mid end first second = subst (λ s. Run s ys end) first second
 join_runs start (x ∷ xs) ys mid end first second = (first.0, first.1, join_runs first.0 xs ys mid end first.2 second)

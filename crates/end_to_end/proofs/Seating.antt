@@ -1,7 +1,7 @@
 -- What the marks of a seat say of its steps.
 use Rattle.std.proofs.Common.{◌≡◌, ℕ, ◌<◌, ◌⊎◌, Bool, true, false, List, [], ◌∷◌, ◌++◌, length, map, filter, refl, sym}
 use Rattle.std.proofs.Common.{ap, subst, ◌∙◌, append-nil, append_assoc, inl, inr, Option, Some, None, cond}
-use Rattle.std.specs.Prelude.{⊤, ◌==◌}
+use Rattle.std.specs.Prelude.{⊤, ◌==◌, ◌^◌}
 use Rattle.std.specs.List.{AllByRecursion, flat_map}
 use Rattle.std.proofs.Common.{⊎_elim}
 use Rattle.std.proofs.lemmas.Bool.{eq-eqb}
@@ -25,12 +25,12 @@ use Rattle.upload_intake.specs.Pools.Working.{Lending, Means, Talk, Serves, IsLa
 use Rattle.upload_intake.specs.Pools.Working.{connection_given, connection_left, all_answered, all_unanswered}
 use Rattle.upload_intake.proofs.Working.{behind}
 use Rattle.upload_push.specs.Runs.{IsHeardOf}
-use Rattle.upload_push.specs.Slices.{Push, IsSound, IsSoundAsk}
+use Rattle.upload_push.specs.Slices.{Push, IsLawfulPush, IsSound, IsSoundAsk}
 use Rattle.upload_push.specs.Slices as push
 use Rattle.upload_push.proofs.Requests.{by_sound}
 use Rattle.wire_laws.specs.Joined.{TransportCall, IsAudible, IsNoGet, IsOneOf, AnswerSays, AreUnanswered, AreJoined}
 use Rattle.wire_laws.specs.WrittenAsks.{HasLawfulParts, written_style}
-use Rattle.wire_laws.specs.WrittenExchanges.{HasSize, MayBeAsked}
+use Rattle.wire_laws.specs.WrittenExchanges.{HasSize, IsWritable, MayBeAsked}
 use Rattle.wire_laws.specs.WrittenReplies.{FitsMethod}
 use Rattle.upload_wire.proofs.Lists.{all_weaker, all_both, all_first, all_second}
 use Rattle.wire_laws.proofs.ShortAnswers.{short_answers}
@@ -38,7 +38,8 @@ use Rattle.wire_laws.proofs.WrittenExchanges.{answers_heard}
 use Rattle.wire_laws.proofs.JoinedEnds.{connections_joined}
 use Rattle.end_to_end.specs.Marks.{Mark, other, heard, unheard, mark_of, Marked, steps_in, Agrees, IsOwn}
 use Rattle.end_to_end.specs.Network.{marks_asked, unanswered_marks, marks_on, IsAskOf, at_seat, Whose, IsWhose}
-use Rattle.end_to_end.specs.Network.{marks_of}
+use Rattle.end_to_end.specs.Network.{Connection, IsCarried, IsFor, marks_of}
+use Rattle.end_to_end.proofs.Asking.{all_may_be_asked, sound_writable}
 
 -- ---- requests and marks, place by place
 
@@ -85,10 +86,10 @@ answered_fits ask answer asked None is says = is
 answered_fits ask answer asked (Some what) is says = (is, says)
 
 -- the mark of an ask, or that of no request of the push
-abbrev MarksOne : TransportCall → Mark → Type 0
+abbrev pub MarksOne : TransportCall → Mark → Type 0
 MarksOne x k = (k ≡ other) ⊎ (k ≡ mark_of x.ask x.heard)
 
-abbrev MarksAll : List TransportCall → List Mark → Type 0
+abbrev pub MarksAll : List TransportCall → List Mark → Type 0
 MarksAll [] [] = ⊤
 MarksAll (x ∷ xs) (k ∷ ks) = MarksOne x k × MarksAll xs ks
 MarksAll [] (k ∷ ks) = ⊥
@@ -98,7 +99,7 @@ own_marked : (asks : List TransportCall) → MarksAll asks (map (λ (x : Transpo
 own_marked [] = tt
 own_marked (x ∷ asks) = (inr refl, own_marked asks)
 
-all_marked : (before asks : List TransportCall)
+pub all_marked : (before asks : List TransportCall)
     → MarksAll (before ++ asks)
     (map (λ (x : TransportCall). other) before ++ map (λ (x : TransportCall). mark_of x.ask x.heard) asks)
 all_marked [] asks = own_marked asks
@@ -235,7 +236,7 @@ known_of max host (x ∷ xs) ask may none (inr one) = known_of max host xs ask m
 abbrev pub AreAnswered : List WireExchange → Type 0
 AreAnswered ys = AllByRecursion (λ (y : WireExchange). IsAnswered y.ask y.answer) ys
 
-all_audible : (max : ℕ) (host : List ℕ) (xs : List TransportCall) (ys : List WireExchange)
+pub all_audible : (max : ℕ) (host : List ℕ) (xs : List TransportCall) (ys : List WireExchange)
     → AllByRecursion (λ x. MayBeAsked max x.ask host) xs → AllByRecursion (λ x. IsNoGet x.ask) xs → AreAnswered ys
     → AllByRecursion (λ y. IsOneOf xs y.ask → y.style ≡ written_style y.ask → IsAudible y) ys
 all_audible max host xs [] may none is = tt
@@ -304,24 +305,42 @@ module _ {L : Lending} {S G O : Type 0} (m : Means L S G O) (max : ℕ) where
         (behind t.end (IsLast m max s.1 t ts left new) (Serves m max s.1 t.new ts left new) s.5),
   )
 
-  module _ (p : Push) (log : List push.Attempt) (sound : IsSound p log) where
-    one_fits : (w : Whose m max log) → IsWhose m max log w → IsUnused w.0 → AreAnswered (answered_on m max w.0)
-        → AllFit (items_on w.0) (marks_of m max log w)
-    one_fits (t, None) is new answered = others_fit (answered_on m max t) (unanswered_on m max t)
-    one_fits (t, Some c) is new answered =
+  module _ (p : Push) (lawful : IsLawfulPush p) (is_for : IsFor max p) (small : max < 2 ^ 64) (log : List push.Attempt)
+      (sound : IsSound p log) where
+    -- each request on a connection of the push may be asked
+    may : (t : Talk m max) (c : Connection) → IsCarried m max log t c
+        → AllByRecursion (λ x. MayBeAsked max x.ask c.made.host) (c.before ++ c.asks)
+    may t c is =
+        all_may_be_asked max small c.made.host is.to_host (c.before ++ c.asks)
+        (all_both (λ x. IsWritable max x.ask) c.before c.asks is.writable
+        (all_weaker (λ x own. sound_writable max p lawful is_for own.0 x.ask own.1) c.asks
+        (own_asks p log c.asks sound is.own)))
+
+    -- what was asked and heard over a connection of the push, and what the worker read and answered on it
+    pub joined_on : (t : Talk m max) (c : Connection) → IsCarried m max log t c → IsUnused t
+        → AreAnswered (answered_on m max t)
+        → AreJoined (c.before ++ c.asks) (answered_on m max t) (unanswered_on m max t)
+    joined_on t c is new answered =
         let all : List TransportCall = c.before ++ c.asks in
+        let may_be = may t c is in
         let none : AllByRecursion (λ x. IsNoGet x.ask) all =
         all_both (λ x. IsNoGet x.ask) c.before c.asks is.no_gets
         (all_weaker (λ x own. sound_no_get p own.0 x.ask own.1) c.asks (own_asks p log c.asks sound is.own)) in
-        joined_fit all (marks_asked c) (answered_on m max t) (unanswered_on m max t) (all_marked c.before c.asks)
-        (connections_joined (steps m max) max (connection_given m max t) (connection_left m max t) t.end t.conversation
+        connections_joined (steps m max) max (connection_given m max t) (connection_left m max t) t.end t.conversation
         all
         (record {
           given = new.0;
           taken = new.1;
-          audible = all_audible max c.made.host all (answered_on m max t) is.may none answered;
+          audible = all_audible max c.made.host all (answered_on m max t) may_be none answered;
         })
-        c.made c.left c.is_new c.turn is.may is.carries)
+        c.made c.left c.is_new c.turn may_be is.carries
+
+    one_fits : (w : Whose m max log) → IsWhose m max log w → IsUnused w.0 → AreAnswered (answered_on m max w.0)
+        → AllFit (items_on w.0) (marks_of m max log w)
+    one_fits (t, None) is new answered = others_fit (answered_on m max t) (unanswered_on m max t)
+    one_fits (t, Some c) is new answered =
+        joined_fit (c.before ++ c.asks) (marks_asked c) (answered_on m max t) (unanswered_on m max t)
+        (all_marked c.before c.asks) (joined_on t c is new answered)
 
     one_owns : (w : Whose m max log) → IsWhose m max log w → AllByRecursion (IsOwnMark p) (marks_of m max log w)
     one_owns (t, None) is = own_marks p [] (answered_on m max t) (unanswered_on m max t) tt

@@ -1,7 +1,7 @@
 -- A push whose steps are marked in the run of a pool left its file there.
 use Rattle.std.proofs.Common.{◌≡◌, ℕ, ◌<◌, Bool, true, false, List, [], ◌∷◌, ◌++◌, length, map, refl, sym, ap, subst}
-use Rattle.std.proofs.Common.{◌∙◌, append_assoc, arith, inl, inr, Option, Some, None}
-use Rattle.std.specs.Prelude.{◌==◌, IsTrue, get_or, ◌||◌, Ok}
+use Rattle.std.proofs.Common.{◌∙◌, append_assoc, arith, inl, inr, ◌⊎◌, Option, Some, None}
+use Rattle.std.specs.Prelude.{◌==◌, ◌^◌, IsTrue, get_or, ◌||◌, Ok}
 use Rattle.std.specs.List.{AllByRecursion, flat_map}
 use Rattle.std.proofs.lemmas.List.{map-append}
 use Rattle.std.specs.FinSet as set
@@ -14,6 +14,9 @@ use Rattle.upload_service.specs.Session.{received}
 use Rattle.upload_service.proofs.Keeping.Tables.{contains-insert}
 use Rattle.upload_intake.specs.Log.{Step, exchanges_of}
 use Rattle.upload_intake.specs.Pools.ServedPool.{Given, Left, HasPart, IsServedPool, asked_and_answered, of_seat}
+use Rattle.upload_intake.specs.Pools.ServedPool.{asks, read_and_replied}
+use Rattle.upload_service.specs.declared.ask.Ask.{Ask}
+use Rattle.upload_wire.specs.Conversation.{WireExchange}
 use Rattle.upload_intake.specs.Pools.Working.{Lending, Means, Lent, all_answered, all_unanswered}
 use Rattle.upload_intake.specs.declared.work.WorkerEnd.{WorkerEnd}
 use Rattle.upload_client.specs.declared.heard.Heard.{Heard}
@@ -30,12 +33,15 @@ use Rattle.upload_push.proofs.Worth.{Laws, worth_in_run}
 use Rattle.wire_laws.specs.WrittenExchanges.{HasSize}
 use Rattle.upload_wire.proofs.Lists.{all_first, all_mapped, all_second, all_weaker}
 use Rattle.end_to_end.specs.Marks.{other, heard, unheard, Marked, steps_in, exchanges_in, Agrees, IsFair}
-use Rattle.end_to_end.specs.Network.{marks_of, IsAccount, IsFoundThere, IsLeftThere, PushesAreServed, at_seat}
+use Rattle.end_to_end.specs.Network.{marks_of, IsAccount, IsFor, IsFoundThere, IsInOrder, IsLeftThere, IsMarkedBy}
+use Rattle.end_to_end.specs.Network.{PushesAreServed, Whose, at_seat}
+use Rattle.end_to_end.proofs.Asking.{body_small}
 use Rattle.end_to_end.proofs.Placing.{Placed, placed}
 use Rattle.end_to_end.proofs.Closing.{IsClosedBy, closed_by, never_fall_front, whole_upload}
 use Rattle.end_to_end.proofs.Seating.{IsUnused, all_unused, IsAnswered, AreAnswered, IsOwnMark, all_kept}
 use Rattle.end_to_end.proofs.Seating.{steps_answered, items_on, items_are, all_fit, all_own, seat_agrees}
 use Rattle.end_to_end.proofs.Seating.{steps_at, by_seats, marks_in, items, AllFit}
+use Rattle.end_to_end.proofs.Typing.{secrets_of, sizes_of}
 
 -- ---- what is stored stays
 
@@ -59,7 +65,7 @@ held_by_turn s x t name digest turn held =
       | inr c ↦ subst (λ (v : State). IsTrue (holds v name digest)) (sym c.2) held
     ]) turn
 
-held_by_run : (s : State) (xs : List served.Exchange) (t : State) (name : List ℕ) (digest : Digest) → Run s xs t
+pub held_by_run : (s : State) (xs : List served.Exchange) (t : State) (name : List ℕ) (digest : Digest) → Run s xs t
     → IsTrue (holds s name digest) → IsTrue (holds t name digest)
 held_by_run s [] t name digest run held = subst (λ (v : State). IsTrue (holds v name digest)) (sym run) held
 held_by_run s (x ∷ xs) t name digest run held =
@@ -74,19 +80,19 @@ limits_by_turn s x t turn =
       | inr c ↦ ap (λ (v : State). v.limits) c.2
     ]) turn
 
-lawful_by_run : Laws → (s : State) (xs : List served.Exchange) (t : State) → IsLawful s → Run s xs t → IsLawful t
+pub lawful_by_run : Laws → (s : State) (xs : List served.Exchange) (t : State) → IsLawful s → Run s xs t → IsLawful t
 lawful_by_run laws s [] t lawful run = subst IsLawful (sym run) lawful
 lawful_by_run laws s (x ∷ xs) t lawful run =
     lawful_by_run laws run.0 xs t (lawful_turn laws.headline s x.ask x.secret x.now x.answer run.0 lawful run.1) run.2
 
 -- ---- each step answered in a lawful state
 
-steps_lawful : Laws → (s : State) (ms : List Marked) (t : State) → IsLawful s → AreLawful s.limits
-    → Run s (exchanges_in ms) t → AllByRecursion (λ (n : Marked). HasSize n.0.exchange.answer) ms
-    → AllByRecursion (λ (x : Step). IsAnswered x.exchange.ask x.exchange.answer) (steps_in ms)
+pub steps_lawful : Laws → (s : State) (ss : List Step) (t : State) → IsLawful s → AreLawful s.limits
+    → Run s (exchanges_of ss) t → AllByRecursion (λ (x : Step). HasSize x.exchange.answer) ss
+    → AllByRecursion (λ (x : Step). IsAnswered x.exchange.ask x.exchange.answer) ss
 steps_lawful laws s [] t lawful limits run sizes = tt
-steps_lawful laws s (m ∷ ms) t lawful limits run sizes =
-    let x = m.0.exchange in (
+steps_lawful laws s (step ∷ ss) t lawful limits run sizes =
+    let x = step.exchange in (
       record {
         state = s;
         secret = x.secret;
@@ -97,7 +103,7 @@ steps_lawful laws s (m ∷ ms) t lawful limits run sizes =
         turn = run.1;
         sized = sizes.0;
       },
-      steps_lawful laws run.0 ms t (lawful_turn laws.headline s x.ask x.secret x.now x.answer run.0 lawful run.1)
+      steps_lawful laws run.0 ss t (lawful_turn laws.headline s x.ask x.secret x.now x.answer run.0 lawful run.1)
           (subst AreLawful (sym (limits_by_turn s x run.0 run.1)) limits) run.2 sizes.1,
     )
 
@@ -108,26 +114,29 @@ fair p (step, other) own = tt
 fair p (step, heard ask what) own = own
 fair p (step, unheard ask) own = own
 
-exchanges_are : (ms : List Marked) → exchanges_in ms ≡ exchanges_of (steps_in ms)
+pub exchanges_are : (ms : List Marked) → exchanges_in ms ≡ exchanges_of (steps_in ms)
 exchanges_are [] = refl
 exchanges_are (m ∷ ms) = ap (λ l. m.0.exchange ∷ l) (exchanges_are ms)
 
 -- ---- the whole
 
-some_worker : {W : Type 0} (ws : List W) (seat : ℕ) → seat < length ws → W
+pub some_worker : {W : Type 0} (ws : List W) (seat : ℕ) → seat < length ws → W
 some_worker [] seat within = absurd (omega (arith, within))
 some_worker (w ∷ ws) seat within = w
 
-none_yet : WorkerEnd
+pub none_yet : WorkerEnd
 none_yet = record { conns = 0; clean = 0 }
 
 module _ {L : Lending} {S G O M : Type 0} (m : Means L S G O) (tells : M → ℕ → M → Type 0)
     (given : Given M (Lent L S G O)) (left : Left M (Lent L S G O)) (pool : IsServedPool m tells given left)
     (p : Push) (log : List push.Attempt) (sound : IsSound p log) (account : IsAccount m tells given left pool p log)
-    (laws : Laws) (lawful : IsLawful given.service)
-    (limits : AreLawful given.service.limits) where
+    (laws : Laws) (lawful : IsLawful given.service) (limits : AreLawful given.service.limits)
+    (lawful_push : IsLawfulPush p) (is_for : IsFor given.service.limits.max_body p) where
   abbrev max : ℕ
   max = given.service.limits.max_body
+
+  small : max < 2 ^ 64
+  small = body_small given.service.limits limits
 
   run : Run given.service (exchanges_in account.marked) left.service
   run =
@@ -136,12 +145,31 @@ module _ {L : Lending} {S G O M : Type 0} (m : Means L S G O) (tells : M → ℕ
 
   all_answered_steps : AllByRecursion (λ (x : Step). IsAnswered x.exchange.ask x.exchange.answer)
       (steps_in account.marked)
-  all_answered_steps = steps_lawful laws given.service account.marked left.service lawful limits run account.sizes
+  all_answered_steps =
+      subst (AllByRecursion (λ (x : Step). IsAnswered x.exchange.ask x.exchange.answer)) (sym account.all)
+      (steps_lawful laws given.service pool.steps left.service lawful limits pool.served.run
+      (sizes_of pool.steps pool.typed))
 
-  seat_is : (seat : ℕ) → seat < length given.workers
-      → AllByRecursion Agrees (at_seat seat account.marked)
-      × AllByRecursion (λ (n : Marked). IsOwnMark p n.1) (at_seat seat account.marked)
-  seat_is seat within =
+  -- whose the connections of a seat are
+  abbrev pub told_at : (seat : ℕ) (within : seat < length given.workers)
+      → IsMarkedBy m max log (pool.parts seat (some_worker given.workers seat within) none_yet within).worked.talks
+      (at_seat seat account.marked)
+  told_at seat within = account.seats seat (some_worker given.workers seat within) none_yet within
+
+  -- what is known of the marks of a seat
+  pub record SeatFits (seat : ℕ) (within : seat < length given.workers) : Type 0 where
+    pub ys : List WireExchange
+    pub us : List Ask
+    pub lost : List Step
+    pub in_order : map asked_and_answered (steps_in (at_seat seat account.marked))
+        ≡ map read_and_replied ys ++ map asked_and_answered lost
+    pub left_out : (asks lost ≡ []) ⊎ (asks lost ≡ us)
+    pub unused : AllByRecursion (IsUnused m max) (map (λ (w : Whose m max log). w.0) (told_at seat within).whose)
+    pub answered : AreAnswered (all_answered m max (map (λ (w : Whose m max log). w.0) (told_at seat within).whose))
+    pub fit : AllFit (items ys us) (marks_in (at_seat seat account.marked) ++ (told_at seat within).unserved)
+
+  pub seat_fits : (seat : ℕ) (within : seat < length given.workers) → SeatFits seat within
+  seat_fits seat within =
       let worker : Lent L S G O = some_worker given.workers seat within in
       let part : HasPart m max seat pool.steps (record {
         lent = get_or given.workers seat worker;
@@ -149,7 +177,7 @@ module _ {L : Lending} {S G O M : Type 0} (m : Means L S G O) (tells : M → ℕ
         end = get_or left.ends seat none_yet;
       }) =
       pool.parts seat worker none_yet within in
-      let told = account.seats seat worker none_yet within in
+      let told = told_at seat within in
       let ms : List Marked = at_seat seat account.marked in
       let in_order = ap (map asked_and_answered) (ap (of_seat seat) account.all) ∙ part.carried.in_order in
       let answered : AreAnswered (all_answered m max part.worked.talks) =
@@ -158,10 +186,10 @@ module _ {L : Lending} {S G O M : Type 0} (m : Means L S G O) (tells : M → ℕ
       (all_kept (λ (x : Step). IsAnswered x.exchange.ask x.exchange.answer) (λ (x : Step). seat == x.seat)
       (steps_in account.marked) all_answered_steps) in
       let unused = all_unused m max account.unused _ _ _ _ part.worked.talks part.worked.served in
+      let unused_here = subst (AllByRecursion (IsUnused m max)) (sym told.talks_are) unused in
+      let answered_here = subst (λ ts. AreAnswered (all_answered m max ts)) (sym told.talks_are) answered in
       let fit0 =
-      all_fit m max p log sound told.whose told.each
-      (subst (AllByRecursion (IsUnused m max)) (sym told.talks_are) unused)
-      (subst (λ ts. AreAnswered (all_answered m max ts)) (sym told.talks_are) answered) in
+      all_fit m max p lawful_push is_for small log sound told.whose told.each unused_here answered_here in
       let fit1 =
       subst (λ ts. AllFit (flat_map (items_on m max) ts) (flat_map (marks_of m max log) told.whose))
       told.talks_are fit0 in
@@ -172,15 +200,33 @@ module _ {L : Lending} {S G O M : Type 0} (m : Means L S G O) (tells : M → ℕ
       (marks_in ms ++ told.unserved) =
       subst (λ ks. AllFit (items (all_answered m max part.worked.talks) (all_unanswered m max part.worked.talks)) ks)
       told.marks fit2 in
-      let own0 = subst (AllByRecursion (IsOwnMark p)) told.marks (all_own m max p log sound told.whose told.each) in
-      let marked_order = ap (map asked_and_answered) (steps_at seat account.marked) ∙ in_order in (
-        seat_agrees ms (all_answered m max part.worked.talks) (all_unanswered m max part.worked.talks)
-            part.carried.unheard told.unserved marked_order part.carried.lost fit,
+      record {
+        ys = all_answered m max part.worked.talks;
+        us = all_unanswered m max part.worked.talks;
+        lost = part.carried.unheard;
+        in_order = ap (map asked_and_answered) (steps_at seat account.marked) ∙ in_order;
+        left_out = part.carried.lost;
+        unused = unused_here;
+        answered = answered_here;
+        fit = fit;
+      }
+
+  seat_is : (seat : ℕ) → seat < length given.workers
+      → AllByRecursion Agrees (at_seat seat account.marked)
+      × AllByRecursion (λ (n : Marked). IsOwnMark p n.1) (at_seat seat account.marked)
+  seat_is seat within =
+      let f = seat_fits seat within in
+      let told = told_at seat within in
+      let ms : List Marked = at_seat seat account.marked in
+      let own0 =
+      subst (AllByRecursion (IsOwnMark p)) told.marks
+      (all_own m max p lawful_push is_for small log sound told.whose told.each) in (
+        seat_agrees ms f.ys f.us f.lost told.unserved f.in_order f.left_out f.fit,
         all_mapped (IsOwnMark p) (λ (n : Marked). n.1) ms
             (all_first (IsOwnMark p) (marks_in ms) told.unserved own0),
       )
 
-  seated : AllByRecursion (λ (n : Marked). n.0.seat < length given.workers) account.marked
+  pub seated : AllByRecursion (λ (n : Marked). n.0.seat < length given.workers) account.marked
   seated =
       all_mapped (λ (s : Step). s.seat < length given.workers) (λ (n : Marked). n.0) account.marked
       (subst (AllByRecursion (λ (s : Step). s.seat < length given.workers)) (sym account.all) pool.seated)
@@ -193,18 +239,23 @@ module _ {L : Lending} {S G O M : Type 0} (m : Means L S G O) (tells : M → ℕ
       by_seats (λ (n : Marked). IsOwnMark p n.1) (length given.workers) account.marked seated
       (λ seat within. (seat_is seat within).1)
 
-  pub in_place : Placed p given.service log account.marked left.service
-  in_place =
-      placed p given.service log account.marked left.service run account.order agree
-      (all_weaker (fair p) account.marked own) account.apart account.secrets
+  pub in_place : IsInOrder m tells given left pool p log account
+      → Placed p given.service log account.marked left.service
+  in_place order =
+      placed p given.service log account.marked left.service run order agree
+      (all_weaker (fair p) account.marked own) account.apart
+      (secrets_of pool.steps pool.typed account.marked account.all)
 
 module _ {L : Lending} {S G O M : Type 0} (m : Means L S G O) (tells : M → ℕ → M → Type 0) (laws : Laws)
     (given : Given M (Lent L S G O)) (left : Left M (Lent L S G O)) (pool : IsServedPool m tells given left)
     (p : Push) (told : List (Option Heard)) (lawful : IsLawful given.service) (limits : AreLawful given.service.limits)
-    (lawful_push : IsLawfulPush p)
-    (account : IsAccount m tells given left pool p (log_of p told)) where
+    (lawful_push : IsLawfulPush p) (is_for : IsFor given.service.limits.max_body p)
+    (account : IsAccount m tells given left pool p (log_of p told))
+    (order : IsInOrder m tells given left pool p (log_of p told) account) where
   at : Placed p given.service (log_of p told) account.marked left.service
-  at = in_place m tells given left pool p (log_of p told) (all_sound p told lawful_push) account laws lawful limits
+  at =
+      in_place m tells given left pool p (log_of p told) (all_sound p told lawful_push) account laws lawful limits
+      lawful_push is_for order
 
   first : Run given.service (exchanges_of (steps_in at.front)) at.mid
   first = subst (λ xs. Run given.service xs at.mid) (exchanges_are at.front) at.first
@@ -225,7 +276,8 @@ module _ {L : Lending} {S G O M : Type 0} (m : Means L S G O) (tells : M → ℕ
   agrees_front : AllByRecursion Agrees at.front
   agrees_front =
       all_first Agrees at.front at.back (subst (AllByRecursion Agrees) at.split
-      (agree m tells given left pool p (log_of p told) (all_sound p told lawful_push) account laws lawful limits))
+      (agree m tells given left pool p (log_of p told) (all_sound p told lawful_push) account laws lawful limits
+      lawful_push is_for))
 
   moments_front : NeverFall (exchanges_of (steps_in at.front))
   moments_front =
@@ -304,9 +356,9 @@ pub pushes_served : {L : Lending} {S G O M : Type 0} (m : Means L S G O) (tells 
     → PushesAreServed m tells
 pushes_served m tells laws = record {
   pushed =
-      λ given left pool p told lawful limits lawful_push ended account.
-      left_there m tells laws given left pool p told lawful limits lawful_push account ended;
+      λ given left pool p told lawful limits lawful_push is_for ended account order.
+      left_there m tells laws given left pool p told lawful limits lawful_push is_for account order ended;
   already =
-      λ given left pool p told lawful limits lawful_push ended account.
-      found_there m tells laws given left pool p told lawful limits lawful_push account ended;
+      λ given left pool p told lawful limits lawful_push is_for ended account order.
+      found_there m tells laws given left pool p told lawful limits lawful_push is_for account order ended;
 }

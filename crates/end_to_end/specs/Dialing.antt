@@ -7,7 +7,7 @@ use Rattle.upload_intake.specs.Pools.Working.{Lending, Means, Talk}
 use Rattle.upload_push.specs.Dialed.{AsksDialed}
 use Rattle.upload_push.specs.Slices.{Attempt, Leads}
 use Rattle.wire_laws.specs.Joined.{TransportCall, Transmits, IsNoGet}
-use Rattle.wire_laws.specs.WrittenExchanges.{MayBeAsked}
+use Rattle.wire_laws.specs.WrittenExchanges.{IsShortHost, IsWritable}
 use Rattle.end_to_end.specs.Network.{Connection, IsAskOf, IsCarried}
 
 -- what was asked over a connection, or an ask for which none could be made
@@ -54,11 +54,12 @@ DialedPushesHaveConnections =
     → Leads (AsksDialed host) None earlier kept → Leads (AsksDialed host) kept log last
     → HasConnections host earlier log
 
--- If the network made such a connection one of a worker's, and each request on it may be asked, it is one of which the
--- law from end to end speaks. What was asked before the push gets no blob's bytes.
+-- If the network made such a connection one of a worker's, it is one of which the law from end to end speaks. What was
+-- asked before the push is such as its type has, and gets no blob's bytes; the host isn't too long.
 abbrev pub DialedConnectionsAreCarried : {L : Lending} {S G O : Type 0} → Means L S G O → Type 0
 DialedConnectionsAreCarried {L} m =
     (max_body : ℕ) (host : List ℕ) (earlier log : List Attempt) (c : Connection) → IsMadeFor host earlier log c
     → AllByRecursion (λ (e : Attempt). IsNoGet e.ask) earlier
+    → AllByRecursion (λ (e : Attempt). IsWritable max_body e.ask) earlier → IsShortHost host
     → (t : Talk m max_body) → Transmits c.left (L.reads t.reader_left) (L.writes t.writer_left)
-    → AllByRecursion (λ x. MayBeAsked max_body x.ask host) (c.before ++ c.asks) → IsCarried m max_body log t c
+    → IsCarried m max_body log t c

@@ -7,7 +7,6 @@ use Rattle.upload_intake.specs.Log.{Step}
 use Rattle.upload_push.specs.Promise.{Avoids}
 use Rattle.upload_push.specs.Runs.{IsHeardOf}
 use Rattle.upload_push.specs.Slices.{Push, Attempt, IsSoundAsk, place_after}
-use Rattle.upload_push.specs.World.{IsSecret}
 
 -- a request of another client, or one of a push of which this was heard, or of which nothing was
 pub data Mark : Type 0 where
@@ -72,6 +71,3 @@ AreApart name place ((step, other) ∷ ms) =
     (¬ (heard_in ms ≡ []) → Avoids place step.exchange.ask) × AreApart name place ms
 AreApart name place ((step, heard ask what) ∷ ms) = AreApart name (place_after name (Some what) place) ms
 AreApart name place ((step, unheard ask) ∷ ms) = AreApart name place ms
-
-abbrev pub HasSecret : Marked → Type 0
-HasSecret m = IsSecret m.0.exchange.secret

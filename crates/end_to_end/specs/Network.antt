@@ -1,6 +1,9 @@
 -- A push over connections to the workers of a pool, and a network that may cut them and hold bytes back.
-use Rattle.std.specs.Prelude.{◌≡◌, ◌<◌, ◌==◌, ℕ, List, [], ◌∷◌, ◌++◌, length, map, filter, Option, Some, None, ⊤}
+use Rattle.std.specs.Prelude.{◌≡◌, ◌<◌, ◌≤◌, ◌==◌, IsTrue, ℕ, List, [], ◌∷◌, ◌++◌, length, map, filter, Option}
+use Rattle.std.specs.Prelude.{Some, None, ⊤}
 use Rattle.std.specs.List.{AllByRecursion, flat_map}
+use Rattle.upload_names.specs.Digest.{IsDigest}
+use Rattle.upload_names.specs.NamePass.{is_name}
 use Rattle.upload_service.specs.Machine.{State, AreLawful, IsLawful}
 use Rattle.upload_service.specs.Run.{Run}
 use Rattle.upload_service.specs.Session.{received}
@@ -22,8 +25,8 @@ use Rattle.upload_push.specs.Slices as push
 use Rattle.upload_push.specs.declared.pusher.Outcome.TheVariants.{Pushed, Already}
 use Rattle.upload_push.specs.declared.pusher.Phase.TheVariants.{Done}
 use Rattle.wire_laws.specs.Joined.{TransportCall, AsksInTurn, IsUntouched, IsNoGet, Transmits}
-use Rattle.wire_laws.specs.WrittenExchanges.{HasSize, MayBeAsked}
-use Rattle.end_to_end.specs.Marks.{Mark, other, mark_of, Marked, steps_in, heard_in, heard_by, AreApart, HasSecret}
+use Rattle.wire_laws.specs.WrittenExchanges.{IsShortHost, IsWritable}
+use Rattle.end_to_end.specs.Marks.{Mark, other, mark_of, Marked, steps_in, heard_in, heard_by, AreApart}
 
 -- A connection of a push: as it was made, what was asked over it in turn, and as it was left. Before the requests of
 -- the push its client may have asked something else over it, as whether the repository has the blob.
@@ -63,14 +66,23 @@ pub record IsAskOf (log : List push.Attempt) (ask : Ask) : Type 0 where
 abbrev pub at_seat : ℕ → List Marked → List Marked
 at_seat seat ms = filter (λ (m : Marked). seat == m.0.seat) ms
 
+-- A push to a server with this limit of bodies: its chunks keep the limit. Its name is one, and its digest has as many
+-- bytes as its algorithm gives, as their types say.
+pub record IsFor (max_body : ℕ) (p : Push) : Type 0 where
+  pub name : IsTrue (is_name p.name)
+  pub digest : IsDigest p.digest
+  pub chunk : p.chunk ≤ max_body
+
 module _ {L : Lending} {S G O : Type 0} (m : Means L S G O) (max_body : ℕ) (log : List push.Attempt) where
   -- The connection of the push is this one of a worker: what either end read is a prefix of what the other wrote. It
-  -- carried requests of the push, and before them some that get no blob's bytes. Each of them may be asked.
+  -- carried requests of the push, to a host that isn't too long, and before them some that get no blob's bytes, such as
+  -- their types have.
   pub record IsCarried (t : Talk m max_body) (c : Connection) : Type 0 where
     pub carries : Transmits c.left (L.reads t.reader_left) (L.writes t.writer_left)
-    pub may : AllByRecursion (λ x. MayBeAsked max_body x.ask c.made.host) (c.before ++ c.asks)
+    pub to_host : IsShortHost c.made.host
     pub own : AllByRecursion (λ x. IsAskOf log x.ask) c.asks
     pub no_gets : AllByRecursion (λ x. IsNoGet x.ask) c.before
+    pub writable : AllByRecursion (λ x. IsWritable max_body x.ask) c.before
 
   -- a connection of a worker, and which of the push's it is, if it is one
   abbrev pub Whose : Type 0
@@ -102,15 +114,14 @@ module _ {L : Lending} {S G O M : Type 0} (m : Means L S G O) (tells : M → ℕ
     pub all : steps_in marked ≡ pool.steps
     -- workers are given connections on which nothing was read and nothing written
     pub unused : GivesUnused L
-    -- as their types have it, a secret has twelve bytes, and the size of a blob is a u64
-    pub secrets : AllByRecursion HasSecret marked
-    pub sizes : AllByRecursion (λ (n : Marked). HasSize n.0.exchange.answer) marked
     pub seats : (seat : ℕ) (worker : Lent L S G O) (end : WorkerEnd) (within : seat < length given.workers)
         → IsMarkedBy m given.service.limits.max_body log (pool.parts seat worker end within).worked.talks
         (at_seat seat marked)
-    -- what the push heard was served in the order in which it asked
-    pub order : heard_in marked ≡ heard_by log
     pub apart : AreApart p.name None marked
+
+  -- what the push heard was served in the order in which it asked
+  abbrev pub IsInOrder : IsAccount → Type 0
+  IsInOrder account = heard_in account.marked ≡ heard_by log
 
 -- At one step the upload of the push was closed. What it had received by then is exactly the file: what it had at the
 -- start, and the chunks that it took, in the order taken, each once. And the file stood under its digest and its name
@@ -150,10 +161,14 @@ pub record PushesAreServed {L : Lending} {S G O M : Type 0} (m : Means L S G O)
   pub pushed : (given : Given M (Lent L S G O)) (left : Left M (Lent L S G O))
       (pool : IsServedPool m tells given left) (p : Push)
       (told : List (Option Heard)) → IsLawful given.service → AreLawful given.service.limits → push.IsLawfulPush p
-      → (push.after_all p told).phase ≡ Done Pushed → IsAccount m tells given left pool p (push.log_of p told)
+      → IsFor given.service.limits.max_body p → (push.after_all p told).phase ≡ Done Pushed
+      → (account : IsAccount m tells given left pool p (push.log_of p told))
+      → IsInOrder m tells given left pool p (push.log_of p told) account
       → IsLeftThere p given.service pool.steps left.service
   pub already : (given : Given M (Lent L S G O)) (left : Left M (Lent L S G O))
       (pool : IsServedPool m tells given left) (p : Push)
       (told : List (Option Heard)) → IsLawful given.service → AreLawful given.service.limits → push.IsLawfulPush p
-      → (push.after_all p told).phase ≡ Done Already → IsAccount m tells given left pool p (push.log_of p told)
+      → IsFor given.service.limits.max_body p → (push.after_all p told).phase ≡ Done Already
+      → (account : IsAccount m tells given left pool p (push.log_of p told))
+      → IsInOrder m tells given left pool p (push.log_of p told) account
       → IsFoundThere p given.service pool.steps left.service

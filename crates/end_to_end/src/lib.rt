@@ -3,4 +3,7 @@
 
 mod laws;
 
-pub use laws::{dialed_pushes_have_connections, pushes_are_served};
+pub use laws::{
+    dialed_pushes_have_connections, files_are_handed_back, looks_are_served, pushes_are_served,
+    pushes_to_one_worker_are_served,
+};

@@ -2,6 +2,7 @@
 ghost use Rattle.std.specs.Prelude.{◌≡◌, [], true, None, IfSome};
 
 mod growths;
+mod kept;
 mod many;
 mod moments;
 mod pools;

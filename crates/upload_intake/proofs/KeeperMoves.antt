@@ -7,7 +7,6 @@ use Rattle.std.proofs.lemmas.List.{length-set, get_or-set_same, get_or-set_other
 use Rattle.std.proofs.lemmas.Bool.{eqb-true, eqb-false, leb-true, leb-false}
 use Rattle.std.proofs.lemmas.List.{map-append}
 use Rattle.std.proofs.lemmas.List.Elements.{filter-append}
-use Rattle.upload_names.specs.declared.digest.Algorithm.{Algorithm}
 use Rattle.upload_service.specs.declared.ask.Ask.{Ask}
 use Rattle.upload_service.specs.declared.answer.Answer.{Answer}
 use Rattle.upload_service.specs.Machine.{State, Turn}
@@ -16,6 +15,7 @@ use Rattle.upload_service.specs.Headline.{HeadlineHolds}
 use Rattle.upload_intake.specs.declared.line.Item.{Item}
 use Rattle.upload_intake.specs.declared.line.LineView.{LineView}
 use Rattle.upload_intake.specs.declared.message.Message.{Message}
+use Rattle.upload_intake.specs.declared.message.Wish.{Wish}
 use Rattle.upload_intake.specs.declared.message.Message.TheVariants as message
 use Rattle.upload_intake.specs.Line.{items_of, with_sent, with_taken, IsOfAnother}
 use Rattle.upload_intake.specs.Log.{TakenJob, Step, step_of, steps_of, exchanges_of, job_of, taken_by, answers_to}
@@ -23,24 +23,30 @@ use Rattle.upload_intake.specs.Log.{last_moment}
 use Rattle.upload_intake.specs.declared.reply.ReplyLine.{ReplyLine}
 use Rattle.upload_intake.specs.Pools.Served.{KeeperState, IsSameKeeper, IsServed}
 use Rattle.upload_intake.specs.Told.{Told, Grows}
+use Rattle.upload_intake.specs.Typed.{AllTyped, AreTyped, IsTyped}
 use Rattle.upload_intake.specs.declared.log.Entry.{Entry}
 use Rattle.upload_intake.specs.Pools.Settled.{count_limit}
-use Rattle.upload_intake.specs.Kept.{taken_in, add_job, has_finish, Outlet, outlet_of, Replied, Replies, Ledger}
+use Rattle.upload_intake.specs.Kept.{taken_in, add_job, has_finish}
+use Rattle.upload_intake.specs.Kept.{Outlet, outlet_of, held_in, IsOwed, Replied, Holds, Sends}
+use Rattle.upload_intake.specs.Kept.{Ledger}
+use Rattle.std.specs.Prelude.{Option, Some, None, IsSome}
 use Rattle.upload_intake.specs.Kept.{Keeps, KeepsSeat, Receives, TookFinish, AreOfSeats, IsKeeping}
-use Rattle.upload_intake.specs.Kept.Replies.{Sent, Closed}
+use Rattle.upload_intake.specs.Kept.Holds.{Held, Crowded, Again}
+use Rattle.upload_intake.specs.Kept.Sends.{Sent, Closed, Still}
+use Rattle.upload_intake.proofs.Changes.{last_moment-from}
 use Rattle.upload_intake.proofs.LineMoves.{same, is_either, items_of-append, of_own, seat_below}
 
-run_more : (xs : List Exchange) (x : Exchange) (start before after : State) → Run start xs before
+pub run_more : (xs : List Exchange) (x : Exchange) (start before after : State) → Run start xs before
     → Turn before x.ask x.secret x.now x.answer after → Run start (xs ++ x ∷ []) after
 run_more [] x start before after r t = (after, subst (λ s. Turn s x.ask x.secret x.now x.answer after) r t, refl)
 run_more (y ∷ ys) x start before after r t = (r.0, r.1, run_more ys x r.0 before after r.2 t)
 
-never_before_more : (moment : ℕ) (xs : List Exchange) (x : Exchange) → NeverBefore moment xs
+pub never_before_more : (moment : ℕ) (xs : List Exchange) (x : Exchange) → NeverBefore moment xs
     → last_moment moment xs ≤ x.now → NeverBefore moment (xs ++ x ∷ [])
 never_before_more moment [] x n later = (later, tt)
 never_before_more moment (y ∷ ys) x n later = (n.0, never_before_more y.now ys x n.1 later)
 
-last_moment-more : (moment : ℕ) (xs : List Exchange) (x : Exchange) → last_moment moment (xs ++ x ∷ []) ≡ x.now
+pub last_moment-more : (moment : ℕ) (xs : List Exchange) (x : Exchange) → last_moment moment (xs ++ x ∷ []) ≡ x.now
 last_moment-more moment [] x = refl
 last_moment-more moment (y ∷ ys) x = last_moment-more y.now ys x
 
@@ -54,7 +60,7 @@ taken_in-append [] ys = refl
 taken_in-append (x ∷ xs) ys =
     ap (add_job x.seat x.what) (taken_in-append xs ys) ∙ add_job-append x.seat x.what (taken_in xs) (taken_in ys)
 
-exchanges_of-more : (steps : List Step) (s : Step)
+pub exchanges_of-more : (steps : List Step) (s : Step)
     → exchanges_of (steps ++ s ∷ []) ≡ exchanges_of steps ++ s.exchange ∷ []
 exchanges_of-more steps s = map-append (λ (y : Step). y.exchange) steps (s ∷ [])
 
@@ -75,32 +81,49 @@ answers_to-one : (seat : ℕ) (s : Step) (b : Bool) → (seat == s.seat) ≡ b
     → answers_to seat (s ∷ []) ≡ cond b (s.exchange.answer ∷ []) []
 answers_to-one seat s b e = ap (λ c. map (λ (y : Step). y.exchange.answer) (cond c (s ∷ []) [])) e ∙ answer_if s b
 
+pub owed_alone : (seat : ℕ) (steps : List Step) (outlet : Outlet) (h : Replied seat steps outlet)
+    → outlet.is_crowded ≡ false → outlet.is_open ≡ true → h.unsent ≡ held_in outlet.held
+owed_alone seat steps outlet h alone up = subst (λ c. IsOwed c outlet.held h.unsent) alone (h.all up)
+
+one_held : (held : Option Answer) → IsSome held → length (held_in held) ≡ 1
+one_held (Some answer) some = refl
+one_held None some = absurd (true≢false (sym some))
+
 module _ (seat : ℕ) (steps : List Step) (s : Step) where
+  -- with its answer behind what wasn't sent
+  replied_behind : (seat == s.seat) ≡ true → (old new : Outlet) (h : Replied seat steps old) → new.view ≡ old.view
+      → (new.is_open ≡ true → IsOwed new.is_crowded new.held (h.unsent ++ s.exchange.answer ∷ []))
+      → Replied seat (steps ++ s ∷ []) new
+  replied_behind ours old new h same owed = record {
+    replies = h.replies;
+    unsent = h.unsent ++ s.exchange.answer ∷ [];
+    view = same ∙ h.view;
+    in_order =
+        answers_to-append seat steps (s ∷ []) ∙ (λ i. h.in_order i ++ answers_to-one seat s true ours i)
+        ∙ append_assoc h.replies h.unsent (s.exchange.answer ∷ []);
+    all = owed;
+  }
+
   replied_more : (seat == s.seat) ≡ true → (old new : Outlet) → Replied seat steps old
-      → Replies s.exchange.answer old new → Replied seat (steps ++ s ∷ []) new
-  replied_more ours old new h (Sent was_open is_open sent) =
-      let all : answers_to seat (steps ++ s ∷ []) ≡ (h.replies ++ h.unsent) ++ s.exchange.answer ∷ [] =
-      answers_to-append seat steps (s ∷ []) ∙ (λ i. h.in_order i ++ answers_to-one seat s true ours i) in
-      record {
-        replies = h.replies ++ s.exchange.answer ∷ [];
-        unsent = [];
-        view = sent h.replies h.view;
-        in_order =
-            all ∙ ap (λ r. (h.replies ++ r) ++ s.exchange.answer ∷ []) (h.all was_open)
-            ∙ ap (λ l. l ++ s.exchange.answer ∷ []) (append-nil h.replies)
-            ∙ sym (append-nil (h.replies ++ s.exchange.answer ∷ []));
-        all = λ _. refl;
-      }
-  replied_more ours old new h (Closed is_closed same) =
-      let all : answers_to seat (steps ++ s ∷ []) ≡ (h.replies ++ h.unsent) ++ s.exchange.answer ∷ [] =
-      answers_to-append seat steps (s ∷ []) ∙ (λ i. h.in_order i ++ answers_to-one seat s true ours i) in
-      record {
-        replies = h.replies;
-        unsent = h.unsent ++ s.exchange.answer ∷ [];
-        view = same ∙ h.view;
-        in_order = all ∙ append_assoc h.replies h.unsent (s.exchange.answer ∷ []);
-        all = λ p. absurd (true≢false (sym p ∙ is_closed));
-      }
+      → Holds s.exchange.answer old new → Replied seat (steps ++ s ∷ []) new
+  replied_more ours old new h (Held alone none is) =
+      subst (λ o. Replied seat (steps ++ s ∷ []) o) (sym is)
+      (replied_behind ours old (record old { held = Some s.exchange.answer }) h refl
+      (λ up. subst (λ c. IsOwed c (Some s.exchange.answer) (h.unsent ++ s.exchange.answer ∷ [])) (sym alone)
+      (ap (λ r. r ++ s.exchange.answer ∷ []) (owed_alone seat steps old h alone up ∙ ap held_in none))))
+  replied_more ours old new h (Crowded alone some is) =
+      subst (λ o. Replied seat (steps ++ s ∷ []) o) (sym is)
+      (replied_behind ours old (record old { is_crowded = true }) h refl
+      (λ up.
+      let one = ap length (owed_alone seat steps old h alone up) ∙ one_held old.held some in
+      let more = length-append h.unsent (s.exchange.answer ∷ []) in omega arith))
+  replied_more ours old new h (Again crowded is) =
+      subst (λ o. Replied seat (steps ++ s ∷ []) o) (sym is)
+      (replied_behind ours old old h refl
+      (λ up.
+      let many = subst (λ c. IsOwed c old.held h.unsent) crowded (h.all up) in
+      let more = length-append h.unsent (s.exchange.answer ∷ []) in
+      subst (λ c. IsOwed c old.held (h.unsent ++ s.exchange.answer ∷ [])) (sym crowded) (omega (arith, many, more))))
 
   replied_other : (seat == s.seat) ≡ false → (outlet : Outlet) → Replied seat steps outlet
       → Replied seat (steps ++ s ∷ []) outlet
@@ -114,21 +137,73 @@ module _ (seat : ℕ) (steps : List Step) (s : Step) where
     all = h.all;
   }
 
+-- what was held back was sent
+replied_sent : (seat : ℕ) (steps : List Step) (old new : Outlet) → Replied seat steps old → Sends old new
+    → Replied seat steps new
+replied_sent seat steps old new h (Sent answer alone was was_open is_none still sent) =
+    let held : h.unsent ≡ answer ∷ [] = owed_alone seat steps old h alone was_open ∙ ap held_in was in
+    record {
+      replies = h.replies ++ answer ∷ [];
+      unsent = [];
+      view = sent h.replies h.view;
+      in_order = h.in_order ∙ ap (λ r. h.replies ++ r) held ∙ sym (append-nil (h.replies ++ answer ∷ []));
+      all = λ _. subst (λ c. IsOwed c new.held []) (sym still) (sym (ap held_in is_none));
+    }
+replied_sent seat steps old new h (Closed is_closed same) = record {
+  replies = h.replies;
+  unsent = h.unsent;
+  view = same ∙ h.view;
+  in_order = h.in_order;
+  all = λ p. absurd (true≢false (sym p ∙ is_closed));
+}
+replied_sent seat steps old new h (Still same) = subst (Replied seat steps) (sym same) h
+
+-- an outlet with these
+abbrev outlet : Bool → LineView Answer → Option Answer → Bool → Outlet
+outlet is_open view held is_crowded =
+    record { is_open = is_open; view = view; held = held; is_crowded = is_crowded }
+
+module _ (answer : Answer) (is_open is_crowded : Bool) (view : LineView Answer) (held : Option Answer) where
+  pub holds_first : is_crowded ≡ false → held ≡ None
+      → Holds answer (outlet is_open view held is_crowded) (outlet is_open view (Some answer) is_crowded)
+  holds_first alone none = Held alone none refl
+
+  pub crowds : is_crowded ≡ false → IsSome held
+      → Holds answer (outlet is_open view held is_crowded) (outlet is_open view held true)
+  crowds alone some = Crowded alone some refl
+
+  pub crowds_again : is_crowded ≡ true
+      → Holds answer (outlet is_open view held is_crowded) (outlet is_open view held is_crowded)
+  crowds_again crowded = Again crowded refl
+
+pub ruleset holding = (holds_first, crowds, crowds_again)
+
+module _ (is_open is_crowded : Bool) (view : LineView Answer) (was is : Option Answer) where
+  -- nothing was held back, and a line that is closed
+  pub none_held : was ≡ None → is ≡ None
+      → Sends (outlet is_open view was is_crowded) (outlet is_open view is is_crowded)
+  none_held p q = Still (λ i. outlet is_open view ((q ∙ sym p) i) is_crowded)
+
+  pub was_closed : is_open ≡ false → Sends (outlet is_open view was is_crowded) (outlet is_open view is is_crowded)
+  was_closed closed = Closed closed refl
+
+pub nothing_sent : (is_open is_crowded : Bool) (view : LineView Answer) (held : Option Answer)
+    → Sends (outlet is_open view held is_crowded) (outlet is_open view held is_crowded)
+nothing_sent is_open is_crowded view held = Still refl
+
+pub ruleset sending = (none_held, was_closed, nothing_sent)
+
 -- what a line that is open comes to by a send
-pub replied_by : (answer : Answer) (was_open is_open : Bool)
-    (old new : LineView Answer) (sent : Result (Unit {0}) (Item Answer)) → was_open ≡ true
+pub replied_by : (answer : Answer) (was_open is_open is_crowded : Bool)
+    (old new : LineView Answer) (was is : Option Answer) (sent : Result (Unit {0}) (Item Answer)) → was_open ≡ true
+    → is_crowded ≡ false → was ≡ Some answer → is ≡ None
     → MatchResult sent (λ _. new ≡ with_sent (record { seat = 0; what = answer }) old) (λ back.
     (back ≡ record { seat = 0; what = answer }) × (new ≡ old))
     → MatchResult sent (λ _. is_open ≡ was_open) (λ _. is_open ≡ false)
-    → Replies answer (record { is_open = was_open; view = old }) (record { is_open = is_open; view = new })
-replied_by answer was_open is_open old new (Ok x) was m o =
-    Sent was (o ∙ was) (λ replies e. m ∙ ap (with_sent (record { seat = 0; what = answer })) e)
-replied_by answer was_open is_open old new (Err back) was m o = Closed o m.1
-
--- a line that is closed stays as it is
-pub was_closed : (answer : Answer) (is_open : Bool) (view : LineView Answer) → is_open ≡ false
-    → Replies answer (record { is_open = is_open; view = view }) (record { is_open = is_open; view = view })
-was_closed answer is_open view closed = Closed closed refl
+    → Sends (outlet was_open old was is_crowded) (outlet is_open new is is_crowded)
+replied_by answer was_open is_open is_crowded old new was is (Ok x) up alone w n m o =
+    Sent answer alone w up n alone (λ replies e. m ∙ ap (with_sent (record { seat = 0; what = answer })) e)
+replied_by answer was_open is_open is_crowded old new was is (Err back) up alone w n m o = Closed o m.1
 
 has_finish-append : (xs ys : List Message) → has_finish xs ≡ true → has_finish (xs ++ ys) ≡ true
 has_finish-append [] ys e = absurd (true≢false (sym e))
@@ -199,7 +274,8 @@ module _ (old : Ledger) (j j' : LineView Message) (lines : List ReplyLine) (k : 
   -- a job was served
   module _ (ask : Ask) (secret : List ℕ) (a : Answer) (now' : ℕ) (service' : State) (count' : ℕ)
       (job : x.what ≡ message.Job ask secret) (later : old.now ≤ now')
-      (turn : Turn old.service ask secret now' a service') (counted : count' ≡ min (old.count + 1) count_limit) where
+      (turn : Turn old.service ask secret now' a service') (types : AreTyped secret now' a)
+      (counted : count' ≡ min (old.count + 1) count_limit) where
     abbrev pub step : Step
     step = record { seat = x.seat; exchange = record { ask = ask; secret = secret; now = now'; answer = a } }
 
@@ -207,6 +283,7 @@ module _ (old : Ledger) (j j' : LineView Message) (lines : List ReplyLine) (k : 
     abbrev pub with_step : Ledger
     with_step = record {
       start = old.start;
+      since = old.since;
       service = service';
       now = now';
       count = count';
@@ -229,14 +306,17 @@ module _ (old : Ledger) (j j' : LineView Message) (lines : List ReplyLine) (k : 
               (run_more (exchanges_of old.steps) step.exchange old.start old.service service' k.keeps.run turn);
           moments =
               subst (λ xs. NeverBefore 0 xs) (sym e)
-              (never_before_more 0 (exchanges_of old.steps) step.exchange k.keeps.moments (rw k.keeps.last later));
-          last = ap (last_moment 0) e ∙ last_moment-more 0 (exchanges_of old.steps) step.exchange;
+              (never_before_more 0 (exchanges_of old.steps) step.exchange k.keeps.moments
+              (let a = last_moment-from 0 old.since (exchanges_of old.steps) (omega arith) in
+              let b = k.keeps.last in omega (arith, later)));
+          last = ap (last_moment old.since) e ∙ last_moment-more old.since (exchanges_of old.steps) step.exchange;
+          typed = subst AllTyped (sym e) (all_more IsTyped (exchanges_of old.steps) step.exchange k.keeps.typed types);
           is_taken = is_taken;
           counted = let n = k.keeps.counted in let m = length-append old.steps (step ∷ []) in omega arith;
         }
 
     pub served_seat : (was line : ReplyLine)
-        → was ≡ get_or lines x.seat was → Replies a (outlet_of was) (outlet_of line) → line.is_done ≡ was.is_done
+        → was ≡ get_or lines x.seat was → Holds a (outlet_of was) (outlet_of line) → line.is_done ≡ was.is_done
         → (lines' : List ReplyLine) → lines' ≡ set lines x.seat line → (log : List Step) → log ≡ with_step.steps
         → IsKeeping (record with_step { steps = log }) j' lines'
     served_seat was line was_is m is_done lines' put log grown =
@@ -267,6 +347,7 @@ module _ (old : Ledger) (j j' : LineView Message) (lines : List ReplyLine) (k : 
       run = k.keeps.run;
       moments = k.keeps.moments;
       last = k.keeps.last;
+      typed = k.keeps.typed;
       is_taken = none_taken;
       counted = k.keeps.counted;
     }
@@ -276,7 +357,7 @@ module _ (old : Ledger) (j j' : LineView Message) (lines : List ReplyLine) (k : 
     keeps_seat_still seat line kept = record { replied = kept.replied; finish = λ p. finish_stays seat (kept.finish p) }
 
   -- a wish was taken, which the service seems not to have heard
-  pub wish_taken : (at : List ℕ) (by : Algorithm) → x.what ≡ message.Hash at by → (service' : State)
+  pub wish_taken : (at : List ℕ) (by : Wish) → x.what ≡ message.Hash at by → (service' : State)
       → service' ≡ old.service → IsKeeping (record old { service = service' }) j' lines
   wish_taken at by wish service' same =
       let no_job : add_job x.seat x.what [] ≡ [] = ap (λ m. add_job x.seat m []) wish in
@@ -306,6 +387,26 @@ module _ (old : Ledger) (j j' : LineView Message) (lines : List ReplyLine) (k : 
           finish = λ p. took_finish;
         })
         (λ seat d below apart. keeps_seat_still no_job seat (get_or lines seat d) (k.each seat d below))
+
+-- a seat was sent what was held back
+pub sent_seat : (ledger : Ledger) (jobs : LineView Message) (lines : List ReplyLine) → IsKeeping ledger jobs lines
+    → (at : ℕ) → at < length lines → (was line : ReplyLine) → was ≡ get_or lines at was
+    → Sends (outlet_of was) (outlet_of line) → line.is_done ≡ was.is_done
+    → (lines' : List ReplyLine) → lines' ≡ set lines at line → IsKeeping ledger jobs lines'
+sent_seat ledger jobs lines k at inside was line was_is sends is_done lines' put =
+    let kept = subst (λ y. KeepsSeat at ledger.steps jobs y) (sym was_is) (k.each at was inside) in
+    subst (IsKeeping ledger jobs) (sym put) record {
+      keeps = k.keeps;
+      receives = subst (λ n. Receives n jobs) (sym (length-set lines at line)) k.receives;
+      seated = subst (λ n. AreOfSeats n ledger.steps) (sym (length-set lines at line)) k.seated;
+      each =
+          each_set (λ seat y. KeepsSeat seat ledger.steps jobs y) lines at line inside
+          (record {
+            replied = replied_sent at ledger.steps (outlet_of was) (outlet_of line) kept.replied sends;
+            finish = λ p. kept.finish (sym is_done ∙ p);
+          })
+          (λ seat d below apart. k.each seat d below);
+    }
 
 -- what a keeper kept is a run of which the headline holds
 pub served : HeadlineHolds → (ledger : Ledger) (taken : List (Item Message)) → Keeps ledger taken
@@ -339,28 +440,34 @@ module _ {M : Type 0} (tells : M → ℕ → M → Type 0) where
       record { more = []; log = same ∙ sym (append-nil keeper.log); told = still }
 
   pub grows_one : (old new : KeeperState) (before after : M) (now told : ℕ) (s : Step) → new.log ≡ old.log ++ s ∷ []
-      → now ≡ last_moment 0 (exchanges_of old.log) → tells before told after → s.exchange.now ≡ max now told
+      → now ≡ last_moment old.since (exchanges_of old.log) → tells before told after → s.exchange.now ≡ max now told
       → Grows tells old before new after
   grows_one old new before after now told s grown last tell greater =
       record { more = s ∷ []; log = grown; told = (told, after, tell, greater ∙ ap (λ n. max n told) last, refl) }
 
-  pub grows_twice : (a b c : KeeperState) (p q r : M) → Grows tells a p b q → Grows tells b q c r → Grows tells a p c r
-  grows_twice a b c p q r f g = record {
+  pub grows_twice : (a b c : KeeperState) (p q r : M) → b.since ≡ a.since → Grows tells a p b q → Grows tells b q c r
+      → Grows tells a p c r
+  grows_twice a b c p q r same f g = record {
     more = f.more ++ g.more;
     log = g.log ∙ ap (λ l. l ++ g.more) f.log ∙ append_assoc a.log f.more g.more;
     told =
         let all : exchanges_of (f.more ++ g.more) ≡ exchanges_of f.more ++ exchanges_of g.more =
         map-append (λ (y : Step). y.exchange) f.more g.more in
-        let between : last_moment 0 (exchanges_of b.log)
-        ≡ last_moment (last_moment 0 (exchanges_of a.log)) (exchanges_of f.more) =
-        ap (λ l. last_moment 0 (exchanges_of l)) f.log
-        ∙ ap (last_moment 0) (map-append (λ (y : Step). y.exchange) a.log f.more)
-        ∙ last_moment-append 0 (exchanges_of a.log) (exchanges_of f.more) in
-        subst (λ xs. Told tells (last_moment 0 (exchanges_of a.log)) p xs r) (sym all)
-        (told_more (last_moment 0 (exchanges_of a.log)) p q r (exchanges_of f.more) (exchanges_of g.more) f.told
+        let first = last_moment a.since (exchanges_of a.log) in
+        let between : last_moment b.since (exchanges_of b.log) ≡ last_moment first (exchanges_of f.more) =
+        ap (λ n. last_moment n (exchanges_of b.log)) same ∙ ap (λ l. last_moment a.since (exchanges_of l)) f.log
+        ∙ ap (last_moment a.since) (map-append (λ (y : Step). y.exchange) a.log f.more)
+        ∙ last_moment-append a.since (exchanges_of a.log) (exchanges_of f.more) in
+        subst (λ xs. Told tells first p xs r) (sym all)
+        (told_more first p q r (exchanges_of f.more) (exchanges_of g.more) f.told
         (subst (λ n. Told tells n q (exchanges_of g.more) r) between g.told));
   }
 
 pub same_keeper_twice : (a b c : KeeperState) → IsSameKeeper a b → IsSameKeeper b c → IsSameKeeper a c
 same_keeper_twice a b c p q =
-    record { jobs = q.jobs ∙ p.jobs; replies = q.replies ∙ p.replies; start = q.start ∙ p.start }
+    record {
+      jobs = q.jobs ∙ p.jobs;
+      replies = q.replies ∙ p.replies;
+      start = q.start ∙ p.start;
+      since = q.since ∙ p.since;
+    }

@@ -1,10 +1,13 @@
 pub mod Carrying
+pub mod Changes
 pub mod Conversations
 pub mod KeeperMoves
 pub mod LineMoves
 pub mod Opening
 pub mod Orders
 pub mod Pooling
+pub mod Restarting
+pub mod Safely
 pub mod SeatConversations
 pub mod SeatMoves
 pub mod Settling

@@ -17,7 +17,7 @@ same_turn old o now a b new other (inl x) (inl y) m n = (x.0 ∙ sym y.0, x.1 �
 same_turn old o now a b new other (inl x) (inr y) m n = absurd (n y.1)
 same_turn old o now a b new other (inr x) y m n = absurd (m x.1)
 
-turns_same : (old : State) (ask : Ask) (secret : List ℕ) (now : ℕ) (a b : Answer) (new other : State)
+pub turns_same : (old : State) (ask : Ask) (secret : List ℕ) (now : ℕ) (a b : Answer) (new other : State)
     → Turn old ask secret now a new → Turn old ask secret now b other → a ≢ NoMemory → b ≢ NoMemory
     → (a ≡ b) × (new ≡ other)
 unfolding Turn
@@ -32,7 +32,7 @@ turn_as old old' s s' new e same turn =
     subst (λ (z : State × (ℕ × (Ask × (List ℕ × ℕ)))). Turn z.0 z.1.1.0 z.1.1.1.0 z.1.1.1.1 s.exchange.answer new)
     (λ i. (e i, same i)) turn
 
-runs_same : (old old' new new' : State) (xs ys : List Step) → old ≡ old' → Run old (exchanges_of xs) new
+pub runs_same : (old old' new new' : State) (xs ys : List Step) → old ≡ old' → Run old (exchanges_of xs) new
     → Run old' (exchanges_of ys) new' → map taken xs ≡ map taken ys → HaveMemory xs → HaveMemory ys
     → (xs ≡ ys) × (new ≡ new')
 runs_same old old' new new' [] [] e p q same m n = (refl, p ∙ e ∙ sym q)

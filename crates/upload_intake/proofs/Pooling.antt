@@ -14,7 +14,10 @@ use Rattle.upload_intake.specs.Pools.Settled.{IsSettled, IsSettledSeat}
 use Rattle.upload_intake.specs.Pools.Stations.{seats_of, workers_of, limits_of, Works, AllLeft, EachWorks}
 use Rattle.upload_intake.specs.Told.{Told, Grows}
 use Rattle.upload_intake.specs.Pools.Working.{Lending, Means, Lent, IsWorked, all_answered, all_unanswered}
-use Rattle.upload_intake.specs.Pools.ServedPool.{HasPart, IsServedPool}
+use Rattle.upload_intake.specs.Pools.ServedPool.{HasPart, IsServedSince}
+use Rattle.upload_intake.specs.Pools.KeptPool.{IsKeptPool}
+use Rattle.upload_intake.specs.Safety.{KeptSince, changed}
+use Rattle.upload_service.specs.Run.{Exchange}
 use Rattle.upload_intake.proofs.Working.{adds_all}
 use Rattle.upload_intake.proofs.Carrying.{carries}
 use Rattle.std.proofs.lemmas.List.{length-map}
@@ -121,7 +124,7 @@ module _ {L : Lending} {S G O M : Type 0} (m : Means L S G O) (tells : M → ℕ
       → length left.ends ≡ length stations → EachWorks m stations left
       → IsSameKeeper keeper behind → Grows tells keeper before behind after
       → IsSettled behind left.seats service log_length
-      → IsServedPool m tells (record {
+      → IsServedSince m tells keeper.since (record {
         service = keeper.start;
         moments = before;
         workers = workers_of stations;
@@ -139,9 +142,37 @@ module _ {L : Lending} {S G O M : Type 0} (m : Means L S G O) (tells : M → ℕ
             λ k worker end below. parts keeper.start.limits.max_body behind.log stations left fresh limits len
             works settled.each k worker end (omega arith);
         served = subst (λ s. IsServed s (exchanges_of behind.log) service) same.start settled.served;
+        typed = settled.typed;
         told =
-            subst (λ (x : List Step). Told tells 0 before (exchanges_of x) after) all (subst (λ (x : List Step).
-            Told tells (last_moment 0 (exchanges_of x)) before (exchanges_of grown.more) after) none grown.told);
+            subst (λ (x : List Step). Told tells keeper.since before (exchanges_of x) after) all (subst
+            (λ (x : List Step).
+            Told tells (last_moment keeper.since (exchanges_of x)) before (exchanges_of grown.more) after) none
+            grown.told);
+      }
+
+  pub kept_pool : (keeper behind : KeeperState) (stations : List (Station L.Conns S G O))
+      (left : AllLeft L.Conns S G O) (before after : M) (was is : List Exchange)
+      (service : State) (log_length : ℕ) → keeper.log ≡ []
+      → All IsFresh (seats_of stations) → All (λ n. n ≡ keeper.start.limits.max_body) (limits_of stations)
+      → length left.seats ≡ length stations → length left.workers ≡ length stations
+      → length left.ends ≡ length stations → EachWorks m stations left
+      → IsSameKeeper keeper behind → Grows tells keeper before behind after
+      → IsSettled behind left.seats service log_length → KeptSince keeper was behind is
+      → IsKeptPool m tells keeper.since (record {
+        service = keeper.start;
+        moments = before;
+        workers = workers_of stations;
+      }) (record { service = service; moments = after; workers = left.workers; ends = left.ends }) was is
+  unfolding served_pool
+  kept_pool keeper behind stations left before after was is service log_length none fresh limits len back count works
+      same grown settled kept = record {
+        served =
+            served_pool keeper behind stations left before after service log_length none fresh limits len back count
+            works same grown settled;
+        kept =
+            kept.kept
+            ∙ ap (λ (l : List Step). was ++ changed (exchanges_of l))
+            (ap (λ (l : List Step). l ++ kept.more) (sym none) ∙ sym kept.log);
       }
 
 -- one worker more

@@ -2,12 +2,12 @@
 use Rattle.std.proofs.Common.{◌≡◌, ◌≤◌, ◌==◌, ℕ, zero, suc, Bool, true, false, true≢false, List, [], ◌∷◌, ◌++◌, length}
 use Rattle.std.proofs.Common.{length-append, sym, refl, ap, ◌∙◌, arith, append-nil, Result, Ok, Err, MatchResult}
 use Rattle.std.proofs.lemmas.List.{map-append}
-use Rattle.upload_names.specs.declared.digest.Algorithm.{Algorithm}
 use Rattle.upload_service.specs.declared.ask.Ask.{Ask}
 use Rattle.upload_service.specs.declared.answer.Answer.{Answer}
 use Rattle.upload_intake.specs.declared.line.Item.{Item}
 use Rattle.upload_intake.specs.declared.line.LineView.{LineView}
 use Rattle.upload_intake.specs.declared.message.Message.{Message}
+use Rattle.upload_intake.specs.declared.message.Wish.{Wish}
 use Rattle.upload_intake.specs.declared.message.Message.TheVariants as message
 use Rattle.upload_intake.specs.Line.{sent, with_sent, with_taken, IsOfAnother}
 use Rattle.upload_intake.specs.Log.{Job}
@@ -74,7 +74,7 @@ module _ (seat : ℕ) (gone : Bool) (j : LineView Message) (r : LineView Answer)
   no_more_sent j' e = jobs_after message.Finish j' e ∙ append-nil (jobs_in s.sent) ∙ sym jobs_before
 
   -- a wish was sent, which is no job
-  pub wish_sent : (at : List ℕ) (by : Algorithm) (j' : LineView Message)
+  pub wish_sent : (at : List ℕ) (by : Wish) (j' : LineView Message)
       → j' ≡ with_sent (record { seat = seat; what = message.Hash at by }) j → Sits seat gone j' r
   wish_sent at by j' e =
       let same : jobs_in (s.sent ++ message.Hash at by ∷ []) ≡ jobs_in s.sent =
@@ -91,7 +91,7 @@ module _ (seat : ℕ) (gone : Bool) (j : LineView Message) (r : LineView Answer)
         unfinished = still_unfinished s.sent (message.Hash at by) refl s.unfinished;
       }
 
-  pub no_job_sent : (at : List ℕ) (by : Algorithm) (j' : LineView Message)
+  pub no_job_sent : (at : List ℕ) (by : Wish) (j' : LineView Message)
       → j' ≡ with_sent (record { seat = seat; what = message.Hash at by }) j
       → jobs_in (sent j'.sending) ≡ jobs_in (sent j.sending)
   no_job_sent at by j' e = jobs_after (message.Hash at by) j' e ∙ append-nil (jobs_in s.sent) ∙ sym jobs_before

@@ -14,6 +14,7 @@ use Rattle.upload_intake.specs.Line.{items_of, sent, joined, Waits}
 use Rattle.upload_intake.specs.declared.reply.ReplyLine.{ReplyLine}
 use Rattle.upload_intake.specs.Seats.{SeatState}
 use Rattle.upload_intake.specs.Pools.Settled.{IsSettled, IsSettledSeat, count_limit}
+use Rattle.upload_intake.specs.Typed.{AllTyped}
 use Rattle.upload_intake.specs.Pools.Settles.{Settles}
 use Rattle.upload_intake.specs.Replies.{replies_on}
 use Rattle.upload_intake.specs.Pools.Served.{KeeperState, IsServed, IsSeatOf, AreOfOneCall}
@@ -206,6 +207,7 @@ pub all_settled : HeadlineHolds → (ledger : Ledger) (j : LineView Message) (li
       jobs = jobs;
       replies = map replies_on lines;
       start = ledger.start;
+      since = ledger.since;
       service = ledger.service;
       log = ledger.steps;
     } ≡ keeper → (ends : List SeatState) → AreOfOneCall keeper ends
@@ -223,5 +225,6 @@ all_settled holds ledger j lines k keeper jobs is ends one each =
       served =
           subst (λ (x : KeeperState). IsServed x.start (exchanges_of x.log) ledger.service) is
           (served holds ledger j.taken k.keeps);
+      typed = subst (λ (x : KeeperState). AllTyped (exchanges_of x.log)) is k.keeps.typed;
       counted = k.keeps.counted ∙ ap (λ (x : KeeperState). min (length x.log) count_limit) is;
     }

@@ -1,5 +1,6 @@
 -- What the passes of the lines know, and what a keeper keeps from one item to the next.
 use Rattle.std.specs.Prelude.{◌≡◌, ◌<◌, ℕ, min, Bool, true, false, List, [], ◌∷◌, ◌++◌, length, get_or}
+use Rattle.std.specs.Prelude.{Option, Some, None, IsSome}
 use Rattle.std.specs.List.{AllByRecursion}
 use Rattle.upload_service.specs.declared.answer.Answer.{Answer}
 use Rattle.upload_service.specs.Machine.{State, IsLawful}
@@ -17,6 +18,7 @@ use Rattle.upload_intake.specs.Line.{items_of, sent}
 use Rattle.upload_intake.specs.Log.{Job, TakenJob, Step, steps_of, exchanges_of, taken_by, answers_to, last_moment}
 use Rattle.upload_intake.specs.Passes.{line_of, sender_view, taker_view, whats}
 use Rattle.upload_intake.specs.Seats.{SeatState}
+use Rattle.upload_intake.specs.Typed.{AllTyped}
 use Rattle.upload_intake.specs.Pools.Settled.{count_limit}
 
 -- the jobs among what lies on a line
@@ -86,21 +88,39 @@ pub record SatToTheEnd (seat : ℕ) (gone : Bool) (jobs : LineView Message) (rep
   pub knows : Knows seat gone jobs replies sent
   pub finished_last : is_closed sent ≡ true
 
--- The keeper's end of a reply line: whether it is open, and what its pass knows.
+-- The keeper's end of a reply line: whether it is open, what its pass knows, what is held back, and whether its seat
+-- asked again before it heard.
 pub record Outlet : Type 0 where
   pub is_open : Bool
   pub view : LineView Answer
+  pub held : Option Answer
+  pub is_crowded : Bool
+
+-- what is held back
+abbrev pub held_in : Option Answer → List Answer
+held_in None = []
+held_in (Some answer) = answer ∷ []
 
 abbrev pub outlet_of : ReplyLine → Outlet
-outlet_of line = record { is_open = line.replies.is_open; view = view line.replies.pass }
+outlet_of line = record {
+  is_open = line.replies.is_open;
+  view = view line.replies.pass;
+  held = line.held;
+  is_crowded = line.is_crowded;
+}
 
--- the replies sent begin the answers to a seat, and are all of them while the line is open
+-- what wasn't sent is what is held back, but for a seat that didn't wait: then that is more than one
+abbrev pub IsOwed : Bool → Option Answer → List Answer → Type 0
+IsOwed false held unsent = unsent ≡ held_in held
+IsOwed true held unsent = 1 < length unsent
+
+-- the replies sent begin the answers to a seat, and are all of them but for what is owed, while the line is open
 pub record Replied (seat : ℕ) (steps : List Step) (outlet : Outlet) : Type 0 where
   pub replies : List Answer
   pub unsent : List Answer
   pub view : outlet.view ≡ sender_view 0 replies
   pub in_order : answers_to seat steps ≡ replies ++ unsent
-  pub all : outlet.is_open ≡ true → unsent ≡ []
+  pub all : outlet.is_open ≡ true → IsOwed outlet.is_crowded outlet.held unsent
 
 -- a pass took a seat's finish
 abbrev pub TookFinish : ℕ → LineView Message → Type 0
@@ -111,10 +131,11 @@ pub record KeepsSeat (seat : ℕ) (steps : List Step) (jobs : LineView Message) 
   pub replied : Replied seat steps (outlet_of line)
   pub finish : line.is_done ≡ true → TookFinish seat jobs
 
--- A keeper's account of its service: the one that it was given and the one that it has, the moment of the last step,
--- how many steps it counted, and the steps in its log.
+-- A keeper's account of its service: the one that it was given and the moment that it began at, the one that it has,
+-- the moment of the last step, how many steps it counted, and the steps in its log.
 pub record Ledger : Type 0 where
   pub start : State
+  pub since : ℕ
   pub service : State
   pub now : ℕ
   pub count : ℕ
@@ -125,7 +146,8 @@ pub record Keeps (ledger : Ledger) (taken : List (Item Message)) : Type 0 where
   pub lawful : IsLawful ledger.start
   pub run : Run ledger.start (exchanges_of ledger.steps) ledger.service
   pub moments : NeverFall (exchanges_of ledger.steps)
-  pub last : last_moment 0 (exchanges_of ledger.steps) ≡ ledger.now
+  pub last : last_moment ledger.since (exchanges_of ledger.steps) ≡ ledger.now
+  pub typed : AllTyped (exchanges_of ledger.steps)
   pub is_taken : taken_by ledger.steps ≡ taken_in taken
   pub counted : ledger.count ≡ min (length ledger.steps) count_limit
 
@@ -148,6 +170,7 @@ pub record IsKeeping (ledger : Ledger) (jobs : LineView Message) (lines : List R
 abbrev pub ledger_of : Books → Ledger
 ledger_of books = record {
   start = books.start.value;
+  since = books.since;
   service = books.service;
   now = books.now;
   count = books.count;
@@ -160,12 +183,20 @@ AreKept books = IsKeeping (ledger_of books) (view books.jobs.pass) books.lines.i
 abbrev pub AreDone : List ReplyLine → Type 0
 AreDone lines = (seat : ℕ) (d : ReplyLine) → seat < length lines → (get_or lines seat d).is_done ≡ true
 
--- a reply was sent on a line that is open; or nothing was, and the line is closed from now on
-pub data Replies (answer : Answer) (old new : Outlet) : Type 0 where
-  Sent : old.is_open ≡ true → new.is_open ≡ true
+-- an answer is held back, if none was; else it is one that its seat didn't wait for
+pub data Holds (answer : Answer) (old new : Outlet) : Type 0 where
+  Held : old.is_crowded ≡ false → old.held ≡ None → new ≡ record old { held = Some answer } → Holds answer old new
+  Crowded : old.is_crowded ≡ false → IsSome old.held → new ≡ record old { is_crowded = true } → Holds answer old new
+  Again : old.is_crowded ≡ true → new ≡ old → Holds answer old new
+
+-- what was held back was sent on a line that is open; or nothing is sent from now on; or nothing was to be sent
+pub data Sends (old new : Outlet) : Type 0 where
+  Sent : (answer : Answer) → old.is_crowded ≡ false → old.held ≡ Some answer → old.is_open ≡ true → new.held ≡ None
+      → new.is_crowded ≡ false
       → ((replies : List Answer) → old.view ≡ sender_view 0 replies → new.view ≡ sender_view 0 (replies ++ answer ∷ []))
-      → Replies answer old new
-  Closed : new.is_open ≡ false → new.view ≡ old.view → Replies answer old new
+      → Sends old new
+  Closed : new.is_open ≡ false → new.view ≡ old.view → Sends old new
+  Still : new ≡ old → Sends old new
 
 abbrev pub IsJob : Message → Type 0
 IsJob (message.Job ask secret) = Unit {0}

@@ -10,9 +10,11 @@ pub mod Replies
 pub mod SeatConversations
 pub mod SeatMoves
 pub mod Seats
+pub mod Safety
 pub mod Secrets
 pub mod Pools
 pub mod Told
 pub mod Transcripts
+pub mod Typed
 pub mod Watched
 pub mod FaultTexts

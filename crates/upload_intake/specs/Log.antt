@@ -46,7 +46,7 @@ jobs_of seat taken = map (λ (j : TakenJob). j.job) (filter (λ (j : TakenJob). 
 abbrev pub answers_to : ℕ → List Step → List Answer
 answers_to seat steps = map (λ (s : Step). s.exchange.answer) (filter (λ (s : Step). seat == s.seat) steps)
 
--- the moment of the last exchange, and 0 before the first
+-- the moment of the last exchange, and this one before the first
 abbrev pub last_moment : ℕ → List Exchange → ℕ
 last_moment moment [] = moment
 last_moment moment (x ∷ xs) = last_moment x.now xs

@@ -1,6 +1,9 @@
 pub mod Served
 pub mod ServedPool
+pub mod KeptPool
 pub mod Settled
 pub mod Settles
 pub mod Stations
 pub mod Working
+pub mod Keepings
+pub mod Restarts

@@ -16,4 +16,4 @@ pub record Grows {M : Type 0} (tells : M → ℕ → M → Type 0) (old : Keeper
     (after : M) : Type 0 where
   pub more : List Step
   pub log : new.log ≡ old.log ++ more
-  pub told : Told tells (last_moment 0 (exchanges_of old.log)) before (exchanges_of more) after
+  pub told : Told tells (last_moment old.since (exchanges_of old.log)) before (exchanges_of more) after

@@ -1,5 +1,5 @@
 //! The ends of a line, each with its pass: what may be done there, and what was done.
-ghost use Rattle.std.specs.Prelude.{◌≡◌, true, false, [], List, ◌<◌, ◌+◌, MatchOption, MatchResult, IfOk};
+ghost use Rattle.std.specs.Prelude.{◌≡◌, true, false, [], List, ◌<◌, ◌+◌, IsSome, MatchOption, MatchResult, IfOk};
 ghost use Rattle.std.proofs.Props.{props};
 ghost use Rattle.crossbeam_channel.specs.Claims.{view, IsSeatAt};
 ghost use Rattle.crossbeam_channel.specs.Ends.{sends_on, receives_on};
@@ -94,6 +94,38 @@ impl<T: Drop> TakeEnd<T> {
             self.is_open = false;
         }
         taken
+    }
+
+    /// The same, but it doesn't wait, and stays open.
+    pub fn take_waiting<R: Wait>(&mut self, rt: &R) -> Option<Item<T>>
+        requires { (view self.old.pass).takes ≡ true }
+        ensures line { self.new.receiver ≡ self.old.receiver }
+        ensures taken { MatchOption result
+            (view self.new.pass ≡ view self.old.pass)
+            (λ item. (view self.new.pass ≡ with_taken item (view self.old.pass))
+            × IsOfAnother (view self.old.pass) item) }
+        ensures same { self.new.is_open ≡ self.old.is_open }
+    {
+        self.receiver
+            .try_recv_as::<Takes, R>(rt, &mut self.pass)
+            .ok()
+    }
+
+    /// The one or the other.
+    pub fn take_if<R: Wait>(&mut self, rt: &R, waits: bool) -> Option<Item<T>>
+        requires { (view self.old.pass).takes ≡ true }
+        ensures line { self.new.receiver ≡ self.old.receiver }
+        ensures taken { MatchOption result
+            (view self.new.pass ≡ view self.old.pass)
+            (λ item. (view self.new.pass ≡ with_taken item (view self.old.pass))
+            × IsOfAnother (view self.old.pass) item) }
+        ensures open { IsSome result → self.new.is_open ≡ self.old.is_open }
+    {
+        if waits {
+            self.take(rt)
+        } else {
+            self.take_waiting(rt)
+        }
     }
 }
 

@@ -1,8 +1,12 @@
 //! The keeper alone has the service, and serves the seats' requests in the order in which it took them.
-ghost use Rattle.std.specs.Prelude.{◌≡◌, true};
+ghost use Rattle.std.specs.Prelude.{◌≡◌, ◌<◌, ◌^◌, true, [], ◌∷◌, ◌++◌, length};
 ghost use Rattle.upload_intake.specs.Kept.{AreDone};
+ghost use Rattle.upload_intake.specs.Safety.{answered_so, changes, changed};
+ghost use Rattle.upload_intake.specs.Typed.{AreTyped};
 
 use crate::ends::TakeEnd;
+use crate::heard::Heard;
+use crate::keeping::{Keeping, NotKept};
 use crate::lent::Moments;
 use crate::line::Item;
 use crate::log::Entry;
@@ -22,6 +26,8 @@ use upload_service::{Answer, Service, headline_holds};
 #[derive(Drop)]
 pub(crate) struct Books {
     pub(crate) service: Service,
+    /// The moment that it began at.
+    pub(crate) since: u64,
     pub(crate) now: u64,
     pub(crate) count: u64,
     pub(crate) jobs: TakeEnd<Message>,
@@ -33,7 +39,7 @@ pub(crate) struct Books {
 /// The owner of the service. Contracts see its service, the one that it was given, and the jobs that it took.
 #[derive(Drop)]
 pub struct Keeper {
-    books: Books,
+    pub(crate) books: Books,
 }
 
 impl Model for Keeper {
@@ -73,33 +79,63 @@ impl Model for Served {
 }
 
 impl ReplyLine {
-    ghost use Rattle.std.specs.Prelude.{◌≡◌, true};
+    ghost use Rattle.std.specs.Prelude.{◌≡◌, true, false, IfSome};
     ghost use Rattle.crossbeam_channel.specs.Claims.{view as known};
+    ghost use Rattle.upload_intake.specs.Safety.{MayBeHeard};
     ghost use Rattle.upload_intake.specs.Line.{is_sender};
-    ghost use Rattle.upload_intake.specs.Kept.{Replies, outlet_of};
+    ghost use Rattle.upload_intake.specs.Kept.{Holds, Sends, outlet_of};
 
-    // Sends a reply, if the line is open. A reply that is handed back closes it, and nothing else does.
-    #[tactic(auto, using(crate::proofs::KeeperMoves::replied_by, crate::proofs::KeeperMoves::was_closed))]
-    fn reply<R: Wait>(&mut self, rt: &R, answer: Answer)
-        requires { is_sender 0 (known self.old.replies.pass).sending ≡ true }
+    // Holds an answer back until what it tells is kept. A seat that asks again before it heard hears nothing more.
+    #[tactic(auto, using(crate::proofs::KeeperMoves::holding))]
+    fn hold(&mut self, answer: Answer)
         ensures line { self.new.replies.sender ≡ self.old.replies.sender }
         ensures done { self.new.is_done ≡ self.old.is_done }
-        ensures sent { Replies answer (outlet_of self.old) (outlet_of self.new) }
+        ensures held { Holds answer (outlet_of self.old) (outlet_of self.new) }
     {
-        if !self.replies.is_open() {
+        if self.is_crowded {
             return;
         }
-        // Each reply line has one sender.
-        let reply = Item {
-            seat: 0,
-            what: answer,
+        if self.held.is_some() {
+            self.is_crowded = true;
+            return;
+        }
+        self.held = Some(answer);
+    }
+
+    // Sends what was held back, if the line is open, and tells which session took a chunk. A reply that is handed back
+    // closes the line.
+    #[tactic(auto, using(crate::proofs::KeeperMoves::sending))]
+    fn reply_held<R: Wait, K: Keeping>(&mut self, rt: &R, keeping: &K) -> Option<UploadRef>
+        requires sends { is_sender 0 (known self.old.replies.pass).sending ≡ true }
+        requires kept { self.old.replies.is_open ≡ true → self.old.is_crowded ≡ false
+            → IfSome self.old.held
+            (λ answer. MayBeHeard (K.start keeping.now) (K.kept keeping.now)
+            (K.upto keeping.now) answer) }
+        ensures line { self.new.replies.sender ≡ self.old.replies.sender }
+        ensures done { self.new.is_done ≡ self.old.is_done }
+        ensures sent { Sends (outlet_of self.old) (outlet_of self.new) }
+    {
+        if self.is_crowded {
+            return None;
+        }
+        let Some(answer) = self.held.take() else {
+            return None;
         };
-        let _ = self.replies.send(rt, reply);
+        let taken = session_that_took(&answer);
+        if self.replies.is_open() {
+            // Each reply line has one sender.
+            let reply = Item {
+                seat: 0,
+                what: Heard::of(answer, keeping),
+            };
+            let _ = self.replies.send(rt, reply);
+        }
+        taken
     }
 }
 
 impl Keeper {
-    ghost use Rattle.std.specs.Prelude.{◌≡◌, [], map, All, vec_len};
+    ghost use Rattle.std.specs.Prelude.{◌≡◌, [], ◌++◌, map, true, All, vec_len, IfOk, OnOk, OnErr};
     ghost use Rattle.crossbeam_channel.specs.Claims.{view as known};
     ghost use Rattle.crossbeam_channel.specs.Ends.{receives_on};
     ghost use Rattle.upload_service.specs.Machine.{IsLawful};
@@ -107,14 +143,22 @@ impl Keeper {
     ghost use Rattle.upload_intake.specs.Replies.{replies_on, BeginsReplies};
     ghost use Rattle.upload_intake.specs.Pools.Served.{IsSameKeeper, LogIsServed};
     ghost use Rattle.upload_intake.specs.Told.{Grows};
+    ghost use Rattle.upload_intake.specs.Safety.{Follows, KeptSince};
 
-    pub(crate) fn new(service: Service, jobs: TakeEnd<Message>, lines: Vec<ReplyLine>) -> Keeper
+    // Before its first step, at this moment.
+    pub(crate) fn new(
+        service: Service,
+        since: u64,
+        jobs: TakeEnd<Message>,
+        lines: Vec<ReplyLine>,
+    ) -> Keeper
         requires jobs { known jobs.pass ≡ taker_view (vec_len lines) [] }
         requires lines { All BeginsReplies lines.items }
         ensures { result ≡ record {
           jobs = line_of (receives_on jobs.receiver);
           replies = map replies_on lines.items;
           start = service;
+          since = since;
           service = service;
           log = [];
         } }
@@ -124,7 +168,8 @@ impl Keeper {
         let start = Snapshot::of(&service);
         let books = Books {
             service,
-            now: 0,
+            since,
+            now: since,
             count: 0,
             jobs,
             lines,
@@ -134,24 +179,40 @@ impl Keeper {
         Keeper { books }
     }
 
-    // Takes one message, does what it asks, and tells which session took a chunk.
-    fn turn<R: Threads + Wait, M: Moments>(&mut self, rt: &R, moments: &mut M) -> Option<UploadRef>
+    // Takes a message and does what it asks, but for its answer, which is held back. If none waits already and this
+    // isn't to wait, or all seats are gone, there is none.
+    fn turn<R, M, K>(&mut self, rt: &R, moments: &mut M, keeping: &mut K, waits: bool) -> bool
+    where
+        R: Threads + Wait,
+        M: Moments,
+        K: Keeping,
+        requires follows { Follows (K.start keeping.old)
+            (K.kept keeping.old ++ K.waiting keeping.old) (K.last keeping.old) self.old }
         ensures same { IsSameKeeper self.old self.new }
         ensures grows { Grows M.tells self.old moments.old self.new moments.new }
+        ensures start { K.start keeping.new ≡ K.start keeping.old }
+        ensures kept { K.kept keeping.new ≡ K.kept keeping.old }
+        ensures follows { Follows (K.start keeping.new)
+            (K.kept keeping.new ++ K.waiting keeping.new) (K.last keeping.new) self.new }
+        ensures since { KeptSince self.old (K.kept keeping.old ++ K.waiting keeping.old)
+            self.new (K.kept keeping.new ++ K.waiting keeping.new) }
     {
-        let Some(item) = self.books.jobs.take(rt) else {
-            thread::yield_now();
-            return None;
+        let Some(item) = self.books.jobs.take_if(rt, waits) else {
+            // Nothing came although this waited: some seat went without its finish.
+            yield_if(waits);
+            return false;
         };
         let Item { seat, what } = item;
         match what {
             Message::Job(ask, secret) => {
                 self.books.now = self.books.now.max(moments.now());
                 let asked = Snapshot::of(&ask);
+                let note = keeping.note(&ask, secret, self.books.now);
                 let answer = self
                     .books
                     .service
                     .step_joining(rt, ask, secret, self.books.now);
+                are_typed(&secret, self.books.now, &answer);
                 let entry = Entry {
                     seat,
                     ask: asked,
@@ -161,19 +222,43 @@ impl Keeper {
                 };
                 self.books.log = self.books.log.and(&entry);
                 self.books.count = self.books.count.saturating_add(1);
-                let taken = session_that_took(&answer);
-                self.books.lines[seat].reply(rt, answer);
-                taken
+                add_change(keeping, note, &answer);
+                self.books.lines[seat].hold(answer);
+                true
             }
-            Message::Hash(at, algorithm) => {
-                let end = self.books.service.catch_up(&InThreads(rt), &at, algorithm);
+            Message::Hash(at, wish) => {
+                let told = wish.grant(rt, &mut self.books.service, &at);
                 // A seat that doesn't hear it is gone.
-                let _ = self.books.lines[seat].ends.send(rt, end);
-                None
+                let _ = self.books.lines[seat].ends.send(rt, told);
+                true
             }
             Message::Finish => {
                 self.books.lines[seat].is_done = true;
-                None
+                true
+            }
+        }
+    }
+
+    // Takes a message, for which it waits, and those that wait already: so many at most.
+    fn turns<R, M, K>(&mut self, rt: &R, moments: &mut M, keeping: &mut K, most: usize)
+    where
+        R: Threads + Wait,
+        M: Moments,
+        K: Keeping,
+        requires follows { Follows (K.start keeping.old)
+            (K.kept keeping.old ++ K.waiting keeping.old) (K.last keeping.old) self.old }
+        ensures same { IsSameKeeper self.old self.new }
+        ensures grows { Grows M.tells self.old moments.old self.new moments.new }
+        ensures start { K.start keeping.new ≡ K.start keeping.old }
+        ensures kept { K.kept keeping.new ≡ K.kept keeping.old }
+        ensures follows { Follows (K.start keeping.new)
+            (K.kept keeping.new ++ K.waiting keeping.new) (K.last keeping.new) self.new }
+        ensures since { KeptSince self.old (K.kept keeping.old ++ K.waiting keeping.old)
+            self.new (K.kept keeping.new ++ K.waiting keeping.new) }
+    {
+        for taken in 0..most {
+            if !self.turn(rt, moments, keeping, taken == 0) {
+                return;
             }
         }
     }
@@ -186,13 +271,93 @@ impl Keeper {
         let _ = self.books.service.catch_up(&place, at, Algorithm::Sha256);
     }
 
-    /// Serves requests until all seats have finished, each at the greater of the moment told and the moment before.
-    /// A seat that is dropped unfinished leaves it without an end.
-    pub fn run<R: Threads + Wait, M: Moments>(self, rt: &R, moments: &mut M) -> Served
-        ensures same { IsSameKeeper self result }
-        ensures grows { Grows M.tells self moments.old result moments.new }
-        ensures served { LogIsServed result }
-        ensures lawful { IsLawful result.service }
+    // Sends a seat what was held back for it, now that it is kept, and tells which session took a chunk.
+    fn reply_to<R: Wait, K: Keeping>(
+        &mut self,
+        rt: &R,
+        seat: usize,
+        keeping: &K,
+    ) -> Option<UploadRef>
+        requires { Follows (K.start keeping.now) (K.kept keeping.now) (K.upto keeping.now) self.old }
+        ensures { self.new ≡ self.old }
+    {
+        // The law over all runs, of which what is kept is one. The call does nothing.
+        headline_holds();
+        if seat >= self.books.lines.len() {
+            return None;
+        }
+        self.books.lines[seat].reply_held(rt, keeping)
+    }
+
+    // The same for each seat.
+    fn reply_all<R: Threads + Wait, K: Keeping>(&mut self, rt: &R, keeping: &K)
+        requires { Follows (K.start keeping.now) (K.kept keeping.now) (K.upto keeping.now) self.old }
+        ensures { self.new ≡ self.old }
+    {
+        for seat in 0..self.books.lines.len() {
+            if let Some(at) = self.reply_to(rt, seat, keeping) {
+                self.catch_up(rt, &at);
+            }
+        }
+    }
+
+    // Takes a message and those that wait already, at most as many as there are seats. What they changed is kept at
+    // once, and their moments are promised, and then each is answered.
+    fn round<R, M, K>(&mut self, rt: &R, moments: &mut M, keeping: &mut K) -> Result<(), NotKept>
+    where
+        R: Threads + Wait,
+        M: Moments,
+        K: Keeping,
+        requires follows { Follows (K.start keeping.old) (K.kept keeping.old) (K.last keeping.old)
+            self.old }
+        requires waiting { K.waiting keeping.old ≡ [] }
+        ensures same { IsSameKeeper self.old self.new }
+        ensures grows { Grows M.tells self.old moments.old self.new moments.new }
+        ensures waiting { OnOk result (K.waiting keeping.new ≡ []) }
+        ensures follows { OnOk result
+            (Follows (K.start keeping.new) (K.kept keeping.new) (K.last keeping.new) self.new) }
+        ensures since { OnOk result
+            (KeptSince self.old (K.kept keeping.old) self.new (K.kept keeping.new)) }
+        ensures failed { OnErr result (K.failed keeping.new ≡ true) }
+    {
+        // The law over all runs, of which what is kept is one. The call does nothing.
+        headline_holds();
+        let seats = self.books.lines.len();
+        self.turns(rt, moments, keeping, seats);
+        keeping.keep()?;
+        self.reply_all(rt, keeping);
+        Ok(())
+    }
+
+    /// As `run`, and what a request changed is kept before its answer is heard: of a keeper that never ends too. With
+    /// several requests at once, those that changed something are kept together, and then all are answered. Nothing is
+    /// answered at a moment that isn't promised.
+    ///
+    /// `NotKept` comes only if `keep` failed. Then no seat hears anything more.
+    pub fn run_kept<R, M, K>(
+        self,
+        rt: &R,
+        moments: &mut M,
+        keeping: &mut K,
+    ) -> Result<Served, NotKept>
+    where
+        R: Threads + Wait,
+        M: Moments,
+        K: Keeping,
+        requires follows { Follows (K.start keeping.old) (K.kept keeping.old) (K.last keeping.old) self }
+        requires waiting { K.waiting keeping.old ≡ [] }
+        ensures same { IfOk result (λ served. IsSameKeeper self served) }
+        ensures grows { IfOk result
+            (λ served. Grows M.tells self moments.old served moments.new) }
+        ensures served { IfOk result (λ served. LogIsServed served) }
+        ensures lawful { IfOk result (λ served. IsLawful served.service) }
+        ensures follows { IfOk result
+            (λ served. Follows (K.start keeping.new) (K.kept keeping.new) (K.last keeping.new)
+            served) }
+        ensures waiting { OnOk result (K.waiting keeping.new ≡ []) }
+        ensures since { IfOk result
+            (λ served. KeptSince self (K.kept keeping.old) served (K.kept keeping.new)) }
+        ensures failed { OnErr result (K.failed keeping.new ≡ true) }
     {
         // The law over all runs, of which this one will be one. The call does nothing.
         headline_holds();
@@ -200,14 +365,57 @@ impl Keeper {
         for _ in rt.forever() {
             if are_done(&keeper.books.lines) {
                 let Keeper { books } = keeper;
-                return Served { books };
+                return Ok(Served { books });
             }
-            if let Some(at) = keeper.turn(rt, moments) {
-                keeper.catch_up(rt, &at);
-            }
+            keeper.round(rt, moments, keeping)?;
         }
         unreachable!()
     }
+}
+
+// Lets other threads run.
+fn yield_if(is_idle: bool) {
+    if is_idle {
+        thread::yield_now();
+    }
+}
+
+// Does nothing: its clause is what the types say.
+fn are_typed(secret: &[u8], now: u64, answer: &Answer)
+    requires { length secret.now ≡ 12 }
+    ensures { AreTyped secret.now now answer.now }
+{
+    if let Answer::Blob { size, .. } = answer {
+        is_u64(*size);
+    }
+}
+
+// Does nothing: its clause is what the type says.
+fn is_u64(number: u64)
+    ensures { number < 2 ^ 64 }
+{}
+
+// Adds an exchange if it changed something.
+fn add_change<K: Keeping>(keeping: &mut K, note: K::Note, answer: &Answer)
+    ensures start { K.start keeping.new ≡ K.start keeping.old }
+    ensures kept { K.kept keeping.new ≡ K.kept keeping.old }
+    ensures waiting { K.waiting keeping.new
+        ≡ K.waiting keeping.old ++ changed (answered_so (K.noted note) answer.now ∷ []) }
+    ensures last { K.last keeping.new ≡ K.last keeping.old }
+{
+    if changes(answer) {
+        keeping.add(note, answer);
+    }
+}
+
+// Whether an answer tells that the service changed.
+fn changes(answer: &Answer) -> bool
+    ensures { result ≡ changes answer.now }
+{
+    matches!(
+        answer,
+        Answer::Begun { .. } | Answer::Taken { .. } | Answer::Stored { .. }
+    )
 }
 
 // Whether the finish of each seat was taken.

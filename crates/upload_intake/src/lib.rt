@@ -7,29 +7,38 @@
 //! worker's connections, `pool` starts all workers and the keeper, and `settlement` makes the lines and settles them.
 #![tactic(auto)]
 
+mod borrowed;
 mod desk;
 mod ends;
 mod gone;
+mod heard;
 mod keeper;
+mod keeping;
 mod laws;
 mod lent;
 mod line;
 mod log;
 mod message;
+mod pair;
 mod pool;
 mod reply;
 mod seat;
 mod settlement;
+mod unkept;
 mod work;
 
 pub use desk::SeatDesk;
 pub use gone::Gone;
 pub use keeper::{Keeper, Served};
+pub use keeping::{Keeping, NotKept};
 pub use laws::{
-    conversations_fill_the_seat, served_orders_are_determined, transcripts_tell_connections,
+    conversations_fill_the_seat, served_orders_are_determined, told_is_kept,
+    transcripts_tell_connections,
 };
 pub use lent::{Conns, DrawnSecrets, Gate, Moments, NoGate, Secrets, ZeroSecrets};
-pub use pool::{Pair, Pool, ServeFault, serve_pair, serve_workers};
+pub use pair::{Pair, serve_pair};
+pub use pool::{KeptFault, KeptService, Pool, ServeFault, serve_kept};
 pub use seat::{Seat, SeatEnd};
 pub use settlement::{Settled, lines, settle};
+pub use unkept::serve_workers;
 pub use work::{Worker, WorkerEnd};

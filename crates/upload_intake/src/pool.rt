@@ -1,14 +1,17 @@
 //! Workers, which serve connections at once, and the keeper beside them.
-ghost use Rattle.std.specs.Prelude.{◌≡◌, ◌<◌, ◌≤◌, [], ◌∷◌, All, IfOk, length, vec_len, vec_capacity};
+ghost use Rattle.std.specs.Prelude.{◌≡◌, ◌<◌, ◌≤◌, [], true, All, IfOk, length, vec_len, vec_capacity};
 ghost use Rattle.std.specs.Thread.{IsSend, IsSync};
 ghost use Rattle.upload_service.specs.Machine.{IsLawful, AreLawful};
 ghost use Rattle.upload_intake.specs.Seats.{IsFresh};
 ghost use Rattle.upload_intake.specs.Pools.Served.{AreOfOneCall};
 ghost use Rattle.upload_intake.specs.Pools.Working.{lending, means};
-ghost use Rattle.upload_intake.specs.Pools.ServedPool.{IsServedPool};
+ghost use Rattle.upload_intake.specs.Pools.KeptPool.{IsKeptPool};
+ghost use Rattle.upload_intake.specs.Safety.{Leads, LeadsTo, now_of};
+ghost use Rattle.upload_intake.specs.declared.pool.KeptFault.TheVariants as kept_faults;
 ghost use Rattle.upload_intake.specs.Pools.Stations.{seats_of, workers_of, limits_of, promised, EachWorks};
 
 use crate::keeper::Keeper;
+use crate::keeping::Keeping;
 use crate::lent::{Conns, Gate, Moments, Secrets};
 use crate::seat::{Seat, SeatEnd};
 use crate::settlement::{Settled, lines_of, settle_all};
@@ -32,23 +35,6 @@ pub struct Pool<M, W> {
     pub workers: Vec<W>,
     /// What each of them did.
     pub ends: Vec<WorkerEnd>,
-    /// The clock as the last request left it.
-    pub moments: M,
-}
-
-/// What is left of a pair of workers `W`.
-#[derive(Drop)]
-pub struct Pair<M, W> {
-    /// The service as the last request left it.
-    pub service: Service,
-    /// What the left worker did.
-    pub left: WorkerEnd,
-    /// What the right one did.
-    pub right: WorkerEnd,
-    /// The left worker, with what it was lent as its last connection left that.
-    pub left_worker: W,
-    /// The right one.
-    pub right_worker: W,
     /// The clock as the last request left it.
     pub moments: M,
 }
@@ -77,6 +63,45 @@ impl fmt::Display for ServeFault {
 }
 
 impl std::error::Error for ServeFault {}
+
+/// Why a pool was not served, or not to its end. The service and what kept its changes are dropped.
+#[derive(Clone, Copy, Debug, Drop, PartialEq, Eq)]
+pub enum KeptFault {
+    /// Not at all.
+    Serve(ServeFault),
+    /// What changed could not be kept. Nobody heard an answer of that round or of a later one, and the workers have
+    /// ended.
+    NotKept,
+}
+
+impl fmt::Display for KeptFault {
+    ghost use Rattle.std.specs.Prelude.{Some};
+    ghost use Rattle.upload_intake.specs.FaultTexts.{kept_fault_text};
+
+    ghost output = { λ fault. Some (kept_fault_text fault) };
+
+    fn fmt<W: fmt::Write>(&self, f: &mut fmt::Formatter<W>) -> fmt::Result {
+        match self {
+            KeptFault::Serve(fault) => fault.fmt(f),
+            KeptFault::NotKept => f.write_str("a change could not be kept"),
+        }
+    }
+}
+
+impl std::error::Error for KeptFault {}
+
+/// A service, and where its changes are kept from now on.
+#[derive(Drop)]
+pub struct KeptService<K> {
+    /// The service, to which what is kept leads.
+    pub service: Service,
+    /// What was kept so far, if the service was there before.
+    pub keeping: K,
+    /// The moment at which to begin, in seconds from the same start as the moments of what was kept. None of what was
+    /// served before was after it, also of what isn't kept: else an upload that was told to be gone could be there
+    /// again. The keeping has noted it.
+    pub since: u64,
+}
 
 /// The stack of a worker's thread, in bytes.
 const STACK: usize = 524_288;
@@ -148,10 +173,12 @@ where
     Ok(stations)
 }
 
-/// A keeper that has the service, and the workers at its seats, of which none has asked anything.
+/// A keeper that has the service and begins at this moment, and the workers at its seats, of which none has asked
+/// anything.
 fn seated<C, S, G, O>(
     alloc: Global,
     service: Service,
+    since: u64,
     workers: Vec<Worker<C, S, G, O>>,
 ) -> Result<(Keeper, Vec<Station<C, S, G, O>>), AllocError>
 where
@@ -166,11 +193,13 @@ where
         (λ r. All (λ n. n ≡ r.0.start.limits.max_body) (limits_of r.1.items)) }
     ensures workers { IfOk result (λ r. workers_of r.1.items ≡ workers.items) }
     ensures start { IfOk result (λ r. r.0.start ≡ service) }
+    ensures since { IfOk result (λ r. r.0.since ≡ since) }
+    ensures service { IfOk result (λ r. r.0.service ≡ service) }
     ensures log { IfOk result (λ r. r.0.log ≡ []) }
 {
     let limits = service.limits();
     let count = workers.len();
-    let (keeper, seats) = lines_of(alloc, service, count, count)?;
+    let (keeper, seats) = lines_of(alloc, service, since, count, count)?;
     let stations = stations(alloc, limits, seats, workers)?;
     Ok((keeper, stations))
 }
@@ -212,78 +241,89 @@ where
     ends
 }
 
-/// Serves the connections of all workers at once, each worker's one after the other until no more come. All workers are
-/// started before the keeper runs on this thread, and every thread is joined. `moments` is asked once for each request,
-/// and handed back, as is all that each worker was lent. What a worker reads through is taken before, once for all its
-/// connections.
+/// As `serve_workers`, and what changed the service is kept before its answer is heard, and the moment of each answer is
+/// promised: also of a pool that never ends. What kept it is handed back with all that it kept before, and then each
+/// exchange that changed something, in the order in which they were served. No exchange is at a moment before the given
+/// one.
 ///
-/// `NoMemory` comes if the workers' buffers or the lines found no memory: no worker was started. All memory that the
-/// pool itself needs is taken before the first one is, so that what was served isn't lost. `NoThread` comes if a
-/// worker couldn't be started, once those that were started have ended. They may wait for a connection: the first that
-/// asks something ends `DeskGone`, and its worker takes no more. After either the service, the clock and the workers
-/// are dropped.
-pub fn serve_workers<R, M, C, S, G, O>(
+/// `Serve` comes as the faults of `serve_workers` do. `NotKept` comes only if `keep` failed, once all workers have
+/// ended. They may wait for a connection: the first that asks something ends `DeskGone`, and its worker takes no more.
+pub fn serve_kept<R, M, K, C, S, G, O>(
     rt: &R,
     alloc: Global,
-    service: Service,
+    kept: KeptService<K>,
     workers: Vec<Worker<C, S, G, O>>,
     moments: M,
-) -> Result<Pool<M, Worker<C, S, G, O>>, ServeFault>
+) -> Result<(Pool<M, Worker<C, S, G, O>>, K), KeptFault>
 where
     R: Threads + Wait + Sync,
     M: Moments + Drop,
+    K: Keeping + Drop,
     C: Conns + Send + Drop,
     S: Secrets + Send + Drop,
     G: Gate + Send + Drop,
     O: Observer + Send + Drop,
-    requires { 0 < vec_len workers }
-    ensures served { IfOk result (λ pool. IsServedPool
+    requires workers { 0 < vec_len workers }
+    requires leads { Leads (K.start kept.keeping) (K.kept kept.keeping) kept.since kept.service }
+    requires waiting { K.waiting kept.keeping ≡ [] }
+    requires begun { kept.since ≤ K.last kept.keeping }
+    ensures served { IfOk result (λ r. IsKeptPool
         (means (lending C.gives C.takes_back C.In.state C.Out.state) S.draws G.watches O.told)
-        M.tells
-        (record { service = service; moments = moments; workers = workers.items })
+        M.tells kept.since
+        (record { service = kept.service; moments = moments; workers = workers.items })
         (record {
-          service = pool.service;
-          moments = pool.moments;
-          workers = pool.workers.items;
-          ends = pool.ends.items;
-        })) }
-    ensures lawful { IfOk result (λ pool. IsLawful pool.service) }
+          service = r.0.service;
+          moments = r.0.moments;
+          workers = r.0.workers.items;
+          ends = r.0.ends.items;
+        }) (K.kept kept.keeping) (K.kept r.1)) }
+    ensures lawful { IfOk result (λ r. IsLawful r.0.service) }
+    ensures not_kept { (result ≡ Err kept_faults.NotKept) → (k : K) × (K.failed k ≡ true) }
 {
-    let Ok((keeper, stations)) = seated(alloc, service, workers) else {
-        return Err(ServeFault::NoMemory);
+    let KeptService {
+        service,
+        keeping,
+        since,
+    } = kept;
+    let Ok((keeper, stations)) = seated(alloc, service, since, workers) else {
+        return Err(KeptFault::Serve(ServeFault::NoMemory));
     };
     thread::scope(
         thread::scope_env(),
         rt,
-        |scope| -> Result<Pool<M, Worker<C, S, G, O>>, ServeFault>
+        |scope| -> Result<(Pool<M, Worker<C, S, G, O>>, K), KeptFault>
             requires of_one_call { AreOfOneCall keeper (seats_of stations.items) }
             requires seats { All IsFresh (seats_of stations.items) }
             requires servers { All (λ n. n ≡ keeper.start.limits.max_body)
                 (limits_of stations.items) }
             requires fresh { keeper.log ≡ [] }
+            requires leads { LeadsTo (K.start keeping) (K.kept keeping) keeper }
+            requires waiting { K.waiting keeping ≡ [] }
+            requires begun { now_of keeper ≤ K.last keeping }
             requires cross { IsSend C.row × IsSend S.row × IsSend G.row × IsSend O.row
                 × IsSend C.In.row × IsSend C.Out.row × IsSync R.row }
-            ensures served { IfOk result (λ pool. IsServedPool
+            ensures served { IfOk result (λ r. IsKeptPool
                 (means (lending C.gives C.takes_back C.In.state C.Out.state) S.draws
-                G.watches O.told) M.tells
+                G.watches O.told) M.tells keeper.since
                 (record {
                   service = keeper.start;
                   moments = moments;
                   workers = workers_of stations.items;
                 })
                 (record {
-                  service = pool.service;
-                  moments = pool.moments;
-                  workers = pool.workers.items;
-                  ends = pool.ends.items;
-                })) }
-            ensures lawful { IfOk result (λ pool. IsLawful pool.service) }
+                  service = r.0.service;
+                  moments = r.0.moments;
+                  workers = r.0.workers.items;
+                  ends = r.0.ends.items;
+                }) (K.kept keeping) (K.kept r.1)) }
+            ensures lawful { IfOk result (λ r. IsLawful r.0.service) }
+            ensures not_kept { (result ≡ Err kept_faults.NotKept) → (k : K) × (K.failed k ≡ true) }
         {
             let Ok(room) = Ends::with_capacity(alloc, stations.len()) else {
-                return Err(ServeFault::NoMemory);
+                return Err(KeptFault::Serve(ServeFault::NoMemory));
             };
             let Ok(mut started) = Vec::with_capacity(alloc, stations.len()) else {
-                return Err(ServeFault::NoMemory);
+                return Err(KeptFault::Serve(ServeFault::NoMemory));
             };
             for station in stations {
                 let work = Work {
@@ -294,82 +334,25 @@ where
                 let Ok(worker) = stack.spawn_scoped_with(scope, work, run) else {
                     drop(keeper);
                     drop(join_all(rt, started, room));
-                    return Err(ServeFault::NoThread);
+                    return Err(KeptFault::Serve(ServeFault::NoThread));
                 };
                 started.push_reserved(worker);
             }
             let mut clock = moments;
-            let served = keeper.run(rt, &mut clock);
+            let mut store = keeping;
+            let Ok(served) = keeper.run_kept(rt, &mut clock, &mut store) else {
+                drop(join_all(rt, started, room));
+                return Err(KeptFault::NotKept);
+            };
             let ends = join_all(rt, started, room);
             let Settled { service, .. } = settle_all(served, ends.seats);
-            Ok(Pool {
+            let pool = Pool {
                 service,
                 workers: ends.workers,
                 ends: ends.ends,
                 moments: clock,
-            })
+            };
+            Ok((pool, store))
         },
     )
-}
-
-// Two in order.
-fn two<T: Drop>(alloc: Global, first: T, second: T) -> Result<Vec<T>, AllocError>
-    ensures { IfOk result (λ both. both.items ≡ first ∷ second ∷ []) }
-{
-    let mut both = Vec::with_capacity(alloc, 2)?;
-    both.push_reserved(first);
-    both.push_reserved(second);
-    Ok(both)
-}
-
-/// Serves the connections of two workers, as `serve_workers` does those of many.
-pub fn serve_pair<R, M, C, S, G, O>(
-    rt: &R,
-    alloc: Global,
-    service: Service,
-    left: Worker<C, S, G, O>,
-    right: Worker<C, S, G, O>,
-    moments: M,
-) -> Result<Pair<M, Worker<C, S, G, O>>, ServeFault>
-where
-    R: Threads + Wait + Sync,
-    M: Moments + Drop,
-    C: Conns + Send + Drop,
-    S: Secrets + Send + Drop,
-    G: Gate + Send + Drop,
-    O: Observer + Send + Drop,
-    ensures served { IfOk result (λ pair. IsServedPool
-        (means (lending C.gives C.takes_back C.In.state C.Out.state) S.draws G.watches O.told)
-        M.tells
-        (record { service = service; moments = moments; workers = left ∷ right ∷ [] })
-        (record {
-          service = pair.service;
-          moments = pair.moments;
-          workers = pair.left_worker ∷ pair.right_worker ∷ [];
-          ends = pair.left ∷ pair.right ∷ [];
-        })) }
-    ensures lawful { IfOk result (λ pair. IsLawful pair.service) }
-{
-    let Ok(workers) = two(alloc, left, right) else {
-        return Err(ServeFault::NoMemory);
-    };
-    let Pool {
-        service,
-        workers,
-        ends,
-        moments,
-    } = serve_workers(rt, alloc, service, workers, moments)?;
-    let mut workers = workers.into_iter();
-    let (Some(left_worker), Some(right_worker)) = (workers.next(), workers.next()) else {
-        unreachable!()
-    };
-    let (left, right) = (ends[0], ends[1]);
-    Ok(Pair {
-        service,
-        left,
-        right,
-        left_worker,
-        right_worker,
-        moments,
-    })
 }

@@ -1,22 +1,32 @@
 //! A seat asks the keeper, and waits for the answer.
-ghost use Rattle.std.specs.Prelude.{◌≡◌, ℕ, List};
+ghost use Rattle.std.specs.Prelude.{◌≡◌, ℕ, List, IfOk, IfErr};
 ghost use Rattle.upload_intake.specs.declared.message.Message.TheVariants.{Job};
 ghost use Rattle.upload_intake.specs.Kept.{IsJob};
 
 use crate::ends::{SendEnd, TakeEnd};
 use crate::gone::Gone;
+use crate::heard::Heard;
 use crate::line::Item;
-use crate::message::Message;
+use crate::message::{Message, Told, Wish};
 use crossbeam_channel::Receiver;
 use std::marker::Model;
 use std::sync::Wait;
-use upload_bytes::HashEnd;
-use upload_names::{Algorithm, UploadRef};
-use upload_service::{Answer, Ask};
+use upload_bytes::Body;
+use upload_names::{Algorithm, BlobDigest, RepoName, UploadRef};
+use upload_service::{Answer, Ask, Extent};
 
 /// How often a seat waits at most for the hash of an upload before it asks for the close. Twice are enough if nothing
 /// comes meanwhile: for the thread that was at work, and for the one that takes the rest in.
 const MOST_WAITS: u32 = 4;
+
+/// How often a seat hashes the body of a close at most, if chunks come meanwhile.
+const MOST_HASHES: u32 = 4;
+
+/// The fewest bytes of a body that the keeper doesn't hash.
+const WORTH_HASHING: u64 = 262_144;
+
+/// How many times as fast bytes are compared as hashed, at least.
+const COMPARING: u64 = 16;
 
 /// What a seat has, before and after its finish: its number, its ends of the lines, and whether a call of it ended
 /// `Gone`.
@@ -24,7 +34,7 @@ const MOST_WAITS: u32 = 4;
 pub(crate) struct Place {
     pub(crate) seat: usize,
     pub(crate) jobs: SendEnd<Message>,
-    pub(crate) replies: TakeEnd<Answer>,
+    pub(crate) replies: TakeEnd<Heard>,
     pub(crate) gone: bool,
 }
 
@@ -32,7 +42,7 @@ pub(crate) struct Place {
 #[derive(Drop)]
 pub struct Seat {
     place: Place,
-    ends: Receiver<Option<HashEnd>>,
+    ends: Receiver<Told>,
 }
 
 impl Model for Seat {
@@ -67,6 +77,62 @@ impl Model for SeatEnd {
         (known s.place.jobs.pass) (known s.place.replies.pass) };
 }
 
+/// A request for a close, without its body.
+#[derive(Drop)]
+struct Close {
+    name: RepoName,
+    at: UploadRef,
+    range: Extent,
+    digest: Option<BlobDigest>,
+}
+
+impl Close {
+    // The request with this body.
+    fn with(self, body: Body) -> Ask
+        ensures { result ≡ Ask.Close self.name self.at self.range self.digest body }
+    {
+        let Close {
+            name,
+            at,
+            range,
+            digest,
+        } = self;
+        Ask::Close {
+            name,
+            at,
+            range,
+            digest,
+            body,
+        }
+    }
+}
+
+// A close and its body. An `Err` gives a request back that is another one.
+fn close_of(ask: Ask) -> Result<(Close, Body), Ask>
+    ensures ok { IfOk result
+        (λ parts. ask ≡ Ask.Close parts.0.name parts.0.at parts.0.range parts.0.digest parts.1) }
+    ensures err { IfErr result (λ back. back ≡ ask) }
+{
+    match ask {
+        Ask::Close {
+            name,
+            at,
+            range,
+            digest,
+            body,
+        } => Ok((
+            Close {
+                name,
+                at,
+                range,
+                digest,
+            },
+            body,
+        )),
+        other => Err(other),
+    }
+}
+
 impl Seat {
     ghost use Rattle.std.specs.Prelude.{◌≡◌, [], false};
     ghost use Rattle.crossbeam_channel.specs.Claims.{view as known};
@@ -77,8 +143,8 @@ impl Seat {
     pub(crate) fn new(
         seat: usize,
         jobs: SendEnd<Message>,
-        replies: TakeEnd<Answer>,
-        ends: Receiver<Option<HashEnd>>,
+        replies: TakeEnd<Heard>,
+        ends: Receiver<Told>,
     ) -> Seat
         requires jobs { known jobs.pass ≡ sender_view seat [] }
         requires replies { known replies.pass ≡ taker_view 1 [] }
@@ -103,28 +169,49 @@ impl Seat {
     }
 
     /// Sends a request to the keeper, and waits for the answer. Before a close with a digest it waits for the hash of
-    /// what the upload received, while the keeper serves others.
+    /// what the upload received, and hashes a large body behind that itself, while the keeper serves others.
     ///
     /// `NotSent` comes only if the line handed the request back or an earlier call ended `Gone`. `NoAnswer` comes
     /// only if no answer came after the request was sent.
     pub fn ask<R: Wait>(&mut self, rt: &R, ask: Ask, secret: [u8; 12]) -> Result<Answer, Gone>
         ensures { Asks self.old ask secret result self.new }
     {
-        if let Some((at, algorithm)) = self.hash_needed(&ask) {
-            self.wait_for_hash(rt, at, algorithm);
-        }
+        let ask = self.prepare(rt, ask);
         self.ask_at_once(rt, ask, secret)
     }
 
-    // The session that a request closes, and by which algorithm its bytes are hashed; none if the keeper is gone.
-    fn hash_needed(&self, ask: &Ask) -> Option<(UploadRef, Algorithm)> {
-        match ask {
-            Ask::Close {
-                at,
-                digest: Some(digest),
-                ..
-            } if !self.place.gone => Some((*at, digest.algorithm())),
-            _ => None,
+    // The same request, with all hashed that can be hashed before it is asked.
+    fn prepare<R: Wait>(&mut self, rt: &R, ask: Ask) -> Ask
+        ensures ask { result ≡ ask }
+        ensures same { self.new ≡ self.old }
+    {
+        let (close, body) = match close_of(ask) {
+            Ok(parts) => parts,
+            Err(ask) => return ask,
+        };
+        let body = self.prepare_body(rt, close.at, close.digest, body);
+        close.with(body)
+    }
+
+    // The same body of a close with this digest, for which the hash of its session is waited for; of a gone keeper
+    // nothing is.
+    fn prepare_body<R: Wait>(
+        &mut self,
+        rt: &R,
+        at: UploadRef,
+        digest: Option<BlobDigest>,
+        body: Body,
+    ) -> Body
+        ensures body { result ≡ body }
+        ensures same { self.new ≡ self.old }
+    {
+        match digest {
+            Some(digest) if !self.place.gone => {
+                let algorithm = digest.algorithm();
+                self.wait_for_hash(rt, at, algorithm);
+                self.hash_body(rt, at, algorithm, body)
+            }
+            _ => body,
         }
     }
 
@@ -134,29 +221,64 @@ impl Seat {
         ensures { self.new ≡ self.old }
     {
         'waits: for _ in 0..MOST_WAITS {
-            let Some(end) = self.wish(rt, at, algorithm) else {
+            let Told::AtWork(end) = self.wish(rt, at, Wish::GoesOn(algorithm)) else {
                 break;
             };
             end.wait(rt);
         }
     }
 
-    // Wishes that a session's hash goes on, and hears which thread's end to wait for, if there is one. If the keeper
-    // goes meanwhile, there is none. Nothing that is seen changes.
-    fn wish<R: Wait>(&mut self, rt: &R, at: UploadRef, algorithm: Algorithm) -> Option<HashEnd>
+    // The same body, hashed here behind what a session received, if the keeper would hold others up with it: by the
+    // hash of a large body, or by comparing what the session received. If chunks come meanwhile it is hashed anew,
+    // unless they go on coming.
+    fn hash_body<R: Wait>(
+        &mut self,
+        rt: &R,
+        at: UploadRef,
+        algorithm: Algorithm,
+        body: Body,
+    ) -> Body
+        ensures body { result ≡ body }
+        ensures same { self.new ≡ self.old }
+    {
+        let size = body.len() as u64;
+        if size < WORTH_HASHING {
+            return body;
+        }
+        let mut body = body;
+        let mut behind = 0;
+        'hashes: for _ in 0..MOST_HASHES {
+            let Told::Front(front) = self.wish(rt, at, Wish::Front(algorithm)) else {
+                break;
+            };
+            let received = front.len();
+            // Of an empty upload the hash that the body carries is the whole one.
+            if received == behind || received / COMPARING > size {
+                break;
+            }
+            behind = received;
+            body = body.hashed_behind(front);
+            self.wait_for_hash(rt, at, algorithm);
+        }
+        body
+    }
+
+    // Wishes something of a session's hash, and hears what comes of it: nothing, if the keeper goes meanwhile. Nothing
+    // that is seen changes.
+    fn wish<R: Wait>(&mut self, rt: &R, at: UploadRef, wish: Wish) -> Told
         ensures { self.new ≡ self.old }
     {
         let seat = self.place.seat;
-        let wish = Item {
+        let item = Item {
             seat,
-            what: Message::Hash(at, algorithm),
+            what: Message::Hash(at, wish),
         };
-        let Ok(()) = self.place.jobs.offer(rt, wish) else {
-            return None;
+        let Ok(()) = self.place.jobs.offer(rt, item) else {
+            return Told::Nothing;
         };
         match self.ends.recv(rt) {
-            Ok(end) => end,
-            Err(_) => None,
+            Ok(told) => told,
+            Err(_) => Told::Nothing,
         }
     }
 
@@ -176,7 +298,7 @@ impl Seat {
             return Err(Gone::NotSent(ask_of(back)));
         }
         match self.place.replies.take(rt) {
-            Some(reply) => Ok(reply.what),
+            Some(reply) => Ok(reply.what.into_answer()),
             None => {
                 self.place.gone = true;
                 Err(Gone::NoAnswer)

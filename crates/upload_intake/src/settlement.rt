@@ -27,17 +27,19 @@ pub struct Settled {
     pub log_length: u64,
 }
 
-/// A keeper that has the service, and so many seats. At most `capacity` jobs wait on their line, and one reply on each
-/// of the others. If memory is out, the service is dropped.
+/// A keeper that has the service and begins at this moment, and so many seats. At most `capacity` jobs wait on their
+/// line, and one reply on each of the others. If memory is out, the service is dropped.
 pub(crate) fn lines_of(
     alloc: Global,
     service: Service,
+    since: u64,
     count: usize,
     capacity: usize,
 ) -> Result<(Keeper, Vec<Seat>), AllocError>
     requires { 0 < capacity }
     ensures of_one_call { IfOk result (λ r. AreOfOneCall r.0 r.1.items) }
     ensures start { IfOk result (λ r. r.0.start ≡ service) }
+    ensures since { IfOk result (λ r. r.0.since ≡ since) }
     ensures service { IfOk result (λ r. r.0.service ≡ service) }
     ensures log { IfOk result (λ r. r.0.log ≡ []) }
     ensures count { IfOk result (λ r. vec_len r.1 ≡ count) }
@@ -55,13 +57,16 @@ pub(crate) fn lines_of(
             replies,
             ends,
             is_done: false,
+            held: None,
+            is_crowded: false,
         })?;
     }
-    Ok((Keeper::new(service, jobs, lines), seats))
+    Ok((Keeper::new(service, since, jobs, lines), seats))
 }
 
-/// A keeper that has the service, and the left and the right seat: those of two. At most `capacity` jobs wait on their
-/// line, and one reply on each of the two others. If memory is out, the service is dropped.
+/// A keeper that has the service and begins at moment 0, and the left and the right seat: those of two. At most
+/// `capacity` jobs wait on their line, and one reply on each of the two others. If memory is out, the service is
+/// dropped.
 pub fn lines(
     alloc: Global,
     service: Service,
@@ -70,11 +75,12 @@ pub fn lines(
     requires { 0 < capacity }
     ensures of_one_call { IfOk result (λ r. AreOfOneCall r.0 (r.1 ∷ r.2 ∷ [])) }
     ensures start { IfOk result (λ r. r.0.start ≡ service) }
+    ensures since { IfOk result (λ r. r.0.since ≡ 0) }
     ensures service { IfOk result (λ r. r.0.service ≡ service) }
     ensures log { IfOk result (λ r. r.0.log ≡ []) }
     ensures seats { IfOk result (λ r. IsFresh r.1 × IsFresh r.2) }
 {
-    let (keeper, seats) = lines_of(alloc, service, 2, capacity)?;
+    let (keeper, seats) = lines_of(alloc, service, 0, 2, capacity)?;
     let mut seats = seats.into_iter();
     let (Some(left), Some(right)) = (seats.next(), seats.next()) else {
         unreachable!()

@@ -6,6 +6,7 @@ pub mod WrittenFields
 pub mod WrittenRequests
 pub mod ReplyHeads
 pub mod ReplyFields
+pub mod WrittenLengths
 pub mod ReplyReadings
 pub mod SentReplies
 pub mod WrittenReplies

@@ -53,7 +53,7 @@ location_short : (path : List ℕ) → IsPlain path → length path ≤ 450 → 
 unfolding is_token_byte
 location_short path h short = search (rules, arith, plain_field, graphic_text)
 
-digest_length : (digest : Digest) → IsDigest digest → length (digest_text digest) ≤ 135
+pub digest_length : (digest : Digest) → IsDigest digest → length (digest_text digest) ≤ 135
 digest_length digest h = short_text (digest_text digest) digest (digest_of-text digest h)
 
 digest_short : (digest : Digest) → IsDigest digest → IsShortField (codes "Docker-Content-Digest", digest_text digest)
@@ -87,7 +87,7 @@ allow_short other = allowed (methods other) refl refl (lit≤ tt)
 
 -- ---- paths
 
-name_length : (name : List ℕ) → is_name name ≡ true → length name ≤ 255
+pub name_length : (name : List ℕ) → is_name name ≡ true → length name ≤ 255
 unfolding is_name
 name_length name h = search (rules, arith, and_parts, nat_le)
 

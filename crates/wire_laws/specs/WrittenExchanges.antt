@@ -21,6 +21,21 @@ pub record MayBeAsked (max_body : ℕ) (ask : Ask) (host : List ℕ) : Type 0 wh
   pub short : length (head_text ask host) ≤ max_head
   pub fits : length (body_text ask) ≤ max_body
 
+-- The ask may be written, its values are such as its type has, and its body keeps the limit of the reader.
+pub record IsWritable (max_body : ℕ) (ask : Ask) : Type 0 where
+  pub can : CanBeWritten ask
+  pub parts : HasLawfulParts ask
+  pub fits : length (body_text ask) ≤ max_body
+
+-- half of what a head may have
+abbrev pub longest_host : ℕ
+longest_host = 8192
+
+-- one visible ASCII byte or more, and not too many for any head
+pub record IsShortHost (host : List ℕ) : Type 0 where
+  pub bytes : IsTrue (is_host host)
+  pub short : length host ≤ longest_host
+
 -- the size of a blob is a u64
 abbrev pub HasSize : Answer → Type 0
 HasSize (Blob digest size bytes) = size < 2 ^ 64
@@ -42,6 +57,12 @@ pub record IsHeardBack (max_body : ℕ) (ask : Ask) (host : List ℕ) (answer : 
   pub heard : (rest : List ℕ) (new : SourceState)
       → IsReadOnlyAs (wants_head ask) (reply answer (written_style ask) ++ rest) new
       (reply_read answer (written_style ask) rest)
+
+-- To a host that isn't too long each ask may be asked that is such as its type has: its head is short enough.
+abbrev pub AsksMayBeAsked : Type 0
+AsksMayBeAsked =
+    (max_body : ℕ) (ask : Ask) (host : List ℕ) → max_body < 2 ^ 64 → IsWritable max_body ask → IsShortHost host
+    → MayBeAsked max_body ask host
 
 abbrev pub ExchangesAreHeard : Type 0
 ExchangesAreHeard =

@@ -1,7 +1,7 @@
 //! What one half writes, the other reads.
 ghost use Rattle.wire_laws.specs.Joined.{ConnectionsAreJoined};
 ghost use Rattle.wire_laws.specs.WrittenAsks.{AsksAreReadBack};
-ghost use Rattle.wire_laws.specs.WrittenExchanges.{ExchangesAreHeard};
+ghost use Rattle.wire_laws.specs.WrittenExchanges.{AsksMayBeAsked, ExchangesAreHeard};
 ghost use Rattle.wire_laws.specs.WrittenReplies.{RepliesAreHeard};
 
 use upload_wire::Desk;
@@ -19,6 +19,12 @@ pub fn written_asks_are_read()
 /// answer without the bytes of its blob is one to a HEAD.
 pub fn written_replies_are_heard()
     ensures { RepliesAreHeard }
+{}
+
+/// An ask that a client may write keeps the limits of a service's reader, if the host has at most 8,192 bytes and the
+/// ask's body keeps its limit. Its head is short enough, whatever its name, its digest and its numbers are.
+pub fn asks_may_be_asked()
+    ensures { AsksMayBeAsked }
 {}
 
 /// What a client writes to ask a lawful service is read as the ask, and whatever the service answers, in any state and

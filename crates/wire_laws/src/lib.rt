@@ -5,5 +5,6 @@
 mod laws;
 
 pub use laws::{
-    connections_are_joined, exchanges_are_heard, written_asks_are_read, written_replies_are_heard,
+    asks_may_be_asked, connections_are_joined, exchanges_are_heard, written_asks_are_read,
+    written_replies_are_heard,
 };

@@ -1,4 +1,5 @@
--- A keeper: its lines, the service that it was given and the one that it has now, and the steps by which it came there.
+-- A keeper: its lines, the service that it was given and the moment that it began at, the service that it has now, and
+-- the steps by which it came there.
 use Rattle.std.specs.Prelude.{◌≡◌, ◌<◌, ℕ, List, map, length, get_or}
 use Rattle.crossbeam_channel.specs.Ends.{receives_on}
 use Rattle.upload_service.specs.declared.answer.Answer.{Answer}
@@ -16,6 +17,7 @@ pub record KeeperState : Type 0 where
   pub jobs : LineId Message
   pub replies : List (LineId Answer)
   pub start : State
+  pub since : ℕ
   pub service : State
   pub log : List Step
 
@@ -25,15 +27,17 @@ keeper_with books = record {
   jobs = line_of (receives_on books.jobs.receiver);
   replies = map replies_on books.lines.items;
   start = books.start.value;
+  since = books.since;
   service = books.service;
   log = steps_of books.log;
 }
 
--- the same lines, and the same service at the start
+-- the same lines, and the same service and moment at the start
 pub record IsSameKeeper (old new : KeeperState) : Type 0 where
   pub jobs : new.jobs ≡ old.jobs
   pub replies : new.replies ≡ old.replies
   pub start : new.start ≡ old.start
+  pub since : new.since ≡ old.since
 
 -- The exchanges are a run of the service, at moments that don't fall; so the headline holds of it.
 pub record IsServed (start : State) (exchanges : List Exchange) (service : State) : Type 0 where

@@ -15,6 +15,7 @@ use Rattle.upload_intake.specs.Log.{Step, exchanges_of, taken_by, jobs_of}
 use Rattle.upload_intake.specs.Seats.{SeatState, IsFresh}
 use Rattle.upload_intake.specs.Pools.Served.{IsServed}
 use Rattle.upload_intake.specs.Told.{Told}
+use Rattle.upload_intake.specs.Typed.{AllTyped}
 use Rattle.upload_intake.specs.Pools.Working.{Lending, Means, Lent, IsWorked, all_answered, all_unanswered}
 use Rattle.upload_wire.specs.Conversation.{WireExchange}
 
@@ -68,7 +69,8 @@ pub record Left (M W : Type 0) : Type 0 where
   pub workers : List W
   pub ends : List WorkerEnd
 
-pub record IsServedPool {L : Lending} {S G O M : Type 0} (m : Means L S G O) (tells : M → ℕ → M → Type 0)
+-- a pool that began at this moment
+pub record IsServedSince {L : Lending} {S G O M : Type 0} (m : Means L S G O) (tells : M → ℕ → M → Type 0) (since : ℕ)
     (given : Given M (Lent L S G O)) (left : Left M (Lent L S G O)) : Type 0 where
   pub steps : List Step
   -- no step is of another seat
@@ -82,4 +84,10 @@ pub record IsServedPool {L : Lending} {S G O M : Type 0} (m : Means L S G O) (te
         end = get_or left.ends seat end;
       })
   pub served : IsServed given.service (exchanges_of steps) left.service
-  pub told : Told tells 0 given.moments (exchanges_of steps) left.moments
+  pub typed : AllTyped (exchanges_of steps)
+  pub told : Told tells since given.moments (exchanges_of steps) left.moments
+
+-- a pool that began at moment 0
+abbrev pub IsServedPool : {L : Lending} {S G O M : Type 0} → Means L S G O → (M → ℕ → M → Type 0)
+    → Given M (Lent L S G O) → Left M (Lent L S G O) → Type 0
+IsServedPool m tells given left = IsServedSince m tells 0 given left

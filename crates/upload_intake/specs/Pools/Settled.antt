@@ -6,6 +6,7 @@ use Rattle.upload_service.specs.declared.answer.Answer.{Answer}
 use Rattle.upload_service.specs.Machine.{State}
 use Rattle.upload_intake.specs.Log.{Step, exchanges_of, taken_by, jobs_of, answers_to}
 use Rattle.upload_intake.specs.Seats.{SeatState}
+use Rattle.upload_intake.specs.Typed.{AllTyped}
 use Rattle.upload_intake.specs.Pools.Served.{KeeperState, IsServed}
 
 -- the last value of a count, which stays there
@@ -33,4 +34,5 @@ pub record IsSettled (keeper : KeeperState) (ends : List SeatState) (service : S
   -- them
   pub same : service ≡ keeper.service
   pub served : IsServed keeper.start (exchanges_of keeper.log) service
+  pub typed : AllTyped (exchanges_of keeper.log)
   pub counted : log_length ≡ min (length keeper.log) count_limit

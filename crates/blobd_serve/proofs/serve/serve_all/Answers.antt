@@ -1,11 +1,42 @@
-use Rattle.std.proofs.Common.{ap, sym, ◌∙◌}
+use Rattle.std.proofs.Common.{ap, ◌∙◌}
 use Rattle.upload_service.specs.Machine.{empty_state}
-use Rattle.blobd_serve.proofs.ServedLines.{have_served}
+use Rattle.blobd_serve.proofs.Histories.{at_most, exactly}
 use Rattle.blobd_serve.proofs.serve.serve_all.Goals as goal
 
-pub returns : goal.returns
-returns g c = λ all.
-    have_served _ _ _ _ _ c.in_ok-pool.ensures.served
-    (c.keep_free.ensures ∙ c.new-service.ensures ∙ ap (λ l. empty_state l 0) c.limits.ensures.value)
-    (sym c.args.workers.ok.0 ∙ c.requires.number) (c.took_all.ensures all)
-    (λ old new reader writer given. (ap (λ t. t.bytes) given.1.0, given.1.3))
+pub returns-clause-served : goal.returns-clause-served
+returns-clause-served g c = record {
+  given = _;
+  left = _;
+  pool = c.in_ok-pool.ensures.served;
+  at =
+      at_most _ _ _ _ _ _ c.in_ok-pool.ensures.served
+      (c.keep_free.ensures ∙ c.new-service.ensures ∙ ap (λ l. empty_state l 0) c.limits.ensures.value)
+      (λ conns. conns.door) g.L.Accepts.history (λ conns. conns.left)
+      (record {
+        none = λ old new given. given;
+        fewer = λ old new r w given. given.0;
+        unused = λ old new r w given. (ap (λ t. t.bytes) given.1, given.2);
+        one = λ old new r w given. given.3;
+        same = λ old new r w back. back.0;
+        back = λ old new r w back. back.1;
+      }) c.args.count c.requires.left _ c.take_doors.ensures;
+}
+
+pub returns-clause-took : goal.returns-clause-took
+returns-clause-took g c = λ took. record {
+  given = _;
+  left = _;
+  pool = c.in_ok-pool.ensures.served;
+  at =
+      exactly _ _ _ _ _ _ c.in_ok-pool.ensures.served
+      (c.keep_free.ensures ∙ c.new-service.ensures ∙ ap (λ l. empty_state l 0) c.limits.ensures.value)
+      (λ conns. conns.door) g.L.Accepts.history (λ conns. conns.left)
+      (record {
+        none = λ old new given. given;
+        fewer = λ old new r w given. given.0;
+        unused = λ old new r w given. (ap (λ t. t.bytes) given.1, given.2);
+        one = λ old new r w given. given.3;
+        same = λ old new r w back. back.0;
+        back = λ old new r w back. back.1;
+      }) c.args.count c.requires.left _ c.take_doors.ensures (c.took_all-took.ensures took);
+}

@@ -1,5 +1,5 @@
 use Rattle.std.proofs.Common.{◌≡◌, ℕ, ◌+◌, ◌<◌, false, get_or, List, refl, sym, ap, ◌∙◌, subst, [], ◌∷◌, ◌++◌, length}
-use Rattle.std.proofs.Common.{length-append, map}
+use Rattle.std.proofs.Common.{length-append, map, None}
 use Rattle.std.proofs.lemmas.List.{map-append, length-map}
 use Rattle.crossbeam_channel.specs.Ends.{sends_on, receives_on}
 use Rattle.upload_intake.specs.Passes.{line_of}
@@ -16,9 +16,14 @@ loop-seat-preserved c =
     let seats = c.in_ok-push.ensures.items in
     let lines = c.in_ok-push-2.ensures.items in
     let n = length-append c.loop-seat.seats.items (c.new.result ∷ []) in
-    let m =
-    length-append c.loop-seat.lines.items
-    (record { replies = c.in_ok-replies.replies; ends = tt; is_done = false } ∷ []) in
+    let line : ReplyLine = record {
+      replies = c.in_ok-replies.replies;
+      ends = tt;
+      is_done = false;
+      held = None;
+      is_crowded = false;
+    } in
+    let m = length-append c.loop-seat.lines.items (line ∷ []) in
     let here = c.new.ensures in
     record {
       line = ap (λ r. receives_on r) c.in_ok-own.ensures.same_line ∙ was.line;
@@ -27,7 +32,7 @@ loop-seat-preserved c =
       lines_count = ap length lines ∙ m ∙ ap (λ k. k + 1) was.lines_count;
       begins =
           subst (λ xs. (k : ℕ) (d : ReplyLine) → k < length xs → BeginsReplies (get_or xs k d)) (sym lines)
-          (each_push (λ _ x. BeginsReplies x) _ _ was.begins (c.in_ok-replies.ensures.views.0, refl));
+          (each_push (λ _ x. BeginsReplies x) _ _ was.begins (c.in_ok-replies.ensures.views.0, refl, refl, refl));
       fresh = subst (λ xs. (k : ℕ) (d : SeatState) → k < length xs → IsFresh (get_or xs k d)) (sym seats)
           (each_push (λ _ x. IsFresh x) _ _ was.fresh
           (record {
@@ -42,7 +47,7 @@ loop-seat-preserved c =
           (map replies_on y.1) y.0) (λ i. (sym seats i, sym lines i))
           (subst (λ r. AreSeatsOn (line_of (sends_on c.in_ok-sender.sender)) r
           (c.loop-seat.seats.items ++ c.new.result ∷ [])) (sym (map-append replies_on c.loop-seat.lines.items
-          (record { replies = c.in_ok-replies.replies; ends = tt; is_done = false } ∷ [])))
+          (line ∷ [])))
           (one_seat_more (line_of (sends_on c.in_ok-sender.sender)) (map replies_on c.loop-seat.lines.items)
           (line_of (sends_on c.in_ok-replies.replies.sender)) c.loop-seat.seats.items c.new.result
           (was.count ∙ sym was.lines_count ∙ sym (length-map c.loop-seat.lines.items replies_on)) was.on

@@ -1,8 +1,11 @@
-use Rattle.std.proofs.Common.{arith, refl, ap, sym, ◌∙◌, [], ◌∷◌, ◌++◌}
+use Rattle.std.proofs.Common.{arith, refl, ap, sym, ◌∙◌, subst, append_assoc, [], ◌∷◌, ◌++◌}
 use Rattle.std.proofs.Math.Seq.{map-set_same}
 use Rattle.crossbeam_channel.specs.Ends.{sends_on, receives_on}
 use Rattle.upload_intake.proofs.KeeperMoves.{served_seat, wish_taken, finished_seat, logged, grows_one}
-use Rattle.upload_intake.specs.Log.{exchanges_of, last_moment}
+use Rattle.upload_intake.proofs.Safely.{follows_more}
+use Rattle.upload_service.specs.Run.{Exchange}
+use Rattle.upload_intake.specs.Safety.{Follows, changed, answered_so}
+use Rattle.upload_intake.specs.Log.{Step, exchanges_of, last_moment}
 use Rattle.upload_intake.specs.Passes.{line_of}
 use Rattle.upload_intake.specs.Replies.{replies_on}
 use Rattle.upload_intake.specs.Pools.Served.{KeeperState}
@@ -11,8 +14,8 @@ use Rattle.upload_intake.proofs.keeper.Keeper.turn.Goals as goal
 pub invariant_of-self-in-Job : goal.invariant_of-self-in-Job
 invariant_of-self-in-Job g c =
     served_seat _ _ _ _ c.self.invariant _ c.in-Some.ensures.taken _ _ _ _ _ _ c.in-Job.is
-    (omega arith) c.step_joining-answer.ensures.turn c.saturating_add-self-inside.ensures
-    _ _ c.index_mut.ensures.value c.reply.ensures.sent c.reply.ensures.done _ refl _
+    (omega arith) c.step_joining-answer.ensures.turn c.are_typed.ensures c.saturating_add-self-inside.ensures
+    _ _ c.index_mut.ensures.value c.hold.ensures.held c.hold.ensures.done _ refl _
     (logged _ _ _ _ c.and.ensures
     (λ i. record {
       seat = c.in-Some.item.seat;
@@ -27,7 +30,7 @@ invariant_of-self-in-Job g c =
 pub invariant_of-self-in-Hash : goal.invariant_of-self-in-Hash
 invariant_of-self-in-Hash g c =
     wish_taken _ _ _ _ c.self.invariant _ c.in-Some.ensures.taken _ _ c.in-Hash.is _
-    c.catch_up-end.ensures
+    c.grant-told.ensures
 
 pub invariant_of-self-in-Finish : goal.invariant_of-self-in-Finish
 invariant_of-self-in-Finish g c =
@@ -36,23 +39,25 @@ invariant_of-self-in-Finish g c =
 
 pub returns-in-Job-clause-same : goal.returns-in-Job-clause-same
 returns-in-Job-clause-same g c = record {
-  jobs = ap (λ r. line_of (receives_on r)) c.take.ensures.line ∙ ap (λ (k : KeeperState). k.jobs) c.self.view_is;
+  jobs = ap (λ r. line_of (receives_on r)) c.take_if.ensures.line ∙ ap (λ (k : KeeperState). k.jobs) c.self.view_is;
   replies =
-      map-set_same replies_on c.self.inside.books.lines.items c.in-Some.item.seat c.reply.new.self
+      map-set_same replies_on c.self.inside.books.lines.items c.in-Some.item.seat c.hold.new.self
       c.index_mut.result.now
-      (ap (λ s. line_of (sends_on s)) c.reply.ensures.line ∙ ap replies_on c.index_mut.ensures.value)
+      (ap (λ s. line_of (sends_on s)) c.hold.ensures.line ∙ ap replies_on c.index_mut.ensures.value)
       ∙ ap (λ (k : KeeperState). k.replies) c.self.view_is;
   start = ap (λ (k : KeeperState). k.start) c.self.view_is;
+  since = ap (λ (k : KeeperState). k.since) c.self.view_is;
 }
 
 pub returns-in-Finish-clause-same : goal.returns-in-Finish-clause-same
 returns-in-Finish-clause-same g c = record {
-  jobs = ap (λ r. line_of (receives_on r)) c.take.ensures.line ∙ ap (λ (k : KeeperState). k.jobs) c.self.view_is;
+  jobs = ap (λ r. line_of (receives_on r)) c.take_if.ensures.line ∙ ap (λ (k : KeeperState). k.jobs) c.self.view_is;
   replies =
       map-set_same replies_on c.self.inside.books.lines.items c.in-Some.item.seat _ c.index_mut-in-Finish.result.now
       (ap replies_on c.index_mut-in-Finish.ensures.value)
       ∙ ap (λ (k : KeeperState). k.replies) c.self.view_is;
   start = ap (λ (k : KeeperState). k.start) c.self.view_is;
+  since = ap (λ (k : KeeperState). k.since) c.self.view_is;
 }
 
 pub returns-in-Job-clause-grows : goal.returns-in-Job-clause-grows
@@ -86,6 +91,42 @@ returns-in-Job-clause-grows g c =
         answer = c.step_joining-answer.result;
       };
     } ∷ []) (ap (λ (k : KeeperState). k.log) c.self.view_is))
-    (sym c.self.invariant.keeps.last ∙ ap (λ (k : KeeperState). last_moment 0 (exchanges_of k.log)) c.self.view_is)
+    (sym c.self.invariant.keeps.last
+    ∙ ap (λ (k : KeeperState). last_moment k.since (exchanges_of k.log)) c.self.view_is)
     c.now.ensures
     c.max-self-inside.ensures
+
+pub returns-in-Job-clause-follows : goal.returns-in-Job-clause-follows
+returns-in-Job-clause-follows g c =
+    let K = g.K.Keeping in
+    let was = c.args.keeping.now in
+    let f =
+    subst (λ (k : KeeperState). Follows (K.start was) (K.kept was ++ K.waiting was) (K.last was) k) (sym c.self.view_is)
+    c.requires.follows in
+    let noted = c.note-note.ensures in
+    let added = c.add_change.ensures in
+    let answer = c.step_joining-answer.result in
+    let x : Exchange = record {
+      ask = c.in-Job.ask;
+      secret = c.in-Job.secret;
+      now = c.max-self-inside.result;
+      answer = answer;
+    } in
+    let s : Step = record { seat = c.in-Some.item.seat; exchange = x } in
+    follows_more (K.start was) _ (K.kept was ++ K.waiting was) _ (K.last was) _ _ _ c.self.inside.books.now f
+    (added.start ∙ noted.start) refl c.self.invariant.keeps.last s (omega (arith, c.max-self-inside.ensures))
+    c.step_joining-answer.ensures.turn
+    ((λ i. (added.kept ∙ noted.kept) i ++ (added.waiting
+    ∙ (λ j. noted.waiting j ++ changed (answered_so (noted.note j) answer ∷ []))) i)
+    ∙ sym (append_assoc (K.kept was) (K.waiting was) (changed (x ∷ []))))
+    (logged _ _ _ s c.and.ensures
+    (λ i. record {
+      seat = c.in-Some.item.seat;
+      exchange = record {
+        ask = c.of-asked.ensures i;
+        secret = c.in-Job.secret;
+        now = c.max-self-inside.result;
+        answer = c.of.ensures i;
+      };
+    }))
+    (omega (arith, added.last, noted.last))

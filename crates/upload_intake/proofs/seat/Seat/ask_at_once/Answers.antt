@@ -1,4 +1,5 @@
-use Rattle.std.proofs.Common.{sym, ap, ◌∙◌}
+use Rattle.std.proofs.Common.{sym, ap, ◌∙◌, [], ◌∷◌, ◌++◌}
+use Rattle.crossbeam_channel.specs.Claims.{view}
 use Rattle.crossbeam_channel.specs.Ends.{sends_on, receives_on}
 use Rattle.upload_intake.specs.Passes.{line_of, whats}
 use Rattle.upload_intake.proofs.SeatMoves.{answered, unanswered, one_more_sent, whats_more, told, told_none}
@@ -19,7 +20,8 @@ returns-in-Some g c = (
       (ap (λ s. line_of (sends_on s)) c.send.ensures.line)
       (ap (λ s. line_of (receives_on s)) c.take.ensures.line)
       (one_more_sent _ _ _ _ c.self.invariant _ _ _ c.in_default.ensures.sent)
-      (ap (λ v. whats v.taken) c.in-Some.ensures.taken.0 ∙ whats_more _ _)
+      (ap (λ v. whats v.taken) c.in-Some.ensures.taken.0 ∙ whats_more _ _
+      ∙ ap (λ a. whats (view c.self.inside.place.replies.pass).taken ++ a ∷ []) (sym c.into_answer.ensures))
       (ap (λ o. o.gone) c.self.view_is)
       c.in_default.ensures.closing
       c.in-Some.ensures.closing,

@@ -1,0 +1,41 @@
+//! Why a data directory can't be used.
+use crate::texts::StoreText;
+use journal_file::OpenFault;
+use std::fmt;
+use upload_store::StoreFault;
+
+/// Why a data directory can't be used.
+#[derive(Debug, Drop)]
+pub enum DataFault {
+    /// The folder can't be opened or made, or another server has it.
+    Folder(OpenFault),
+    /// Its journal can't be opened or made.
+    Journal(OpenFault),
+    /// Its folders of bodies can't be opened or made.
+    Bodies(OpenFault),
+    /// It has a journal, and no folder of bodies.
+    NoBodies,
+    /// What it has can't be read, or is not what a server with these limits has written.
+    Store(StoreFault),
+}
+
+impl From<StoreFault> for DataFault {
+    fn from(fault: StoreFault) -> DataFault {
+        DataFault::Store(fault)
+    }
+}
+
+impl fmt::Display for DataFault {
+    fn fmt<W: fmt::Write>(&self, f: &mut fmt::Formatter<W>) -> fmt::Result {
+        match self {
+            DataFault::Folder(OpenFault::Locked) => f.write_str("another server has it"),
+            DataFault::Folder(fault) => write!(f, "{fault}"),
+            DataFault::Journal(fault) => write!(f, "journal: {fault}"),
+            DataFault::Bodies(fault) => write!(f, "bodies: {fault}"),
+            DataFault::NoBodies => f.write_str("it has a journal, but its bodies are missing"),
+            DataFault::Store(fault) => write!(f, "{}", StoreText(fault)),
+        }
+    }
+}
+
+impl std::error::Error for DataFault {}

@@ -1,0 +1,100 @@
+//! What is told of the faults of a store.
+use std::fmt;
+use upload_journal::{BodyFault, EntryFault, ReplayFault};
+use upload_keeping::KeepFault;
+use upload_store::{RefusedRecord, StoreFault};
+
+/// What is told of why a store can't be opened, or doesn't keep something.
+#[derive(Drop)]
+pub(crate) struct StoreText<'a>(pub(crate) &'a StoreFault);
+
+/// What is told of why a change isn't kept.
+#[derive(Drop)]
+pub(crate) struct KeepText<'a>(pub(crate) &'a KeepFault);
+
+#[derive(Drop)]
+struct JournalText<'a>(&'a journal::Error);
+
+#[derive(Drop)]
+struct RecordText(ReplayFault);
+
+impl<'a> fmt::Display for KeepText<'a> {
+    fn fmt<W: fmt::Write>(&self, f: &mut fmt::Formatter<W>) -> fmt::Result {
+        match self.0 {
+            KeepFault::NoMemory => f.write_str("no memory for what is kept of a request"),
+            KeepFault::NoChange => f.write_str("an answer tells of a change that there can't be"),
+            KeepFault::Store(fault) => write!(f, "{}", StoreText(fault)),
+        }
+    }
+}
+
+impl<'a> fmt::Display for StoreText<'a> {
+    fn fmt<W: fmt::Write>(&self, f: &mut fmt::Formatter<W>) -> fmt::Result {
+        match self.0 {
+            StoreFault::Journal(error) => write!(f, "journal: {}", JournalText(error)),
+            StoreFault::Body(fault) => write!(f, "bodies: {fault}"),
+            StoreFault::NumbersUsedUp => f.write_str("bodies: no number is left for another one"),
+            StoreFault::Record(RefusedRecord { time, place, fault }) => write!(
+                f,
+                "journal: record {place}, written {time} seconds after 1970, can't be run again: {}",
+                RecordText(*fault)
+            ),
+        }
+    }
+}
+
+impl<'a> fmt::Display for JournalText<'a> {
+    fn fmt<W: fmt::Write>(&self, f: &mut fmt::Formatter<W>) -> fmt::Result {
+        match self.0 {
+            journal::Error::Closed => f.write_str("a write or a sync has failed before"),
+            journal::Error::NotAJournal => f.write_str("no server has written it"),
+            journal::Error::OtherVersion => f.write_str("it has the format of another version"),
+            journal::Error::OtherParameters => {
+                f.write_str("another version has written it, or a server with other limits")
+            }
+            journal::Error::TooLong => f.write_str("it has almost 2^63 bytes"),
+            journal::Error::NoMemory => f.write_str("no memory for a record"),
+            journal::Error::Disk(error) => write!(f, "{error}"),
+            journal::Error::Machine(error) => write!(f, "{error}"),
+        }
+    }
+}
+
+impl fmt::Display for RecordText {
+    fn fmt<W: fmt::Write>(&self, f: &mut fmt::Formatter<W>) -> fmt::Result {
+        match self.0 {
+            ReplayFault::NoMemory => f.write_str("no memory for it"),
+            ReplayFault::NotAnEntry(fault) => f.write_str(entry_text(fault)),
+            ReplayFault::MomentFalls => f.write_str("it is older than the one before it"),
+            ReplayFault::NoBody { number, fault } => {
+                write!(f, "its body {number} {}", body_text(fault))
+            }
+            ReplayFault::OtherLength { number } => {
+                write!(f, "its body {number} has another length")
+            }
+            ReplayFault::NotAsRecorded => f.write_str("its answer comes out otherwise"),
+        }
+    }
+}
+
+fn body_text(fault: BodyFault) -> &'static str {
+    match fault {
+        BodyFault::NoMemory => "finds no memory",
+        BodyFault::NotThere => "isn't there",
+        BodyFault::NotRead => "can't be read",
+    }
+}
+
+fn entry_text(fault: EntryFault) -> &'static str {
+    match fault {
+        EntryFault::Short => "its text ends too early",
+        EntryFault::UnknownKind => "its text is of no known kind",
+        EntryFault::BadName => "its text has a name that is none",
+        EntryFault::BadDigest => "its text has a digest that is none",
+        EntryFault::BadReference => "its text has an upload that is none",
+        EntryFault::BadRange => "its text has a range that is none",
+        EntryFault::BadBody => "its text has a body that is none",
+        EntryFault::BadAnswer => "its text has an answer that is none",
+        EntryFault::Trailing => "its text goes on behind its end",
+    }
+}

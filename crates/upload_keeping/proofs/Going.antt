@@ -1,0 +1,312 @@
+-- How the books of a keeping go on.
+use Rattle.std.proofs.Common.{◌≡◌, ◌≢◌, ◌∙◌, ⊎_elim, ℕ, Bool, true, false, true≢false, List, [], ◌∷◌, ◌++◌, Option, Some, None}
+use Rattle.std.proofs.Common.{refl, sym, ap, subst, arith, append-nil, append_assoc, IsTrue}
+use Rattle.std.specs.List.{flat_map}
+use Rattle.std.specs.Option.{is_some}
+use Rattle.std.specs.Result.{result_err}
+use Rattle.std.specs.Prelude.{Result, Ok, Err, OnOk}
+use Rattle.std.proofs.lemmas.List.{map-append}
+use Rattle.std.proofs.lemmas.List.Concat.{flat_map-append}
+use Rattle.std.proofs.lemmas.List.Elements.{All-nil}
+use Rattle.sqlite_disk.specs.declared.Disk.{Ghosts}
+use Rattle.bodies.specs.declared.shelf.Shelf as shelves
+use Rattle.journal.specs.Journal as journals
+use Rattle.journal.specs.declared.journal.Journal.{Journal}
+use Rattle.journal.specs.Batch.{batch_records}
+use Rattle.journal.specs.declared.batch.Batch.{Batch}
+use Rattle.upload_service.specs.Machine.{empty_state}
+use Rattle.upload_service.specs.Run.{Exchange}
+use Rattle.upload_journal.specs.Entries.{IsEntry}
+use Rattle.upload_journal.specs.Replay.{Point}
+use Rattle.upload_store.specs.Found.{texts_of}
+use Rattle.upload_store.specs.Runs.{IsReplayOf, start_of}
+use Rattle.upload_store.specs.Reading.{ReadsOnly}
+use Rattle.upload_store.specs.Safe.{IsSafe, HasSafe, AreSafe}
+use Rattle.upload_store.specs.Store.{IsClean, IsWhole, kept_of, shelf_of, journal_of, is_open, limits_of}
+use Rattle.upload_store.specs.declared.store.Store.{Store}
+use Rattle.upload_keeping.specs.Keeping.{Holds, Leaves, Settled, Awaits, Goes, LeavesJustThat, LeavesEither, KeepsBoth}
+use Rattle.upload_keeping.specs.Books.{AreKept, LeavesFront, recorded_by, recorded_in, kept_in, waiting_in, opened_in, since_in}
+use Rattle.upload_keeping.specs.declared.books.Recorded.{Recorded}
+use Rattle.upload_keeping.specs.declared.fault.KeepFault.{KeepFault}
+use Rattle.upload_keeping.specs.declared.books.Books.{Books}
+use Rattle.upload_keeping.proofs.Holding.{holds_still, holds_none}
+use Rattle.upload_keeping.proofs.Replays.{replays_named}
+
+pub one_more_waits : (old new : List Recorded) (r : Recorded) (x : Exchange) → new ≡ old ++ r ∷ [] → recorded_by r ≡ x
+    → recorded_in new ≡ recorded_in old ++ x ∷ []
+one_more_waits old new r x more same =
+    ap recorded_in more ∙ map-append recorded_by old (r ∷ []) ∙ ap (λ (y : Exchange). recorded_in old ++ y ∷ []) same
+
+pub one_round_more : (old new : List (List Recorded)) (round : List Recorded) → new ≡ old ++ round ∷ []
+    → flat_map recorded_in new ≡ flat_map recorded_in old ++ recorded_in round
+one_round_more old new round more =
+    ap (flat_map recorded_in) more ∙ flat_map-append recorded_in old (round ∷ [])
+    ∙ ap (λ (l : List Exchange). flat_map recorded_in old ++ l) (append-nil (recorded_in round))
+
+pub first_none : (front rest : List Exchange) → front ++ rest ≡ [] → front ≡ []
+first_none [] rest e = refl
+first_none (x ∷ front) rest e = absurd cc
+
+-- a test of whether there is a fault
+pub is_fault : (o : Option KeepFault) (b : Bool) → b ≡ is_some o → b ≡ true → o ≢ None
+is_fault None b is some e = true≢false (sym some ∙ is)
+is_fault (Some fault) b is some e = cc
+
+pub is_fine : (o : Option KeepFault) (b : Bool) → b ≡ is_some o → b ≡ false → o ≡ None
+is_fine None b is none = refl
+is_fine (Some fault) b is none = absurd (true≢false (sym is ∙ none))
+
+-- what was put, if there is no fault of it
+pub was_put : (P : Type 0) (put : Result (Unit {0}) KeepFault) (o : Option KeepFault) → o ≡ result_err put → OnOk put P
+    → o ≡ None → P
+was_put P (Ok x) o is holds none = holds
+was_put P (Err fault) o is holds none = absurd (let e : Some fault ≡ None = sym is ∙ none in cc)
+
+module _ {D S F : Type 0} {g : Ghosts D} {s : shelves.Ghosts S F} {f : Ghosts F} where
+  pub goes_nowhere : (store : Store D S F g s f) → Goes store store
+  goes_nowhere store = record { safe = λ clean n bytes safe. safe; clean = λ clean. clean }
+
+  pub goes_twice : (a b c : Store D S F g s f) → Goes a b → Goes b c → Goes a c
+  goes_twice a b c p q = record {
+    safe = λ clean n bytes safe. q.safe clean n bytes (p.safe (q.clean clean) n bytes safe);
+    clean = λ clean. p.clean (q.clean clean);
+  }
+
+  -- a store that was just opened
+  pub settled_at_first : (store : Store D S F g s f) (since : ℕ) → IsTrue (is_open store)
+      → Settled store since [] since store
+  settled_at_first store since is_open = record {
+    stays_open = is_open;
+    whole = λ whole. whole;
+    holds = λ clean. record {
+      entries = [];
+      are_entries = All-nil IsEntry;
+      texts_are = sym (append-nil (texts_of (kept_of store)));
+      stand_for = refl;
+      moments = omega arith;
+    };
+  }
+
+  -- bodies were put on the shelf, and the journal is as it was
+  pub settled_still : (opened old new : Store D S F g s f) (since : ℕ) (kept : List Exchange) (upto : ℕ)
+      → Settled opened since kept upto old → journal_of new ≡ journal_of old → (IsWhole old → IsWhole new)
+      → Goes old new → Settled opened since kept upto new
+  settled_still opened old new since kept upto settled same whole goes = record {
+    stays_open = subst (λ (j : Journal D g). IsTrue (journals.is_open j)) (sym same) settled.stays_open;
+    whole = λ was. whole (settled.whole was);
+    holds = λ clean.
+        holds_still (IsSafe s.held s.may_leave (shelf_of old)) (IsSafe s.held s.may_leave (shelf_of new))
+        (goes.safe clean) (texts_of (kept_of opened)) since kept upto (texts_of (kept_of new))
+        (subst (λ (j : Journal D g). Holds (IsSafe s.held s.may_leave (shelf_of old)) (texts_of (kept_of opened)) since
+        kept upto (texts_of (journals.kept j))) (sym same) (settled.holds (goes.clean clean)));
+  }
+
+  -- what was kept is left alone, or with all that waited
+  pub front_none : (b : Books D S F g s f) (file : List ℕ) (files : ℕ → Option (List ℕ))
+      → Leaves (opened_in b) (since_in b) (kept_in b) b.upto file files → LeavesFront b file files
+  front_none b file files leaves = record {
+    front = [];
+    rest = waiting_in b;
+    split = refl;
+    leaves =
+        subst (λ (xs : List Exchange). Leaves (opened_in b) (since_in b) xs b.upto file files)
+        (sym (append-nil (kept_in b))) leaves;
+  }
+
+  pub front_all : (b : Books D S F g s f) (file : List ℕ) (files : ℕ → Option (List ℕ))
+      → Leaves (opened_in b) (since_in b) (kept_in b ++ waiting_in b) b.upto file files → LeavesFront b file files
+  front_all b file files leaves =
+      record { front = waiting_in b; rest = []; split = sym (append-nil (waiting_in b)); leaves = leaves }
+
+  -- ---- what the books are at first
+
+  pub kept_at_first : (b : Books D S F g s f) → IsTrue (is_open b.store) → b.fault ≡ None → opened_in b ≡ b.store
+      → since_in b ≡ b.upto → kept_in b ≡ [] → waiting_in b ≡ [] → batch_records b.batch ≡ []
+      → (IsClean b.store → IsReplayOf (kept_of b.store) (s.held (shelf_of b.store))
+      (start_of (empty_state (limits_of b.store) 0)) b.start.value) → AreKept b
+  kept_at_first b up fine opened since none waits batch ran = record {
+    begun =
+        subst (λ (o : Store D S F g s f). IsClean o → IsReplayOf (kept_of o) (s.held (shelf_of o))
+        (start_of (empty_state (limits_of o) 0)) b.start.value) (sym opened) ran;
+    goes = subst (λ (o : Store D S F g s f). Goes o b.store) (sym opened) (goes_nowhere b.store);
+    going = λ _. record {
+      settled =
+          subst (λ (y : Store D S F g s f × ℕ × List Exchange). Settled y.0 y.1 y.2 b.upto b.store)
+          (λ i. (sym opened i, sym since i, sym none i)) (settled_at_first b.store b.upto up);
+      awaits = λ clean.
+          subst (λ (y : List Exchange × List (List ℕ)).
+          Holds (IsSafe s.held s.may_leave (shelf_of b.store)) [] 0 y.0 0 y.1)
+          (λ i. (sym waits i, sym batch i)) (holds_none (IsSafe s.held s.may_leave (shelf_of b.store)));
+    };
+    idle = λ _. waits;
+    left = λ failed. absurd (failed fine);
+  }
+
+  -- ---- how they go on
+
+  module _ (b : Books D S F g s f) (k : AreKept b) where
+    pub kept_later : (last : ℕ) → AreKept (record b { last = last })
+    kept_later last = record {
+      begun = k.begun;
+      goes = k.goes;
+      going = λ fine. let go = k.going fine in record { settled = go.settled; awaits = go.awaits };
+      idle = k.idle;
+      left = λ failed clean whole file files may.
+          let l = k.left failed clean whole file files may in
+          record { front = l.front; rest = l.rest; split = l.split; leaves = l.leaves };
+    }
+
+    -- one exchange more waits
+    module _ (x : Exchange) (waiting : List Recorded) (more : recorded_in waiting ≡ waiting_in b ++ x ∷ []) where
+      -- which is not kept
+      pub kept_no_more : b.fault ≢ None → AreKept (record b { waits = true; waiting = waiting })
+      kept_no_more failed = record {
+        begun = k.begun;
+        goes = k.goes;
+        going = λ fine. absurd (failed fine);
+        idle = λ e. absurd (true≢false e);
+        left = λ _ clean whole file files may.
+            let l = k.left failed clean whole file files may in
+            record {
+              front = l.front;
+              rest = l.rest ++ x ∷ [];
+              split =
+                  more ∙ ap (λ (w : List Exchange). w ++ x ∷ []) l.split ∙ append_assoc l.front l.rest (x ∷ []);
+              leaves = l.leaves;
+            };
+      }
+
+      module _ (fine : b.fault ≡ None) (store : Store D S F g s f) (batch : Batch) (fault : Option KeepFault)
+          (same : journal_of store ≡ journal_of b.store) (whole : IsWhole b.store → IsWhole store)
+          (goes : Goes b.store store) (just : LeavesJustThat store)
+          (put : fault ≡ None → (xs : List Exchange) → IsClean store → Awaits xs (batch_records b.batch) b.store
+          → Awaits (xs ++ x ∷ []) (batch_records batch) store) where
+        abbrev with_it : Books D S F g s f
+        with_it =
+            record b { store = store; batch = batch; waits = true; fault = fault; waiting = waiting }
+
+        settled : Settled (opened_in b) (since_in b) (kept_in b) b.upto store
+        settled =
+            settled_still (opened_in b) b.store store (since_in b) (kept_in b) b.upto (k.going fine).settled same whole
+            goes
+
+        both_go : Goes (opened_in b) store
+        both_go = goes_twice (opened_in b) b.store store k.goes goes
+
+        pub kept_more : AreKept with_it
+        kept_more = record {
+          begun = k.begun;
+          goes = both_go;
+          going = λ still. record {
+            settled = settled;
+            awaits = λ clean.
+                subst (λ (w : List Exchange).
+                Holds (IsSafe s.held s.may_leave (shelf_of store)) [] 0 w 0 (batch_records batch)) (sym more)
+                (put still (waiting_in b) clean (k.going fine).awaits clean);
+          };
+          idle = λ e. absurd (true≢false e);
+          left = λ _ clean was file files may.
+              front_none with_it file files
+              (just (opened_in b) (since_in b) (kept_in b) b.upto both_go settled clean was file files may);
+        }
+
+    -- nothing waited
+    pub kept_nothing : (kept : List (List Recorded)) (waiting : List Recorded) → b.waits ≡ false
+        → flat_map recorded_in kept ≡ kept_in b ++ waiting_in b → recorded_in waiting ≡ []
+        → AreKept (record b { kept = kept; waiting = waiting })
+    kept_nothing kept waiting idle all none =
+        let new : Books D S F g s f = record b { kept = kept; waiting = waiting } in
+        let was : waiting_in b ≡ [] = k.idle idle in
+        let same : kept_in new ≡ kept_in b =
+        all ∙ ap (λ (w : List Exchange). kept_in b ++ w) was ∙ append-nil (kept_in b) in
+        record {
+          begun = k.begun;
+          goes = k.goes;
+          going = λ fine.
+              let go = k.going fine in
+              record {
+                settled =
+                    subst (λ (xs : List Exchange). Settled (opened_in b) (since_in b) xs b.upto b.store) (sym same)
+                    go.settled;
+                awaits =
+                    subst (λ (w : List Exchange). Awaits w (batch_records b.batch) b.store) (was ∙ sym none) go.awaits;
+              };
+          idle = λ _. none;
+          left = λ failed clean whole file files may.
+              let l = k.left failed clean whole file files may in
+              let front : l.front ≡ [] = first_none l.front l.rest (sym l.split ∙ was) in
+              front_none new file files
+              (subst (λ (xs : List Exchange). Leaves (opened_in b) (since_in b) xs b.upto file files)
+              (ap (λ (w : List Exchange). kept_in b ++ w) front ∙ append-nil (kept_in b) ∙ sym same) l.leaves);
+        }
+
+    module _ (fine : b.fault ≡ None) (store : Store D S F g s f) (batch : Batch) where
+      -- a round was kept
+      pub kept_round : (next : ℕ) (kept : List (List Recorded)) (waiting : List Recorded)
+          → KeepsBoth b.upto next (batch_records b.batch) b.store store → batch_records batch ≡ []
+          → flat_map recorded_in kept ≡ kept_in b ++ waiting_in b → recorded_in waiting ≡ []
+          → AreKept (record b {
+            store = store;
+            batch = batch;
+            upto = next;
+            waits = false;
+            kept = kept;
+            waiting = waiting;
+          })
+      kept_round next kept waiting both empty all none =
+          let go = k.going fine in
+          let on = both (opened_in b) (since_in b) (kept_in b) (waiting_in b) k.goes go.settled go.awaits in
+          record {
+            begun = k.begun;
+            goes = on.1;
+            going = λ _. record {
+              settled =
+                  subst (λ (xs : List Exchange). Settled (opened_in b) (since_in b) xs next store) (sym all) on.0;
+              awaits = λ clean.
+                  subst (λ (y : List Exchange × List (List ℕ)).
+                  Holds (IsSafe s.held s.may_leave (shelf_of store)) [] 0 y.0 0 y.1)
+                  (λ i. (sym none i, sym empty i)) (holds_none (IsSafe s.held s.may_leave (shelf_of store)));
+            };
+            idle = λ _. none;
+            left = λ failed. absurd (failed fine);
+          }
+
+      -- or it was not
+      pub kept_before : (fault : KeepFault) → LeavesEither b.upto (batch_records b.batch) b.store store
+          → Goes b.store store → AreKept (record b { store = store; batch = batch; fault = Some fault })
+      kept_before fault either goes =
+          let new : Books D S F g s f = record b { store = store; batch = batch; fault = Some fault } in
+          let go = k.going fine in
+          let none : Some fault ≡ None → ⊥ = (λ e. cc) in
+          record {
+            begun = k.begun;
+            goes = goes_twice (opened_in b) b.store store k.goes goes;
+            going = λ e. absurd (none e);
+            idle = k.idle;
+            left = λ _ clean whole file files may.
+                ⊎_elim (front_none new file files) (front_all new file files)
+                (either (opened_in b) (since_in b) (kept_in b) (waiting_in b) k.goes go.settled go.awaits clean whole
+                file files may);
+          }
+
+  -- the bodies of a store that was recovered are on the disk, if nothing was under way on its shelf
+  pub whole_at_rest : (old new : Store D S F g s f) (begin point : Point)
+      → ReadsOnly s.held s.may_leave s.IsClean (shelf_of old) (shelf_of new)
+      → (IsClean new → kept_of new ≡ kept_of old)
+      → (IsClean new → IsReplayOf (kept_of old) (s.held (shelf_of new)) begin point)
+      → ((n : ℕ) (left : Option (List ℕ)) → s.may_leave (shelf_of old) n left → left ≡ s.held (shelf_of old) n)
+      → IsWhole new
+  whole_at_rest old new begin point reads same ran rest clean =
+      let is = ran clean in
+      let Has : ℕ → Type 0 = HasSafe s.held s.may_leave (shelf_of new) in
+      let Texts : List (List ℕ) → Type 0 = AreSafe s.held s.may_leave (shelf_of new) in
+      subst Texts (sym (ap texts_of (same clean) ∙ is.texts))
+      (replays_named Has (s.held (shelf_of new))
+      (λ n bytes there. (
+        bytes,
+        record {
+          there = there;
+          stored = λ left may.
+              let keeps = reads.all.each n in rest n left (keeps.left left may) ∙ sym keeps.same ∙ there;
+        },
+      )) begin is.entries point is.are_entries is.replays)

@@ -1,0 +1,6 @@
+mod Entries
+mod Holding
+mod Crashes
+mod Going
+mod Replays
+mod Recovery

@@ -1,0 +1,5 @@
+use Rattle.std.proofs.Math.Logic.{∥∥₁_map}
+use Rattle.upload_keeping.proofs.keeping.StoreKeepingKeeping.add.Goals as goal
+
+pub invariant_of-self : goal.invariant_of-self
+invariant_of-self g c = record { kept = ∥∥₁_map c.args.self.now.kept c.add.ensures.kept }

@@ -1,0 +1,102 @@
+//! A store as what a pool keeps its changes in.
+ghost use Rattle.upload_keeping.specs.Books.{AreKept};
+
+use crate::books::Books;
+use crate::fault::KeepFault;
+use crate::host::KeepingHost;
+use crate::note::Note;
+use bodies::Shelf;
+use sqlite_disk::Disk;
+use upload_intake::{Keeping, NotKept};
+use upload_service::{Answer, Ask};
+use upload_store::Store;
+
+/// A store as what a pool keeps its changes in. Each is an entry, which is on the disk before its answer is heard, with
+/// a large body in a file of its own, and the moments are promised a minute ahead.
+///
+/// The first thing that can't be kept is told to its host, and nothing is kept from then on.
+#[derive(Drop)]
+pub struct StoreKeeping<D: Disk, S: Shelf, H> {
+    pub(crate) books: Books<D, S>,
+    pub(crate) host: H,
+    ghost kept: { ∥ AreKept books ∥₁ },
+}
+
+impl<D: Disk, S: Shelf, H: Drop> StoreKeeping<D, S, H> {
+    ghost use Rattle.std.specs.Prelude.{◌≡◌, is_some};
+    ghost use Rattle.upload_keeping.specs.Kept.{has_failed, store_of};
+
+    /// Why something was not kept, if so. Nothing is kept any more then.
+    pub fn fault(&self) -> Option<&KeepFault>
+        ensures { is_some result ≡ has_failed self.now }
+    {
+        self.books.fault.as_ref()
+    }
+
+    /// The store, with what is kept.
+    pub fn into_store(self) -> Store<D, S>
+        ensures { result ≡ store_of self }
+    {
+        self.books.store
+    }
+}
+
+impl<D: Disk, S: Shelf, H: KeepingHost> Keeping for StoreKeeping<D, S, H> {
+    ghost use Rattle.std.specs.Prelude.{◌≡◌, ◌≤◌, [], ◌++◌, true, OnOk, OnErr};
+    ghost use Rattle.upload_intake.specs.Safety.{IsSafe};
+    ghost use Rattle.upload_keeping.specs.declared.fault.KeepFault.{KeepFault};
+    ghost use Rattle.upload_keeping.specs.Kept.{start_of, kept_of, waiting_of, last_of, upto_of, has_failed};
+
+    type Note = Note;
+
+    ghost noted = { λ note. note };
+
+    ghost start = { start_of };
+
+    ghost kept = { kept_of };
+
+    ghost waiting = { waiting_of };
+
+    ghost last = { last_of };
+
+    ghost upto = { upto_of };
+
+    ghost failed = { has_failed };
+
+    fn note(&mut self, ask: &Ask, secret: [u8; 12], now: u64) -> Note {
+        self.books.see(now);
+        Note::of(self.books.alloc, ask, secret, now)
+    }
+
+    fn add(&mut self, note: Note, answer: &Answer) {
+        self.books.add(note, answer);
+    }
+
+    /// The host is told what was not kept. So it is by each call from then on, which fails too.
+    fn keep(&mut self) -> Result<(), NotKept>
+        requires { IsSafe (start_of self.old) (kept_of self.old ++ waiting_of self.old) }
+        ensures start { start_of self.new ≡ start_of self.old }
+        ensures kept { OnOk result (kept_of self.new ≡ kept_of self.old ++ waiting_of self.old) }
+        ensures waiting { OnOk result (waiting_of self.new ≡ []) }
+        ensures last { last_of self.new ≡ last_of self.old }
+        ensures upto { upto_of self.old ≤ upto_of self.new }
+        ensures promised { OnOk result (last_of self.old ≤ upto_of self.new) }
+        ensures failed { OnErr result (has_failed self.new ≡ true) }
+        ensures told { OnErr result ((before : H) × (fault : KeepFault)
+            × H.hears before fault self.new.host) }
+    {
+        if !self.books.is_due() {
+            self.books.keep_nothing();
+            return Ok(());
+        }
+        let time = self.host.time();
+        self.books.keep(time);
+        match &self.books.fault {
+            None => Ok(()),
+            Some(fault) => {
+                self.host.failed(fault);
+                Err(NotKept)
+            }
+        }
+    }
+}
