@@ -5,6 +5,8 @@ ADDR = 127.0.0.1:5000
 COUNT =
 # how many connections it serves at a time
 WORKERS = 16
+# the folder in which it keeps what it has; none: it keeps nothing
+DATA =
 FILE = README.md
 # the words of `make run`
 ARGS =
@@ -26,7 +28,7 @@ PROGRAM := $(if $(filter-out $(shell grep -m1 '^flags' /proc/cpuinfo),$(V3_FLAGS
 BUILT = $(firstword $(wildcard $(PROGRAM) $(EVERY)))
 
 # What the program is made of. A program that is newer than all of it is taken as it is.
-CRATES = upload_names upload_bytes upload_service http_wire upload_texts upload_wire upload_client upload_intake upload_push blobd_shared blobd_serve blobd_push blobd
+CRATES = upload_names upload_bytes upload_service http_wire upload_texts upload_wire upload_client upload_intake journal journal_file bodies upload_journal upload_store upload_keeping upload_push blobd_shared blobd_data blobd_serve blobd_push blobd
 SOURCES := crates.txt $(shell find $(foreach crate,$(CRATES),$(foreach part,src specs proofs,crates/$(crate)/$(part))) -type f 2>/dev/null)
 
 # Bodies and blobs are long lists of bytes. If glibc asks the system for huge pages, fresh memory costs them a third, and if
@@ -41,7 +43,8 @@ MALLOC = GLIBC_TUNABLES=glibc.malloc.hugetlb=1:glibc.malloc.mmap_threshold=10485
 help:
 	@echo 'make try      a whole upload over one connection, by an interpreter and without proof: each request beside its reply, in a minute or two'
 	@echo 'make once     the same by the proved program, `blobd once`'
-	@echo 'make serve    the service at $(ADDR), until it is interrupted (ADDR=.. another address, WORKERS=.. connections at a time, COUNT=.. so many of each worker)'
+	@echo 'make serve    the service at $(ADDR), until it is interrupted (ADDR=.. another address, WORKERS=.. connections at a time, COUNT=.. so many of each worker,'
+	@echo '              DATA=.. the folder in which it keeps what it has)'
 	@echo 'make upload   pushes $(FILE) to that service (FILE=.. another file), pulls it back and compares; in another shell'
 	@echo 'make registry a registry to push images to: TLS and a login, with HAProxy before the service (docs/OPERATIONS.md)'
 	@echo '              once, serve and registry prove and build the program if its sources are newer: 15 to 40 minutes from nothing on'
@@ -64,7 +67,7 @@ help:
 	@echo 'make growths  the program and the built tests with each growth of memory refused in turn (after make test, which does it too)'
 	@echo 'make fuzz     100,000 generated streams of requests through `blobd once`, beside a model (make test runs 2,000)'
 	@echo 'make soak     three minutes of clients that cut connections, race one another and are refused memory'
-	@echo 'make long     ten million requests and a million small blobs, with the memory that `blobd serve` has then'
+	@echo 'make long     ten million requests, a million small blobs and ten thousand power cuts, with the memory that `blobd serve` has then'
 	@echo 'make large    blobs of more than 1 GiB, each in one request or one push, stored and pulled: two minutes'
 	@echo 'make figures  speed and memory of `blobd once` and of the service alone, as ratios in one run'
 	@echo 'make bench    the same of `blobd serve` and `blobd push` over loopback, and a picture: ten minutes (docs/PERFORMANCE.md)'
@@ -77,7 +80,7 @@ once: $(EVERY)
 	@python3 tools/conversation.py $(EVERY) once
 
 serve: counted $(PROGRAM)
-	@BLOBD_WORKERS=$(WORKERS) $(MALLOC) $(PROGRAM) serve $(ADDR) $(COUNT)
+	@BLOBD_WORKERS=$(WORKERS) $(if $(DATA),BLOBD_DATA='$(DATA)') $(MALLOC) $(PROGRAM) serve $(ADDR) $(COUNT)
 
 # A COUNT that the program would refuse is refused before anything is built.
 .PHONY: counted
@@ -164,6 +167,7 @@ soak: $(EVERY)
 
 long: $(EVERY)
 	@python3 tests/long_runs.py $(EVERY)
+	@python3 tests/power_cuts.py $(EVERY) --cuts 10000 --seed 2
 
 large: $(EVERY)
 	@python3 tests/large.py $(EVERY)

@@ -196,6 +196,22 @@ def upload(connection, name, blob, chunk):
     wanted(connection.ask("PUT", raw.closing_target(place, blob.digest), Content_Length=0), 201)
 
 
+def upload_whole(connection, name, blob):
+    upload(connection, name, blob, blob.size)
+
+
+def upload_with_the_close(connection, name, blob):
+    """An upload of which one byte comes in a chunk, and the rest is the body of the close."""
+    place = raw.target_of(wanted(connection.ask("POST", f"/v2/{name}/blobs/uploads/", Content_Length=0), 202).fields)
+    with open(blob.path, "rb") as file:
+        chunk = {"Content_Type": "application/octet-stream", "Content_Range": "0-0", "Content_Length": 1}
+        connection.send_part(connection.head("PATCH", place, **chunk), file, 0, 1)
+        place = raw.target_of(wanted(connection.reply(), 202).fields)
+        rest = {"Content_Type": "application/octet-stream", "Content_Length": blob.size - 1}
+        connection.send_part(connection.head("PUT", raw.closing_target(place, blob.digest), **rest), file, 1, blob.size - 1)
+    wanted(connection.reply(), 201)
+
+
 def pull(connection, name, blob, room, take=None):
     connection.socket.sendall(connection.head("GET", f"/v2/{name}/blobs/{blob.digest}"))
     status, fields = connection.reply_head()
@@ -445,18 +461,15 @@ def longest_waits(server, work):
     return waits[-1], waits[len(waits) // 2], beside
 
 
-def waiting_row(server, blob, pulled):
-    """The longest wait beside an upload in one body, or beside a pull: the best of the runs, and the worst of them."""
+def waiting_row(server, blob, work, is_stored):
+    """The longest wait beside some work on a blob, which is stored before that if need be: the best of the runs, and the
+    worst of them."""
     runs = []
-    room = bytearray(MIB)
     for _ in range(RUNS):
         with server, server.connect() as connection:
-            if pulled:
-                upload(connection, "lib/a", blob, blob.size)
-            work = (lambda: pull(connection, "lib/a", blob, room)) if pulled else (
-                lambda: upload(connection, "lib/a", blob, blob.size)
-            )
-            runs.append(longest_waits(server, work))
+            if is_stored:
+                upload_whole(connection, "lib/a", blob)
+            runs.append(longest_waits(server, functools.partial(work, connection, "lib/a", blob)))
         yield
     return of_waits(runs)
 
@@ -620,9 +633,13 @@ def server_rows(server, blob, large):
     for what, chunk in (("one body", blob.size), ("chunks of 4 MiB", 4 * MIB)):
         yield "at once", f"two uploads in {what}", functools.partial(uploads_at_once_row, server, blob, chunk, 2)
     yield "at once", "two pulls", functools.partial(pulls_at_once_row, server, blob, 2)
-    for what, pulled in (("an upload in one body", False), ("a pull", True)):
+    for what, work, is_stored in (
+        ("an upload in one body", upload_whole, False),
+        ("a close behind a byte", upload_with_the_close, False),
+        ("a pull", functools.partial(pull, room=bytearray(MIB)), True),
+    ):
         yield "waiting", f"beside {what} of {large.size // MIB} MiB", functools.partial(
-            waiting_row, server, large, pulled
+            waiting_row, server, large, work, is_stored
         )
 
 

@@ -73,5 +73,18 @@ def test_other_replies_to_a_part_of_a_chunk(folder):
         goes(name, folder, LARGE, len(LARGE), connections, asked, ("refused: 404 -\n", 1))
 
 
+@case()
+def test_a_server_that_is_full(folder):
+    """It answers 503 behind the head of a large chunk, and closes: the client says that, and not what its write met."""
+    half = len(LARGE) // 2
+    begun, again = [OPENED, taken(half - 1)], [reply(204, b"Location: " + PLACE, b"Range: 0-%d" % (half - 1))]
+    full = [Early(reply(503, b"Connection: close"))]
+    with Scripted([reply(404), *begun, *full], again + full) as server:
+        got = push(server.addr, "lib/a", written(folder, LARGE), half)
+        why = "the server answers 503: it has no memory left, or can't serve now (tried 6 times)"
+        told = f"blobd: can't push to {server.addr}: {why}\n"
+        equal("a server that is full", got, ("refused: out of tries\n", 1, told))
+
+
 if __name__ == "__main__":
     main(__doc__)

@@ -6,7 +6,7 @@ import re
 TOP = os.path.dirname(os.path.dirname(os.path.abspath(__file__)))
 
 # What the program is made of beside the libraries: no other crate stands on these.
-PROGRAM = {"blobd", "blobd_push", "blobd_serve", "blobd_shared"}
+PROGRAM = {"blobd", "blobd_data", "blobd_push", "blobd_serve", "blobd_shared"}
 
 HEAD = re.compile(r"^( *)(pub(?:\(crate\))? )?(?:const )?fn (\w+)")
 IMPL = re.compile(r"^impl(?:<.*?>)? (?:(?:\w+::)*(\w+)(?:<.*?>)? for )?(\w+)")

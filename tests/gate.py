@@ -29,6 +29,8 @@ PARTS = [
     ("connections of the server", driving("serve_connections")),
     ("uploads to the server", driving("serve_uploads")),
     ("the log of the server", driving("serve_log")),
+    ("its data directory", driving("serve_data")),
+    ("power cuts", driving("power_cuts")),
     ("faults of the server", driving("serve_faults")),
     ("curl and clients of images", driving("serve_clients")),
     ("the registry: its setup", driving("registry_setup")),

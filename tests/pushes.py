@@ -317,6 +317,17 @@ def silent_servers(folder):
 
 
 @case()
+def a_terminal_that_is_told_to_wait(folder):
+    """A terminal is told of a server that says nothing for some seconds; each try is told apart."""
+    abc = written(folder, b"abc")
+    with Scripted([head_of(3)], delay=6) as server:
+        told, drawn = on_a_terminal("push", server.addr, "lib/a", abc, "2")
+        equal("a server that takes its time", told, already(b"abc")[:2])
+        line = f"\r\x1b[Kblobd: waits for {server.addr}\r\n"
+        equal("a line for each of two requests", drawn.count(line), 2)
+
+
+@case()
 def signals_between(folder):
     """A signal that comes while a push waits for a reply costs no try: it is one request, over one connection, and the
     next is that of the other HEAD."""

@@ -127,7 +127,7 @@ places = (f"/{top}/systemd/system/{name}{at}.service" for top in ("etc", "lib"))
 unit = next(path for path in places if os.path.exists(path))
 environment = dict(os.environ)
 for line in settings(unit, "Environment"):
-    environment |= dict(word.split("=", 1) for word in shlex.split(line))
+    environment |= dict(word.split("=", 1) for word in shlex.split(line.replace("%S", "/var/lib").replace("%i", instance)))
 for path in settings(unit, "EnvironmentFile"):
     if os.path.exists(path.lstrip("-")):
         with open(path.lstrip("-"), encoding="utf-8") as file:
@@ -135,8 +135,9 @@ for path in settings(unit, "EnvironmentFile"):
 user = next(iter(settings(unit, "User")), None)
 command = settings(unit, "ExecStart")[0].replace("%i", instance)
 command = shlex.split(re.sub(r"[$]([A-Z]+)", lambda found: environment.get(found[1], ""), command))
-for folder in settings(unit, "RuntimeDirectory"):
-    os.makedirs("/run/" + folder.replace("%i", instance), exist_ok=True)
+for kind, place in (("RuntimeDirectory", "/run/"), ("StateDirectory", "/var/lib/")):
+    for folder in settings(unit, kind):
+        os.makedirs(place + folder.replace("%i", instance), exist_ok=True)
 log = open(f"/set-up/{name}.log", "wb")
 streams = {"stdin": subprocess.DEVNULL, "stdout": log, "stderr": log}
 subprocess.Popen(command, env=environment, user=user, group=user, start_new_session=True, **streams)

@@ -10,7 +10,7 @@ import subprocess
 import time
 
 from harness import shims
-from harness.running import BASE, LAST_BASE, SERVED, Server, ask_alone
+from harness.running import BASE, LAST_BASE, SERVED, Server, ask_alone, becomes
 from harness.suite import case, check, equal, main
 from harness.wire import PATIENCE, is_silent, rest_of
 
@@ -64,6 +64,8 @@ def descriptors_come_again():
     with Server(2, stderr=subprocess.PIPE) as server:
         with server.client() as client:
             equal("a reply while there are descriptors", client.ask("GET", "/v2/").status, 200)
+            # on a busy machine the other worker may have yet to begin
+            becomes(1, server.accepting)
             server.allow_descriptors(server.descriptors() - 1)
             # the other worker's accept, which had begun before
             equal("a reply to who came before", ask_alone(server, "GET", "/v2/").status, 200)

@@ -143,8 +143,7 @@ def idle_upload(folder):
         # seconds since the server began, and some more of the test's own: the last pause is longer than an hour, the
         # others aren't
         for seconds in (0, 3_500, 7_000, 10_602):
-            with open(ahead, "w", encoding="ascii") as file:
-                file.write(str(seconds))
+            shims.pass_time(ahead, seconds)
             statuses.append(ask_alone(server, "PATCH", place, b"a").status)
         equal("an upload that pauses for an hour", statuses, [202, 202, 202, 404])
 
@@ -301,10 +300,27 @@ def each_byte_is_hashed_once():
         check("the replies to what is hashed", set(counts) == {200, 201, 202}, counts)
 
 
-def timed_close(client, place, digest):
-    """The status of a close without a body, and how long it took."""
+@case()
+def hash_threads_keep_no_stack():
+    """Many open uploads, each of which a thread of its own hashed, take little more address space than their bytes. With
+    a stack for each thread it would be half as much again."""
+    size, many = 270_000, 500
+    heap = {"BLOBD_WORKERS": 1, "GLIBC_TUNABLES": "glibc.malloc.arena_max=1"}
+    with Server(env=heap) as server, server.client() as client:
+        before, statuses = server.address_space(), collections.Counter()
+        for _ in range(many):
+            place = client.opened("lib/a")
+            # the first chunk is hashed by the worker as it comes
+            statuses.update(client.ask("PATCH", place, chunk).status for chunk in (b"x", bytes(size)))
+        took = (server.address_space() - before) / (size * many)
+    equal("uploads that threads hash", statuses, {202: 2 * many})
+    check("what uploads take that threads hashed", took < 1.25, took)
+
+
+def timed_close(client, place, digest, body=b""):
+    """The status of a close, and how long it took."""
     begun = time.monotonic()
-    return client.ask("PUT", f"{place}?digest={digest}").status, time.monotonic() - begun
+    return client.ask("PUT", f"{place}?digest={digest}", body).status, time.monotonic() - begun
 
 
 def longest_wait(client, other):
@@ -337,6 +353,40 @@ def closes_hold_nobody():
                     break
     check("the replies to large uploads", all(statuses == [202] * 4 + [201] for statuses, _, _ in told), told)
     check("a close that is waited for by nobody else", longest * 4 < took, told)
+
+
+def waits_beside(other, closers, pool, place, digest, body):
+    """The longest wait of a request beside these closes, the shortest time of a close, and their statuses."""
+    closes = [pool.submit(timed_close, closer, place, digest, body) for closer in closers]
+    longest = max(longest_wait(other, close) for close in closes)
+    statuses, times = zip(*(close.result() for close in closes))
+    return longest, min(times), list(statuses)
+
+
+@case()
+def large_closes_hold_nobody():
+    """While the body of a close is hashed behind what its upload has, others are answered: beside several such closes of
+    one upload at once, which are refused, and beside one that is stored. A machine that is stopped meanwhile may disturb
+    one try, and not each of three."""
+    chance, told = random.Random(14), []
+    with Server(env={"BLOBD_WORKERS": 4}) as server, concurrent.futures.ThreadPoolExecutor(3) as pool:
+        with contextlib.ExitStack() as opened:
+            other, *closers = [opened.enter_context(server.client()) for _ in range(4)]
+            for _ in range(3):
+                content = chance.randbytes(128 * MIB)
+                place = other.opened("lib/a")
+                begun = other.ask("PATCH", place, content[:1]).status
+                refused = waits_beside(other, closers, pool, place, sha256(b""), content[1:])
+                stored = waits_beside(other, closers[:1], pool, place, sha256(content), content[1:])
+                told.append((begun, refused, stored))
+                if all(longest * 4 < took for longest, took, _ in (refused, stored)):
+                    break
+            pulled = other.ask("GET", f"/v2/lib/a/blobs/{sha256(content)}").body
+    replies = [(begun, refused[2], stored[2]) for begun, refused, stored in told]
+    check("the replies to large closes", all(got == (202, [400] * 3, [201]) for got in replies), told)
+    waits = [longest * 4 < took for longest, took, _ in told[-1][1:]]
+    check("large closes that are waited for by nobody else", all(waits), told)
+    equal("what a large close stored", pulled, content)
 
 
 if __name__ == "__main__":

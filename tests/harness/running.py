@@ -1,5 +1,6 @@
 """Runs the built program: over one connection, and as a server over loopback."""
 import concurrent.futures
+import contextlib
 import multiprocessing
 import os
 import resource
@@ -182,6 +183,11 @@ class Server:
         with open(f"/proc/{self.process.pid}/statm", encoding="ascii") as file:
             return int(file.read().split()[1]) * os.sysconf("SC_PAGE_SIZE")
 
+    def address_space(self):
+        """The bytes of its address space, resident or not."""
+        with open(f"/proc/{self.process.pid}/statm", encoding="ascii") as file:
+            return int(file.read().split()[0]) * os.sysconf("SC_PAGE_SIZE")
+
     def ended(self):
         """What else was printed and the exit status, once it has ended by itself."""
         status = self.process.wait(timeout=PATIENCE)
@@ -197,6 +203,14 @@ class Server:
                 break
             line += byte
         return line.decode()
+
+    def accepting(self):
+        """How many of its threads wait for a connection, as the system says: it may hide that, and then it is none."""
+        count, folder = 0, f"/proc/{self.process.pid}/task"
+        for thread in os.listdir(folder):
+            with contextlib.suppress(OSError), open(f"{folder}/{thread}/wchan", encoding="ascii") as file:
+                count += "accept" in file.read()
+        return count
 
     def descriptors(self):
         return len(os.listdir(f"/proc/{self.process.pid}/fd"))

@@ -1,0 +1,170 @@
+#!/usr/bin/env python3
+"""Figures of `blobd serve` with a data directory, beside itself without one and docker-registry on the same disk.
+
+    disk.py PROGRAM [--folder FOLDER] [--mib SIZE] [--runs N]
+
+The servers take turns, each run with a new server and a new folder in FOLDER, which should be on a disk and not in
+memory. A figure is the best of the runs. Uploads are compared with `sha256sum` on the same bytes, in the same runs; small
+blobs are counted by the second. A start is that of a server with a directory that has eight times SIZE. Needs Linux.
+"""
+import contextlib
+import functools
+import hashlib
+import os
+import shutil
+import socket
+import sys
+import tempfile
+import time
+
+import loopback
+import raw
+import servers
+from harness import running
+from harness.running import MIB
+from harness.suite import OPTIONS
+
+SMALL, SMALL_SIZE = 1_000, 1_024
+CROWD = 16
+
+
+class OnDisk(loopback.Blobd):
+    """`blobd serve` with a data directory, which is new unless it is given."""
+
+    name = "blobd with data"
+
+    def __init__(self, settings, data=None):
+        super().__init__(settings, CROWD)
+        self.name, self.data = OnDisk.name, data
+
+    def begun(self):
+        self.folder = self.data or tempfile.mkdtemp(dir=OPTIONS.folder)
+        self.settings = self.settings | {"BLOBD_DATA": os.path.join(self.folder, "data")}
+        return super().begun()
+
+    def __exit__(self, *fault):
+        super().__exit__(*fault)
+        if not self.data:
+            shutil.rmtree(self.folder)
+
+
+class InMemory(loopback.Blobd):
+    def __init__(self, settings):
+        super().__init__(settings, CROWD)
+        self.name = "blobd"
+
+
+class DockerRegistry(loopback.DockerRegistry):
+    """docker-registry with its files in a new folder."""
+
+    def __init__(self):
+        super().__init__(None)
+
+    def begun(self):
+        self.folder = tempfile.mkdtemp(dir=OPTIONS.folder)
+        return super().begun()
+
+    def __exit__(self, *fault):
+        super().__exit__(*fault)
+        shutil.rmtree(self.folder)
+
+
+def timed(server, work):
+    """The seconds that some work takes over a connection to a new server."""
+    with server, server.connect() as connection:
+        return loopback.seconds(lambda: work(connection))
+
+
+def at_once(server, works):
+    """The same of works that each have a connection of their own."""
+    with server, contextlib.ExitStack() as all_:
+        connections = [all_.enter_context(server.connect()) for _ in works]
+        return loopback.seconds_of_both([functools.partial(*pair) for pair in zip(works, connections)])
+
+
+def small_blobs(first, count, connection):
+    """Stores so many blobs, each by one request and another one of its kind."""
+    for number in range(first, first + count):
+        content = number.to_bytes(8, "big") * (SMALL_SIZE // 8)
+        opening = loopback.wanted(connection.ask("POST", "/v2/lib/a/blobs/uploads/", Content_Length=0), 202)
+        place = raw.closing_target(raw.target_of(opening.fields), "sha256:" + hashlib.sha256(content).hexdigest())
+        connection.socket.sendall(connection.head("PUT", place, Content_Length=SMALL_SIZE), socket.MSG_MORE)
+        connection.socket.sendall(content)
+        loopback.wanted(connection.reply(), 201)
+
+
+def uploaded(blob, chunk, connection):
+    loopback.upload(connection, "lib/a", blob, chunk)
+
+
+def pulled(blob, server):
+    with server, server.connect() as connection:
+        loopback.upload_whole(connection, "lib/a", blob)
+        room = bytearray(MIB)
+        return loopback.seconds(lambda: loopback.pull(connection, "lib/a", blob, room))
+
+
+def rows(blob):
+    """What is measured: a name, how many bytes or blobs it is, and the seconds that a server takes for it."""
+    for size in (blob.size, 16 * MIB, 4 * MIB, MIB):
+        name = "one body" if size == blob.size else f"chunks of {size // MIB} MiB"
+        work = functools.partial(uploaded, blob, size)
+        yield name, blob.size, lambda server, work=work: timed(server, work)
+    two = [functools.partial(uploaded, blob, blob.size)] * 2
+    yield "two bodies at once", 2 * blob.size, lambda server: at_once(server, two)
+    yield "a pull", blob.size, functools.partial(pulled, blob)
+    yield f"{SMALL} small blobs", None, lambda server: timed(server, functools.partial(small_blobs, 0, SMALL))
+    crowd = [functools.partial(small_blobs, first * SMALL, SMALL // CROWD) for first in range(CROWD)]
+    yield f"the same by {CROWD} clients", None, lambda server: at_once(server, crowd)
+
+
+def started(settings, blob):
+    """A start with eight times the blob: the bytes that it reads in a second, and `sha256sum`'s in the same run."""
+    with tempfile.TemporaryDirectory(dir=OPTIONS.folder) as folder:
+        server = OnDisk(settings, folder)
+        with server, server.connect() as connection:
+            for number in range(8):
+                loopback.upload_whole(connection, f"lib/{number}", blob)
+        taken = loopback.seconds(lambda: server.__enter__())
+        server.__exit__()
+    return 8 * blob.size / taken, blob.size / loopback.hashed(blob)[0]
+
+
+def measured(all_, blob):
+    for name, size, work in rows(blob):
+        best, plain = {}, []
+        for _ in range(OPTIONS.runs):
+            plain.append(loopback.hashed(blob)[0])
+            for server in all_:
+                best[server.name] = min(work(server), best.get(server.name, float("inf")))
+        for server, taken in best.items():
+            if size is None:
+                yield [name, server, f"{SMALL // CROWD * CROWD / taken:,.0f} a second", ""]
+            else:
+                yield [name, server, f"{size / taken / 1e6:,.0f} MB/s", f"{size / blob.size * min(plain) / taken:.2f}"]
+
+
+def main(settings):
+    all_ = [OnDisk(settings), InMemory(settings)]
+    if not servers.missing("docker-registry"):
+        all_.append(DockerRegistry())
+    with tempfile.TemporaryDirectory(dir="/dev/shm") as folder:
+        blob = loopback.Blob(os.path.join(folder, "blob"), OPTIONS.mib * MIB)
+        blob.write()
+        lines = list(measured(all_, blob))
+        read, plain = started(settings, blob)
+        lines.append(["a start", OnDisk.name, f"{read / 1e6:,.0f} MB/s", f"{read / plain:.2f}"])
+    raw.print_table(["row", "server", "speed", "of `sha256sum`"], lines)
+
+
+if __name__ == "__main__":
+    import argparse
+
+    parser = argparse.ArgumentParser(description=__doc__, formatter_class=argparse.RawDescriptionHelpFormatter)
+    parser.add_argument("program")
+    parser.add_argument("--folder", default=".", help="where the data directories are made (%(default)s)")
+    parser.add_argument("--mib", type=int, default=256, help="the size of a blob (%(default)s)")
+    parser.add_argument("--runs", type=int, default=3, help="how often each is measured (%(default)s)")
+    parser.parse_args(namespace=OPTIONS)
+    OPTIONS.program = os.path.abspath(OPTIONS.program)
+    main(servers.MALLOC)

@@ -1,0 +1,214 @@
+#!/usr/bin/env python3
+"""Cuts the power at the calls of a server with a data directory, and starts it again on what a cut may leave.
+
+    power_cuts.py PROGRAM [--cuts N] [--seed S]
+
+Clients open uploads, send chunks, close, mount and store while each call on the directory is noted
+(tests/shims/disks.c). Then the directory is made as a cut behind one of these calls may leave it (tests/harness/disks.py),
+and a server is started on that. Each client's uploads and blobs are those behind the last request that it heard the
+answer of, or the next one's. Some starts are cut as well, at one of their own calls.
+"""
+import collections
+import itertools
+import os
+import random
+import tempfile
+import threading
+
+from harness import disks, running, shims
+from harness.running import Server
+from harness.suite import OPTIONS, case, check, equal, main
+from harness.wire import sha256
+
+CLIENTS = 3
+STEPS = 24
+# Bodies from the first of these sizes on have a file of their own.
+SIZES = [0, 1, 300, 4_000, 65_000, 66_000, 150_000]
+
+# What a client's repositories have: for each upload how many bytes it has received, and the digests of the blobs.
+State = collections.namedtuple("State", ["uploads", "blobs"])
+
+
+class Story:
+    """What a client asked, in order: the state behind each request, and where the notes ended as it heard the answer."""
+
+    def __init__(self, number, notes):
+        self.name, self.notes = f"lib/{number}", notes
+        self.dice = random.Random(OPTIONS.seed * 1_000 + number)
+        self.received, self.blobs = {}, {}
+        self.told = []
+        self.tell()
+
+    def tell(self):
+        uploads = {place: len(content) for place, content in self.received.items()}
+        self.told.append((os.path.getsize(self.notes), State(uploads, frozenset(self.blobs))))
+
+    def content(self):
+        return self.dice.randbytes(self.dice.choice(SIZES))
+
+    def target(self, where):
+        return f"/v2/{self.name}/blobs/uploads/{where}"
+
+    def step(self, client):
+        if not self.received or self.dice.random() < 0.2:
+            self.dice.choice([self.open, self.store])(client)
+        else:
+            self.dice.choice([self.send, self.send, self.close, self.miss])(client)
+        self.tell()
+
+    def open(self, client):
+        reply = client.ask("POST", self.target(""))
+        equal("an opening", reply.status, 202)
+        self.received[reply.fields["Location"]] = b""
+
+    def store(self, client):
+        content = self.content()
+        equal("a blob", client.ask("POST", self.target(f"?digest={sha256(content)}"), content).status, 201)
+        self.blobs[sha256(content)] = content
+
+    def send(self, client):
+        place, chunk = self.dice.choice(list(self.received)), self.content()
+        equal("a chunk", client.ask("PATCH", place, chunk).status, 202)
+        self.received[place] += chunk
+
+    def miss(self, client):
+        place = self.dice.choice(list(self.received))
+        first = len(self.received[place]) + 1
+        equal("a gap", client.ask("PATCH", place, b"x", Content_Range=f"{first}-{first}").status, 416)
+
+    def close(self, client):
+        place, rest = self.dice.choice(list(self.received)), self.content()
+        content = self.received.pop(place) + rest
+        equal("a close", client.ask("PUT", f"{place}?digest={sha256(content)}", rest).status, 201)
+        self.blobs[sha256(content)] = content
+
+    def allowed(self, end):
+        """The states that a cut may leave behind the notes up to this place."""
+        heard = sum(place <= end for place, _ in self.told)
+        return [state for _, state in self.told[max(heard - 1, 0) : heard + 1]]
+
+    def found(self, client):
+        """What a server has of it. A blob with other bytes than it was stored with is none of these."""
+        places = {place for _, state in self.told for place in state.uploads}
+        uploads = {}
+        for place in places:
+            reply = client.ask("GET", place)
+            if reply.status == 204:
+                uploads[place] = reply.held()
+        blobs = set()
+        for digest, content in self.blobs.items():
+            reply = client.ask("GET", f"/v2/{self.name}/blobs/{digest}")
+            if reply.status == 200:
+                blobs.add(digest if reply.body == content else "other bytes")
+        return State(uploads, frozenset(blobs))
+
+
+def served(folder, data, **variables):
+    """A server on a data directory whose calls are noted."""
+    notes = os.path.join(folder, f"notes-{len(os.listdir(folder))}")
+    noted = shims.loaded(folder, "disks", DISK_FOLDER=data, DISK_NOTES=notes)
+    return Server(env=variables | noted | {"BLOBD_DATA": data}), notes
+
+
+def told_stories(folder, data):
+    """Serves the clients' requests, and gives their stories and the notes."""
+    server, notes = served(folder, data, BLOBD_WORKERS=CLIENTS)
+    with server:
+        stories = [Story(number, notes) for number in range(CLIENTS)]
+
+        def tell(story):
+            with server.client() as client:
+                for _ in range(STEPS):
+                    story.step(client)
+
+        threads = [threading.Thread(target=tell, args=[story]) for story in stories]
+        for thread in threads:
+            thread.start()
+        for thread in threads:
+            thread.join()
+    return stories, list(disks.notes_in(notes))
+
+
+def after_start(server, stories, end):
+    """What is wrong with what a server has behind a cut."""
+    if not server.first_line.startswith("listening "):
+        server.stop()
+        return [f"it doesn't start: {server.first_line!r}"]
+    with server, server.client() as client:
+        wrong = [
+            f"{story.name} has {found}, and may have {allowed}"
+            for story in stories
+            if (found := story.found(client)) not in (allowed := story.allowed(end))
+        ]
+        more = client.push("lib/more", b"goes on" * 20_000, 70_000)
+        return wrong + ([] if more[-1] == 201 else [f"a push behind it: {more}"])
+
+
+def cut(stories, notes, number):
+    """Cuts at a call, perhaps cuts the start behind that, and gives what is wrong then."""
+    dice = random.Random(OPTIONS.seed * 1_000_000 + number)
+    count = 1 + number % len(notes)
+    disk = disks.Disk()
+    for note in notes[:count]:
+        disk.play(note)
+    with tempfile.TemporaryDirectory(dir=memory()) as folder:
+        data = os.path.join(folder, "data")
+        left = disk.left(dice)
+        disks.make(data, left)
+        if dice.random() < 0.3:
+            left = cut_start(folder, data, left, dice)
+            data = os.path.join(folder, "again")
+            disks.make(data, left)
+        with open(os.path.join(folder, "told"), "w+", encoding="utf-8") as told:
+            wrong = after_start(Server(env={"BLOBD_DATA": data}, stderr=told), stories, notes[count - 1].end)
+            told.seek(0)
+            return [f"cut behind call {count} of {len(notes)}: {line} {told.read()}" for line in wrong]
+
+
+def cut_start(folder, data, left, dice):
+    """Starts a server on what a cut left, and gives what a second cut leaves, at a call of that start."""
+    server, notes = served(folder, data)
+    server.stop()
+    disk = disks.Disk()
+    for path, content in left.items():
+        disk.files[path] = None if content is None else disks.File(content)
+    disk.named = set(left)
+    calls = list(disks.notes_in(notes))
+    for note in calls[: dice.randint(0, len(calls))]:
+        disk.play(note)
+    return disk.left(dice)
+
+
+def memory():
+    """A folder in memory, if there is one: what a test syncs needn't be on a disk."""
+    return "/dev/shm" if os.path.isdir("/dev/shm") else None
+
+
+def wrong_of(told):
+    return cut(*told)
+
+
+@case("cc")
+def test_cuts(folder):
+    data = os.path.join(folder, "data")
+    stories, notes = told_stories(folder, data)
+    disk = disks.Disk()
+    for note in notes:
+        disk.play(note)
+    check("the notes tell all", disk.read() == disks.found(data))
+    syncs = sum(note.call == "sync" for note in notes)
+    check("there are calls", syncs > STEPS, notes[:20])
+    # each call in turn, and then again with other dice
+    with running.processes() as pool:
+        runs = pool.map(wrong_of, zip(itertools.repeat(stories), itertools.repeat(notes), range(OPTIONS.cuts)), chunksize=20)
+        wrong = [line for lines in runs for line in lines]
+    check("what a cut leaves", not wrong, "\n    ".join(["", *wrong[:10]]))
+    print(f"{OPTIONS.cuts} cuts at {len(notes)} calls, {syncs} of them syncs")
+
+
+if __name__ == "__main__":
+    main(
+        __doc__,
+        cuts=(1_500, "how many cuts"),
+        seed=(1, "where the dice begin"),
+    )
