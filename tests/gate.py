@@ -7,9 +7,13 @@ import os
 import re
 import subprocess
 import sys
+import time
 
 TOP = os.path.dirname(os.path.dirname(os.path.abspath(__file__)))
 CLOSING = re.compile(r"^(\d+) passed, (\d+) failed$")
+# What a part prints of a failure; of one that prints nothing of the kind its last lines tell.
+TELLING = re.compile(r"\bFAILED\b|\bNOT (PROVED|REFUSED|TRIED)\b|^\w*(Error|Exception)\b")
+TOLD_LINES = 30
 
 
 def driving(script, *words):
@@ -51,8 +55,12 @@ PARTS = [
 
 
 def run(command):
-    """Runs a part, showing what it prints, and gives its counts. A part that says no counts has failed."""
+    """Runs a part, showing what it prints, and gives its counts and what tells of a failure.
+
+    A part that says no counts has failed.
+    """
     passed, failed = 0, 1
+    lines = []
     with subprocess.Popen(command, cwd=TOP, stdout=subprocess.PIPE, stderr=subprocess.STDOUT, text=True) as part:
         for line in part.stdout:
             closing = CLOSING.match(line.strip())
@@ -60,20 +68,26 @@ def run(command):
                 passed, failed = int(closing.group(1)), int(closing.group(2))
             else:
                 print(line, end="", flush=True)
+                lines.append(line.rstrip())
     if part.returncode != 0 and failed == 0:
         failed = 1
-    return passed, failed
+    telling = [line for line in lines if TELLING.search(line)] or lines
+    return passed, failed, telling[-TOLD_LINES:] if failed else []
 
 
 def main():
     all_passed = all_failed = 0
+    told = []
     for name, command in PARTS:
         print(f"--- {name}", flush=True)
-        passed, failed = run(command)
-        print(f"--- {name}: {passed} passed, {failed} failed", flush=True)
+        begun = time.monotonic()
+        passed, failed, telling = run(command)
+        print(f"--- {name}: {passed} passed, {failed} failed, {time.monotonic() - begun:.0f} s", flush=True)
         all_passed += passed
         all_failed += failed
-    print(f"{all_passed} passed, {all_failed} failed")
+        told += [f"{name}: {line:.300}" for line in telling]
+    # Said once more at the end, where a reader of a long log looks.
+    print(*told, f"{all_passed} passed, {all_failed} failed", sep="\n")
     return 1 if all_failed else 0
 
 
