@@ -1,8 +1,7 @@
 //! A pool of four whose changes are kept until that fails: each client finds all that it was told in what was kept.
-ghost use Rattle.std.specs.Prelude.{◌≡◌, IfOk, vec_len};
+ghost use Rattle.std.specs.Prelude.{◌≡◌, IfOk, map, vec_len};
 ghost use Rattle.std.specs.List.{flat_map};
-ghost use Rattle.upload_intake.specs.Safety.{asked};
-ghost use Rattle.intake_tests.specs.Changes.{exchanges_of};
+ghost use Rattle.upload_intake.specs.Safety.{asked, answered_so};
 
 use super::{Still, Texts, service};
 use crate::checks::check;
@@ -92,9 +91,11 @@ impl<'a> Keeping for Remembers<'a> {
 
     ghost start = { λ k. k.start.value };
 
-    ghost kept = { λ k. flat_map exchanges_of k.kept };
+    ghost kept = { λ k. flat_map (map (λ c. answered_so
+        (asked c.request.ask.value c.request.secret c.request.now) c.answer.value)) k.kept };
 
-    ghost waiting = { λ k. exchanges_of k.waiting };
+    ghost waiting = { λ k. map (λ c. answered_so
+        (asked c.request.ask.value c.request.secret c.request.now) c.answer.value) k.waiting };
 
     // It promises all moments.
     ghost last = { λ k. 18446744073709551615 };
