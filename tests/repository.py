@@ -47,6 +47,9 @@ SHOWN = re.compile(r"crates/embed_\w+/(src/\w+\.rt|specs/(?!Lib\.)\w+\.antt)")
 # Settings of the C library's memory. A record of figures has those that they were measured with.
 TUNED = re.compile(r"glibc\.malloc\.hugetlb=[\w.:=]+")
 
+# A module that a crate has only in its tests.
+OF_TESTS = re.compile(r"^#\[cfg\(test\)\]\nmod (\w+);", re.MULTILINE)
+
 # Functions of which no clause says anything, since none can speak of another thread. Tests stand for them.
 NO_CLAUSE = {
     "upload_bytes": {"HashEnd::wait"},
@@ -115,6 +118,18 @@ def unnamed(paths):
             if not (here or item.is_answer or item.name in taken[module_of(path)] or item.name in in_code):
                 found.append(f"{path}:{item.line}: {item.name}")
     return found
+
+
+def of_tests_alone(paths):
+    """Definitions that name what only the tests of their crate declare. The crate isn't proved without its tests then."""
+    roots = {path.split("/")[1]: path for path in paths if re.fullmatch(r"crates/\w+/src/(lib|main)\.rt", path)}
+    return [
+        f"{path}: {name}"
+        for crate, root in roots.items()
+        for name in (f"{crate}.specs.declared.{module}." for module in OF_TESTS.findall(text_of(root)))
+        for path in paths
+        if path.startswith(f"crates/{crate}/") and path.endswith(".antt") and name in text_of(path)
+    ]
 
 
 def outputs(paths):
@@ -390,6 +405,7 @@ def untuned(paths):
 CHECKS = [
     ("no hole in a proof", holes),
     ("each definition and each lemma is named", unnamed),
+    ("definitions name nothing that only tests declare", of_tests_alone),
     ("no output is committed", outputs),
     ("HANDLES is its one line", handles),
     ("every public function that decides something has a must-fail edit", unbroken),
