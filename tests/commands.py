@@ -142,8 +142,27 @@ def test_an_image_has_the_program_and_what_it_is_loaded_with(folder):
     with tarfile.open(fileobj=io.BytesIO(layer)) as tar, mock.patch.object(pack, "PROGRAM", OPTIONS.program):
         inside = files_of(tar)
         libraries = {path.lstrip("/") for path in pack.libraries()}
+        volume = tar.getmember("var/lib/blobd")
     equal("the program in the image", inside["usr/local/bin/blobd"], pack.contents(OPTIONS.program))
     check("what it is loaded with", libraries <= set(inside), (libraries, list(inside)))
+    equal("the folder of its data", (volume.mode, volume.uid, volume.gid), (0o700, 65534, 65534))
+
+
+@case()
+def test_both_images_are_set_up_alike(folder):
+    """The image of `make image` runs as that of the Containerfile does: its user, its folder for data, its signal."""
+    files = unpacked(folder, "image", OPTIONS.program)
+    config = json.loads(files[json.loads(files["manifest.json"])[0]["Config"]])["config"]
+    with open(os.path.join(TOP, "deploy", "Containerfile"), encoding="utf-8") as file:
+        lines = [line.rstrip().split(" ", 1) for line in file if line[0].isupper()]
+    told = {word: [rest for first, rest in lines if first == word] for word, _ in lines}
+    equal("the variables", sorted(config["Env"]), sorted(told["ENV"]))
+    equal("the user", [config["User"]], told["USER"])
+    equal("the volume", list(config["Volumes"]), told["VOLUME"])
+    equal("the signal", [config["StopSignal"]], told["STOPSIGNAL"])
+    equal("the port", list(config["ExposedPorts"]), [f"{port}/tcp" for port in told["EXPOSE"]])
+    equal("its command", json.loads(told["CMD"][0])[2:], config["Entrypoint"] + config["Cmd"])
+    check("its folder for data", config["Env"][2].split("=")[1].startswith(told["VOLUME"][0] + "/"), config)
 
 
 @case("buildah")

@@ -24,6 +24,9 @@ PROGRAM = "crates/blobd/out/blobd"
 PAGES = ["README.md", "CHANGELOG.md", "CONTRIBUTING.md", "LICENSE", "VERSION"]
 LIBRARY = re.compile(r"(/\S+) \(0x")
 ADDRESS = "0.0.0.0:5001"
+# Where the image keeps what it has: of the user that it runs as, and a volume gets both from it.
+VOLUME = "var/lib/blobd"
+USER = 65534
 MALLOC = "glibc.malloc.hugetlb=1:glibc.malloc.mmap_threshold=1048576:glibc.malloc.arena_max=1"
 
 
@@ -42,18 +45,21 @@ def folders_of(names):
     return {name[:at] for name in names for at, letter in enumerate(name) if letter == "/"}
 
 
-def tar_of(files):
+def tar_of(files, owned=()):
     """A tar of these names, each with its bytes and its mode, and of their folders: who unpacks it may give others no
-    way into a folder that isn't listed. It says nothing of who made it or when."""
+    way into a folder that isn't listed. It says nothing of who made it or when. The folders that are owned are those of
+    the image's user, for that user alone."""
     made = io.BytesIO()
     with tarfile.open(fileobj=made, mode="w", format=tarfile.USTAR_FORMAT) as tar:
-        for name in sorted(folders_of(files) | set(files)):
+        for name in sorted(folders_of([*files, *owned]) | set(files) | set(owned)):
             entry = tarfile.TarInfo(name)
             data = b""
             if name in files:
                 data, entry.mode = files[name]
             else:
                 entry.type, entry.mode = tarfile.DIRTYPE, 0o755
+            if name in owned:
+                entry.mode, entry.uid, entry.gid = 0o700, USER, USER
             entry.size = len(data)
             tar.addfile(entry, io.BytesIO(data))
     return made.getvalue()
@@ -93,14 +99,16 @@ def libraries():
 def image():
     files = {"usr/local/bin/blobd": (contents(PROGRAM), 0o755)}
     files.update({path.lstrip("/"): (contents(path), 0o755) for path in libraries()})
-    layer = tar_of(files)
+    layer = tar_of(files, [VOLUME])
     labels = {"org.opencontainers.image.version": version(), "org.opencontainers.image.licenses": "Apache-2.0"}
     settings = {
         "Entrypoint": ["/usr/local/bin/blobd"],
         "Cmd": ["serve", ADDRESS],
-        "Env": [f"GLIBC_TUNABLES={MALLOC}", "BLOBD_WORKERS=16"],
+        "Env": [f"GLIBC_TUNABLES={MALLOC}", "BLOBD_WORKERS=16", f"BLOBD_DATA=/{VOLUME}/data"],
+        "Volumes": {f"/{VOLUME}": {}},
         "ExposedPorts": {f"{ADDRESS.rpartition(':')[2]}/tcp": {}},
-        "User": "65534:65534",
+        "User": f"{USER}:{USER}",
+        "StopSignal": "SIGKILL",
         "Labels": labels,
     }
     layers = {"type": "layers", "diff_ids": [f"sha256:{hashlib.sha256(layer).hexdigest()}"]}
@@ -114,7 +122,8 @@ def image():
     print("Load it and run it (docker takes the same words):")
     print(f"  podman load -i dist/{name}")
     limits = "--memory 8500m --ulimit data=8589934592"
-    print(f"  podman run --rm --init {limits} -p 127.0.0.1:5001:5001 localhost/blobd:{version()}")
+    ports, volume = "-p 127.0.0.1:5001:5001", f"-v blobd:/{VOLUME}"
+    print(f"  podman run --rm --init {limits} {ports} {volume} localhost/blobd:{version()}")
 
 
 def main(words):
