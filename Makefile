@@ -46,7 +46,8 @@ help:
 	@echo 'make serve    the service at $(ADDR), until it is interrupted (ADDR=.. another address, WORKERS=.. connections at a time, COUNT=.. so many of each worker,'
 	@echo '              DATA=.. the folder in which it keeps what it has)'
 	@echo 'make upload   pushes $(FILE) to that service (FILE=.. another file), pulls it back and compares; in another shell'
-	@echo 'make registry a registry to push images to: TLS and a login, with HAProxy before the service (docs/OPERATIONS.md)'
+	@echo 'make registry a registry to push images to: TLS and a login, with HAProxy before the service (docs/OPERATIONS.md;'
+	@echo '              DATA=.. the folder in which it keeps what it has, with Redis for the tags)'
 	@echo '              once, serve and registry prove and build the program if its sources are newer: 15 to 40 minutes from nothing on'
 	@echo '              four cores, a few minutes after a change. Else they start at once'
 	@echo 'make adapter REGISTRY=host:5443 LOGIN=FILE CA=FILE   lets blobd push to a registry on another machine, with TLS and a login'
@@ -114,9 +115,9 @@ $(V3): $(SOURCES)
 
 # The packages first: what is missing is told before the program is built.
 registry:
-	@python3 deploy/registry.py --packages
+	@python3 deploy/registry.py --packages $(if $(DATA),'$(DATA)')
 	@$(MAKE) -s $(PROGRAM)
-	@python3 deploy/registry.py $(PROGRAM)
+	@python3 deploy/registry.py $(PROGRAM) $(if $(DATA),'$(DATA)')
 
 adapter:
 	@test -n '$(REGISTRY)' || { echo 'usage: make adapter REGISTRY=host:5443 [LOGIN=FILE] [CA=FILE] [ADAPTER=$(ADAPTER)]' >&2; exit 2; }

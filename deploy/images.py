@@ -24,7 +24,7 @@ def write_layout(folder, layers, name=None, is_packed=False):
     """Writes an image of these layers, under a name if it is given one, and with the layers packed by gzip if that is
     asked for. Gives the digests of its configuration and its layers."""
     blobs = os.path.join(folder, "blobs", "sha256")
-    os.makedirs(blobs)
+    os.makedirs(blobs, exist_ok=True)
 
     def keep(content, kind):
         digest = hashlib.sha256(content).hexdigest()

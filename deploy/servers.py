@@ -3,9 +3,11 @@
 They listen on the loopback address alone. Each is a `Service`, for as long as its `with` lasts. It also ends if the
 program that started it is killed.
 """
+import contextlib
 import ctypes
 import glob
 import ipaddress
+import math
 import os
 import shutil
 import signal
@@ -61,9 +63,9 @@ def leave_with_parent():
     ctypes.CDLL(None).prctl(DIES_WITH_PARENT, signal.SIGTERM)
 
 
-def wait_for(address, goes_on=lambda: True):
-    """Whether somebody listens there before long, as long as it makes sense to wait."""
-    end = time.monotonic() + PATIENCE
+def wait_for(address, goes_on=lambda: True, seconds=PATIENCE):
+    """Whether somebody listens there in time, as long as it makes sense to wait."""
+    end = time.monotonic() + seconds
     while goes_on() and time.monotonic() < end:
         try:
             socket.create_connection(place(address), timeout=1).close()
@@ -75,6 +77,9 @@ def wait_for(address, goes_on=lambda: True):
 
 class Service:
     """A process that listens on these addresses. What it prints goes to the file NAME.log of the folder."""
+
+    # how long it may take until it listens
+    seconds = PATIENCE
 
     def __init__(self, name, folder, words, addresses, settings=None):
         self.name, self.folder, self.words, self.addresses = name, folder, words, addresses
@@ -104,7 +109,7 @@ class Service:
             raise
 
     def wait_for(self, address):
-        if wait_for(address, lambda: self.process.poll() is None):
+        if wait_for(address, lambda: self.process.poll() is None, self.seconds):
             return
         with open(self.log, encoding="utf-8", errors="replace") as log:
             told = log.read()[-2000:]
@@ -126,12 +131,23 @@ class Service:
         return self.process is None or self.process.poll() is not None
 
 
-def blobd(binary, folder, address, name="blobd", memory=None, workers=2):
-    """A shard with so many workers; if it is told, with so many bytes of address space."""
+def blobd(binary, folder, address, name="blobd", memory=None, workers=2, kept=None):
+    """A shard with so many workers; if it is told, with so many bytes of address space, and with a data directory."""
     words = [os.path.abspath(binary), "serve", address]
     if memory:
         words = ["prlimit", f"--as={memory}", *words]
-    return Service(name, folder, words, [address], MALLOC | {"BLOBD_WORKERS": str(workers)})
+    shard = Service(name, folder, words, [address], MALLOC | {"BLOBD_WORKERS": str(workers)})
+    if kept:
+        # it reads all of it first
+        shard.settings["BLOBD_DATA"], shard.seconds = kept, math.inf
+    return shard
+
+
+def has_certificate(folder):
+    """Whether the folder has one that is valid for another day."""
+    pem = os.path.join(folder, "front.pem")
+    words = ["openssl", "x509", "-noout", "-checkend", "86400", "-in", pem]
+    return os.path.exists(pem) and subprocess.run(words, capture_output=True, check=False).returncode == 0
 
 
 def certificate(folder):
@@ -305,14 +321,21 @@ class DockerRegistry(Service):
         shutil.rmtree(self.root, ignore_errors=True)
 
 
-def until_interrupted(name, serve):
-    """What `serve` gives, which is called with an empty folder of this name that goes with it, or 0 if it is
-    interrupted."""
+@contextlib.contextmanager
+def kept_folder(path):
+    """A folder for its owner alone, which is made if it isn't there, and stays."""
+    os.makedirs(path, mode=0o700, exist_ok=True)
+    yield os.path.abspath(path)
+
+
+def until_interrupted(name, serve, kept=None):
+    """What `serve` gives, or 0 if it is interrupted. It is called with the folder that is to be kept, or else with an
+    empty one of this name that goes with it."""
     # in the background of a shell an interrupt is ignored, unless this is said
     for number in (signal.SIGINT, signal.SIGTERM):
         signal.signal(number, signal.default_int_handler)
     try:
-        with tempfile.TemporaryDirectory(prefix=f"blobd-{name}-") as folder:
+        with kept_folder(kept) if kept else tempfile.TemporaryDirectory(prefix=f"blobd-{name}-") as folder:
             return serve(folder)
     except KeyboardInterrupt:
         print("\nended")

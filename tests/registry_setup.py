@@ -4,7 +4,10 @@ docs/OPERATIONS.md.
 
     registry_setup.py PROGRAM
 """
+import contextlib
+import json
 import os
+import shlex
 import shutil
 import signal
 import socket
@@ -15,7 +18,7 @@ from harness import TOP
 from harness.registry import IMAGE_PUSHED, LOGIN, PROXY, Client, push_image
 from harness.running import finished, told_by
 from harness.suite import OPTIONS, case, check, equal, lacks, main, skip
-from harness.wire import PATIENCE
+from harness.wire import PATIENCE, sha256
 import servers
 
 
@@ -55,12 +58,22 @@ def unit_is_valid(folder):
     check("systemd-analyze verify", ran.returncode == 0 and not ran.stderr, ran.stderr)
 
 
-@case(*PROXY)
-def the_newcomers_registry():
-    """`make registry` as a newcomer meets it: the lines that it prints push an image and pull it, as they stand, and it
-    ends without a rest."""
-    tls, store = servers.free_address(), servers.free_address()
-    words = [sys.executable, os.path.join(TOP, "deploy", "registry.py"), OPTIONS.program]
+@case()
+def unit_waits_behind_a_fault(folder):
+    """A fault, as a directory that can't be used, is followed by a pause; a kill and a stop aren't."""
+    unit = text_of(os.path.join(TOP, "deploy", "blobd@.service"))
+    (command,) = [line.split("=", 1)[1] for line in unit.splitlines() if line.startswith("ExecStopPost=")]
+    written(os.path.join(folder, "sleep"), "#!/bin/sh\necho slept $1\n", 0o755)
+    for ended, wanted in (("3", "slept 10\n"), ("0", ""), ("KILL", ""), ("TERM", "")):
+        settings = {"EXIT_STATUS": ended, "PATH": folder + os.pathsep + os.environ["PATH"]}
+        told = told_by(shlex.split(command.replace("$$", "$")), env=settings)
+        equal(f"what follows an end by {ended}", told, (0, wanted))
+
+
+@contextlib.contextmanager
+def newcomers_registry(tls, store, *words):
+    """`make registry` at these addresses, and the lines that it prints once it serves."""
+    words = [sys.executable, os.path.join(TOP, "deploy", "registry.py"), OPTIONS.program, *words]
     settings = os.environ | {"FRONT_TLS": tls, "BLOBD_1": store}
     with subprocess.Popen(words, env=settings, stdout=subprocess.PIPE, stderr=subprocess.STDOUT, text=True) as registry:
         lines = []
@@ -68,11 +81,34 @@ def the_newcomers_registry():
             lines.append(line.strip())
             if line.startswith("Docker"):
                 break
-        told = [line for line in lines if line.startswith(("skopeo ", "zcat "))]
-        are_told = [line.split()[1] for line in told[:3]] == ["login", "copy", "copy"] and len(told) == 4
-        check("four lines are told", are_told, lines)
-        login = told[0].split() if told else ["skopeo", "login", "--cert-dir", "", "-u", "", "-p", ""]
-        folder, user, word = login[3], login[5], login[7]
+        try:
+            yield registry, lines
+        finally:
+            registry.terminate()
+
+
+def told_lines(lines):
+    """The lines of a registry that push an image and pull it."""
+    told = [line for line in lines if line.startswith(("skopeo ", "zcat "))]
+    are_told = [line.split()[1] for line in told[:3]] == ["login", "copy", "copy"] and len(told) == 4
+    check("four lines are told", are_told, lines)
+    return told
+
+
+def login_of(told):
+    """The folder of certificates, the user and the password of these lines."""
+    login = told[0].split() if told else ["skopeo", "login", "--cert-dir", "", "-u", "", "-p", ""]
+    return login[3], login[5], login[7]
+
+
+@case(*PROXY)
+def the_newcomers_registry():
+    """`make registry` as a newcomer meets it: the lines that it prints push an image and pull it, as they stand, and it
+    ends without a rest."""
+    tls, store = servers.free_address(), servers.free_address()
+    with newcomers_registry(tls, store) as (registry, lines):
+        told = told_lines(lines)
+        folder, user, word = login_of(told)
         client = Client(tls, (user, word), os.path.join(folder, "front.crt"))
         equal("the registry answers", client.ask("GET", "/v2/").status, 200)
         equal("and takes an image", push_image(client, "lib/new"), IMAGE_PUSHED)
@@ -93,6 +129,60 @@ def the_newcomers_registry():
     for address in (tls, store):
         with socket.socket() as probe:
             check(f"nobody listens on {address}", probe.connect_ex(servers.place(address)) != 0)
+
+
+def family(number):
+    """A process, and all that it has started."""
+    with open(f"/proc/{number}/task/{number}/children", encoding="ascii") as file:
+        return [number, *(one for child in file.read().split() for one in family(child))]
+
+
+def program_of(number, name):
+    """The process of this program's that another one has started."""
+    for one in family(number):
+        with open(f"/proc/{one}/cmdline", encoding="utf-8") as file:
+            if os.path.basename(file.read().split("\0")[0]).startswith(name):
+                return int(one)
+    return None
+
+
+@case(*PROXY, "redis-server")
+def a_registry_that_keeps(folder):
+    """`make registry DATA=..`: all of it is killed at once, then `blobd` alone, and the third is interrupted. Each time
+    the next one has the image, its tag and the login."""
+    path, tls, store = os.path.join(folder, "kept"), servers.free_address(), servers.free_address()
+    settings = {"REGISTRY_AUTH_FILE": os.path.join(folder, "auth.json")}
+    has_skopeo = not lacks("the lines of a registry that keeps", "skopeo")
+    with newcomers_registry(tls, store, path) as (registry, lines):
+        told = told_lines(lines)
+        certificates, user, word = login_of(told)
+        client = Client(tls, (user, word), os.path.join(certificates, "front.crt"))
+        equal("it takes an image", push_image(client, "lib/kept"), IMAGE_PUSHED)
+        manifest = client.ask("GET", "/v2/lib/kept/manifests/one").body
+        for line in told[: 2 * has_skopeo]:
+            ran = told_by(["sh", "-c", line], env=settings)
+            check(f"before the kill: {line}", ran[0] == 0, ran)
+        for number in reversed(family(registry.pid)):
+            # HAProxy's own ends with it
+            with contextlib.suppress(ProcessLookupError):
+                os.kill(int(number), signal.SIGKILL)
+    equal("whose it is", os.stat(path).st_mode & 0o777, 0o700)
+    for number, end in enumerate((signal.SIGKILL, signal.SIGINT)):
+        with newcomers_registry(tls, store, path) as (registry, lines):
+            equal("the same lines are told", told_lines(lines), told)
+            client = Client(tls, (user, word), os.path.join(certificates, "front.crt"))
+            again = client.ask("GET", "/v2/lib/kept/manifests/one")
+            equal(f"the manifest by its tag, start {number}", (again.status, again.body), (200, manifest))
+            layer = json.loads(manifest)["layers"][0]["digest"]
+            equal("its layer", sha256(client.ask("GET", f"/v2/lib/kept/blobs/{layer}").body), layer)
+            for line in told[2:] if has_skopeo else []:
+                ran = told_by(["sh", "-c", line], env=settings)
+                check(f"start {number}: {line}", ran[0] == 0, ran)
+            is_killed = end == signal.SIGKILL
+            os.kill(program_of(registry.pid, "blobd") if is_killed else registry.pid, end)
+            rest = registry.stdout.read().strip()
+            ended = registry.wait(timeout=PATIENCE), rest.split(":")[0]
+            equal("it says how it ended", ended, (1, "blobd ended") if is_killed else (0, "ended"))
 
 
 # Before the lines that set all up in docs/OPERATIONS.md.
