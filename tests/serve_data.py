@@ -12,7 +12,7 @@ import subprocess
 import threading
 import time
 
-from harness import shims
+from harness import TOP, shims
 from harness.running import SERVED, USAGE, Repeated, Server, ask_alone, pull, run
 from harness.suite import OPTIONS, case, check, equal, main, skip
 from harness.wire import Connection, demand, named, request_text, sha256, sha512
@@ -494,6 +494,46 @@ def full_disk(folder):
                 equal("a push once there is room", client.push(NAME, b"more"), [202, 202, 201])
     finally:
         subprocess.run(["umount", disk], check=True)
+
+
+# Before the lines that copy a directory in docs/OPERATIONS.md.
+BACKUP = "<!-- tests/serve_data.py runs these lines -->\n```sh\n"
+
+
+@case()
+def copied_while_it_serves(folder):
+    """A copy by the lines of docs/OPERATIONS.md, made while clients push, starts and has all that was told before it
+    began: each blob, and each upload at that offset or further on. A client goes on with such an upload."""
+    path, copy, told = os.path.join(folder, "data"), os.path.join(folder, "copy"), Told()
+    with open(os.path.join(TOP, "docs", "OPERATIONS.md"), encoding="utf-8") as file:
+        lines = file.read().split(BACKUP)[1].split("```")[0]
+    lines = lines.replace("/var/lib/blobd/5001/data", path).replace("/backup/5001", copy)
+    content = random.Random(3).randbytes(200_000)
+    with serving(path, env={"BLOBD_WORKERS": 6}) as server:
+        with server.client() as client:
+            place = client.opened(NAME)
+            equal("chunks before the copy", client.send_chunks(place, content[:140_000], 70_000), [202, 202])
+        pushers = Repeated([Pusher(server, told, seed).turn for seed in range(6)])
+        time.sleep(1)
+        with told.lock:
+            stored, uploads = dict(told.stored), dict(told.uploads)
+        ran = subprocess.run(["sh", "-euc", lines], capture_output=True, text=True, check=False)
+        equal("the copy", (ran.returncode, ran.stderr), (0, ""))
+        pushers.end()
+        check("there was something to copy, and more behind it", 20 < len(stored) < len(told.stored), len(stored))
+    with serving(copy) as server, server.client() as client:
+        equal("a start on the copy", server.first_line[:10], "listening ")
+        wrong = [key for key, kept in stored.items() if pull(server, *key) != kept]
+        check("what was told before the copy began", not wrong, wrong[:3])
+        found = {one: held(client, one) for one in uploads}
+        wrong = [(one, found[one], uploads[one][0]) for one in uploads
+                 if found[one] != (404, None) and not found[one][1] >= uploads[one][0]]
+        check("the uploads", not wrong, wrong[:3])
+        gone = [one for one in uploads if found[one][0] == 404 and one in told.uploads]
+        check("those that stayed open are there", not gone, gone[:3])
+        rest = client.ask("PATCH", place, content[140_000:], Content_Range="140000-199999").status
+        closed = client.ask("PUT", f"{place}?digest={sha256(content)}").status
+        equal("an upload that goes on in the copy", [rest, closed], [202, 201])
 
 
 if __name__ == "__main__":
