@@ -71,7 +71,8 @@ help:
 	@echo 'make long     ten million requests, a million small blobs and ten thousand power cuts, with the memory that `blobd serve` has then'
 	@echo 'make large    blobs of more than 1 GiB, each in one request or one push, stored and pulled: two minutes'
 	@echo 'make figures  speed and memory of `blobd once` and of the service alone, as ratios in one run'
-	@echo 'make bench    the same of `blobd serve` and `blobd push` over loopback, and a picture: ten minutes (docs/PERFORMANCE.md)'
+	@echo 'make bench    the same of `blobd serve` and `blobd push` over loopback, and a picture; then with a data directory, in this'
+	@echo '              folder: twenty minutes, and 11 GB of disk (docs/PERFORMANCE.md)'
 
 try:
 	@echo 'Unproved: this interprets the program as it stands, in a minute or two. `make once` proves it first.' >&2
@@ -160,6 +161,7 @@ bench: $(PROGRAM)
 	@python3 bench/loopback.py $(PROGRAM) --json $(JSON)
 	@python3 bench/draw.py $(JSON) docs/performance.svg
 
+	@python3 bench/disk.py $(PROGRAM)
 fuzz: $(EVERY)
 	@python3 tests/differential.py $(EVERY) --streams 100000
 

@@ -1,11 +1,13 @@
 #!/usr/bin/env python3
 """Figures of `blobd serve` with a data directory, beside itself without one and docker-registry on the same disk.
 
-    disk.py PROGRAM [--folder FOLDER] [--mib SIZE] [--runs N]
+    disk.py PROGRAM [--folder FOLDER] [--mib SIZE] [--blobs COUNT] [--runs N]
 
 The servers take turns, each run with a new server and a new folder in FOLDER, which should be on a disk and not in
 memory. A figure is the best of the runs. Uploads are compared with `sha256sum` on the same bytes, in the same runs; small
-blobs are counted by the second. A start is that of a server with a directory that has eight times SIZE. Needs Linux.
+blobs are counted by the second, beside the syncs of a journal alone: two for each request, or for each round of all
+clients. A request that changes nothing waits beside uploads of four times SIZE: its longest wait, and the longest of a
+sync beside the same. A start is that of a server with a directory that has forty times SIZE. Needs Linux.
 """
 import contextlib
 import functools
@@ -24,8 +26,11 @@ from harness import running
 from harness.running import MIB
 from harness.suite import OPTIONS
 
-SMALL, SMALL_SIZE = 1_000, 1_024
+SMALL_SIZE = 1_024
 CROWD = 16
+# how often the blob is uploaded beside a request that waits, and before a start
+BESIDE, BEFORE_A_START = 4, 40
+SECTOR = 4_096
 
 
 class OnDisk(loopback.Blobd):
@@ -105,43 +110,97 @@ def pulled(blob, server):
 
 
 def rows(blob):
-    """What is measured: a name, how many bytes or blobs it is, and the seconds that a server takes for it."""
+    """What is measured: a name, its bytes or the clients of its small blobs, and the seconds that a server takes."""
     for size in (blob.size, 16 * MIB, 4 * MIB, MIB):
         name = "one body" if size == blob.size else f"chunks of {size // MIB} MiB"
         work = functools.partial(uploaded, blob, size)
-        yield name, blob.size, lambda server, work=work: timed(server, work)
+        yield name, blob.size, None, lambda server, work=work: timed(server, work)
     two = [functools.partial(uploaded, blob, blob.size)] * 2
-    yield "two bodies at once", 2 * blob.size, lambda server: at_once(server, two)
-    yield "a pull", blob.size, functools.partial(pulled, blob)
-    yield f"{SMALL} small blobs", None, lambda server: timed(server, functools.partial(small_blobs, 0, SMALL))
-    crowd = [functools.partial(small_blobs, first * SMALL, SMALL // CROWD) for first in range(CROWD)]
-    yield f"the same by {CROWD} clients", None, lambda server: at_once(server, crowd)
+    yield "two bodies at once", 2 * blob.size, None, lambda server: at_once(server, two)
+    yield "a pull", blob.size, None, functools.partial(pulled, blob)
+    count = OPTIONS.blobs
+    alone = functools.partial(small_blobs, 0, count)
+    yield f"{count} small blobs", None, 1, lambda server: timed(server, alone)
+    crowd = [functools.partial(small_blobs, first * count, count // CROWD) for first in range(CROWD)]
+    yield f"the same by {CROWD} clients", None, CROWD, lambda server: at_once(server, crowd)
+
+
+def synced(file, at, content):
+    """Writes at a place of a file, and syncs."""
+    os.pwrite(file.fileno(), content, at)
+    os.fdatasync(file.fileno())
+
+
+def rounds_alone(clients):
+    """The seconds of what a journal does for the small blobs of so many clients, by nothing else: a round of openings
+    and one of closes for each of a client's, a gate with each round, and a sync behind each write."""
+    with tempfile.TemporaryFile(dir=OPTIONS.folder) as file:
+        rounds, size = OPTIONS.blobs // clients * 2, clients * SMALL_SIZE + SECTOR
+        os.posix_fallocate(file.fileno(), 0, rounds * (size + SECTOR))
+        os.fsync(file.fileno())
+
+        def work():
+            for at in range(0, rounds * (size + SECTOR), size + SECTOR):
+                synced(file, at + SECTOR, bytes(size))
+                synced(file, at, bytes(SECTOR))
+
+        return loopback.seconds(work)
+
+
+def uploads(blob, connection):
+    for number in range(BESIDE):
+        loopback.upload_whole(connection, f"lib/{number}", blob)
+
+
+def longest_sync(server, work):
+    """The longest of a sync while some work goes on."""
+    times = [0]
+    with tempfile.TemporaryFile(dir=OPTIONS.folder) as file, loopback.Beside(work) as working:
+        while working.is_alive():
+            times.append(loopback.seconds(lambda: synced(file, 0, bytes(SECTOR))))
+    return max(times)
+
+
+def waited(settings, blob):
+    """The longest wait of a request that changes nothing beside uploads, and the longest sync beside the same."""
+    best = []
+    for _ in range(OPTIONS.runs):
+        pair = []
+        for measure in (lambda server, work: loopback.longest_waits(server, work)[0], longest_sync):
+            with OnDisk(settings) as server, server.connect() as connection:
+                pair.append(measure(server, functools.partial(uploads, blob, connection)))
+        best.append(pair)
+    return min(best)
 
 
 def started(settings, blob):
-    """A start with eight times the blob: the bytes that it reads in a second, and `sha256sum`'s in the same run."""
+    """A start with the blob many times: the bytes that it reads in a second, and `sha256sum`'s in the same run."""
     with tempfile.TemporaryDirectory(dir=OPTIONS.folder) as folder:
         server = OnDisk(settings, folder)
         with server, server.connect() as connection:
-            for number in range(8):
+            for number in range(BEFORE_A_START):
                 loopback.upload_whole(connection, f"lib/{number}", blob)
         taken = loopback.seconds(lambda: server.__enter__())
         server.__exit__()
-    return 8 * blob.size / taken, blob.size / loopback.hashed(blob)[0]
+    return BEFORE_A_START * blob.size / taken, blob.size / loopback.hashed(blob)[0]
 
 
 def measured(all_, blob):
-    for name, size, work in rows(blob):
+    for name, size, clients, work in rows(blob):
         best, plain = {}, []
         for _ in range(OPTIONS.runs):
-            plain.append(loopback.hashed(blob)[0])
+            plain.append(rounds_alone(clients) if clients else loopback.hashed(blob)[0])
             for server in all_:
                 best[server.name] = min(work(server), best.get(server.name, float("inf")))
+        print(f"measured: {name}", file=sys.stderr, flush=True)
         for server, taken in best.items():
-            if size is None:
-                yield [name, server, f"{SMALL // CROWD * CROWD / taken:,.0f} a second", ""]
+            if clients:
+                count = OPTIONS.blobs // clients * clients
+                beside = f"{min(plain) / taken:.2f} of the syncs alone"
+                yield [name, server, f"{count / taken:,.0f} a second", beside]
             else:
-                yield [name, server, f"{size / taken / 1e6:,.0f} MB/s", f"{size / blob.size * min(plain) / taken:.2f}"]
+                beside = f"{size / blob.size * min(plain) / taken:.2f} of `sha256sum`"
+                yield [name, server, f"{size / taken / 1e6:,.0f} MB/s", beside]
 
 
 def main(settings):
@@ -152,9 +211,12 @@ def main(settings):
         blob = loopback.Blob(os.path.join(folder, "blob"), OPTIONS.mib * MIB)
         blob.write()
         lines = list(measured(all_, blob))
+        wait, sync = waited(settings, blob)
+        beside = f"{wait / sync:.1f} of the longest sync there"
+        lines.append(["a GET beside uploads", OnDisk.name, f"{wait * 1e3:,.1f} ms at most", beside])
         read, plain = started(settings, blob)
-        lines.append(["a start", OnDisk.name, f"{read / 1e6:,.0f} MB/s", f"{read / plain:.2f}"])
-    raw.print_table(["row", "server", "speed", "of `sha256sum`"], lines)
+        lines.append(["a start", OnDisk.name, f"{read / 1e6:,.0f} MB/s", f"{read / plain:.2f} of `sha256sum`"])
+    raw.print_table(["row", "server", "speed", "beside"], lines)
 
 
 if __name__ == "__main__":
@@ -164,6 +226,7 @@ if __name__ == "__main__":
     parser.add_argument("program")
     parser.add_argument("--folder", default=".", help="where the data directories are made (%(default)s)")
     parser.add_argument("--mib", type=int, default=256, help="the size of a blob (%(default)s)")
+    parser.add_argument("--blobs", type=int, default=1_000, help="how many small blobs are stored (%(default)s)")
     parser.add_argument("--runs", type=int, default=3, help="how often each is measured (%(default)s)")
     parser.parse_args(namespace=OPTIONS)
     OPTIONS.program = os.path.abspath(OPTIONS.program)
