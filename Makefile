@@ -68,7 +68,8 @@ help:
 	@echo 'make growths  the program and the built tests with each growth of memory refused in turn (after make test, which does it too)'
 	@echo 'make fuzz     100,000 generated streams of requests through `blobd once`, beside a model (make test runs 2,000)'
 	@echo 'make soak     three minutes of clients that cut connections, race one another and are refused memory'
-	@echo 'make long     ten million requests, a million small blobs and ten thousand power cuts, with the memory that `blobd serve` has then'
+	@echo 'make long     ten million requests, a million small blobs and ten thousand power cuts, with the memory that `blobd serve` has then;'
+	@echo '              pushes of 1 GiB over restarts of the server'
 	@echo 'make large    blobs of more than 1 GiB, each in one request or one push, stored and pulled: two minutes'
 	@echo 'make figures  speed and memory of `blobd once` and of the service alone, as ratios in one run'
 	@echo 'make bench    the same of `blobd serve` and `blobd push` over loopback, and a picture; then with a data directory, in this'
@@ -160,8 +161,8 @@ JSON = docs/performance.json
 bench: $(PROGRAM)
 	@python3 bench/loopback.py $(PROGRAM) --json $(JSON)
 	@python3 bench/draw.py $(JSON) docs/performance.svg
-
 	@python3 bench/disk.py $(PROGRAM)
+
 fuzz: $(EVERY)
 	@python3 tests/differential.py $(EVERY) --streams 100000
 
@@ -171,6 +172,7 @@ soak: $(EVERY)
 long: $(EVERY)
 	@python3 tests/long_runs.py $(EVERY)
 	@python3 tests/power_cuts.py $(EVERY) --cuts 10000 --seed 2
+	@python3 tests/pushes.py $(EVERY) -k pushes_over_restarts --mib 1024
 
 large: $(EVERY)
 	@python3 tests/large.py $(EVERY)

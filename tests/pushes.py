@@ -4,9 +4,9 @@
     pushes.py PROGRAM
 
 It tries what a push prints, on a terminal too, and what it leaves in the server; files that are there already; sizes of
-chunks, and how much is moved at once; an IPv6 address; servers that start again, that can't serve, that are silent, or
-whose replies are strange; signals; a close whose reply is lost; more chunks than one connection takes; several pushes
-at once.
+chunks, and how much is moved at once; an IPv6 address; servers that start again, that stay away, that can't serve, that
+are silent, or whose replies are strange; servers with a data directory that are killed again and again; signals; a
+close whose reply is lost; more chunks than one connection takes; several pushes at once.
 """
 import collections
 import concurrent.futures
@@ -20,9 +20,10 @@ import time
 
 from harness import shims
 from harness.listeners import Proxy, Scripted
-from harness.running import MIB, USAGE, Server, already, halt, has_ipv6, pull, push, pushed, written
+from harness.running import MIB, USAGE, Server, already, environment, halt, has_ipv6, pull, push, pushed, written
 from harness.suite import OPTIONS, case, check, equal, main, skip
 from harness.wire import PATIENCE, address_of, sha256
+import servers
 
 CUT_PUSHES = 50
 # what standard error says of a name that isn't one
@@ -68,11 +69,11 @@ def a_file_whose_name_is_no_text(folder):
         equal("the same file as standard input", ended, pushed(b"strange"))
 
 
-def on_a_terminal(*words):
+def on_a_terminal(*words, env=None):
     """Standard output and the exit status of a run whose standard error is a terminal, and what was drawn there."""
     terminal, inner = os.openpty()
-    drawn = []
-    with subprocess.Popen([OPTIONS.program, *words], stdout=subprocess.PIPE, stderr=inner, text=True) as ran:
+    drawn, options = [], {"env": environment(env or {}), "text": True}
+    with subprocess.Popen([OPTIONS.program, *words], stdout=subprocess.PIPE, stderr=inner, **options) as ran:
         os.close(inner)
         # a terminal that nobody has open any more ends with an error
         with contextlib.suppress(OSError):
@@ -109,20 +110,17 @@ def a_bar_on_a_terminal(folder):
 
 @case()
 def servers_that_come_again(folder):
-    """A push tries for some seconds: over a server that starts again, and one that can't serve yet."""
+    """A push goes on: over a server that starts again within a minute, and for some seconds over one that can't serve
+    yet."""
     content = random.Random(8).randbytes(5000)
     path = written(folder, content)
     with Server(100) as server:
         addr = server.addr
         equal("a push before the server ends", push(addr, "lib/a", path, 1000), pushed(content))
-    begun = time.monotonic()
-    ended = push(addr, "lib/a", path, 1000)
-    waited = time.monotonic() - begun
-    equal("a server that isn't there", ended, given_up(addr, "Connection refused (os error 111) (tried 7 times)"))
-    check("its tries take some seconds", 3 < waited < 60, waited)
     with concurrent.futures.ThreadPoolExecutor(1) as pool:
         late = pool.submit(push, addr, "lib/a", path, 1000)
-        time.sleep(1)
+        # longer than its tries and the waits between them take
+        time.sleep(8)
         with Server(100, server.place()[1]) as server:
             equal("a server that starts again", late.result(), pushed(content))
             equal("what it was sent", pull(server, "lib/a", sha256(content)), content)
@@ -132,6 +130,82 @@ def servers_that_come_again(folder):
         waited = time.monotonic() - begun
         why = "the server answers 503: it has no memory left, or can't serve now (tried 7 times)"
         equal("a server that can't serve", (ended, 3 < waited < 60), (given_up(busy.addr, why), True))
+
+
+@case("cc")
+def servers_that_stay_away(folder):
+    """Where nobody listens one ask dials for a minute, and those behind it once each. A terminal is told of it once."""
+    abc, hasty = written(folder, b"abc"), shims.loaded(folder, "minutes")
+    addr = servers.free_address()
+    begun = time.monotonic()
+    ended = push(addr, "lib/a", abc, 2, env=hasty)
+    waited = time.monotonic() - begun
+    equal("a server that isn't there", ended, given_up(addr, "Connection refused (os error 111) (tried 7 times)"))
+    # a minute, and the waits between the tries, thirty times as fast; seven minutes are more
+    check("as long as it is dialed", 2.1 < waited < 13, waited)
+    told, drawn = on_a_terminal("push", addr, "lib/a", abc, "2", env=hasty)
+    equal("a server that isn't there, on a terminal", told, ("refused: out of tries\n", 1))
+    equal("a line for the minute", drawn.count(f"\r\x1b[Kblobd: waits for {addr}\r\n"), 1)
+    with concurrent.futures.ThreadPoolExecutor(1) as pool:
+        late = pool.submit(push, addr, "lib/a", abc, 2, env=hasty)
+        # half of the minute
+        time.sleep(1)
+        with Server(100, servers.place(addr)[1]):
+            equal("a server that starts within the minute", late.result(), pushed(b"abc"))
+
+
+def held(data):
+    """How many bytes the bodies of a data directory have."""
+    count = 0
+    for folder, _, names in os.walk(os.path.join(data, "bodies")):
+        for name in names:
+            # one that was removed just now has none
+            with contextlib.suppress(FileNotFoundError):
+                count += os.stat(os.path.join(folder, name)).st_size
+    return count
+
+
+def push_over_kills(folder, *away):
+    """A push in chunks of 4 MiB to a server that is killed within chunks, and starts again after so many seconds each
+    time: its content, how it ended, and what the last server has of that."""
+    chance = random.Random(OPTIONS.mib + len(away))
+    content = chance.randbytes(OPTIONS.mib * MIB)
+    path, data = written(folder, content), os.path.join(folder, f"data{len(away)}")
+    # before the last chunks, so that none falls behind the end of a push
+    moments = sorted(chance.sample(range(len(content) // 20, len(content) // 2), len(away)))
+    server, before = Server(env={"BLOBD_DATA": data}), 0
+    try:
+        words = [OPTIONS.program, "push", server.addr, "lib/a", path, "4M"]
+        with subprocess.Popen(words, stdout=subprocess.PIPE, stderr=subprocess.PIPE, text=True) as pushing:
+            for moment, seconds in zip(moments, away):
+                # something of a chunk has come since the start
+                while held(data) < max(moment, before + MIB) and pushing.poll() is None:
+                    time.sleep(0.001)
+                check("a kill within a push", pushing.poll() is None, moment)
+                server.stop()
+                before = held(data)
+                time.sleep(seconds)
+                server = Server(port=server.place()[1], env={"BLOBD_DATA": data})
+            out, error = pushing.communicate(timeout=PATIENCE)
+        return content, (out, pushing.returncode, error), pull(server, "lib/a", sha256(content))
+    finally:
+        server.stop()
+        os.unlink(path)
+
+
+@case()
+def pushes_over_restarts(folder):
+    """A server with a data directory is killed within chunks, and starts again: each kill costs a push one of its five
+    tries, however long it takes within a minute, and each byte is there once. One more kill ends the push."""
+    # the first is away for longer than the tries and the waits between them take
+    for away in ((8, 0, 0.5), (0.1,) * 5):
+        content, ended, got = push_over_kills(folder, *away)
+        equal(f"a push over {len(away)} restarts", ended, pushed(content))
+        check(f"what a push over {len(away)} restarts left", got == content, "other bytes")
+    content, (line, status, why), got = push_over_kills(folder, *(0.1,) * 6)
+    equal("a push over six restarts", (line, status), ("refused: out of tries\n", 1))
+    check("why it was given up", why.endswith(" (tried 6 times)\n"), why)
+    equal("what it left", got, 404)
 
 
 def reply_of(status, body=b"", fields=b""):
@@ -415,4 +489,4 @@ def pushes_over_cut_connections(folder):
 
 
 if __name__ == "__main__":
-    main(__doc__)
+    main(__doc__, mib=(128, "MiB of a file that is pushed over restarts"))

@@ -117,7 +117,7 @@ def nothing_without_it(folder):
     with Server(env={"HOME": folder, "TMPDIR": folder}, cwd=folder) as server, server.client() as client:
         equal("a push", client.push(NAME, CONTENTS[-1])[-1], 201)
     path = os.path.join(folder, "data")
-    for words in (["--help"], ["--version"], ["once"], ["push", "127.0.0.1:1", NAME, __file__]):
+    for words in (["--help"], ["--version"], ["once"], ["push", "127.0.0.1:1", "A", __file__]):
         run(*words, env=variables(path), input="")
     equal("what was written", os.listdir(folder), [])
 

@@ -82,7 +82,8 @@ impl fmt::Display for Progress {
     }
 }
 
-fn millis_of(passed: Duration) -> u64 {
+/// A time in whole milliseconds.
+pub(crate) fn millis_of(passed: Duration) -> u64 {
     u64::try_from(passed.as_millis()).unwrap_or(u64::MAX)
 }
 

@@ -20,8 +20,8 @@ pub trait Dials {
     // and written over it.
     ghost history: { Self → List ConnEvent };
 
-    /// A new connection, over which nothing was read or written. An error is the system's, or says that none was made
-    /// in time.
+    /// A new connection, over which nothing was read or written, made at the first try or at a later one. An error is
+    /// the system's, or says that none was made in time.
     fn dial(&mut self) -> io::Result<(Self::In, Self::Out)>
         ensures new { IfOk result (λ ends. (Self.In.given ends.0
             ≡ record { bytes = []; ended = false }) × (Self.Out.taken ends.1 ≡ [])) }

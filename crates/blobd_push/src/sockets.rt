@@ -4,16 +4,18 @@ ghost use Rattle.std.specs.Prelude.{◌≡◌, ◌≤◌, ◌^◌, [], length, I
 ghost use Rattle.std.specs.Duration.{as_nanos};
 ghost use Rattle.blobd_push.specs.Pushed.{IsPushed};
 
+use crate::bar::millis_of;
 use crate::dials::Dials;
+use crate::pauses::dial_pause;
 use crate::push::{Job, push_over};
 use blobd_shared::{ConnHistory, FAULT, Inlet, Outlet, print_line};
 use http_wire::Transcript;
 use std::alloc::AllocGlobal;
-use std::io;
 use std::io::{Eprint, ErrorKind, Read, Write};
 use std::net::{Net, SocketAddr, TcpStream};
 use std::rt::Clock;
-use std::time::Duration;
+use std::time::{Duration, Instant};
+use std::{io, thread};
 
 /// How long a push waits for a connection, in seconds.
 const CONNECT_SECONDS: u64 = 10;
@@ -47,11 +49,16 @@ impl Waits {
         };
         let tells = self.seen && ended.as_ref().is_err_and(is_over);
         if tells {
-            let addr = self.addr;
-            // Nothing is promised of standard error.
-            let _ = eprintln!(rt; "\r\x1b[Kblobd: waits for {addr}");
+            self.tell(rt);
         }
         tells
+    }
+
+    /// Tells of a wait, in a line of its own.
+    fn tell<R: Eprint>(&self, rt: &R) {
+        let addr = self.addr;
+        // Nothing is promised of standard error.
+        let _ = eprintln!(rt; "\r\x1b[Kblobd: waits for {addr}");
     }
 }
 
@@ -138,14 +145,55 @@ where
     stream
 }
 
-/// The two ends of a new connection. An error is the system's, or says that no connection was made in time.
-fn connect<'r, R>(rt: &'r R, waits: Waits) -> io::Result<(Socket<'r, R>, Socket<'r, R>)>
+/// Whether a connection wasn't made because nobody listens.
+fn is_refused<T>(made: &io::Result<T>) -> bool {
+    made.as_ref()
+        .is_err_and(|error| error.kind() == ErrorKind::ConnectionRefused)
+}
+
+/// A new connection, for which it dials again while nobody listens, for up to a minute. A terminal is told of it once.
+fn reach_in_time<R>(rt: &R, waits: Waits) -> io::Result<TcpStream>
 where
-    R: Net<Stream = TcpStream> + Eprint,
+    R: Net<Stream = TcpStream> + Clock + Eprint,
+{
+    let Ok(begun) = Instant::now(rt) else {
+        return reach(rt, waits);
+    };
+    let mut untold = waits.seen;
+    for _ in 0..u64::MAX {
+        let stream = reach(rt, waits);
+        if !is_refused(&stream) {
+            return stream;
+        }
+        let passed = begun.elapsed(rt).map_or(u64::MAX, millis_of);
+        let Some(pause) = dial_pause(passed) else {
+            return stream;
+        };
+        if untold && passed >= TOLD_SECONDS * 1_000 {
+            waits.tell(rt);
+            untold = false;
+        }
+        thread::sleep(rt, Duration::from_millis(pause));
+    }
+    reach(rt, waits)
+}
+
+/// The two ends of a new connection. An error is the system's, or says that no connection was made in time.
+fn connect<'r, R>(
+    rt: &'r R,
+    waits: Waits,
+    patient: bool,
+) -> io::Result<(Socket<'r, R>, Socket<'r, R>)>
+where
+    R: Net<Stream = TcpStream> + Clock + Eprint,
     ensures { IfOk result (λ ends. (ends.0.moved ≡ record { bytes = []; ended = false })
         × (ends.1.moved ≡ record { bytes = []; ended = false })) }
 {
-    let stream = reach(rt, waits)?;
+    let stream = if patient {
+        reach_in_time(rt, waits)?
+    } else {
+        reach(rt, waits)?
+    };
     let (first, _) = waits.parts(SILENCE_SECONDS);
     end_silence(&stream, first)?;
     // A peer that has gone already can make this fail; the reads and writes will tell.
@@ -159,6 +207,8 @@ where
 pub(crate) struct Sockets<'r, R: Eprint> {
     rt: &'r R,
     waits: Waits,
+    /// Whether a dial goes on while nobody listens: not behind one that did so in vain.
+    patient: bool,
     /// For contracts alone.
     history: ConnHistory<Socket<'r, R>, Socket<'r, R>>,
 }
@@ -171,12 +221,13 @@ impl<'r, R: Eprint> Sockets<'r, R> {
         Sockets {
             rt,
             waits: Waits { addr, seen },
+            patient: true,
             history: ConnHistory::none(),
         }
     }
 }
 
-impl<'r, R: Net<Stream = TcpStream> + Eprint> Dials for Sockets<'r, R> {
+impl<'r, R: Net<Stream = TcpStream> + Clock + Eprint> Dials for Sockets<'r, R> {
     type In = Socket<'r, R>;
 
     type Out = Socket<'r, R>;
@@ -184,7 +235,9 @@ impl<'r, R: Net<Stream = TcpStream> + Eprint> Dials for Sockets<'r, R> {
     ghost history = { λ s. s.history };
 
     fn dial(&mut self) -> io::Result<(Socket<'r, R>, Socket<'r, R>)> {
-        let ends = connect(self.rt, self.waits)?;
+        let made = connect(self.rt, self.waits, self.patient);
+        self.patient = !is_refused(&made);
+        let ends = made?;
         self.history.note_made();
         Ok(ends)
     }
@@ -205,8 +258,11 @@ impl<'r, R: Net<Stream = TcpStream> + Eprint> Dials for Sockets<'r, R> {
 ///   tries` after too many asks that weren't heard; 1;
 /// - `fault: memory`, 3; and 3 if the line can't be printed.
 ///
+/// If nobody listens at `addr`, one ask goes on dialing for up to a minute, so that a server may be started again
+/// meanwhile. If that was in vain, it is one ask that wasn't heard, and those behind it dial once each.
+///
 /// Standard error says more of what was refused. If it is a terminal, and so `seen`, a bar stands there meanwhile, and
-/// a line says that the server is waited for once it was silent for five seconds.
+/// a line says that the server is waited for once it was silent, or wasn't there, for five seconds.
 pub fn run_push<R, W>(
     rt: &R,
     addr: SocketAddr,
