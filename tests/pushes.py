@@ -169,7 +169,7 @@ def push_over_kills(folder, *away):
     """A push in chunks of 4 MiB to a server that is killed within chunks, and starts again after so many seconds each
     time: its content, how it ended, and what the last server has of that."""
     chance = random.Random(OPTIONS.mib + len(away))
-    content = chance.randbytes(OPTIONS.mib * MIB)
+    content = b"".join(chance.randbytes(MIB) for _ in range(OPTIONS.mib))
     path, data = written(folder, content), os.path.join(folder, f"data{len(away)}")
     # before the last chunks, so that none falls behind the end of a push
     moments = sorted(chance.sample(range(len(content) // 20, len(content) // 2), len(away)))
