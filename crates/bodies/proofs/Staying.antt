@@ -5,7 +5,7 @@ use Rattle.sqlite_disk.specs.Memory.{memory_bytes}
 use Rattle.bodies.specs.Calls.{held_after, left_after}
 use Rattle.bodies.specs.MemoryFiles.{held_in, left_in, nothing, memory_may_leave}
 use Rattle.bodies.specs.declared.calls.Call.{Call}
-use Rattle.bodies.specs.declared.calls.Call.TheVariants.{Made, Taken, Missing, Closed, Synced, Removed, Read, Listed, Failed}
+use Rattle.bodies.specs.declared.calls.Call.TheVariants.{Made, Taken, Missing, Closed, Synced, Removed, Read, Whole, Listed, Failed}
 
 after : (calls : List (Call Memory)) (n : ℕ)
     → left_after memory_bytes nothing memory_may_leave (λ _. true) calls n (held_after memory_bytes nothing calls n)
@@ -17,6 +17,7 @@ after (Closed number file ∷ earlier) n = search (rules, after earlier n)
 after (Synced number ∷ earlier) n = (after earlier n, λ _ there. there)
 after (Removed number ∷ earlier) n = search (rules, after earlier n)
 after (Read number at asked bytes ∷ earlier) n = after earlier n
+after (Whole number bytes ∷ earlier) n = after earlier n
 after (Listed numbers ∷ earlier) n = after earlier n
 after (Failed ∷ earlier) n = after earlier n
 

@@ -1,11 +1,11 @@
 -- The files of a folder, by what it held and the calls on it.
 use Rattle.std.specs.Prelude.{◌≡◌, ◌≢◌, ◌⊎◌, ◌↔◌, ◌==◌, if◌then◌else◌, ℕ, Bool, List, [], ◌∷◌, Option, Some, None}
-use Rattle.std.specs.Prelude.{◌+◌, Contains, IsSome, IsTrue}
+use Rattle.std.specs.Prelude.{◌+◌, Contains, IsSome, IsTrue, reverse}
 use Rattle.bodies.specs.Shelf.{IsPiece}
 use Rattle.bodies.specs.declared.fault.BodyFault.{BodyFault}
 use Rattle.bodies.specs.declared.fault.BodyFault.TheVariants as faults
 use Rattle.bodies.specs.declared.calls.Call.{Call}
-use Rattle.bodies.specs.declared.calls.Call.TheVariants.{Made, Taken, Missing, Closed, Synced, Removed, Read, Listed}
+use Rattle.bodies.specs.declared.calls.Call.TheVariants.{Made, Taken, Missing, Closed, Synced, Removed, Read, Whole, Listed}
 use Rattle.bodies.specs.declared.calls.Call.TheVariants.{Failed}
 
 -- by what a file holds, and what was held before the calls
@@ -25,6 +25,8 @@ module _ {F : Type 0} (seen : F → List ℕ) (start : ℕ → Option (List ℕ)
   IsHonest (Taken number ∷ earlier) = IsHonest earlier × IsSome (held_after earlier number)
   IsHonest (Missing number ∷ earlier) = IsHonest earlier × (held_after earlier number ≡ None)
   IsHonest (Read number at n bytes ∷ earlier) = IsHonest earlier × IsPiece (held_after earlier number) at n bytes
+  IsHonest (Whole number bytes ∷ earlier) =
+      IsHonest earlier × (held_after earlier number ≡ Some (reverse bytes))
   IsHonest (Listed numbers ∷ earlier) =
       IsHonest earlier × ((n : ℕ) → Contains numbers.value.items n ↔ IsSome (held_after earlier n))
   IsHonest (_ ∷ earlier) = IsHonest earlier

@@ -7,3 +7,5 @@ pub mod MemoryFiles
 pub mod FuseShelf
 pub mod MemoryShelf
 pub mod Shelf
+pub mod Reader
+pub mod AheadShelf

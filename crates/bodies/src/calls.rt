@@ -19,6 +19,8 @@ pub enum Call<F> {
     Removed(u64),
     /// At an offset so many bytes were asked for, and these came.
     Read(u64, u64, u64, Notes<u64>),
+    /// It was read whole, and these came, the last one first.
+    Whole(u64, Notes<u64>),
     /// These are all that were there.
     Listed(Snapshot<Vec<u64>>),
     /// The system refused it, or there was no memory for it.

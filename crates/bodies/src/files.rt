@@ -7,6 +7,8 @@ ghost use Rattle.journal_file.specs.Opened.{IsJustOpened};
 
 use crate::calls::Call;
 use crate::fault::BodyFault;
+use crate::lending::Lends;
+use crate::reader::BodyReader;
 use crate::shelf::Shelf;
 use journal_file::{
     FileFrom, Folder, Notes, OpenFault, Start, make_file, make_folder, sync_folder,
@@ -93,8 +95,12 @@ impl<S: Start, H: Holds> FolderShelf<S, H> {
     fn read(&self, number: u64, at: usize, buf: &mut [u8]) -> io::Result<usize>
         ensures { IfOk result (λ n. n ≤ length buf.old) }
     {
-        let file = fs::File::open(&self.rt, self.path_of(number)?.as_str())?;
-        file.read_at(buf, at as u64)
+        self.open_body(number)?.read_at(buf, at as u64)
+    }
+
+    /// Opens the file of this number, to read it.
+    fn open_body(&self, number: u64) -> io::Result<fs::File> {
+        fs::File::open(&self.rt, self.path_of(number)?.as_str())
     }
 
     /// Removes this number's file.
@@ -246,5 +252,16 @@ impl<S: Start, H: Holds> Shelf for FolderShelf<S, H> {
             }
             Err(error) => Err(self.fail(error)),
         }
+    }
+}
+
+impl<S: Start, H: Holds> Lends for FolderShelf<S, H> {
+    fn lend(&self, number: u64) -> io::Result<BodyReader> {
+        Ok(BodyReader::new(number, self.open_body(number)?))
+    }
+
+    fn take_back(&mut self, reader: BodyReader) {
+        let number = reader.number();
+        self.note(Call::Whole(number, reader.into_came()));
     }
 }

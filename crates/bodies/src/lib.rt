@@ -4,23 +4,34 @@
 //! A `Shelf` has files by their numbers, and its contract says what a crash may leave at each number (`shelf`). A body
 //! is begun, written piece by piece (`body`), and finished (`writing`).
 //!
-//! What only reading shows: each method of `files` makes the call that it notes, and no other that changes a file. The
-//! clauses of a shelf in a folder then speak of a real run, as those of `journal_file` do.
+//! At a start bodies are read, and hashed, in threads before they are asked for (`ahead`), from files that a shelf lends
+//! (`lending`, `reader`, `whole`).
+//!
+//! What only reading shows: each method of `files` makes the call that it notes, and no other that changes a file, and a
+//! `BodyReader` notes what its file gave. The clauses of a shelf in a folder then speak of a real run, as those of
+//! `journal_file` do.
 #![tactic(auto)]
 
+mod ahead;
 mod body;
 mod calls;
 mod fault;
 mod files;
 mod fuse;
+mod lending;
 mod memory;
+mod reader;
 mod shelf;
+mod whole;
 mod writing;
 
+pub use ahead::{AheadShelf, Hint};
 pub use body::Body;
 pub use fault::BodyFault;
 pub use files::{FolderShelf, Holds};
 pub use fuse::FuseShelf;
+pub use lending::Lends;
 pub use memory::MemoryShelf;
+pub use reader::BodyReader;
 pub use shelf::Shelf;
 pub use writing::{begin, finish};

@@ -1,6 +1,6 @@
 //! Files by their numbers, as a store of bodies sees them.
 ghost use Rattle.std.specs.Prelude.{◌≡◌, ◌⊎◌, ◌↔◌, ◌≤◌, ℕ, Bool, List, Option, Some, None, Err, length, take, is_ok};
-ghost use Rattle.std.specs.Prelude.{Contains, IsSome, IfOk, OnOk, OnErr, IsTrue};
+ghost use Rattle.std.specs.Prelude.{Contains, IsSome, IfSome, IfOk, OnOk, OnErr, IsTrue};
 ghost use Rattle.sqlite_disk.specs.Disk.{CountsFault};
 ghost use Rattle.bodies.specs.Shelf.{Keeps, KeepsAll, KeepsOthers, IsPiece, Counts};
 ghost use Rattle.bodies.specs.Files.{IsEmpty};
@@ -10,6 +10,7 @@ use crate::fault::BodyFault;
 use sqlite_disk::Disk;
 use std::alloc::Global;
 use std::io;
+use upload_bytes::Body;
 
 /// Files by their numbers.
 pub trait Shelf {
@@ -92,6 +93,20 @@ pub trait Shelf {
         ensures faults { Counts ⊥ (IsClean self.new → held self.old number ≡ None)
             result (faults self.old) (faults self.new) }
         ensures clean { IsClean self.new → IsClean self.old };
+
+    /// The body of this number, if all of it was read already. It may carry its hash. A shelf that reads nothing ahead
+    /// has none.
+    fn ready(&mut self, number: u64) -> Option<Body>
+        ensures read { IfSome result
+            (λ body. IsClean self.new → held self.old number ≡ Some body) }
+        ensures same { KeepsAll held may_leave self.old self.new }
+        ensures usable { is_usable self.new ≡ is_usable self.old }
+        ensures faults { faults self.new ≡ faults self.old }
+        ensures clean { IsClean self.new → IsClean self.old }
+    {
+        let _ = number;
+        None
+    }
 
     /// The numbers that have a file, in any order.
     fn numbers(&mut self, alloc: Global) -> Result<Vec<u64>, BodyFault>

@@ -2,11 +2,12 @@
 ghost use Rattle.std.specs.Prelude.{None, true};
 
 use crate::folders::mode_of;
-use bodies::{Body, BodyFault, FolderShelf, Holds, Shelf, begin, finish};
+use bodies::{AheadShelf, Body, BodyFault, FolderShelf, Hint, Holds, Shelf, begin, finish};
 use journal_file::{Folder, OpenFault, Wary};
 use sqlite_disk::{Fuse, Memory};
 use std::fs;
 use std::test::Fail;
+use upload_names::Algorithm;
 
 /// A folder that is new has no bodies.
 #[derive(Drop)]
@@ -87,6 +88,52 @@ fn a_shelf_is_opened_again(rt: HostRuntime) -> Result<(), Fail> {
     assert_eq!(rt; shelf.read_at(300, 3, &mut back)?, 1);
     assert_eq!(rt; back, *b"d\0");
     fs::remove_dir_all(&rt, "again")?;
+    Ok(())
+}
+
+/// As many bytes as a body may have before it is in several parts, and more.
+const LONG: usize = 5_000_000;
+
+#[test]
+fn bodies_are_read_ahead(rt: HostRuntime) -> Result<(), Fail> {
+    let (_folder, mut shelf) = new_shelf(&rt, "ahead")?;
+    let long = vec![in rt.alloc(); 7u8; LONG]?;
+    put(&mut shelf, 1, b"abc", b"def")?;
+    put(&mut shelf, 2, b"", b"")?;
+    put(&mut shelf, 5, long.as_slice(), b"z")?;
+    put(&mut shelf, 6, b"not hinted", b"")?;
+    put(&mut shelf, 8, b"not hashed", b"")?;
+    let mut hints = Vec::new(rt.alloc());
+    for (number, len) in [(1, 6), (2, 0), (3, 9), (5, LONG as u64), (8, 10)].iter() {
+        hints.push(Hint {
+            number: *number,
+            len: *len,
+            hashed: (*number != 8).then_some(Algorithm::Sha256),
+        })?;
+    }
+    let mut shelf = AheadShelf::new(&rt, rt.alloc(), shelf, hints);
+    let mut read = Vec::new(rt.alloc());
+    for number in [1, 3, 4, 5, 6, 8, 8].iter() {
+        read.push(match shelf.ready(*number) {
+            Some(body) => (body.len(), body.sha256().is_some()),
+            None => (0, false),
+        })?;
+    }
+    let none = (0, false);
+    let wanted = [
+        (6, true),
+        none,
+        none,
+        (LONG + 1, true),
+        none,
+        (10, false),
+        none,
+    ];
+    assert_eq!(rt; read.as_slice(), wanted.as_slice());
+    let mut back = [0; 4];
+    assert_eq!(rt; shelf.read_at(6, 4, &mut back)?, 4);
+    assert_eq!(rt; back, *b"hint");
+    fs::remove_dir_all(&rt, "ahead")?;
     Ok(())
 }
 

@@ -1,0 +1,232 @@
+//! A shelf whose bodies are read, and hashed, before they are asked for.
+ghost use Rattle.std.specs.Prelude.{◌≡◌};
+ghost use Rattle.bodies.specs.Reader.{bytes_of};
+ghost use Rattle.std.specs.Prelude.{[]};
+
+use crate::fault::BodyFault;
+use crate::lending::Lends;
+use crate::shelf::Shelf;
+use crate::whole::{Whole, read_whole};
+use std::alloc::Global;
+use std::collections::VecDeque;
+use std::io;
+use std::thread::{self, JoinHandle, Threads};
+use upload_bytes::Body;
+use upload_names::Algorithm;
+
+/// No more bodies are begun while those that are read ahead have so many bytes.
+const MOST_AHEAD: u64 = 1 << 30;
+
+/// The stack of a thread that reads, in bytes.
+const STACK: usize = 262_144;
+
+/// A body that is likely to be asked for. Nothing rests on it but the time that its reader takes.
+#[derive(Clone, Copy, Debug, PartialEq, Eq)]
+pub struct Hint {
+    /// The number of its file.
+    pub number: u64,
+    /// How many bytes it has.
+    pub len: u64,
+    /// What it will be hashed by, if its hash alone is of use.
+    pub hashed: Option<Algorithm>,
+}
+
+/// A body that a thread reads.
+#[derive(Drop)]
+struct UnderWay {
+    hint: Hint,
+    thread: JoinHandle<Option<Whole>>,
+}
+
+/// A shelf whose bodies are read before they are asked for, each in a thread of its own: so many at a time as there are
+/// processors, and as many that wait to be asked for. They have up to 1 GiB, and one more body.
+#[derive(Drop)]
+pub struct AheadShelf<'a, R: Threads, S: Lends> {
+    rt: &'a R,
+    alloc: Global,
+    inner: S,
+    /// What is likely to be asked for, by rising numbers.
+    hints: Vec<Hint>,
+    /// How many of these are begun, or given up.
+    begun: usize,
+    under_way: VecDeque<UnderWay>,
+    /// How many bytes the bodies have that are under way.
+    ahead: u64,
+    /// So many may be under way.
+    most: usize,
+}
+
+impl<'a, R: Threads, S: Lends> AheadShelf<'a, R, S> {
+    ghost use Rattle.bodies.specs.AheadShelf.{inner_of};
+
+    /// Reads ahead what the hints tell, which go by rising numbers. Others are read as they are asked for.
+    pub fn new(rt: &'a R, alloc: Global, inner: S, hints: Vec<Hint>) -> AheadShelf<'a, R, S>
+        ensures { inner_of result ≡ inner }
+    {
+        let processors = thread::available_parallelism(rt).map_or(1, |count| count.get());
+        AheadShelf {
+            rt,
+            alloc,
+            inner,
+            hints,
+            begun: 0,
+            under_way: VecDeque::new(alloc),
+            ahead: 0,
+            most: processors.saturating_mul(2),
+        }
+    }
+
+    /// Lets go of the bodies before a number.
+    fn drop_before(&mut self, number: u64)
+        ensures { inner_of self.new ≡ inner_of self.old }
+    {
+        for _ in 0..self.under_way.len() {
+            match self.under_way.front() {
+                Some(first) if first.hint.number < number => {}
+                _ => return,
+            }
+            let _ = self.pop();
+        }
+    }
+
+    /// Passes over the hints before a number.
+    fn skip_before(&mut self, number: u64)
+        ensures { inner_of self.new ≡ inner_of self.old }
+    {
+        for _ in self.begun..self.hints.len() {
+            match self.hints.get(self.begun) {
+                Some(hint) if hint.number < number => {}
+                _ => return,
+            }
+            self.begun = self.begun.saturating_add(1);
+        }
+    }
+
+    /// The first body that is under way.
+    fn pop(&mut self) -> Option<UnderWay>
+        ensures { inner_of self.new ≡ inner_of self.old }
+    {
+        let first = self.under_way.pop_front()?;
+        self.ahead = self.ahead.saturating_sub(first.hint.len);
+        Some(first)
+    }
+
+    /// Begins as many bodies as may be under way.
+    fn read_on(&mut self)
+        ensures { inner_of self.new ≡ inner_of self.old }
+    {
+        for _ in self.under_way.len()..self.most {
+            if self.ahead >= MOST_AHEAD {
+                return;
+            }
+            let Some(hint) = self.hints.get(self.begun) else {
+                return;
+            };
+            let hint = *hint;
+            self.begun = self.begun.saturating_add(1);
+            self.begin(hint);
+        }
+    }
+
+    /// Begins a body. Without a file, a thread or memory it is read as it is asked for.
+    fn begin(&mut self, hint: Hint)
+        ensures { inner_of self.new ≡ inner_of self.old }
+    {
+        let Ok(reader) = self.inner.lend(hint.number) else {
+            return;
+        };
+        let alloc = self.alloc;
+        let hashed = hint.hashed;
+        let read = move || -> Option<Whole>
+            requires { bytes_of reader ≡ [] }
+        { read_whole(reader, alloc, hashed) };
+        let Ok(thread) = thread::Builder::new()
+            .stack_size(STACK)
+            .spawn(self.rt, read)
+        else {
+            return;
+        };
+        let begun = UnderWay { hint, thread };
+        if self.under_way.push_back(begun).is_ok() {
+            self.ahead = self.ahead.saturating_add(hint.len);
+        }
+    }
+
+    /// Lets go of all that is under way, and of all hints.
+    fn forget(&mut self)
+        ensures { inner_of self.new ≡ inner_of self.old }
+    {
+        self.begun = self.hints.len();
+        self.under_way.clear();
+        self.ahead = 0;
+    }
+
+    /// What a thread has read of this number.
+    fn take(&mut self, number: u64) -> Option<Whole>
+        ensures { inner_of self.new ≡ inner_of self.old }
+    {
+        match self.under_way.front() {
+            Some(first) if first.hint.number == number => {}
+            _ => return None,
+        }
+        let first = self.pop()?;
+        let UnderWay { thread, .. } = first;
+        thread.join(self.rt)
+    }
+}
+
+impl<'a, R: Threads, S: Lends> Shelf for AheadShelf<'a, R, S> {
+    type File = S::File;
+
+    ghost held = { λ shelf. S.Shelf.held shelf.inner };
+
+    ghost may_leave = { λ shelf. S.Shelf.may_leave shelf.inner };
+
+    ghost is_usable = { λ shelf. S.Shelf.is_usable shelf.inner };
+
+    ghost IsClean = { λ shelf. S.Shelf.IsClean shelf.inner };
+
+    ghost faults = { λ shelf. S.Shelf.faults shelf.inner };
+
+    fn may_be_used(&self) -> bool {
+        self.inner.may_be_used()
+    }
+
+    fn make(&mut self, number: u64) -> Result<S::File, BodyFault> {
+        self.inner.make(number)
+    }
+
+    fn close(&mut self, number: u64, file: S::File) -> io::Result<()> {
+        self.inner.close(number, file)
+    }
+
+    fn sync(&mut self, number: u64) -> io::Result<()> {
+        self.inner.sync(number)
+    }
+
+    fn read_at(&mut self, number: u64, at: usize, buf: &mut [u8]) -> Result<usize, BodyFault> {
+        self.inner.read_at(number, at, buf)
+    }
+
+    fn remove(&mut self, number: u64) -> Result<(), BodyFault> {
+        // What was lent of it is let go, so that nothing is noted of it later.
+        self.forget();
+        self.inner.remove(number)
+    }
+
+    fn ready(&mut self, number: u64) -> Option<Body> {
+        self.drop_before(number);
+        self.skip_before(number);
+        self.read_on();
+        let whole = self.take(number)?;
+        if whole.reader.number() != number {
+            return None;
+        }
+        self.inner.take_back(whole.reader);
+        Some(whole.body)
+    }
+
+    fn numbers(&mut self, alloc: Global) -> Result<Vec<u64>, BodyFault> {
+        self.inner.numbers(alloc)
+    }
+}
