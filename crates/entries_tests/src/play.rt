@@ -119,15 +119,22 @@ impl Play {
         Ok(Body::of(self.alloc, Vec::from_slice(self.alloc, text)?))
     }
 
-    /// The files of a body: none, or two.
+    fn put_file(&mut self, files: &mut Vec<BodyFile>, part: &[u8]) -> Result<(), AllocError> {
+        let number = self.shelf.put(self.alloc, part)?;
+        let len = part.len() as u64;
+        files.push(BodyFile { number, len })
+    }
+
+    /// The files of a body: none, one or two.
     fn files(&mut self, text: &[u8]) -> Result<Vec<BodyFile>, AllocError> {
         let mut files = Vec::new(self.alloc);
-        if self.dice.roll(2) == 0 {
-            let (front, rest) = text.split_at(text.len().min(1));
-            for part in [front, rest].iter() {
-                let number = self.shelf.put(self.alloc, part)?;
-                let len = part.len() as u64;
-                files.push(BodyFile { number, len })?;
+        match self.dice.roll(3) {
+            0 => {}
+            1 => self.put_file(&mut files, text)?,
+            _ => {
+                let (front, rest) = text.split_at(text.len().min(1));
+                self.put_file(&mut files, front)?;
+                self.put_file(&mut files, rest)?;
             }
         }
         Ok(files)

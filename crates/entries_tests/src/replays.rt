@@ -45,8 +45,10 @@ fn next_number(alloc: Global, service: &mut Service, now: u64) -> Result<Option<
 #[test]
 fn a_replay_equals_what_was_served(rt: HostRuntime) -> Result<(), Fail> {
     let mut kept: usize = 0;
+    let mut ready: u64 = 0;
     for seed in 0..40 {
         let mut play = play_of(rt.alloc(), seed, 60)?;
+        play.shelf.is_ahead = seed % 2 == 0;
         let mut replay = new_replay(rt.alloc());
         assert!(rt;
             replay_of(rt.alloc(), &mut replay, &mut play).is_none(),
@@ -62,8 +64,9 @@ fn a_replay_equals_what_was_served(rt: HostRuntime) -> Result<(), Fail> {
             "{seed}"
         );
         kept = kept.saturating_add(play.texts.len());
+        ready = ready.saturating_add(play.shelf.ready);
     }
-    assert!(rt; kept > 400, "{kept}");
+    assert!(rt; kept > 400 && ready > 20, "{kept} {ready}");
     Ok(())
 }
 
@@ -112,6 +115,7 @@ fn a_body_that_is_gone_or_other_is_noticed(rt: HostRuntime) -> Result<(), Fail> 
     let mut other: u32 = 0;
     for seed in 0..20 {
         let mut play = play_of(rt.alloc(), seed, 30)?;
+        play.shelf.is_ahead = seed % 2 == 0;
         play.shelf.spoil(rt.alloc())?;
         let fault = replay_of(rt.alloc(), &mut new_replay(rt.alloc()), &mut play);
         if matches!(fault, Some(ReplayFault::OtherLength { .. })) {

@@ -2,14 +2,19 @@
 ghost use Rattle.std.specs.Prelude.{◌≡◌, Some, slice_get};
 
 use std::alloc::{AllocError, Global};
-use upload_bytes::{BodyBuilder, InPlace};
+use upload_bytes::{Body, BodyBuilder, InPlace};
 use upload_journal::{Bodies, BodyFault};
-use upload_names::Bytes;
+use upload_names::{Algorithm, Bytes};
 
 /// Bodies, each under its place in the list.
 #[derive(Drop)]
 pub struct Shelf {
+    alloc: Global,
     files: Vec<Bytes>,
+    /// Its bodies are read, and hashed, before they are asked for.
+    pub is_ahead: bool,
+    /// How many were given so.
+    pub ready: u64,
 }
 
 impl Bodies for Shelf {
@@ -26,12 +31,26 @@ impl Bodies for Shelf {
             },
         }
     }
+
+    fn ready(&mut self, number: u64) -> Option<Body> {
+        if !self.is_ahead {
+            return None;
+        }
+        let bytes = self.files.get(number as usize)?;
+        let mut body = BodyBuilder::new(self.alloc, Some(Algorithm::Sha256));
+        body.extend(&InPlace, bytes.as_slice()).ok()?;
+        self.ready = self.ready.saturating_add(1);
+        Some(body.finish(&InPlace))
+    }
 }
 
 impl Shelf {
     pub fn new(alloc: Global) -> Shelf {
         Shelf {
+            alloc,
             files: Vec::new(alloc),
+            is_ahead: false,
+            ready: 0,
         }
     }
 

@@ -54,6 +54,14 @@ joins_next stands (file ∷ files) (suc i) d bytes part lt joins is len =
     ) in
     subst (λ n. Joins stands (take n (file ∷ files)) (bytes ++ part)) e whole
 
+-- one file has it all
+pub joins_one : (stands : ℕ → List ℕ → Type 0) (files : List BodyFile) (d : BodyFile) (bytes : List ℕ)
+    → length files ≡ 1 → stands (get_or files 0 d).number bytes → length bytes ≡ (get_or files 0 d).len
+    → Joins stands files bytes
+joins_one stands [] d bytes one is len = absurd (omega arith)
+joins_one stands (file ∷ []) d bytes one is len = (bytes, [], sym (append-nil bytes), is, len, refl)
+joins_one stands (file ∷ other ∷ files) d bytes one is len = absurd (omega arith)
+
 -- ---- entries
 
 record Core (stands : ℕ → List ℕ → Type 0) (old : Point) (entries : List Entry) (new : Point) : Type 0 where

@@ -1,7 +1,7 @@
 //! Where a replay gets the bodies that aren't in their entries.
-ghost use Rattle.std.specs.Prelude.{◌≡◌, ◌++◌, List, ℕ, OnOk, IfErr};
+ghost use Rattle.std.specs.Prelude.{◌≡◌, ◌++◌, List, ℕ, OnOk, IfErr, IfSome};
 
-use upload_bytes::BodyBuilder;
+use upload_bytes::{Body, BodyBuilder};
 
 /// Why a body, or a part of one, wasn't read.
 #[derive(Clone, Copy, Debug, Drop, PartialEq, Eq)]
@@ -37,4 +37,15 @@ pub trait Bodies {
         ensures same { (n : ℕ) (bytes : List ℕ) → stands self.old n bytes
             → stands self.new n bytes }
         ensures keeps { (first : Self) → keeps first self.old → keeps first self.new };
+
+    /// The bytes under a number, if they were read already. They may carry their hash. Who reads nothing ahead has none.
+    fn ready(&mut self, number: u64) -> Option<Body>
+        ensures read { IfSome result (stands self.new number) }
+        ensures same { (n : ℕ) (bytes : List ℕ) → stands self.old n bytes
+            → stands self.new n bytes }
+        ensures keeps { (first : Self) → keeps first self.old → keeps first self.new }
+    {
+        let _ = number;
+        None
+    }
 }

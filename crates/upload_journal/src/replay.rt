@@ -124,6 +124,25 @@ fn read_file<B: Bodies>(
     Ok(())
 }
 
+/// The bytes of files, if there is one alone, and it was read already.
+fn ready_body<B: Bodies>(bodies: &mut B, files: &[BodyFile]) -> Option<Body>
+    ensures read { IfSome result (Joins (B.stands bodies.new) files.now) }
+    ensures same { (n : ℕ) (bytes : List ℕ) → B.stands bodies.old n bytes
+        → B.stands bodies.new n bytes }
+    ensures keeps { (first : B) → B.keeps first bodies.old → B.keeps first bodies.new }
+{
+    if files.len() != 1 {
+        return None;
+    }
+    let file = files[0];
+    let body = bodies.ready(file.number)?;
+    // One of another length is refused as it is read again.
+    if body.len() as u64 != file.len {
+        return None;
+    }
+    Some(body)
+}
+
 /// The bytes of files, one part behind another.
 fn read_files<B: Bodies>(
     alloc: Global,
@@ -157,7 +176,12 @@ fn read_body<B: Bodies>(alloc: Global, bodies: &mut B, body: KeptBody) -> Result
 {
     match body {
         KeptBody::Here(body) => Ok(body),
-        KeptBody::InFiles(files) => read_files(alloc, bodies, files.as_slice()),
+        KeptBody::InFiles(files) => {
+            if let Some(body) = ready_body(bodies, files.as_slice()) {
+                return Ok(body);
+            }
+            read_files(alloc, bodies, files.as_slice())
+        }
     }
 }
 
@@ -284,7 +308,8 @@ impl Replay {
         service
     }
 
-    /// Applies one entry, which is all of the bytes. A body that isn't in its entry comes from `bodies`.
+    /// Applies one entry, which is all of the bytes. A body that isn't in its entry comes from `bodies`, and isn't
+    /// hashed again if it carries the hash that is asked for.
     ///
     /// `NotAnEntry` comes if the text is read as none, and says why; `MomentFalls` if the moment of its exchange is
     /// before that of the last one; `NoBody` and `OtherLength` come of a file of its body; `NoMemory` says that there
