@@ -4,7 +4,7 @@ ghost use Rattle.upload_store.specs.Reading.{StandsIn};
 ghost use Rattle.upload_store.specs.Rescuing.{Since, RefusedSince, fault_told};
 
 use bodies::Shelf;
-use upload_bytes::{BodyBuilder, InPlace};
+use upload_bytes::{Body, BodyBuilder, InPlace};
 use upload_journal::{Bodies, BodyFault};
 
 /// So many bytes of a file are read at once.
@@ -53,5 +53,9 @@ impl<S: Shelf> Bodies for Files<S> {
         }
         // As many bytes have no place in memory.
         Err(BodyFault::NoMemory)
+    }
+
+    fn ready(&mut self, number: u64) -> Option<Body> {
+        self.shelf.ready(number)
     }
 }

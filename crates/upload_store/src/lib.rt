@@ -9,6 +9,7 @@ mod behind;
 mod crash;
 mod fault;
 mod files;
+mod hints;
 mod life;
 mod losses;
 mod numbers;
@@ -18,6 +19,7 @@ mod store;
 
 pub use crash::CrashShelf;
 pub use fault::{Loss, RefusedRecord, StoreFault};
+pub use hints::list_hints;
 pub use life::{Round, keep_each, live_on, restart};
 pub use losses::{Losses, Salvage};
 pub use store::Store;

@@ -1,0 +1,131 @@
+//! Which bodies a start will ask for, as the entries of a journal tell.
+ghost use Rattle.std.specs.Prelude.{◌≡◌, ◌+◌, ◌≤◌, ◌^◌, List, ℕ, length, false, IfErr, OnOk, IsTrue};
+ghost use Rattle.sqlite_disk.specs.Disk.{MoreFaults};
+ghost use Rattle.journal.specs.Errors.{Because};
+ghost use Rattle.journal.specs.Format.{stored, sector};
+ghost use Rattle.journal.specs.Journal.{disk_of, is_open, line_of, kept};
+ghost use Rattle.journal.specs.Reads.{Refuses};
+ghost use Rattle.upload_store.specs.Faults.{Never};
+
+use bodies::Hint;
+use journal::{Error, Journal, Machine};
+use sqlite_disk::Disk;
+use std::alloc::Global;
+use std::io;
+use upload_journal::{Entry, KeptAsk, KeptBody, KeptExchange, Told, read_entry};
+use upload_names::{Algorithm, ByteRange};
+
+/// An entry that names one file has at most so many bytes.
+const LONGEST: usize = 4096;
+
+/// The bodies that entries name, as far as there was memory to list them.
+#[derive(Drop)]
+struct Listing {
+    alloc: Global,
+    hints: Vec<Hint>,
+}
+
+/// By what a chunk is worth hashing alone: it is, by SHA-256, if it is the first of its session.
+fn hash_of_chunk(told: &Told, len: u64) -> Option<Algorithm> {
+    match told {
+        Told::Taken(next) if *next == len => Some(Algorithm::Sha256),
+        _ => None,
+    }
+}
+
+/// Whether a range begins behind other bytes.
+fn is_behind(range: &Option<ByteRange>) -> bool {
+    match range {
+        Some(range) => range.first > 0,
+        None => false,
+    }
+}
+
+/// The body that a request names, and by what it is worth hashing alone.
+fn body_of(exchange: &KeptExchange) -> Option<(&KeptBody, Option<Algorithm>)> {
+    match &exchange.ask {
+        KeptAsk::Single { digest, body, .. } => Some((body, Some(digest.algorithm()))),
+        KeptAsk::Chunk { body, .. } => Some((body, None)),
+        KeptAsk::Close {
+            range,
+            digest,
+            body,
+            ..
+        } => Some((body, (!is_behind(range)).then_some(digest.algorithm()))),
+        _ => None,
+    }
+}
+
+/// The file that a record names, if it is an entry that names one alone.
+fn hint_in(alloc: Global, bytes: &[u8]) -> Option<Hint> {
+    if bytes.len() > LONGEST {
+        return None;
+    }
+    let Ok(Entry::Exchange(exchange)) = read_entry(alloc, bytes) else {
+        return None;
+    };
+    let (body, hashed) = body_of(&exchange)?;
+    let KeptBody::InFiles(files) = body else {
+        return None;
+    };
+    let files = files.as_slice();
+    if files.len() != 1 {
+        return None;
+    }
+    let file = files[0];
+    Some(Hint {
+        number: file.number,
+        len: file.len,
+        hashed: hashed.or(hash_of_chunk(&exchange.answer, file.len)),
+    })
+}
+
+impl Machine for Listing {
+    // A hint is nothing to rest on.
+    ghost steps = { λ _ _ _ _. Unit {0} };
+
+    ghost has_refused = { λ _. Never };
+
+    fn apply(&mut self, _time: u64, bytes: &[u8]) -> io::Result<()> {
+        if let Some(hint) = hint_in(self.alloc, bytes) {
+            // Without memory it is left out.
+            let _ = self.hints.push(hint);
+        }
+        Ok(())
+    }
+}
+
+/// Which bodies a start will ask for, in order, as the entries of a journal tell: a hint, of which nothing is promised.
+/// The journal is recovered for that, as `Journal::recover` does.
+pub fn list_hints<D: Disk>(alloc: Global, journal: &mut Journal<D>) -> Result<Vec<Hint>, Error>
+    ensures same { OnOk result (IsTrue (D.Disk.is_clean (disk_of journal.new))
+        → kept journal.new ≡ kept journal.old) }
+    ensures open { OnOk result (IsTrue (is_open journal.new)) }
+    ensures line { line_of journal.new ≡ line_of journal.old }
+    ensures clean { IsTrue (D.Disk.is_clean (disk_of journal.new))
+        → IsTrue (D.Disk.is_clean (disk_of journal.old)) }
+    ensures faults { D.Disk.faults (disk_of journal.old) ≤ D.Disk.faults (disk_of journal.new) }
+    ensures longer { length (D.Disk.seen (disk_of journal.old))
+        ≤ length (D.Disk.seen (disk_of journal.new)) }
+    // Why it gives up: as `Journal::recover`, but no record is refused.
+    ensures cause { IfErr result (Because
+        (D.Disk.is_usable (disk_of journal.old) ≡ false)
+        (Refuses D.Disk (line_of journal.old).bytes (disk_of journal.old) (disk_of journal.new))
+        (IsTrue (D.Disk.is_clean (disk_of journal.new))
+        → 2 ^ 63 ≤ length (D.Disk.seen (disk_of journal.old)) + sector + sector)
+        (MoreFaults (D.Disk.faults (disk_of journal.old)) (D.Disk.faults (disk_of journal.new)))
+        Never) }
+    // Whatever the call met, a crash leaves a file that stands for what one from before it would have stood for.
+    ensures any_crash { IsTrue (D.Disk.is_clean (disk_of journal.new)) → (c : List ℕ)
+        → D.Disk.may_leave (disk_of journal.new) c
+        → (d : List ℕ) × D.Disk.may_leave (disk_of journal.old) d × (stored c ≡ stored d) }
+{
+    let mut listing = Listing {
+        alloc,
+        hints: Vec::new(alloc),
+    };
+    if let Err(error) = journal.recover(alloc, &mut listing) {
+        return Err(error);
+    }
+    Ok(listing.hints)
+}
