@@ -9,3 +9,4 @@ pub mod Rescues
 pub mod Salvages
 pub mod Lossless
 pub mod Numbering
+pub mod Naming

@@ -4,12 +4,13 @@ use Rattle.std.proofs.Common.{Option, Some, refl}
 use Rattle.std.proofs.Common.{sym, ap, subst, arith, Result, Ok}
 use Rattle.std.specs.Prelude.{min, max, is_some, true}
 use Rattle.std.specs.List.{All}
-use Rattle.std.proofs.lemmas.List.Elements.{All-head, All-tail}
+use Rattle.std.proofs.lemmas.List.{map-append}
+use Rattle.std.proofs.lemmas.List.Elements.{All-append, All-cons, All-head, All-nil, All-tail}
 use Rattle.journal.specs.Format.{Kept}
 use Rattle.journal.specs.Machine.{Runs, RunsRecords}
 use Rattle.upload_service.specs.declared.ask.Ask.{Ask}
 use Rattle.upload_service.specs.declared.ask.Ask.TheVariants as asks
-use Rattle.upload_service.specs.Machine.{State, Turn, answer_of, outcome, last_number}
+use Rattle.upload_service.specs.Machine.{State, Turn, IsLawful, answer_of, outcome, last_number}
 use Rattle.upload_service.specs.Run.{Exchange}
 use Rattle.upload_journal.specs.declared.bodies.BodyFault.{BodyFault}
 use Rattle.upload_journal.specs.declared.bodies.BodyFault.TheVariants as bodies
@@ -35,7 +36,8 @@ use Rattle.upload_journal.proofs.Restart.{turn_leads}
 use Rattle.upload_journal.proofs.Foresight.{answer_is}
 use Rattle.upload_store.specs.Found.{texts_of}
 use Rattle.upload_store.specs.Runs.{stands_in, IsReplayOf}
-use Rattle.upload_store.specs.Salvage.{Stand, Salvages, refused_in, stand_at, finished}
+use Rattle.upload_store.specs.Salvage.{Stand, Salvages, refused_in, stand_at, finished, one_more}
+use Rattle.upload_store.proofs.Reruns.{replays_then, is_replay}
 use Rattle.upload_store.proofs.Rescues.{ready_first}
 
 abbrev as_read : Entry → Result Entry EntryFault
@@ -284,6 +286,76 @@ module _ (files : ℕ → Option (List ℕ)) (failed : Type 0) where
       let same : max issued (min (max (issued + it.lost) it.named) last_number) ≡ issued =
       omega (arith, none, unnamed) in
       ap (λ n. record it.point { state = record it.point.state { issued = n } }) same
+
+  -- ---- where nothing is lost, each record was run
+
+  -- the texts are those of entries that lead from the one point to the other, and nothing was lost before
+  record Ran (old : Stand) (texts : List (List ℕ)) (new : Stand) : Type 0 where
+    pub none : old.lost ≡ 0
+    pub same : old.named ≡ new.named
+    pub entries : List Entry
+    pub are : All IsEntry entries
+    pub is : texts ≡ map entry_text entries
+    pub replays : Replays stands old.point entries new.point
+
+  ran_none : (it : Stand) → it.lost ≡ 0 → Ran it [] it
+  ran_none it none =
+      record { none = none; same = refl; entries = []; are = All-nil IsEntry; is = refl; replays = refl }
+
+  ran_then : (old : Stand) (front : List (List ℕ)) (mid : Stand) (back : List (List ℕ)) (new : Stand)
+      → Ran old front mid → Ran mid back new → Ran old (front ++ back) new
+  ran_then old front mid back new first second = record {
+    none = first.none;
+    same = first.same ∙ second.same;
+    entries = first.entries ++ second.entries;
+    are = All-append IsEntry first.entries second.entries first.are second.are;
+    is = (λ i. first.is i ++ second.is i) ∙ sym (map-append entry_text first.entries second.entries);
+    replays =
+        replays_then stands old.point first.entries second.entries mid.point new.point first.replays second.replays;
+  }
+
+  ran_one : (old : Stand) (time : ℕ) (text : List ℕ) (new : Stand) → Salvages stands refused old time text new
+      → new.lost ≡ 0 → Ran old (text ∷ []) new
+  ran_one old time text new (inl counts) none =
+      let before : old.lost ≡ 0 = sym (ap (λ (s : Stand). s.lost) counts.is) ∙ none in
+      record {
+        none = before;
+        same = sym (ap (λ (s : Stand). s.named) counts.is);
+        entries = counts.entry ∷ [];
+        are = All-cons IsEntry counts.entry [] counts.is_entry (All-nil IsEntry);
+        is = ap (λ t. t ∷ []) counts.text_is;
+        replays = (
+          new.point,
+          subst (λ p. Applies stands p counts.entry new.point) (ready_first old (entry_of text) before) counts.applies,
+          refl,
+        );
+      }
+  ran_one old time text new (inr loses) none =
+      let more : new.lost ≡ one_more old.lost = ap (λ (s : Stand). s.lost) loses.is in
+      absurd (omega (arith, more, none))
+
+  ran_records : (time : ℕ) (old : Stand) (texts : List (List ℕ)) (new : Stand)
+      → RunsRecords (Salvages stands refused) time old texts new → new.lost ≡ 0 → Ran old texts new
+  ran_records time old [] new same none =
+      subst (λ (s : Stand). Ran old [] s) (sym same) (ran_none old (sym (ap (λ (s : Stand). s.lost) same) ∙ none))
+  ran_records time old (text ∷ texts) new run none =
+      let rest = ran_records time run.0 texts new run.2 none in
+      ran_then old (text ∷ []) run.0 texts new (ran_one old time text run.0 run.1 rest.none) rest
+
+  ran_batches : (old : Stand) (all : List Kept) (new : Stand) → Runs (Salvages stands refused) old all new
+      → new.lost ≡ 0 → Ran old (texts_of all) new
+  ran_batches old [] new same none =
+      subst (λ (s : Stand). Ran old [] s) (sym same) (ran_none old (sym (ap (λ (s : Stand). s.lost) same) ∙ none))
+  ran_batches old (kept ∷ rest) new run none =
+      let behind = ran_batches run.0 rest new run.2 none in
+      ran_then old kept.1 run.0 (texts_of rest) new (ran_records kept.0 old kept.1 run.0 run.1 behind.none) behind
+
+  pub none_lost : (old : Point) (all : List Kept) (end : Stand) → IsLawful old.state
+      → Runs (Salvages stands refused) (stand_at old) all end → end.lost ≡ 0 → IsReplayOf all files old (finished end)
+  none_lost old all end lawful run none =
+      let ran = ran_batches (stand_at old) all end run none in
+      subst (IsReplayOf all files old) (sym (nothing_more end none (sym ran.same)))
+      (is_replay all files old end.point ran.entries ran.are ran.is lawful ran.replays)
 
   pub lossless : (old : Point) (all : List Kept) (end : Stand) (point : Point)
       → Runs (Salvages stands refused) (stand_at old) all end → IsReplayOf all files old point

@@ -18,4 +18,5 @@ module _ {S F : Type 0} where
     lost = rescue.losses.count;
     listed = rescue.losses.listed.items;
     named = rescue.losses.named;
+    past = rescue.losses.past;
   }

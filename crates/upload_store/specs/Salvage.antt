@@ -2,7 +2,7 @@
 use Rattle.std.specs.Prelude.{◌≡◌, ◌≢◌, ◌⊎◌, ℕ, ◌+◌, ◌-◌, ◌≤◌, ◌^◌, ◌==◌, min, max, nat_le, nat_lt, if◌then◌else◌}
 use Rattle.std.specs.Prelude.{List, [], ◌∷◌, ◌++◌, length, Option, None, Result, Ok, Err}
 use Rattle.std.specs.Result.{result_ok}
-use Rattle.std.specs.List.{All}
+use Rattle.std.specs.List.{All, fold}
 use Rattle.journal.specs.Format.{Kept}
 use Rattle.journal.specs.Machine.{Runs}
 use Rattle.upload_names.specs.Reference.{number_of}
@@ -22,7 +22,7 @@ use Rattle.upload_journal.specs.Entries.{IsEntry, entry_text, entry_of}
 use Rattle.upload_journal.specs.Replay.{Point, used_up, Applies}
 use Rattle.upload_journal.specs.Stops.{Stops}
 use Rattle.upload_store.specs.declared.fault.Loss.{Loss}
-use Rattle.upload_store.specs.Found.{texts_of}
+use Rattle.upload_store.specs.Found.{texts_of, numbers_of}
 use Rattle.upload_store.specs.Runs.{stands_in, IsReplayOf}
 
 -- ---- the numbers that an entry names
@@ -57,27 +57,32 @@ abbrev pub of_read : (Entry → ℕ) → Result Entry EntryFault → ℕ
 of_read f (Ok entry) = f entry
 of_read f (Err fault) = 0
 
+-- a count of 64 bits with one more
+abbrev pub one_more : ℕ → ℕ
+one_more n = min (n + 1) (2 ^ 64 - 1)
+
+-- the first number above those of these files
+abbrev pub past : List ℕ → ℕ
+past numbers = fold (λ high n. max high (one_more n)) 0 numbers
+
 -- the numbers up to n are used up, of which there are 4,294,967,295
 abbrev pub raised : ℕ → Point → Point
 raised n point = record point { state = used_up (min n last_number) point.state }
 
 -- ---- one record after the other
 
--- how far a recovery has come: how many records it has gone over, how many of these are lost, the first ones, and the
--- highest number that a lost one names
+-- how far a recovery has come: how many records it has gone over, how many of these are lost, the first ones, the
+-- highest number of a session that a lost one names, and the first one above those of the files that these name
 pub record Stand : Type 0 where
   pub point : Point
   pub place : ℕ
   pub lost : ℕ
   pub listed : List Loss
   pub named : ℕ
+  pub past : ℕ
 
 abbrev pub stand_at : Point → Stand
-stand_at point = record { point = point; place = 0; lost = 0; listed = []; named = 0 }
-
--- a count of 64 bits with one more
-abbrev pub one_more : ℕ → ℕ
-one_more n = min (n + 1) (2 ^ 64 - 1)
+stand_at point = record { point = point; place = 0; lost = 0; listed = []; named = 0; past = 0 }
 
 -- Where a record is run: a session that it begins gets the number that it had, if the numbers before that one may have
 -- been those of lost records, each of which had one at most.
@@ -104,6 +109,7 @@ lose_at it time text fault = record {
       listed_with it.listed
       (record { time = time; place = it.place; fault = fault; entry = result_ok (entry_of text) });
   named = max it.named (of_read highest (entry_of text));
+  past = max it.past (past (numbers_of text));
 }
 
 abbrev pub made_ready : Stand → List ℕ → Stand
@@ -161,5 +167,7 @@ pub record IsSalvageOf (all : List Kept) (files : ℕ → Option (List ℕ)) (fa
   pub replay : IsReplayOf counted files old new
   -- the next number is above each that a record names, whether it counts or is lost
   pub above : All (λ text. min (of_read highest (entry_of text)) last_number ≤ new.state.issued) (texts_of all)
+  -- if nothing is lost, each was run, and it is a recovery of all
+  pub none_lost : lost ≡ 0 → IsReplayOf all files old new
   -- nothing is lost of what can be run again, unless a call of the shelf failed
   pub whole : (point : Point) → IsReplayOf all files old point → failed ⊎ ((lost ≡ 0) × (new ≡ point))

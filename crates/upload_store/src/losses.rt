@@ -19,17 +19,21 @@ pub struct Losses {
     pub listed: Vec<Loss>,
     /// The highest number of a session that one of them names.
     pub(crate) named: u32,
+    /// The first number above those of the files that they name, or 2^64 - 1.
+    pub(crate) past: u64,
 }
 
 impl Losses {
     /// None.
-    pub(crate) fn none(alloc: Global) -> Losses
-        ensures { (result.count ≡ 0) × (result.listed.items ≡ []) × (result.named ≡ 0) }
+    pub fn none(alloc: Global) -> Losses
+        ensures { (result.count ≡ 0) × (result.listed.items ≡ []) × (result.named ≡ 0)
+            × (result.past ≡ 0) }
     {
         Losses {
             count: 0,
             listed: Vec::new(alloc),
             named: 0,
+            past: 0,
         }
     }
 
@@ -46,18 +50,21 @@ impl Losses {
         }
     }
 
-    /// Adds one, which names numbers up to this one. At `Err` there is no memory, and nothing is added.
-    pub(crate) fn add(&mut self, loss: Loss, named: u32) -> Result<(), AllocError>
+    /// Adds one, which names sessions up to this number, and files up to the one before `past`. At `Err` there is no
+    /// memory, and nothing is added.
+    pub(crate) fn add(&mut self, loss: Loss, named: u32, past: u64) -> Result<(), AllocError>
         ensures count { OnOk result (self.new.count ≡ one_more self.old.count) }
         ensures listed { OnOk result
             (self.new.listed.items ≡ listed_with self.old.listed.items loss) }
         ensures named { OnOk result (self.new.named ≡ max self.old.named named) }
+        ensures past { OnOk result (self.new.past ≡ max self.old.past past) }
     {
         if self.listed.len() < MOST_LISTED && self.listed.push(loss).is_err() {
             return Err(AllocError);
         }
         self.count = self.count.saturating_add(1);
         self.named = self.named.max(named);
+        self.past = self.past.max(past);
         Ok(())
     }
 }

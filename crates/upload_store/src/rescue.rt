@@ -8,7 +8,7 @@ ghost use Rattle.upload_store.specs.Salvage.{before, of_read, ready, lose_at};
 
 use crate::fault::{Loss, RefusedRecord};
 use crate::losses::Losses;
-use crate::numbers::{before, highest};
+use crate::numbers::{before, highest, past_files};
 use crate::rerun::Rerun;
 use bodies::Shelf;
 use journal::Machine;
@@ -92,9 +92,9 @@ impl<S: Shelf> Rescue<S> {
         ensures files { files_at self.new ≡ files_at self.old }
     {
         let entry = entry_in(self.rerun.alloc, bytes)?;
-        let named = match &entry {
-            Some(entry) => highest(entry),
-            None => 0,
+        let (named, past) = match &entry {
+            Some(entry) => (highest(entry), past_files(entry)),
+            None => (0, 0),
         };
         let place = self.rerun.count;
         let loss = Loss {
@@ -103,7 +103,7 @@ impl<S: Shelf> Rescue<S> {
             fault,
             entry,
         };
-        self.losses.add(loss, named)?;
+        self.losses.add(loss, named, past)?;
         self.rerun.count = place.saturating_add(1);
         Ok(())
     }
@@ -131,6 +131,7 @@ impl<S: Shelf> Machine for Rescue<S> {
           lost = old.losses.count;
           listed = old.losses.listed.items;
           named = old.losses.named;
+          past = old.losses.past;
         }) time text
         new.rerun.files.shelf
         (record {
@@ -139,6 +140,7 @@ impl<S: Shelf> Machine for Rescue<S> {
           lost = new.losses.count;
           listed = new.losses.listed.items;
           named = new.losses.named;
+          past = new.losses.past;
         }) };
 
     ghost has_refused = { λ rescue. LacksMemory rescue.rerun.refused };

@@ -13,11 +13,11 @@ ghost use Rattle.journal.specs.Batch.{batch_records, batch_size, kept_at};
 ghost use Rattle.upload_service.specs.Machine.{AreLawful, empty_state};
 ghost use Rattle.upload_store.specs.Faults.{ComesBy, Never, NoBody, NoJournal, NoRecord};
 ghost use Rattle.upload_store.specs.Faults.{BodyFails, Names, OnlyFails, WriteFails};
-ghost use Rattle.upload_store.specs.Found.{found, batch_in};
+ghost use Rattle.upload_store.specs.Found.{found, batch_in, numbers_of, texts_of};
 ghost use Rattle.upload_store.specs.Reading.{ReadsOnly, KeepsBehind};
 ghost use Rattle.upload_journal.specs.declared.replay.ReplayFault.TheVariants as Fault;
 ghost use Rattle.upload_store.specs.Runs.{IsReplayOf, start_of};
-ghost use Rattle.upload_store.specs.Salvage.{IsSalvageOf};
+ghost use Rattle.upload_store.specs.Salvage.{IsSalvageOf, one_more};
 ghost use Rattle.upload_store.specs.Safe.{IsSafe, AreSafe, AreWritten};
 
 use crate::losses::{Losses, Salvage};
@@ -401,7 +401,8 @@ impl<D: Disk, S: Shelf> Store<D, S> {
     /// shelf loses what is damaged, and what can't be done without it.
     ///
     /// A record counts if it does what it did, and else it is lost, by a cause at its place. A session gets the number
-    /// that it had, also behind a lost one. No later session gets a number that a lost record names or may have had.
+    /// that it had, also behind a lost one. No later session gets a number that a lost record names or may have had, and
+    /// no later body that of a file that a record names.
     /// Nothing is lost of what `recover` could run, unless a call of the shelf fails.
     pub fn salvage(&mut self, alloc: Global) -> Result<Salvage, StoreFault>
         ensures ran { IfOk result (λ saved. IsClean self.new
@@ -414,6 +415,8 @@ impl<D: Disk, S: Shelf> Store<D, S> {
             ≡ kept_of self.old) }
         ensures next { OnOk result (IsClean self.new → (n : ℕ)
             → IsSome (S.Shelf.held (shelf_of self.new) n) → n < next_of self.new) }
+        ensures unnamed { OnOk result (IsClean self.new → All (λ text. All
+            (λ n. one_more n ≤ next_of self.new) (numbers_of text)) (texts_of (kept_of self.old))) }
         ensures reads { ReadsOnly S.Shelf.held S.Shelf.may_leave S.Shelf.IsClean
             (shelf_of self.old) (shelf_of self.new) }
         ensures limits { limits_of self.new ≡ limits_of self.old }
@@ -453,6 +456,7 @@ impl<D: Disk, S: Shelf> Store<D, S> {
             return Err(fault_of(error, self.run.rerun.refused));
         }
         let losses = mem::replace(&mut self.run.losses, Losses::none(alloc));
+        self.next = self.next.max(losses.past);
         let fresh = new_replay(alloc, self.limits);
         let mut replay = mem::replace(&mut self.run.rerun.replay, fresh);
         replay.use_up(losses.last_number(replay.issued()));

@@ -19,7 +19,8 @@ use Rattle.upload_journal.specs.Entries.{entry_of}
 use Rattle.upload_store.specs.Found.{texts_of}
 use Rattle.upload_store.specs.Salvage.{of_read, highest}
 use Rattle.upload_store.proofs.Numbering.{all_issued}
-use Rattle.upload_store.proofs.Lossless.{lossless}
+use Rattle.upload_store.proofs.Lossless.{lossless, none_lost}
+use Rattle.upload_store.proofs.Naming.{none_named}
 use Rattle.std.proofs.Common.{inl, inr}
 use Rattle.upload_store.proofs.Salvages.{batches_saved, again}
 use Rattle.upload_store.proofs.store.Store.salvage.Goals as goal
@@ -45,6 +46,7 @@ returns-clause-ran g c clean =
       lost = c.none.result.count;
       listed = c.none.result.listed.items;
       named = c.none.result.named;
+      past = c.none.result.past;
     } in
     let begun : from ≡ stand_at start = λ i. record {
       point = c.new_replay.ensures i;
@@ -52,6 +54,7 @@ returns-clause-ran g c clean =
       lost = c.none.ensures.0 i;
       listed = c.none.ensures.1 i;
       named = c.none.ensures.2 i;
+      past = c.none.ensures.3 i;
     } in
     let runs = subst
     (λ (s : Stand). Runs (Salvages (stands_in (held final)) (refused_in (held final) failed)) s kept end) begun
@@ -81,6 +84,9 @@ returns-clause-ran g c clean =
           (texts_of kept))
           (sym ends)
           (all_issued (stands_in (held final)) (refused_in (held final) failed) start kept end lawful runs);
+      none_lost = λ none.
+          subst (IsReplayOf kept (held final) start) (sym ends)
+          (none_lost (held final) failed start kept end lawful runs (sym lost_is ∙ none));
       whole = λ point again. elim (lossless (held final) failed start kept end point runs again) [
         | inl fails ↦ inl fails
         | inr none ↦ inr (lost_is ∙ none.0, ends ∙ none.1)
@@ -101,5 +107,46 @@ returns-clause-next g c clean n there =
     } in
     let reads = (c.recover.ensures.keeps begun
     (reads_none g.S.Shelf.held g.S.Shelf.may_leave g.S.Shelf.IsClean listed, omega arith)).0 in
-    c.in_ok-self.ensures.above (reads.clean clean.shelf) n
-    (subst IsSome ((reads.all.each n).same ∙ (c.next_number.ensures.reads.all.each n).same) there)
+    let before = c.in_ok-self.ensures.above (reads.clean clean.shelf) n
+    (subst IsSome ((reads.all.each n).same ∙ (c.next_number.ensures.reads.all.each n).same) there) in
+    omega (arith, before, c.max-self.ensures)
+
+pub returns-clause-unnamed : goal.returns-clause-unnamed
+returns-clause-unnamed g c clean =
+    let held = g.S.Shelf.held in
+    let may_leave = g.S.Shelf.may_leave in
+    let it = c.args.self.now in
+    let start : Point = start_of (empty_state (limits_of it) 0) in
+    let kept = kept_of it in
+    let machine = c.recover.new.machine in
+    let final = machine.rerun.files.shelf in
+    let failed = MoreFaults (g.S.Shelf.faults (shelf_of it)) (g.S.Shelf.faults final) in
+    let end : Stand = stand_of machine in
+    let since : Since held may_leave g.S.Shelf.IsClean g.S.Shelf.faults final final =
+    (reads_none held may_leave g.S.Shelf.IsClean final, omega arith) in
+    let saved = batches_saved held may_leave g.S.Shelf.IsClean g.S.Shelf.faults (shelf_of it) final clean.shelf shelf_at
+    stand_of _ kept machine (c.in_default.ensures.ran clean.disk) c.next_number.ensures.faults since in
+    let from : Stand = record {
+      point = c.new_replay.result;
+      place = 0;
+      lost = c.none.result.count;
+      listed = c.none.result.listed.items;
+      named = c.none.result.named;
+      past = c.none.result.past;
+    } in
+    let begun : from ≡ stand_at start = λ i. record {
+      point = c.new_replay.ensures i;
+      place = 0;
+      lost = c.none.ensures.0 i;
+      listed = c.none.ensures.1 i;
+      named = c.none.ensures.2 i;
+      past = c.none.ensures.3 i;
+    } in
+    let runs = subst
+    (λ (s : Stand). Runs (Salvages (stands_in (held final)) (refused_in (held final) failed)) s kept end) begun
+    saved.0 in
+    let past_is = ap (λ (l : Losses). l.past) c.replace-losses.ensures.value in
+    let next = c.max-self.ensures in
+    none_named (held final) (refused_in (held final) failed) start kept end c.max-self.result runs
+    (λ n there. returns-clause-next g c clean n there)
+    (omega (arith, past_is, next))
