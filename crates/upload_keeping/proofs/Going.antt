@@ -30,7 +30,7 @@ use Rattle.upload_keeping.specs.declared.books.Recorded.{Recorded}
 use Rattle.upload_keeping.specs.declared.fault.KeepFault.{KeepFault}
 use Rattle.upload_keeping.specs.declared.books.Books.{Books}
 use Rattle.upload_keeping.proofs.Holding.{holds_still, holds_none}
-use Rattle.upload_keeping.proofs.Replays.{replays_named}
+use Rattle.upload_store.proofs.Naming.{replays_named}
 
 pub one_more_waits : (old new : List Recorded) (r : Recorded) (x : Exchange) → new ≡ old ++ r ∷ [] → recorded_by r ≡ x
     → recorded_in new ≡ recorded_in old ++ x ∷ []
@@ -122,11 +122,11 @@ module _ {D S F : Type 0} {g : Ghosts D} {s : shelves.Ghosts S F} {f : Ghosts F}
 
   pub kept_at_first : (b : Books D S F g s f) → IsTrue (is_open b.store) → b.fault ≡ None → opened_in b ≡ b.store
       → since_in b ≡ b.upto → kept_in b ≡ [] → waiting_in b ≡ [] → batch_records b.batch ≡ []
-      → (IsClean b.store → IsReplayOf (kept_of b.store) (s.held (shelf_of b.store))
+      → (IsTrue b.is_whole → IsClean b.store → IsReplayOf (kept_of b.store) (s.held (shelf_of b.store))
       (start_of (empty_state (limits_of b.store) 0)) b.start.value) → AreKept b
   kept_at_first b up fine opened since none waits batch ran = record {
     begun =
-        subst (λ (o : Store D S F g s f). IsClean o → IsReplayOf (kept_of o) (s.held (shelf_of o))
+        subst (λ (o : Store D S F g s f). IsTrue b.is_whole → IsClean o → IsReplayOf (kept_of o) (s.held (shelf_of o))
         (start_of (empty_state (limits_of o) 0)) b.start.value) (sym opened) ran;
     goes = subst (λ (o : Store D S F g s f). Goes o b.store) (sym opened) (goes_nowhere b.store);
     going = λ _. record {

@@ -4,3 +4,4 @@ mod Crashes
 mod Going
 mod Replays
 mod Recovery
+mod Without

@@ -1,6 +1,6 @@
 -- What is told is on the disk.
 use Rattle.std.proofs.Common.{◌≤◌, ◌≡◌, ◌≢◌, ◌∙◌, ◌⊎◌, inl, inr, ⊎_elim, ℕ, List, [], ◌∷◌, ◌++◌, map, Option, Some, None, refl, sym, ap, subst}
-use Rattle.std.specs.Prelude.{is_some, filter}
+use Rattle.std.specs.Prelude.{is_some, filter, IsTrue}
 use Rattle.std.proofs.Common.{arith, append_assoc, append-nil}
 use Rattle.std.specs.List.{All}
 use Rattle.std.proofs.lemmas.List.{map-append}
@@ -28,6 +28,7 @@ use Rattle.upload_store.specs.Store.{IsClean, IsWhole, MayLeave, shelf_of, limit
 use Rattle.upload_store.specs.declared.store.Store.{Store}
 use Rattle.upload_keeping.specs.Keeping.{LeavesJustThat}
 use Rattle.upload_keeping.specs.Books.{AreKept, LeavesFront, moment_of, start_in, kept_in, opened_in, since_in}
+use Rattle.upload_keeping.specs.Books.{is_whole_in}
 use Rattle.upload_keeping.specs.Told.{Recovers, HasTold, KeepsWhatIsTold, HoldsOverRestarts}
 use Rattle.upload_keeping.specs.declared.books.Books.{Books}
 use Rattle.upload_keeping.specs.declared.fault.KeepFault.{KeepFault}
@@ -142,8 +143,8 @@ module _ {D S F : Type 0} {g : Ghosts D} {s : shelves.Ghosts S F} {f : Ghosts F}
       (λ (failed : b.fault ≢ None). k.left failed clean whole file files may)
       (fault_or_none b.fault)
 
-  module _ (b : Books D S F g s f) (k : AreKept b) (clean : IsClean b.store) (whole : IsWhole (opened_in b))
-      (file : List ℕ) (files : ℕ → Option (List ℕ)) (left : LeavesFront b file files) (point : Point)
+  module _ (b : Books D S F g s f) (k : AreKept b) (none_lost : IsTrue (is_whole_in b)) (clean : IsClean b.store)
+      (whole : IsWhole (opened_in b)) (file : List ℕ) (files : ℕ → Option (List ℕ)) (left : LeavesFront b file files) (point : Point)
       (recovers : Recovers (limits_of (opened_in b)) file files point) where
     abbrev opened : Store D S F g s f
     opened = opened_in b
@@ -162,7 +163,7 @@ module _ {D S F : Type 0} {g : Ghosts D} {s : shelves.Ghosts S F} {f : Ghosts F}
     -- it went over what the store had as it was opened, and comes to what was recovered then
     goes_on : Replays (stands_in files) b.start.value left.leaves.holds.entries point
     goes_on =
-        let first = k.begun (k.goes.clean clean) in
+        let first = k.begun none_lost (k.goes.clean clean) in
         let behind = left.leaves.holds in
         let moved : Replays (stands_in files) begin first.entries b.start.value =
         replays_moved Has (s.held (shelf_of opened)) files still begin first.entries b.start.value first.are_entries
@@ -206,21 +207,23 @@ module _ {D S F : Type 0} {g : Ghosts D} {s : shelves.Ghosts S F} {f : Ghosts F}
         }
 
   pub keeps_told : (b : Books D S F g s f) → AreKept b → LeavesJustThat b.store → KeepsWhatIsTold b
-  keeps_told b k just kept more heard answer may all clean whole file files leaves point recovers =
+  keeps_told b k just none_lost kept more heard answer may all clean whole file files leaves point recovers =
       let left = left_front b k just clean whole file files leaves in (
         left.front,
         left.rest,
         left.split,
-        has_told b k clean whole file files left point recovers kept more heard answer may all,
+        has_told b k none_lost clean whole file files left point recovers kept more heard answer may all,
       )
 
   pub holds_on : (b : Books D S F g s f) → AreKept b → LeavesJustThat b.store → HoldsOverRestarts b
-  holds_on b k just heard answer may none upto clean whole file files leaves point recovers more service before run =
+  holds_on b k just none_lost heard answer may none upto clean whole file files leaves point recovers more service before
+      run =
       let left = left_front b k just clean whole file files leaves in
       let front : left.front ≡ [] = first_none left.front left.rest (sym left.split ∙ none) in
       let kept = kept_in b in
       let told =
-      has_told b k clean whole file files left point recovers kept [] heard answer may (sym (append-nil kept)) in
+      has_told b k none_lost clean whole file files left point recovers kept [] heard answer may (sym (append-nil kept))
+      in
       let later : told.later ≡ [] = none_of told.later (told.same ∙ ap (map asked_of) front) in
       let again : Run (start_in b) kept point.state =
       subst (λ (l : List Exchange). Run (start_in b) l point.state)
@@ -228,7 +231,7 @@ module _ {D S F : Type 0} {g : Ghosts D} {s : shelves.Ghosts S F} {f : Ghosts F}
       (run_on (start_in b) told.has.before told.has.mid told.has.after point.state told.has.run told.has.on) in
       let xs = may.front ++ may.x ∷ may.rest in
       changes_are_enough.over_a_restart (start_in b) xs may.service point.state (moment_of point) more service
-      (k.begun (k.goes.clean clean)).lawful may.served.moments may.served.run
+      (k.begun none_lost (k.goes.clean clean)).lawful may.served.moments may.served.run
       (subst (λ (l : List Exchange). Run (start_in b) l point.state)
       (sym may.changes_are_kept ∙ sym (same_changes xs)) again)
       (never_after 0 xs (moment_of point) may.served.moments (omega (arith, may.promised, upto, told.moment))) before run

@@ -2,7 +2,7 @@
 use Rattle.std.proofs.Common.{◌≡◌, ◌≢◌, ◌∙◌, ◌≤◌, ℕ, max, List, [], ◌∷◌, ◌++◌, map, Option, Some, Result, Ok, refl, sym, ap, subst}
 use Rattle.std.proofs.Common.{arith}
 use Rattle.std.specs.List.{All}
-use Rattle.std.proofs.lemmas.List.Elements.{All-nil, All-cons, All-head, All-tail}
+use Rattle.std.proofs.lemmas.List.Elements.{All-head, All-tail}
 use Rattle.upload_service.specs.declared.ask.Ask.{Ask}
 use Rattle.upload_service.specs.declared.ask.Ask.TheVariants as asks
 use Rattle.upload_service.specs.declared.answer.Answer.{Answer}
@@ -242,39 +242,3 @@ module _ (Has : ℕ → Type 0) (held files : ℕ → Option (List ℕ))
         replays_moved r.0 es new (All-tail IsEntry e es are)
             (All-tail IsSafeText (entry_text e) (map entry_text es) has) r.2,
       )
-
--- ---- each body that was read has a file
-
-module _ (Has : ℕ → Type 0) (held : ℕ → Option (List ℕ)) (has : (n : ℕ) (bytes : List ℕ) → held n ≡ Some bytes → Has n)
-  where
-    joins_named : (fs : List BodyFile) (bytes : List ℕ) → Joins (stands_in held) fs bytes
-        → All Has (map (λ (file : BodyFile). file.number) fs)
-    joins_named [] bytes joins = All-nil Has
-    joins_named (file ∷ fs) bytes joins =
-        All-cons Has file.number (map (λ (file : BodyFile). file.number) fs) (has file.number joins.0 joins.3)
-        (joins_named fs joins.1 joins.5)
-
-    body_named : (body : KeptBody) (bytes : List ℕ) → IsBodyOf (stands_in held) body bytes → All Has (body_numbers body)
-    body_named (Here body) bytes is = All-nil Has
-    body_named (InFiles fs) bytes joins = joins_named fs bytes joins
-
-    ask_named : (kept : KeptAsk) (ask : Ask) → IsAskOf (stands_in held) kept ask → All Has (ask_numbers kept)
-    ask_named (Opening name) ask is = All-nil Has
-    ask_named (Single name digest body) ask is = body_named body is.0 is.1
-    ask_named (Mount name digest source) ask is = All-nil Has
-    ask_named (Chunk name at range body) ask is = body_named body is.0 is.1
-    ask_named (Close name at range digest body) ask is = body_named body is.0 is.1
-
-    applied_named : (old : Point) (e : Entry) (new : Point) → Applies (stands_in held) old e new
-        → All Has (entry_numbers e)
-    applied_named old (Kept entry) new a = ask_named entry.ask a.0.ask a.1.ask
-    applied_named old (NumbersUpTo n) new a = All-nil Has
-    applied_named old (MomentsUpTo m) new a = All-nil Has
-
-    pub replays_named : (old : Point) (es : List Entry) (new : Point) → All IsEntry es
-        → Replays (stands_in held) old es new → All (λ text. All Has (numbers_of text)) (map entry_text es)
-    replays_named old [] new are r = All-nil (λ text. All Has (numbers_of text))
-    replays_named old (e ∷ es) new are r =
-        All-cons (λ text. All Has (numbers_of text)) (entry_text e) (map entry_text es)
-        (subst (All Has) (sym (ap read_numbers (entry_read e (All-head IsEntry e es are)))) (applied_named old e r.0 r.1))
-        (replays_named r.0 es new (All-tail IsEntry e es are) r.2)

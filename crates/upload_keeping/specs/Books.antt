@@ -1,5 +1,5 @@
 -- What the books of a keeping say, and that it is so.
-use Rattle.std.specs.Prelude.{◌≡◌, ◌≢◌, ℕ, false, max, List, [], ◌++◌, map, Option, None}
+use Rattle.std.specs.Prelude.{◌≡◌, ◌≢◌, ℕ, Bool, false, max, List, [], ◌++◌, map, Option, None, IsTrue}
 use Rattle.std.specs.List.{flat_map}
 use Rattle.sqlite_disk.specs.declared.Disk.{Ghosts}
 use Rattle.bodies.specs.declared.shelf.Shelf as shelves
@@ -43,6 +43,10 @@ module _ {D S F : Type 0} {g : Ghosts D} {s : shelves.Ghosts S F} {f : Ghosts F}
   abbrev pub since_in : Books D S F g s f → ℕ
   since_in b = moment_of b.start.value
 
+  -- no record that the store had as it was opened is lost
+  abbrev pub is_whole_in : Books D S F g s f → Bool
+  is_whole_in b = b.is_whole
+
   -- a crash left what was kept, and behind it the first of what waits, or none
   pub record LeavesFront (b : Books D S F g s f) (file : List ℕ) (files : ℕ → Option (List ℕ)) : Type 0 where
     pub front : List Exchange
@@ -55,10 +59,11 @@ module _ {D S F : Type 0} {g : Ghosts D} {s : shelves.Ghosts S F} {f : Ghosts F}
     pub settled : Settled (opened_in b) (since_in b) (kept_in b) b.upto b.store
     pub awaits : Awaits (waiting_in b) (batch_records b.batch) b.store
 
-  -- What is kept is on the disk. Once something was not kept, every crash leaves what was kept before, with the first of
-  -- what waited, or none.
+  -- What is kept is on the disk, behind what the store had. If no record of that was lost as the keeping began, then it
+  -- began with what they come to. Once something was not kept, every crash leaves what was kept before, with the first
+  -- of what waited, or none.
   pub record AreKept (b : Books D S F g s f) : Type 0 where
-    pub begun : IsClean (opened_in b)
+    pub begun : IsTrue b.is_whole → IsClean (opened_in b)
         → IsReplayOf (kept_of (opened_in b)) (s.held (shelf_of (opened_in b)))
         (start_of (empty_state (limits_of (opened_in b)) 0)) b.start.value
     pub goes : Goes (opened_in b) b.store

@@ -31,6 +31,10 @@ module _ {D S H F : Type 0} {g : Ghosts D} {s : shelves.Ghosts S F} {f : Ghosts 
   abbrev pub store_of : StoreKeeping D S H F g s f → Store D S F g s f
   store_of k = k.books.store
 
+  -- no record that the store had as it was opened is lost
+  abbrev pub is_whole_of : StoreKeeping D S H F g s f → Bool
+  is_whole_of k = books.is_whole_in k.books
+
   -- the store as it was opened
   abbrev pub opened_of : StoreKeeping D S H F g s f → Store D S F g s f
   opened_of k = books.opened_in k.books

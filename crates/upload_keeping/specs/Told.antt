@@ -1,5 +1,5 @@
--- WHAT A RESTART HAS OF WHAT WAS TOLD: all of it, whatever a crash leaves.
-use Rattle.std.specs.Prelude.{◌≡◌, ℕ, ◌≤◌, List, [], ◌∷◌, ◌++◌, map, Option}
+-- WHAT A RESTART HAS OF WHAT WAS TOLD: all of it, whatever a crash leaves, if no record was lost as the keeping began.
+use Rattle.std.specs.Prelude.{◌≡◌, ℕ, ◌≤◌, List, [], ◌∷◌, ◌++◌, map, Option, IsTrue}
 use Rattle.sqlite_disk.specs.declared.Disk.{Ghosts}
 use Rattle.bodies.specs.declared.shelf.Shelf as shelves
 use Rattle.journal.specs.Format.{stored}
@@ -13,7 +13,7 @@ use Rattle.upload_intake.specs.Safety.{MayBeHeard}
 use Rattle.upload_journal.specs.Replay.{Point}
 use Rattle.upload_store.specs.Runs.{IsReplayOf, start_of}
 use Rattle.upload_store.specs.Store.{IsClean, IsWhole, MayLeave, limits_of}
-use Rattle.upload_keeping.specs.Books.{moment_of, start_in, kept_in, waiting_in, opened_in}
+use Rattle.upload_keeping.specs.Books.{moment_of, start_in, kept_in, waiting_in, opened_in, is_whole_in}
 use Rattle.upload_keeping.specs.declared.books.Books.{Books}
 
 -- a recovery by a service with these limits, of this file of a journal and these files of bodies, comes so far
@@ -34,7 +34,7 @@ module _ {D S F : Type 0} {g : Ghosts D} {s : shelves.Ghosts S F} {f : Ghosts F}
   -- each recovery has it. What was kept since is there too, and of what waits the first, or none.
   abbrev pub KeepsWhatIsTold : Books D S F g s f → Type 0
   KeepsWhatIsTold b =
-      (kept more : List Exchange) (heard : ℕ) (answer : Answer) → MayBeHeard (start_in b) kept heard answer
+      IsTrue (is_whole_in b) → (kept more : List Exchange) (heard : ℕ) (answer : Answer) → MayBeHeard (start_in b) kept heard answer
       → kept_in b ≡ kept ++ more → IsClean b.store → IsWhole (opened_in b)
       → (file : List ℕ) (files : ℕ → Option (List ℕ)) → MayLeave b.store file files
       → (point : Point) → Recovers (limits_of (opened_in b)) file files point
@@ -45,7 +45,7 @@ module _ {D S F : Type 0} {g : Ghosts D} {s : shelves.Ghosts S F} {f : Ghosts F}
   -- of what changed nothing and is kept nowhere, and of what the recovered service answers, at moments from its own on.
   abbrev pub HoldsOverRestarts : Books D S F g s f → Type 0
   HoldsOverRestarts b =
-      (heard : ℕ) (answer : Answer) (may : MayBeHeard (start_in b) (kept_in b) heard answer)
+      IsTrue (is_whole_in b) → (heard : ℕ) (answer : Answer) (may : MayBeHeard (start_in b) (kept_in b) heard answer)
       → waiting_in b ≡ [] → heard ≤ b.upto → IsClean b.store → IsWhole (opened_in b)
       → (file : List ℕ) (files : ℕ → Option (List ℕ)) → MayLeave b.store file files
       → (point : Point) → Recovers (limits_of (opened_in b)) file files point

@@ -43,6 +43,8 @@ pub(crate) struct Books<D: Disk, S: Shelf> {
     pub(crate) upto: u64,
     /// Whether something waits.
     pub(crate) waits: bool,
+    /// Whether no record of the store was lost as it was opened.
+    pub(crate) is_whole: bool,
     /// Why something was not kept. Nothing is kept any more then.
     pub(crate) fault: Option<KeepFault>,
     // The store as it was opened, and what was recovered from it.
@@ -88,18 +90,24 @@ fn put_note<D: Disk, S: Shelf>(
 }
 
 impl<D: Disk, S: Shelf> Books<D, S> {
-    ghost use Rattle.upload_keeping.specs.Books.{AreKept, start_in, kept_in, waiting_in, opened_in};
+    ghost use Rattle.upload_keeping.specs.Books.{AreKept, start_in, kept_in, waiting_in, opened_in, is_whole_in};
 
-    /// Of a store that was recovered, with what was recovered from it.
-    pub(crate) fn of(alloc: Global, store: Store<D, S>, replay: &Replay) -> Books<D, S>
+    /// Of a store that was opened, with what was recovered from it, and whether that is all that it had.
+    pub(crate) fn of(
+        alloc: Global,
+        store: Store<D, S>,
+        replay: &Replay,
+        is_whole: bool,
+    ) -> Books<D, S>
         requires open { IsTrue (is_open store) }
-        requires ran { IsClean store → IsReplayOf (kept_of store) (S.Shelf.held (shelf_of store))
+        requires ran { IsTrue is_whole → IsClean store → IsReplayOf (kept_of store) (S.Shelf.held (shelf_of store))
             (start_of (empty_state (limits_of store) 0)) replay.now }
         ensures kept { AreKept result }
         ensures start { start_in result ≡ replay.now.state }
         ensures none { (kept_in result ≡ []) × (waiting_in result ≡ []) }
         ensures store { (result.store ≡ store) × (opened_in result ≡ store) }
         ensures last { result.last ≡ max replay.now.last replay.now.upto }
+        ensures whole { is_whole_in result ≡ is_whole }
     {
         let moment = replay.moment();
         Books {
@@ -111,6 +119,7 @@ impl<D: Disk, S: Shelf> Books<D, S> {
             last: moment,
             upto: moment,
             waits: false,
+            is_whole,
             fault: None,
             kept: History::none(),
             waiting: History::none(),

@@ -24,13 +24,20 @@ pub struct StoreKeeping<D: Disk, S: Shelf, H> {
 
 impl<D: Disk, S: Shelf, H: Drop> StoreKeeping<D, S, H> {
     ghost use Rattle.std.specs.Prelude.{◌≡◌, is_some};
-    ghost use Rattle.upload_keeping.specs.Kept.{has_failed, store_of};
+    ghost use Rattle.upload_keeping.specs.Kept.{has_failed, is_whole_of, store_of};
 
     /// Why something was not kept, if so. Nothing is kept any more then.
     pub fn fault(&self) -> Option<&KeepFault>
         ensures { is_some result ≡ has_failed self.now }
     {
         self.books.fault.as_ref()
+    }
+
+    /// Whether no record of the store was lost as it was opened.
+    pub fn is_whole(&self) -> bool
+        ensures { result ≡ is_whole_of self.now }
+    {
+        self.books.is_whole
     }
 
     /// The store, with what is kept.

@@ -4,8 +4,9 @@
 //! which rests on what is known of each request (`sound`). A large body is on the disk before its entry names it. The
 //! entries of a round are put on the disk at once (`round`), with the moment up to which answers may be given.
 //!
-//! All of this is what a pool keeps its changes in (`keeping`, over its `books`), from a recovery on (`begin`). `told`
-//! says what it comes to: what anybody heard, every recovery has.
+//! All of this is what a pool keeps its changes in (`keeping`, over its `books`), from a recovery on (`begin`), or from
+//! one without the records that are damaged (`salvaging`). `told` says what it comes to: what anybody heard, every
+//! recovery has.
 #![tactic(auto)]
 
 mod again;
@@ -17,6 +18,7 @@ mod host;
 mod keeping;
 mod note;
 mod round;
+mod salvaging;
 mod sound;
 mod told;
 
@@ -28,4 +30,5 @@ pub use host::KeepingHost;
 pub use keeping::StoreKeeping;
 pub use note::Note;
 pub use round::{Moments, keep_round, kept_is_on_the_disk};
+pub use salvaging::{Salvaged, salvage};
 pub use told::{headline_holds_over_restarts, told_is_on_the_disk};

@@ -12,6 +12,8 @@ use sqlite_disk::Disk;
 /// behind what was kept since. If the answer tells of a change, that change is among the former. It goes on at a moment
 /// before which nothing was answered.
 ///
+/// It is said of a keeping that has begun without a loss (`StoreKeeping::is_whole`).
+///
 /// This rests on the disk as `sqlite_disk` describes it, on what a shelf says of its files, and on no wrong answer of
 /// either having been taken as true.
 pub fn told_is_on_the_disk<D: Disk, S: Shelf, H>(keeping: &StoreKeeping<D, S, H>)

@@ -1,4 +1,4 @@
-use Rattle.std.proofs.Common.{◌≡◌, ◌∙◌, sym, subst}
+use Rattle.std.proofs.Common.{◌≡◌, ◌∙◌, sym, subst, refl, IsTrue}
 use Rattle.upload_service.specs.Machine.{empty_state}
 use Rattle.upload_journal.specs.Replay.{Point}
 use Rattle.upload_store.specs.Runs.{IsReplayOf, start_of}
@@ -8,28 +8,27 @@ use Rattle.upload_keeping.specs.Books.{moment_of}
 use Rattle.upload_keeping.proofs.Going.{whole_at_rest}
 use Rattle.upload_keeping.proofs.begin.open.Goals as goal
 
-pub returns-clause-recovered : goal.returns-clause-recovered
-returns-clause-recovered g c =
+pub returns-in-Ok-clause-recovered : goal.returns-in-Ok-clause-recovered
+returns-in-Ok-clause-recovered g c =
     let old = c.args.store in
-    let is = sym c.of-books.ensures.store.0 in
+    let is = sym c.begin.ensures.store.0 in
     let Over : Type 0 = Store g.row.D.Denot g.row.S.Denot g.row.S-File.Denot g.D.Disk g.S.Shelf g.S.File.Disk in
-    let service = c.into_service-service.result in
-    let since = c.moment-since.result in
     let begin = start_of (empty_state (limits_of old) 0) in
     record {
-      none = c.of-books.ensures.none.0;
-      opened = c.of-books.ensures.store.1 ∙ is;
+      none = c.begin.ensures.none.0;
+      opened = c.begin.ensures.store.1 ∙ is;
+      is_whole = subst IsTrue (sym c.begin.ensures.whole) refl;
       same = subst (λ (x : Over). IsClean x → kept_of x ≡ kept_of old) is c.in-Ok.ensures.same;
       recovered =
           subst
           (λ (x : Over). IsClean x → (point : Point)
-          × IsReplayOf (kept_of old) (g.S.Shelf.held (shelf_of x)) begin point × (point.state ≡ service)
-          × (moment_of point ≡ since)) is
+          × IsReplayOf (kept_of old) (g.S.Shelf.held (shelf_of x)) begin point × (point.state ≡ c.begin.result.service)
+          × (moment_of point ≡ c.begin.result.since)) is
           (λ clean. (
             c.in-Ok.replay,
             c.in-Ok.ensures.ran clean,
-            sym c.into_service-service.ensures,
-            sym c.moment-since.ensures,
+            sym c.begin.ensures.service,
+            sym c.begin.ensures.since,
           ));
       whole = λ rest.
           subst (λ (x : Over). IsWhole x) is
