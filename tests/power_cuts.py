@@ -103,11 +103,16 @@ class Story:
         return State(uploads, frozenset(blobs))
 
 
+def keeping(data):
+    """The variables of a server that starts with nothing but all of a data directory."""
+    return {"BLOBD_DATA": data, "BLOBD_STRICT": "1"}
+
+
 def served(folder, data, **variables):
     """A server on a data directory whose calls are noted."""
     notes = os.path.join(folder, f"notes-{len(os.listdir(folder))}")
     noted = shims.loaded(folder, "disks", DISK_FOLDER=data, DISK_NOTES=notes)
-    return Server(env=variables | noted | {"BLOBD_DATA": data}), notes
+    return Server(env=variables | noted | keeping(data)), notes
 
 
 def told_stories(folder, data):
@@ -160,7 +165,7 @@ def cut(stories, notes, number):
             data = os.path.join(folder, "again")
             disks.make(data, left)
         with open(os.path.join(folder, "told"), "w+", encoding="utf-8") as told:
-            wrong = after_start(Server(env={"BLOBD_DATA": data}, stderr=told), stories, notes[count - 1].end)
+            wrong = after_start(Server(env=keeping(data), stderr=told), stories, notes[count - 1].end)
             told.seek(0)
             return [f"cut behind call {count} of {len(notes)}: {line} {told.read()}" for line in wrong]
 

@@ -53,6 +53,7 @@ OF_TESTS = re.compile(r"^#\[cfg\(test\)\]\nmod (\w+);", re.MULTILINE)
 # Functions of which no clause says anything, since none can speak of another thread. Tests stand for them.
 NO_CLAUSE = {
     "upload_bytes": {"HashEnd::wait"},
+    "blobd_data": {"tell_losses"},
 }
 
 

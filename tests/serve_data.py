@@ -17,22 +17,29 @@ from harness.running import SERVED, USAGE, Repeated, Server, ask_alone, pull, ru
 from harness.suite import OPTIONS, case, check, equal, main, skip
 from harness.wire import Connection, demand, named, request_text, sha256, sha512
 
-KIB = 1 << 10
+KIB, MIB = 1 << 10, 1 << 20
 NAME = "lib/a"
 # a body of more bytes has a file of its own
 LARGEST_IN_JOURNAL = 64 * KIB
+SECTOR = 4 * KIB
 # what a data directory that can't be used makes the program print, and its status
 REFUSED = "fault: data\n", 3
 
 
 def variables(path, **more):
-    return {"BLOBD_DATA": path, **more}
+    """Those of a server that starts with nothing but all of a directory."""
+    return {"BLOBD_DATA": path, "BLOBD_STRICT": "1", **more}
 
 
 def serving(path, *words, env=None, **options):
     """A server on a data directory, whose standard error is read."""
     options = {"stderr": subprocess.PIPE} | options
     return Server(*words, env=variables(path, **env or {}), **options)
+
+
+def serving_the_rest(path):
+    """The same on a directory that may be damaged."""
+    return Server(env={"BLOBD_DATA": path}, stderr=subprocess.PIPE)
 
 
 def ended(server):
@@ -100,6 +107,23 @@ def what_was_answered_is_there(folder):
 
 
 @case()
+def many_large_bodies(folder):
+    """A start over many large bodies has each blob byte for byte, however it was sent: whole, in chunks, or under its
+    SHA-512."""
+    path, chance = os.path.join(folder, "data"), random.Random(5)
+    contents = [chance.randbytes(chance.randrange(LARGEST_IN_JOURNAL + 1, MIB)) for _ in range(30)]
+    with serving(path) as server, server.client() as client:
+        for number, content in enumerate(contents):
+            if number % 3 == 0:
+                client.ask("POST", f"/v2/{NAME}/blobs/uploads/?digest={sha512(content)}", content)
+            client.push(NAME, content, 100_000 if number % 2 else len(content))
+    with serving(path) as server:
+        names = [(content, sha256(content)) for content in contents] + [(it, sha512(it)) for it in contents[::3]]
+        wrong = [digest for content, digest in names if pull(server, NAME, digest) != content]
+        check("each blob", not wrong, wrong)
+
+
+@case()
 def whose_it_is(folder):
     """A directory is made for its owner alone, and holds a journal and bodies."""
     path = os.path.join(folder, "data")
@@ -144,10 +168,10 @@ def before_it_is_opened(folder):
         equal("the next server", server.first_line[:10], "listening ")
 
 
-def is_refused(name, path, word):
+def is_refused(name, path, word, **more):
     """Checks that a directory is refused, by this word, and left as it was."""
     before = tree(path)
-    printed, status, told = run("serve", "127.0.0.1:0", env=variables(path))
+    printed, status, told = run("serve", "127.0.0.1:0", env=variables(path, **more))
     is_told = told.startswith(f"blobd: can't use {path}: ") and word in told and told.count("\n") == 1
     check(name, (printed, status) == REFUSED and is_told, (printed, status, told))
     check(f"{name}: nothing is changed", tree(path) == before)
@@ -196,14 +220,20 @@ def no_directory(folder):
 LIMIT = b"".join(limit.to_bytes(8) for limit in (1 << 34, 1 << 31, 1_024, 3_600))
 
 
+# what `filled` puts into a directory
+FILLED = [b"one", b"two", CONTENTS[-2]]
+
+
 def filled(path):
-    """A data directory in which there are three blobs, the last one in a file, and an open upload."""
+    """A data directory in which there are three blobs, the last one in the file that is given, and an open upload, whose
+    place is given too."""
     with serving(path) as server, server.client() as client:
-        for content in (b"one", b"two", CONTENTS[-2]):
+        for content in FILLED:
             client.ask("POST", f"/v2/{NAME}/blobs/uploads/?digest={sha256(content)}", content)
-        client.send_chunks(client.opened(NAME), b"a chunk")
+        place = client.opened(NAME)
+        client.send_chunks(place, b"a chunk")
     (body,) = [name for name, content in tree(f"{path}/bodies").items() if content is not None]
-    return body
+    return body, place
 
 
 def changed(path, old, new):
@@ -215,13 +245,33 @@ def changed(path, old, new):
         file.write(new)
 
 
+def named_losses(server):
+    """The lines in which a server that listens has named what of its directory is damaged."""
+    lines = list(iter(lambda: server.told(0), ""))
+    check("each is of the damage", all(line.startswith("blobd: damage in ") for line in lines), lines)
+    return lines
+
+
+@case()
+def strict_or_not(folder):
+    """The variable is a switch."""
+    path = os.path.join(folder, "data")
+    for value in ("yes", "2", os.fsdecode(b"\xff")):
+        told = run("serve", "127.0.0.1:0", env=variables(path, BLOBD_STRICT=value))
+        equal("a variable that is none", told,
+              ("", 2, "blobd: BLOBD_STRICT is 1 to refuse a damaged folder, or 0, or not set\n"))
+    equal("what they made", os.listdir(folder), [])
+    for value in ("0", "1", ""):
+        with serving(path, env={"BLOBD_STRICT": value}) as server:
+            equal("a folder that isn't damaged", [server.first_line[:10], named_losses(server)], ["listening ", []])
+
+
 @case()
 def other_directories(folder):
-    """A directory of another version, or of other limits, and one that is damaged, are named. Nothing is changed."""
+    """A directory of another version, or of other limits, is named. Nothing is changed."""
     good = os.path.join(folder, "good")
-    body = os.path.relpath(filled(good), good)
+    filled(good)
     journal = f"{folder}/bad/journal"
-    digest = bytes.fromhex(sha256(b"two")[7:])
     cases = [
         ("no journal at all", lambda: changed(journal, b"journal\n", b"JOURNAL\n"), "no server has written it"),
         ("another format", lambda: changed(journal, b"journal\n\0\0\0\0\0\0\0\1", b"journal\n\0\0\0\0\0\0\0\2"),
@@ -230,21 +280,141 @@ def other_directories(folder):
          "another version has written it"),
         ("other limits", lambda: changed(journal, LIMIT, LIMIT[::-1]),
          "other limits"),
-        ("a name with a bit changed", lambda: changed(journal, b"two", b"twp"), "record "),
         ("no bodies", lambda: shutil.rmtree(f"{folder}/bad/bodies"), "its bodies are missing"),
-        ("a body that is gone", lambda: os.remove(f"{folder}/bad/{body}"), "isn't there"),
-        ("a body that was cut", lambda: os.truncate(f"{folder}/bad/{body}", 70), "has another length"),
-        ("a body with a byte changed", lambda: changed(f"{folder}/bad/{body}", CONTENTS[-2][:16], bytes(16)),
-         "its answer comes out otherwise"),
     ]
     for name, spoil, word in cases:
         shutil.copytree(good, f"{folder}/bad")
         spoil()
-        is_refused(name, f"{folder}/bad", word)
+        for strict in ("", "0", "1"):
+            is_refused(name, f"{folder}/bad", word, BLOBD_STRICT=strict)
         shutil.rmtree(f"{folder}/bad")
     with serving(good) as server:
-        pulled = [pull(server, NAME, sha256(content)) for content in (b"one", b"two", CONTENTS[-2])]
-        equal("the directory that wasn't changed", pulled, [b"one", b"two", CONTENTS[-2]])
+        equal("the directory that wasn't changed", [pull(server, NAME, sha256(content)) for content in FILLED], FILLED)
+
+
+def goes_on(name, path, lost, word):
+    """Checks that a damaged directory is served but for the contents that are lost, each of which is named by this word;
+    that what is pushed from then on survives a kill; and that a pull never has a wrong byte."""
+    left = [404 if content in lost else content for content in FILLED]
+    for pushed in ([], [b"more", CONTENTS[-1], *lost], [b"more", CONTENTS[-1], *lost]):
+        with serving_the_rest(path) as server, server.client() as client:
+            told = named_losses(server)
+            digests = [sha256(content) for content in lost]
+            check(f"{name}: what is lost is named", len(told) == len(lost)
+                  and all(word in line and digest in line for line, digest in zip(told, digests)), told)
+            wanted = [content if content in pushed else found for content, found in zip(FILLED, left)]
+            equal(f"{name}: what is left", [pull(server, NAME, digest) for digest in map(sha256, FILLED)], wanted)
+            kept = [pull(server, NAME, sha256(content)) for content in pushed]
+            equal(f"{name}: what was pushed before", kept, pushed)
+            for content in [b"more", CONTENTS[-1], *lost]:
+                equal(f"{name}: a push", client.push(NAME, content)[-1], 201)
+
+
+@case()
+def damaged_directories(folder):
+    """Of a directory that is damaged what is lost is named, one line each, and the rest is served, over further kills. If
+    it is to be strict, the server doesn't start, and nothing is changed."""
+    good, bad = os.path.join(folder, "good"), os.path.join(folder, "bad")
+    body = os.path.relpath(filled(good)[0], good)
+    large = [CONTENTS[-2]]
+    cases = [
+        ("a small body with a byte changed", lambda: changed(f"{bad}/journal", b"two", b"twp"), [b"two"],
+         "its answer comes out otherwise"),
+        ("a body that is gone", lambda: os.remove(f"{bad}/{body}"), large, "isn't there"),
+        ("a body that was cut", lambda: os.truncate(f"{bad}/{body}", 70), large, "has another length"),
+        ("a body with a byte changed", lambda: changed(f"{bad}/{body}", CONTENTS[-2][:16], bytes(16)), large,
+         "its answer comes out otherwise"),
+    ]
+    for name, spoil, lost, word in cases:
+        shutil.copytree(good, bad)
+        spoil()
+        is_refused(name, bad, word)
+        goes_on(name, bad, lost, word)
+        shutil.rmtree(bad)
+
+
+@case()
+def file_put_back(folder):
+    """A body that is put back is there again, beside what was pushed without it."""
+    path = os.path.join(folder, "data")
+    body, _ = filled(path)
+    os.rename(body, f"{folder}/body")
+    with serving_the_rest(path) as server, server.client() as client:
+        check("the loss is named", len(named_losses(server)) == 1)
+        equal("what is lost", pull(server, NAME, sha256(CONTENTS[-2])), 404)
+        equal("another large body", client.push(NAME, CONTENTS[-1])[-1], 201)
+    check("its number isn't given again", not os.path.exists(body))
+    os.rename(f"{folder}/body", body)
+    with serving(path) as server:
+        equal("all", [pull(server, NAME, sha256(content)) for content in (*FILLED, CONTENTS[-1])], [*FILLED, CONTENTS[-1]])
+
+
+@case()
+def what_is_told_behind_losses_is_there(folder):
+    """Behind a chunk that is lost, and that now reads as one of an upload with a much higher number, uploads are opened and
+    go on over further kills."""
+    path, content = os.path.join(folder, "data"), random.Random(5).randbytes(100_000)
+    _, first = filled(path)
+    reference = first.rpartition("/")[2].encode()
+    with open(f"{path}/journal", "r+b") as file:
+        file.seek(file.read().rindex(reference) + 1)
+        file.write(b"1")
+    place, uploads = None, []
+    for sent in (40_000, 80_000, 100_000, None):
+        with serving_the_rest(path) as server, server.client() as client:
+            told = named_losses(server)
+            check("the chunk is named", len(told) == 1 and told[0].endswith(
+                f"its answer comes out otherwise; lost: upload 16777217 of {NAME}, up to byte 7\n"), told)
+            equal("what hung on the chunk", held(client, first), (204, 0))
+            equal("what was opened behind it", [held(client, other) for other in uploads], [(204, 0)] * len(uploads))
+            if sent is None:
+                equal("the blob of the upload", pull(server, NAME, sha256(content)), content)
+                break
+            if place is None:
+                place, begun = client.opened(NAME), 0
+            equal("the upload that goes on", held(client, place), (204, begun))
+            client.ask("PATCH", place, content[begun:sent], Content_Range=f"{begun}-{sent - 1}")
+            begun = sent
+            if sent == len(content):
+                equal("its close", client.ask("PUT", f"{place}?digest={sha256(content)}").status, 201)
+            uploads.append(client.opened(NAME))
+
+
+@case()
+def many_losses(folder):
+    """Beyond the first 64 losses it is said how many more there are."""
+    path = os.path.join(folder, "data")
+    contents = [b"blob %d" % i for i in range(70)]
+    with serving(path) as server, server.client() as client:
+        for content in contents:
+            client.ask("POST", f"/v2/{NAME}/blobs/uploads/?digest={sha256(content)}", content)
+    with open(f"{path}/journal", "r+b") as file:
+        journal = file.read()
+        file.seek(0)
+        file.write(journal.replace(b"blob ", b"Blob "))
+    with serving_the_rest(path) as server:
+        told = named_losses(server)
+        check("each is named, or counted", len(told) == 65 and all(sha256(content) in line for content, line in
+              zip(contents, told[:64])) and told[64].endswith(": 6 more records are lost\n"), told[-3:])
+        equal("none is there", {pull(server, NAME, sha256(content)) for content in contents}, {404})
+
+
+def flipped(path, at, bit):
+    """Changes a bit of a file."""
+    with open(path, "r+b") as file:
+        file.seek(at)
+        (byte,) = file.read(1)
+        file.seek(at)
+        file.write(bytes([byte ^ 1 << bit]))
+
+
+def first_records(journal):
+    """Where the bytes of the first record of each batch are. A batch begins in a sector of its own, and its record behind
+    32 bytes, of which the last eight are the record's length. No byte of a gate's sector is zero."""
+    for at in range(SECTOR, len(journal), SECTOR):
+        sector = journal[at : at + SECTOR]
+        if any(sector) and 0 in sector:
+            yield range(at + 32, at + 32 + int.from_bytes(sector[24:32], "big"))
 
 
 @case()
@@ -254,24 +424,51 @@ def damaged_journal(folder):
     good, bad = os.path.join(folder, "good"), os.path.join(folder, "bad")
     filled(good)
     size, chance = os.path.getsize(f"{good}/journal"), random.Random(7)
-    contents = (b"one", b"two", CONTENTS[-2])
     for _ in range(40):
         shutil.copytree(good, bad)
-        at, bit = chance.randrange(size), 1 << chance.randrange(8)
-        with open(f"{bad}/journal", "r+b") as file:
-            file.seek(at)
-            (byte,) = file.read(1)
-            file.seek(at)
-            file.write(bytes([byte ^ bit]))
+        flipped(f"{bad}/journal", at := chance.randrange(size), bit := chance.randrange(8))
         with serving(bad) as server:
             if server.first_line == REFUSED[0]:
                 told = server.told(60)
                 check("a damaged journal is named", server.process.wait() == 3 and "journal: " in told, (at, bit, told))
             else:
-                pulled = [pull(server, NAME, sha256(content)) for content in contents]
-                check("what a damaged journal leaves", all(map(lambda got, content: got in (content, 404), pulled, contents)),
+                pulled = [pull(server, NAME, sha256(content)) for content in FILLED]
+                check("what a damaged journal leaves", all(map(lambda got, content: got in (content, 404), pulled, FILLED)),
                       (at, bit))
         shutil.rmtree(bad)
+
+
+@case()
+def damaged_anywhere(folder):
+    """Whatever bit of a body or of a record is changed: what is lost is named, no wrong byte is handed out, and what is
+    pushed from then on survives a kill. If it is to be strict, what is lost keeps it from starting."""
+    good, bad = os.path.join(folder, "good"), os.path.join(folder, "bad")
+    body = os.path.relpath(filled(good)[0], good)
+    with open(f"{good}/journal", "rb") as file:
+        journal = file.read()
+    # a name that becomes another name isn't found
+    names = {at + i for at in range(len(journal)) if journal.startswith(NAME.encode(), at) for i in range(len(NAME))}
+    records = [at for record in first_records(journal) for at in record if at not in names]
+    chance, kinds = random.Random(OPTIONS.seed), {"named": 0, "none": 0}
+    for turn in range(60):
+        file, at = ("journal", chance.choice(records)) if turn % 4 else (body, chance.randrange(len(CONTENTS[-2])))
+        shutil.copytree(good, bad)
+        flipped(f"{bad}/{file}", at, bit := chance.randrange(8))
+        place = file, at, bit
+        with serving(bad) as server:
+            is_strict = server.first_line == REFUSED[0]
+        for pushed in ([], [b"more"]):
+            with serving_the_rest(bad) as server, server.client() as client:
+                lines = named_losses(server)
+                pulled = [pull(server, NAME, sha256(content)) for content in FILLED]
+                check("no wrong byte", all(map(lambda got, content: got in (content, 404), pulled, FILLED)), place)
+                check("what is lost is named", lines or pulled == FILLED, (place, pulled))
+                equal("whether it starts if it is to be strict", (place, is_strict), (place, bool(lines)))
+                equal("what was pushed behind it", [pull(server, NAME, sha256(content)) for content in pushed], pushed)
+                equal("a push", client.push(NAME, b"more")[-1], 201)
+        kinds["named" if lines else "none"] += 1
+        shutil.rmtree(bad)
+    check("some bits were a loss", kinds["named"] > 20, kinds)
 
 
 @case("cc")

@@ -29,6 +29,8 @@ ADDR is an IP address and a port, as 127.0.0.1:5000 or [::1]:5000.
 In the environment:
   BLOBD_DATA=DIR             serve keeps each change in the folder DIR before it answers, and
                              has all of it again when it starts; not set: it writes nothing.
+  BLOBD_STRICT=1             serve doesn't start with a damaged DIR; 0, or not set: it names what
+                             is lost, and serves the rest.
   BLOBD_WORKERS=N            serve has N workers (1 to 256), which serve a connection each;
                              not set: 2.
   BLOBD_LOG=1                serve writes a line for each request to standard error; 0, or

@@ -1,7 +1,7 @@
 //! `blobd serve`: what is listened at, and what stands behind it.
 ghost use Rattle.std.specs.Prelude.{◌≤◌};
 
-use blobd_data::{AnyBodies, Teller, open_data};
+use blobd_data::{AnyBodies, Damaged, Teller, open_data, tell_losses};
 use blobd_serve::{Terms, limits, run_serve, run_serve_kept};
 use blobd_shared::{FAULT, print_line};
 use journal_file::Wary;
@@ -69,15 +69,16 @@ where
 }
 
 /// Serves what comes to an address, by the service that is kept in the data directory at `path`; gives the exit status.
-/// The directory is locked and read first.
+/// The directory is locked and read first, and standard error says what of it is lost.
 ///
-/// `fault: data` is printed if it can't be, and standard error says why.
+/// `fault: data` is printed if it can't be, or is damaged and to be refused then, and standard error says why.
 pub fn listen_keeping<R>(
     rt: &R,
     host: &HostRuntime,
     addr: SocketAddr,
     terms: Terms,
     path: &str,
+    damaged: Damaged,
     seen: bool,
 ) -> u8
 where
@@ -93,6 +94,7 @@ where
         limits(),
         Wary,
         Teller { rt, path },
+        damaged,
     );
     let data = match opened {
         Ok(data) => data,
@@ -101,6 +103,7 @@ where
             return print_line(&mut out, "fault: data", FAULT);
         }
     };
+    tell_losses(rt, path, &data.losses);
     match bind(rt, addr, &mut out) {
         Ok(listener) => {
             print_stop(rt, Some(path), seen);

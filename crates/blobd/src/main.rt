@@ -24,6 +24,7 @@ use crate::once::run_once;
 use crate::size::is_slow;
 use crate::streams::hold_standard_streams;
 use crate::words::{Command, USAGE, read_switch, read_words, read_workers};
+use blobd_data::Damaged;
 use blobd_push::run_push;
 use blobd_serve::{Demand, Terms};
 use blobd_shared::{DONE, FAULT, print_line};
@@ -51,8 +52,23 @@ const DEMAND: Demand = Demand {
     least: 61_440,
 };
 
-/// The variable of the environment that is 1 if a server is to log its requests.
-const LOG: &str = "BLOBD_LOG";
+/// A variable of the environment that is a switch.
+#[derive(Clone, Copy)]
+struct Switch {
+    name: &'static str,
+    /// What it has a server do if it is 1.
+    on: &'static str,
+}
+
+const LOG: Switch = Switch {
+    name: "BLOBD_LOG",
+    on: "log requests",
+};
+
+const STRICT: Switch = Switch {
+    name: "BLOBD_STRICT",
+    on: "refuse a damaged folder",
+};
 
 /// The variable of the environment that says how many workers a server has.
 const WORKERS: &str = "BLOBD_WORKERS";
@@ -120,21 +136,22 @@ fn print_no_memory(rt: &HostRuntime) -> u8 {
 }
 
 /// Says what may stand in the variable, and gives the exit status.
-fn print_no_switch(rt: &HostRuntime) -> u8 {
-    let _ = eprintln!(rt; "blobd: {LOG} is 1 to log requests, or 0, or not set");
+fn print_no_switch(rt: &HostRuntime, switch: Switch) -> u8 {
+    let Switch { name, on } = switch;
+    let _ = eprintln!(rt; "blobd: {name} is 1 to {on}, or 0, or not set");
     NO_COMMAND
 }
 
-/// Whether a server is to log its requests: the environment says so. An error is the exit status if it says neither yes
-/// nor no, or out of memory.
-fn wants_log(rt: &HostRuntime) -> Result<bool, u8> {
-    match env::var(rt, LOG) {
+/// Whether the environment has a switch on. An error is the exit status if it says neither yes nor no, or out of
+/// memory.
+fn is_on(rt: &HostRuntime, switch: Switch) -> Result<bool, u8> {
+    match env::var(rt, switch.name) {
         Ok(value) => match read_switch(&value) {
             Some(is_on) => Ok(is_on),
-            None => Err(print_no_switch(rt)),
+            None => Err(print_no_switch(rt, switch)),
         },
         Err(VarError::NotPresent) => Ok(false),
-        Err(VarError::NotUnicode) => Err(print_no_switch(rt)),
+        Err(VarError::NotUnicode) => Err(print_no_switch(rt, switch)),
         Err(VarError::OutOfMemory) => Err(print_no_memory(rt)),
     }
 }
@@ -161,6 +178,15 @@ fn print_no_folder(rt: &HostRuntime) -> u8 {
     NO_COMMAND
 }
 
+/// What becomes of a damaged directory, as the environment says. An error is the exit status if it says what can't be
+/// read, or out of memory.
+fn damaged_of(rt: &HostRuntime) -> Result<Damaged, u8> {
+    if is_on(rt, STRICT)? {
+        return Ok(Damaged::Refused);
+    }
+    Ok(Damaged::Opened)
+}
+
 /// Where a server keeps what it has, if the environment says so. An error is the exit status if that is no path, or out
 /// of memory.
 fn data_of(rt: &HostRuntime) -> Result<Option<String>, u8> {
@@ -184,9 +210,13 @@ where
         Ok(terms) => terms,
         Err(status) => return status,
     };
+    let damaged = match damaged_of(host) {
+        Ok(damaged) => damaged,
+        Err(status) => return status,
+    };
     match data_of(host) {
         Ok(None) => listen(rt, addr, terms, seen),
-        Ok(Some(path)) => listen_keeping(rt, host, addr, terms, path.as_str(), seen),
+        Ok(Some(path)) => listen_keeping(rt, host, addr, terms, path.as_str(), damaged, seen),
         Err(status) => status,
     }
 }
@@ -197,7 +227,7 @@ fn terms_of(rt: &HostRuntime, count: Option<u64>) -> Result<Terms, u8>
     ensures { IfOk result (λ terms. 1 ≤ terms.workers) }
 {
     let workers = workers_of(rt)?;
-    let logged = wants_log(rt)?;
+    let logged = is_on(rt, LOG)?;
     Ok(Terms {
         workers,
         count: count.unwrap_or(ENDLESS),

@@ -2,7 +2,10 @@
 ghost use Rattle.std.specs.Prelude.{◌≡◌, ◌≤◌, None, true, [], IfOk};
 ghost use Rattle.upload_service.specs.Machine.{AreLawful};
 ghost use Rattle.upload_intake.specs.Safety.{Leads};
+ghost use Rattle.upload_store.specs.Store.{limits_of};
 ghost use Rattle.upload_keeping.specs.Kept.{start_of, kept_of, waiting_of, last_of};
+ghost use Rattle.blobd_data.specs.declared.open.Damaged.TheVariants.{Refused};
+ghost use Rattle.blobd_data.specs.Opened.{HasBegun};
 
 use crate::fault::DataFault;
 use crate::line::line_of;
@@ -13,9 +16,9 @@ use sqlite_disk::Disk;
 use std::fs;
 use std::io::ErrorKind;
 use upload_intake::KeptService;
-use upload_keeping::{KeepingHost, StoreKeeping, open};
+use upload_keeping::{KeepingHost, StoreKeeping, open, salvage};
 use upload_service::Limits;
-use upload_store::Store;
+use upload_store::{Losses, Store};
 
 /// The journal of a data directory, within it.
 const JOURNAL: &str = "journal";
@@ -40,6 +43,15 @@ type FolderStore<J, S, H> = Store<FileFrom<J>, FolderShelf<S, H>>;
 /// The same, locked and read.
 type FolderData<J, S, H, T> = Data<FileFrom<J>, FolderShelf<S, H>, T>;
 
+/// What becomes of a directory with records that can't be run again.
+#[derive(Clone, Copy, Debug)]
+pub enum Damaged {
+    /// It is refused.
+    Refused,
+    /// It is opened without them, and without what can't be done again behind them.
+    Opened,
+}
+
 /// A data directory that was locked and read.
 #[derive(Drop)]
 pub struct Data<D: Disk, S: Shelf, T> {
@@ -47,6 +59,8 @@ pub struct Data<D: Disk, S: Shelf, T> {
     pub lock: Folder,
     /// The service that what is kept there leads to, and where its changes are kept from now on.
     pub kept: KeptService<StoreKeeping<D, S, T>>,
+    /// The records that are lost.
+    pub losses: Losses,
 }
 
 /// Whether the folder of bodies isn't there.
@@ -92,6 +106,7 @@ fn store_in<J: Start, S: Start, H: Holds>(
 ) -> Result<FolderStore<J, S, H>, DataFault>
     requires lawful { AreLawful limits }
     requires empty { S.Start.db ≡ [] }
+    ensures { IfOk result (λ store. limits_of store ≡ limits) }
 {
     let file = open_journal(rt, folder, start)?;
     let shelf = match FolderShelf::open(rt, folder, BODIES) {
@@ -103,19 +118,21 @@ fn store_in<J: Start, S: Start, H: Holds>(
 }
 
 /// Opens the data directory at `path`, for a service with these limits. One that isn't there is made, with mode 0700.
-/// No other server can have it from then on. What its journal has is run again, so that the service is as it was. Which
-/// values stand for `J`, `S` and `H` says nothing: what holds of all of them holds of what is there.
+/// No other server can have it from then on. What its journal has is run again, so that the service is as it was, but for
+/// what is lost of a directory that is damaged, if `damaged` has it opened all the same. Which values stand for `J`, `S`
+/// and `H` says nothing: what holds of all of them holds of what is there.
 ///
 /// `Folder`, `Journal` and `Bodies` say what can't be opened or made. `NoBodies`: there is a journal, and no folder of
-/// bodies. `Store`: the journal has another format, another version or other limits, a record of it is refused, or it
-/// can't be read. Behind an error no body and no record of the directory is changed, and no more than the end of the
-/// journal is written, which a crash may have left.
+/// bodies. `Store`: the journal has another format, another version or other limits, it can't be read, there is no memory
+/// for a record, or one can't be run again and `damaged` has the directory refused for it. Behind an error no body and no
+/// record of the directory is changed, and no more than the end of the journal is written, which a crash may have left.
 pub fn open_data<J: Start, S: Start, H: Holds, T: KeepingHost + Drop>(
     rt: &HostRuntime,
     path: &str,
     limits: Limits,
     start: J,
     host: T,
+    damaged: Damaged,
 ) -> Result<FolderData<J, S, H, T>, DataFault>
     requires lawful { AreLawful limits }
     requires empty { S.Start.db ≡ [] }
@@ -123,14 +140,32 @@ pub fn open_data<J: Start, S: Start, H: Holds, T: KeepingHost + Drop>(
         (kept_of opened.kept.keeping) opened.kept.since opened.kept.service) }
     ensures waiting { IfOk result (λ opened. waiting_of opened.kept.keeping ≡ []) }
     ensures begun { IfOk result (λ opened. opened.kept.since ≤ last_of opened.kept.keeping) }
+    // What it begins with: what the records come to of which none is said to be lost.
+    ensures recovered { IfOk result (λ opened. HasBegun limits opened.kept.keeping
+        opened.kept.service opened.kept.since opened.losses) }
+    ensures strict { damaged ≡ Refused → IfOk result (λ opened. opened.losses.count ≡ 0) }
 {
     let lock = match Folder::open(rt, path) {
         Ok(lock) => lock,
         Err(fault) => return Err(DataFault::Folder(fault)),
     };
     let store = store_in(rt, &lock, limits, start)?;
-    match open(rt.alloc(), store, host) {
-        Ok(kept) => Ok(Data { lock, kept }),
-        Err(fault) => Err(DataFault::Store(fault)),
+    match damaged {
+        Damaged::Refused => match open(rt.alloc(), store, host) {
+            Ok(kept) => Ok(Data {
+                lock,
+                kept,
+                losses: Losses::none(rt.alloc()),
+            }),
+            Err(fault) => Err(DataFault::Store(fault)),
+        },
+        Damaged::Opened => match salvage(rt.alloc(), store, host) {
+            Ok(salvaged) => Ok(Data {
+                lock,
+                kept: salvaged.kept,
+                losses: salvaged.losses,
+            }),
+            Err(fault) => Err(DataFault::Store(fault)),
+        },
     }
 }

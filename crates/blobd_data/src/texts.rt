@@ -15,8 +15,16 @@ pub(crate) struct KeepText<'a>(pub(crate) &'a KeepFault);
 #[derive(Drop)]
 struct JournalText<'a>(&'a journal::Error);
 
+/// What is told of a record that can't be run again.
 #[derive(Drop)]
-struct RecordText(ReplayFault);
+pub(crate) struct RecordText {
+    pub(crate) time: u64,
+    pub(crate) place: u64,
+    pub(crate) fault: ReplayFault,
+}
+
+#[derive(Drop)]
+struct ReplayText(ReplayFault);
 
 impl<'a> fmt::Display for KeepText<'a> {
     fn fmt<W: fmt::Write>(&self, f: &mut fmt::Formatter<W>) -> fmt::Result {
@@ -34,11 +42,14 @@ impl<'a> fmt::Display for StoreText<'a> {
             StoreFault::Journal(error) => write!(f, "journal: {}", JournalText(error)),
             StoreFault::Body(fault) => write!(f, "bodies: {fault}"),
             StoreFault::NumbersUsedUp => f.write_str("bodies: no number is left for another one"),
-            StoreFault::Record(RefusedRecord { time, place, fault }) => write!(
-                f,
-                "journal: record {place}, written {time} seconds after 1970, can't be run again: {}",
-                RecordText(*fault)
-            ),
+            StoreFault::Record(RefusedRecord { time, place, fault }) => {
+                let record = RecordText {
+                    time: *time,
+                    place: *place,
+                    fault: *fault,
+                };
+                write!(f, "{record}")
+            }
         }
     }
 }
@@ -61,6 +72,18 @@ impl<'a> fmt::Display for JournalText<'a> {
 }
 
 impl fmt::Display for RecordText {
+    fn fmt<W: fmt::Write>(&self, f: &mut fmt::Formatter<W>) -> fmt::Result {
+        write!(
+            f,
+            "journal: record {}, written {} seconds after 1970, can't be run again: {}",
+            self.place,
+            self.time,
+            ReplayText(self.fault)
+        )
+    }
+}
+
+impl fmt::Display for ReplayText {
     fn fmt<W: fmt::Write>(&self, f: &mut fmt::Formatter<W>) -> fmt::Result {
         match self.0 {
             ReplayFault::NoMemory => f.write_str("no memory for it"),

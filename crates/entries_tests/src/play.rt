@@ -122,7 +122,8 @@ impl Play {
     fn put_file(&mut self, files: &mut Vec<BodyFile>, part: &[u8]) -> Result<(), AllocError> {
         let number = self.shelf.put(self.alloc, part)?;
         let len = part.len() as u64;
-        files.push(BodyFile { number, len })
+        files.push(BodyFile { number, len })?;
+        Ok(())
     }
 
     /// The files of a body: none, one or two.

@@ -15,8 +15,8 @@ use upload_keeping::{KeepFault, KeepingHost, open};
 
 /// Counts the faults that it is told of. Its day has stopped.
 #[derive(Drop)]
-struct Host {
-    faults: u64,
+pub struct Host {
+    pub faults: u64,
 }
 
 impl KeepingHost for Host {

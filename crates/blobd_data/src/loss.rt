@@ -1,0 +1,91 @@
+//! What is told of the records that are lost.
+use crate::texts::RecordText;
+use std::fmt;
+use std::io::Eprint;
+use upload_journal::{Entry, KeptAsk, KeptExchange, Told};
+use upload_store::{Loss, Losses};
+
+/// What is told of a record that is lost: why, and what goes with it.
+#[derive(Drop)]
+struct LossText<'a>(&'a Loss);
+
+/// What an entry stands for. An upload is named by its number, since whoever has its reference can go on with it.
+#[derive(Drop)]
+struct EntryText<'a>(&'a Entry);
+
+#[derive(Drop)]
+struct ExchangeText<'a>(&'a KeptExchange);
+
+impl<'a> fmt::Display for LossText<'a> {
+    fn fmt<W: fmt::Write>(&self, f: &mut fmt::Formatter<W>) -> fmt::Result {
+        let loss = self.0;
+        let record = RecordText {
+            time: loss.time,
+            place: loss.place,
+            fault: loss.fault,
+        };
+        write!(f, "{record}")?;
+        match &loss.entry {
+            Some(entry) => write!(f, "; lost: {}", EntryText(entry)),
+            None => Ok(()),
+        }
+    }
+}
+
+impl<'a> fmt::Display for EntryText<'a> {
+    fn fmt<W: fmt::Write>(&self, f: &mut fmt::Formatter<W>) -> fmt::Result {
+        match self.0 {
+            Entry::Exchange(exchange) => write!(f, "{}", ExchangeText(exchange)),
+            Entry::NumbersUpTo(number) => write!(f, "that the uploads up to {number} were"),
+            Entry::MomentsUpTo(moment) => write!(f, "that the moment {moment} may have been"),
+        }
+    }
+}
+
+/// The repository that a request is sent to.
+fn name_of(ask: &KeptAsk) -> &str {
+    match ask {
+        KeptAsk::Opening { name } => name.as_str(),
+        KeptAsk::Single { name, .. } => name.as_str(),
+        KeptAsk::Mount { name, .. } => name.as_str(),
+        KeptAsk::Chunk { name, .. } => name.as_str(),
+        KeptAsk::Close { name, .. } => name.as_str(),
+    }
+}
+
+/// The number of the upload that a request is sent to, or 0.
+fn upload_of(ask: &KeptAsk) -> u32 {
+    match ask {
+        KeptAsk::Chunk { at, .. } => at.number(),
+        KeptAsk::Close { at, .. } => at.number(),
+        _ => 0,
+    }
+}
+
+impl<'a> fmt::Display for ExchangeText<'a> {
+    fn fmt<W: fmt::Write>(&self, f: &mut fmt::Formatter<W>) -> fmt::Result {
+        let exchange = self.0;
+        let name = name_of(&exchange.ask);
+        match exchange.answer {
+            Told::Begun(at) => write!(f, "upload {} of {name}", at.number()),
+            Told::Taken(next) => write!(
+                f,
+                "upload {} of {name}, up to byte {next}",
+                upload_of(&exchange.ask)
+            ),
+            Told::Stored(digest) => write!(f, "blob {digest} of {name}"),
+        }
+    }
+}
+
+/// Tells on standard error what of the directory at `path` is lost, a line for each record that is listed, and how many
+/// more there are.
+pub fn tell_losses<R: Eprint>(rt: &R, path: &str, losses: &Losses) {
+    for loss in losses.listed.iter() {
+        let _ = eprintln!(rt; "blobd: damage in {path}: {}", LossText(loss));
+    }
+    let more = losses.count.saturating_sub(losses.listed.len() as u64);
+    if more > 0 {
+        let _ = eprintln!(rt; "blobd: damage in {path}: {more} more records are lost");
+    }
+}
