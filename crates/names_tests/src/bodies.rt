@@ -7,7 +7,7 @@ use std::test::Fail;
 use std::thread::Threads;
 use test_support::content_of;
 use upload_bytes::{Body, BodyBuilder, HashPlace, InPlace, InThreads};
-use upload_names::{Algorithm, BlobDigest, Bytes};
+use upload_names::{Algorithm, BlobDigest};
 
 /// By what a body may be hashed as it comes.
 static HASHES: [Option<Algorithm>; 3] = [None, Some(Algorithm::Sha256), Some(Algorithm::Sha512)];
@@ -34,6 +34,14 @@ fn extend<P: HashPlace>(body: &mut BodyBuilder, place: &P, piece: &[u8]) -> Resu
     match body.extend(place, piece) {
         Err(AllocError) => body.extend(place, piece),
         Ok(()) => Ok(()),
+    }
+}
+
+/// A copy of a text. One growth may be refused.
+fn copy_of(alloc: Global, text: &[u8]) -> Result<Vec<u8>, AllocError> {
+    match Vec::from_slice(alloc, text) {
+        Err(AllocError) => Vec::from_slice(alloc, text),
+        Ok(copy) => Ok(copy),
     }
 }
 
@@ -76,12 +84,12 @@ fn check_pieces(
     let body = body_of(alloc, hashed, pieces)?;
     assert!(rt; carries(&body, hashed), "{hashed:?}");
     assert!(rt; is_content(&body, content, digests), "{pieces:?}");
-    let text = Bytes::of(body.into_pieces().last);
+    let text = body.into_pieces().last;
     assert!(rt;
         text.as_slice() == content && text.len() == content.len(),
         "{pieces:?}"
     );
-    let again = Body::of(alloc, text.into_vec());
+    let again = Body::of(alloc, copy_of(alloc, text.as_slice())?);
     assert!(rt;
         carries(&again, None) && is_content(&again, content, digests),
         "{pieces:?}"

@@ -13,4 +13,6 @@ mod ranges;
 #[cfg(test)]
 mod references;
 #[cfg(test)]
+mod rooms;
+#[cfg(test)]
 mod texts;

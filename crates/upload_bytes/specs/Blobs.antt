@@ -18,6 +18,6 @@ before_in (shapes.Several several) = whole (box_value several).before
 
 -- the bytes of the last body
 abbrev pub last_in : Shape → List ℕ
-last_in (shapes.Small bytes) = bytes.items
+last_in (shapes.Small bytes) = bytes
 last_in (shapes.One last) = last
 last_in (shapes.Several several) = body_in (box_value several)

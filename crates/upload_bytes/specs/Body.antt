@@ -9,7 +9,7 @@ use Rattle.upload_bytes.specs.Fronts.{HoldsBehind}
 
 -- their bytes: those of the parts, and what came behind them
 abbrev pub bytes_in : Pieces → List ℕ
-bytes_in pieces = concat pieces.parts.items ++ pieces.last.items
+bytes_in pieces = concat pieces.parts.items ++ pieces.last
 
 -- The hashes that a body carries, and its length, are those of its bytes.
 pub record IsBody (running : Option Running) (hashed : Option Behind) (len : ℕ) (bytes : List ℕ) : Type 0 where

@@ -1,3 +1,4 @@
+pub mod Room
 pub mod Running
 pub mod Hashing
 pub mod Fronts

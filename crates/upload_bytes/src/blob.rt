@@ -4,8 +4,10 @@ ghost use Rattle.upload_bytes.specs.Segments.{whole};
 ghost use Rattle.upload_bytes.specs.Blobs.{body_in};
 
 use crate::body::{Body, Pieces};
+use crate::granted::Granted;
 use crate::part::{Part, share_into};
 use crate::received::Received;
+use crate::room::Grant;
 use crate::segments::{Segments, size_of};
 use crate::shared::BlobBytes;
 use std::alloc::{AllocError, Global};
@@ -51,7 +53,7 @@ impl Several {
 /// What a blob is kept in.
 #[derive(Drop)]
 pub enum Shape {
-    Small(Vec<u8>),
+    Small(Granted),
     One(Part),
     Several(Box<Several>),
 }
@@ -84,7 +86,7 @@ impl Blob {
         ensures { result ≡ [] }
     {
         Blob {
-            shape: Shape::Small(Vec::new(alloc)),
+            shape: Shape::Small(Granted::none(alloc, Grant::unlimited())),
         }
     }
 
@@ -122,7 +124,7 @@ impl Blob {
         ensures { result ≡ part }
     {
         let size = part.as_slice().len();
-        let mut bytes = Vec::new(alloc);
+        let mut bytes = Granted::none(alloc, Grant::unlimited());
         if size <= SMALL_SIZE && part.trade(&mut bytes) {
             return Blob {
                 shape: Shape::Small(bytes),
@@ -224,7 +226,8 @@ fn share_parts(alloc: Global, several: &Several) -> Result<BlobBytes, AllocError
     let count = settled.len().saturating_add(behind.len()).saturating_add(2);
     let mut parts = Vec::with_capacity(alloc, count)?;
     share_into(&mut parts, settled)?;
-    let Ok(tail) = Part::of(alloc, Vec::from_slice(alloc, several.before.tail())?) else {
+    let tail = Vec::from_slice(alloc, several.before.tail())?;
+    let Ok(tail) = Part::of(alloc, Granted::unlimited(tail)) else {
         return Err(AllocError);
     };
     parts.push(tail)?;

@@ -1,5 +1,5 @@
 //! Bodies of requests, in the parts that they were read in, and what a body is read into.
-ghost use Rattle.std.specs.Prelude.{◌≡◌, ◌++◌, List, ℕ, length, Some, None, IfOk, IfSome, [], OnOk, OnErr};
+ghost use Rattle.std.specs.Prelude.{◌≡◌, ◌++◌, List, ℕ, length, Some, None, IfOk, IfErr, IfSome, [], OnOk, OnErr};
 ghost use Rattle.sha2.specs.Hashers.{Holds256, Holds512};
 ghost use Rattle.upload_names.specs.Digest.{content_digest};
 ghost use Rattle.upload_bytes.specs.Body.{bytes_in, IsBody};
@@ -9,9 +9,11 @@ ghost use Rattle.upload_bytes.specs.Prefixes.{HoldsIfAny};
 ghost use Rattle.upload_bytes.specs.Segments.{whole};
 
 use crate::front::Front;
+use crate::granted::Granted;
 use crate::hashing::{HashPlace, Running};
 use crate::part::{Part, share_all, take_in};
 use crate::prefix_hash::PrefixHash;
+use crate::room::{Grant, Room};
 use crate::segments::Segments;
 use sha2::{Digest, Sha256, Sha512};
 use std::alloc::{AllocError, Global};
@@ -23,7 +25,7 @@ use upload_names::{Algorithm, BlobDigest};
 #[derive(Drop)]
 pub struct Pieces {
     pub parts: Vec<Part>,
-    pub last: Vec<u8>,
+    pub last: Granted,
 }
 
 /// A hash that holds what an upload had received, and the bytes of a body behind it.
@@ -65,7 +67,7 @@ impl Body {
         let len = bytes.len();
         let pieces = Pieces {
             parts: Vec::new(alloc),
-            last: bytes,
+            last: Granted::unlimited(bytes),
         };
         Body {
             pieces,
@@ -173,6 +175,11 @@ impl Body {
         }
     }
 
+    /// Where its parts are listed, for who shares it.
+    pub fn alloc(&self) -> Global {
+        *self.pieces.parts.allocator()
+    }
+
     /// The same bytes once more, with no hash. The parts are shared, and only what came behind them is copied: less than
     /// 4 MiB of what a `BodyBuilder` made, and all of what `of` did.
     pub fn share(&self, alloc: Global) -> Result<Body, AllocError>
@@ -181,7 +188,32 @@ impl Body {
         let parts = share_all(alloc, self.pieces.parts.as_slice())?;
         let mut last = Vec::with_capacity(alloc, self.pieces.last.len())?;
         last.extend_from_slice(self.pieces.last.as_slice())?;
+        let last = Granted::unlimited(last);
         Ok(Body::carrying(Pieces { parts, last }, self.len, None))
+    }
+
+    /// The same bytes, of which this room counts what is in none yet. None says that it has no room for that.
+    pub fn within(self, room: &Room) -> Option<Body>
+        ensures { IfSome result (λ body. body ≡ self) }
+    {
+        if self.pieces.last.is_limited() {
+            return Some(self);
+        }
+        let Body {
+            pieces: Pieces { parts, last },
+            len,
+            running,
+            behind,
+        } = self;
+        // It covers such parts too, with which the last piece goes.
+        let uncounted = uncounted_of(parts.as_slice()).saturating_add(last.len() as u64);
+        let last = last.under(room.grant(uncounted)?);
+        Some(Body {
+            pieces: Pieces { parts, last },
+            len,
+            running,
+            behind,
+        })
     }
 
     /// Its pieces, which are moved and not copied.
@@ -191,6 +223,17 @@ impl Body {
         let Body { pieces, .. } = self;
         pieces
     }
+}
+
+/// How many bytes of these parts no room counts.
+fn uncounted_of(parts: &[Part]) -> u64 {
+    let mut size: u64 = 0;
+    for part in parts {
+        if !part.is_limited() {
+            size = size.saturating_add(part.as_slice().len() as u64);
+        }
+    }
+    size
 }
 
 /// A SHA-256 that holds a body: the one that it carries, or a new one.
@@ -227,10 +270,12 @@ const PART_SIZE: usize = 4_194_240;
 pub struct BodyBuilder {
     alloc: Global,
     parts: Vec<Part>,
-    last: Vec<u8>,
+    last: Granted,
     /// How many bytes there are in all.
     size: usize,
     hash: Option<PrefixHash>,
+    /// What its whole parts are granted of, if there is a limit.
+    room: Option<Room>,
 }
 
 impl Model for BodyBuilder {
@@ -241,14 +286,29 @@ impl Model for BodyBuilder {
 
     ghost use Rattle.upload_bytes.specs.Prefixes.{IsBuilt};
 
-    ghost view = { λ a. concat a.parts.items ++ a.last.items };
+    ghost view = { λ a. concat a.parts.items ++ a.last };
 
-    ghost invariant = { λ a. IsBuilt a.hash a.size a.parts.items a.last.items };
+    ghost invariant = { λ a. IsBuilt a.hash a.size a.parts.items a.last };
 }
 
 impl BodyBuilder {
     /// No bytes. What they are extended by is hashed as it comes, if that is asked for. It takes no memory.
     pub fn new(alloc: Global, hashed: Option<Algorithm>) -> BodyBuilder
+        ensures { result ≡ [] }
+    {
+        BodyBuilder::in_room(alloc, hashed, None)
+    }
+
+    /// The same, each part of which is granted as it has come whole: one that finds no room there is an `Err` of `extend`.
+    /// What comes behind the last whole part, less than 4 MiB, isn't granted: so a small body comes whole, and whoever
+    /// takes it asks for its room (`Body::within`).
+    pub fn within(alloc: Global, hashed: Option<Algorithm>, room: Room) -> BodyBuilder
+        ensures { result ≡ [] }
+    {
+        BodyBuilder::in_room(alloc, hashed, Some(room))
+    }
+
+    fn in_room(alloc: Global, hashed: Option<Algorithm>, room: Option<Room>) -> BodyBuilder
         ensures { result ≡ [] }
     {
         let hash = match hashed {
@@ -258,9 +318,10 @@ impl BodyBuilder {
         BodyBuilder {
             alloc,
             parts: Vec::new(alloc),
-            last: Vec::new(alloc),
+            last: Granted::none(alloc, Grant::unlimited()),
             size: 0,
             hash,
+            room,
         }
     }
 
@@ -286,7 +347,7 @@ impl BodyBuilder {
             self.roll_over(len, front, rest)?;
             self.catch_up(place);
         } else {
-            self.last.extend_from_slice(piece)?;
+            self.last.extend(piece)?;
             self.size = len;
         }
         Ok(())
@@ -299,15 +360,16 @@ impl BodyBuilder {
         ensures ok { OnOk result (self.new ≡ self.old ++ front.now ++ rest.now) }
         ensures err { OnErr result (self.new ≡ self.old) }
     {
-        let mut next = Vec::new(self.alloc);
+        let mut next = Granted::none(self.alloc, Grant::unlimited());
         // What follows is likely to fill a part too, and then needn't be moved as it grows.
         let _ = next.reserve(PART_SIZE);
-        next.extend_from_slice(rest)?;
+        next.extend(rest)?;
         self.parts.reserve(1)?;
         let before = self.last.len();
-        self.last.extend_from_slice(front)?;
-        self.last.shrink_to_fit();
-        match Part::of(self.alloc, mem::replace(&mut self.last, next)) {
+        self.last.extend(front)?;
+        self.last.shrink();
+        let whole = mem::replace(&mut self.last, next);
+        match part_of(self.alloc, &self.room, whole) {
             Ok(part) => {
                 let Ok(()) = self.parts.push(part) else {
                     unreachable!();
@@ -346,9 +408,23 @@ impl BodyBuilder {
             ..
         } = self;
         parts.shrink_to_fit();
-        last.shrink_to_fit();
+        last.shrink();
         let running = hash_of_all(place, hash, parts.as_slice(), last.as_slice());
         Body::carrying(Pieces { parts, last }, size, running)
+    }
+}
+
+/// A part of these bytes, granted of a room if there is one. An `Err` gives the bytes back.
+fn part_of(alloc: Global, room: &Option<Room>, bytes: Granted) -> Result<Part, Granted>
+    ensures ok { IfOk result (λ part. part ≡ bytes) }
+    ensures err { IfErr result (λ back. back ≡ bytes) }
+{
+    let Some(room) = room else {
+        return Part::of(alloc, bytes);
+    };
+    match room.grant(bytes.len() as u64) {
+        Some(grant) => Part::of(alloc, bytes.under(grant)),
+        None => Err(bytes),
     }
 }
 

@@ -5,9 +5,9 @@ ghost use Rattle.upload_names.specs.declared.digest.Algorithm.{Algorithm as By};
 ghost use Rattle.upload_bytes.specs.Running.{HoldsBy};
 ghost use Rattle.upload_bytes.specs.Hashing.{StandsBy};
 
-use crate::hash_end::HashEnd;
 use crate::part::{Part, share_all, take_in};
 use crate::segments::size_of;
+use crate::thread_end::ThreadEnd;
 use sha2::{Digest, Sha256, Sha512};
 use std::alloc::{AllocError, Global};
 use std::snapshot::Snapshot;
@@ -111,7 +111,7 @@ impl Promise<Running> for Behind {
 #[derive(Drop)]
 pub struct Away {
     pub thread: PromisedHandle<Running, Behind>,
-    end: HashEnd,
+    end: ThreadEnd,
 }
 
 /// A hash that takes parts in, here or in a thread of its own.
@@ -131,7 +131,7 @@ impl Hashing {
     }
 
     /// The end of the thread that is still hashing, if one is.
-    pub fn end(&self) -> Option<HashEnd> {
+    pub fn end(&self) -> Option<ThreadEnd> {
         match self {
             Hashing::Away(away) if !away.end.is_over() => away.end.share().ok(),
             _ => None,
@@ -217,14 +217,14 @@ fn hash_beside<R: Threads>(rt: &R, alloc: Global, hash: Running, parts: Vec<Part
 }
 
 /// The end of a thread, for who waits for it and for the thread.
-fn ends(alloc: Global) -> Result<(HashEnd, HashEnd), AllocError> {
-    let end = HashEnd::new(alloc)?;
+fn ends(alloc: Global) -> Result<(ThreadEnd, ThreadEnd), AllocError> {
+    let end = ThreadEnd::new(alloc)?;
     let told = end.share()?;
     Ok((end, told))
 }
 
 /// What the thread does. Its shares of the parts are let go.
-fn hash_there(hash: Running, parts: Vec<Part>, end: HashEnd) -> Running
+fn hash_there(hash: Running, parts: Vec<Part>, end: ThreadEnd) -> Running
     ensures { (by : By) (before : List ℕ) → HoldsBy by hash before
         → HoldsBy by result (before ++ concat parts.items) }
 {

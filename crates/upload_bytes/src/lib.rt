@@ -1,28 +1,35 @@
 //! The bytes of bodies, of open uploads and of stored blobs, and their hashes.
 //!
 //! A body (`body`) is read into parts (`part`), which have several owners and are never copied, and is hashed as it
-//! comes (`hashing`), in place or in a thread, for whose end others may wait (`hash_end`). What an upload received
+//! comes (`hashing`), in place or in a thread, for whose end others may wait (`thread_end`). What an upload received
 //! (`received`) are the parts of its bodies, one after another (`segments`), with hashes that catch up with them
 //! (`prefix_hash`). A body may be hashed behind that (`front`). A blob (`blob`) is kept in the parts that it arrived in,
-//! and is handed out in them (`shared`).
+//! and is handed out in them (`shared`). What there is no room for is let go as it comes (`gone`).
 #![tactic(auto)]
 
 mod blob;
 mod body;
 mod front;
-mod hash_end;
+mod gone;
+mod granted;
 mod hashing;
 mod part;
 mod prefix_hash;
 mod received;
+mod room;
+mod same;
 mod segments;
 mod shared;
+mod thread_end;
 
 pub use blob::{Blob, Several};
 pub use body::{Body, BodyBuilder, Pieces};
 pub use front::Front;
-pub use hash_end::HashEnd;
+pub use gone::Gone;
+pub use granted::Granted;
 pub use hashing::{HashPlace, InPlace, InThreads};
 pub use part::Part;
 pub use received::Received;
+pub use room::{Grant, Room};
 pub use shared::BlobBytes;
+pub use thread_end::ThreadEnd;

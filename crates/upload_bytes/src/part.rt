@@ -2,6 +2,7 @@
 ghost use Rattle.std.specs.Prelude.{◌≡◌, ◌++◌, List, ℕ, IsTrue, IsFalse, IfOk, IfErr, OnOk};
 ghost use Rattle.std.specs.List.{concat};
 
+use crate::granted::Granted;
 use sha2::Digest;
 use std::alloc::{AllocError, Global};
 use std::marker::Model;
@@ -11,7 +12,7 @@ use std::sync::Arc;
 /// A part of a body or of a blob, seen as its bytes. Its owners share one memory, which goes with the last of them.
 #[derive(Drop)]
 pub struct Part {
-    bytes: Arc<Vec<u8>, Global>,
+    bytes: Arc<Granted, Global>,
 }
 
 impl Model for Part {
@@ -20,14 +21,14 @@ impl Model for Part {
 
     ghost Value = { List ℕ };
 
-    ghost view = { λ a. (arc_value a.bytes).items };
+    ghost view = { λ a. arc_value a.bytes };
 }
 
 impl Part {
-    /// The bytes of a vector, which is moved and not copied. An `Err` gives the vector back.
-    pub fn of(alloc: Global, bytes: Vec<u8>) -> Result<Part, Vec<u8>>
-        ensures ok { IfOk result (λ part. part ≡ bytes.items) }
-        ensures err { IfErr result (λ back. back.items ≡ bytes.items) }
+    /// These bytes, which are moved and not copied. An `Err` gives them back.
+    pub fn of(alloc: Global, bytes: Granted) -> Result<Part, Granted>
+        ensures ok { IfOk result (λ part. part ≡ bytes) }
+        ensures err { IfErr result (λ back. back ≡ bytes) }
     {
         match Arc::new(alloc, bytes) {
             Ok(bytes) => Ok(Part { bytes }),
@@ -36,11 +37,9 @@ impl Part {
     }
 
     /// Trades the bytes for others, if they have one owner. Says whether it did; if not, nothing changes.
-    pub fn trade(&mut self, bytes: &mut Vec<u8>) -> bool
-        ensures traded { IsTrue result
-            → (self.new ≡ bytes.old.items) × (bytes.new.items ≡ self.old) }
-        ensures kept { IsFalse result
-            → (self.new ≡ self.old) × (bytes.new.items ≡ bytes.old.items) }
+    pub fn trade(&mut self, bytes: &mut Granted) -> bool
+        ensures traded { IsTrue result → (self.new ≡ bytes.old) × (bytes.new ≡ self.old) }
+        ensures kept { IsFalse result → (self.new ≡ self.old) × (bytes.new ≡ bytes.old) }
     {
         match Arc::get_mut(&mut self.bytes) {
             Some(held) => {
@@ -58,6 +57,11 @@ impl Part {
     {
         let bytes = Arc::try_clone(&self.bytes)?;
         Ok(Part { bytes })
+    }
+
+    /// Whether a room counts them.
+    pub(crate) fn is_limited(&self) -> bool {
+        self.bytes.is_limited()
     }
 
     /// The bytes, in place.

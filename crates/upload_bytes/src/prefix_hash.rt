@@ -5,9 +5,9 @@ ghost use Rattle.upload_bytes.specs.Running.{HoldsBy};
 ghost use Rattle.std.specs.List.{concat};
 ghost use Rattle.upload_bytes.specs.Prefixes.{HoldsPrefix};
 
-use crate::hash_end::HashEnd;
 use crate::hashing::{HashPlace, Hashing, Running};
 use crate::part::Part;
+use crate::thread_end::ThreadEnd;
 use std::alloc::Global;
 use std::mem;
 use upload_names::Algorithm;
@@ -49,7 +49,7 @@ impl PrefixHash {
         place: &P,
         alloc: Global,
         settled: &[Part],
-    ) -> Option<HashEnd>
+    ) -> Option<ThreadEnd>
         requires { self.old.held ≤ length settled.now }
         ensures { (by : By) → HoldsPrefix by settled.now self.old
             → HoldsPrefix by settled.now self.new }
@@ -63,7 +63,7 @@ impl PrefixHash {
 
     /// Has the hash back from a thread that has ended, if it can be joined at this place. Nobody waits. Gives the end
     /// of the thread that is at work, if one is.
-    pub fn take_back<P: HashPlace>(&mut self, place: &P) -> Option<HashEnd>
+    pub fn take_back<P: HashPlace>(&mut self, place: &P) -> Option<ThreadEnd>
         ensures { (by : By) (settled : List (List ℕ)) → HoldsPrefix by settled self.old
             → HoldsPrefix by settled self.new }
     {

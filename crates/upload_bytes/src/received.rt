@@ -1,5 +1,5 @@
 //! What a session received, with its running hashes.
-ghost use Rattle.std.specs.Prelude.{◌≡◌, ◌↔◌, ◌+◌, ◌<◌, ◌^◌, ◌++◌, [], length, IsTrue, IfSome, OnOk, OnErr};
+ghost use Rattle.std.specs.Prelude.{◌≡◌, ◌↔◌, ◌+◌, ◌<◌, ◌^◌, ◌++◌, [], length, IsTrue, IfOk, IfSome, OnOk, OnErr};
 ghost use Rattle.sha2.specs.Sha256.{sha256};
 ghost use Rattle.sha2.specs.Sha512.{sha512};
 ghost use Rattle.upload_names.specs.Digest.{HasDigest};
@@ -8,11 +8,13 @@ ghost use Rattle.upload_bytes.specs.Segments.{whole};
 
 use crate::body::Body;
 use crate::front::Front;
-use crate::hash_end::HashEnd;
+use crate::granted::Granted;
 use crate::hashing::{HashPlace, Running};
-use crate::part::share_all;
+use crate::part::{Part, share_all, share_into};
 use crate::prefix_hash::PrefixHash;
 use crate::segments::Segments;
+use crate::shared::BlobBytes;
+use crate::thread_end::ThreadEnd;
 use sha2::Digest;
 use std::alloc::{AllocError, Global};
 use std::marker::Model;
@@ -90,7 +92,7 @@ impl Received {
         place: &P,
         alloc: Global,
         algorithm: Algorithm,
-    ) -> Option<HashEnd>
+    ) -> Option<ThreadEnd>
         ensures { self.new ≡ self.old }
     {
         let settled = self.segments.settled();
@@ -103,7 +105,7 @@ impl Received {
     /// Has the hash by an algorithm back from a thread that has ended, whose stack goes with that, if the thread can be
     /// joined at this place. Nobody waits, and nothing that is seen changes. Gives the end of the thread that is at
     /// work, if one is.
-    pub fn take_back<P: HashPlace>(&mut self, place: &P, algorithm: Algorithm) -> Option<HashEnd>
+    pub fn take_back<P: HashPlace>(&mut self, place: &P, algorithm: Algorithm) -> Option<ThreadEnd>
         ensures { self.new ≡ self.old }
     {
         match algorithm {
@@ -193,6 +195,21 @@ impl Received {
             Running::Sha512(hash) => finish(hash, &self.segments, body),
             Running::Sha256(_) => unreachable!(),
         }
+    }
+
+    /// Its bytes, in the parts that it has, which are shared and not copied. The last segment, which is small, is a copy.
+    pub fn share(&self, alloc: Global) -> Result<BlobBytes, AllocError>
+        ensures { IfOk result (λ bytes. bytes ≡ self.now) }
+    {
+        let settled = self.segments.settled();
+        let mut parts = Vec::with_capacity(alloc, settled.len().saturating_add(1))?;
+        share_into(&mut parts, settled)?;
+        let tail = Vec::from_slice(alloc, self.segments.tail())?;
+        let Ok(tail) = Part::of(alloc, Granted::unlimited(tail)) else {
+            return Err(AllocError);
+        };
+        parts.push(tail)?;
+        Ok(BlobBytes::of_parts(parts))
     }
 
     /// The segments alone.

@@ -7,7 +7,9 @@ ghost use Rattle.upload_bytes.specs.Body.{bytes_in};
 ghost use Rattle.upload_bytes.specs.Segments.{with_part, whole};
 
 use crate::body::{Body, Pieces};
+use crate::granted::Granted;
 use crate::part::Part;
+use crate::room::Grant;
 use std::alloc::{AllocError, Global};
 use std::marker::Model;
 use std::mem;
@@ -22,7 +24,7 @@ pub struct Segments {
     /// The segments that stay as they are.
     settled: Vec<Part>,
     /// The last segment, which small bodies are joined to. It is empty if there is none.
-    tail: Vec<u8>,
+    tail: Granted,
     /// How many bytes there are in all.
     total: u64,
 }
@@ -33,10 +35,10 @@ impl Model for Segments {
 
     ghost Value = { Parts };
 
-    ghost view = { λ a. record { settled = a.settled.items; tail = a.tail.items } };
+    ghost view = { λ a. record { settled = a.settled.items; tail = a.tail } };
 
     ghost invariant = { λ a.
-        a.total ≡ length (whole (record { settled = a.settled.items; tail = a.tail.items })) };
+        a.total ≡ length (whole (record { settled = a.settled.items; tail = a.tail })) };
 }
 
 impl Segments {
@@ -47,7 +49,7 @@ impl Segments {
         Segments {
             alloc,
             settled: Vec::new(alloc),
-            tail: Vec::new(alloc),
+            tail: Granted::none(alloc, Grant::unlimited()),
             total: 0,
         }
     }
@@ -90,7 +92,7 @@ impl Segments {
         ensures { self.new ≡ self.old }
     {
         self.settled.shrink_to_fit();
-        self.tail.shrink_to_fit();
+        self.tail.shrink();
     }
 
     /// Puts a body behind the others. An empty one adds no segment. An `Err` changes nothing.
@@ -105,7 +107,7 @@ impl Segments {
         let size = body.len();
         let Pieces { parts, last } = body.into_pieces();
         if parts.is_empty() && size <= JOINED_SIZE && self.tail.len() <= JOINED_SIZE - size {
-            join(&mut self.tail, last)?;
+            self.tail.join(last)?;
         } else {
             self.settled.reserve(parts.len().saturating_add(2))?;
             roll_over(
@@ -120,35 +122,22 @@ impl Segments {
     }
 }
 
-/// Joins a small body to the last segment, or moves it in if there is none.
-fn join(tail: &mut Vec<u8>, body: Vec<u8>) -> Result<(), AllocError>
-    ensures ok { OnOk result (tail.new.items ≡ tail.old.items ++ body.items) }
-    ensures err { OnErr result (tail.new.items ≡ tail.old.items) }
-{
-    if tail.is_empty() {
-        *tail = body;
-        return Ok(());
-    }
-    tail.extend_from_slice(body.as_slice())?;
-    Ok(())
-}
-
 /// Settles the last segment and moves a body in behind it: as the last segment if it is small. An `Err` changes
 /// nothing.
 fn roll_over(
     alloc: Global,
     settled: &mut Vec<Part>,
-    tail: &mut Vec<u8>,
+    tail: &mut Granted,
     body: Pieces,
 ) -> Result<(), AllocError>
     requires { vec_len settled.old + vec_len body.parts + 2 ≤ vec_capacity settled.old }
-    ensures more { OnOk result (concat settled.new.items ++ tail.new.items
-        ≡ concat settled.old.items ++ tail.old.items ++ bytes_in body) }
+    ensures more { OnOk result (concat settled.new.items ++ tail.new
+        ≡ concat settled.old.items ++ tail.old ++ bytes_in body) }
     ensures front { OnOk result
         (take (length settled.old.items) settled.new.items ≡ settled.old.items) }
     ensures longer { OnOk result (length settled.old.items ≤ length settled.new.items) }
     ensures err { OnErr result
-        ((settled.new.items ≡ settled.old.items) × (tail.new.items ≡ tail.old.items)) }
+        ((settled.new.items ≡ settled.old.items) × (tail.new ≡ tail.old)) }
 {
     let Pieces { parts, last } = body;
     if parts.is_empty() && last.len() <= JOINED_SIZE {
@@ -166,16 +155,19 @@ fn roll_over(
 }
 
 /// Makes the last segment one that stays as it is. An `Err` changes nothing.
-fn settle_tail(alloc: Global, settled: &mut Vec<Part>, tail: &mut Vec<u8>) -> Result<(), AllocError>
+fn settle_tail(alloc: Global, settled: &mut Vec<Part>, tail: &mut Granted) -> Result<(), AllocError>
     requires { vec_len settled.old + 1 ≤ vec_capacity settled.old }
-    ensures items { OnOk result (settled.new.items ≡ with_part settled.old.items tail.old.items) }
-    ensures none { OnOk result (tail.new.items ≡ []) }
+    ensures items { OnOk result (settled.new.items ≡ with_part settled.old.items tail.old) }
+    ensures none { OnOk result (tail.new ≡ []) }
     ensures one { OnOk result (vec_len settled.new ≤ vec_len settled.old + 1) }
     ensures room { OnOk result (vec_capacity settled.old ≤ vec_capacity settled.new) }
     ensures err { OnErr result
-        ((settled.new.items ≡ settled.old.items) × (tail.new.items ≡ tail.old.items)) }
+        ((settled.new.items ≡ settled.old.items) × (tail.new ≡ tail.old)) }
 {
-    match Part::of(alloc, mem::replace(tail, Vec::new(alloc))) {
+    match Part::of(
+        alloc,
+        mem::replace(tail, Granted::none(alloc, Grant::unlimited())),
+    ) {
         Ok(part) => {
             settle(settled, part);
             Ok(())

@@ -2,6 +2,7 @@
 ghost use Rattle.std.specs.Prelude.{◌≡◌, IfOk};
 ghost use Rattle.std.specs.List.{concat};
 
+use crate::granted::Granted;
 use crate::part::Part;
 use std::alloc::{AllocError, Global};
 use std::marker::Model;
@@ -34,7 +35,7 @@ impl BlobBytes {
     pub fn of(alloc: Global, bytes: Bytes) -> Result<BlobBytes, AllocError>
         ensures { IfOk result (λ whole. whole ≡ bytes) }
     {
-        let Ok(part) = Part::of(alloc, bytes.into_vec()) else {
+        let Ok(part) = Part::of(alloc, Granted::unlimited(bytes.into_vec())) else {
             return Err(AllocError);
         };
         let mut parts = Vec::new(alloc);
