@@ -6,8 +6,9 @@ ghost use Rattle.upload_service.specs.Machine.{AreLawful};
 
 use crate::asks::{At, Line, Place, Told, Unmade, Word, ask_of, is_told, name, row, under};
 use crate::serving::{ABC, ABC_512, Job, NOTHING, check, jobs_of, limits};
-use std::alloc::Global;
+use std::alloc::{AllocError, Global};
 use std::process::Abort;
+use upload_bytes::Room;
 use upload_names::{Algorithm, BlobDigest, RepoName, UploadRef};
 use upload_service::{Answer, Ask, Form, Limits, Refusal, Service};
 
@@ -51,11 +52,16 @@ impl Watched {
     fn new(alloc: Global, limits: Limits, content: &[u8]) -> Result<Watched, Unmade>
         requires { AreLawful limits }
     {
+        Watched::of(alloc, Service::new(alloc, limits), content)
+    }
+
+    /// This service, and the blob that is looked for.
+    fn of(alloc: Global, service: Service, content: &[u8]) -> Result<Watched, Unmade> {
         let a = name_for(alloc, b"lib/a")?;
         let b = name_for(alloc, b"lib/b")?;
         Ok(Watched {
             alloc,
-            service: Service::new(alloc, limits),
+            service,
             a,
             b,
             digest: BlobDigest::of_sha256(content),
@@ -147,6 +153,8 @@ fn takes_memory(told: Told) -> bool {
 const U1: At = At(1, 0);
 
 const U2: At = At(2, 0);
+
+const U3: At = At(3, 0);
 
 const NO_UPLOAD: Told = Told::Refused(Refusal::NoUpload);
 
@@ -397,22 +405,30 @@ fn a_refused_growth_in_a_list_is_of_one_request_or_of_all(rt: HostRuntime) -> Re
     check_list(&rt, rt.alloc(), &PAIR)
 }
 
-/// What is served before memory is full.
-static BEFORE_FULL: [Line; 4] = [
+/// What is served before the room is full.
+static BEFORE_FULL: [Line; 6] = [
     row!(Word::Open, Told::Begun(1)),
     row!(Word::Chunk(U1, Place::Absent, b"abc"), Told::Taken(U1, 3)),
     row!(Word::Open, Told::Begun(2)),
     row!(Word::Single(ABC, b"abc"), Told::Stored(ABC)),
+    row!(Word::Open, Told::Begun(3)),
+    row!(Word::Chunk(U3, Place::Absent, b"abc"), Told::Taken(U3, 3)),
 ];
 
-/// Each kind of change.
+/// Each kind of change that takes room.
 static CHANGES: [Line; 5] = [
     row!(Word::Chunk(U2, Place::Absent, b"a"), Told::Taken(U2, 1)),
-    row!(Word::Close(U1, Place::Absent, ABC, b""), Told::Stored(ABC)),
-    row!(Word::Open, Told::Begun(3)),
+    row!(
+        Word::Close(U1, Place::Absent, ABC_512, b""),
+        Told::Stored(ABC_512),
+    ),
+    row!(Word::Open, Told::Begun(4)),
     under!(b"lib/b", Word::Mount(ABC, b"lib/a"), Told::Stored(ABC)),
     row!(Word::Single(NOTHING, b""), Told::Stored(NOTHING)),
 ];
+
+/// A change that takes no room: what it stores is there already, and its upload goes.
+static RELEASING: [Line; 1] = [row!(Word::Close(U3, Place::Absent, ABC, b""), Told::Stored(ABC))];
 
 /// What changes nothing.
 static UNCHANGING: [Line; 8] = [
@@ -432,11 +448,11 @@ static UNCHANGING: [Line; 8] = [
     refused!(Refusal::NoForm),
 ];
 
-/// More than any memory has.
-const NEVER_FREE: usize = 0x1000_0000_0000_0000;
+/// How many bytes a service holds at most.
+const ROOM: u64 = 200_000;
 
 impl Watched {
-    /// While no memory is free, each of these changes is refused, and nothing is changed.
+    /// While there is no room, each of these changes is refused, and nothing is changed.
     fn check_refused(&mut self, rt: &impl Abort, changes: &[Line]) -> Result<(), Unmade> {
         let before = self.look();
         for (i, line) in changes.iter().enumerate() {
@@ -447,22 +463,38 @@ impl Watched {
         Ok(())
     }
 
-    fn check_free_memory(&mut self, rt: &impl Abort) -> Result<(), Unmade> {
+    /// Serves requests while another has all that is left of a room, and behind that.
+    fn check_room(&mut self, rt: &impl Abort, room: &Room) -> Result<(), Unmade> {
         self.check_lines(rt, &BEFORE_FULL)?;
-        self.service.keep_free(NEVER_FREE);
+        let others = room.grant(room.left());
+        assert!(rt; others.is_some() && room.left() == 0, "all is granted");
         self.check_refused(rt, &CHANGES)?;
         self.check_lines(rt, &UNCHANGING)?;
-        self.service.keep_free(1_000);
+        self.check_lines(rt, &RELEASING)?;
+        drop(others);
         self.check_lines(rt, &CHANGES)
     }
 }
 
-fn check_free_memory(rt: &impl Abort, alloc: Global) -> Result<(), Unmade> {
-    let mut watched = Watched::new(alloc, limits(9, 3, 3_600), b"abc")?;
-    watched.check_free_memory(rt)
+/// A room. One growth may be refused.
+fn room_for(alloc: Global) -> Result<Room, AllocError> {
+    match Room::of(alloc, ROOM) {
+        Ok(room) => Ok(room),
+        Err(_) => Room::of(alloc, ROOM),
+    }
+}
+
+fn check_room(rt: &impl Abort, alloc: Global) -> Result<(), Unmade> {
+    let room = room_for(alloc)?;
+    let service = Service::within(alloc, limits(9, 4, 3_600), room.share()?);
+    let mut watched = Watched::of(alloc, service, b"abc")?;
+    watched.check_room(rt, &room)?;
+    drop(watched);
+    assert!(rt; room.left() == ROOM, "what goes with a service comes back");
+    Ok(())
 }
 
 #[test]
-fn a_change_leaves_memory_free(rt: HostRuntime) -> Result<(), Unmade> {
-    check_free_memory(&rt, rt.alloc())
+fn what_has_no_room_changes_nothing(rt: HostRuntime) -> Result<(), Unmade> {
+    check_room(&rt, rt.alloc())
 }

@@ -5,6 +5,8 @@
 #[cfg(test)]
 mod asks;
 #[cfg(test)]
+mod forgets;
+#[cfg(test)]
 mod growths;
 #[cfg(test)]
 mod lists;

@@ -9,7 +9,7 @@ use Rattle.upload_names.specs.Digest.{Digest, digest_cmp, HasDigest}
 use Rattle.upload_names.specs.Reference.{number_of}
 use Rattle.upload_service.specs.declared.ask.Ask.{Ask}
 use Rattle.upload_service.specs.declared.answer.Answer.{Answer}
-use Rattle.upload_service.specs.Machine.{swept, Table, Session, State, Outcome, SessionChange, AllStay, OneBegins}
+use Rattle.upload_service.specs.Machine.{all_awake, swept, Table, Session, State, Outcome, SessionChange, AllStay, OneBegins}
 use Rattle.upload_service.specs.Machine.{OneTakes, OneLeaves, effect, answer_of, issued_with, sessions_with, blobs_with}
 use Rattle.upload_service.specs.Machine.{pairs_with, state_after, last_number, holds, outcome}
 use Rattle.std.specs.Prelude.{IsSome, is_some, IsTrue}
@@ -25,7 +25,7 @@ use Rattle.upload_service.proofs.Keeping.Tables.{get-insert_same, get-insert_oth
 use Rattle.upload_service.proofs.Keeping.Tables.{contains-insert, pair_from_same}
 use Rattle.upload_service.proofs.Steps.{outcome_sound, by_test, None≢Some}
 use Rattle.upload_service.proofs.Effects.{FitsChange, FitsStore, IsOutcome}
-use Rattle.upload_service.proofs.Sweeps.{was_there, swept_has_room}
+use Rattle.upload_service.proofs.Sweeps.{was_there, awake_was_there, swept_has_room}
 use Rattle.upload_service.proofs.Turns.{number_of-reference}
 
 some_is : {A : Type 0} (o : Option A) → IsSome o → (x : A) × (o ≡ Some x)
@@ -267,3 +267,22 @@ unfolding Turn
 stays_lawful start [] end h e = subst IsLawful (sym e) h
 stays_lawful start (x ∷ xs) end h (mid, turn, rest) =
     stays_lawful mid xs end (lawful_turn start x.ask x.secret x.now x.answer mid h turn) rest
+
+-- without the idle sessions it is lawful too
+pub lawful_awake : (s : State) (now : ℕ) → map.len (all_awake s now) ≤ map.len s.sessions → IsLawful s
+    → IsLawful (record s { sessions = all_awake s now })
+lawful_awake s now fewer h =
+    let there : (at : List ℕ) (session : Session) → map.get (all_awake s now) at ≡ Some session
+    → map.get s.sessions at ≡ Some session =
+    λ at session e. awake_was_there s now at session e in
+    let some : (at : List ℕ) → IsSome (map.get (all_awake s now) at) → IsSome (map.get s.sessions at) =
+    λ at p. let found = some_is (map.get (all_awake s now) at) p in ap is_some (there at found.0 found.1) in
+    let few : map.len s.sessions ≤ s.limits.max_open = h.few in
+    record {
+      numbered = λ at session e. h.numbered at session (there at session e);
+      different = λ a b p q e. h.different a b (some a p) (some b q) e;
+      few = omega arith;
+      small = λ at session e. h.small at session (there at session e);
+      own_digest = h.own_digest;
+      stored = h.stored;
+    }

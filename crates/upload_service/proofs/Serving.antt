@@ -150,3 +150,9 @@ single_fits max_blob name body asked digest le e =
     ap (λ b. unless_fault (if b then Some (answers.Refused refusals.TooLarge) else None)
     (checked asked body (λ d. Stores name d body))) (le-ltb max_blob (0 + length body) (omega arith))
     ∙ ap (λ a. checked a body (λ d. Stores name d body)) e
+
+pub single_stores : (max_blob : ℕ) (name body : List ℕ) (asked : Option Digest) (digest : Digest)
+    → length body ≤ max_blob → asked ≡ Some digest → content_digest digest.algorithm body ≡ digest
+    → unless_fault (size_fault max_blob 0 body) (checked asked body (λ d. Stores name d body)) ≡ Stores name digest body
+single_stores max_blob name body asked digest le e own =
+    single_fits max_blob name body asked digest le e ∙ match digest body (λ d. Stores name d body) own

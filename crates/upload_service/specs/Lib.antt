@@ -1,5 +1,6 @@
 pub mod UploadView
 pub mod Machine
+pub mod Requests
 pub mod Run
 pub mod Session
 pub mod Alone
@@ -7,5 +8,6 @@ pub mod Stored
 pub mod Headline
 pub mod FullTable
 pub mod RuledOut
+pub mod Forgotten
 pub mod Codes
 pub mod Kept

@@ -1,7 +1,7 @@
 //! What a request asks.
 
 use crate::answer::Refusal;
-use upload_bytes::Body;
+use upload_bytes::{Body, Gone};
 use upload_names::{BlobDigest, ByteRange, RepoName, UploadRef};
 
 /// The Content-Range of a request for an upload.
@@ -65,4 +65,20 @@ pub enum Ask {
     },
     /// A request that was refused before it came to the service.
     Refused(Refusal),
+}
+
+/// A chunk whose bytes were let go as they came, since there was no room for them.
+#[derive(Drop)]
+pub struct GoneChunk {
+    pub name: RepoName,
+    pub at: UploadRef,
+    pub range: Extent,
+    pub body: Gone,
+}
+
+/// A request as it comes to be served.
+#[derive(Drop)]
+pub enum Request {
+    Held(Ask),
+    Gone(GoneChunk),
 }

@@ -1,9 +1,10 @@
 //! Which repositories have a blob. Nearly all blobs have one, whose name is kept once for all its blobs.
-ghost use Rattle.std.specs.Prelude.{◌≡◌, ◌||◌, ◌∷◌, [], true, false, map as list_map, ℕ, List, IfSome, IfNone, IfOk};
-ghost use Rattle.std.specs.Prelude.{OnOk, OnErr};
+ghost use Rattle.std.specs.Prelude.{◌≡◌, ◌||◌, ◌&&◌, ◌∷◌, [], true, false, not, map as list_map, ℕ, List};
+ghost use Rattle.std.specs.Prelude.{IsTrue, IfSome, IfNone, IfOk, OnOk, OnErr};
 ghost use Rattle.std.specs.Arc.{arc_value};
 ghost use Rattle.std.specs.List.{list_any};
 ghost use Rattle.upload_service.specs.Machine.{same};
+ghost use Rattle.upload_service.specs.Kept.Holders.{is_alone};
 
 use std::alloc::{AllocError, Global};
 use std::collections::{BTreeMap, BTreeSet};
@@ -78,6 +79,7 @@ impl Names {
 #[derive(Drop)]
 pub enum Held {
     One(Arc<RepoName, Global>),
+    /// Or the one that is left of several.
     Several(Box<BTreeSet<Arc<RepoName, Global>>>),
 }
 
@@ -136,6 +138,75 @@ impl Holders {
         }
         Ok(())
     }
+
+    /// Takes a repository from among them. Says whether it was the only one: what is left then is to be let go. It takes
+    /// no memory.
+    pub fn remove(&mut self, name: &Arc<RepoName, Global>) -> bool
+        ensures only { result ≡ is_alone (arc_value name.now) self.old }
+        ensures removed { result ≡ false → (q : List ℕ) → list_any (same q) self.new
+            ≡ (not (same q (arc_value name.now)) && list_any (same q) self.old) }
+    {
+        match &mut self.held {
+            Held::One(only) => only.same(name),
+            Held::Several(names) => take_out(names, name),
+        }
+    }
+
+    /// Whether the same repositories are among both.
+    pub fn is_same(&self, other: &Holders) -> bool
+        ensures { IsTrue result → self.now ≡ other.now }
+    {
+        match (&self.held, &other.held) {
+            (Held::One(mine), Held::One(theirs)) => mine.same(theirs),
+            (Held::Several(mine), Held::Several(theirs)) => are_same(mine, theirs),
+            (Held::One(mine), Held::Several(theirs)) => is_alone_in(mine, theirs),
+            (Held::Several(mine), Held::One(theirs)) => is_alone_in(theirs, mine),
+        }
+    }
+}
+
+/// Whether both sets have the same names.
+fn are_same(
+    names: &BTreeSet<Arc<RepoName, Global>>,
+    others: &BTreeSet<Arc<RepoName, Global>>,
+) -> bool
+    ensures { IsTrue result
+        → list_map arc_value names.now.keys ≡ list_map arc_value others.now.keys }
+{
+    let mut left = others.iter();
+    for name in names.iter() {
+        let Some(other) = left.next() else {
+            return false;
+        };
+        if !name.same(other) {
+            return false;
+        }
+    }
+    left.next().is_none()
+}
+
+/// Whether a set has this name and no other.
+fn is_alone_in(name: &Arc<RepoName, Global>, names: &BTreeSet<Arc<RepoName, Global>>) -> bool
+    ensures { IsTrue result
+        → list_map arc_value names.now.keys ≡ arc_value name.now ∷ [] }
+{
+    if names.len() != 1 {
+        return false;
+    }
+    names.contains(name)
+}
+
+/// Takes a name out of a set. Says whether it was the only one.
+fn take_out(names: &mut BTreeSet<Arc<RepoName, Global>>, name: &Arc<RepoName, Global>) -> bool
+    ensures only { result ≡ is_alone (arc_value name.now) (list_map arc_value names.old.keys) }
+    ensures removed { (q : List ℕ) → list_any (same q) (list_map arc_value names.new.keys)
+        ≡ (not (same q (arc_value name.now))
+        && list_any (same q) (list_map arc_value names.old.keys)) }
+{
+    if !names.remove(name) {
+        return false;
+    }
+    names.is_empty()
 }
 
 /// Two names as a set.

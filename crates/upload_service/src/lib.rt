@@ -4,7 +4,8 @@
 #![tactic(auto)]
 
 pub use answer::{Answer, Form, Refusal};
-pub use ask::{Ask, Extent};
+pub use ask::{Ask, Extent, GoneChunk, Request};
+pub use counts::Counts;
 pub use laws::{
     headline_holds, headline_rules_out, openings_meet_the_table, others_leave_a_session,
 };
@@ -13,11 +14,12 @@ pub use service::Service;
 
 mod answer;
 mod ask;
+mod budget;
+mod counts;
 mod holders;
 mod laws;
 mod limits;
 mod service;
 mod sessions;
-mod slack;
 mod stock;
 mod turn;

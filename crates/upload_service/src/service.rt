@@ -1,22 +1,24 @@
 //! The service: its tables, the step that serves one request, and runs of it.
 ghost use Rattle.std.specs.Prelude.{◌≡◌, ◌↔◌, IsTrue, List, ℕ, length, max, Some, IfSome, IfOk, OnErr};
 ghost use Rattle.upload_service.specs.Machine.{State, IsLawful, AreLawful, Turn, empty_state, holds as holds_of};
+ghost use Rattle.upload_service.specs.Requests.{chunk_ask, turns_away};
 ghost use Rattle.std.specs.FinMap as map;
 ghost use Rattle.std.specs.Option.{option_map};
 ghost use Rattle.upload_service.specs.Run.{Run, NeverFall, exchanges};
 ghost use Rattle.upload_service.specs.Headline.{Headline};
 
 use crate::answer::Answer;
-use crate::ask::Ask;
+use crate::ask::{Ask, GoneChunk};
+use crate::budget::Budget;
+use crate::counts::Counts;
 use crate::limits::Limits;
 use crate::sessions::Sessions;
-use crate::slack::Slack;
 use crate::stock::Stock;
-use crate::turn::{Tables, turn};
+use crate::turn::{Tables, turn, turn_away};
 use std::alloc::{AllocError, Global};
 use std::marker::Model;
 use std::thread::Threads;
-use upload_bytes::{Front, HashEnd, HashPlace, InPlace, InThreads};
+use upload_bytes::{Blob, Front, HashPlace, InPlace, InThreads, Room, ThreadEnd};
 use upload_names::{Algorithm, BlobDigest, RepoName, UploadRef};
 
 /// The upload service: the open sessions, the stored blobs, and which repository has which blob. It and its
@@ -55,6 +57,25 @@ impl Service {
         requires { AreLawful limits }
         ensures { result ≡ empty_state limits issued }
     {
+        Service::granted(alloc, limits, issued, None)
+    }
+
+    /// A new service that holds no more than this room grants it, shared with others: the bytes of bodies that aren't
+    /// granted already, and what its tables take. What finds no room there is answered NoMemory, as want of memory is. It
+    /// takes no memory.
+    pub fn within(alloc: Global, limits: Limits, room: Room) -> Service
+        requires { AreLawful limits }
+        ensures { result ≡ empty_state limits 0 }
+    {
+        Service::granted(alloc, limits, 0, Some(room))
+    }
+
+    fn granted(alloc: Global, limits: Limits, issued: u32, room: Option<Room>) -> Service
+        requires { AreLawful limits }
+        ensures { result ≡ empty_state limits issued }
+    {
+        let budget = Budget::of(room);
+        let entries = budget.none();
         Service {
             tables: Tables {
                 alloc,
@@ -62,18 +83,16 @@ impl Service {
                 issued,
                 sessions: Sessions::new(alloc),
                 stock: Stock::new(alloc),
-                slack: Slack::of(alloc, 0),
+                budget,
+                entries,
             },
         }
     }
 
-    /// Keeps so many bytes of memory free: a request that would change something is answered NoMemory if there aren't
-    /// as many beside what it takes, so that what is stored can still be handed out. A new service keeps none free.
-    /// Nothing that is seen changes, and it takes no memory.
-    pub fn keep_free(&mut self, bytes: usize)
-        ensures { self.new ≡ self.old }
-    {
-        self.tables.slack = Slack::of(self.tables.alloc, bytes);
+    /// The room that it is granted of, for who reads the bodies of its requests to be granted of too; `None` if it has no
+    /// limit. It takes no memory. An `Err` comes only if there are more owners of the room than can be counted.
+    pub fn room(&self) -> Result<Option<Room>, AllocError> {
+        self.tables.budget.room()
     }
 
     /// The limits that it keeps.
@@ -116,6 +135,51 @@ impl Service {
         self.step_at(&place, ask, secret, now)
     }
 
+    /// Serves one request as `step` does, and changes nothing: what would be a change is answered NoMemory. So is served
+    /// who could change something while there is no room for what a change is kept in.
+    pub fn step_unchanged(&mut self, ask: Ask, secret: [u8; 12], now: u64) -> Answer
+        ensures turn { Turn self.old ask secret now result self.new }
+        ensures same { self.new ≡ self.old }
+    {
+        self.step_shut(&InPlace, ask, secret, now)
+    }
+
+    /// As `step_unchanged`, for a caller with threads: it waits as `step_joining` does.
+    pub fn step_unchanged_joining<R: Threads>(
+        &mut self,
+        rt: &R,
+        ask: Ask,
+        secret: [u8; 12],
+        now: u64,
+    ) -> Answer
+        ensures turn { Turn self.old ask secret now result self.new }
+        ensures same { self.new ≡ self.old }
+    {
+        let place = InThreads(rt);
+        self.take_back(&place);
+        self.step_shut(&place, ask, secret, now)
+    }
+
+    /// Answers a chunk whose bytes were let go as they came: by the refusal that `step` would answer it by, or NoMemory if
+    /// `step` would take it. Nothing changes, and it takes no memory.
+    pub fn turn_away(&self, chunk: GoneChunk, now: u64) -> Answer
+        ensures turn { (secret : List ℕ) → Turn self.now (chunk_ask chunk) secret now result self.now }
+        ensures away { IsTrue (turns_away result) }
+    {
+        turn_away(&self.tables, chunk, now)
+    }
+
+    /// Serves one request and changes nothing. A close hashes what is left at a place.
+    fn step_shut<P: HashPlace>(&mut self, place: &P, ask: Ask, secret: [u8; 12], now: u64) -> Answer
+        ensures turn { Turn self.old ask secret now result self.new }
+        ensures same { self.new ≡ self.old }
+    {
+        self.tables.budget.shut(true);
+        let answer = turn(&mut self.tables, place, ask, secret, now);
+        self.tables.budget.shut(false);
+        answer
+    }
+
     /// Serves one request. A close hashes what is left at a place.
     fn step_at<P: HashPlace>(&mut self, place: &P, ask: Ask, secret: [u8; 12], now: u64) -> Answer
         ensures turn { Turn self.old ask secret now result self.new }
@@ -143,7 +207,7 @@ impl Service {
         place: &P,
         at: &UploadRef,
         algorithm: Algorithm,
-    ) -> Option<HashEnd>
+    ) -> Option<ThreadEnd>
         ensures { self.new ≡ self.old }
     {
         self.take_back(place);
@@ -216,6 +280,19 @@ impl Service {
         self.tables.stock.contains(name, digest)
     }
 
+    /// How much it holds. It looks at each blob and upload, and takes no memory.
+    pub fn counts(&self) -> Counts
+        ensures blobs { result.blobs ≡ map.len self.now.blobs }
+        ensures uploads { result.uploads ≡ map.len self.now.sessions }
+    {
+        Counts {
+            blobs: self.tables.stock.len() as u64,
+            stored: self.tables.stock.total(),
+            uploads: self.tables.sessions.len() as u64,
+            received: self.tables.sessions.total(),
+        }
+    }
+
     /// Serves requests in order, each with a secret and at a moment in seconds: one answer for each. The
     /// answers and the service after them are a run of the machine, and if the moments don't fall the
     /// headline holds of it. The list of answers is reserved first: an `Err` changes nothing.
@@ -255,5 +332,55 @@ impl Service {
             }
         }
         Ok(answers)
+    }
+}
+
+impl Service {
+    ghost use Rattle.std.specs.Prelude.{IfNone, None};
+    ghost use Rattle.upload_service.specs.Machine.{all_awake};
+    ghost use Rattle.upload_service.specs.Forgotten.{forgotten};
+
+    /// The blob of a digest, whichever repository has it. It takes no memory.
+    pub fn blob(&self, digest: &BlobDigest) -> Option<&Blob>
+        ensures found { IfSome result (λ blob. map.get self.now.blobs digest.now ≡ Some blob.now) }
+        ensures none { IfNone result (map.get self.now.blobs digest.now ≡ None) }
+    {
+        self.tables.stock.get(digest)
+    }
+
+    /// Has the sessions leave that are idle at this moment, in seconds, as an opening does in a full table. No request at
+    /// this moment or later finds one of them. It takes no memory.
+    pub fn leave_idle(&mut self, now: u64)
+        ensures left { self.new ≡ record self.old { sessions = all_awake self.old now } }
+        ensures lawful { IsLawful self.new }
+    {
+        let max_idle = self.tables.limits.max_idle;
+        self.tables.sessions.leave_idle(max_idle, now);
+    }
+
+    /// Has a repository have a blob no more. The blob goes with the last repository that had it, and nothing else
+    /// changes. A pair that isn't there changes nothing. It takes no memory. The room has the bytes of a blob that goes
+    /// back once nobody reads them; what the pair was granted stays with the service.
+    pub fn forget(&mut self, name: &RepoName, digest: &BlobDigest)
+        ensures forgets { self.new ≡ forgotten self.old name.now digest.now }
+        ensures lawful { IsLawful self.new }
+    {
+        self.tables.stock.forget(name, digest);
+    }
+
+    /// Whether both are in the same state: they have the same limits, the same numbers are used up, and they have the
+    /// same sessions, blobs and pairs. An `Err` says that there is no memory to compare them, of which it takes little.
+    pub fn is_same(&self, other: &Service) -> Result<bool, AllocError>
+        ensures { IfOk result (λ same. IsTrue same → self.now ≡ other.now) }
+    {
+        let alloc = self.tables.alloc;
+        if self.tables.limits != other.tables.limits || self.tables.issued != other.tables.issued {
+            return Ok(false);
+        }
+        if !self.tables.sessions.is_same(alloc, &other.tables.sessions)? {
+            return Ok(false);
+        }
+        let same = self.tables.stock.is_same(&other.tables.stock)?;
+        Ok(same)
     }
 }

@@ -1,17 +1,18 @@
 //! The open sessions, by their references.
 ghost use Rattle.std.specs.Prelude.{◌≡◌, ◌↔◌, ◌+◌, ◌<◌, ◌≤◌, ◌^◌, ◌++◌, [], ℕ, length, filter, nat_le, Some, None};
-ghost use Rattle.std.specs.Prelude.{IsTrue, IsSome, IfSome, IfNone, OnOk, OnErr};
+ghost use Rattle.std.specs.Prelude.{map as list_map};
+ghost use Rattle.std.specs.Prelude.{IsTrue, IsSome, IfSome, IfNone, IfOk, OnOk, OnErr};
 ghost use Rattle.std.specs.FinMap as map;
 ghost use Rattle.std.specs.Option.{option_map};
 ghost use Rattle.upload_names.specs.Digest.{HasDigest};
 ghost use Rattle.upload_service.specs.Machine.{Session, is_idle, awake_of, swept_of};
-ghost use Rattle.upload_service.specs.Kept.Entries.{session_of, is_kept};
+ghost use Rattle.upload_service.specs.Kept.Entries.{session_of, seen_entry, is_kept};
 
 use crate::limits::Limits;
 use std::alloc::{AllocError, Global};
 use std::collections::{BTreeMap, VecDeque};
 use std::marker::Model;
-use upload_bytes::{Body, Front, HashEnd, HashPlace, Received};
+use upload_bytes::{Body, Front, Grant, HashPlace, Received, ThreadEnd};
 use upload_names::{Algorithm, BlobDigest, RepoName, UploadRef};
 
 /// A session that was opened and not yet closed.
@@ -21,17 +22,20 @@ pub struct OpenSession {
     pub received: Received,
     /// The moment, in seconds, of its opening or of the last chunk that it took.
     pub seen: u64,
+    /// It covers what the table takes for the session.
+    pub grant: Grant,
 }
 
 impl OpenSession {
     /// A session that is opened at this moment, with no bytes. It takes no memory.
-    pub fn new(alloc: Global, name: RepoName, now: u64) -> OpenSession
+    pub fn new(alloc: Global, name: RepoName, now: u64, grant: Grant) -> OpenSession
         ensures { session_of result ≡ record { name = name; received = []; seen = now } }
     {
         OpenSession {
             name,
             received: Received::new(alloc),
             seen: now,
+            grant,
         }
     }
 
@@ -48,7 +52,7 @@ impl OpenSession {
 struct Started {
     at: UploadRef,
     algorithm: Algorithm,
-    end: HashEnd,
+    end: ThreadEnd,
 }
 
 /// The open sessions, seen as a map from their references.
@@ -94,6 +98,22 @@ impl Sessions {
         ensures none { IfNone result (map.get self.now at.now ≡ None) }
     {
         self.open.get(at)
+    }
+
+    /// How many sessions are open, those that are idle too.
+    pub fn len(&self) -> usize
+        ensures { result ≡ map.len self.now }
+    {
+        self.open.len()
+    }
+
+    /// How many bytes they have received together, or the greatest number there is if they have more.
+    pub fn total(&self) -> u64 {
+        let mut total: u64 = 0;
+        for entry in self.open.iter() {
+            total = total.saturating_add(entry.1.received.len());
+        }
+        total
     }
 
     /// Whether as many sessions as may be open are open and not idle. Where the table has room it looks at none.
@@ -160,7 +180,7 @@ impl Sessions {
         alloc: Global,
         at: &UploadRef,
         algorithm: Algorithm,
-    ) -> Option<HashEnd>
+    ) -> Option<ThreadEnd>
         ensures { self.new ≡ self.old }
     {
         let end = self.hash_more(place, alloc, at, algorithm)?;
@@ -184,7 +204,7 @@ impl Sessions {
         alloc: Global,
         at: &UploadRef,
         algorithm: Algorithm,
-    ) -> Option<HashEnd>
+    ) -> Option<ThreadEnd>
         ensures { self.new ≡ self.old }
     {
         let Some(session) = self.open.get_mut(at) else {
@@ -194,7 +214,7 @@ impl Sessions {
     }
 
     /// Notes a thread that hashes for a session by an algorithm, by its end.
-    fn note(&mut self, at: UploadRef, algorithm: Algorithm, end: HashEnd)
+    fn note(&mut self, at: UploadRef, algorithm: Algorithm, end: ThreadEnd)
         ensures { self.new ≡ self.old }
     {
         let _ = self.started.push_back(Started { at, algorithm, end });
@@ -223,7 +243,7 @@ impl Sessions {
         place: &P,
         at: &UploadRef,
         algorithm: Algorithm,
-    ) -> Option<HashEnd>
+    ) -> Option<ThreadEnd>
         ensures { self.new ≡ self.old }
     {
         let Some(session) = self.open.get_mut(at) else {
@@ -280,6 +300,56 @@ impl Sessions {
     {
         self.open.remove(at)
     }
+
+    /// Has the idle sessions leave, whether or not the table is full. It takes no memory.
+    pub fn leave_idle(&mut self, max_idle: u64, now: u64)
+        ensures awake { self.new ≡ awake_of max_idle now self.old }
+        ensures fewer { map.len self.new ≤ map.len self.old }
+    {
+        let _ = self.open.len();
+        sweep(&mut self.open, max_idle, now);
+    }
+
+    /// Whether both have the same sessions. An `Err` says that there is no memory to compare them.
+    pub fn is_same(&self, alloc: Global, other: &Sessions) -> Result<bool, AllocError>
+        ensures { IfOk result (λ same. IsTrue same → self.now ≡ other.now) }
+    {
+        let same = are_same(alloc, &self.open, &other.open)?;
+        Ok(same)
+    }
+}
+
+/// Whether both have the same sessions under the same references.
+fn are_same(
+    alloc: Global,
+    sessions: &BTreeMap<UploadRef, OpenSession>,
+    others: &BTreeMap<UploadRef, OpenSession>,
+) -> Result<bool, AllocError>
+    ensures { IfOk result (λ same. IsTrue same
+        → list_map seen_entry sessions.now.entries ≡ list_map seen_entry others.now.entries) }
+{
+    let mut left = others.iter();
+    for (at, session) in sessions.iter() {
+        let Some((other_at, other)) = left.next() else {
+            return Ok(false);
+        };
+        if !at.same(other_at) || !is_same(alloc, session, other)? {
+            return Ok(false);
+        }
+    }
+    Ok(left.next().is_none())
+}
+
+/// Whether these are the same name, bytes and moment.
+fn is_same(alloc: Global, session: &OpenSession, other: &OpenSession) -> Result<bool, AllocError>
+    ensures { IfOk result (λ same. IsTrue same → session_of session.now ≡ session_of other.now) }
+{
+    if session.seen != other.seen || !session.name.same(&other.name) {
+        return Ok(false);
+    }
+    let mine = session.received.share(alloc)?;
+    let theirs = other.received.share(alloc)?;
+    Ok(mine.is_same(&theirs))
 }
 
 /// How many sessions aren't idle.

@@ -1,13 +1,14 @@
 //! The stored blobs by their digests, each with the repositories that have it. There is a tree for each algorithm, so
 //! that a SHA-256 takes no more room than its 32 bytes, and no digest is kept twice.
-ghost use Rattle.std.specs.Prelude.{◌≡◌, ◌||◌, ◌&&◌, cond, ℕ, List, Some, None};
-ghost use Rattle.std.specs.Prelude.{IsSome, IsTrue, IfSome, IfNone, OnOk, OnErr};
+ghost use Rattle.std.specs.Prelude.{◌≡◌, ◌||◌, ◌&&◌, cond, not, ℕ, List, Some, None};
+ghost use Rattle.std.specs.Prelude.{IsSome, IsTrue, IfOk, IfSome, IfNone, OnOk, OnErr};
 ghost use Rattle.std.specs.FinMap as map;
 ghost use Rattle.std.specs.FinSet as set;
 ghost use Rattle.std.specs.Arc.{arc_value};
 ghost use Rattle.std.specs.Map.{lookup};
 ghost use Rattle.upload_service.specs.Machine.{same};
-ghost use Rattle.upload_service.specs.Kept.Stock.{blob_in, is_held, or_empty, digest_at};
+ghost use Rattle.upload_service.specs.Forgotten.{blobs_left};
+ghost use Rattle.upload_service.specs.Kept.Stock.{blob_in, is_held, is_held_alone, or_empty, digest_at};
 
 use crate::holders::{Holders, Names};
 use std::alloc::{AllocError, Global};
@@ -65,6 +66,18 @@ impl Stock {
             sha256: BTreeMap::new(alloc),
             sha512: BTreeMap::new(alloc),
         }
+    }
+
+    /// How many blobs are stored.
+    pub fn len(&self) -> usize
+        ensures { result ≡ map.len self.now.blobs }
+    {
+        self.sha256.len() + self.sha512.len()
+    }
+
+    /// How many bytes they have together, or the greatest number there is if they have more.
+    pub fn total(&self) -> u64 {
+        total_of(&self.sha256).saturating_add(total_of(&self.sha512))
     }
 
     /// The blob under a digest.
@@ -153,6 +166,34 @@ impl Stock {
             Key::Sha512(key) => put_under(&mut self.sha512, &key, blob),
         }
     }
+
+    /// Has a repository have a blob no more. The blob goes with the last repository that had it. The name stays among
+    /// those that blobs share. It takes no memory.
+    pub fn forget(&mut self, name: &RepoName, digest: &BlobDigest)
+        ensures blobs { self.new.blobs
+            ≡ blobs_left self.old.blobs self.old.pairs name.now digest.now }
+        ensures pairs { self.new.pairs ≡ set.remove self.old.pairs (name.now, digest.now) }
+    {
+        let Some(shared) = self.names.find(name) else {
+            return;
+        };
+        match key_of(digest) {
+            Key::Sha256(key) => forget_under(&mut self.sha256, &key, shared),
+            Key::Sha512(key) => forget_under(&mut self.sha512, &key, shared),
+        }
+    }
+
+    /// Whether both have the same blobs, and their repositories the same pairs. An `Err` says that there is no memory to
+    /// compare them.
+    pub fn is_same(&self, other: &Stock) -> Result<bool, AllocError>
+        ensures { IfOk result (λ same. IsTrue same → self.now ≡ other.now) }
+    {
+        if !are_same(self.alloc, &self.sha256, &other.sha256)? {
+            return Ok(false);
+        }
+        let same = are_same(self.alloc, &self.sha512, &other.sha512)?;
+        Ok(same)
+    }
 }
 
 /// The bytes of a digest, by its algorithm.
@@ -171,6 +212,15 @@ fn key_of(digest: &BlobDigest) -> Key
             Key::Sha512(bytes)
         }
     }
+}
+
+/// How many bytes these blobs have together, or the greatest number there is if they have more.
+fn total_of<const N: usize>(items: &BTreeMap<[u8; N], Item>) -> u64 {
+    let mut total: u64 = 0;
+    for entry in items.iter() {
+        total = total.saturating_add(entry.1.blob.len());
+    }
+    total
 }
 
 /// The blob under a key.
@@ -242,4 +292,59 @@ fn put_under<const N: usize>(items: &mut BTreeMap<[u8; N], Item>, key: &[u8; N],
         unreachable!();
     };
     item.blob = blob;
+}
+
+/// Has a repository have the blob under a key no more. The blob goes with the last repository that had it.
+fn forget_under<const N: usize>(
+    items: &mut BTreeMap<[u8; N], Item>,
+    key: &[u8; N],
+    name: &Arc<RepoName, Global>,
+)
+    ensures blobs { (q : List ℕ) → blob_in (lookup (same q) items.new.entries)
+        ≡ cond (same q key.now
+        && is_held_alone (arc_value name.now) (lookup (same key.now) items.old.entries))
+        None (blob_in (lookup (same q) items.old.entries)) }
+    ensures held { (q n : List ℕ) → is_held n (lookup (same q) items.new.entries)
+        ≡ (not (same q key.now && same n (arc_value name.now))
+        && is_held n (lookup (same q) items.old.entries)) }
+{
+    let Some(item) = items.get_mut(key) else {
+        return;
+    };
+    if !item.holders.remove(name) {
+        return;
+    }
+    items.remove(key);
+}
+
+/// Whether both trees have the same items under the same keys.
+fn are_same<const N: usize>(
+    alloc: Global,
+    items: &BTreeMap<[u8; N], Item>,
+    others: &BTreeMap<[u8; N], Item>,
+) -> Result<bool, AllocError>
+    ensures { IfOk result (λ same. IsTrue same → items.now.entries ≡ others.now.entries) }
+{
+    let mut left = others.iter();
+    for (key, item) in items.iter() {
+        let Some((other_key, other)) = left.next() else {
+            return Ok(false);
+        };
+        if key != other_key || !is_same(alloc, item, other)? {
+            return Ok(false);
+        }
+    }
+    Ok(left.next().is_none())
+}
+
+/// Whether these are the same blob, of the same repositories.
+fn is_same(alloc: Global, item: &Item, other: &Item) -> Result<bool, AllocError>
+    ensures { IfOk result (λ same. IsTrue same → item.now ≡ other.now) }
+{
+    if item.blob.len() != other.blob.len() || !item.holders.is_same(&other.holders) {
+        return Ok(false);
+    }
+    let mine = item.blob.share(alloc)?;
+    let theirs = other.blob.share(alloc)?;
+    Ok(mine.is_same(&theirs))
 }

@@ -1,23 +1,24 @@
 //! One turn of the service over its tables: a function for each kind of request. In each the growths come before
 //! the first change, so that a refused growth leaves the tables as they were.
 ghost use Rattle.std.specs.Prelude.{◌≡◌, ◌≢◌, ◌+◌, ◌≤◌, ◌<◌, ◌^◌, ◌++◌, List, ℕ, length, box_value, Some, IsSome};
-ghost use Rattle.std.specs.Prelude.{IfSome, IfNone, IfOk, IfErr};
+ghost use Rattle.std.specs.Prelude.{IfSome, IfNone, IfOk, IfErr, OnOk, IsTrue, IsFalse};
 ghost use Rattle.std.specs.FinMap as map;
 ghost use Rattle.upload_service.specs.UploadView.{AsksOffset};
-ghost use Rattle.upload_service.specs.Machine.{Session, Commits, Mounts, Comes, Turn, opening as opening_of};
+ghost use Rattle.upload_service.specs.Machine.{Session, Commits, Mounts, Stores, Comes, Turn, opening as opening_of};
 ghost use Rattle.upload_service.specs.Machine.{at_session, awake};
+ghost use Rattle.upload_service.specs.Requests.{chunk_ask, turns_away};
 ghost use Rattle.upload_bytes.specs.Blobs.{body_in};
 ghost use Rattle.upload_service.specs.Kept.Entries.{session_of};
 ghost use Rattle.upload_service.specs.Kept.Tables.{state_of, IsVerdict, chunk_of, close_of, IsPlaced, IsTurnedAway};
 
 use crate::answer::{Answer, Refusal};
-use crate::ask::{Ask, Extent};
+use crate::ask::{Ask, Extent, GoneChunk};
+use crate::budget::Budget;
 use crate::limits::Limits;
 use crate::sessions::{OpenSession, Sessions};
-use crate::slack::Slack;
 use crate::stock::Stock;
-use std::alloc::Global;
-use upload_bytes::{Blob, Body, HashPlace, Several};
+use std::alloc::{AllocError, Global};
+use upload_bytes::{Blob, Body, Grant, HashPlace, Several};
 use upload_names::{BlobDigest, RepoName, UploadRef};
 
 /// All that a service keeps.
@@ -29,8 +30,18 @@ pub struct Tables {
     pub issued: u32,
     pub sessions: Sessions,
     pub stock: Stock,
-    /// What stays free beside them, for answers that change nothing.
-    pub slack: Slack,
+    /// What each change is granted.
+    pub budget: Budget,
+    /// It covers what the tables take for blobs and their names.
+    pub entries: Grant,
+}
+
+/// What the tables take for an upload or a blob beside its bytes and its name.
+const ENTRY_SIZE: u64 = 512;
+
+/// What the tables take for an upload or a blob under this name, beside its bytes: the name may be kept twice.
+fn size_of_entry(name: &RepoName) -> u64 {
+    ENTRY_SIZE + 2 * name.as_str().len() as u64
 }
 
 impl Tables {
@@ -148,8 +159,9 @@ fn status(tables: &Tables, name: RepoName, at: UploadRef, now: u64) -> Answer
 
 /// Has a session take a chunk.
 fn chunk(tables: &mut Tables, sent: Sent, now: u64) -> Answer
-    ensures { Comes (state_of tables.old) now (chunk_of (state_of tables.old) now sent) result
+    ensures turn { Comes (state_of tables.old) now (chunk_of (state_of tables.old) now sent) result
         (state_of tables.new) }
+    ensures same { IsTrue tables.old.budget → state_of tables.new ≡ state_of tables.old }
 {
     let placed = match place(tables, sent, now) {
         Ok(placed) => placed,
@@ -161,13 +173,37 @@ fn chunk(tables: &mut Tables, sent: Sent, now: u64) -> Answer
         body,
         next,
     } = placed;
-    let Ok(()) = tables.slack.renew() else {
+    let Ok(body) = tables.budget.admit(body) else {
         return Answer::NoMemory;
     };
     let next = next + body.len() as u64;
     match tables.sessions.append(&at, body, now) {
         Ok(()) => Answer::Taken { name, at, next },
         Err(_) => Answer::NoMemory,
+    }
+}
+
+/// Answers a chunk whose bytes are gone: by its refusal, or out of memory if it would be taken.
+pub fn turn_away(tables: &Tables, chunk: GoneChunk, now: u64) -> Answer
+    ensures turn { (secret : List ℕ)
+        → Turn (state_of tables.now) (chunk_ask chunk) secret now result (state_of tables.now) }
+    ensures away { IsTrue (turns_away result) }
+{
+    let GoneChunk {
+        name,
+        at,
+        range,
+        body,
+    } = chunk;
+    let Some(session) = tables.find_awake(&name, &at, now) else {
+        return Answer::Refused(Refusal::NoUpload);
+    };
+    let next = session.received.len();
+    let size = body.len() as u64;
+    match judge(tables.limits.max_blob, next, range, size) {
+        Verdict::Fits => Answer::NoMemory,
+        Verdict::Misplaced => Answer::Misplaced { name, at, next },
+        Verdict::Refused(refusal) => Answer::Refused(refusal),
     }
 }
 
@@ -179,8 +215,9 @@ fn close<P: HashPlace>(
     digest: Option<BlobDigest>,
     now: u64,
 ) -> Answer
-    ensures { Comes (state_of tables.old) now (close_of (state_of tables.old) now sent digest)
+    ensures turn { Comes (state_of tables.old) now (close_of (state_of tables.old) now sent digest)
         result (state_of tables.new) }
+    ensures same { IsTrue tables.old.budget → state_of tables.new ≡ state_of tables.old }
 {
     let last = match place(tables, sent, now) {
         Ok(placed) => placed,
@@ -203,13 +240,17 @@ fn commit(tables: &mut Tables, last: Placed, digest: BlobDigest) -> Answer
     requires open { IsSome (map.get tables.old.sessions last.at) }
     requires fits { (session : Session) → map.get tables.old.sessions last.at ≡ Some session
         → length session.received + length last.body < 2 ^ 64 }
-    ensures { (now : ℕ) (session : Session) → map.get tables.old.sessions last.at ≡ Some session
+    ensures turn { (now : ℕ) (session : Session) → map.get tables.old.sessions last.at ≡ Some session
         → Comes (state_of tables.old) now
         (Commits last.name last.at digest (session.received ++ last.body)) result
         (state_of tables.new) }
+    ensures same { IsTrue tables.old.budget → state_of tables.new ≡ state_of tables.old }
 {
     let Placed { name, at, body, .. } = last;
-    let Ok(()) = tables.slack.renew() else {
+    let Ok(grant) = grant_pair(tables, &name, &digest) else {
+        return Answer::NoMemory;
+    };
+    let Ok(body) = tables.budget.admit(body) else {
         return Answer::NoMemory;
     };
     let Ok(place) = Several::of(tables.alloc, body) else {
@@ -220,6 +261,7 @@ fn commit(tables: &mut Tables, last: Placed, digest: BlobDigest) -> Answer
     };
     let blob = blob_of(tables.alloc, &mut tables.sessions, &at, place);
     tables.stock.put(digest, blob);
+    tables.entries.join(grant);
     Answer::Stored { name, digest }
 }
 
@@ -239,23 +281,48 @@ fn blob_of(alloc: Global, sessions: &mut Sessions, at: &UploadRef, place: Box<Se
     Blob::of_received(alloc, session.received, place)
 }
 
+/// Grants what the table takes for a session that is opened. If the table is full, idle ones leave then, which gives back
+/// more.
+fn grant_opening(tables: &Tables, name: &RepoName) -> Result<Grant, AllocError>
+    ensures { OnOk result (IsFalse tables.now.budget) }
+{
+    let size = size_of_entry(name);
+    if tables.sessions.len() >= tables.limits.max_open as usize {
+        return tables.budget.grant_over(size);
+    }
+    tables.budget.grant_sparing(size)
+}
+
+/// Grants what the table takes for a pair, if it hasn't that already.
+fn grant_pair(tables: &Tables, name: &RepoName, digest: &BlobDigest) -> Result<Grant, AllocError>
+    ensures { OnOk result (IsFalse tables.now.budget) }
+{
+    let size = if tables.stock.contains(name, digest) {
+        0
+    } else {
+        size_of_entry(name)
+    };
+    tables.budget.grant(size)
+}
+
 /// Opens a session.
 fn opening(tables: &mut Tables, name: RepoName, secret: [u8; 12], now: u64) -> Answer
-    ensures { Comes (state_of tables.old) now
+    ensures turn { Comes (state_of tables.old) now
         (opening_of (state_of tables.old) name secret now) result
         (state_of tables.new) }
+    ensures same { IsTrue tables.old.budget → state_of tables.new ≡ state_of tables.old }
 {
     if tables.sessions.is_full(tables.limits, now) || tables.issued == u32::MAX {
         return Answer::Refused(Refusal::TooMany);
     }
-    let Ok(()) = tables.slack.renew() else {
+    let Ok(grant) = grant_opening(tables, &name) else {
         return Answer::NoMemory;
     };
     let Ok(kept) = name.copy(tables.alloc) else {
         return Answer::NoMemory;
     };
     let at = UploadRef::make(tables.issued + 1, secret);
-    let session = OpenSession::new(tables.alloc, kept, now);
+    let session = OpenSession::new(tables.alloc, kept, now, grant);
     match tables.sessions.begin(tables.limits, at, session) {
         Ok(()) => {
             tables.issued += 1;
@@ -299,9 +366,10 @@ fn has(tables: &Tables, name: RepoName, digest: BlobDigest, head: bool) -> Answe
 /// Stores a blob of one body.
 #[tactic(auto, unfolding(crate::specs::Machine::Turn))]
 fn single(tables: &mut Tables, name: RepoName, digest: Option<BlobDigest>, body: Body) -> Answer
-    ensures { (secret : List ℕ) (now : ℕ)
+    ensures turn { (secret : List ℕ) (now : ℕ)
         → Turn (state_of tables.old) (Ask.Single name digest body) secret now result
         (state_of tables.new) }
+    ensures same { IsTrue tables.old.budget → state_of tables.new ≡ state_of tables.old }
 {
     if body.len() as u64 > tables.limits.max_blob {
         return Answer::Refused(Refusal::TooLarge);
@@ -313,7 +381,19 @@ fn single(tables: &mut Tables, name: RepoName, digest: Option<BlobDigest>, body:
     if !content.same(&digest) {
         return Answer::Refused(Refusal::Mismatch);
     }
-    let Ok(()) = tables.slack.renew() else {
+    store_single(tables, name, digest, body)
+}
+
+/// Stores a body that has this digest.
+fn store_single(tables: &mut Tables, name: RepoName, digest: BlobDigest, body: Body) -> Answer
+    ensures turn { (now : ℕ) → Comes (state_of tables.old) now (Stores name digest body) result
+        (state_of tables.new) }
+    ensures same { IsTrue tables.old.budget → state_of tables.new ≡ state_of tables.old }
+{
+    let Ok(grant) = grant_pair(tables, &name, &digest) else {
+        return Answer::NoMemory;
+    };
+    let Ok(body) = tables.budget.admit(body) else {
         return Answer::NoMemory;
     };
     let Ok(blob) = Blob::of(tables.alloc, body) else {
@@ -322,21 +402,24 @@ fn single(tables: &mut Tables, name: RepoName, digest: Option<BlobDigest>, body:
     let Ok(()) = tables.stock.store(&name, digest, blob) else {
         return Answer::NoMemory;
     };
+    tables.entries.join(grant);
     Answer::Stored { name, digest }
 }
 
 /// Notes that a repository has a stored blob.
 fn mount(tables: &mut Tables, name: RepoName, digest: BlobDigest) -> Answer
     requires { IsSome (map.get tables.old.stock.blobs digest) }
-    ensures { (now : ℕ) → Comes (state_of tables.old) now (Mounts name digest) result
+    ensures turn { (now : ℕ) → Comes (state_of tables.old) now (Mounts name digest) result
         (state_of tables.new) }
+    ensures same { IsTrue tables.old.budget → state_of tables.new ≡ state_of tables.old }
 {
-    let Ok(()) = tables.slack.renew() else {
+    let Ok(grant) = grant_pair(tables, &name, &digest) else {
         return Answer::NoMemory;
     };
     let Ok(()) = tables.stock.mount(&name, digest) else {
         return Answer::NoMemory;
     };
+    tables.entries.join(grant);
     Answer::Stored { name, digest }
 }
 
@@ -349,7 +432,8 @@ pub fn turn<P: HashPlace>(
     secret: [u8; 12],
     now: u64,
 ) -> Answer
-    ensures { Turn (state_of tables.old) ask secret now result (state_of tables.new) }
+    ensures turn { Turn (state_of tables.old) ask secret now result (state_of tables.new) }
+    ensures same { IsTrue tables.old.budget → state_of tables.new ≡ state_of tables.old }
 {
     match ask {
         Ask::Base => Answer::Base,

@@ -25,7 +25,7 @@ use Rattle.upload_service.proofs.Keeping.Tables.{same_from_eq, same_from_ne, one
 use Rattle.upload_service.proofs.Keeping.Tables.{pairs_total, pairs_exact, contains-insert, eq_from_same_digest}
 use Rattle.upload_service.proofs.Keeping.Tables.{blob-insert}
 
-abbrev Items : Type 0
+abbrev pub Items : Type 0
 Items = List (List ℕ × Item)
 
 -- a look-up among the items of both trees is one in the tree of its algorithm
@@ -56,7 +56,7 @@ by_algorithm P one other d = elim d.algorithm as (λ a. P (record { algorithm = 
 ]
 
 -- the name first, and then the digest
-names_first : (x n : List ℕ) (y d : Digest) → eq_by_cmp pair_cmp (x, y) (n, d) ≡ (same x n && same_digest y d)
+pub names_first : (x n : List ℕ) (y d : Digest) → eq_by_cmp pair_cmp (x, y) (n, d) ≡ (same x n && same_digest y d)
 names_first x n y d = both (slice_cmp nat_cmp x n) (digest_cmp y d)
   where
     both : (o r : Ordering) → is_eq (ordering_then o r) ≡ (is_eq o && is_eq r)
@@ -140,13 +140,13 @@ held_is_there n None e = e
 held_is_there n (Some item) e = refl
 
 -- stocks with the same blobs, and with the same pairs
-same_blobs : (m n : map.FinMap digest_cmp (List ℕ))
+pub same_blobs : (m n : map.FinMap digest_cmp (List ℕ))
     → ((q : List ℕ) → map.get m (sha256_digest q) ≡ map.get n (sha256_digest q))
     → ((q : List ℕ) → map.get m (sha512_digest q) ≡ map.get n (sha512_digest q)) → m ≡ n
 same_blobs m n one other =
     map.same_map digests_total digests_exact m n (by_algorithm (λ d. map.get m d ≡ map.get n d) one other)
 
-same_pairs : (m n : FinSet pair_cmp)
+pub same_pairs : (m n : FinSet pair_cmp)
     → ((x q : List ℕ) → set.contains m (x, sha256_digest q) ≡ set.contains n (x, sha256_digest q))
     → ((x q : List ℕ) → set.contains m (x, sha512_digest q) ≡ set.contains n (x, sha512_digest q)) → m ≡ n
 same_pairs m n one other =
@@ -283,7 +283,7 @@ module _ (es es' : Items) (key : List ℕ) (item : Item) (before : Option Item) 
   at_key : (q : List ℕ) → q ≡ key → lookup (same q) es' ≡ Some item
   at_key q e = h q ∙ ap (λ b. cond b (Some item) (lookup (same q) es)) (same_from_eq key q (sym e))
 
-  elsewhere : (q : List ℕ) → q ≢ key → lookup (same q) es' ≡ lookup (same q) es
+  pub elsewhere : (q : List ℕ) → q ≢ key → lookup (same q) es' ≡ lookup (same q) es
   elsewhere q ne = h q ∙ ap (λ b. cond b (Some item) (lookup (same q) es)) (same_from_ne key q (λ e. ne (sym e)))
 
   pub blob_written : (q : List ℕ)
@@ -309,6 +309,23 @@ module _ (es es' : Items) (key : List ℕ) (item : Item) (before : Option Item) 
         ∙ sym (λ i. (same_from_eq q key e i && same n name) || is_held n ((ap (λ r. lookup (same r) es) e ∙ sym has) i))
     | inr ne ↦ ap (is_held n) (elsewhere q ne)
         ∙ sym (ap (λ b. (b && same n name) || is_held n (lookup (same q) es)) (same_from_ne q key ne))
+  ]
+
+  pub held_less : (name : List ℕ)
+      → ((n : List ℕ) → list_any (same n) item.holders ≡ (not (same n name) && is_held n before)) → (q n : List ℕ)
+      → is_held n (lookup (same q) es') ≡ (not (same q key && same n name) && is_held n (lookup (same q) es))
+  held_less name less q n = elim (one_or_two q key) [
+    | inl e ↦ ap (is_held n) (at_key q e) ∙ less n ∙ sym (λ i.
+        not (same_from_eq q key e i && same n name) && is_held n ((ap (λ r. lookup (same r) es) e ∙ sym has) i))
+    | inr ne ↦ ap (is_held n) (elsewhere q ne)
+        ∙ sym (ap (λ b. not (b && same n name) && is_held n (lookup (same q) es)) (same_from_ne q key ne))
+  ]
+
+  pub blob_same : Some item.blob ≡ blob_in before → (q : List ℕ)
+      → blob_in (lookup (same q) es') ≡ blob_in (lookup (same q) es)
+  blob_same is q = elim (one_or_two q key) [
+    | inl e ↦ ap blob_in (at_key q e) ∙ is ∙ ap blob_in (has ∙ sym (ap (λ r. lookup (same r) es) e))
+    | inr ne ↦ ap blob_in (elsewhere q ne)
   ]
 
   pub held_kept : ((n : List ℕ) → list_any (same n) item.holders ≡ is_held n before) → (q n : List ℕ)

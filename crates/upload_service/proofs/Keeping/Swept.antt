@@ -35,7 +35,7 @@ table es = kept_as bytes_cmp session_of es
 
 -- an open session with other bytes
 abbrev pub with_received : OpenSession → List ℕ → OpenSession
-with_received s received = record { name = s.name; received = received; seen = s.seen }
+with_received s received = record { name = s.name; received = received; seen = s.seen; grant = s.grant }
 
 -- entries of which one has bytes that are seen the same
 pub received_same : (es fs : Entries) (k : List ℕ) (old : OpenSession) (received : List ℕ) → Some old ≡ lookup (same k) es

@@ -16,3 +16,7 @@ session_of s = record { name = s.name; received = s.received; seen = s.seen }
 -- an entry whose session isn't idle
 abbrev pub is_kept : ℕ → ℕ → List ℕ × OpenSession → Bool
 is_kept max_idle now entry = not (is_idle max_idle now (session_of entry.1))
+
+-- an entry as it is seen: its reference, and what its session is seen as
+abbrev pub seen_entry : List ℕ × OpenSession → List ℕ × Session
+seen_entry entry = (entry.0, session_of entry.1)

@@ -16,6 +16,7 @@ use Rattle.upload_service.specs.declared.stock.Key.TheVariants as keys
 use Rattle.upload_service.specs.Machine.{same, same_digest, pair_cmp}
 use Rattle.upload_service.specs.Codes.{bytes_code, digest_code, pair_code}
 use Rattle.upload_service.specs.Kept.Entries.{kept_as}
+use Rattle.upload_service.specs.Kept.Holders.{is_alone}
 
 -- the blob of an item, if there is one
 abbrev pub blob_in : Option Item → Option (List ℕ)
@@ -25,6 +26,11 @@ blob_in = option_map (λ item. item.blob)
 abbrev pub is_held : List ℕ → Option Item → Bool
 is_held name None = false
 is_held name (Some item) = list_any (same name) item.holders
+
+-- whether a repository has the item, if there is one, and no other has it
+abbrev pub is_held_alone : List ℕ → Option Item → Bool
+is_held_alone name None = false
+is_held_alone name (Some item) = is_alone name item.holders
 
 -- the blob, or no bytes if there is none
 abbrev pub or_empty : Option (List ℕ) → List ℕ

@@ -9,11 +9,11 @@ use Rattle.upload_service.specs.declared.answer.Refusal.TheVariants as refusals
 use Rattle.upload_service.proofs.Serving.{does, comes_by, mismatch, match}
 use Rattle.upload_service.proofs.turn.close.Goals as goal
 
-pub returns-in-Err : goal.returns-in-Err
-returns-in-Err g c = does _ _ _ (Replies c.in-Err.answer) _ _ (c.in-Err.ensures.err.close c.args.digest) refl refl
+pub returns-in-Err-clause-turn : goal.returns-in-Err-clause-turn
+returns-in-Err-clause-turn g c = does _ _ _ (Replies c.in-Err.answer) _ _ (c.in-Err.ensures.err.close c.args.digest) refl refl
 
-pub returns-in_default : goal.returns-in_default
-returns-in_default g c =
+pub returns-in_default-clause-turn : goal.returns-in_default-clause-turn
+returns-in_default-clause-turn g c =
     let last = c.in-Ok.placed in
     let blob : List ℕ = c.in-Ok.ensures.ok.session.received ++ last.body in
     let done : Digest → Outcome = λ q. Commits last.name last.at q blob in
@@ -23,8 +23,8 @@ returns-in_default g c =
 pub has_digest-matches-requires : goal.has_digest-matches-requires
 has_digest-matches-requires g c = ap is_some c.in-Ok.ensures.ok.is_open
 
-pub returns-then-not-matches : goal.returns-then-not-matches
-returns-then-not-matches g c =
+pub returns-then-not-matches-clause-turn : goal.returns-then-not-matches-clause-turn
+returns-then-not-matches-clause-turn g c =
     let last = c.in-Ok.placed in
     let blob : List ℕ = c.in-Ok.ensures.ok.session.received ++ last.body in
     let done : Digest → Outcome = λ q. Commits last.name last.at q blob in
@@ -53,8 +53,8 @@ commit-requires-clause-fits g c = λ session e.
     subst (λ (s : Session). length s.received + length c.in-Ok.placed.body < 2 ^ 64) is
     (subst (λ n. n + length c.in-Ok.placed.body < 2 ^ 64) c.in-Ok.ensures.ok.is_next c.in-Ok.ensures.ok.fits)
 
-pub returns : goal.returns
-returns g c =
+pub returns-clause-turn : goal.returns-clause-turn
+returns-clause-turn g c =
     let last = c.in-Ok.placed in
     let blob : List ℕ = c.in-Ok.ensures.ok.session.received ++ last.body in
     let done : Digest → Outcome = λ q. Commits last.name last.at q blob in
@@ -67,5 +67,5 @@ returns g c =
     (subst (λ (m : Table Session). Comes (state_of (record c.args.tables.now { sessions = m })) c.args.now
     (done c.in-Some.digest) c.commit.result (state_of c.commit.new.tables))
     c.has_digest-matches.ensures.same
-    (c.commit.ensures c.args.now c.in-Ok.ensures.ok.session
+    (c.commit.ensures.turn c.args.now c.in-Ok.ensures.ok.session
     (ap (λ (m : Table Session). map.get m last.at) c.has_digest-matches.ensures.same ∙ c.in-Ok.ensures.ok.is_open)))

@@ -11,7 +11,8 @@ use Rattle.upload_service.proofs.turn.commit.Goals as goal
 
 pub blob_of-blob-requires-clause-fits : goal.blob_of-blob-requires-clause-fits
 blob_of-blob-requires-clause-fits c = λ session e.
-    subst (λ (b : List ℕ). length session.received + length b < 2 ^ 64) (sym c.in-Ok-of.ensures)
+    subst (λ (b : List ℕ). length session.received + length b < 2 ^ 64)
+    (sym (c.in-Ok-of.ensures ∙ c.in-Ok-admit.ensures.same))
     (c.requires.fits session e)
 
 pub put-requires : goal.put-requires
@@ -19,8 +20,8 @@ put-requires c =
     ap (λ (m : FinMap digest_cmp (List ℕ)). is_some (map.get m c.args.digest)) c.in-Ok-hold.ensures.blobs
     ∙ ap is_some (blob-insert_same c.args.tables.now.stock.blobs c.args.digest _)
 
-pub returns : goal.returns
-returns c = λ now session e.
+pub returns-clause-turn : goal.returns-clause-turn
+returns-clause-turn c = λ now session e.
     let had = c.args.tables.now.stock.blobs in
     let blobs : c.put.new.self.blobs ≡ map.insert had c.args.digest (session.received ++ c.args.last.body) =
     c.put.ensures.blobs
@@ -28,7 +29,7 @@ returns c = λ now session e.
     c.in-Ok-hold.ensures.blobs
     ∙ put_again had c.args.digest _ c.blob_of-blob.result
     ∙ ap (map.insert had c.args.digest)
-    (c.blob_of-blob.ensures.blob session e ∙ ap (λ l. session.received ++ l) c.in-Ok-of.ensures) in
+    (c.blob_of-blob.ensures.blob session e ∙ ap (λ l. session.received ++ l) (c.in-Ok-of.ensures ∙ c.in-Ok-admit.ensures.same)) in
     does _ now _ (Commits c.args.last.name c.args.last.at c.args.digest (session.received ++ c.args.last.body)) _ _
     refl refl
     (λ i. record {
@@ -39,8 +40,8 @@ returns c = λ now session e.
       pairs = (c.put.ensures.pairs ∙ c.in-Ok-hold.ensures.pairs) i;
     })
 
-pub returns-in_default-hold : goal.returns-in_default-hold
-returns-in_default-hold c = λ now session e.
+pub returns-in_default-hold-clause-turn : goal.returns-in_default-hold-clause-turn
+returns-in_default-hold-clause-turn c = λ now session e.
     lacks _ now _ (Commits c.args.last.name c.args.last.at c.args.digest (session.received ++ c.args.last.body)) _ _
     refl refl refl
     (λ i. record {

@@ -10,14 +10,14 @@ invariant_of-self g c = record {
   bounds =
       subst AreLawful
       (sym
-      (limits_turn (state_of c.self.inside.tables) c.args.ask c.args.secret c.args.now c.turn.result _ c.turn.ensures))
+      (limits_turn (state_of c.self.inside.tables) c.args.ask c.args.secret c.args.now c.turn.result _ c.turn.ensures.turn))
       c.self.invariant.bounds;
   state =
       lawful_turn (state_of c.self.inside.tables) c.args.ask c.args.secret c.args.now c.turn.result _
-      c.self.invariant.state c.turn.ensures;
+      c.self.invariant.state c.turn.ensures.turn;
 }
 
 pub returns-clause-lawful : goal.returns-clause-lawful
 returns-clause-lawful g c =
     lawful_turn (state_of c.self.inside.tables) c.args.ask c.args.secret c.args.now c.turn.result _
-    c.self.invariant.state c.turn.ensures
+    c.self.invariant.state c.turn.ensures.turn

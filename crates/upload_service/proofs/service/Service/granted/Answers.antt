@@ -1,5 +1,5 @@
 use Rattle.upload_service.proofs.Serving.{empty_is_lawful}
-use Rattle.upload_service.proofs.service.Service.after.Goals as goal
+use Rattle.upload_service.proofs.service.Service.granted.Goals as goal
 
 pub invariant_of-result : goal.invariant_of-result
 invariant_of-result c =
