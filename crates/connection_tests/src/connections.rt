@@ -9,6 +9,7 @@ mod heard;
 mod rows;
 mod server;
 mod stored;
+mod without_room;
 
 use crate::expect::{holds, same, same_bytes};
 use http_wire::{ByteSink, ByteSource};

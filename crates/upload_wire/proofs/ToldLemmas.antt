@@ -22,6 +22,7 @@ use Rattle.http_wire.specs.declared.fault.WireFault.TheVariants as Wire
 use Rattle.http_wire.proofs.Heads.ReadLemmas.{ReadsHead-more}
 use Rattle.http_wire.proofs.UnambiguousHeads.{requests_unambiguous}
 use Rattle.upload_wire.specs.declared.request.Style.{Style}
+use Rattle.upload_wire.specs.declared.request.Came.{Came}
 use Rattle.upload_wire.specs.declared.request.Next.{Next}
 use Rattle.upload_wire.specs.declared.request.Next.TheVariants.{Request, Over}
 use Rattle.upload_wire.specs.declared.request.Next.TheVariants as nexts
@@ -240,6 +241,17 @@ module _ {D O : Type 0} (step : Moves D) (telling : Telling O) (max count : ℕ)
     told = n.told;
   }
 
+  -- the desk can't be asked it
+  pub unasked_told : (kept : List ℕ) (next : ℕ) → new ≡ at
+      → StopsTold (rules step telling max) (observed (progress count held first at mid) was)
+      (observed (progress next kept left new mid) heard) (Fault (Conn.Wire Wire.NoMemory))
+  unasked_told kept next stays = record {
+    stops = stops n.next.given n.next.gives same (tt, record { unasked = stays; unwritten = refl });
+    events = n.events;
+    tells = inr n.tells;
+    told = n.told;
+  }
+
 module _ {D O : Type 0} (step : Moves D) (telling : Telling O) (max count : ℕ) (held rest : List ℕ)
     (first left : SourceState) (at : D) (mid : SinkState)
     (was heard : O) where
@@ -286,7 +298,7 @@ module _ {D O : Type 0} (step : Moves D) (telling : Telling O) (max count : ℕ)
     refusal_told kept next other a = absurd a
 
   reads_fail : (fault : WireFault)
-      → Costs (most_reads max) (◌≡◌ {A = Result Next WireFault} (Err fault) (Err Wire.Read)) first left
+      → Costs (most_reads max) (◌≡◌ {A = Result Came WireFault} (Err fault) (Err Wire.Read)) first left
       → ReadsFail (Fault (Conn.Wire fault)) first.failed_reads left.failed_reads
   reads_fail Wire.Read costs = costs.failed refl
   reads_fail other costs = costs.unfailed (λ e. cc)
@@ -300,7 +312,7 @@ module _ {D O : Type 0} (step : Moves D) (telling : Telling O) (max count : ℕ)
   pub stopped_told : (fault : WireFault)
       → ReadsTold telling max (listening (input_state held first) was) (listening (input_state rest left) heard)
       (Err fault)
-      → Costs (most_reads max) (◌≡◌ {A = Result Next WireFault} (Err fault) (Err Wire.Read)) first left
+      → Costs (most_reads max) (◌≡◌ {A = Result Came WireFault} (Err fault) (Err Wire.Read)) first left
       → (kept : List ℕ) (next : ℕ)
       → StopsTold (rules step telling max) (observed (progress count held first at mid) was)
       (observed (progress next kept left at mid) heard) (Fault (Conn.Wire fault))

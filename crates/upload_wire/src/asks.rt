@@ -1,17 +1,20 @@
 //! What a request asks, by its path, method, query and range, and then by its body.
-ghost use Rattle.std.specs.Prelude.{◌≡◌, IfOk, option_and_then, codes, ◌≢◌, ℕ, List, ◌∷◌, ◌++◌, MatchOption};
+ghost use Rattle.std.specs.Prelude.{◌≡◌, IfOk, IfSome, option_and_then, codes, ◌≢◌, ℕ, List, ◌∷◌, ◌++◌, MatchOption};
 ghost use Rattle.upload_names.specs.Digest.{digest_of};
 ghost use Rattle.upload_names.specs.Reference.{reference_of};
 ghost use Rattle.http_wire.specs.Query.{parameter};
 ghost use Rattle.upload_wire.specs.Target.{method_of, named, base_ask, blob_ask, mount_ask, uploads_ask, upload_ask};
 ghost use Rattle.upload_wire.specs.Target.{with_body, AsksAt, HeadAsks, HasNoSlash, IsFormOf};
+ghost use Rattle.upload_service.specs.Requests.{ask_in};
+ghost use Rattle.upload_wire.specs.Inner.Coming.{bytes_in};
 
+use crate::coming::Coming;
 use http_uri::{Uri, UriError};
 use http_wire::{Framing, parameter};
 use std::alloc::{AllocError, Global};
-use upload_bytes::Body;
+use upload_bytes::{Body, Gone, HashPlace};
 use upload_names::{Algorithm, BlobDigest, NameFault, RepoName, UploadRef};
-use upload_service::{Ask, Extent, Form, Refusal};
+use upload_service::{Ask, Extent, Form, GoneChunk, Refusal, Request};
 
 /// The forms of a path, with their parts.
 #[derive(Clone, Copy)]
@@ -348,6 +351,48 @@ impl HeadAsk {
                 digest,
                 body,
             },
+        }
+    }
+
+    /// Whether it can be asked without its body (`with_gone`).
+    pub fn may_lack_body(&self) -> bool {
+        match self {
+            HeadAsk::Ready(_) | HeadAsk::IfBodiless(_) | HeadAsk::Chunk { .. } => true,
+            HeadAsk::Single { .. } | HeadAsk::Close { .. } => false,
+        }
+    }
+
+    /// The ask with a body that was let go. `None`: it can't be asked so, since its digest is that of the body.
+    pub fn with_gone(self, gone: Gone) -> Option<Request>
+        ensures { IfSome result (λ request. ask_in request ≡ with_body self gone) }
+    {
+        match self {
+            HeadAsk::Ready(ask) => Some(Request::Held(ask)),
+            HeadAsk::IfBodiless(ask) => {
+                if gone.len() == 0 {
+                    Some(Request::Held(ask))
+                } else {
+                    Some(Request::Held(Ask::Refused(Refusal::HasBody)))
+                }
+            }
+            HeadAsk::Chunk { name, at, range } => Some(Request::Gone(GoneChunk {
+                name,
+                at,
+                range,
+                body: gone,
+            })),
+            HeadAsk::Single { .. } | HeadAsk::Close { .. } => None,
+        }
+    }
+
+    /// The ask with what came of its body, which is hashed at a place. `None`: it can't be asked without it.
+    pub fn with_what_came<P: HashPlace>(self, body: Coming, place: &P) -> Option<Request>
+        ensures { IfSome result (λ request. ask_in request ≡ with_body self (bytes_in body)) }
+    {
+        match body {
+            // It may stay as long as its blob does, so the room that it grew by in advance goes.
+            Coming::Held(body) => Some(Request::Held(self.with_body(body.finish(place)))),
+            Coming::Gone(gone) => self.with_gone(gone),
         }
     }
 

@@ -10,18 +10,19 @@ ghost use Rattle.upload_wire.specs.Phases.{most_reads};
 ghost use Rattle.upload_wire.specs.Told.{IsTold, event_of, rules, sides};
 ghost use Rattle.upload_wire.specs.Inner.ConversationSteps.{IsRepliedTo, RefusedWith};
 ghost use Rattle.upload_wire.specs.Inner.ConversationSteps.{progress_of, styled};
+ghost use Rattle.upload_wire.specs.Inner.Coming.{came_in};
 ghost use Rattle.upload_wire.specs.Inner.ToldSteps.{ReadsTold, GoesOnTold, StopsTold, listening, observed};
 
-use crate::desk::Desk;
+use crate::desk::{Desk, ask_desk};
 use crate::input::RequestInput;
 use crate::observer::{NoObserver, Observer};
 use crate::reply::{body_size, reply_status, write_reply};
-use crate::request::{Next, Style};
+use crate::request::{Came, Style};
 use http_wire::{Bad, ByteSink, ByteSource, HeadRead, WireFault, bad_status, write_bad};
 use std::alloc::{AllocError, Global};
 use std::fmt;
 use std::marker::Model;
-use upload_bytes::{HashPlace, InPlace};
+use upload_bytes::{HashPlace, InPlace, Room};
 use upload_service::{Answer, Limits};
 
 /// The most requests that are answered on one connection.
@@ -117,7 +118,27 @@ impl ConnectionServer {
         requires { AreLawful limits }
         ensures { IfOk result (λ server. server.max_body ≡ limits.max_body) }
     {
-        let input = RequestInput::new(alloc, limits)?;
+        ConnectionServer::granted(alloc, limits, None)
+    }
+
+    /// The same, but the bytes of bodies are granted of this room as they come. A body that it has no room for ends its
+    /// connection as want of memory does.
+    pub fn within(alloc: Global, limits: Limits, room: Room) -> Result<ConnectionServer, AllocError>
+        requires { AreLawful limits }
+        ensures { IfOk result (λ server. server.max_body ≡ limits.max_body) }
+    {
+        ConnectionServer::granted(alloc, limits, Some(room))
+    }
+
+    fn granted(
+        alloc: Global,
+        limits: Limits,
+        room: Option<Room>,
+    ) -> Result<ConnectionServer, AllocError>
+        requires { AreLawful limits }
+        ensures { IfOk result (λ server. server.max_body ≡ limits.max_body) }
+    {
+        let input = RequestInput::new(alloc, limits, room)?;
         Ok(ConnectionServer { input, answered: 0 })
     }
 
@@ -167,16 +188,17 @@ impl ConnectionServer {
         ensures limit { self.new.max_body ≡ self.old.max_body }
     {
         match self.read_next(place, reader, observer) {
-            Ok(Next::Request { ask, style }) => match desk.ask(ask) {
-                Some(answer) => {
+            Ok(Came::Request { request, style }) => match ask_desk(desk, request) {
+                Ok(Some(answer)) => {
                     let end = self.reply(writer, &answer, style);
                     tell_reply(observer, &answer, style);
                     end
                 }
-                None => Some(ConnEnd::DeskGone),
+                Ok(None) => Some(ConnEnd::DeskGone),
+                Err(_) => Some(ConnEnd::Fault(ConnFault::Wire(WireFault::NoMemory))),
             },
-            Ok(Next::Over) => Some(ConnEnd::Clean),
-            Ok(Next::Bad(why)) => {
+            Ok(Came::Over) => Some(ConnEnd::Clean),
+            Ok(Came::Bad(why)) => {
                 let end = refuse(writer, why);
                 observer.replied(bad_status(why).number(), 0);
                 Some(end)
@@ -191,10 +213,10 @@ impl ConnectionServer {
         place: &P,
         reader: &mut S,
         observer: &mut O,
-    ) -> Result<Next, WireFault>
+    ) -> Result<Came, WireFault>
         ensures told { ReadsTold O.told self.old.max_body
             (listening (input_state self.old.held (S.state reader.old)) observer.old)
-            (listening (input_state self.new.held (S.state reader.new)) observer.new) result }
+            (listening (input_state self.new.held (S.state reader.new)) observer.new) (came_in result) }
         ensures costs { Costs (most_reads self.old.max_body) (result ≡ Err WireFault.Read)
             (S.state reader.old) (S.state reader.new) }
         ensures answered { self.new.answered ≡ self.old.answered }
@@ -205,14 +227,14 @@ impl ConnectionServer {
                 observer.hears(Some(self.input.line(&parsed)));
                 self.input.next_body(place, reader, &parsed)
             }
-            HeadRead::Over => Ok(Next::Over),
+            HeadRead::Over => Ok(Came::Over),
             HeadRead::Refused => {
                 observer.hears(None);
-                Ok(Next::Bad(Bad::Head))
+                Ok(Came::Bad(Bad::Head))
             }
             HeadRead::TooLong => {
                 observer.hears(None);
-                Ok(Next::Bad(Bad::LongHead))
+                Ok(Came::Bad(Bad::LongHead))
             }
         }
     }

@@ -9,17 +9,18 @@ ghost use Rattle.http_wire.specs.Inner.HeadSpans.{request_spans};
 ghost use Rattle.upload_service.specs.Machine.{AreLawful};
 ghost use Rattle.upload_wire.specs.Phases.{most_reads};
 ghost use Rattle.upload_wire.specs.RequestText.{ReadsNext};
+ghost use Rattle.upload_wire.specs.Inner.Coming.{came_in};
 ghost use Rattle.upload_wire.specs.Told.{HasLine};
 
 use crate::observer::RequestLine;
-use crate::request::{Hashing, Next, describe, read_request};
+use crate::request::{Came, Hashing, Next, describe, held, read_request};
 use http_wire::{
     Bad, ByteSource, HeadRead, Input, InputFault, ParsedRequest, ReadBuffer, Requests, WireFault,
     read_head,
 };
 use std::alloc::{AllocError, Global};
 use std::marker::Model;
-use upload_bytes::{HashPlace, InPlace};
+use upload_bytes::{HashPlace, InPlace, Room};
 use upload_names::UploadRef;
 use upload_service::{Answer, Limits};
 
@@ -31,6 +32,8 @@ pub(crate) struct RequestInput {
     buffer: ReadBuffer,
     /// The upload that was last answered to have bytes.
     filled: Option<UploadRef>,
+    /// What the bytes of bodies are granted of, if there is a limit.
+    room: Option<Room>,
 }
 
 impl Model for RequestInput {
@@ -45,9 +48,13 @@ impl Model for RequestInput {
 }
 
 impl RequestInput {
-    /// An input of requests with bodies of at most `limits.max_body` bytes. It makes its one buffer of 64 KiB, or
-    /// answers that there is no memory for it.
-    pub fn new(alloc: Global, limits: Limits) -> Result<RequestInput, AllocError>
+    /// An input of requests with bodies of at most `limits.max_body` bytes, which are granted of a room if one is given.
+    /// It makes its one buffer of 64 KiB, or answers that there is no memory for it.
+    pub fn new(
+        alloc: Global,
+        limits: Limits,
+        room: Option<Room>,
+    ) -> Result<RequestInput, AllocError>
         requires { AreLawful limits }
         ensures { IfOk result (λ input. input ≡ record { max_body = limits.max_body; held = [] }) }
     {
@@ -57,6 +64,7 @@ impl RequestInput {
             max_body: limits.max_body,
             buffer,
             filled: None,
+            room,
         })
     }
 
@@ -83,11 +91,22 @@ impl RequestInput {
             (S.state source.old) (S.state source.new) }
         ensures limit { self.new.max_body ≡ self.old.max_body }
     {
+        held(self.next_came(source))
+    }
+
+    /// The same, if the bytes of a chunk may be let go.
+    fn next_came<S: ByteSource>(&mut self, source: &mut S) -> Result<Came, WireFault>
+        ensures found { ReadsNext self.old.max_body (input_state self.old.held (S.state source.old))
+            (input_state self.new.held (S.state source.new)) (came_in result) }
+        ensures costs { Costs (most_reads self.old.max_body) (result ≡ Err WireFault.Read)
+            (S.state source.old) (S.state source.new) }
+        ensures limit { self.new.max_body ≡ self.old.max_body }
+    {
         match self.next_head(source)? {
             HeadRead::Head(parsed) => self.next_body(&InPlace, source, &parsed),
-            HeadRead::Over => Ok(Next::Over),
-            HeadRead::Refused => Ok(Next::Bad(Bad::Head)),
-            HeadRead::TooLong => Ok(Next::Bad(Bad::LongHead)),
+            HeadRead::Over => Ok(Came::Over),
+            HeadRead::Refused => Ok(Came::Bad(Bad::Head)),
+            HeadRead::TooLong => Ok(Came::Bad(Bad::LongHead)),
         }
     }
 
@@ -126,11 +145,11 @@ impl RequestInput {
         place: &P,
         source: &mut S,
         parsed: &ParsedRequest,
-    ) -> Result<Next, WireFault>
+    ) -> Result<Came, WireFault>
         requires { IsHeadAtFront request_spans self.old.held parsed.now }
         ensures found { ReadsNext self.old.max_body (input_state self.old.held (S.state source.old))
-            (input_state self.new.held (S.state source.new)) result }
-        ensures came { ¬ (result ≡ Ok Next.Over) }
+            (input_state self.new.held (S.state source.new)) (came_in result) }
+        ensures came { ¬ (result ≡ Ok Came.Over) }
         ensures costs { Costs (12 + 13 * self.old.max_body) (result ≡ Err WireFault.Read)
             (S.state source.old) (S.state source.new) }
         ensures limit { self.new.max_body ≡ self.old.max_body }
@@ -139,6 +158,7 @@ impl RequestInput {
         let hashing = Hashing {
             place,
             filled: self.filled,
+            room: &self.room,
         };
         read_behind(self.alloc, &hashing, &mut input, parsed, self.max_body)
     }
@@ -151,12 +171,12 @@ fn read_behind<S: ByteSource, P: HashPlace>(
     input: &mut Input<'_, S>,
     parsed: &ParsedRequest,
     max_body: u64,
-) -> Result<Next, WireFault>
+) -> Result<Came, WireFault>
     requires limit { max_body ≤ 2 ^ 31 }
     requires head { IsHeadAtFront request_spans input.old.buffer.now parsed.now }
     ensures found { ReadsNext max_body (input_of S.state input.old) (input_of S.state input.new)
-        result }
-    ensures came { ¬ (result ≡ Ok Next.Over) }
+        (came_in result) }
+    ensures came { ¬ (result ≡ Ok Came.Over) }
     ensures costs { ReadsAtMost S.state (12 + 13 * max_body) (result ≡ Err WireFault.Read)
         input.old input.new }
 {
@@ -166,7 +186,7 @@ fn read_behind<S: ByteSource, P: HashPlace>(
             input.take(parsed.spans.len);
             read_request(alloc, hashing, input, described)
         }
-        Err(bad) => Ok(Next::Bad(bad)),
+        Err(bad) => Ok(Came::Bad(bad)),
     }
 }
 

@@ -1,11 +1,12 @@
 //! HTTP/1.1 requests and replies of the blob-upload service, from bytes and to bytes.
 //!
 //! Requests come through `input`, which has `http_wire` read a head, and `request` reads what that asks (`asks`) and
-//! its body. `connection` asks a `desk`, tells an `observer`, and `reply` gathers the head of the reply and has it
-//! written with its body.
+//! its body (`coming`). `connection` asks a `desk`, tells an `observer`, and
+//! `reply` gathers the head of the reply and has it written with its body.
 #![tactic(auto)]
 
 mod asks;
+mod coming;
 mod connection;
 mod desk;
 mod input;
@@ -16,7 +17,7 @@ mod reply;
 mod request;
 
 pub use connection::{ConnEnd, ConnFault, ConnectionServer, serve_connection};
-pub use desk::{Desk, ServiceDesk};
+pub use desk::{Desk, NotAsked, ServiceDesk};
 pub use laws::{
     connections_run_the_service, conversations_are_determined, requests_are_unambiguous,
     service_desks_are_deterministic, transcripts_tell_conversations,

@@ -56,7 +56,7 @@ impl<S: ByteSource + Drop> RequestReader<S> {
           phase = Phase.Ready;
         }) }
     {
-        let input = RequestInput::new(alloc, limits)?;
+        let input = RequestInput::new(alloc, limits, None)?;
         Ok(RequestReader {
             input,
             source,

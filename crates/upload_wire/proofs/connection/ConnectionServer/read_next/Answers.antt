@@ -6,6 +6,8 @@ use Rattle.http_wire.specs.Inner.HeadReading.{FindsHead}
 use Rattle.http_wire.specs.Inner.HeadSpans.{request_spans}
 use Rattle.http_wire.specs.declared.fault.Bad.TheVariants.{Head, LongHead}
 use Rattle.upload_wire.specs.RequestText.{ReadsNext}
+use Rattle.upload_wire.specs.Inner.Coming.{came_in}
+use Rattle.upload_wire.proofs.RequestLemmas.{not_over}
 use Rattle.upload_wire.proofs.ToldLemmas.{told_behind, told_unreadable, told_fault}
 use Rattle.upload_wire.proofs.connection.ConnectionServer.read_next.Goals as goal
 
@@ -27,10 +29,10 @@ returns-in-Head-clause-told g c =
     let left = input_state c.next_body.new.self.held (g.S.ByteSource.state c.next_body.new.source) in
     rw (← c.self.view_is)
     (told_behind g.O.Observer.told s.max_body first mid c.in_ok-parsed.ensures.gave c.args.observer.now left
-    c.hears.new.self c.line.result.method.now c.line.result.target.now c.next_body.result
+    c.hears.new.self c.line.result.method.now c.line.result.target.now (came_in c.next_body.result)
     c.line.ensures c.hears.ensures
-    (subst (λ n. ReadsNext n mid left c.next_body.result) c.in_ok-parsed.ensures.limit c.next_body.ensures.found)
-    c.next_body.ensures.came)
+    (subst (λ n. ReadsNext n mid left (came_in c.next_body.result)) c.in_ok-parsed.ensures.limit c.next_body.ensures.found)
+    (not_over c.next_body.result c.next_body.ensures.came))
 
 pub returns-in-Refused-clause-told : goal.returns-in-Refused-clause-told
 returns-in-Refused-clause-told g c =

@@ -1,14 +1,15 @@
-use Rattle.std.proofs.Common.{subst}
 use Rattle.http_wire.specs.States.{input_state}
-use Rattle.upload_wire.specs.RequestText.{ReadsNext}
-use Rattle.upload_wire.proofs.RequestLemmas.{reads_after}
+use Rattle.upload_wire.proofs.RequestLemmas.{held_next, held_costs}
 use Rattle.upload_wire.proofs.input.RequestInput.next.Goals as goal
 
-pub returns-in-Head-clause-found : goal.returns-in-Head-clause-found
-returns-in-Head-clause-found g c =
-    let old = input_state c.args.self.now.held (g.S.ByteSource.state c.args.source.now) in
-    let mid = input_state c.next_head.new.self.held (g.S.ByteSource.state c.next_head.new.source) in
-    let new = input_state c.next_body.new.self.held (g.S.ByteSource.state c.next_body.new.source) in
-    reads_after c.args.self.now.max_body old mid new c.next_body.result c.in_ok-parsed.ensures.gave
-    (subst (λ n. ReadsNext n mid new c.next_body.result)
-    c.in_ok-parsed.ensures.limit c.next_body.ensures.found)
+pub returns-clause-found : goal.returns-clause-found
+returns-clause-found g c =
+    held_next c.args.self.now.max_body
+    (input_state c.args.self.now.held (g.S.ByteSource.state c.args.source.now))
+    (input_state c.next_came.new.self.held (g.S.ByteSource.state c.next_came.new.source))
+    c.next_came.result c.held.result c.held.ensures c.next_came.ensures.found
+
+pub returns-clause-costs : goal.returns-clause-costs
+returns-clause-costs g c =
+    held_costs _ (g.S.ByteSource.state c.args.source.now) (g.S.ByteSource.state c.next_came.new.source)
+    c.next_came.result c.held.result c.held.ensures c.next_came.ensures.costs
