@@ -9,7 +9,8 @@ use Rattle.sqlite_disk.specs.Memory.{memory_bytes}
 use Rattle.bodies.specs.Calls.{held_after}
 use Rattle.bodies.specs.MemoryFiles.{held_in, named, nothing, AreListed}
 use Rattle.bodies.specs.declared.calls.Call.{Call}
-use Rattle.bodies.specs.declared.calls.Call.TheVariants.{Made, Taken, Missing, Closed, Synced, Removed, Read, Whole, Listed, Failed}
+use Rattle.bodies.specs.declared.calls.Call.TheVariants.{Made, Taken, Missing, Closed, Synced, Removed, Read, Whole}
+use Rattle.bodies.specs.declared.calls.Call.TheVariants.{Listed, Failed}
 
 -- all that are listed have a file, and all that have one are listed, or have it by the calls that are left
 pub record IsListed (calls : List (Call Memory)) (left : ℕ) (numbers : List ℕ) : Type 0 where

@@ -5,7 +5,8 @@ use Rattle.sqlite_disk.specs.Memory.{memory_bytes}
 use Rattle.bodies.specs.Calls.{held_after, left_after}
 use Rattle.bodies.specs.MemoryFiles.{held_in, left_in, nothing, memory_may_leave}
 use Rattle.bodies.specs.declared.calls.Call.{Call}
-use Rattle.bodies.specs.declared.calls.Call.TheVariants.{Made, Taken, Missing, Closed, Synced, Removed, Read, Whole, Listed, Failed}
+use Rattle.bodies.specs.declared.calls.Call.TheVariants.{Made, Taken, Missing, Closed, Synced, Removed, Read, Whole}
+use Rattle.bodies.specs.declared.calls.Call.TheVariants.{Listed, Failed}
 
 after : (calls : List (Call Memory)) (n : ℕ)
     → left_after memory_bytes nothing memory_may_leave (λ _. true) calls n (held_after memory_bytes nothing calls n)

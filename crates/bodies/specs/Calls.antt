@@ -58,3 +58,9 @@ abbrev pub Refused : {F : Type 0} → ℕ → BodyFault → List (Call F) → Li
 Refused number faults.Missing old new = new ≡ Missing number ∷ old
 Refused number (faults.Io _) old new = new ≡ Failed ∷ old
 Refused number _ old new = ⊥
+
+-- a name for this number that was refused: what is told of it is noted, that there is a file, or that the call failed
+abbrev pub RefusedName : {F : Type 0} → ℕ → BodyFault → List (Call F) → List (Call F) → Type 0
+RefusedName number faults.Taken old new = new ≡ Taken number ∷ old
+RefusedName number (faults.Io _) old new = new ≡ Failed ∷ old
+RefusedName number _ old new = ⊥

@@ -1,18 +1,19 @@
 -- A file that was made in a folder.
-use Rattle.std.specs.Prelude.{ℕ, List}
-use Rattle.std.specs.declared.snapshot.Snapshot.{Snapshot}
-use Rattle.sqlite_disk.specs.declared.modelled.Modelled.{Modelled}
-use Rattle.sqlite_disk.specs.declared.calls.Calls as calls
+use Rattle.std.specs.Prelude.{◌≡◌, ℕ, List}
 use Rattle.sqlite_disk.specs.declared.start.Start.{Ghosts}
 use Rattle.sqlite_disk.specs.History.{MayLeave}
-use Rattle.journal_file.specs.declared.host.Host.{Host}
 use Rattle.journal_file.specs.Opened.{model_of}
+use Rattle.bodies.specs.declared.closed.Closed.{Closed}
+use Rattle.bodies.specs.declared.closed.Closed.TheVariants.{Written, Whole}
 
-module _ {S : Type 0} {g : calls.Ghosts Host} (start : Ghosts S) where
-  -- its member `seen`
-  abbrev pub seen_of : Snapshot (Modelled Host S g start) → List ℕ
-  seen_of file = (model_of start file.value).seen
+module _ {S : Type 0} (start : Ghosts S) where
+  -- its member `seen`, or the body that it has
+  abbrev pub seen_of : Closed S start → List ℕ
+  seen_of (Written file) = (model_of start file.value).seen
+  seen_of (Whole body) = body.value
 
-  -- its member `may_leave`
-  abbrev pub may_leave_of : Snapshot (Modelled Host S g start) → List ℕ → Type 0
-  may_leave_of file = let m = model_of start file.value in MayLeave start.is_mixing m.seen m.synced m.steps
+  -- its member `may_leave`, or just that body
+  abbrev pub may_leave_of : Closed S start → List ℕ → Type 0
+  may_leave_of (Written file) bytes =
+      let m = model_of start file.value in MayLeave start.is_mixing m.seen m.synced m.steps bytes
+  may_leave_of (Whole body) bytes = bytes ≡ body.value

@@ -9,3 +9,4 @@ pub mod MemoryShelf
 pub mod Shelf
 pub mod Reader
 pub mod AheadShelf
+pub mod Unnamed

@@ -6,6 +6,7 @@ ghost use Rattle.std.specs.Prelude.{[]};
 use crate::fault::BodyFault;
 use crate::lending::Lends;
 use crate::shelf::Shelf;
+use crate::unnamed::{Synced, Unnamed};
 use crate::whole::{Whole, read_whole};
 use std::alloc::Global;
 use std::collections::VecDeque;
@@ -76,6 +77,15 @@ impl<'a, R: Threads, S: Lends> AheadShelf<'a, R, S> {
         }
     }
 
+    /// The shelf that it read. No thread reads any more.
+    pub fn into_inner(self) -> S
+        ensures { result ≡ inner_of self.entry }
+    {
+        let mut shelf = self;
+        shelf.forget();
+        shelf.inner
+    }
+
     /// Lets go of the bodies before a number.
     fn drop_before(&mut self, number: u64)
         ensures { inner_of self.new ≡ inner_of self.old }
@@ -85,7 +95,17 @@ impl<'a, R: Threads, S: Lends> AheadShelf<'a, R, S> {
                 Some(first) if first.hint.number < number => {}
                 _ => return,
             }
-            let _ = self.pop();
+            self.drop_first();
+        }
+    }
+
+    /// Lets go of the first body that is under way, once its thread has ended: what a thread has read stays in memory if
+    /// nobody takes it.
+    fn drop_first(&mut self)
+        ensures { inner_of self.new ≡ inner_of self.old }
+    {
+        if let Some(UnderWay { thread, .. }) = self.pop() {
+            let _ = thread.join(self.rt);
         }
     }
 
@@ -157,8 +177,16 @@ impl<'a, R: Threads, S: Lends> AheadShelf<'a, R, S> {
         ensures { inner_of self.new ≡ inner_of self.old }
     {
         self.begun = self.hints.len();
-        self.under_way.clear();
-        self.ahead = 0;
+        self.drop_all();
+    }
+
+    /// Lets go of all that is under way.
+    fn drop_all(&mut self)
+        ensures { inner_of self.new ≡ inner_of self.old }
+    {
+        for _ in 0..self.under_way.len() {
+            self.drop_first();
+        }
     }
 
     /// What a thread has read of this number.
@@ -202,6 +230,18 @@ impl<'a, R: Threads, S: Lends> Shelf for AheadShelf<'a, R, S> {
 
     fn sync(&mut self, number: u64) -> io::Result<()> {
         self.inner.sync(number)
+    }
+
+    fn make_unnamed(&mut self) -> Result<Unnamed, BodyFault> {
+        self.inner.make_unnamed()
+    }
+
+    fn name(&mut self, number: u64, synced: Synced) -> Result<(), BodyFault> {
+        self.inner.name(number, synced)
+    }
+
+    fn empty(&mut self, slot: u64) {
+        self.inner.empty(slot);
     }
 
     fn read_at(&mut self, number: u64, at: usize, buf: &mut [u8]) -> Result<usize, BodyFault> {

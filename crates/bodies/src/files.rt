@@ -2,16 +2,19 @@
 ghost use Rattle.std.specs.Prelude.{◌≡◌, ◌≤◌, [], ◌∷◌, ℕ, Bool, List, Option, length, IfOk, IsTrue};
 ghost use Rattle.bodies.specs.declared.calls.Call.TheVariants as Call;
 ghost use Rattle.bodies.specs.declared.fault.BodyFault.TheVariants.{Io};
-ghost use Rattle.bodies.specs.Calls.{Refused};
+ghost use Rattle.bodies.specs.Calls.{Refused, RefusedName};
 ghost use Rattle.journal_file.specs.Opened.{IsJustOpened};
 
 use crate::calls::Call;
+use crate::closed::Closed;
+use crate::counter::Counter;
 use crate::fault::BodyFault;
 use crate::lending::Lends;
 use crate::reader::BodyReader;
 use crate::shelf::Shelf;
+use crate::unnamed::{Synced, Unnamed};
 use journal_file::{
-    FileFrom, Folder, Notes, OpenFault, Start, make_file, make_folder, sync_folder,
+    FileFrom, Folder, Notes, OpenFault, Start, make_file, make_folder, make_plain, sync_folder,
 };
 use std::alloc::Global;
 use std::fs;
@@ -32,20 +35,27 @@ pub trait Holds {
 /// How many folders there are: one for each value of a number's low byte.
 const FOLDERS: u64 = 256;
 
+/// The folder of the files that have no number yet.
+const UNNAMED: &str = "new";
+
 /// Bodies in a folder of 256 folders, which the low byte of the number names, so that none is large. `S` stands for a
 /// file that is new, and `H` for the bodies that were there.
 #[derive(Drop)]
 pub struct FolderShelf<S: Start, H: Holds> {
     rt: HostRuntime,
     path: String,
-    calls: Notes<Call<Snapshot<FileFrom<S>>>>,
+    calls: Notes<Call<Closed<S>>>,
     is_usable: bool,
+    counter: Counter,
+    /// The slot of the next file that has no number.
+    next_slot: u64,
     held: PhantomData<H>,
     ghost empty: { S.Start.db ≡ [] },
 }
 
 impl<S: Start, H: Holds> FolderShelf<S, H> {
-    /// Opens the shelf of this name in a folder, and makes what is missing of it, each folder with mode 0700.
+    /// Opens the shelf of this name in a folder, and makes what is missing of it, each folder with mode 0700. Files that
+    /// have no number are removed: a server that was killed left them.
     pub fn open(
         rt: &HostRuntime,
         folder: &Folder,
@@ -59,6 +69,7 @@ impl<S: Start, H: Holds> FolderShelf<S, H> {
         for low in 0..FOLDERS {
             make_folder(rt, path_within(rt, path.as_str(), low)?.as_str())?;
         }
+        make_empty(rt, unnamed_within(rt, path.as_str())?.as_str())?;
         sync_folder(rt, path.as_str())?;
         folder.sync()?;
         Ok(FolderShelf {
@@ -66,8 +77,15 @@ impl<S: Start, H: Holds> FolderShelf<S, H> {
             path,
             calls: Notes::none(),
             is_usable: true,
+            counter: Counter::new(rt.alloc()).map_err(io::Error::from)?,
+            next_slot: 0,
             held: PhantomData,
         })
+    }
+
+    /// How many bytes are read of its bodies from now on.
+    pub fn counter(&self) -> &Counter {
+        &self.counter
     }
 
     /// The folder that a number's file is in.
@@ -91,11 +109,46 @@ impl<S: Start, H: Holds> FolderShelf<S, H> {
         make_file(&self.rt, self.path_of(number)?.as_str())
     }
 
+    /// Where the file of a slot is.
+    fn path_of_slot(&self, slot: u64) -> io::Result<String> {
+        let folder = unnamed_within(&self.rt, self.path.as_str())?;
+        Ok(format!(in self.rt.alloc(); "{folder}/{slot}")?)
+    }
+
+    /// Makes the file of a slot.
+    fn make_in(&self, slot: u64) -> io::Result<Unnamed> {
+        let file = make_plain(&self.rt, self.path_of_slot(slot)?.as_str())?;
+        Ok(Unnamed::on_disk(slot, file))
+    }
+
+    /// Has the file of a slot stand at this number, unless something stands there: nobody else puts something there
+    /// meanwhile, since the folder is locked.
+    fn rename(&self, slot: u64, number: u64) -> io::Result<()> {
+        let from = self.path_of_slot(slot)?;
+        let to = self.path_of(number)?;
+        match fs::symlink_metadata(&self.rt, to.as_str()) {
+            Ok(_) => Err(ErrorKind::AlreadyExists.into()),
+            Err(error) if error.kind() == ErrorKind::NotFound => {
+                fs::rename(&self.rt, from.as_str(), to.as_str())
+            }
+            Err(error) => Err(error),
+        }
+    }
+
+    /// Removes the file of a slot, if that can be.
+    fn remove_slot(&self, slot: u64) {
+        if let Ok(path) = self.path_of_slot(slot) {
+            let _ = fs::remove_file(&self.rt, path.as_str());
+        }
+    }
+
     /// Reads this number's file, as `read_at` does.
     fn read(&self, number: u64, at: usize, buf: &mut [u8]) -> io::Result<usize>
         ensures { IfOk result (λ n. n ≤ length buf.old) }
     {
-        self.open_body(number)?.read_at(buf, at as u64)
+        let n = self.open_body(number)?.read_at(buf, at as u64)?;
+        self.counter.add(n);
+        Ok(n)
     }
 
     /// Opens the file of this number, to read it.
@@ -129,6 +182,18 @@ impl<S: Start, H: Holds> FolderShelf<S, H> {
         BodyFault::Missing
     }
 
+    /// Why a number can't be given to a file. That it has one is noted, or that the call failed.
+    fn refuse_name(&mut self, number: u64, error: io::Error) -> BodyFault
+        ensures noted { RefusedName number result self.old.calls self.new.calls }
+        ensures usable { self.new.is_usable ≡ self.old.is_usable }
+    {
+        if error.kind() != ErrorKind::AlreadyExists {
+            return self.fail(error);
+        }
+        self.note(Call::Taken(number));
+        BodyFault::Taken
+    }
+
     /// Notes that a call failed.
     fn fail(&mut self, error: io::Error) -> BodyFault
         ensures is { result ≡ Io error }
@@ -140,7 +205,7 @@ impl<S: Start, H: Holds> FolderShelf<S, H> {
     }
 
     /// Notes a call with its answer.
-    fn note(&mut self, call: Call<Snapshot<FileFrom<S>>>)
+    fn note(&mut self, call: Call<Closed<S>>)
         ensures calls { self.new.calls ≡ call ∷ self.old.calls }
         ensures usable { self.new.is_usable ≡ self.old.is_usable }
     {
@@ -150,6 +215,23 @@ impl<S: Start, H: Holds> FolderShelf<S, H> {
 
 fn path_within(rt: &HostRuntime, path: &str, low: u64) -> io::Result<String> {
     Ok(format!(in rt.alloc(); "{path}/{low:02x}")?)
+}
+
+/// Where the files are that have no number.
+fn unnamed_within(rt: &HostRuntime, path: &str) -> io::Result<String> {
+    Ok(format!(in rt.alloc(); "{path}/{UNNAMED}")?)
+}
+
+/// Makes a folder, if it isn't there, and removes the files in it.
+fn make_empty(rt: &HostRuntime, path: &str) -> Result<(), OpenFault> {
+    make_folder(rt, path)?;
+    for entry in fs::read_dir(rt, path)? {
+        let entry = entry?;
+        let name = entry.file_name();
+        let file = format!(in rt.alloc(); "{path}/{name}").map_err(io::Error::from)?;
+        fs::remove_file(rt, file.as_str())?;
+    }
+    Ok(())
 }
 
 /// The number that a file is named by, if it is in its folder.
@@ -196,16 +278,12 @@ impl<S: Start, H: Holds> Shelf for FolderShelf<S, H> {
                 self.note(Call::Made(number));
                 Ok(file)
             }
-            Err(error) if error.kind() == ErrorKind::AlreadyExists => {
-                self.note(Call::Taken(number));
-                Err(BodyFault::Taken)
-            }
-            Err(error) => Err(self.fail(error)),
+            Err(error) => Err(self.refuse_name(number, error)),
         }
     }
 
     fn close(&mut self, number: u64, file: FileFrom<S>) -> io::Result<()> {
-        self.note(Call::Closed(number, Snapshot::of(&file)));
+        self.note(Call::Closed(number, Closed::Written(Snapshot::of(&file))));
         Ok(())
     }
 
@@ -221,6 +299,35 @@ impl<S: Start, H: Holds> Shelf for FolderShelf<S, H> {
                 Err(error)
             }
         }
+    }
+
+    fn make_unnamed(&mut self) -> Result<Unnamed, BodyFault> {
+        let slot = self.next_slot;
+        self.next_slot = slot.wrapping_add(1);
+        match self.make_in(slot) {
+            Ok(unnamed) => Ok(unnamed),
+            Err(error) => Err(self.fail(error)),
+        }
+    }
+
+    fn name(&mut self, number: u64, synced: Synced) -> Result<(), BodyFault> {
+        let slot = synced.slot();
+        match self.rename(slot, number) {
+            Ok(()) => {
+                self.note(Call::Made(number));
+                let whole = Closed::Whole(Snapshot::of(synced.body()));
+                self.note(Call::Closed(number, whole));
+                Ok(())
+            }
+            Err(error) => {
+                self.remove_slot(slot);
+                Err(self.refuse_name(number, error))
+            }
+        }
+    }
+
+    fn empty(&mut self, slot: u64) {
+        self.remove_slot(slot);
     }
 
     fn read_at(&mut self, number: u64, at: usize, buf: &mut [u8]) -> Result<usize, BodyFault> {
@@ -257,7 +364,8 @@ impl<S: Start, H: Holds> Shelf for FolderShelf<S, H> {
 
 impl<S: Start, H: Holds> Lends for FolderShelf<S, H> {
     fn lend(&self, number: u64) -> io::Result<BodyReader> {
-        Ok(BodyReader::new(number, self.open_body(number)?))
+        let counter = self.counter.share()?;
+        Ok(BodyReader::new(number, self.open_body(number)?, counter))
     }
 
     fn take_back(&mut self, reader: BodyReader) {

@@ -4,6 +4,7 @@ ghost use Rattle.sqlite_disk.specs.Disk.{CountsFault};
 
 use crate::fault::BodyFault;
 use crate::shelf::Shelf;
+use crate::unnamed::{Synced, Unnamed};
 use std::alloc::Global;
 use std::io;
 
@@ -91,6 +92,26 @@ impl<S: Shelf> Shelf for FuseShelf<S> {
             return Err(error);
         }
         self.inner.sync(number)
+    }
+
+    fn make_unnamed(&mut self) -> Result<Unnamed, BodyFault> {
+        if let Err(error) = spend(&mut self.calls_left, &mut self.refused) {
+            return Err(BodyFault::Io(error));
+        }
+        self.inner.make_unnamed()
+    }
+
+    fn name(&mut self, number: u64, synced: Synced) -> Result<(), BodyFault> {
+        if let Err(error) = spend(&mut self.calls_left, &mut self.refused) {
+            return Err(BodyFault::Io(error));
+        }
+        self.inner.name(number, synced)
+    }
+
+    fn empty(&mut self, slot: u64) {
+        if spend(&mut self.calls_left, &mut self.refused).is_ok() {
+            self.inner.empty(slot);
+        }
     }
 
     fn read_at(&mut self, number: u64, at: usize, buf: &mut [u8]) -> Result<usize, BodyFault> {

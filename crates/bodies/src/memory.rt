@@ -1,16 +1,22 @@
 //! A shelf in memory, for tests. It keeps its calls, so that a crash may leave all that its contract allows.
-ghost use Rattle.std.specs.Prelude.{◌≡◌, ◌≤◌, ◌↔◌, ◌∷◌, [], ℕ, List, Option, Some, None, length, take, Contains};
+ghost use Rattle.std.specs.Prelude.{◌≡◌, ◌≤◌, ◌↔◌, ◌∷◌, ◌++◌, [], ℕ, List, Option, Some, None, length, take, Contains};
 ghost use Rattle.std.specs.Prelude.{IsSome, IfOk, IfSome, IfNone, OnOk, OnErr, IsTrue};
-ghost use Rattle.bodies.specs.MemoryFiles.{held_in, left_in, named, AreListed, MayBeAny};
-ghost use Rattle.sqlite_disk.specs.Disk.{CountsFault, MoreFaults};
+ghost use Rattle.bodies.specs.MemoryFiles.{held_in, left_in, named, memory_may_leave, AreListed, MayBeAny};
+ghost use Rattle.sqlite_disk.specs.Disk.{CountsFault, MoreFaults, Only};
 ghost use Rattle.bodies.specs.Shelf.{IsPiece};
+ghost use Rattle.sqlite_disk.specs.Memory.{memory_bytes};
+ghost use Rattle.std.specs.List.{concat};
+ghost use Rattle.bodies.specs.Body.{bytes_of};
 
+use crate::body::Body;
 use crate::calls::Call;
 use crate::fault::BodyFault;
 use crate::shelf::Shelf;
+use crate::unnamed::{Synced, Unnamed};
 use sqlite_disk::{Disk, Memory};
 use std::alloc::Global;
 use std::io;
+use upload_bytes::{Body as Bytes, Part};
 
 /// Files in memory by their numbers.
 #[derive(Drop)]
@@ -253,6 +259,36 @@ fn copy(bytes: &[u8], at: usize, buf: &mut [u8]) -> usize
     n
 }
 
+/// Puts parts behind the bytes of a body.
+fn put_parts(file: &mut Body<Memory>, parts: &[Part]) -> Result<(), BodyFault>
+    ensures { OnOk result (bytes_of file.new ≡ bytes_of file.old ++ concat parts.now) }
+{
+    for part in parts {
+        if let Err(fault) = file.append(part.as_slice()) {
+            return Err(fault);
+        }
+    }
+    Ok(())
+}
+
+/// A file that has this body, on the disk.
+fn file_with(alloc: Global, body: &Bytes) -> Result<Memory, BodyFault>
+    ensures seen { IfOk result (λ file. memory_bytes file ≡ body.now) }
+    ensures stored { IfOk result (λ file. Only body.now (memory_may_leave file)) }
+{
+    let mut file = Body::new(0, Memory::new(alloc));
+    let pieces = body.pieces();
+    if let Err(fault) = put_parts(&mut file, pieces.parts.as_slice()) {
+        return Err(fault);
+    }
+    if let Err(fault) = file.append(pieces.last.as_slice()) {
+        return Err(fault);
+    }
+    let (file, synced) = file.end();
+    synced?;
+    Ok(file)
+}
+
 impl Shelf for MemoryShelf {
     ghost use Rattle.std.specs.Prelude.{true};
     ghost use Rattle.bodies.specs.MemoryFiles.{held_in as held_in_calls, left_in};
@@ -290,6 +326,25 @@ impl Shelf for MemoryShelf {
         self.note(Call::Synced(number))?;
         self.is_usable = true;
         Ok(())
+    }
+
+    fn make_unnamed(&mut self) -> Result<Unnamed, BodyFault> {
+        Ok(Unnamed::in_memory())
+    }
+
+    fn name(&mut self, number: u64, synced: Synced) -> Result<(), BodyFault> {
+        if find(&self.calls, number).is_some() {
+            return Err(BodyFault::Taken);
+        }
+        match file_with(self.alloc, synced.body()) {
+            Ok(file) => self.note(Call::Closed(number, file))?,
+            Err(_) => return Err(BodyFault::Io(self.fail())),
+        }
+        Ok(())
+    }
+
+    fn empty(&mut self, slot: u64) {
+        let _ = slot;
     }
 
     fn read_at(&mut self, number: u64, at: usize, buf: &mut [u8]) -> Result<usize, BodyFault> {

@@ -2,6 +2,7 @@
 ghost use Rattle.std.specs.Prelude.{◌≡◌, ◌≤◌, ◌<◌, ◌++◌, ◌↔◌, [], false, length, take, reverse};
 ghost use Rattle.std.specs.Prelude.{IfOk, OnErr, IsTrue};
 
+use crate::counter::Counter;
 use journal_file::Notes;
 use std::io::{self, Read};
 use std::{fs, mem};
@@ -11,6 +12,7 @@ use std::{fs, mem};
 pub struct BodyReader {
     number: u64,
     file: fs::File,
+    counter: Counter,
     /// What came, the last byte first.
     came: Notes<u64>,
     is_over: bool,
@@ -31,13 +33,14 @@ impl BodyReader {
     ghost use Rattle.bodies.specs.Reader.{number_of, bytes_of, is_over};
 
     /// The file of this number, of which nothing was read.
-    pub(crate) fn new(number: u64, file: fs::File) -> BodyReader
+    pub(crate) fn new(number: u64, file: fs::File, counter: Counter) -> BodyReader
         ensures new { (number_of result ≡ number) × (bytes_of result ≡ []) }
         ensures begins { is_over result ≡ false }
     {
         BodyReader {
             number,
             file,
+            counter,
             came: Notes::none(),
             is_over: false,
         }
@@ -73,6 +76,7 @@ impl BodyReader {
             Ok(n) => n,
             Err(error) => return Err(error),
         };
+        self.counter.add(n);
         let came = mem::replace(&mut self.came, Notes::none());
         self.came = noted(came, &buf[..n]);
         self.is_over = n == 0 && room > 0;

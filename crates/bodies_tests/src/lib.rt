@@ -7,3 +7,5 @@ mod folders;
 mod lists;
 #[cfg(test)]
 mod shelves;
+#[cfg(test)]
+mod unnamed;

@@ -1,6 +1,6 @@
 -- What is known of a file that is read from its start.
 use Rattle.std.specs.Prelude.{◌≡◌, ◌≢◌, ◌⊎◌, ℕ, ◌+◌, ◌<◌, ◌≤◌}
-use Rattle.std.specs.Prelude.{List, ◌++◌, length, take, drop, slice_index, Option, Some, None, IsTrue}
+use Rattle.std.specs.Prelude.{List, ◌++◌, length, take, drop, replicate, slice_index, Option, Some, None, IsTrue}
 use Rattle.sqlite_disk.specs.declared.Disk.{Ghosts}
 use Rattle.sqlite_disk.specs.Disk.{Torn}
 use Rattle.journal.specs.Format.{Kept, records, first, next, staged, stored, whole, Lie, sector}
@@ -42,6 +42,13 @@ pub record EndsAt (file : List ℕ) (end count : ℕ) : Type 0 where
   pub none : next count (drop end file) ≡ None
   pub count_is : count ≡ length (stored file)
   pub within : end ≤ length file
+
+-- all batches of a file stand before a gate that was never opened: its sector has nothing but zeros
+pub record EndsShut (file : List ℕ) : Type 0 where
+  pub end : ℕ
+  pub count : ℕ
+  pub ends : EndsAt file end count
+  pub zeros : take sector (drop end file) ≡ replicate sector 0
 
 -- no gate has all of its sector here, or one that reads as open
 abbrev pub LooksOpen : List ℕ → ℕ → Type 0

@@ -2,6 +2,8 @@
 ghost use Rattle.std.specs.Prelude.{◌≡◌, ◌+◌, ◌<◌, ◌^◌, [], ◌∷◌, ◌++◌, length, OnOk, OnErr};
 ghost use Rattle.journal.specs.Format.{block, blocks, records, number_bytes, AreShort};
 
+use crate::head::HEAD_LEN;
+use crate::sectors::{SECTOR, whole};
 use std::alloc::{AllocError, Global};
 
 /// Records in memory, as they are to stand in the file.
@@ -13,7 +15,7 @@ pub struct Batch {
 }
 
 impl Batch {
-    ghost use Rattle.journal.specs.Batch.{batch_records};
+    ghost use Rattle.journal.specs.Batch.{batch_records, batch_size};
 
     /// One without records.
     pub fn new(alloc: Global) -> Batch
@@ -38,6 +40,13 @@ impl Batch {
         ensures { batch_records self.new ≡ [] }
     {
         self.bytes.clear();
+    }
+
+    /// How many bytes of the file it takes.
+    pub fn size(&self) -> usize
+        ensures { result ≡ batch_size self.now }
+    {
+        whole(HEAD_LEN + self.bytes.len()) + SECTOR
     }
 
     /// Its records as they are to stand in the file.

@@ -15,7 +15,8 @@ pub const OPEN: u8 = 1;
 
 static OPEN_GATE: [u8; SECTOR] = [OPEN; SECTOR];
 
-static SHUT_GATE: [u8; SECTOR] = [0; SECTOR];
+/// A gate that was never opened.
+pub static SHUT_GATE: [u8; SECTOR] = [0; SECTOR];
 
 const STEP: usize = 0x1_0000;
 

@@ -12,6 +12,7 @@ ghost use Rattle.journal.specs.Reads.{Refuses};
 
 use crate::gate::{blank, open_gate, stage};
 use crate::head::HEAD_LEN;
+use crate::looking::look;
 use crate::recovery::{MAX_LEN, measure, prepare};
 use crate::replay::count_later;
 use crate::sectors::{SECTOR, whole};
@@ -338,6 +339,46 @@ impl<D: Disk> Journal<D> {
         }
         let found = count_later(&mut self.disk, len, self.end, self.count)?;
         Ok(found)
+    }
+}
+
+impl<D: Disk> Journal<D> {
+    ghost use Rattle.std.specs.Prelude.{take, true, ◌≢◌};
+    ghost use Rattle.journal.specs.Line.{line_bytes};
+    ghost use Rattle.journal.specs.Reads.{OnlyReads, EndsShut};
+    ghost use Rattle.journal.specs.Journal.{disk_of, line_of, is_open, end_of, count_of, room_of, kept};
+
+    /// Runs a machine over the batches of the file as it stands, and writes nothing, whether the journal is open or not.
+    /// So the file may be another one's, who adds to it meanwhile: what is added is read as far as its gates are open. A
+    /// file that was only begun has no batch.
+    ///
+    /// It is true if the gate behind them was never opened, so that there are no more. Else the file was only begun, or a
+    /// gate or a head is damaged, and batches may stand behind it.
+    pub fn look<M: Machine>(&mut self, alloc: Global, machine: &mut M) -> Result<bool, Error>
+        ensures ran { OnOk result (IsTrue (D.Disk.is_clean (disk_of self.new))
+            → Runs M.steps machine.old (kept self.old) machine.new) }
+        ensures shut { IfOk result (λ shut. shut ≡ true
+            → IsTrue (D.Disk.is_clean (disk_of self.new))
+            → EndsShut (D.Disk.seen (disk_of self.old))) }
+        ensures keeps { (first : M) → M.keeps first machine.old → M.keeps first machine.new }
+        ensures reads { IsTrue (D.Disk.is_usable (disk_of self.old))
+            → OnlyReads D.Disk (disk_of self.old) (disk_of self.new) }
+        ensures unused { D.Disk.is_usable (disk_of self.old) ≡ false
+            → disk_of self.new ≡ disk_of self.old }
+        ensures open { is_open self.new ≡ is_open self.old }
+        ensures line { line_of self.new ≡ line_of self.old }
+        ensures place { (end_of self.new ≡ end_of self.old) × (count_of self.new ≡ count_of self.old)
+            × (room_of self.new ≡ room_of self.old) }
+        // Why it gives up: as `recover`.
+        ensures cause { IfErr result (Because (D.Disk.is_usable (disk_of self.old) ≡ false)
+            (IsTrue (D.Disk.is_clean (disk_of self.new))
+            → take sector (D.Disk.seen (disk_of self.old)) ≢ line_bytes (line_of self.old))
+            (IsTrue (D.Disk.is_clean (disk_of self.new))
+            → 2 ^ 63 ≤ length (D.Disk.seen (disk_of self.old)) + sector + sector)
+            (MoreFaults (D.Disk.faults (disk_of self.old)) (D.Disk.faults (disk_of self.new)))
+            (M.has_refused machine.new)) }
+    {
+        look(&mut self.disk, &self.line, alloc, machine)
     }
 }
 

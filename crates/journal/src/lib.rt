@@ -2,8 +2,8 @@
 //!
 //! A file (`line`) begins with a sector that says what it is. Behind it lie batches (`batch`, `head`), each behind a
 //! gate that has a sector of its own (`gate`, `sectors`). A journal (`journal`) adds to them; a start reads them in
-//! order (`replay`), runs a machine (`machine`) over them, and repairs the end (`recovery`). `life` says what all this
-//! comes to, whatever crashes come.
+//! order (`replay`), runs a machine (`machine`) over them, and repairs the end (`recovery`). `looking` has it read as it
+//! stands. `life` says what all this comes to, whatever crashes come.
 #![tactic(auto)]
 
 mod batch;
@@ -13,6 +13,7 @@ mod head;
 mod journal;
 mod life;
 mod line;
+mod looking;
 mod machine;
 mod recovery;
 mod replay;

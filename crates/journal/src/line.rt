@@ -50,7 +50,7 @@ impl Line {
     }
 }
 
-fn is_same(one: &[u8], two: &[u8]) -> bool
+pub fn is_same(one: &[u8], two: &[u8]) -> bool
     ensures same { IsTrue result → one.now ≡ two.now }
     ensures other { IsFalse result → one.now ≢ two.now }
 {
@@ -110,7 +110,7 @@ fn refusal(found: &[u8; SECTOR], line: &[u8; SECTOR]) -> Error
 }
 
 /// The file begins with this line. If not, it is a start of this journal that was cut off, or nothing at all.
-fn is_ours<D: Disk>(disk: &mut D, len: usize, line: &[u8; SECTOR]) -> Result<bool, Error>
+pub fn is_ours<D: Disk>(disk: &mut D, len: usize, line: &[u8; SECTOR]) -> Result<bool, Error>
     requires usable { IsTrue (D.Disk.is_usable disk.old) }
     requires measured { IsTrue (D.Disk.is_clean disk.old) → len ≡ length (D.Disk.seen disk.old) }
     ensures there { IfOk result (λ is. is ≡ true → IsTrue (D.Disk.is_clean disk.new)

@@ -67,6 +67,23 @@ impl Folder {
         Ok(Modelled::new(Host::settle(file, &self.handle)?, false, 0))
     }
 
+    /// Has the file of this name stand at another name in the folder, in the place of what stood there, and syncs the
+    /// folder. A crash leaves what stood there before or the file, and after `Ok` the file.
+    pub fn rename(&self, rt: &HostRuntime, name: &str, other: &str) -> io::Result<()> {
+        let from = self.path_of(rt, name)?;
+        let to = self.path_of(rt, other)?;
+        fs::rename(rt, from.as_str(), to.as_str())?;
+        self.sync()
+    }
+
+    /// Removes the file of this name, if there is one. A crash may bring it back until the folder is synced.
+    pub fn remove(&self, rt: &HostRuntime, name: &str) -> io::Result<()> {
+        match fs::remove_file(rt, self.path_of(rt, name)?.as_str()) {
+            Err(error) if error.kind() == ErrorKind::NotFound => Ok(()),
+            removed => removed,
+        }
+    }
+
     /// Syncs the folder: the names in it are then on the disk.
     pub fn sync(&self) -> io::Result<()> {
         self.handle.sync_all()
@@ -109,6 +126,29 @@ pub fn make_file<S: Start>(rt: &HostRuntime, path: &str) -> io::Result<FileFrom<
 {
     let file = above_the_streams(new_file(rt, path)?)?;
     Ok(Modelled::new(Host::made(file), false, 0))
+}
+
+/// The same as a plain file, which nothing is said of.
+pub fn make_plain(rt: &HostRuntime, path: &str) -> io::Result<fs::File> {
+    above_the_streams(new_file(rt, path)?)
+}
+
+/// Opens the file at a path only to read it, as it stands: nothing is locked, made, synced or written, so it may be
+/// another process's. `S` stands for what the file holds, if nobody writes to it.
+///
+/// `NotAFile`, `Denied` and `TooLong` are of this file; `Io` is anything else.
+pub fn look_at<S: Start>(rt: &HostRuntime, path: &str, _start: S) -> Result<FileFrom<S>, OpenFault>
+    ensures opened { IfOk result (IsJustOpened S.Start) }
+    ensures named { IfErr result IsNamed }
+{
+    if !fs::symlink_metadata(rt, path)?.is_file() {
+        return Err(OpenFault::NotAFile);
+    }
+    let file = fs::File::open(rt, path)?;
+    if file.metadata()?.len() >= 1 << 63 {
+        return Err(OpenFault::TooLong);
+    }
+    Ok(Modelled::new(Host::found(file), false, 0))
 }
 
 fn new_file(rt: &HostRuntime, path: &str) -> io::Result<fs::File> {

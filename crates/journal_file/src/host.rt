@@ -60,6 +60,13 @@ impl Host {
         }
     }
 
+    /// A file of which nothing is known but what reads give: what they give may not be on the disk.
+    pub(crate) fn found(file: fs::File) -> Host
+        ensures { result.calls ≡ settled 0 ∷ [] }
+    {
+        Host::made(file)
+    }
+
     fn note(&mut self, call: u64, at: usize, count: usize, ok: bool, bytes: Notes<u64>)
         ensures { self.new.calls ≡ (call, at, count, ok, bytes) ∷ self.old.calls }
     {

@@ -38,7 +38,8 @@ pub trait Bodies {
             → stands self.new n bytes }
         ensures keeps { (first : Self) → keeps first self.old → keeps first self.new };
 
-    /// The bytes under a number, if they were read already. They may carry their hash. Who reads nothing ahead has none.
+    /// The bytes under a number, if they were read already. They may carry their hash. Who reads nothing ahead has
+    /// none.
     fn ready(&mut self, number: u64) -> Option<Body>
         ensures read { IfSome result (stands self.new number) }
         ensures same { (n : ℕ) (bytes : List ℕ) → stands self.old n bytes

@@ -1,5 +1,6 @@
 use Rattle.std.proofs.Common.{◌≡◌, ◌+◌, ◌<◌, ◌++◌, ◌∷◌, [], ℕ, List, Result, Ok, Err, OnOk, OnErr, is_err}
-use Rattle.std.proofs.Common.{true, false, refl, length, take, sym, ap, subst, ◌∙◌, arith, rules, inl, inr, append_assoc}
+use Rattle.std.proofs.Common.{true, false, refl, length, take, sym, ap, subst, ◌∙◌, arith, rules, inl, inr}
+use Rattle.std.proofs.Common.{append_assoc}
 use Rattle.std.proofs.lemmas.List.{append-nil, take_more, map-append}
 use Rattle.std.proofs.lemmas.List.Sums.{sum_by_push}
 use Rattle.std.specs.List.{sum_by}
@@ -33,7 +34,8 @@ if_err (Ok x) P bad told = absurd (cc bad)
 if_err (Err e) P bad told = told
 
 -- one batch more
-module _ (time i : ℕ) (batches : List Batch) (batch : Batch) (more : take (i + 1) batches ≡ take i batches ++ batch ∷ [])
+module _ (time i : ℕ) (batches : List Batch) (batch : Batch)
+    (more : take (i + 1) batches ≡ take i batches ++ batch ∷ [])
   where
     kept_more : (old : List Kept) → (old ++ kept_of time (take i batches)) ++ (time, batch_records batch) ∷ [] ≡ old
         ++ kept_of time (take (i + 1) batches)

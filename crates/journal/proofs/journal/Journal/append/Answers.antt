@@ -72,8 +72,8 @@ returns-in-Err-open_gate-clause-front g c opened clean file may =
     let old_clean = c.stage.ensures.clean (c.open_gate.ensures.clean clean) in
     let from = c.open_gate.ensures.crash file may in
     front_stays _ _ _ _ it.end _ file
-    (c.stage.ensures.kept _ _ _ (it.rests opened old_clean) _ (g.met.D.Disk.seen_may_stay c.stage.new.disk)) (omega arith)
-    (subst (λ d. Torn it.end sector d file) (c.in_default-stage.ensures.synced from.0 from.1) from.2)
+    (c.stage.ensures.kept _ _ _ (it.rests opened old_clean) _ (g.met.D.Disk.seen_may_stay c.stage.new.disk))
+    (omega arith) (subst (λ d. Torn it.end sector d file) (c.in_default-stage.ensures.synced from.0 from.1) from.2)
 
 pub invariant_of-self-2-clause-begins : goal.invariant_of-self-2-clause-begins
 invariant_of-self-2-clause-begins g c =
