@@ -1,7 +1,9 @@
-//! Tests of `upload_journal`, in a crate of their own: the prover goes through a crate with tests twice, and its
-//! must-fail edits wait for both.
+//! Tests of `upload_journal`, and of what `upload_records` counts, in a crate of their own: the prover goes through a
+//! crate with tests twice, and its must-fail edits wait for both.
 #![tactic(auto)]
 
+#[cfg(test)]
+mod censuses;
 #[cfg(test)]
 mod play;
 #[cfg(test)]

@@ -1,13 +1,14 @@
 -- A cause that is told of a part of a call is one of the whole.
 use Rattle.std.proofs.Common.{◌≡◌, inl, inr, ℕ, ◌+◌, ◌≤◌, List, ◌++◌, length, false}
 use Rattle.std.proofs.Common.{subst, arith, length-append}
-use Rattle.std.specs.Prelude.{IsSome}
+use Rattle.std.specs.Prelude.{IsSome, Result, Ok, Err}
 use Rattle.std.proofs.lemmas.List.Elements.{Contains-append_left, Contains-append_right}
 use Rattle.sqlite_disk.specs.declared.Disk as disks
 use Rattle.bodies.specs.declared.fault.BodyFault.{BodyFault}
 use Rattle.bodies.specs.declared.fault.BodyFault.TheVariants.{Taken, Missing, Ended, TooLong, Io}
 use Rattle.bodies.specs.declared.shelf.Shelf as shelves
 use Rattle.bodies.specs.Faults.{Because}
+use Rattle.bodies.specs.Shelf.{Counts}
 use Rattle.journal.specs.Errors.{WhyNot}
 use Rattle.journal.specs.declared.error.Error.{Error}
 use Rattle.journal.specs.declared.error.Error.TheVariants.{Closed, NotAJournal, OtherVersion, OtherParameters}
@@ -26,6 +27,16 @@ fault_weaker taken taken2 missing missing2 ended ended2 long long2 failed failed
 fault_weaker taken taken2 missing missing2 ended ended2 long long2 failed failed2 a b c d e Ended why = c why
 fault_weaker taken taken2 missing missing2 ended ended2 long long2 failed failed2 a b c d e TooLong why = d why
 fault_weaker taken taken2 missing missing2 ended ended2 long long2 failed failed2 a b c d e (Io error) why = e why
+
+-- a call never counts down
+pub counts_up : {T : Type 0} (taken missing : Type 0) (result : Result T BodyFault) (old new : ℕ)
+    → Counts taken missing result old new → old ≤ new
+counts_up taken missing (Ok it) old new same = omega (arith, same)
+counts_up taken missing (Err Taken) old new c = omega (arith, c.1)
+counts_up taken missing (Err Missing) old new c = omega (arith, c.1)
+counts_up taken missing (Err Ended) old new c = absurd c
+counts_up taken missing (Err TooLong) old new c = absurd c
+counts_up taken missing (Err (Io error)) old new c = omega (arith, c.1)
 
 module _ {S F : Type 0} (s : shelves.Ghosts S F) (f : disks.Ghosts F) where
   -- what is told of bodies behind others is told of all

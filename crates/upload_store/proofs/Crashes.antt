@@ -1,8 +1,9 @@
 -- What crashes leave of batches and of the bodies that they name.
 use Rattle.std.proofs.Common.{◌≡◌, ◌⊎◌, ◌∙◌, inl, inr, ℕ, ◌+◌, List, [], ◌∷◌, ◌++◌, Option, sym, ap}
-use Rattle.std.proofs.Common.{subst}
+use Rattle.std.proofs.Common.{subst, Some, None}
 use Rattle.std.proofs.Common.{arith, length}
 use Rattle.std.specs.List.{All}
+use Rattle.std.proofs.lemmas.Bool.Decides.{eqb_tells}
 use Rattle.std.proofs.lemmas.List.Elements.{All-weaker}
 use Rattle.journal.specs.Format.{Kept}
 use Rattle.bodies.specs.Shelf.{Keeps, KeepsOthers}
@@ -32,6 +33,23 @@ module _ {S : Type 0} (held : S → ℕ → Option (List ℕ)) (may_leave : S �
 
   abbrev pub Still : S → S → Type 0
   Still old new = (n : ℕ) (bytes : List ℕ) → IsSafe held may_leave old n bytes → IsSafe held may_leave new n bytes
+
+  -- a number that had no file takes nothing that is safe
+  pub others_still : (old new : S) (number : ℕ) → KeepsOthers held may_leave old new number → held old number ≡ None
+      → Still old new
+  others_still old new number others none n bytes safe =
+      keeps_safe old new n bytes
+      (others.each n (λ e. let wrong : Some bytes ≡ None = sym safe.there ∙ ap (held old) e ∙ none in absurd cc)) safe
+
+  -- nor does one that had a file and has it still
+  pub either_still : (old new : S) (number : ℕ) → KeepsOthers held may_leave old new number
+      → Keeps held may_leave old new number ⊎ (held old number ≡ None) → Still old new
+  either_still old new number others (inl same) n bytes safe =
+      elim (eqb_tells n number) [
+        | inl e ↦ keeps_safe old new n bytes (subst (Keeps held may_leave old new) (sym e.1) same) safe
+        | inr apart ↦ keeps_safe old new n bytes (others.each n apart.1) safe
+      ]
+  either_still old new number others (inr none) n bytes safe = others_still old new number others none n bytes safe
 
   pub reads_still : (IsClean : S → Type 0) (old new : S) → ReadsOnly held may_leave IsClean old new → Still old new
   reads_still IsClean old new reads n bytes safe = keeps_safe old new n bytes (reads.all.each n) safe

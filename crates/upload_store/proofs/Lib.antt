@@ -10,3 +10,4 @@ pub mod Salvages
 pub mod Lossless
 pub mod Numbering
 pub mod Naming
+pub mod Unwrapping

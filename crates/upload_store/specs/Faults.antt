@@ -40,6 +40,10 @@ NoRecord it = Never
 abbrev pub OnlyFails : Type 0 → BodyFault → Type 0
 OnlyFails failed = Because Never Never Never Never failed
 
+-- there was no such file, or a call failed
+abbrev pub Missed : Type 0 → Type 0 → BodyFault → Type 0
+Missed missing failed = Because Never missing Never Never failed
+
 -- a call of such a file failed
 pub record FileFails {F : Type 0} (f : disks.Ghosts F) : Type 0 where
   pub old : F
@@ -59,4 +63,10 @@ module _ {S F : Type 0} (s : shelves.Ghosts S F) (f : disks.Ghosts F) where
       (s.IsClean new → (n : ℕ) × (first ≤ n) × (n < first + length bodies) × IsSome (s.held old n))
       Never (s.is_usable old ≡ false)
       ((body : List ℕ) × Contains bodies body × (2 ^ 63 ≤ length body))
+      (MoreFaults (s.faults old) (s.faults new) ⊎ FileFails f)
+
+  -- why a body that was begun isn't on the disk: the same, but its number had no file
+  abbrev pub FillFails : S → S → List ℕ → BodyFault → Type 0
+  FillFails old new body = Because
+      Never Never (s.is_usable old ≡ false) (2 ^ 63 ≤ length body)
       (MoreFaults (s.faults old) (s.faults new) ⊎ FileFails f)

@@ -10,3 +10,4 @@ pub mod Rounds
 pub mod Salvage
 pub mod Rescuing
 pub mod Rescued
+pub mod Ahead

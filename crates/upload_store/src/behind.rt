@@ -23,6 +23,8 @@ impl<D: Disk, S: Shelf> Store<D, S> {
             (drop (end_of (journal_of self.old)) (D.Disk.seen (disk_of self.old))))) }
         ensures reads { IsTrue (is_open self.old)
             → OnlyReads D.Disk (disk_of self.old) (disk_of self.new) }
+        ensures place { (end_of (journal_of self.new) ≡ end_of (journal_of self.old))
+            × (count_of (journal_of self.new) ≡ count_of (journal_of self.old)) }
         ensures shelf { shelf_of self.new ≡ shelf_of self.old }
         ensures next { next_of self.new ≡ next_of self.old }
         ensures open { is_open self.new ≡ is_open self.old }

@@ -3,12 +3,13 @@ ghost use Rattle.std.specs.Prelude.{◌≡◌, ◌+◌, ◌≤◌, ◌^◌, List
 ghost use Rattle.sqlite_disk.specs.Disk.{MoreFaults};
 ghost use Rattle.journal.specs.Errors.{Because};
 ghost use Rattle.journal.specs.Format.{stored, sector};
-ghost use Rattle.journal.specs.Journal.{disk_of, is_open, line_of, kept};
+ghost use Rattle.journal.specs.Journal.{line_of};
 ghost use Rattle.journal.specs.Reads.{Refuses};
-ghost use Rattle.upload_store.specs.Faults.{Never};
+ghost use Rattle.upload_store.specs.Faults.{ComesBy, Never, NoBody, NoRecord};
 
-use bodies::Hint;
-use journal::{Error, Journal, Machine};
+use crate::{Store, StoreFault};
+use bodies::{Hint, Shelf};
+use journal::Machine;
 use sqlite_disk::Disk;
 use std::alloc::Global;
 use std::io;
@@ -95,37 +96,44 @@ impl Machine for Listing {
     }
 }
 
-/// Which bodies a start will ask for, in order, as the entries of a journal tell: a hint, of which nothing is promised.
-/// The journal is recovered for that, as `Journal::recover` does.
-pub fn list_hints<D: Disk>(alloc: Global, journal: &mut Journal<D>) -> Result<Vec<Hint>, Error>
-    ensures same { OnOk result (IsTrue (D.Disk.is_clean (disk_of journal.new))
-        → kept journal.new ≡ kept journal.old) }
-    ensures open { OnOk result (IsTrue (is_open journal.new)) }
-    ensures line { line_of journal.new ≡ line_of journal.old }
-    ensures clean { IsTrue (D.Disk.is_clean (disk_of journal.new))
-        → IsTrue (D.Disk.is_clean (disk_of journal.old)) }
-    ensures faults { D.Disk.faults (disk_of journal.old) ≤ D.Disk.faults (disk_of journal.new) }
-    ensures longer { length (D.Disk.seen (disk_of journal.old))
-        ≤ length (D.Disk.seen (disk_of journal.new)) }
-    // Why it gives up: as `Journal::recover`, but no record is refused.
-    ensures cause { IfErr result (Because
-        (D.Disk.is_usable (disk_of journal.old) ≡ false)
-        (Refuses D.Disk (line_of journal.old).bytes (disk_of journal.old) (disk_of journal.new))
-        (IsTrue (D.Disk.is_clean (disk_of journal.new))
-        → 2 ^ 63 ≤ length (D.Disk.seen (disk_of journal.old)) + sector + sector)
-        (MoreFaults (D.Disk.faults (disk_of journal.old)) (D.Disk.faults (disk_of journal.new)))
-        Never) }
-    // Whatever the call met, a crash leaves a file that stands for what one from before it would have stood for.
-    ensures any_crash { IsTrue (D.Disk.is_clean (disk_of journal.new)) → (c : List ℕ)
-        → D.Disk.may_leave (disk_of journal.new) c
-        → (d : List ℕ) × D.Disk.may_leave (disk_of journal.old) d × (stored c ≡ stored d) }
-{
-    let mut listing = Listing {
-        alloc,
-        hints: Vec::new(alloc),
-    };
-    if let Err(error) = journal.recover(alloc, &mut listing) {
-        return Err(error);
+impl<D: Disk, S: Shelf> Store<D, S> {
+    ghost use Rattle.upload_store.specs.Store.{journal_of, shelf_of, disk_of, is_open, kept_of, next_of, limits_of};
+    ghost use Rattle.upload_store.specs.Store.{IsClean};
+
+    /// Which bodies a start will ask for, in order, as the entries of the journal tell: hints, of which nothing is
+    /// promised. The journal is recovered for that (`Journal::recover`), and its entries aren't run.
+    pub(crate) fn list_hints(&mut self, alloc: Global) -> Result<Vec<Hint>, StoreFault>
+        ensures same { OnOk result (IsClean self.new → kept_of self.new ≡ kept_of self.old) }
+        ensures shelf { shelf_of self.new ≡ shelf_of self.old }
+        ensures next { next_of self.new ≡ next_of self.old }
+        ensures limits { limits_of self.new ≡ limits_of self.old }
+        ensures line { line_of (journal_of self.new) ≡ line_of (journal_of self.old) }
+        ensures clean { IsClean self.new → IsClean self.old }
+        ensures faults { D.Disk.faults (disk_of self.old) ≤ D.Disk.faults (disk_of self.new) }
+        ensures longer { length (D.Disk.seen (disk_of self.old))
+            ≤ length (D.Disk.seen (disk_of self.new)) }
+        // Why it gives up: as `recover`, but no record is refused, and nothing is asked of the shelf.
+        ensures cause { IfErr result (ComesBy (Because
+            (D.Disk.is_usable (disk_of self.old) ≡ false)
+            (Refuses D.Disk (line_of (journal_of self.old)).bytes (disk_of self.old)
+            (disk_of self.new))
+            (IsTrue (D.Disk.is_clean (disk_of self.new))
+            → 2 ^ 63 ≤ length (D.Disk.seen (disk_of self.old)) + sector + sector)
+            (MoreFaults (D.Disk.faults (disk_of self.old)) (D.Disk.faults (disk_of self.new)))
+            Never) NoBody NoRecord Never) }
+        // Whatever the call met, a crash leaves a file that stands for what one from before it would have stood for.
+        ensures any_crash { IsClean self.new → (file : List ℕ)
+            → D.Disk.may_leave (disk_of self.new) file
+            → (before : List ℕ) × D.Disk.may_leave (disk_of self.old) before
+            × (stored file ≡ stored before) }
+    {
+        let mut listing = Listing {
+            alloc,
+            hints: Vec::new(alloc),
+        };
+        if let Err(error) = self.journal.recover(alloc, &mut listing) {
+            return Err(StoreFault::Journal(error));
+        }
+        Ok(listing.hints)
     }
-    Ok(listing.hints)
 }

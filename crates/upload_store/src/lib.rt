@@ -5,6 +5,7 @@
 //! named (`fault`). `life` says what all this comes to, whatever crashes come.
 #![tactic(auto)]
 
+mod ahead;
 mod behind;
 mod crash;
 mod fault;
@@ -16,10 +17,10 @@ mod numbers;
 mod rerun;
 mod rescue;
 mod store;
+mod synced;
 
 pub use crash::CrashShelf;
 pub use fault::{Loss, RefusedRecord, StoreFault};
-pub use hints::list_hints;
 pub use life::{Round, keep_each, live_on, restart};
 pub use losses::{Losses, Salvage};
 pub use store::Store;

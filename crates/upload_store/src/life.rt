@@ -83,13 +83,17 @@ pub fn restart<D: Crash, S: CrashShelf>(
         → IsSafe S.Shelf.held S.Shelf.may_leave (shelf_of store.old) n bytes
         → IsSafe S.Shelf.held S.Shelf.may_leave (shelf_of store.new) n bytes }
     ensures limits { limits_of store.new ≡ limits_of store.old }
+    ensures line { line_of (journal_of store.new) ≡ line_of (journal_of store.old) }
+    ensures faults { (D.Disk.faults (disk_of store.old) ≤ D.Disk.faults (disk_of store.new))
+        × (S.Shelf.faults (shelf_of store.old) ≤ S.Shelf.faults (shelf_of store.new)) }
     ensures clean { IsClean store.new → IsClean store.old }
 
     // Why it gives up: what the crash left has another first line, or almost 2^63 bytes; a call failed, of the disk or
     // as the numbers of the shelf were read; a record can't be run again; or the last number has a body.
     ensures cause { IfErr result (ComesBy (Because Never
-        (IsClean store.new → (file : List ℕ) × D.Disk.may_leave (disk_of store.old) file
-        × (BeginsWith (line_of (journal_of store.old)) file → Never))
+        (IsClean store.new
+        → D.Disk.may_leave (disk_of store.old) (D.Disk.seen (disk_of store.new))
+        × (BeginsWith (line_of (journal_of store.old)) (D.Disk.seen (disk_of store.new)) → Never))
         (IsClean store.new → 2 ^ 63 ≤ length (D.Disk.seen (disk_of store.new)) + sector + sector)
         (MoreFaults (D.Disk.faults (disk_of store.old)) (D.Disk.faults (disk_of store.new)))
         Never)
@@ -116,6 +120,8 @@ fn restart_each<D: Crash, S: CrashShelf>(store: &mut Store<D, S>, alloc: Global,
         → IsSafe S.Shelf.held S.Shelf.may_leave (shelf_of store.old) n bytes
         → IsSafe S.Shelf.held S.Shelf.may_leave (shelf_of store.new) n bytes }
     ensures limits { limits_of store.new ≡ limits_of store.old }
+    ensures faults { (D.Disk.faults (disk_of store.old) ≤ D.Disk.faults (disk_of store.new))
+        × (S.Shelf.faults (shelf_of store.old) ≤ S.Shelf.faults (shelf_of store.new)) }
     ensures clean { IsClean store.new → IsClean store.old }
     ensures any_crash { IsClean store.new → (file : List ℕ)
         → D.Disk.may_leave (disk_of store.new) file
@@ -147,9 +153,23 @@ pub fn live_on<D: Crash, S: CrashShelf>(
         → IsSafe S.Shelf.held S.Shelf.may_leave (shelf_of store.old) n bytes
         → IsSafe S.Shelf.held S.Shelf.may_leave (shelf_of store.new) n bytes }
     ensures open { OnOk result (IsTrue (is_open store.new)) }
+
+    // Why it gives up: the journal has another first line by now, or almost 2^63 bytes; a call failed, of the disk or of
+    // the shelf; a record can't be run again; or the last number has a body.
+    ensures cause { IfErr result (ComesBy (Because Never
+        (IsClean store.new
+        → BeginsWith (line_of (journal_of store.new)) (D.Disk.seen (disk_of store.new)) → Never)
+        (IsClean store.new → 2 ^ 63 ≤ length (D.Disk.seen (disk_of store.new)) + sector + sector)
+        (MoreFaults (D.Disk.faults (disk_of store.old)) (D.Disk.faults (disk_of store.new)))
+        Never)
+        (OnlyFails (MoreFaults (S.Shelf.faults (shelf_of store.old))
+        (S.Shelf.faults (shelf_of store.new)))) (λ _. Unit {0})
+        (IsClean store.new → IsSome (S.Shelf.held (shelf_of store.new) (2 ^ 64 - 1)))) }
 {
     let acknowledged = keep_each(store, rounds, time);
     restart_each(store, alloc, cut_off);
-    let replay = restart(store, alloc)?;
-    Ok((acknowledged, replay))
+    match restart(store, alloc) {
+        Ok(replay) => Ok((acknowledged, replay)),
+        Err(fault) => Err(fault),
+    }
 }

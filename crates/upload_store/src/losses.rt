@@ -1,5 +1,5 @@
 //! The records that a recovery has lost.
-ghost use Rattle.std.specs.Prelude.{◌≡◌, ◌+◌, min, max, [], OnOk};
+ghost use Rattle.std.specs.Prelude.{◌≡◌, ◌+◌, ◌++◌, ◌∷◌, min, max, [], OnOk};
 ghost use Rattle.upload_service.specs.Machine.{last_number};
 ghost use Rattle.upload_store.specs.Salvage.{one_more, listed_with};
 
@@ -59,14 +59,31 @@ impl Losses {
         ensures named { OnOk result (self.new.named ≡ max self.old.named named) }
         ensures past { OnOk result (self.new.past ≡ max self.old.past past) }
     {
-        if self.listed.len() < MOST_LISTED && self.listed.push(loss).is_err() {
-            return Err(AllocError);
-        }
+        list(&mut self.listed, loss)?;
         self.count = self.count.saturating_add(1);
         self.named = self.named.max(named);
         self.past = self.past.max(past);
         Ok(())
     }
+}
+
+/// Puts a loss behind these.
+fn put(listed: &mut Vec<Loss>, loss: Loss) -> Result<(), AllocError>
+    ensures { OnOk result (listed.new.items ≡ listed.old.items ++ loss ∷ []) }
+{
+    listed.push(loss)?;
+    Ok(())
+}
+
+/// Lists a loss, if few are listed.
+fn list(listed: &mut Vec<Loss>, loss: Loss) -> Result<(), AllocError>
+    ensures { OnOk result (listed.new.items ≡ listed_with listed.old.items loss) }
+{
+    if listed.len() < MOST_LISTED {
+        return put(listed, loss);
+    }
+    drop(loss);
+    Ok(())
 }
 
 /// What a recovery that goes on behind losses has come to.

@@ -11,6 +11,7 @@ use bodies::Shelf;
 use journal::Machine;
 use std::alloc::Global;
 use std::io::{self, ErrorKind};
+use upload_bytes::Room;
 use upload_journal::Replay;
 use upload_service::{Limits, Service};
 
@@ -26,12 +27,17 @@ pub struct Rerun<S: Shelf> {
     pub refused: Option<RefusedRecord>,
 }
 
-/// A replay of no entries, by a new service.
-pub fn new_replay(alloc: Global, limits: Limits) -> Replay
+/// A replay of no entries, by a new service, which holds no more than this room grants if there is one.
+pub fn new_replay(alloc: Global, limits: Limits, room: Option<&Room>) -> Replay
     requires { AreLawful limits }
     ensures { result ≡ start_of (empty_state limits 0) }
 {
-    Replay::new(Service::new(alloc, limits))
+    // A room has few owners, which can be counted.
+    let shared = room.and_then(|room| room.share().ok());
+    Replay::new(match shared {
+        Some(room) => Service::within(alloc, limits, room),
+        None => Service::new(alloc, limits),
+    })
 }
 
 impl<S: Shelf> Rerun<S> {
@@ -45,7 +51,7 @@ impl<S: Shelf> Rerun<S> {
         Rerun {
             alloc,
             files: Files { shelf },
-            replay: new_replay(alloc, limits),
+            replay: new_replay(alloc, limits, None),
             count: 0,
             refused: None,
         }

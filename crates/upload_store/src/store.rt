@@ -1,18 +1,18 @@
 //! A journal of entries and a shelf of the bodies that they name.
 ghost use Rattle.std.specs.Prelude.{◌≡◌, ◌⊎◌, ◌+◌, ◌-◌, ◌<◌, ◌≤◌, ◌^◌, ◌++◌, ◌∷◌, [], ℕ, List, Option, length};
-ghost use Rattle.std.specs.Prelude.{false, IfOk, IfErr, IfSome, IfNone, OnOk, OnErr, IsSome, IsTrue, Contains, Some, ⊤};
+ghost use Rattle.std.specs.Prelude.{false, IfOk, IfErr, IfSome, IfNone, OnOk, OnErr, IsSome, IsTrue, Contains, Some, None, ⊤};
 ghost use Rattle.std.specs.List.{All, concat};
 ghost use Rattle.bodies.specs.Body.{number_of, bytes_of, is_open as is_file_open};
 ghost use Rattle.bodies.specs.Shelf.{KeepsOthers};
 ghost use Rattle.journal.specs.Format.{stored, sector, IsBeforeOrAfter};
-ghost use Rattle.journal.specs.Journal.{end_of, line_of};
+ghost use Rattle.journal.specs.Journal.{end_of, line_of, room_of};
 ghost use Rattle.journal.specs.Errors.{Because, WhyNot};
 ghost use Rattle.journal.specs.Reads.{Refuses};
 ghost use Rattle.sqlite_disk.specs.Disk.{MoreFaults};
 ghost use Rattle.journal.specs.Batch.{batch_records, batch_size, kept_at};
 ghost use Rattle.upload_service.specs.Machine.{AreLawful, empty_state};
 ghost use Rattle.upload_store.specs.Faults.{ComesBy, Never, NoBody, NoJournal, NoRecord};
-ghost use Rattle.upload_store.specs.Faults.{BodyFails, Names, OnlyFails, WriteFails};
+ghost use Rattle.upload_store.specs.Faults.{BodyFails, FillFails, Missed, Names, OnlyFails, WriteFails};
 ghost use Rattle.upload_store.specs.Found.{found, batch_in, numbers_of, texts_of};
 ghost use Rattle.upload_store.specs.Reading.{ReadsOnly, KeepsBehind};
 ghost use Rattle.upload_journal.specs.declared.replay.ReplayFault.TheVariants as Fault;
@@ -29,7 +29,7 @@ use journal::{Batch, Error, Journal};
 use sqlite_disk::{Crash, Disk};
 use std::alloc::Global;
 use std::mem;
-use upload_bytes::{Body as Bytes, Part};
+use upload_bytes::{Body as Bytes, Part, Room};
 use upload_journal::{BodyFile, Replay};
 use upload_service::Limits;
 
@@ -39,10 +39,12 @@ use upload_service::Limits;
 #[derive(Drop)]
 pub struct Store<D: Disk, S: Shelf> {
     pub(crate) journal: Journal<D>,
-    run: Rescue<S>,
-    limits: Limits,
+    pub(crate) run: Rescue<S>,
+    pub(crate) limits: Limits,
+    /// What the service is granted of, if there is a limit.
+    pub(crate) memory: Option<Room>,
     /// The number of the next body.
-    next: u64,
+    pub(crate) next: u64,
     ghost lawful: { AreLawful limits },
 }
 
@@ -96,24 +98,19 @@ fn put_parts<F: Disk>(file: &mut Body<F>, parts: &[Part]) -> Result<(), BodyFaul
     Ok(())
 }
 
-/// Writes a body into the file of this number, and puts it on the disk.
-fn put_file<S: Shelf>(shelf: &mut S, number: u64, body: &Bytes) -> Result<(), BodyFault>
+/// Writes a body into a file that was just begun, and puts it on the disk.
+fn fill<S: Shelf>(shelf: &mut S, file: Body<S::File>, body: &Bytes) -> Result<(), BodyFault>
+    requires open { IsTrue (is_file_open file) }
+    requires empty { bytes_of file ≡ [] }
     ensures safe { OnOk result
-        (IsSafe S.Shelf.held S.Shelf.may_leave shelf.new number body.now) }
-    ensures still { (n : ℕ) (bytes : List ℕ) → S.Shelf.IsClean shelf.new
-        → IsSafe S.Shelf.held S.Shelf.may_leave shelf.old n bytes
-        → IsSafe S.Shelf.held S.Shelf.may_leave shelf.new n bytes }
-    ensures others { KeepsOthers S.Shelf.held S.Shelf.may_leave shelf.old shelf.new number }
+        (IsSafe S.Shelf.held S.Shelf.may_leave shelf.new (number_of file) body.now) }
+    ensures others { KeepsOthers S.Shelf.held S.Shelf.may_leave shelf.old shelf.new (number_of file) }
     ensures usable { OnOk result (IsTrue (S.Shelf.is_usable shelf.new)) }
     ensures faults { S.Shelf.faults shelf.old ≤ S.Shelf.faults shelf.new }
-    ensures cause { IfErr result (BodyFails S.Shelf S.File.Disk shelf.old shelf.new number
-        (body.now ∷ [])) }
+    ensures cause { IfErr result (FillFails S.Shelf S.File.Disk shelf.old shelf.new body.now) }
     ensures clean { S.Shelf.IsClean shelf.new → S.Shelf.IsClean shelf.old }
 {
-    let mut file = match begin(shelf, number) {
-        Ok(file) => file,
-        Err(fault) => return Err(fault),
-    };
+    let mut file = file;
     let pieces = body.pieces();
     if let Err(fault) = put_parts(&mut file, pieces.parts.as_slice()) {
         return Err(fault);
@@ -124,6 +121,36 @@ fn put_file<S: Shelf>(shelf: &mut S, number: u64, body: &Bytes) -> Result<(), Bo
     match finish(shelf, file) {
         Ok(()) => Ok(()),
         Err(fault) => Err(fault),
+    }
+}
+
+/// Writes a body into the file of this number, and puts it on the disk. At an error the file is removed, if it was made
+/// here.
+fn put_file<S: Shelf>(shelf: &mut S, number: u64, body: &Bytes) -> Result<(), BodyFault>
+    ensures safe { OnOk result
+        (IsSafe S.Shelf.held S.Shelf.may_leave shelf.new number body.now) }
+    ensures free { OnOk result (S.Shelf.IsClean shelf.new → S.Shelf.held shelf.old number ≡ None) }
+    ensures still { (n : ℕ) (bytes : List ℕ) → S.Shelf.IsClean shelf.new
+        → IsSafe S.Shelf.held S.Shelf.may_leave shelf.old n bytes
+        → IsSafe S.Shelf.held S.Shelf.may_leave shelf.new n bytes }
+    ensures others { KeepsOthers S.Shelf.held S.Shelf.may_leave shelf.old shelf.new number }
+    ensures usable { OnOk result (IsTrue (S.Shelf.is_usable shelf.new)) }
+    ensures faults { S.Shelf.faults shelf.old ≤ S.Shelf.faults shelf.new }
+    ensures cause { IfErr result (BodyFails S.Shelf S.File.Disk shelf.old shelf.new number
+        (body.now ∷ [])) }
+    ensures clean { S.Shelf.IsClean shelf.new → S.Shelf.IsClean shelf.old }
+{
+    let file = match begin(shelf, number) {
+        Ok(file) => file,
+        Err(fault) => return Err(fault),
+    };
+    match fill(shelf, file, body) {
+        Ok(()) => Ok(()),
+        Err(fault) => {
+            // What stays is removed by the next start.
+            let _ = shelf.remove(number);
+            Err(fault)
+        }
     }
 }
 
@@ -152,15 +179,29 @@ impl<D: Disk, S: Shelf> Store<D, S> {
             journal,
             run: Rescue::new(alloc, Rerun::new(alloc, shelf, limits)),
             limits,
+            memory: None,
             next: 0,
         }
+    }
+
+    /// The same store, whose service holds no more than this room grants: a record that finds no room there ends a
+    /// recovery as want of memory does.
+    pub fn within(self, room: Room) -> Store<D, S>
+        ensures journal { journal_of result ≡ journal_of self }
+        ensures shelf { shelf_of result ≡ shelf_of self }
+        ensures limits { limits_of result ≡ limits_of self }
+    {
+        let mut store = self;
+        store.memory = Some(room);
+        store
     }
 
     /// Gives the journal and the shelf back.
     pub fn into_parts(self) -> (Journal<D>, S)
         ensures { (result.0 ≡ journal_of self) × (result.1 ≡ shelf_of self) }
     {
-        (self.journal, self.run.rerun.files.shelf)
+        let Store { journal, run, .. } = self;
+        (journal, run.rerun.files.shelf)
     }
 
     /// Whether its journal is open: it was recovered, and nothing has failed since that leaves it in doubt what the
@@ -186,11 +227,13 @@ impl<D: Disk, S: Shelf> Store<D, S> {
     }
 
     /// Writes a body into a file of its own, and puts it on the disk: every crash leaves exactly it, so that an entry
-    /// may name it. The number of the file is used up, also by an error.
+    /// may name it. The number of the file is used up, also by an error, after which the file is removed if it can be.
     pub fn put_body(&mut self, body: &Bytes) -> Result<BodyFile, StoreFault>
         ensures written { IfOk result (λ file. (file.number ≡ next_of self.old)
             × (file.len ≡ length body.now)
             × IsSafe S.Shelf.held S.Shelf.may_leave (shelf_of self.new) file.number body.now) }
+        ensures free { IfOk result (λ file. IsClean self.new
+            → S.Shelf.held (shelf_of self.old) file.number ≡ None) }
         ensures next { OnOk result (next_of self.new ≡ next_of self.old + 1) }
         ensures later { next_of self.old ≤ next_of self.new }
         ensures safe { (n : ℕ) (bytes : List ℕ) → S.Shelf.IsClean (shelf_of self.new)
@@ -232,6 +275,73 @@ impl<D: Disk, S: Shelf> Store<D, S> {
                 len: body.len() as u64,
             }),
             Err(fault) => Err(StoreFault::Body(fault)),
+        }
+    }
+
+    /// Removes the file of a body that no entry names and none is to name. A crash may bring it back.
+    pub fn remove_body(&mut self, number: u64) -> Result<(), StoreFault>
+        ensures gone { OnOk result (S.Shelf.held (shelf_of self.new) number ≡ None) }
+        ensures others { KeepsOthers S.Shelf.held S.Shelf.may_leave (shelf_of self.old)
+            (shelf_of self.new) number }
+        ensures journal { journal_of self.new ≡ journal_of self.old }
+        ensures next { next_of self.new ≡ next_of self.old }
+        ensures limits { limits_of self.new ≡ limits_of self.old }
+        ensures clean { IsClean self.new → IsClean self.old }
+        ensures usable { S.Shelf.is_usable (shelf_of self.new)
+            ≡ S.Shelf.is_usable (shelf_of self.old) }
+        ensures faults { S.Shelf.faults (shelf_of self.old) ≤ S.Shelf.faults (shelf_of self.new) }
+        ensures cause { IfErr result (ComesBy NoJournal (Missed
+            (IsClean self.new → S.Shelf.held (shelf_of self.old) number ≡ None)
+            (MoreFaults (S.Shelf.faults (shelf_of self.old)) (S.Shelf.faults (shelf_of self.new))))
+            NoRecord Never) }
+    {
+        if let Err(fault) = self.run.rerun.files.shelf.remove(number) {
+            return Err(StoreFault::Body(fault));
+        }
+        Ok(())
+    }
+
+    /// How many bytes of batches, by their `size`, find room in the journal on a disk that is full.
+    pub fn room(&self) -> usize
+        ensures { result ≡ room_of (journal_of self.now) }
+    {
+        self.journal.room()
+    }
+
+    /// Makes so much room in the journal. A store that is still open after an error has what it had, and as much room.
+    /// So it is on a full disk.
+    pub fn reserve(&mut self, bytes: usize) -> Result<(), StoreFault>
+        ensures room { OnOk result (bytes ≤ room_of (journal_of self.new)) }
+        ensures no_room { OnErr result
+            (room_of (journal_of self.new) ≡ room_of (journal_of self.old)) }
+        ensures same { IsTrue (is_open self.new) → IsClean self.new
+            → kept_of self.new ≡ kept_of self.old }
+        ensures open { OnOk result (IsTrue (is_open self.new)) }
+        ensures closes { OnErr result (IsTrue (is_open self.old)
+            → is_open self.new ≡ D.Disk.is_usable (disk_of self.new)) }
+        ensures shelf { shelf_of self.new ≡ shelf_of self.old }
+        ensures next { next_of self.new ≡ next_of self.old }
+        ensures limits { limits_of self.new ≡ limits_of self.old }
+        ensures clean { IsClean self.new → IsClean self.old }
+        ensures faults { D.Disk.faults (disk_of self.old) ≤ D.Disk.faults (disk_of self.new) }
+
+        // Whatever the call met, a crash leaves what was kept before it.
+        ensures any_crash { IsTrue (is_open self.old) → IsClean self.new
+            → IsWhole self.old → (file : List ℕ) (files : ℕ → Option (List ℕ))
+            → MayLeave self.new file files
+            → found (stored file) files ≡ entries_of self.old }
+        ensures batches { IsTrue (is_open self.old) → IsClean self.new → (file : List ℕ)
+            → D.Disk.may_leave (disk_of self.new) file → stored file ≡ kept_of self.old }
+
+        // It doesn't give up by itself.
+        ensures cause { IfErr result (ComesBy (WhyNot (is_open self.old ≡ false)
+            (2 ^ 63 ≤ end_of (journal_of self.old) + sector + bytes + 65536)
+            (MoreFaults (D.Disk.faults (disk_of self.old)) (D.Disk.faults (disk_of self.new)))
+            (journal_of self.new ≡ journal_of self.old)) NoBody NoRecord Never) }
+    {
+        match self.journal.reserve(bytes) {
+            Ok(()) => Ok(()),
+            Err(error) => Err(StoreFault::Journal(error)),
         }
     }
 
@@ -362,6 +472,8 @@ impl<D: Disk, S: Shelf> Store<D, S> {
         ensures longer { length (D.Disk.seen (disk_of self.old))
             ≤ length (D.Disk.seen (disk_of self.new)) }
         ensures faults { D.Disk.faults (disk_of self.old) ≤ D.Disk.faults (disk_of self.new) }
+        ensures of_shelf { S.Shelf.faults (shelf_of self.old)
+            ≤ S.Shelf.faults (shelf_of self.new) }
         ensures clean { IsClean self.new → IsClean self.old }
 
         // Why it gives up: that of the journal, but a record that was refused is named; the shelf failed as its numbers
@@ -386,14 +498,14 @@ impl<D: Disk, S: Shelf> Store<D, S> {
             → (before : List ℕ) × D.Disk.may_leave (disk_of self.old) before
             × (stored file ≡ stored before) }
     {
-        self.run.rerun.replay = new_replay(alloc, self.limits);
+        self.run.rerun.replay = new_replay(alloc, self.limits, self.memory.as_ref());
         self.run.rerun.count = 0;
         self.run.rerun.refused = None;
         self.next = next_number(alloc, &mut self.run.rerun.files.shelf)?;
         if let Err(error) = self.journal.recover(alloc, &mut self.run.rerun) {
             return Err(fault_of(error, self.run.rerun.refused));
         }
-        let fresh = new_replay(alloc, self.limits);
+        let fresh = new_replay(alloc, self.limits, self.memory.as_ref());
         Ok(mem::replace(&mut self.run.rerun.replay, fresh))
     }
 
@@ -447,7 +559,7 @@ impl<D: Disk, S: Shelf> Store<D, S> {
             → (before : List ℕ) × D.Disk.may_leave (disk_of self.old) before
             × (stored file ≡ stored before) }
     {
-        self.run.rerun.replay = new_replay(alloc, self.limits);
+        self.run.rerun.replay = new_replay(alloc, self.limits, self.memory.as_ref());
         self.run.rerun.count = 0;
         self.run.rerun.refused = None;
         self.run.losses = Losses::none(alloc);
@@ -457,7 +569,7 @@ impl<D: Disk, S: Shelf> Store<D, S> {
         }
         let losses = mem::replace(&mut self.run.losses, Losses::none(alloc));
         self.next = self.next.max(losses.past);
-        let fresh = new_replay(alloc, self.limits);
+        let fresh = new_replay(alloc, self.limits, self.memory.as_ref());
         let mut replay = mem::replace(&mut self.run.rerun.replay, fresh);
         replay.use_up(losses.last_number(replay.issued()));
         Ok(Salvage { replay, losses })

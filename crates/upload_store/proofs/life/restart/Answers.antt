@@ -1,7 +1,8 @@
-use Rattle.std.proofs.Common.{◌∙◌, ◌-◌, ◌^◌, IsSome, ap, sym, subst, arith}
+use Rattle.std.proofs.Common.{◌∙◌, ◌-◌, ◌^◌, IsSome, ap, sym, subst, arith, take}
+use Rattle.journal.specs.Format.{sector}
 use Rattle.journal.proofs.Causes.{because_weaker}
 use Rattle.upload_store.proofs.Causes.{comes_weaker, fault_weaker}
-use Rattle.upload_store.specs.Store.{shelf_of}
+use Rattle.upload_store.specs.Store.{shelf_of, disk_of}
 use Rattle.upload_store.proofs.Crashes.{crash_still, reads_still}
 use Rattle.upload_store.proofs.life.restart.Goals as goal
 
@@ -34,9 +35,11 @@ returns-in-Err-clause-cause g c =
     comes_weaker _ _ _ _ _ _ _ _
     (because_weaker _ _ _ _ _ _ _ _ _ _ (λ closed. sym closed ∙ c.crash.ensures.usable.0)
     (λ refuses clean. (
-      _,
-      c.crash.ensures.left_file,
-      λ begins. absurd (refuses.other clean.disk (begins ∙ ap (λ l. l.bytes) (sym c.crash.ensures.line))),
+      subst (g.D.Disk.may_leave (disk_of c.args.store.now)) (sym refuses.same) c.crash.ensures.left_file,
+      λ begins.
+          absurd
+          (refuses.other clean.disk
+          (ap (take sector) (sym refuses.same) ∙ begins ∙ ap (λ l. l.bytes) (sym c.crash.ensures.line))),
     ))
     (λ long clean. let longer = c.recover.ensures.longer in omega (arith, long clean.disk, longer))
     (λ more. let same = c.crash.ensures.faults.0 in omega (arith, more, same)) (λ never. never))

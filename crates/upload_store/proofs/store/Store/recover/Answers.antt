@@ -55,3 +55,17 @@ returns-clause-next g c clean n there =
     (reads_none g.S.Shelf.held g.S.Shelf.may_leave g.S.Shelf.IsClean listed, omega arith)).0 in
     c.in_ok-self.ensures.above (reads.clean clean.shelf) n
     (subst IsSome ((reads.all.each n).same ∙ (c.next_number.ensures.reads.all.each n).same) there)
+
+pub returns-clause-of_shelf : goal.returns-clause-of_shelf
+returns-clause-of_shelf g c =
+    let listed = c.next_number.new.shelf in
+    let begun : Rerun g.row.S.Denot g.row.S-File.Denot = record c.args.self.now.run.rerun {
+      files = record { shelf = listed };
+      replay = c.new_replay.result;
+      count = 0;
+      refused = None;
+    } in
+    let first = c.next_number.ensures.faults in
+    let then' = (c.recover.ensures.keeps begun
+    (reads_none g.S.Shelf.held g.S.Shelf.may_leave g.S.Shelf.IsClean listed, omega arith)).1 in
+    omega (arith, first, then')

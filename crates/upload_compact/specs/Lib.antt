@@ -1,0 +1,6 @@
+pub mod Copies
+pub mod Guards
+pub mod Leaving
+pub mod Numbers
+pub mod Same
+pub mod Surveys

@@ -1,0 +1,3 @@
+pub mod Census
+pub mod Counted
+pub mod Names
