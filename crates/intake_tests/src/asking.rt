@@ -1,4 +1,5 @@
 //! Two seats asked from two threads. Each test ends by itself, and prints the same whatever the schedule.
+ghost use Rattle.std.specs.Thread.{IsSend, IsSync};
 ghost use Rattle.std.specs.Prelude.{IfOk, [], ◌∷◌, ◌≡◌, ◌<◌, ◌≤◌, ◌^◌};
 ghost use Rattle.upload_intake.specs.Seats.{IsSameSeat};
 ghost use Rattle.upload_intake.specs.Pools.Served.{AreOfOneCall};
@@ -72,7 +73,8 @@ where
         thread::scope_env(),
         rt,
         |scope| -> Option<(Settled, A, B)>
-            requires { AreOfOneCall keeper (left ∷ right ∷ []) }
+            requires of_one_call { AreOfOneCall keeper (left ∷ right ∷ []) }
+            requires cross { IsSend A.row × IsSend B.row × IsSync R.row }
         {
             let of_left = EndOf(Snapshot::of(&left));
             let of_right = EndOf(Snapshot::of(&right));

@@ -91,6 +91,13 @@ pub struct Texts {
     texts: vec::IntoIter<Vec<u8>>,
 }
 
+/// A connection for each of these.
+pub fn texts_of(texts: Vec<Vec<u8>>) -> Texts {
+    Texts {
+        texts: texts.into_iter(),
+    }
+}
+
 impl Conns for Texts {
     type In = Text;
 
@@ -181,7 +188,7 @@ fn body_of(alloc: Global, upload: u64) -> Result<Vec<u8>, AllocError> {
 }
 
 /// The name under which a client uploads a blob.
-fn name_of(alloc: Global, client: usize, upload: u64) -> Result<String, Fail> {
+pub fn name_of(alloc: Global, client: usize, upload: u64) -> Result<String, Fail> {
     Ok(format!(in alloc; "lib/w{client}u{upload}")?)
 }
 
@@ -209,9 +216,7 @@ fn worker<'a>(alloc: Global, client: usize, counts: &'a Counts) -> Result<TextWo
         texts.push(text_of(alloc, client, upload)?)?;
     }
     Ok(Worker {
-        conns: Texts {
-            texts: texts.into_iter(),
-        },
+        conns: texts_of(texts),
         secrets: ZeroSecrets,
         gate: Told {
             count: &counts.counts[client & 3],

@@ -22,7 +22,7 @@ pub struct Dice {
 
 impl Dice {
     /// A number below `sides`, or 0.
-    fn roll(&mut self, sides: u64) -> u64 {
+    pub fn roll(&mut self, sides: u64) -> u64 {
         self.state = self
             .state
             .wrapping_mul(6_364_136_223_846_793_005)
@@ -98,10 +98,21 @@ fn cut_shelf(shelf: &mut MemoryShelf, next: u64, dice: &mut Dice) -> io::Result<
 }
 
 /// What a power cut leaves of a store. What was not on the disks is lost or torn, as the dice say.
-pub fn cut(alloc: Global, store: MemoryStore, mut dice: Dice) -> io::Result<MemoryStore> {
+pub fn cut(alloc: Global, store: MemoryStore, dice: Dice) -> io::Result<MemoryStore> {
     let next = store.next_number();
-    let (journal, mut shelf) = store.into_parts();
+    let (journal, shelf) = store.into_parts();
+    cut_parts(alloc, journal.into_disk(), shelf, next, dice)
+}
+
+/// The same of its parts, with the number of its next body.
+pub fn cut_parts(
+    alloc: Global,
+    disk: Fuse<Memory>,
+    mut shelf: MemoryShelf,
+    next: u64,
+    mut dice: Dice,
+) -> io::Result<MemoryStore> {
     cut_shelf(&mut shelf, next, &mut dice)?;
-    let disk = cut_disk(alloc, journal.into_disk(), &mut dice)?;
+    let disk = cut_disk(alloc, disk, &mut dice)?;
     Ok(store_on(alloc, disk, shelf)?)
 }

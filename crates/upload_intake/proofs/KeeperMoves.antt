@@ -7,7 +7,8 @@ use Rattle.std.proofs.lemmas.List.{length-set, get_or-set_same, get_or-set_other
 use Rattle.std.proofs.lemmas.Bool.{eqb-true, eqb-false, leb-true, leb-false}
 use Rattle.std.proofs.lemmas.List.{map-append}
 use Rattle.std.proofs.lemmas.List.Elements.{filter-append}
-use Rattle.upload_service.specs.declared.ask.Ask.{Ask}
+use Rattle.upload_service.specs.declared.ask.Request.{Request}
+use Rattle.upload_service.specs.Requests.{ask_in}
 use Rattle.upload_service.specs.declared.answer.Answer.{Answer}
 use Rattle.upload_service.specs.Machine.{State, Turn}
 use Rattle.upload_service.specs.Run.{Exchange, Run, NeverBefore}
@@ -51,8 +52,8 @@ last_moment-more moment [] x = refl
 last_moment-more moment (y ∷ ys) x = last_moment-more y.now ys x
 
 add_job-append : (seat : ℕ) (m : Message) (xs ys : List TakenJob) → add_job seat m (xs ++ ys) ≡ add_job seat m xs ++ ys
-add_job-append seat (message.Job ask secret) xs ys = refl
-add_job-append seat (message.Hash at algorithm) xs ys = refl
+add_job-append seat (message.Job request secret) xs ys = refl
+add_job-append seat (message.Wish wish) xs ys = refl
 add_job-append seat message.Finish xs ys = refl
 
 pub taken_in-append : (xs ys : List (Item Message)) → taken_in (xs ++ ys) ≡ taken_in xs ++ taken_in ys
@@ -208,13 +209,13 @@ replied_by answer was_open is_open is_crowded old new was is (Err back) up alone
 has_finish-append : (xs ys : List Message) → has_finish xs ≡ true → has_finish (xs ++ ys) ≡ true
 has_finish-append [] ys e = absurd (true≢false (sym e))
 has_finish-append (message.Job a s ∷ xs) ys e = has_finish-append xs ys e
-has_finish-append (message.Hash a b ∷ xs) ys e = has_finish-append xs ys e
+has_finish-append (message.Wish wish ∷ xs) ys e = has_finish-append xs ys e
 has_finish-append (message.Finish ∷ xs) ys e = refl
 
 has_finish-last : (xs : List Message) → has_finish (xs ++ message.Finish ∷ []) ≡ true
 has_finish-last [] = refl
 has_finish-last (message.Job a s ∷ xs) = has_finish-last xs
-has_finish-last (message.Hash a b ∷ xs) = has_finish-last xs
+has_finish-last (message.Wish wish ∷ xs) = has_finish-last xs
 has_finish-last (message.Finish ∷ xs) = refl
 
 all_more : {A : Type 0} (P : A → Type 0) (xs : List A) (x : A) → AllByRecursion P xs → P x
@@ -272,12 +273,12 @@ module _ (old : Ledger) (j j' : LineView Message) (lines : List ReplyLine) (k : 
       }
 
   -- a job was served
-  module _ (ask : Ask) (secret : List ℕ) (a : Answer) (now' : ℕ) (service' : State) (count' : ℕ)
-      (job : x.what ≡ message.Job ask secret) (later : old.now ≤ now')
-      (turn : Turn old.service ask secret now' a service') (types : AreTyped secret now' a)
+  module _ (request : Request) (secret : List ℕ) (a : Answer) (now' : ℕ) (service' : State) (count' : ℕ)
+      (job : x.what ≡ message.Job request secret) (later : old.now ≤ now')
+      (turn : Turn old.service (ask_in request) secret now' a service') (types : AreTyped secret now' a)
       (counted : count' ≡ min (old.count + 1) count_limit) where
     abbrev pub step : Step
-    step = record { seat = x.seat; exchange = record { ask = ask; secret = secret; now = now'; answer = a } }
+    step = record { seat = x.seat; exchange = record { ask = ask_in request; secret = secret; now = now'; answer = a } }
 
     -- the ledger with that step
     abbrev pub with_step : Ledger
@@ -357,9 +358,9 @@ module _ (old : Ledger) (j j' : LineView Message) (lines : List ReplyLine) (k : 
     keeps_seat_still seat line kept = record { replied = kept.replied; finish = λ p. finish_stays seat (kept.finish p) }
 
   -- a wish was taken, which the service seems not to have heard
-  pub wish_taken : (at : List ℕ) (by : Wish) → x.what ≡ message.Hash at by → (service' : State)
+  pub wish_taken : (w : Wish) → x.what ≡ message.Wish w → (service' : State)
       → service' ≡ old.service → IsKeeping (record old { service = service' }) j' lines
-  wish_taken at by wish service' same =
+  wish_taken w wish service' same =
       let no_job : add_job x.seat x.what [] ≡ [] = ap (λ m. add_job x.seat m []) wish in
       subst (λ s. IsKeeping (record old { service = s }) j' lines) (sym same) record {
         keeps = still no_job;

@@ -8,9 +8,11 @@ pub mod Orders
 pub mod Pooling
 pub mod Restarting
 pub mod Safely
+pub mod Sent
 pub mod SeatConversations
 pub mod SeatMoves
 pub mod Settling
 pub mod Transcripts
+pub mod Unchanged
 pub mod Watching
 pub mod Working

@@ -116,6 +116,24 @@ follows_alone keeper upto lawful run moments by =
       whole = refl;
     }
 
+-- nothing more is served, and nothing more is kept
+pub follows_still : (start start' : State) (kept kept' : List Exchange) (upto upto' : ℕ) (old new : KeeperState)
+    → Follows start kept upto old → start' ≡ start → kept' ≡ kept → upto' ≡ upto → new.since ≡ old.since
+    → new.service ≡ old.service → new.log ≡ old.log → Follows start' kept' upto' new
+follows_still start start' kept kept' upto upto' old new f begun same by since service log =
+    let still = subst (λ (y : State × List Exchange × ℕ × ℕ × State × List Step).
+    Follows y.0 y.1 y.2 (record old { since = y.3; service = y.4; log = y.5 }))
+    (λ i. (sym begun i, sym same i, sym by i, sym since i, sym service i, sym log i)) f in
+    record {
+      leads = still.leads;
+      by = still.by;
+      earlier = still.earlier;
+      run = still.run;
+      moments = still.moments;
+      last = still.last;
+      whole = still.whole;
+    }
+
 -- one exchange more, which is kept later
 pub follows_more : (start start' : State) (kept kept' : List Exchange) (upto upto' : ℕ) (old new : KeeperState) (now : ℕ)
     → Follows start kept upto old → start' ≡ start → new.since ≡ old.since

@@ -1,8 +1,14 @@
 -- What a seat's passes know after a request, an answer, and the end.
 use Rattle.std.proofs.Common.{◌≡◌, ◌≤◌, ◌==◌, ℕ, zero, suc, Bool, true, false, true≢false, List, [], ◌∷◌, ◌++◌, length}
 use Rattle.std.proofs.Common.{length-append, sym, refl, ap, ◌∙◌, arith, append-nil, Result, Ok, Err, MatchResult}
+use Rattle.std.proofs.Common.{Option, Some, None, subst}
+use Rattle.std.specs.Result.{result_ok}
 use Rattle.std.proofs.lemmas.List.{map-append}
 use Rattle.upload_service.specs.declared.ask.Ask.{Ask}
+use Rattle.upload_service.specs.declared.ask.Request.{Request}
+use Rattle.upload_service.specs.declared.ask.Request.TheVariants.{Held, Gone}
+use Rattle.upload_service.specs.declared.ask.GoneChunk.{GoneChunk}
+use Rattle.upload_service.specs.Requests.{ask_in, chunk_ask}
 use Rattle.upload_service.specs.declared.answer.Answer.{Answer}
 use Rattle.upload_intake.specs.declared.line.Item.{Item}
 use Rattle.upload_intake.specs.declared.line.LineView.{LineView}
@@ -12,8 +18,10 @@ use Rattle.upload_intake.specs.declared.message.Message.TheVariants as message
 use Rattle.upload_intake.specs.Line.{sent, with_sent, with_taken, IsOfAnother}
 use Rattle.upload_intake.specs.Log.{Job}
 use Rattle.upload_intake.specs.Passes.{LineId, sender_view, whats}
-use Rattle.upload_intake.specs.Seats.{SeatState}
-use Rattle.upload_intake.specs.Kept.{jobs_in, has_finish, is_closed, Sits, SatToTheEnd}
+use Rattle.upload_intake.specs.Seats.{SeatState, Asks, Hears}
+use Rattle.upload_intake.specs.SeatMoves.{AsksWithDrawn}
+use Rattle.upload_intake.specs.declared.gone.Gone.TheVariants.{NotSent, NoAnswer}
+use Rattle.upload_intake.specs.Kept.{jobs_in, has_finish, is_closed, Sits, SatToTheEnd, Exchanges, IsHeld}
 use Rattle.upload_intake.proofs.LineMoves.{items_of-append, of_own, seat_below}
 
 module _ {T : Type 0} where
@@ -22,27 +30,27 @@ module _ {T : Type 0} where
 
 pub jobs_in-append : (xs ys : List Message) → jobs_in (xs ++ ys) ≡ jobs_in xs ++ jobs_in ys
 jobs_in-append [] ys = refl
-jobs_in-append (message.Job ask secret ∷ xs) ys = ap (λ l. (ask, secret) ∷ l) (jobs_in-append xs ys)
-jobs_in-append (message.Hash at by ∷ xs) ys = jobs_in-append xs ys
+jobs_in-append (message.Job request secret ∷ xs) ys = ap (λ l. (ask_in request, secret) ∷ l) (jobs_in-append xs ys)
+jobs_in-append (message.Wish wish ∷ xs) ys = jobs_in-append xs ys
 jobs_in-append (message.Finish ∷ xs) ys = jobs_in-append xs ys
 
 still_unfinished : (xs : List Message) (m : Message) → has_finish (m ∷ []) ≡ false → has_finish xs ≡ false
     → has_finish (xs ++ m ∷ []) ≡ false
 still_unfinished [] m last e = last
 still_unfinished (message.Job a s ∷ xs) m last e = still_unfinished xs m last e
-still_unfinished (message.Hash a b ∷ xs) m last e = still_unfinished xs m last e
+still_unfinished (message.Wish wish ∷ xs) m last e = still_unfinished xs m last e
 still_unfinished (message.Finish ∷ xs) m last e = e
 
 closed_by_finish : (xs : List Message) → has_finish xs ≡ false → is_closed (xs ++ message.Finish ∷ []) ≡ true
 closed_by_finish [] e = refl
 closed_by_finish (message.Job a s ∷ xs) e = closed_by_finish xs e
-closed_by_finish (message.Hash a b ∷ xs) e = closed_by_finish xs e
+closed_by_finish (message.Wish wish ∷ xs) e = closed_by_finish xs e
 closed_by_finish (message.Finish ∷ xs) e = absurd (true≢false e)
 
 closed_without : (xs : List Message) → has_finish xs ≡ false → is_closed xs ≡ true
 closed_without [] e = refl
 closed_without (message.Job a s ∷ xs) e = closed_without xs e
-closed_without (message.Hash a b ∷ xs) e = closed_without xs e
+closed_without (message.Wish wish ∷ xs) e = closed_without xs e
 closed_without (message.Finish ∷ xs) e = absurd (true≢false e)
 
 zero_unless : (n : ℕ) → (1 ≤ n → ⊥) → (0 == n) ≡ true
@@ -63,49 +71,49 @@ module _ (seat : ℕ) (gone : Bool) (j : LineView Message) (r : LineView Answer)
   jobs_after m j' e =
       ap (λ v. jobs_in (sent v.sending)) (more m j' e) ∙ jobs_in-append s.sent (m ∷ [])
 
-  pub one_more_sent : (ask : Ask) (secret : List ℕ) (j' : LineView Message)
-      → j' ≡ with_sent (record { seat = seat; what = message.Job ask secret }) j
-      → jobs_in (sent j'.sending) ≡ jobs_in (sent j.sending) ++ (ask, secret) ∷ []
-  one_more_sent ask secret j' e =
-      jobs_after (message.Job ask secret) j' e ∙ ap (λ l. l ++ (ask, secret) ∷ []) (sym jobs_before)
+  pub one_more_sent : (request : Request) (secret : List ℕ) (j' : LineView Message)
+      → j' ≡ with_sent (record { seat = seat; what = message.Job request secret }) j
+      → jobs_in (sent j'.sending) ≡ jobs_in (sent j.sending) ++ (ask_in request, secret) ∷ []
+  one_more_sent request secret j' e =
+      jobs_after (message.Job request secret) j' e ∙ ap (λ l. l ++ (ask_in request, secret) ∷ []) (sym jobs_before)
 
   no_more_sent : (j' : LineView Message) → j' ≡ with_sent (record { seat = seat; what = message.Finish }) j
       → jobs_in (sent j'.sending) ≡ jobs_in (sent j.sending)
   no_more_sent j' e = jobs_after message.Finish j' e ∙ append-nil (jobs_in s.sent) ∙ sym jobs_before
 
   -- a wish was sent, which is no job
-  pub wish_sent : (at : List ℕ) (by : Wish) (j' : LineView Message)
-      → j' ≡ with_sent (record { seat = seat; what = message.Hash at by }) j → Sits seat gone j' r
-  wish_sent at by j' e =
-      let same : jobs_in (s.sent ++ message.Hash at by ∷ []) ≡ jobs_in s.sent =
-      jobs_in-append s.sent (message.Hash at by ∷ []) ∙ append-nil (jobs_in s.sent) in
+  pub wish_sent : (wish : Wish) (j' : LineView Message)
+      → j' ≡ with_sent (record { seat = seat; what = message.Wish wish }) j → Sits seat gone j' r
+  wish_sent wish j' e =
+      let same : jobs_in (s.sent ++ message.Wish wish ∷ []) ≡ jobs_in s.sent =
+      jobs_in-append s.sent (message.Wish wish ∷ []) ∙ append-nil (jobs_in s.sent) in
       record {
-        sent = s.sent ++ message.Hash at by ∷ [];
+        sent = s.sent ++ message.Wish wish ∷ [];
         knows = record {
           got = s.knows.got;
-          jobs_view = more (message.Hash at by) j' e;
+          jobs_view = more (message.Wish wish) j' e;
           replies_view = s.knows.replies_view;
           of_one = s.knows.of_one;
           each_answered = λ p. s.knows.each_answered p ∙ ap length (sym same);
         };
-        unfinished = still_unfinished s.sent (message.Hash at by) refl s.unfinished;
+        unfinished = still_unfinished s.sent (message.Wish wish) refl s.unfinished;
       }
 
-  pub no_job_sent : (at : List ℕ) (by : Wish) (j' : LineView Message)
-      → j' ≡ with_sent (record { seat = seat; what = message.Hash at by }) j
+  pub no_job_sent : (wish : Wish) (j' : LineView Message)
+      → j' ≡ with_sent (record { seat = seat; what = message.Wish wish }) j
       → jobs_in (sent j'.sending) ≡ jobs_in (sent j.sending)
-  no_job_sent at by j' e = jobs_after (message.Hash at by) j' e ∙ append-nil (jobs_in s.sent) ∙ sym jobs_before
+  no_job_sent wish j' e = jobs_after (message.Wish wish) j' e ∙ append-nil (jobs_in s.sent) ∙ sym jobs_before
 
-  pub answered : gone ≡ false → (ask : Ask) (secret : List ℕ) (x : Item Answer) (j' : LineView Message)
-      (r' : LineView Answer) → j' ≡ with_sent (record { seat = seat; what = message.Job ask secret }) j
+  pub answered : gone ≡ false → (request : Request) (secret : List ℕ) (x : Item Answer) (j' : LineView Message)
+      (r' : LineView Answer) → j' ≡ with_sent (record { seat = seat; what = message.Job request secret }) j
       → (r' ≡ with_taken x r) × IsOfAnother r x → Sits seat gone j' r'
-  answered here ask secret x j' r' e f =
+  answered here request secret x j' r' e f =
       let n : length s.knows.got ≡ length (jobs_in s.sent) = s.knows.each_answered here in
       record {
-        sent = s.sent ++ message.Job ask secret ∷ [];
+        sent = s.sent ++ message.Job request secret ∷ [];
         knows = record {
           got = s.knows.got ++ x ∷ [];
-          jobs_view = more (message.Job ask secret) j' e;
+          jobs_view = more (message.Job request secret) j' e;
           replies_view = f.0 ∙ ap (with_taken x) s.knows.replies_view;
           of_one =
               items_of-append 0 s.knows.got (x ∷ []) ∙ (λ i. s.knows.of_one i
@@ -114,26 +122,26 @@ module _ (seat : ℕ) (gone : Bool) (j : LineView Message) (r : LineView Answer)
           each_answered = λ _. omega (
             arith,
             length-append s.knows.got (x ∷ []),
-            ap length (jobs_in-append s.sent (message.Job ask secret ∷ [])),
-            length-append (jobs_in s.sent) ((ask, secret) ∷ []),
+            ap length (jobs_in-append s.sent (message.Job request secret ∷ [])),
+            length-append (jobs_in s.sent) ((ask_in request, secret) ∷ []),
             n,
           );
         };
-        unfinished = still_unfinished s.sent (message.Job ask secret) refl s.unfinished;
+        unfinished = still_unfinished s.sent (message.Job request secret) refl s.unfinished;
       }
 
-  pub unanswered : (ask : Ask) (secret : List ℕ) (j' : LineView Message) (r' : LineView Answer)
-      → j' ≡ with_sent (record { seat = seat; what = message.Job ask secret }) j → r' ≡ r → Sits seat true j' r'
-  unanswered ask secret j' r' e f = record {
-    sent = s.sent ++ message.Job ask secret ∷ [];
+  pub unanswered : (request : Request) (secret : List ℕ) (j' : LineView Message) (r' : LineView Answer)
+      → j' ≡ with_sent (record { seat = seat; what = message.Job request secret }) j → r' ≡ r → Sits seat true j' r'
+  unanswered request secret j' r' e f = record {
+    sent = s.sent ++ message.Job request secret ∷ [];
     knows = record {
       got = s.knows.got;
-      jobs_view = more (message.Job ask secret) j' e;
+      jobs_view = more (message.Job request secret) j' e;
       replies_view = f ∙ s.knows.replies_view;
       of_one = s.knows.of_one;
       each_answered = λ p. absurd (true≢false p);
     };
-    unfinished = still_unfinished s.sent (message.Job ask secret) refl s.unfinished;
+    unfinished = still_unfinished s.sent (message.Job request secret) refl s.unfinished;
   }
 
   ended : (j' : LineView Message) → j' ≡ with_sent (record { seat = seat; what = message.Finish }) j
@@ -238,3 +246,37 @@ told_nothing a a' b seat s s' h g o o' r old is p u x =
       sends = x i;
       takes = r;
     }) ∙ is
+
+-- ---- what came of a request
+
+held_same : (a b : Ask) → Held a ≡ Held b → a ≡ b
+held_same a b e = cc
+
+-- an ask that came back is the one that was asked
+pub is_held : (old new : SeatState) (ask : Ask) (secret : List ℕ) (back : Request)
+    → Exchanges old (Held ask) secret (Err (Some back)) new → IsHeld back
+is_held old new ask secret back e = subst IsHeld (sym e.0) tt
+
+pub asks_back : (old new : SeatState) (ask : Ask) (secret : List ℕ) (back : Request) (held : Ask) → back ≡ Held held
+    → Exchanges old (Held ask) secret (Err (Some back)) new → Asks old ask secret (Err (NotSent held)) new
+asks_back old new ask secret back held is e = (held_same held ask (sym is ∙ e.0), e.1, e.2)
+
+hears_so : (old new : SeatState) (chunk : GoneChunk) (secret : List ℕ) (r : Result Answer (Option Request))
+    → Exchanges old (Gone chunk) secret r new → Hears old (chunk_ask chunk) secret (result_ok r) new
+hears_so old new chunk secret (Ok answer) e = e
+hears_so old new chunk secret (Err (Some back)) e = (NotSent (chunk_ask chunk), (refl, e.1, e.2))
+hears_so old new chunk secret (Err None) e = (NoAnswer, e)
+
+-- what a chunk was answered whose bytes were let go
+pub hears_gone : (old new : SeatState) (chunk : GoneChunk) (secret : List ℕ) (r : Result Answer (Option Request))
+    (heard : Option Answer) → heard ≡ result_ok r → Exchanges old (Gone chunk) secret r new
+    → Hears old (chunk_ask chunk) secret heard new
+hears_gone old new chunk secret r heard is e =
+    subst (λ h. Hears old (chunk_ask chunk) secret h new) (sym is) (hears_so old new chunk secret r e)
+
+-- the same, with a drawn secret
+pub hears_drawn : {S : Type 0} (draws : S → List ℕ → S → Type 0) (old new : SeatState × S) (ask : Ask) (secret : List ℕ)
+    (heard : Option Answer) → draws old.1 secret new.1 → Hears old.0 ask secret heard new.0
+    → AsksWithDrawn draws old ask heard new
+hears_drawn draws old new ask secret (Some answer) drawn h = (secret, drawn, h)
+hears_drawn draws old new ask secret None drawn h = (secret, h.0, drawn, h.1)

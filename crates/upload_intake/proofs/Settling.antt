@@ -6,6 +6,7 @@ use Rattle.std.proofs.lemmas.List.{length-map}
 use Rattle.std.specs.List.{AllByRecursion}
 use Rattle.upload_service.specs.Headline.{HeadlineHolds}
 use Rattle.upload_service.specs.declared.answer.Answer.{Answer}
+use Rattle.upload_service.specs.Requests.{ask_in}
 use Rattle.upload_intake.specs.declared.line.Item.{Item}
 use Rattle.upload_intake.specs.declared.line.LineView.{LineView}
 use Rattle.upload_intake.specs.declared.message.Message.{Message}
@@ -36,7 +37,7 @@ empty (x ∷ xs) ys e = absurd (true≢false (sym e))
 nothing_after : (xs ys : List Message) → has_finish xs ≡ true → is_closed (xs ++ ys) ≡ true → ys ≡ []
 nothing_after [] ys f c = absurd (true≢false (sym f))
 nothing_after (message.Job a s ∷ xs) ys f c = nothing_after xs ys f c
-nothing_after (message.Hash a b ∷ xs) ys f c = nothing_after xs ys f c
+nothing_after (message.Wish wish ∷ xs) ys f c = nothing_after xs ys f c
 nothing_after (message.Finish ∷ xs) ys f c = empty xs ys c
 
 -- if the finish was taken, everything was
@@ -55,12 +56,12 @@ jobs_of-add_job : (seat : ℕ) (x : Item Message) (jobs : List TakenJob)
 jobs_of-add_job seat x jobs =
     elim x.what
     as (λ m. jobs_of seat (add_job x.seat m jobs) ≡ jobs_in (cond (seat == x.seat) (m ∷ []) []) ++ jobs_of seat jobs) [
-      | message.Job ask secret ↦ elim (seat == x.seat)
-          as (λ b. map (λ (j : TakenJob). j.job) (cond b (record { seat = x.seat; job = (ask, secret) }
+      | message.Job request secret ↦ elim (seat == x.seat)
+          as (λ b. map (λ (j : TakenJob). j.job) (cond b (record { seat = x.seat; job = (ask_in request, secret) }
           ∷ filter (λ (j : TakenJob). seat == j.seat) jobs) (filter (λ (j : TakenJob). seat == j.seat) jobs))
-          ≡ jobs_in (cond b (message.Job ask secret ∷ []) []) ++ jobs_of seat jobs) [ true ↦ refl | false ↦ refl ]
-      | message.Hash at by ↦ elim (seat == x.seat) as (λ b. jobs_of seat jobs
-          ≡ jobs_in (cond b (message.Hash at by ∷ []) []) ++ jobs_of seat jobs) [ true ↦ refl | false ↦ refl ]
+          ≡ jobs_in (cond b (message.Job request secret ∷ []) []) ++ jobs_of seat jobs) [ true ↦ refl | false ↦ refl ]
+      | message.Wish wish ↦ elim (seat == x.seat) as (λ b. jobs_of seat jobs
+          ≡ jobs_in (cond b (message.Wish wish ∷ []) []) ++ jobs_of seat jobs) [ true ↦ refl | false ↦ refl ]
       | message.Finish ↦ elim (seat == x.seat) as (λ b. jobs_of seat jobs
           ≡ jobs_in (cond b (message.Finish ∷ []) []) ++ jobs_of seat jobs) [ true ↦ refl | false ↦ refl ]
     ]
@@ -72,7 +73,7 @@ jobs_in-items_of seat x xs =
     (cond b (x ∷ filter (λ (y : Item Message). seat == y.seat) xs) (filter (λ (y : Item Message). seat == y.seat) xs)))
     ≡ jobs_in (cond b (x.what ∷ []) []) ++ jobs_in (items_of seat xs)) [
       | true ↦ elim x.what as (λ m. jobs_in (m ∷ items_of seat xs) ≡ jobs_in (m ∷ []) ++ jobs_in (items_of seat xs))
-          [ message.Job ask secret ↦ refl | message.Hash at by ↦ refl | message.Finish ↦ refl ]
+          [ message.Job request secret ↦ refl | message.Wish wish ↦ refl | message.Finish ↦ refl ]
       | false ↦ refl
     ]
 

@@ -1,8 +1,11 @@
 -- What the passes of the lines know, and what a keeper keeps from one item to the next.
 use Rattle.std.specs.Prelude.{◌≡◌, ◌<◌, ℕ, min, Bool, true, false, List, [], ◌∷◌, ◌++◌, length, get_or}
-use Rattle.std.specs.Prelude.{Option, Some, None, IsSome}
+use Rattle.std.specs.Prelude.{Option, Some, None, IsSome, Result, Ok, Err, ◌⊎◌}
 use Rattle.std.specs.List.{AllByRecursion}
 use Rattle.upload_service.specs.declared.answer.Answer.{Answer}
+use Rattle.upload_service.specs.declared.ask.Request.{Request}
+use Rattle.upload_service.specs.declared.ask.Request.TheVariants as requests
+use Rattle.upload_service.specs.Requests.{ask_in}
 use Rattle.upload_service.specs.Machine.{State, IsLawful}
 use Rattle.upload_service.specs.Run.{Run, NeverFall}
 use Rattle.upload_intake.specs.declared.keeper.Books.{Books}
@@ -24,13 +27,13 @@ use Rattle.upload_intake.specs.Pools.Settled.{count_limit}
 -- the jobs among what lies on a line
 abbrev pub jobs_in : List Message → List Job
 jobs_in [] = []
-jobs_in (message.Job ask secret ∷ ms) = (ask, secret) ∷ jobs_in ms
-jobs_in (message.Hash at algorithm ∷ ms) = jobs_in ms
+jobs_in (message.Job request secret ∷ ms) = (ask_in request, secret) ∷ jobs_in ms
+jobs_in (message.Wish wish ∷ ms) = jobs_in ms
 jobs_in (message.Finish ∷ ms) = jobs_in ms
 
 abbrev pub add_job : ℕ → Message → List TakenJob → List TakenJob
-add_job seat (message.Job ask secret) taken = record { seat = seat; job = (ask, secret) } ∷ taken
-add_job seat (message.Hash at algorithm) taken = taken
+add_job seat (message.Job request secret) taken = record { seat = seat; job = (ask_in request, secret) } ∷ taken
+add_job seat (message.Wish wish) taken = taken
 add_job seat message.Finish taken = taken
 
 abbrev pub taken_in : List (Item Message) → List TakenJob
@@ -40,8 +43,8 @@ taken_in (x ∷ xs) = add_job x.seat x.what (taken_in xs)
 abbrev pub has_finish : List Message → Bool
 has_finish [] = false
 has_finish (message.Finish ∷ ms) = true
-has_finish (message.Job ask secret ∷ ms) = has_finish ms
-has_finish (message.Hash at algorithm ∷ ms) = has_finish ms
+has_finish (message.Job request secret ∷ ms) = has_finish ms
+has_finish (message.Wish wish ∷ ms) = has_finish ms
 
 abbrev pub is_empty : List Message → Bool
 is_empty [] = true
@@ -51,8 +54,8 @@ is_empty (m ∷ ms) = false
 abbrev pub is_closed : List Message → Bool
 is_closed [] = true
 is_closed (message.Finish ∷ ms) = is_empty ms
-is_closed (message.Job ask secret ∷ ms) = is_closed ms
-is_closed (message.Hash at algorithm ∷ ms) = is_closed ms
+is_closed (message.Job request secret ∷ ms) = is_closed ms
+is_closed (message.Wish wish ∷ ms) = is_closed ms
 
 -- the seat at this place
 abbrev pub seat_at : Place → SeatState
@@ -198,7 +201,25 @@ pub data Sends (old new : Outlet) : Type 0 where
   Closed : new.is_open ≡ false → new.view ≡ old.view → Sends old new
   Still : new ≡ old → Sends old new
 
+-- One request of a seat, with what came of it. An answer comes only if no call ended Gone; it adds the job and the answer.
+-- A request that comes back adds nothing: an earlier call ended Gone, or the line handed it back. None says that no answer
+-- came, and adds the job alone. After both the seat is gone.
+abbrev pub Exchanges : SeatState → Request → List ℕ → Result Answer (Option Request) → SeatState → Type 0
+Exchanges old request secret (Ok answer) new =
+    (old.gone ≡ false)
+    × (new ≡ record old { sent = old.sent ++ (ask_in request, secret) ∷ []; heard = old.heard ++ answer ∷ [] })
+Exchanges old request secret (Err (Some back)) new =
+    (back ≡ request) × (new ≡ record old { gone = true; sends = new.sends })
+    × (((old.gone ≡ true) × (new.sends ≡ old.sends)) ⊎ (new.sends ≡ false))
+Exchanges old request secret (Err None) new =
+    (old.gone ≡ false)
+    × (new ≡ record old { sent = old.sent ++ (ask_in request, secret) ∷ []; gone = true; takes = false })
+
+abbrev pub IsHeld : Request → Type 0
+IsHeld (requests.Held ask) = Unit {0}
+IsHeld (requests.Gone chunk) = ⊥
+
 abbrev pub IsJob : Message → Type 0
-IsJob (message.Job ask secret) = Unit {0}
-IsJob (message.Hash at algorithm) = ⊥
+IsJob (message.Job request secret) = Unit {0}
+IsJob (message.Wish wish) = ⊥
 IsJob message.Finish = ⊥

@@ -2,6 +2,7 @@
 use Rattle.std.specs.Prelude.{ℕ, ◌==◌, List, [], ◌∷◌, map, filter}
 use Rattle.upload_service.specs.declared.ask.Ask.{Ask}
 use Rattle.upload_service.specs.declared.answer.Answer.{Answer}
+use Rattle.upload_service.specs.Requests.{ask_in}
 use Rattle.upload_service.specs.Run.{Exchange}
 use Rattle.upload_intake.specs.declared.log.Entry.{Entry}
 
@@ -23,7 +24,7 @@ pub record Step : Type 0 where
 abbrev pub step_of : Entry → Step
 step_of e = record {
   seat = e.seat;
-  exchange = record { ask = e.ask.value; secret = e.secret; now = e.now; answer = e.answer.value };
+  exchange = record { ask = ask_in e.request.value; secret = e.secret; now = e.now; answer = e.answer.value };
 }
 
 abbrev pub steps_of : List Entry → List Step

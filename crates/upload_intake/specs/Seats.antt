@@ -1,5 +1,6 @@
 -- A seat: what it sent and heard, and whether the keeper is gone for it.
 use Rattle.std.specs.Prelude.{◌≡◌, ◌⊎◌, ℕ, Bool, true, false, List, [], ◌∷◌, ◌++◌, Result, Ok, Err}
+use Rattle.std.specs.Prelude.{Option, Some, None}
 use Rattle.upload_service.specs.declared.ask.Ask.{Ask}
 use Rattle.upload_service.specs.declared.answer.Answer.{Answer}
 use Rattle.upload_intake.specs.declared.message.Message.{Message}
@@ -31,6 +32,11 @@ Asks old ask secret (Err (NotSent back)) new =
     × (((old.gone ≡ true) × (new.sends ≡ old.sends)) ⊎ (new.sends ≡ false))
 Asks old ask secret (Err NoAnswer) new =
     (old.gone ≡ false) × (new ≡ record old { sent = old.sent ++ (ask, secret) ∷ []; gone = true; takes = false })
+
+-- The same, if of what went wrong only that is told.
+abbrev pub Hears : SeatState → Ask → List ℕ → Option Answer → SeatState → Type 0
+Hears old ask secret (Some answer) new = Asks old ask secret (Ok answer) new
+Hears old ask secret None new = (gone : Gone) × Asks old ask secret (Err gone) new
 
 -- it sent and heard nothing yet
 pub record IsFresh (seat : SeatState) : Type 0 where

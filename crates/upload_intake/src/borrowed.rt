@@ -1,12 +1,10 @@
 //! What keeps, lent: whoever lent it has it still when the pool has ended, also if it failed.
-use crate::keeping::{Keeping, NotKept};
-use upload_service::{Answer, Ask};
+use crate::keeping::{Coming, Keeping, NotKept};
+use std::thread::Threads;
+use upload_bytes::ThreadEnd;
+use upload_service::{Answer, Ask, Service};
 
 impl<K: Keeping> Keeping for &mut K {
-    type Note = K::Note;
-
-    ghost noted = { λ note. K.noted note };
-
     ghost start = { λ k. K.start k.now };
 
     ghost kept = { λ k. K.kept k.now };
@@ -19,12 +17,36 @@ impl<K: Keeping> Keeping for &mut K {
 
     ghost failed = { λ k. K.failed k.now };
 
-    fn note(&mut self, ask: &Ask, secret: [u8; 12], now: u64) -> K::Note {
-        (**self).note(ask, secret, now)
+    ghost noted = { λ k. K.noted k.now };
+
+    fn write_ahead<R: Threads>(
+        &mut self,
+        rt: &R,
+        seat: usize,
+        service: &Service,
+        coming: Coming,
+    ) -> Option<ThreadEnd> {
+        (**self).write_ahead(rt, seat, service, coming)
     }
 
-    fn add(&mut self, note: K::Note, answer: &Answer) {
-        (**self).add(note, answer)
+    fn note<R: Threads>(
+        &mut self,
+        rt: &R,
+        seat: usize,
+        service: &Service,
+        ask: &Ask,
+        secret: [u8; 12],
+        now: u64,
+    ) -> bool {
+        (**self).note(rt, seat, service, ask, secret, now)
+    }
+
+    fn add(&mut self, answer: &Answer) {
+        (**self).add(answer)
+    }
+
+    fn let_go(&mut self) {
+        (**self).let_go()
     }
 
     fn keep(&mut self) -> Result<(), NotKept> {

@@ -2,8 +2,8 @@
 use crate::lent::{Gate, Secrets};
 use crate::seat::Seat;
 use std::sync::Wait;
-use upload_service::{Answer, Ask};
-use upload_wire::Desk;
+use upload_service::{Answer, Ask, GoneChunk};
+use upload_wire::{Desk, NotAsked};
 
 /// A seat that is asked with drawn secrets. It answers None if the seat's call ended `Gone`.
 #[derive(Drop)]
@@ -39,6 +39,21 @@ impl<'a, R: Wait, S: Secrets + Drop> SeatDesk<'a, R, S> {
     }
 }
 
+impl<'a, R: Wait, S: Secrets> SeatDesk<'a, R, S> {
+    ghost use Rattle.upload_service.specs.Requests.{chunk_ask};
+    ghost use Rattle.upload_intake.specs.Desks.{seat_of, secrets_of};
+    ghost use Rattle.upload_intake.specs.SeatMoves.{AsksWithDrawn};
+
+    // Asks a chunk whose bytes were let go. `None` says that no answer came.
+    fn ask_gone(&mut self, chunk: GoneChunk) -> Option<Answer>
+        ensures { AsksWithDrawn S.draws (seat_of self.old, secrets_of self.old) (chunk_ask chunk)
+            result (seat_of self.new, secrets_of self.new) }
+    {
+        let drawn = self.secrets.draw();
+        self.seat.turn_away(self.rt, chunk, drawn)
+    }
+}
+
 impl<'a, R: Wait, S: Secrets> Desk for SeatDesk<'a, R, S> {
     ghost use Rattle.upload_intake.specs.SeatMoves.{AsksWithDrawn};
 
@@ -48,6 +63,10 @@ impl<'a, R: Wait, S: Secrets> Desk for SeatDesk<'a, R, S> {
     fn ask(&mut self, ask: Ask) -> Option<Answer> {
         let secret = self.secrets.draw();
         self.seat.ask(self.rt, ask, secret).ok()
+    }
+
+    fn turn_away(&mut self, chunk: GoneChunk) -> Result<Option<Answer>, NotAsked> {
+        Ok(self.ask_gone(chunk))
     }
 }
 
@@ -76,5 +95,18 @@ impl<'a, R: Wait, S: Secrets, G: Gate> Desk for GatedDesk<'a, R, S, G> {
         let answer = self.desk.ask(ask)?;
         self.gate.after_answer(self.turn, &answer);
         Some(answer)
+    }
+
+    fn turn_away(&mut self, chunk: GoneChunk) -> Result<Option<Answer>, NotAsked> {
+        let turn = self.turn.saturating_add(1);
+        let Ok(()) = self.gate.before_gone(turn, &chunk) else {
+            return Err(NotAsked);
+        };
+        self.turn = turn;
+        let Some(answer) = self.desk.ask_gone(chunk) else {
+            return Ok(None);
+        };
+        self.gate.after_answer(turn, &answer);
+        Ok(Some(answer))
     }
 }

@@ -1,7 +1,9 @@
 //! The keeper alone has the service, and serves the seats' requests in the order in which it took them.
-ghost use Rattle.std.specs.Prelude.{◌≡◌, ◌<◌, ◌^◌, true, [], ◌∷◌, ◌++◌, length};
+ghost use Rattle.std.specs.Prelude.{◌≡◌, ◌<◌, ◌^◌, true, false, [], ◌∷◌, ◌++◌, length, max, Some, IsSome};
+ghost use Rattle.upload_service.specs.Machine.{Turn};
+ghost use Rattle.upload_service.specs.Requests.{ask_in, chunk_ask};
 ghost use Rattle.upload_intake.specs.Kept.{AreDone};
-ghost use Rattle.upload_intake.specs.Safety.{answered_so, changes, changed};
+ghost use Rattle.upload_intake.specs.Safety.{Asked, asked, answered_so, changes, changed};
 ghost use Rattle.upload_intake.specs.Typed.{AreTyped};
 
 use crate::ends::TakeEnd;
@@ -20,7 +22,7 @@ use std::thread;
 use std::thread::Threads;
 use upload_bytes::InThreads;
 use upload_names::{Algorithm, UploadRef};
-use upload_service::{Answer, Service, headline_holds};
+use upload_service::{Answer, Ask, GoneChunk, Request, Service, headline_holds};
 
 /// What a keeper has, while it runs and when it has ended.
 #[derive(Drop)]
@@ -204,30 +206,26 @@ impl Keeper {
         };
         let Item { seat, what } = item;
         match what {
-            Message::Job(ask, secret) => {
+            Message::Job(request, secret) => {
                 self.books.now = self.books.now.max(moments.now());
-                let asked = Snapshot::of(&ask);
-                let note = keeping.note(&ask, secret, self.books.now);
-                let answer = self
-                    .books
-                    .service
-                    .step_joining(rt, ask, secret, self.books.now);
+                let asked = Snapshot::of(&request);
+                let service = &mut self.books.service;
+                let answer = serve(rt, service, keeping, seat, request, secret, self.books.now);
                 are_typed(&secret, self.books.now, &answer);
                 let entry = Entry {
                     seat,
-                    ask: asked,
+                    request: asked,
                     secret,
                     now: self.books.now,
                     answer: Snapshot::of(&answer),
                 };
                 self.books.log = self.books.log.and(&entry);
                 self.books.count = self.books.count.saturating_add(1);
-                add_change(keeping, note, &answer);
                 self.books.lines[seat].hold(answer);
                 true
             }
-            Message::Hash(at, wish) => {
-                let told = wish.grant(rt, &mut self.books.service, &at);
+            Message::Wish(wish) => {
+                let told = wish.grant(rt, seat, &mut self.books.service, keeping);
                 // A seat that doesn't hear it is gone.
                 let _ = self.books.lines[seat].ends.send(rt, told);
                 true
@@ -326,6 +324,7 @@ impl Keeper {
         self.turns(rt, moments, keeping, seats);
         keeping.keep()?;
         self.reply_all(rt, keeping);
+        moments.rests(&self.books.service);
         Ok(())
     }
 
@@ -395,16 +394,114 @@ fn is_u64(number: u64)
     ensures { number < 2 ^ 64 }
 {}
 
-// Adds an exchange if it changed something.
-fn add_change<K: Keeping>(keeping: &mut K, note: K::Note, answer: &Answer)
+// Serves a request, which is kept if it changed something.
+fn serve<R: Threads, K: Keeping>(
+    rt: &R,
+    service: &mut Service,
+    keeping: &mut K,
+    seat: usize,
+    request: Request,
+    secret: [u8; 12],
+    now: u64,
+) -> Answer
+    ensures turn { Turn service.old (ask_in request) secret now result service.new }
     ensures start { K.start keeping.new ≡ K.start keeping.old }
     ensures kept { K.kept keeping.new ≡ K.kept keeping.old }
-    ensures waiting { K.waiting keeping.new
-        ≡ K.waiting keeping.old ++ changed (answered_so (K.noted note) answer.now ∷ []) }
+    ensures waiting { K.waiting keeping.new ≡ K.waiting keeping.old
+        ++ changed (answered_so (asked (ask_in request) secret now) result ∷ []) }
+    ensures last { K.last keeping.new ≡ max (K.last keeping.old) now }
+{
+    match request {
+        Request::Held(ask) => serve_held(rt, service, keeping, seat, ask, secret, now),
+        Request::Gone(chunk) => turn_away(rt, service, keeping, seat, chunk, secret, now),
+    }
+}
+
+// Serves an ask, which is kept if it changed something.
+fn serve_held<R: Threads, K: Keeping>(
+    rt: &R,
+    service: &mut Service,
+    keeping: &mut K,
+    seat: usize,
+    ask: Ask,
+    secret: [u8; 12],
+    now: u64,
+) -> Answer
+    ensures turn { Turn service.old ask secret now result service.new }
+    ensures start { K.start keeping.new ≡ K.start keeping.old }
+    ensures kept { K.kept keeping.new ≡ K.kept keeping.old }
+    ensures waiting { K.waiting keeping.new ≡ K.waiting keeping.old
+        ++ changed (answered_so (asked ask secret now) result ∷ []) }
+    ensures last { K.last keeping.new ≡ max (K.last keeping.old) now }
+{
+    let has_room = keeping.note(rt, seat, service, &ask, secret, now);
+    let answer = step(rt, service, has_room, ask, secret, now);
+    add_change(keeping, &answer);
+    answer
+}
+
+// Answers a chunk whose bytes were let go. It changes nothing, so of it only the moment is noted, as of what asks for the
+// base.
+fn turn_away<R: Threads, K: Keeping>(
+    rt: &R,
+    service: &Service,
+    keeping: &mut K,
+    seat: usize,
+    chunk: GoneChunk,
+    secret: [u8; 12],
+    now: u64,
+) -> Answer
+    ensures turn { Turn service.now (chunk_ask chunk) secret now result service.now }
+    ensures start { K.start keeping.new ≡ K.start keeping.old }
+    ensures kept { K.kept keeping.new ≡ K.kept keeping.old }
+    ensures waiting { K.waiting keeping.new ≡ K.waiting keeping.old
+        ++ changed (answered_so (asked (chunk_ask chunk) secret now) result ∷ []) }
+    ensures last { K.last keeping.new ≡ max (K.last keeping.old) now }
+{
+    let _ = keeping.note(rt, seat, service, &Ask::Base, secret, now);
+    keeping.let_go();
+    service.turn_away(chunk, now)
+}
+
+// Serves a request. Without room for what would be kept of it, it changes nothing.
+fn step<R: Threads>(
+    rt: &R,
+    service: &mut Service,
+    has_room: bool,
+    ask: Ask,
+    secret: [u8; 12],
+    now: u64,
+) -> Answer
+    ensures turn { Turn service.old ask secret now result service.new }
+    ensures same { has_room ≡ false → service.new ≡ service.old }
+    ensures unchanged { has_room ≡ false → changes result ≡ false }
+{
+    if has_room {
+        return service.step_joining(rt, ask, secret, now);
+    }
+    let answer = service.step_unchanged_joining(rt, ask, secret, now);
+    if changes(&answer) {
+        // By its contract it may tell of a change that leaves all as it is. That can't be kept either.
+        return Answer::NoMemory;
+    }
+    answer
+}
+
+// Adds the exchange of the request that was noted last if it changed something.
+fn add_change<K: Keeping>(keeping: &mut K, answer: &Answer)
+    requires { changes answer.now ≡ true → IsSome (K.noted keeping.old) }
+    ensures start { K.start keeping.new ≡ K.start keeping.old }
+    ensures kept { K.kept keeping.new ≡ K.kept keeping.old }
+    ensures waiting { (request : Asked)
+        → (changes answer.now ≡ true → K.noted keeping.old ≡ Some request)
+        → K.waiting keeping.new ≡ K.waiting keeping.old
+        ++ changed (answered_so request answer.now ∷ []) }
     ensures last { K.last keeping.new ≡ K.last keeping.old }
 {
     if changes(answer) {
-        keeping.add(note, answer);
+        keeping.add(answer);
+    } else {
+        keeping.let_go();
     }
 }
 

@@ -1,10 +1,22 @@
 //! Where what changed the service is kept, before anybody hears of it.
 ghost use Rattle.std.specs.Prelude.{◌≡◌, ◌≤◌, ℕ, max, Bool, true, List, [], ◌∷◌, ◌++◌, OnOk, OnErr};
+ghost use Rattle.std.specs.Prelude.{Option, Some, None, IfSome, IsSome, if◌then◌else◌};
 ghost use Rattle.upload_service.specs.Machine.{State};
 ghost use Rattle.upload_service.specs.Run.{Exchange};
 ghost use Rattle.upload_intake.specs.Safety.{Asked, asked, answered_so, IsSafe};
 
-use upload_service::{Answer, Ask};
+use std::thread::Threads;
+use upload_bytes::{Body, ThreadEnd};
+use upload_names::UploadRef;
+use upload_service::{Answer, Ask, Extent, Service};
+
+/// A body that is soon to be asked with, and where.
+#[derive(Drop)]
+pub struct Coming {
+    /// The upload that it goes to, and its range there. None if it is a blob of its own.
+    pub upload: Option<(UploadRef, Extent)>,
+    pub body: Body,
+}
 
 /// What was added could not be kept.
 #[derive(Clone, Copy, Debug, Drop, PartialEq, Eq)]
@@ -16,12 +28,6 @@ pub struct NotKept;
 /// It promises moments too. Each request is noted, also one that changes nothing, and it is answered only at a moment
 /// that is promised: whoever goes on from what is kept begins at none before it.
 pub trait Keeping {
-    /// What was noted of a request.
-    type Note: Drop;
-
-    // The request that a note is of.
-    ghost noted: { Self.Note → Asked };
-
     // The service before all that is kept; what is kept, in order; what was added and is not kept yet; the last moment
     // that was noted, and the moments up to which are promised; and whether a `keep` failed.
     ghost start: { Self → State };
@@ -36,22 +42,61 @@ pub trait Keeping {
 
     ghost failed: { Self → Bool };
 
-    /// Notes a request that is about to be served, with the secret and the moment of it.
-    fn note(&mut self, ask: &Ask, secret: [u8; 12], now: u64) -> Self::Note
-        ensures note { noted result ≡ asked ask.now secret now }
+    // The request that was noted last, if there is room for what is to be kept of it.
+    ghost noted: { Self → Option Asked };
+
+    /// Has a thread put a body where it is kept that a seat is soon to ask this service with, and gives the end of the
+    /// thread: whoever asks waits for it, while others are served. None says that there is nothing to wait for. The
+    /// request may be another one then, or none may come.
+    fn write_ahead<R: Threads>(
+        &mut self,
+        rt: &R,
+        seat: usize,
+        service: &Service,
+        coming: Coming,
+    ) -> Option<ThreadEnd>
+        ensures start { start self.new ≡ start self.old }
+        ensures kept { kept self.new ≡ kept self.old }
+        ensures waiting { waiting self.new ≡ waiting self.old }
+        ensures last { last self.new ≡ last self.old }
+        ensures upto { upto self.new ≡ upto self.old };
+
+    /// Notes a request that this service is about to be asked from a seat, with the secret and the moment of it, and makes
+    /// room for what is to be kept of it if it changes something. Says whether there is room. If there is none, whoever
+    /// asks has the service change nothing (`Service::step_unchanged`), and the next request may find some. So it may
+    /// also say of a request that changes nothing anyway.
+    fn note<R: Threads>(
+        &mut self,
+        rt: &R,
+        seat: usize,
+        service: &Service,
+        ask: &Ask,
+        secret: [u8; 12],
+        now: u64,
+    ) -> bool
+        ensures noted { noted self.new ≡ (if result then Some (asked ask.now secret now) else None) }
         ensures start { start self.new ≡ start self.old }
         ensures kept { kept self.new ≡ kept self.old }
         ensures waiting { waiting self.new ≡ waiting self.old }
         ensures last { last self.new ≡ max (last self.old) now }
         ensures upto { upto self.new ≡ upto self.old };
 
-    /// Adds a request that changed something, with its answer. Nobody hears that answer before `keep`. If there is no
-    /// room for it, the next `keep` says so. So whoever makes a store takes room before, for one of each worker.
-    fn add(&mut self, note: Self::Note, answer: &Answer)
+    /// Adds the request that was noted last, which changed something, with its answer. It is called only if there is
+    /// room for it. Nobody hears that answer before `keep`.
+    fn add(&mut self, answer: &Answer)
+        requires { IsSome (noted self.old) }
         ensures start { start self.new ≡ start self.old }
         ensures kept { kept self.new ≡ kept self.old }
-        ensures waiting { waiting self.new
-            ≡ waiting self.old ++ answered_so (noted note) answer.now ∷ [] }
+        ensures waiting { IfSome (noted self.old) (λ request. waiting self.new
+            ≡ waiting self.old ++ answered_so request answer.now ∷ []) }
+        ensures last { last self.new ≡ last self.old }
+        ensures upto { upto self.new ≡ upto self.old };
+
+    /// Says that the request that was noted last changed nothing, so that nothing is kept of it.
+    fn let_go(&mut self)
+        ensures start { start self.new ≡ start self.old }
+        ensures kept { kept self.new ≡ kept self.old }
+        ensures waiting { waiting self.new ≡ waiting self.old }
         ensures last { last self.new ≡ last self.old }
         ensures upto { upto self.new ≡ upto self.old };
 

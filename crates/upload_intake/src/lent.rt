@@ -1,12 +1,14 @@
 //! What a caller lends a pool: connections, secrets, a clock, and who is told of each request.
-ghost use Rattle.std.specs.Prelude.{Option, ◌≡◌, ℕ, List, replicate};
+ghost use Rattle.std.specs.Prelude.{Option, ◌≡◌, ℕ, List, replicate, OnOk, OnErr};
+ghost use Rattle.upload_service.specs.Requests.{chunk_ask};
 ghost use Rattle.upload_intake.specs.Notices.{Notice};
 ghost use Rattle.upload_intake.specs.Notices.Notice.{Asking, Answered};
 ghost use Rattle.upload_intake.specs.Secrets.{secret_of};
 
 use http_wire::{ByteSink, ByteSource};
 use rand::Rng;
-use upload_service::{Answer, Ask};
+use upload_service::{Answer, Ask, GoneChunk, Service};
+use upload_wire::NotAsked;
 
 /// The connections of one worker, one after the other.
 pub trait Conns {
@@ -41,6 +43,17 @@ pub trait Gate {
     fn before_ask(&mut self, turn: u64, ask: &Ask)
         ensures { watches self.old turn (Asking ask.now) self.new };
 
+    /// The same of a chunk whose bytes were let go. An `Err` says that it isn't to be asked, and nothing is told then: so
+    /// says a gate that has no such call of its own.
+    fn before_gone(&mut self, turn: u64, chunk: &GoneChunk) -> Result<(), NotAsked>
+        ensures told { OnOk result (watches self.old turn (Asking (chunk_ask chunk.now)) self.new) }
+        ensures same { OnErr result (self.new ≡ self.old) }
+    {
+        let _ = turn;
+        let _ = chunk;
+        Err(NotAsked)
+    }
+
     /// The request was answered so. Where the keeper is gone this isn't called.
     fn after_answer(&mut self, turn: u64, answer: &Answer)
         ensures { watches self.old turn (Answered answer.now) self.new };
@@ -54,6 +67,10 @@ impl Gate for NoGate {
     ghost watches = { λ old turn notice new. new ≡ old };
 
     fn before_ask(&mut self, _turn: u64, _ask: &Ask) {}
+
+    fn before_gone(&mut self, _turn: u64, _chunk: &GoneChunk) -> Result<(), NotAsked> {
+        Ok(())
+    }
 
     fn after_answer(&mut self, _turn: u64, _answer: &Answer) {}
 }
@@ -112,7 +129,7 @@ impl<G: Rng> Secrets for DrawnSecrets<G> {
     }
 }
 
-/// Where the moments come from at which requests are served.
+/// Where the moments come from at which requests are served. It may look at the service between them.
 pub trait Moments {
     // Holds of the state before the clock is asked, the moment that it tells, and the state after.
     ghost tells: { Self → ℕ → Self → Type 0 };
@@ -121,4 +138,10 @@ pub trait Moments {
     /// moment before.
     fn now(&mut self) -> u64
         ensures { tells self.old result self.new };
+
+    /// Each time that all requests which the keeper took are answered: the service is so then. Nobody is served before
+    /// this returns.
+    fn rests(&self, service: &Service) {
+        let _ = service;
+    }
 }

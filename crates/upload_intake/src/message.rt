@@ -1,55 +1,74 @@
 //! What goes from a seat to the keeper, and what a seat is told of its wishes.
 ghost use Rattle.std.specs.Prelude.{◌≡◌};
 
+use crate::keeping::{Coming, Keeping};
 use std::thread::Threads;
-use upload_bytes::{Front, HashEnd, InThreads};
+use upload_bytes::{Front, InThreads, ThreadEnd};
 use upload_names::{Algorithm, UploadRef};
-use upload_service::{Ask, Service};
+use upload_service::{Request, Service};
 
-/// What is wished of a session's hash by an algorithm, since its close is to come.
-#[derive(Clone, Copy)]
+/// What is wished of the hash of a session by an algorithm, since its close is to come, or of a large body.
+#[derive(Drop)]
 pub enum Wish {
-    /// That it goes on.
-    GoesOn(Algorithm),
+    /// That the hash goes on.
+    GoesOn(UploadRef, Algorithm),
     /// What the session received, with the hash.
-    Front(Algorithm),
+    Front(UploadRef, Algorithm),
+    /// That the body is put where it is kept.
+    Kept(Coming),
 }
 
 /// What a seat is told of its wish.
 #[derive(Drop)]
 pub enum Told {
-    /// A thread hashes, which has this end.
-    AtWork(HashEnd),
+    /// A thread is at work, which has this end.
+    AtWork(ThreadEnd),
     /// What the session received.
     Front(Front),
     /// There is nothing to wait for, or no such session, or no memory.
     Nothing,
 }
 
+/// What is told of a thread that is at work, if one is.
+fn told_of(end: Option<ThreadEnd>) -> Told {
+    match end {
+        Some(end) => Told::AtWork(end),
+        None => Told::Nothing,
+    }
+}
+
 impl Wish {
-    // Does what is wished of a session. Nothing that is seen changes.
-    pub(crate) fn grant<R: Threads>(self, rt: &R, service: &mut Service, at: &UploadRef) -> Told
-        ensures { service.new ≡ service.old }
+    // Does what a seat wishes. Nothing that is seen changes.
+    pub(crate) fn grant<R: Threads, K: Keeping>(
+        self,
+        rt: &R,
+        seat: usize,
+        service: &mut Service,
+        keeping: &mut K,
+    ) -> Told
+        ensures service { service.new ≡ service.old }
+        ensures start { K.start keeping.new ≡ K.start keeping.old }
+        ensures kept { K.kept keeping.new ≡ K.kept keeping.old }
+        ensures waiting { K.waiting keeping.new ≡ K.waiting keeping.old }
+        ensures last { K.last keeping.new ≡ K.last keeping.old }
+        ensures upto { K.upto keeping.new ≡ K.upto keeping.old }
     {
         let place = InThreads(rt);
         match self {
-            Wish::GoesOn(algorithm) => match service.catch_up(&place, at, algorithm) {
-                Some(end) => Told::AtWork(end),
-                None => Told::Nothing,
-            },
-            Wish::Front(algorithm) => match service.front(&place, at, algorithm) {
+            Wish::GoesOn(at, algorithm) => told_of(service.catch_up(&place, &at, algorithm)),
+            Wish::Front(at, algorithm) => match service.front(&place, &at, algorithm) {
                 Some(front) => Told::Front(front),
                 None => Told::Nothing,
             },
+            Wish::Kept(coming) => told_of(keeping.write_ahead(rt, seat, service, coming)),
         }
     }
 }
 
-/// A request with its secret; or what is wished of a session's hash; or that no more comes. A wish changes nothing that
-/// is seen.
+/// A request with its secret; or what is wished before one; or that no more comes. A wish changes nothing that is seen.
 #[derive(Drop)]
 pub enum Message {
-    Job(Ask, [u8; 12]),
-    Hash(UploadRef, Wish),
+    Job(Request, [u8; 12]),
+    Wish(Wish),
     Finish,
 }

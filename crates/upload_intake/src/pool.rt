@@ -22,6 +22,7 @@ use std::snapshot::Snapshot;
 use std::sync::Wait;
 use std::thread::{PromisedHandle, Threads};
 use std::{fmt, thread};
+use upload_bytes::Room;
 use upload_service::{Limits, Service};
 use upload_wire::{ConnectionServer, Observer};
 
@@ -138,10 +139,26 @@ impl<C: Drop, S: Drop, G: Drop, O: Drop> Ends<C, S, G, O> {
     }
 }
 
+/// A server of connections whose bodies are granted of this room, if there is one.
+fn server_of(
+    alloc: Global,
+    limits: Limits,
+    room: Option<&Room>,
+) -> Result<ConnectionServer, AllocError>
+    requires { AreLawful limits }
+    ensures { IfOk result (λ server. server.max_body ≡ limits.max_body) }
+{
+    match room {
+        Some(room) => ConnectionServer::within(alloc, limits, room.share()?),
+        None => ConnectionServer::new(alloc, limits),
+    }
+}
+
 /// The workers at their seats, each with a server for all its connections.
 fn stations<C, S, G, O>(
     alloc: Global,
     limits: Limits,
+    room: Option<&Room>,
     seats: Vec<Seat>,
     workers: Vec<Worker<C, S, G, O>>,
 ) -> Result<Vec<Station<C, S, G, O>>, AllocError>
@@ -163,7 +180,7 @@ where
         let Some(seat) = seats.next() else {
             unreachable!()
         };
-        let server = ConnectionServer::new(alloc, limits)?;
+        let server = server_of(alloc, limits, room)?;
         stations.push(Station {
             seat,
             worker,
@@ -198,9 +215,10 @@ where
     ensures log { IfOk result (λ r. r.0.log ≡ []) }
 {
     let limits = service.limits();
+    let room = service.room()?;
     let count = workers.len();
     let (keeper, seats) = lines_of(alloc, service, since, count, count)?;
-    let stations = stations(alloc, limits, seats, workers)?;
+    let stations = stations(alloc, limits, room.as_ref(), seats, workers)?;
     Ok((keeper, stations))
 }
 

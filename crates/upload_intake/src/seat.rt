@@ -1,11 +1,13 @@
 //! A seat asks the keeper, and waits for the answer.
 ghost use Rattle.std.specs.Prelude.{◌≡◌, ℕ, List, IfOk, IfErr};
 ghost use Rattle.upload_intake.specs.declared.message.Message.TheVariants.{Job};
-ghost use Rattle.upload_intake.specs.Kept.{IsJob};
+ghost use Rattle.upload_service.specs.declared.ask.Request.TheVariants.{Held};
+ghost use Rattle.upload_intake.specs.Kept.{IsJob, IsHeld};
 
 use crate::ends::{SendEnd, TakeEnd};
 use crate::gone::Gone;
 use crate::heard::Heard;
+use crate::keeping::Coming;
 use crate::line::Item;
 use crate::message::{Message, Told, Wish};
 use crossbeam_channel::Receiver;
@@ -13,7 +15,7 @@ use std::marker::Model;
 use std::sync::Wait;
 use upload_bytes::Body;
 use upload_names::{Algorithm, BlobDigest, RepoName, UploadRef};
-use upload_service::{Answer, Ask, Extent};
+use upload_service::{Answer, Ask, Extent, GoneChunk, Request};
 
 /// How often a seat waits at most for the hash of an upload before it asks for the close. Twice are enough if nothing
 /// comes meanwhile: for the thread that was at work, and for the one that takes the rest in.
@@ -24,6 +26,9 @@ const MOST_HASHES: u32 = 4;
 
 /// The fewest bytes of a body that the keeper doesn't hash.
 const WORTH_HASHING: u64 = 262_144;
+
+/// The fewest bytes of a body that the keeper doesn't put where they are kept.
+const WORTH_WRITING: usize = 262_144;
 
 /// How many times as fast bytes are compared as hashed, at least.
 const COMPARING: u64 = 16;
@@ -133,12 +138,44 @@ fn close_of(ask: Ask) -> Result<(Close, Body), Ask>
     }
 }
 
+// A share of a request's body, if it is large and the request may change something with it.
+fn coming_of(ask: &Ask) -> Option<Coming> {
+    let (upload, body) = match ask {
+        Ask::Single {
+            digest: Some(_),
+            body,
+            ..
+        } => (None, body),
+        Ask::Chunk {
+            at,
+            range,
+            body,
+            ..
+        }
+        | Ask::Close {
+            at,
+            range,
+            digest: Some(_),
+            body,
+            ..
+        } => (Some((*at, *range)), body),
+        _ => return None,
+    };
+    if body.len() < WORTH_WRITING {
+        return None;
+    }
+    let body = body.share(body.alloc()).ok()?;
+    Some(Coming { upload, body })
+}
+
 impl Seat {
     ghost use Rattle.std.specs.Prelude.{◌≡◌, [], false};
     ghost use Rattle.crossbeam_channel.specs.Claims.{view as known};
     ghost use Rattle.crossbeam_channel.specs.Ends.{sends_on, receives_on};
     ghost use Rattle.upload_intake.specs.Passes.{line_of, sender_view, taker_view};
-    ghost use Rattle.upload_intake.specs.Seats.{Asks};
+    ghost use Rattle.upload_service.specs.Requests.{chunk_ask};
+    ghost use Rattle.upload_intake.specs.Seats.{Asks, Hears};
+    ghost use Rattle.upload_intake.specs.Kept.{Exchanges};
 
     pub(crate) fn new(
         seat: usize,
@@ -177,7 +214,29 @@ impl Seat {
         ensures { Asks self.old ask secret result self.new }
     {
         let ask = self.prepare(rt, ask);
+        self.write_ahead(rt, &ask);
         self.ask_at_once(rt, ask, secret)
+    }
+
+    // Has a large body of a request put where it is kept, while the keeper serves others. Nothing that is seen changes.
+    fn write_ahead<R: Wait>(&mut self, rt: &R, ask: &Ask)
+        ensures { self.new ≡ self.old }
+    {
+        let Some(coming) = coming_of(ask) else {
+            return;
+        };
+        if !self.place.gone {
+            self.wait_for(rt, Wish::Kept(coming));
+        }
+    }
+
+    // Waits for the thread that is at work for a wish, if one is. Nothing that is seen changes.
+    fn wait_for<R: Wait>(&mut self, rt: &R, wish: Wish)
+        ensures { self.new ≡ self.old }
+    {
+        if let Told::AtWork(end) = self.wish(rt, wish) {
+            end.wait(rt);
+        }
     }
 
     // The same request, with all hashed that can be hashed before it is asked.
@@ -221,7 +280,7 @@ impl Seat {
         ensures { self.new ≡ self.old }
     {
         'waits: for _ in 0..MOST_WAITS {
-            let Told::AtWork(end) = self.wish(rt, at, Wish::GoesOn(algorithm)) else {
+            let Told::AtWork(end) = self.wish(rt, Wish::GoesOn(at, algorithm)) else {
                 break;
             };
             end.wait(rt);
@@ -248,7 +307,7 @@ impl Seat {
         let mut body = body;
         let mut behind = 0;
         'hashes: for _ in 0..MOST_HASHES {
-            let Told::Front(front) = self.wish(rt, at, Wish::Front(algorithm)) else {
+            let Told::Front(front) = self.wish(rt, Wish::Front(at, algorithm)) else {
                 break;
             };
             let received = front.len();
@@ -263,15 +322,14 @@ impl Seat {
         body
     }
 
-    // Wishes something of a session's hash, and hears what comes of it: nothing, if the keeper goes meanwhile. Nothing
-    // that is seen changes.
-    fn wish<R: Wait>(&mut self, rt: &R, at: UploadRef, wish: Wish) -> Told
+    // Wishes something, and hears what comes of it: nothing, if the keeper goes meanwhile. Nothing that is seen changes.
+    fn wish<R: Wait>(&mut self, rt: &R, wish: Wish) -> Told
         ensures { self.new ≡ self.old }
     {
         let seat = self.place.seat;
         let item = Item {
             seat,
-            what: Message::Hash(at, wish),
+            what: Message::Wish(wish),
         };
         let Ok(()) = self.place.jobs.offer(rt, item) else {
             return Told::Nothing;
@@ -282,26 +340,54 @@ impl Seat {
         }
     }
 
-    // Sends a request to the keeper, and waits for the answer.
+    /// Asks the keeper a chunk whose bytes were let go, and waits for the answer. `None` says that none came.
+    pub fn turn_away<R: Wait>(
+        &mut self,
+        rt: &R,
+        chunk: GoneChunk,
+        secret: [u8; 12],
+    ) -> Option<Answer>
+        ensures { Hears self.old (chunk_ask chunk) secret result self.new }
+    {
+        self.exchange(rt, Request::Gone(chunk), secret).ok()
+    }
+
+    // Sends an ask to the keeper, and waits for the answer.
     fn ask_at_once<R: Wait>(&mut self, rt: &R, ask: Ask, secret: [u8; 12]) -> Result<Answer, Gone>
         ensures { Asks self.old ask secret result self.new }
     {
+        match self.exchange(rt, Request::Held(ask), secret) {
+            Ok(answer) => Ok(answer),
+            Err(Some(back)) => Err(Gone::NotSent(held_of(back))),
+            Err(None) => Err(Gone::NoAnswer),
+        }
+    }
+
+    // Sends a request to the keeper, and waits for the answer. An `Err` gives it back if it wasn't sent.
+    fn exchange<R: Wait>(
+        &mut self,
+        rt: &R,
+        request: Request,
+        secret: [u8; 12],
+    ) -> Result<Answer, Option<Request>>
+        ensures { Exchanges self.old request secret result self.new }
+    {
         if self.place.gone {
-            return Err(Gone::NotSent(ask));
+            return Err(Some(request));
         }
         let job = Item {
             seat: self.place.seat,
-            what: Message::Job(ask, secret),
+            what: Message::Job(request, secret),
         };
         if let Err(back) = self.place.jobs.send(rt, job) {
             self.place.gone = true;
-            return Err(Gone::NotSent(ask_of(back)));
+            return Err(Some(request_of(back)));
         }
         match self.place.replies.take(rt) {
             Some(reply) => Ok(reply.what.into_answer()),
             None => {
                 self.place.gone = true;
-                Err(Gone::NoAnswer)
+                Err(None)
             }
         }
     }
@@ -321,12 +407,23 @@ impl Seat {
 }
 
 // The request of a job.
-fn ask_of(item: Item<Message>) -> Ask
+fn request_of(item: Item<Message>) -> Request
     requires { IsJob item.what }
     ensures { (secret : List ℕ) × (item.what ≡ Job result secret) }
 {
     match item.what {
-        Message::Job(ask, _) => ask,
-        Message::Hash(..) | Message::Finish => unreachable!(),
+        Message::Job(request, _) => request,
+        Message::Wish(_) | Message::Finish => unreachable!(),
+    }
+}
+
+// The ask of a request that has its bytes.
+fn held_of(request: Request) -> Ask
+    requires { IsHeld request }
+    ensures { request ≡ Held result }
+{
+    match request {
+        Request::Held(ask) => ask,
+        Request::Gone(_) => unreachable!(),
     }
 }

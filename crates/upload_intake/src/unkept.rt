@@ -6,7 +6,7 @@ ghost use Rattle.upload_intake.specs.Pools.ServedPool.{IsServedPool};
 ghost use Rattle.upload_intake.specs.Pools.Working.{lending, means};
 
 use crate::keeper::{Keeper, Served};
-use crate::keeping::{Keeping, NotKept};
+use crate::keeping::{Coming, Keeping, NotKept};
 use crate::lent::{Conns, Gate, Moments, Secrets};
 use crate::log::Entry;
 use crate::pool::{KeptFault, KeptService, Pool, ServeFault, serve_kept};
@@ -16,6 +16,7 @@ use std::alloc::Global;
 use std::snapshot::Snapshot;
 use std::sync::Wait;
 use std::thread::Threads;
+use upload_bytes::ThreadEnd;
 use upload_service::{Answer, Ask, Service};
 use upload_wire::Observer;
 
@@ -42,6 +43,7 @@ pub(crate) struct NoKeeping {
     before: Snapshot<History<Entry>>,
     kept: History<History<Recorded>>,
     waiting: History<Recorded>,
+    noted: Option<Noted>,
 }
 
 impl NoKeeping {
@@ -59,6 +61,7 @@ impl NoKeeping {
             before: Snapshot::of(&History::none()),
             kept: History::none(),
             waiting: History::none(),
+            noted: None,
         }
     }
 
@@ -74,17 +77,14 @@ impl NoKeeping {
             before: Snapshot::of(&keeper.books.log),
             kept: History::none(),
             waiting: History::none(),
+            noted: None,
         }
     }
 }
 
 impl Keeping for NoKeeping {
     ghost use Rattle.std.specs.Prelude.{false};
-    ghost use Rattle.upload_intake.specs.Pools.Keepings.{asked_by, start_of, kept_by, waiting_at, last_of};
-
-    type Note = Noted;
-
-    ghost noted = { asked_by };
+    ghost use Rattle.upload_intake.specs.Pools.Keepings.{noted_by, start_of, kept_by, waiting_at, last_of};
 
     ghost start = { start_of };
 
@@ -99,21 +99,49 @@ impl Keeping for NoKeeping {
 
     ghost failed = { λ keeping. false };
 
-    fn note(&mut self, ask: &Ask, secret: [u8; 12], now: u64) -> Noted {
-        Noted {
+    ghost noted = { noted_by };
+
+    // No body is kept.
+    fn write_ahead<R: Threads>(
+        &mut self,
+        _rt: &R,
+        _seat: usize,
+        _service: &Service,
+        _coming: Coming,
+    ) -> Option<ThreadEnd> {
+        None
+    }
+
+    // There is always room for nothing.
+    fn note<R: Threads>(
+        &mut self,
+        _rt: &R,
+        _seat: usize,
+        _service: &Service,
+        ask: &Ask,
+        secret: [u8; 12],
+        now: u64,
+    ) -> bool {
+        self.noted = Some(Noted {
             ask: Snapshot::of(ask),
             secret,
             now,
-        }
+        });
+        true
     }
 
-    fn add(&mut self, note: Noted, answer: &Answer) {
+    fn add(&mut self, answer: &Answer) {
+        let Some(note) = self.noted.take() else {
+            unreachable!()
+        };
         let recorded = Recorded {
             note,
             answer: Snapshot::of(answer),
         };
         self.waiting = self.waiting.and(&recorded);
     }
+
+    fn let_go(&mut self) {}
 
     fn keep(&mut self) -> Result<(), NotKept> {
         self.kept = self.kept.and(&self.waiting);

@@ -133,6 +133,22 @@ module _ {D S F : Type 0} {g : Ghosts D} {s : shelves.Ghosts S F} {f : Ghosts F}
       left_as opened store since kept upto (texts_of (kept_of store)) file files goes clean (settled.holds clean)
       (same_texts (stored file) (kept_of store) files (s.held (shelf_of store)) same) may
 
+  -- and so does what became of it without a change
+  pub same_left : (opened old new : Store D S F g s f) (since : ℕ) (kept : List Exchange) (upto : ℕ)
+      → Goes opened old → Settled opened since kept upto old → Goes old new → shelf_of new ≡ shelf_of old
+      → (file : List ℕ) (files : ℕ → Option (List ℕ)) → IsClean new → MayLeave new file files
+      → found (stored file) files ≡ entries_of old → Leaves opened since kept upto file files
+  same_left opened old new since kept upto goes settled on same file files clean may left =
+      left_as opened new since kept upto (texts_of (kept_of old)) file files
+      (record {
+        safe = λ c n bytes safe. on.safe c n bytes (goes.safe (on.clean c) n bytes safe);
+        clean = λ c. goes.clean (on.clean c);
+      })
+      clean
+      (subst (λ (x : S). Holds (IsSafe s.held s.may_leave x) (texts_of (kept_of opened)) since kept upto
+      (texts_of (kept_of old))) (sym same) (settled.holds (on.clean clean)))
+      (same_texts (stored file) (kept_of old) files (s.held (shelf_of old)) left) may
+
   module _ (opened old new : Store D S F g s f) (since : ℕ) (kept waiting : List Exchange) (upto more time : ℕ)
       (texts : List (List ℕ)) (goes : Goes opened old) (settled : Settled opened since kept upto old)
       (awaits : IsClean old → Holds (IsSafe s.held s.may_leave (shelf_of old)) [] 0 waiting more texts)

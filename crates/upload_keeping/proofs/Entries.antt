@@ -1,6 +1,7 @@
 -- The entry of a request that was drafted.
 use Rattle.std.proofs.Common.{◌≡◌, ◌∙◌, ℕ, ◌<◌, ◌^◌, List, [], ◌∷◌, ◌++◌, length, Option, Some, None, refl, sym, ap, subst}
 use Rattle.std.proofs.Common.{IfSome, IfOk, Result, Ok, Err, option_map}
+use Rattle.std.specs.Prelude.{Bool, is_some, if◌then◌else◌}
 use Rattle.std.proofs.Common.{append-nil, arith}
 use Rattle.upload_names.specs.Digest.{Digest}
 use Rattle.upload_service.specs.declared.ask.Extent.{Extent}
@@ -16,8 +17,11 @@ use Rattle.upload_journal.specs.Entries.{IsKeptAsk, asked_text}
 use Rattle.upload_journal.specs.Fields.{IsFile, IsKeptBody, IsTold, told_text}
 use Rattle.upload_journal.specs.Replay.{IsAskOf, IsBodyOf}
 use Rattle.upload_journal.specs.Short.{kept_of, kept_body, IsPlaced, HasPlace, told_of}
-use Rattle.upload_keeping.specs.Exchanges.{IsSound, ArePlaced, body_in}
-use Rattle.upload_keeping.specs.Keeping.{Records}
+use Rattle.upload_intake.specs.Safety.{Asked, answered_so}
+use Rattle.upload_service.specs.Run.{Exchange}
+use Rattle.upload_keeping.specs.Exchanges.{IsSound, IsDrafted, ArePlaced, body_in}
+use Rattle.upload_keeping.specs.Keeping.{Records, Holds}
+use Rattle.upload_keeping.proofs.Holding.{one_more}
 
 some_is : {A : Type 0} (x y : A) → Some x ≡ Some y → x ≡ y
 some_is x y e = cc
@@ -150,10 +154,40 @@ module _ (stands : ℕ → List ℕ → Type 0) where
       }
 
 -- a draft that was made is one of the request with these files
-pub drafted_so : {E G : Type 0} (result : Result (List ℕ) E) (drawn : Result (Option (List ℕ)) G)
-    (text : List BodyFile → Option (List ℕ)) (Placed : List BodyFile → Type 0) (files : List BodyFile) → Placed files
-    → IfOk drawn (λ d. d ≡ text files) → IfOk result (λ made. drawn ≡ Ok (Some made))
-    → IfOk result (λ draft. (fs : List BodyFile) × Placed fs × (text fs ≡ Some draft))
-drafted_so (Ok draft) drawn text Placed files placed is made =
-    (files, placed, sym (subst (λ o. IfOk o (λ d. d ≡ text files)) made is))
-drafted_so (Err e) drawn text Placed files placed is made = tt
+pub drafted_so : {E G : Type 0} (stands : ℕ → List ℕ → Type 0) (request : Asked) (files : List BodyFile)
+    (result : Result (List ℕ) E) (drawn : Result (Option (List ℕ)) G) → ArePlaced stands request.ask files
+    → IsSound request.ask → length request.secret ≡ 12 → request.now < 2 ^ 64
+    → IfOk drawn
+    (λ d. d ≡ option_map (λ (k : KeptAsk). asked_text k request.secret request.now) (kept_of request.ask files))
+    → IfOk result (λ made. drawn ≡ Ok (Some made)) → IfOk result (IsDrafted stands request)
+drafted_so stands request files (Ok draft) drawn placed sound secret moment is made = record {
+  files = files;
+  placed = placed;
+  text =
+      sym
+      (subst (λ o. IfOk o
+      (λ d. d ≡ option_map (λ (k : KeptAsk). asked_text k request.secret request.now) (kept_of request.ask files)))
+      made is);
+  sound = sound;
+  secret = secret;
+  moment = moment;
+}
+drafted_so stands request files (Err e) drawn placed sound secret moment is made = tt
+
+-- ended, it is the entry of the exchange behind what a batch holds
+pub entered : (stands : ℕ → List ℕ → Type 0) (request : Asked) (xs : List Exchange) (old new : List (List ℕ))
+    (draft text : List ℕ) (answer : Answer) → IsDrafted stands request draft → IfSome (told_of answer) IsTold
+    → Some text ≡ option_map (λ told. draft ++ told_text told) (told_of answer) → new ≡ old ++ text ∷ []
+    → Holds stands [] 0 xs 0 old → Holds stands [] 0 (xs ++ answered_so request answer ∷ []) 0 new
+entered stands request xs old new draft text answer d told finished grown holds =
+    one_more stands xs old text (answered_so request answer) new holds
+    (records_so stands request.ask request.secret request.now answer d.files draft text d.sound told d.placed d.text
+    finished d.secret d.moment)
+    grown
+
+-- what was noted with room for it
+pub noted_so : {N A : Type 0} (note : N → A) (request : A) (noted : Option N) (room : Bool) → room ≡ is_some noted
+    → IfSome noted (λ it. note it ≡ request) → option_map note noted ≡ (if room then Some request else None)
+noted_so note request None room is same = subst (λ b. None ≡ (if b then Some request else None)) (sym is) refl
+noted_so note request (Some it) room is same =
+    subst (λ b. Some (note it) ≡ (if b then Some request else None)) (sym is) (ap Some same)

@@ -4,31 +4,39 @@ use Rattle.std.proofs.Common.{refl, sym, ap, subst, arith, append-nil, append_as
 use Rattle.std.specs.List.{flat_map}
 use Rattle.std.specs.Option.{is_some}
 use Rattle.std.specs.Result.{result_err}
-use Rattle.std.specs.Prelude.{Result, Ok, Err, OnOk}
+use Rattle.std.specs.Prelude.{Result, Ok, Err, OnOk, IfSome}
+use Rattle.std.specs.List.{All}
 use Rattle.std.proofs.lemmas.List.{map-append}
 use Rattle.std.proofs.lemmas.List.Concat.{flat_map-append}
-use Rattle.std.proofs.lemmas.List.Elements.{All-nil}
+use Rattle.std.proofs.lemmas.List.Elements.{All-nil, All-weaker}
 use Rattle.sqlite_disk.specs.declared.Disk.{Ghosts}
+use Rattle.bodies.specs.Shelf.{KeepsOthers}
 use Rattle.bodies.specs.declared.shelf.Shelf as shelves
+use Rattle.journal.specs.Format.{Kept, stored}
 use Rattle.journal.specs.Journal as journals
 use Rattle.journal.specs.declared.journal.Journal.{Journal}
 use Rattle.journal.specs.Batch.{batch_records}
 use Rattle.journal.specs.declared.batch.Batch.{Batch}
 use Rattle.upload_service.specs.Machine.{empty_state}
 use Rattle.upload_service.specs.Run.{Exchange}
+use Rattle.upload_journal.specs.declared.body.BodyFile.{BodyFile}
 use Rattle.upload_journal.specs.Entries.{IsEntry}
 use Rattle.upload_journal.specs.Replay.{Point}
-use Rattle.upload_store.specs.Found.{texts_of}
+use Rattle.upload_store.specs.Found.{texts_of, found, numbers_of}
 use Rattle.upload_store.specs.Runs.{IsReplayOf, start_of}
 use Rattle.upload_store.specs.Reading.{ReadsOnly}
 use Rattle.upload_store.specs.Safe.{IsSafe, HasSafe, AreSafe}
-use Rattle.upload_store.specs.Store.{IsClean, IsWhole, kept_of, shelf_of, journal_of, is_open, limits_of}
+use Rattle.upload_store.specs.Store.{IsClean, IsWhole, MayLeave, kept_of, shelf_of, journal_of, is_open, limits_of}
+use Rattle.upload_store.specs.Store.{entries_of}
 use Rattle.upload_store.specs.declared.store.Store.{Store}
 use Rattle.upload_keeping.specs.Keeping.{Holds, Leaves, Settled, Awaits, Goes, LeavesJustThat, LeavesEither, KeepsBoth}
-use Rattle.upload_keeping.specs.Books.{AreKept, LeavesFront, recorded_by, recorded_in, kept_in, waiting_in, opened_in, since_in}
+use Rattle.upload_keeping.specs.Keeping.{Aside}
+use Rattle.upload_keeping.specs.Books.{AreKept, LeavesFront, WithoutIt}
+use Rattle.upload_keeping.specs.Books.{recorded_by, recorded_in, kept_in, waiting_in, opened_in, since_in}
 use Rattle.upload_keeping.specs.declared.books.Recorded.{Recorded}
 use Rattle.upload_keeping.specs.declared.fault.KeepFault.{KeepFault}
 use Rattle.upload_keeping.specs.declared.books.Books.{Books}
+use Rattle.upload_keeping.proofs.Crashes.{same_left}
 use Rattle.upload_keeping.proofs.Holding.{holds_still, holds_none}
 use Rattle.upload_store.proofs.Naming.{replays_named}
 
@@ -101,6 +109,68 @@ module _ {D S F : Type 0} {g : Ghosts D} {s : shelves.Ghosts S F} {f : Ghosts F}
         kept upto (texts_of (journals.kept j))) (sym same) (settled.holds (goes.clean clean)));
   }
 
+  -- the shelf is as it was
+  pub goes_by_shelf : (old new : Store D S F g s f) → shelf_of new ≡ shelf_of old → (IsClean new → IsClean old)
+      → Goes old new
+  goes_by_shelf old new same clean = record {
+    safe = λ c n bytes safe. subst (λ (x : S). IsSafe s.held s.may_leave x n bytes) (sym same) safe;
+    clean = clean;
+  }
+
+  -- files were read, or made that have no number
+  pub goes_reading : (old new : Store D S F g s f) → journal_of new ≡ journal_of old
+      → ReadsOnly s.held s.may_leave s.IsClean (shelf_of old) (shelf_of new) → Goes old new
+  goes_reading old new same reads = record {
+    safe = λ clean n bytes safe.
+        let keeps = reads.all.each n in
+        record {
+          there = keeps.same ∙ safe.there;
+          stored = λ left may. safe.stored left (keeps.left left may);
+        };
+    clean = λ clean. record {
+      disk = subst (λ (j : Journal D g). IsTrue (g.is_clean (journals.disk_of j))) same clean.disk;
+      shelf = reads.clean clean.shelf;
+    };
+  }
+
+  whole_still : (old new : Store D S F g s f) → journal_of new ≡ journal_of old → Goes old new → IsWhole old → IsWhole new
+  whole_still old new same goes whole clean =
+      let Was : ℕ → Type 0 = HasSafe s.held s.may_leave (shelf_of old) in
+      let Is : ℕ → Type 0 = HasSafe s.held s.may_leave (shelf_of new) in
+      subst (λ (j : Journal D g). AreSafe s.held s.may_leave (shelf_of new) (texts_of (journals.kept j))) (sym same)
+      (All-weaker (λ (text : List ℕ). All Was (numbers_of text)) (λ (text : List ℕ). All Is (numbers_of text))
+      (λ text here. All-weaker Was Is (λ n h. (h.0, goes.safe clean n h.0 h.1)) (numbers_of text) here)
+      (texts_of (kept_of old)) (whole (goes.clean clean)))
+
+  -- a file of a number that had none takes nothing that is safe
+  pub goes_aside : (old new : Store D S F g s f) (number : ℕ) → Aside old new number → Goes old new
+  goes_aside old new number a = record {
+    safe = λ clean n bytes safe.
+        let keeps = a.others.each n
+        (λ e. let none : Some bytes ≡ None =
+        sym safe.there ∙ ap (s.held (shelf_of old)) e ∙ a.free clean in absurd cc) in
+        record {
+          there = keeps.same ∙ safe.there;
+          stored = λ left may. safe.stored left (keeps.left left may);
+        };
+    clean = a.clean;
+  }
+
+  -- nor does it when it goes
+  pub aside_then : (before old new : Store D S F g s f) (number : ℕ) → Aside before old number
+      → KeepsOthers s.held s.may_leave (shelf_of old) (shelf_of new) number → (IsClean new → IsClean old)
+      → Aside before new number
+  aside_then before old new number a others clean = record {
+    free = λ c. a.free (clean c);
+    others = record {
+      each = λ n apart.
+          let p = a.others.each n apart in
+          let q = others.each n apart in
+          record { same = q.same ∙ p.same; left = λ file may. p.left file (q.left file may) };
+    };
+    clean = λ c. a.clean (clean c);
+  }
+
   -- what was kept is left alone, or with all that waited
   pub front_none : (b : Books D S F g s f) (file : List ℕ) (files : ℕ → Option (List ℕ))
       → Leaves (opened_in b) (since_in b) (kept_in b) b.upto file files → LeavesFront b file files
@@ -154,6 +224,118 @@ module _ {D S F : Type 0} {g : Ghosts D} {s : shelves.Ghosts S F} {f : Ghosts F}
       left = λ failed clean whole file files may.
           let l = k.left failed clean whole file files may in
           record { front = l.front; rest = l.rest; split = l.split; leaves = l.leaves };
+    }
+
+    -- threads write other bodies
+    pub kept_writing : (new : Books D S F g s f) → new ≡ record b { writing = new.writing } → AreKept new
+    kept_writing new is =
+        subst AreKept (sym is) (record {
+          begun = k.begun;
+          goes = k.goes;
+          going = λ fine. let go = k.going fine in record { settled = go.settled; awaits = go.awaits };
+          idle = k.idle;
+          left = λ failed clean whole file files may.
+              let l = k.left failed clean whole file files may in
+              record { front = l.front; rest = l.rest; split = l.split; leaves = l.leaves };
+        })
+
+    -- its store went on
+    module _ (fine : b.fault ≡ None) (store : Store D S F g s f) (goes : Goes b.store store) where
+      on : Goes (opened_in b) store
+      on = goes_twice (opened_in b) b.store store k.goes goes
+
+      still_awaits : Awaits (waiting_in b) (batch_records b.batch) store
+      still_awaits clean =
+          holds_still (IsSafe s.held s.may_leave (shelf_of b.store)) (IsSafe s.held s.may_leave (shelf_of store))
+          (goes.safe clean) [] 0 (waiting_in b) 0 (batch_records b.batch) ((k.going fine).awaits (goes.clean clean))
+
+      -- with files of bodies alone
+      module _ (same : journal_of store ≡ journal_of b.store) where
+        moved : Settled (opened_in b) (since_in b) (kept_in b) b.upto store
+        moved =
+            settled_still (opened_in b) b.store store (since_in b) (kept_in b) b.upto (k.going fine).settled same
+            (whole_still b.store store same goes) goes
+
+        pub kept_moved : AreKept (record b { store = store })
+        kept_moved = record {
+          begun = k.begun;
+          goes = on;
+          going = λ _. record { settled = moved; awaits = still_awaits };
+          idle = k.idle;
+          left = λ failed. absurd (failed fine);
+        }
+
+        -- or one that failed
+        pub kept_stopped : (fault : KeepFault) → LeavesJustThat store
+            → AreKept (record b { store = store; fault = Some fault })
+        kept_stopped fault just =
+            let new : Books D S F g s f = record b { store = store; fault = Some fault } in
+            let none : Some fault ≡ None → ⊥ = (λ e. cc) in
+            record {
+              begun = k.begun;
+              goes = on;
+              going = λ e. absurd (none e);
+              idle = k.idle;
+              left = λ _ clean was file files may.
+                  front_none new file files
+                  (just (opened_in b) (since_in b) (kept_in b) b.upto on moved clean was file files may);
+            }
+
+      -- with room in the journal
+      module _ (same : shelf_of store ≡ shelf_of b.store) where
+        pub kept_with_room : IsTrue (is_open store) → (IsClean store → kept_of store ≡ kept_of b.store)
+            → AreKept (record b { store = store })
+        kept_with_room up kept = record {
+          begun = k.begun;
+          goes = on;
+          going = λ _. record {
+            settled = record {
+              stays_open = up;
+              whole = λ was clean.
+                  subst (λ (y : S × List Kept). AreSafe s.held s.may_leave y.0 (texts_of y.1))
+                  (λ i. (sym same i, sym (kept clean) i)) ((k.going fine).settled.whole was (goes.clean clean));
+              holds = λ clean.
+                  subst (λ (y : S × List Kept).
+                  Holds (IsSafe s.held s.may_leave y.0) (texts_of (kept_of (opened_in b))) (since_in b) (kept_in b) b.upto
+                  (texts_of y.1)) (λ i. (sym same i, sym (kept clean) i))
+                  ((k.going fine).settled.holds (goes.clean clean));
+            };
+            awaits = still_awaits;
+          };
+          idle = k.idle;
+          left = λ failed. absurd (failed fine);
+        }
+
+        -- or with none, and shut
+        pub kept_shut : (fault : KeepFault)
+            → (IsTrue (is_open b.store) → IsClean store → IsWhole b.store → (file : List ℕ)
+            (files : ℕ → Option (List ℕ)) → MayLeave store file files
+            → found (stored file) files ≡ entries_of b.store)
+            → AreKept (record b { store = store; fault = Some fault })
+        kept_shut fault left =
+            let new : Books D S F g s f = record b { store = store; fault = Some fault } in
+            let none : Some fault ≡ None → ⊥ = (λ e. cc) in
+            let settled = (k.going fine).settled in
+            record {
+              begun = k.begun;
+              goes = on;
+              going = λ e. absurd (none e);
+              idle = k.idle;
+              left = λ _ clean was file files may.
+                  front_none new file files
+                  (same_left (opened_in b) b.store store (since_in b) (kept_in b) b.upto k.goes settled goes same file
+                  files clean may (left settled.stays_open clean (settled.whole was) file files may));
+            }
+
+    -- a file that nothing names was written
+    pub alone_made : (store before : Store D S F g s f) (file : Option BodyFile) → before ≡ b.store
+        → journal_of store ≡ journal_of b.store → IfSome file (λ (it : BodyFile). Aside b.store store it.number)
+        → IfSome file (λ (it : BodyFile). WithoutIt (record b { store = store }) before it.number)
+    alone_made store before None is same aside = tt
+    alone_made store before (Some file) is same aside = record {
+      kept = subst (λ (it : Store D S F g s f). AreKept (record b { store = it })) (sym is) k;
+      journal = same ∙ ap journal_of (sym is);
+      aside = subst (λ (it : Store D S F g s f). Aside it store file.number) (sym is) aside;
     }
 
     -- one exchange more waits
@@ -288,6 +470,15 @@ module _ {D S F : Type 0} {g : Ghosts D} {s : shelves.Ghosts S F} {f : Ghosts F}
                 (either (opened_in b) (since_in b) (kept_in b) (waiting_in b) k.goes go.settled go.awaits clean whole
                 file files may);
           }
+
+  -- and is removed
+  pub kept_without : (b : Books D S F g s f) (before store : Store D S F g s f) (number : ℕ) → b.fault ≡ None
+      → WithoutIt b before number → journal_of store ≡ journal_of b.store
+      → KeepsOthers s.held s.may_leave (shelf_of b.store) (shelf_of store) number → (IsClean store → IsClean b.store)
+      → AreKept (record b { store = store })
+  kept_without b before store number fine w same others clean =
+      kept_moved (record b { store = before }) w.kept fine store
+      (goes_aside before store number (aside_then before b.store store number w.aside others clean)) (same ∙ w.journal)
 
   -- the bodies of a store that was recovered are on the disk, if nothing was under way on its shelf
   pub whole_at_rest : (old new : Store D S F g s f) (begin point : Point)

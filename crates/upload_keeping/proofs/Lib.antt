@@ -5,3 +5,4 @@ mod Going
 mod Replays
 mod Recovery
 mod Without
+mod Unchanged

@@ -1,17 +1,20 @@
 -- What the books of a keeping say, and that it is so.
-use Rattle.std.specs.Prelude.{◌≡◌, ◌≢◌, ℕ, Bool, false, max, List, [], ◌++◌, map, Option, None, IsTrue}
+use Rattle.std.specs.Prelude.{◌≡◌, ◌≢◌, ℕ, Bool, false, max, List, [], ◌++◌, map, Option, None, IsTrue, IfSome}
 use Rattle.std.specs.List.{flat_map}
 use Rattle.sqlite_disk.specs.declared.Disk.{Ghosts}
 use Rattle.bodies.specs.declared.shelf.Shelf as shelves
 use Rattle.journal.specs.Batch.{batch_records}
 use Rattle.upload_service.specs.Machine.{State, empty_state}
 use Rattle.upload_service.specs.Run.{Exchange}
-use Rattle.upload_intake.specs.Safety.{answered_so}
+use Rattle.upload_intake.specs.Safety.{Asked, answered_so}
 use Rattle.upload_journal.specs.Replay.{Point}
 use Rattle.upload_store.specs.Runs.{IsReplayOf, start_of}
-use Rattle.upload_store.specs.Store.{IsClean, IsWhole, MayLeave, kept_of, shelf_of, limits_of}
+use Rattle.upload_store.specs.Safe.{IsSafe}
+use Rattle.upload_store.specs.Store.{IsClean, IsWhole, MayLeave, kept_of, shelf_of, limits_of, journal_of}
 use Rattle.upload_store.specs.declared.store.Store.{Store}
-use Rattle.upload_keeping.specs.Keeping.{Leaves, Settled, Awaits, Goes}
+use Rattle.upload_keeping.specs.Exchanges.{IsDrafted}
+use Rattle.upload_keeping.specs.Keeping.{Leaves, Settled, Awaits, Goes, Aside}
+use Rattle.upload_keeping.specs.declared.entry.Drafted.{Drafted}
 use Rattle.upload_keeping.specs.declared.books.Recorded.{Recorded}
 use Rattle.upload_keeping.specs.declared.books.Books.{Books}
 
@@ -71,3 +74,14 @@ module _ {D S F : Type 0} {g : Ghosts D} {s : shelves.Ghosts S F} {f : Ghosts F}
     pub idle : b.waits ≡ false → waiting_in b ≡ []
     pub left : b.fault ≢ None → IsClean b.store → IsWhole (opened_in b)
         → (file : List ℕ) (files : ℕ → Option (List ℕ)) → MayLeave b.store file files → LeavesFront b file files
+
+  -- The same without a file of this number, which was written last: nothing names it.
+  pub record WithoutIt (b : Books D S F g s f) (before : Store D S F g s f) (number : ℕ) : Type 0 where
+    pub kept : AreKept (record b { store = before })
+    pub journal : journal_of b.store ≡ journal_of before
+    pub aside : Aside before b.store number
+
+  -- what was made ready for this request is its entry up to its answer, and a file that nothing else names
+  pub record IsReadyFor (b : Books D S F g s f) (request : Asked) (made : Drafted D S F g s f) : Type 0 where
+    pub drafted : IsDrafted (IsSafe s.held s.may_leave (shelf_of b.store)) request made.draft
+    pub alone : IfSome made.file (λ file. WithoutIt b made.before.value file.number)

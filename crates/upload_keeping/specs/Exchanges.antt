@@ -1,5 +1,5 @@
 -- What is known of a request.
-use Rattle.std.specs.Prelude.{◌≡◌, ℕ, List, [], ◌∷◌, Option, Some, None, IsTrue, IfSome, length}
+use Rattle.std.specs.Prelude.{◌≡◌, ◌<◌, ◌^◌, ℕ, List, [], ◌∷◌, Option, Some, None, IsTrue, IfSome, length, option_map}
 use Rattle.upload_names.specs.NamePass.{is_name}
 use Rattle.upload_names.specs.Digest.{IsDigest}
 use Rattle.upload_names.specs.ByteRange.{IsSpan}
@@ -10,7 +10,9 @@ use Rattle.upload_service.specs.declared.ask.Ask.TheVariants.{Base, Has, Opening
 use Rattle.upload_service.specs.declared.ask.Ask.TheVariants.{Refused}
 use Rattle.upload_journal.specs.declared.body.BodyFile.{BodyFile}
 use Rattle.upload_journal.specs.Fields.{IsReference, IsFile}
-use Rattle.upload_journal.specs.Short.{IsPlaced}
+use Rattle.upload_journal.specs.Short.{IsPlaced, kept_of}
+use Rattle.upload_journal.specs.Entries.{asked_text}
+use Rattle.upload_intake.specs.Safety.{Asked}
 
 -- the body of a request, if it has one
 abbrev pub body_in : Ask → Option (List ℕ)
@@ -50,3 +52,12 @@ ArePlaced stands ask [] = IsPlaced ask []
 ArePlaced stands ask (file ∷ []) =
     IsFile file × IfSome (body_in ask) (λ bytes. stands file.number bytes × (length bytes ≡ file.len))
 ArePlaced stands ask (file ∷ other ∷ files) = ⊥
+
+-- the text is the entry of this request up to its answer, with its whole body there or in a file
+pub record IsDrafted (stands : ℕ → List ℕ → Type 0) (request : Asked) (draft : List ℕ) : Type 0 where
+  pub files : List BodyFile
+  pub placed : ArePlaced stands request.ask files
+  pub text : option_map (λ kept. asked_text kept request.secret request.now) (kept_of request.ask files) ≡ Some draft
+  pub sound : IsSound request.ask
+  pub secret : length request.secret ≡ 12
+  pub moment : request.now < 2 ^ 64

@@ -1,8 +1,9 @@
 -- What a keeping has on the disk, and what a crash leaves of it.
-use Rattle.std.specs.Prelude.{◌≡◌, ◌⊎◌, ℕ, ◌<◌, ◌≤◌, ◌^◌, max, List, [], ◌∷◌, ◌++◌, map, Option, Some, IsTrue}
+use Rattle.std.specs.Prelude.{◌≡◌, ◌⊎◌, ℕ, ◌<◌, ◌≤◌, ◌^◌, max, List, [], ◌∷◌, ◌++◌, map, Option, Some, None, IsTrue}
 use Rattle.std.specs.List.{All}
 use Rattle.sqlite_disk.specs.declared.Disk.{Ghosts}
 use Rattle.bodies.specs.declared.shelf.Shelf as shelves
+use Rattle.bodies.specs.Shelf.{KeepsOthers}
 use Rattle.journal.specs.Format.{stored}
 use Rattle.upload_service.specs.Run.{Exchange}
 use Rattle.upload_journal.specs.declared.entries.KeptExchange.{KeptExchange}
@@ -73,6 +74,12 @@ module _ {D S F : Type 0} {g : Ghosts D} {s : shelves.Ghosts S F} {f : Ghosts F}
   pub record Goes (old new : Store D S F g s f) : Type 0 where
     pub safe : IsClean new → (n : ℕ) (bytes : List ℕ) → IsSafe s.held s.may_leave (shelf_of old) n bytes
         → IsSafe s.held s.may_leave (shelf_of new) n bytes
+    pub clean : IsClean new → IsClean old
+
+  -- One store became the other by a file of this number, which had none: all else is as it was.
+  pub record Aside (old new : Store D S F g s f) (number : ℕ) : Type 0 where
+    pub free : IsClean new → s.held (shelf_of old) number ≡ None
+    pub others : KeepsOthers s.held s.may_leave (shelf_of old) (shelf_of new) number
     pub clean : IsClean new → IsClean old
 
   -- What a store has kept since it was opened is on the disk: every crash leaves just that.

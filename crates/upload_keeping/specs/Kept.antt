@@ -1,11 +1,13 @@
 -- What a keeping over a store shows.
-use Rattle.std.specs.Prelude.{ℕ, Bool, List, is_some}
+use Rattle.std.specs.Prelude.{ℕ, Bool, List, is_some, Option, option_map}
 use Rattle.sqlite_disk.specs.declared.Disk.{Ghosts}
 use Rattle.bodies.specs.declared.shelf.Shelf as shelves
 use Rattle.upload_service.specs.Machine.{State}
 use Rattle.upload_service.specs.Run.{Exchange}
 use Rattle.upload_store.specs.declared.store.Store.{Store}
+use Rattle.upload_intake.specs.Safety.{Asked}
 use Rattle.upload_keeping.specs.Books as books
+use Rattle.upload_keeping.specs.declared.noted.Noted.{Noted}
 use Rattle.upload_keeping.specs.declared.keeping.StoreKeeping.{StoreKeeping}
 
 module _ {D S H F : Type 0} {g : Ghosts D} {s : shelves.Ghosts S F} {f : Ghosts F} where
@@ -27,6 +29,10 @@ module _ {D S H F : Type 0} {g : Ghosts D} {s : shelves.Ghosts S F} {f : Ghosts 
   -- something was not kept
   abbrev pub has_failed : StoreKeeping D S H F g s f → Bool
   has_failed k = is_some k.books.fault
+
+  -- the request that was noted last
+  abbrev pub noted_of : StoreKeeping D S H F g s f → Option Asked
+  noted_of k = option_map (λ (n : Noted D S F g s f). n.note) k.noted
 
   abbrev pub store_of : StoreKeeping D S H F g s f → Store D S F g s f
   store_of k = k.books.store

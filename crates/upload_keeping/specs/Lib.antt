@@ -1,8 +1,9 @@
 pub mod Exchanges
-pub mod Noted
 pub mod Keeping
 pub mod Faults
 pub mod Books
+pub mod Ready
 pub mod Kept
 pub mod Begun
 pub mod Told
+pub mod Ahead

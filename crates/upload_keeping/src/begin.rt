@@ -46,7 +46,7 @@ pub(crate) fn begin<D: Disk, S: Shelf, H>(
     let _ = service.limits();
     KeptService {
         service,
-        keeping: StoreKeeping { books, host },
+        keeping: StoreKeeping::of(books, host),
         since,
     }
 }

@@ -1,27 +1,29 @@
 //! The books of a keeping: its store, what waits in a batch, and what it kept.
-ghost use Rattle.std.specs.Prelude.{◌≡◌, ◌≤◌, ◌∷◌, ◌++◌, [], List, max, OnOk, IsTrue, None, false};
-ghost use Rattle.journal.specs.Batch.{batch_records};
-ghost use Rattle.upload_intake.specs.Safety.{answered_so};
+ghost use Rattle.std.specs.Prelude.{◌≡◌, ◌≤◌, ◌∷◌, ◌++◌, [], max, IsTrue, IfSome, IfOk, Some, None, true, false};
+ghost use Rattle.bodies.specs.Unnamed.{body_of as written_body};
+ghost use Rattle.upload_intake.specs.Safety.{asked, answered_so};
+ghost use Rattle.upload_keeping.specs.Exchanges.{body_in};
 ghost use Rattle.upload_service.specs.Machine.{empty_state};
-ghost use Rattle.upload_service.specs.Run.{Exchange};
 ghost use Rattle.upload_store.specs.Runs.{IsReplayOf, start_of};
-ghost use Rattle.upload_store.specs.Store.{journal_of, shelf_of, is_open, kept_of, limits_of, IsClean, IsWhole};
-ghost use Rattle.upload_keeping.specs.Keeping.{Awaits, Goes};
+ghost use Rattle.upload_store.specs.Store.{shelf_of, is_open, kept_of, limits_of, IsClean};
 
-use crate::again::Noted;
-use crate::entry::put_entry;
+use crate::entry::{Drafted, body_of, draft_of, most_of, put_entry};
 use crate::fault::KeepFault;
-use crate::note::Note;
+use crate::note::{Note, may_change};
+use crate::noted::Noted;
 use crate::round::{Moments, keep_round, kept_is_on_the_disk};
-use bodies::Shelf;
+use crate::writing::Writing;
+use bodies::{BodyFault, Shelf, Synced, Unwritten};
 use http_wire::History;
 use journal::Batch;
 use sqlite_disk::Disk;
 use std::alloc::Global;
 use std::snapshot::Snapshot;
+use std::thread::Threads;
+use upload_bytes::{Body, ThreadEnd};
 use upload_journal::Replay;
-use upload_service::Answer;
-use upload_store::Store;
+use upload_service::{Answer, Ask, Service};
+use upload_store::{Store, StoreFault};
 
 /// What clauses see of an exchange.
 #[derive(Drop)]
@@ -41,6 +43,8 @@ pub(crate) struct Books<D: Disk, S: Shelf> {
     pub(crate) last: u64,
     /// The moments up to this one are promised.
     pub(crate) upto: u64,
+    /// The bodies that threads write for seats.
+    pub(crate) writing: Vec<Writing>,
     /// Whether something waits.
     pub(crate) waits: bool,
     /// Whether no record of the store was lost as it was opened.
@@ -55,42 +59,21 @@ pub(crate) struct Books<D: Disk, S: Shelf> {
     pub(crate) waiting: History<Recorded>,
 }
 
-/// Puts the entry of a request into a batch, with its answer, if there is a copy of it.
-fn put_note<D: Disk, S: Shelf>(
-    alloc: Global,
-    store: &mut Store<D, S>,
-    batch: &mut Batch,
-    note: Note,
-    answer: &Answer,
-) -> Result<(), KeepFault>
-    ensures holds { OnOk result ((xs : List Exchange) → IsClean store.new
-        → Awaits xs (batch_records batch.old) store.old
-        → Awaits (xs ++ answered_so note answer.now ∷ []) (batch_records batch.new) store.new) }
-    ensures journal { journal_of store.new ≡ journal_of store.old }
-    ensures whole { IsWhole store.old → IsWhole store.new }
-    ensures goes { Goes store.old store.new }
-{
-    let Note {
-        secret,
-        moment,
-        copy,
-        ..
-    } = note;
-    match copy {
-        Ok(ask) => {
-            let noted = Noted {
-                ask,
-                secret,
-                moment,
-            };
-            put_entry(alloc, store, batch, &noted, answer)
-        }
-        Err(fault) => Err(fault),
-    }
-}
+/// A body could not be written.
+#[derive(Clone, Copy, Drop)]
+struct NotWritten;
+
+/// So much room is left in the journal beside what changes: for promises of moments, each of which takes 8 KiB and lasts
+/// a minute, so that a full disk still lets a server answer what changes nothing.
+const FOR_PROMISES: usize = 4_194_304;
+
+/// The journal's room grows by so much at a time.
+const STEP: usize = 262_144;
 
 impl<D: Disk, S: Shelf> Books<D, S> {
-    ghost use Rattle.upload_keeping.specs.Books.{AreKept, start_in, kept_in, waiting_in, opened_in, is_whole_in};
+    ghost use Rattle.upload_keeping.specs.Books.{AreKept, IsReadyFor, start_in, kept_in, waiting_in, opened_in};
+    ghost use Rattle.upload_keeping.specs.Books.{is_whole_in};
+    ghost use Rattle.upload_keeping.specs.Ready.{IsReady};
 
     /// Of a store that was opened, with what was recovered from it, and whether that is all that it had.
     pub(crate) fn of(
@@ -118,6 +101,7 @@ impl<D: Disk, S: Shelf> Books<D, S> {
             batch: Batch::new(alloc),
             last: moment,
             upto: moment,
+            writing: Vec::new(alloc),
             waits: false,
             is_whole,
             fault: None,
@@ -137,16 +121,244 @@ impl<D: Disk, S: Shelf> Books<D, S> {
         self.last = self.last.max(moment);
     }
 
-    /// Adds a request that changed something, with its answer.
-    pub(crate) fn add(&mut self, note: Note, answer: &Answer)
+    /// Makes room in the journal for an entry of so many bytes behind what waits. Says whether there is.
+    fn make_room(&mut self, bytes: usize) -> bool
         ensures kept { AreKept self.old → AreKept self.new }
         ensures start { start_in self.new ≡ start_in self.old }
-        ensures same { kept_in self.new ≡ kept_in self.old }
-        ensures waiting { waiting_in self.new
-            ≡ waiting_in self.old ++ answered_so note answer.now ∷ [] }
+        ensures same { (kept_in self.new ≡ kept_in self.old) × (waiting_in self.new ≡ waiting_in self.old) }
+        ensures last { self.new.last ≡ self.old.last }
+        ensures upto { self.new.upto ≡ self.old.upto }
+        ensures fine { result ≡ true → self.new.fault ≡ None }
+    {
+        if self.fault.is_some() {
+            return false;
+        }
+        let wanted = self.batch.size().saturating_add(bytes);
+        let wanted = wanted.saturating_add(FOR_PROMISES);
+        if wanted <= self.store.room() {
+            return true;
+        }
+        match self.store.reserve(wanted.saturating_add(STEP)) {
+            Ok(()) => true,
+            Err(fault) => {
+                let fault = KeepFault::Store(fault);
+                if fault.is_want_of_room() && self.store.is_open() {
+                    return false;
+                }
+                self.fault = Some(fault);
+                false
+            }
+        }
+    }
+
+    /// Has a thread write a body for a seat, and gives the end of the thread. None if there is nothing to wait for.
+    pub(crate) fn write_ahead<R: Threads>(
+        &mut self,
+        rt: &R,
+        seat: usize,
+        body: Body,
+    ) -> Option<ThreadEnd>
+        ensures kept { AreKept self.old → AreKept self.new }
+        ensures start { start_in self.new ≡ start_in self.old }
+        ensures same { (kept_in self.new ≡ kept_in self.old) × (waiting_in self.new ≡ waiting_in self.old) }
         ensures last { self.new.last ≡ self.old.last }
         ensures upto { self.new.upto ≡ self.old.upto }
     {
+        self.forget(rt, seat);
+        if self.fault.is_some() {
+            return None;
+        }
+        let Ok(unnamed) = self.store.make_unnamed() else {
+            return None;
+        };
+        let (writing, end) = Writing::start(rt, self.alloc, seat, unnamed, body)?;
+        self.writing.push(writing).ok()?;
+        Some(end)
+    }
+
+    /// What came of the body that a thread wrote for a seat, if one did.
+    fn take_written<R: Threads>(&mut self, rt: &R, seat: usize) -> Option<Result<Synced, Unwritten>>
+        ensures kept { AreKept self.old → AreKept self.new }
+        ensures start { start_in self.new ≡ start_in self.old }
+        ensures same { (kept_in self.new ≡ kept_in self.old) × (waiting_in self.new ≡ waiting_in self.old) }
+        ensures last { self.new.last ≡ self.old.last }
+        ensures upto { self.new.upto ≡ self.old.upto }
+    {
+        let at = self
+            .writing
+            .iter()
+            .position(|writing| writing.seat == seat)?;
+        Some(self.writing.swap_remove(at).join(rt))
+    }
+
+    /// Removes a file that has no number, by its slot.
+    fn empty(&mut self, slot: u64)
+        ensures kept { AreKept self.old → AreKept self.new }
+        ensures start { start_in self.new ≡ start_in self.old }
+        ensures same { (kept_in self.new ≡ kept_in self.old) × (waiting_in self.new ≡ waiting_in self.old) }
+        ensures last { self.new.last ≡ self.old.last }
+        ensures upto { self.new.upto ≡ self.old.upto }
+    {
+        if self.fault.is_some() {
+            return;
+        }
+        self.store.empty(slot);
+    }
+
+    /// Lets go of what a thread wrote for a seat, if one did.
+    fn forget<R: Threads>(&mut self, rt: &R, seat: usize)
+        ensures kept { AreKept self.old → AreKept self.new }
+        ensures start { start_in self.new ≡ start_in self.old }
+        ensures same { (kept_in self.new ≡ kept_in self.old) × (waiting_in self.new ≡ waiting_in self.old) }
+        ensures last { self.new.last ≡ self.old.last }
+        ensures upto { self.new.upto ≡ self.old.upto }
+    {
+        match self.take_written(rt, seat) {
+            Some(Ok(synced)) => self.empty(synced.slot()),
+            Some(Err(Unwritten { slot, .. })) => self.empty(slot),
+            None => {}
+        }
+    }
+
+    /// Notes a fault, unless it is a want of room.
+    fn refuse(&mut self, fault: KeepFault)
+        ensures kept { AreKept self.old → AreKept self.new }
+        ensures start { start_in self.new ≡ start_in self.old }
+        ensures same { (kept_in self.new ≡ kept_in self.old) × (waiting_in self.new ≡ waiting_in self.old) }
+        ensures last { self.new.last ≡ self.old.last }
+        ensures upto { self.new.upto ≡ self.old.upto }
+    {
+        if self.fault.is_some() {
+            return;
+        }
+        if fault.is_want_of_room() {
+            return;
+        }
+        // Each crash leaves what is kept, and this call says so.
+        kept_is_on_the_disk(&self.store);
+        self.fault = Some(fault);
+    }
+
+    /// The file that a thread has written for a seat, if it has the body of this request. An `Err` says that the body
+    /// could not be written.
+    fn written_of<R: Threads>(
+        &mut self,
+        rt: &R,
+        seat: usize,
+        ask: &Ask,
+    ) -> Result<Option<Synced>, NotWritten>
+        ensures kept { AreKept self.old → AreKept self.new }
+        ensures start { start_in self.new ≡ start_in self.old }
+        ensures same { (kept_in self.new ≡ kept_in self.old) × (waiting_in self.new ≡ waiting_in self.old) }
+        ensures last { self.new.last ≡ self.old.last }
+        ensures upto { self.new.upto ≡ self.old.upto }
+        ensures body { IfOk result (λ written. IfSome written (λ synced. Some (written_body synced) ≡ body_in ask.now)) }
+    {
+        let Some(body) = body_of(ask) else {
+            return Ok(None);
+        };
+        match self.take_written(rt, seat) {
+            None => Ok(None),
+            Some(Ok(synced)) => {
+                if synced.body().is_same(body) {
+                    return Ok(Some(synced));
+                }
+                self.empty(synced.slot());
+                Ok(None)
+            }
+            Some(Err(Unwritten { slot, error })) => {
+                self.empty(slot);
+                self.refuse(KeepFault::Store(StoreFault::Body(BodyFault::Io(error))));
+                Err(NotWritten)
+            }
+        }
+    }
+
+    /// The entry of a request up to its answer. None if there is no room for it.
+    fn draft<R: Threads>(
+        &mut self,
+        rt: &R,
+        seat: usize,
+        ask: &Ask,
+        secret: &[u8; 12],
+        moment: u64,
+    ) -> Option<Drafted<D, S>>
+        ensures kept { AreKept self.old → AreKept self.new }
+        ensures start { start_in self.new ≡ start_in self.old }
+        ensures same { (kept_in self.new ≡ kept_in self.old) × (waiting_in self.new ≡ waiting_in self.old) }
+        ensures last { self.new.last ≡ self.old.last }
+        ensures upto { self.new.upto ≡ self.old.upto }
+        ensures ready { AreKept self.old → IfSome result
+            (IsReadyFor self.new (asked ask.now secret.now moment)) }
+    {
+        if !self.make_room(most_of(ask)) {
+            return None;
+        }
+        let Ok(written) = self.written_of(rt, seat, ask) else {
+            return None;
+        };
+        if self.fault.is_some() {
+            return None;
+        }
+        let drafted = draft_of(self.alloc, &mut self.store, ask, secret, moment, written);
+        // Each crash leaves what is kept, and this call says so.
+        kept_is_on_the_disk(&self.store);
+        match drafted {
+            Ok(drafted) => Some(drafted),
+            Err(fault) => {
+                if fault.is_want_of_room() {
+                    return None;
+                }
+                self.fault = Some(fault);
+                None
+            }
+        }
+    }
+
+    /// Makes ready what is to be kept of a request that this service is about to be asked, as far as it is known before
+    /// its answer. None if there is no room for it, or if it changes nothing.
+    pub(crate) fn ready<R: Threads>(
+        &mut self,
+        rt: &R,
+        seat: usize,
+        service: &Service,
+        ask: &Ask,
+        secret: [u8; 12],
+        moment: u64,
+    ) -> Option<Noted<D, S>>
+        ensures kept { AreKept self.old → AreKept self.new }
+        ensures start { start_in self.new ≡ start_in self.old }
+        ensures same { (kept_in self.new ≡ kept_in self.old) × (waiting_in self.new ≡ waiting_in self.old) }
+        ensures last { self.new.last ≡ self.old.last }
+        ensures upto { self.new.upto ≡ self.old.upto }
+        ensures noted { IfSome result (λ it. it.note ≡ asked ask.now secret moment) }
+        ensures ready { AreKept self.old → IfSome result (IsReady self.new) }
+    {
+        if !may_change(service, ask) {
+            self.forget(rt, seat);
+            return None;
+        }
+        let Some(drafted) = self.draft(rt, seat, ask, &secret, moment) else {
+            self.forget(rt, seat);
+            return None;
+        };
+        Some(Noted {
+            note: Note::of(ask, secret, moment),
+            drafted,
+        })
+    }
+
+    /// Adds a request that changed something, with its answer.
+    pub(crate) fn add(&mut self, noted: Noted<D, S>, answer: &Answer)
+        ensures kept { AreKept self.old → IsReady self.old noted → AreKept self.new }
+        ensures start { start_in self.new ≡ start_in self.old }
+        ensures same { kept_in self.new ≡ kept_in self.old }
+        ensures waiting { waiting_in self.new
+            ≡ waiting_in self.old ++ answered_so noted.note answer.now ∷ [] }
+        ensures last { self.new.last ≡ self.old.last }
+        ensures upto { self.new.upto ≡ self.old.upto }
+    {
+        let Noted { note, drafted } = noted;
         let recorded = Recorded {
             note: Snapshot::of(&note),
             answer: Snapshot::of(answer),
@@ -156,10 +368,28 @@ impl<D: Disk, S: Shelf> Books<D, S> {
         if self.fault.is_some() {
             return;
         }
-        let put = put_note(self.alloc, &mut self.store, &mut self.batch, note, answer);
+        let put = put_entry(&self.store, &mut self.batch, drafted.draft, answer);
         // Each crash leaves what is kept, and this call says so.
         kept_is_on_the_disk(&self.store);
         self.fault = put.err();
+    }
+
+    /// Lets go of what was made ready for a request that changed nothing: the file of its body is removed, if it can be.
+    pub(crate) fn let_go(&mut self, noted: Noted<D, S>)
+        ensures kept { AreKept self.old → IsReady self.old noted → AreKept self.new }
+        ensures start { start_in self.new ≡ start_in self.old }
+        ensures same { (kept_in self.new ≡ kept_in self.old) × (waiting_in self.new ≡ waiting_in self.old) }
+        ensures last { self.new.last ≡ self.old.last }
+        ensures upto { self.new.upto ≡ self.old.upto }
+    {
+        let Noted { drafted, .. } = noted;
+        let Some(file) = drafted.file else {
+            return;
+        };
+        if self.fault.is_some() {
+            return;
+        }
+        let _ = self.store.remove_body(file.number);
     }
 
     /// Whether there is something to keep, or to promise.

@@ -1,25 +1,50 @@
 //! A store as what a pool keeps its changes in.
+ghost use Rattle.std.specs.Prelude.{IfSome};
 ghost use Rattle.upload_keeping.specs.Books.{AreKept};
+ghost use Rattle.upload_keeping.specs.Ready.{IsReady};
 
 use crate::books::Books;
 use crate::fault::KeepFault;
 use crate::host::KeepingHost;
-use crate::note::Note;
+use crate::note::may_fit;
+use crate::noted::Noted;
 use bodies::Shelf;
 use sqlite_disk::Disk;
-use upload_intake::{Keeping, NotKept};
-use upload_service::{Answer, Ask};
+use std::thread::Threads;
+use upload_bytes::ThreadEnd;
+use upload_intake::{Coming, Keeping, NotKept};
+use upload_service::{Answer, Ask, Service};
 use upload_store::Store;
 
 /// A store as what a pool keeps its changes in. Each is an entry, which is on the disk before its answer is heard, with
 /// a large body in a file of its own, and the moments are promised a minute ahead.
 ///
-/// The first thing that can't be kept is told to its host, and nothing is kept from then on.
+/// Before a request that may change something is served, there is room for it on the disk, and its large body is there.
+/// If there is no room, on the disk or in memory, `note` says so, and the next request may find some. What can't be kept
+/// for another reason is told to its host, and nothing is kept from then on.
 #[derive(Drop)]
 pub struct StoreKeeping<D: Disk, S: Shelf, H> {
     pub(crate) books: Books<D, S>,
     pub(crate) host: H,
+    noted: Option<Noted<D, S>>,
     ghost kept: { ∥ AreKept books ∥₁ },
+    ghost ready: { ∥ IfSome noted (IsReady books) ∥₁ },
+}
+
+impl<D: Disk, S: Shelf, H> StoreKeeping<D, S, H> {
+    ghost use Rattle.std.specs.Prelude.{◌≡◌};
+
+    /// With these books, of which nothing is noted yet.
+    pub(crate) fn of(books: Books<D, S>, host: H) -> StoreKeeping<D, S, H>
+        requires { AreKept books }
+        ensures { result.books ≡ books }
+    {
+        StoreKeeping {
+            books,
+            host,
+            noted: None,
+        }
+    }
 }
 
 impl<D: Disk, S: Shelf, H: Drop> StoreKeeping<D, S, H> {
@@ -52,11 +77,7 @@ impl<D: Disk, S: Shelf, H: KeepingHost> Keeping for StoreKeeping<D, S, H> {
     ghost use Rattle.std.specs.Prelude.{◌≡◌, ◌≤◌, [], ◌++◌, true, OnOk, OnErr};
     ghost use Rattle.upload_intake.specs.Safety.{IsSafe};
     ghost use Rattle.upload_keeping.specs.declared.fault.KeepFault.{KeepFault};
-    ghost use Rattle.upload_keeping.specs.Kept.{start_of, kept_of, waiting_of, last_of, upto_of, has_failed};
-
-    type Note = Note;
-
-    ghost noted = { λ note. note };
+    ghost use Rattle.upload_keeping.specs.Kept.{start_of, kept_of, waiting_of, last_of, upto_of, has_failed, noted_of};
 
     ghost start = { start_of };
 
@@ -70,13 +91,54 @@ impl<D: Disk, S: Shelf, H: KeepingHost> Keeping for StoreKeeping<D, S, H> {
 
     ghost failed = { has_failed };
 
-    fn note(&mut self, ask: &Ask, secret: [u8; 12], now: u64) -> Note {
-        self.books.see(now);
-        Note::of(self.books.alloc, ask, secret, now)
+    ghost noted = { noted_of };
+
+    /// A body is written if it fits where it goes to. What was noted before is let go of.
+    fn write_ahead<R: Threads>(
+        &mut self,
+        rt: &R,
+        seat: usize,
+        service: &Service,
+        coming: Coming,
+    ) -> Option<ThreadEnd> {
+        self.noted = None;
+        let Coming { upload, body } = coming;
+        if let Some((at, range)) = upload {
+            if !may_fit(service, &at, range) {
+                return None;
+            }
+        }
+        self.books.write_ahead(rt, seat, body)
     }
 
-    fn add(&mut self, note: Note, answer: &Answer) {
-        self.books.add(note, answer);
+    /// There is no room either for a request that changes nothing, so that nothing is made ready for it.
+    fn note<R: Threads>(
+        &mut self,
+        rt: &R,
+        seat: usize,
+        service: &Service,
+        ask: &Ask,
+        secret: [u8; 12],
+        now: u64,
+    ) -> bool {
+        self.noted = None;
+        self.books.see(now);
+        self.noted = self.books.ready(rt, seat, service, ask, secret, now);
+        self.noted.is_some()
+    }
+
+    fn add(&mut self, answer: &Answer) {
+        let Some(noted) = self.noted.take() else {
+            unreachable!()
+        };
+        self.books.add(noted, answer);
+    }
+
+    /// The file of its body is removed. If that fails, the next start removes it.
+    fn let_go(&mut self) {
+        if let Some(noted) = self.noted.take() {
+            self.books.let_go(noted);
+        }
     }
 
     /// The host is told what was not kept. So it is by each call from then on, which fails too.
@@ -92,6 +154,7 @@ impl<D: Disk, S: Shelf, H: KeepingHost> Keeping for StoreKeeping<D, S, H> {
         ensures told { OnErr result ((before : H) × (fault : KeepFault)
             × H.hears before fault self.new.host) }
     {
+        self.noted = None;
         if !self.books.is_due() {
             self.books.keep_nothing();
             return Ok(());

@@ -91,7 +91,7 @@ fn note<D: Disk, S: Shelf, H: KeepingHost>(
 }
 
 /// Begins to keep in a store of which records may be lost, and notes first which numbers are used up then.
-fn begin_without<D: Disk + Drop, S: Shelf + Drop, H: KeepingHost + Drop>(
+pub(crate) fn begin_without<D: Disk + Drop, S: Shelf + Drop, H: KeepingHost + Drop>(
     alloc: Global,
     store: Store<D, S>,
     saved: Salvage,

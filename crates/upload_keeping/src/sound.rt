@@ -6,7 +6,6 @@ ghost use Rattle.upload_journal.specs.Fields.{IsFile, IsReference, IsTold};
 ghost use Rattle.upload_journal.specs.Short.{told_of};
 ghost use Rattle.upload_keeping.specs.Exchanges.{IsExtent, IsSound};
 
-use crate::again::Noted;
 use upload_journal::BodyFile;
 use upload_names::{BlobDigest, RepoName, UploadRef, digests_are_decided, names_are_decided};
 use upload_service::{Answer, Ask, Extent};
@@ -108,11 +107,10 @@ pub(crate) fn answer_is_sound(answer: &Answer)
 }
 
 /// So are the secret and the moment that come with a request.
-pub(crate) fn noted_is_sound(noted: &Noted)
-    ensures { (length noted.now.secret ≡ 12) × (noted.now.moment < 2 ^ 64) }
+pub(crate) fn given_is_sound(secret: &[u8; 12], moment: u64)
+    ensures { (length secret.now ≡ 12) × (moment < 2 ^ 64) }
 {
-    let _secret = noted.secret;
-    let _moment = noted.moment;
+    let _secret = *secret;
 }
 
 /// And a file.

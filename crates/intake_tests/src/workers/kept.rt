@@ -1,5 +1,5 @@
 //! A pool of four whose changes are kept until that fails: each client finds all that it was told in what was kept.
-ghost use Rattle.std.specs.Prelude.{◌≡◌, IfOk, map, vec_len};
+ghost use Rattle.std.specs.Prelude.{◌≡◌, IfOk, map, option_map, vec_len};
 ghost use Rattle.std.specs.List.{flat_map};
 ghost use Rattle.upload_intake.specs.Safety.{asked, answered_so};
 
@@ -13,8 +13,9 @@ use std::sync::Wait;
 use std::sync::atomic::{AtomicU64, Ordering};
 use std::test::*;
 use std::thread::Threads;
+use upload_bytes::ThreadEnd;
 use upload_intake::{
-    Gate, Keeping, KeptFault, KeptService, NotKept, Worker, ZeroSecrets, serve_kept,
+    Coming, Gate, Keeping, KeptFault, KeptService, NotKept, Worker, ZeroSecrets, serve_kept,
 };
 use upload_service::{Answer, Ask, Service};
 use upload_wire::NoObserver;
@@ -78,6 +79,7 @@ struct Remembers<'a> {
     start: Snapshot<Service>,
     kept: History<History<Change>>,
     waiting: History<Change>,
+    noted: Option<Request>,
     counts: &'a Counts,
     added: u64,
     times: u64,
@@ -85,10 +87,6 @@ struct Remembers<'a> {
 }
 
 impl<'a> Keeping for Remembers<'a> {
-    type Note = Request;
-
-    ghost noted = { λ r. asked r.ask.value r.secret r.now };
-
     ghost start = { λ k. k.start.value };
 
     ghost kept = { λ k. flat_map (map (λ c. answered_so
@@ -104,15 +102,39 @@ impl<'a> Keeping for Remembers<'a> {
 
     ghost failed = { λ k. k.failed };
 
-    fn note(&mut self, ask: &Ask, secret: [u8; 12], now: u64) -> Request {
-        Request {
+    ghost noted = { λ k. option_map (λ r. asked r.ask.value r.secret r.now) k.noted };
+
+    fn write_ahead<R: Threads>(
+        &mut self,
+        _rt: &R,
+        _seat: usize,
+        _service: &Service,
+        _coming: Coming,
+    ) -> Option<ThreadEnd> {
+        None
+    }
+
+    fn note<R: Threads>(
+        &mut self,
+        _rt: &R,
+        _seat: usize,
+        _service: &Service,
+        ask: &Ask,
+        secret: [u8; 12],
+        now: u64,
+    ) -> bool {
+        self.noted = Some(Request {
             ask: Snapshot::of(ask),
             secret,
             now,
-        }
+        });
+        true
     }
 
-    fn add(&mut self, request: Request, answer: &Answer) {
+    fn add(&mut self, answer: &Answer) {
+        let Some(request) = self.noted.take() else {
+            unreachable!()
+        };
         if let Some(shift) = shift_of(answer) {
             self.added = self
                 .added
@@ -124,6 +146,8 @@ impl<'a> Keeping for Remembers<'a> {
         };
         self.waiting = self.waiting.and(&change);
     }
+
+    fn let_go(&mut self) {}
 
     fn keep(&mut self) -> Result<(), NotKept> {
         if self.added > 0 {
@@ -205,6 +229,7 @@ fn serve<R: Threads + Wait + Sync>(
         start: Snapshot::of(&service),
         kept: History::none(),
         waiting: History::none(),
+        noted: None,
         counts,
         added: 0,
         times,

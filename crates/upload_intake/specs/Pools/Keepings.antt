@@ -1,5 +1,5 @@
 -- What would be kept if nothing is.
-use Rattle.std.specs.Prelude.{ℕ, List, ◌++◌, map}
+use Rattle.std.specs.Prelude.{ℕ, List, ◌++◌, map, Option, option_map}
 use Rattle.std.specs.List.{flat_map}
 use Rattle.upload_service.specs.Machine.{State}
 use Rattle.upload_service.specs.Run.{Exchange}
@@ -14,6 +14,10 @@ asked_by n = asked n.ask.value n.secret n.now
 
 abbrev pub recorded_by : Recorded → Exchange
 recorded_by r = answered_so (asked_by r.note) r.answer.value
+
+-- the request that was noted last
+abbrev pub noted_by : NoKeeping → Option Asked
+noted_by k = option_map asked_by k.noted
 
 abbrev pub start_of : NoKeeping → State
 start_of k = k.start.value.value

@@ -1,8 +1,5 @@
 use Rattle.std.proofs.Common.{◌≡◌, ◌<◌, ℕ, arith}
-use Rattle.std.specs.Prelude.{◌^◌}
 use Rattle.std.proofs.lemmas.List.Elements.{All-from_get_or}
-use Rattle.upload_names.specs.Digest.{Digest}
-use Rattle.upload_service.specs.declared.answer.Answer.TheVariants.{Blob}
 use Rattle.upload_intake.proofs.keeper.are_typed.Goals as goal
 
 pub returns-in-Blob : goal.returns-in-Blob

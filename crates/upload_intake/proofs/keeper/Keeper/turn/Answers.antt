@@ -2,9 +2,10 @@ use Rattle.std.proofs.Common.{arith, refl, ap, sym, ◌∙◌, subst, append_ass
 use Rattle.std.proofs.Math.Seq.{map-set_same}
 use Rattle.crossbeam_channel.specs.Ends.{sends_on, receives_on}
 use Rattle.upload_intake.proofs.KeeperMoves.{served_seat, wish_taken, finished_seat, logged, grows_one}
-use Rattle.upload_intake.proofs.Safely.{follows_more}
+use Rattle.upload_intake.proofs.Safely.{follows_more, follows_still, kept_none}
 use Rattle.upload_service.specs.Run.{Exchange}
-use Rattle.upload_intake.specs.Safety.{Follows, changed, answered_so}
+use Rattle.upload_service.specs.Requests.{ask_in}
+use Rattle.upload_intake.specs.Safety.{Follows, changed}
 use Rattle.upload_intake.specs.Log.{Step, exchanges_of, last_moment}
 use Rattle.upload_intake.specs.Passes.{line_of}
 use Rattle.upload_intake.specs.Replies.{replies_on}
@@ -14,23 +15,23 @@ use Rattle.upload_intake.proofs.keeper.Keeper.turn.Goals as goal
 pub invariant_of-self-in-Job : goal.invariant_of-self-in-Job
 invariant_of-self-in-Job g c =
     served_seat _ _ _ _ c.self.invariant _ c.in-Some.ensures.taken _ _ _ _ _ _ c.in-Job.is
-    (omega arith) c.step_joining-answer.ensures.turn c.are_typed.ensures c.saturating_add-self-inside.ensures
+    (omega arith) c.serve-answer.ensures.turn c.are_typed.ensures c.saturating_add-self-inside.ensures
     _ _ c.index_mut.ensures.value c.hold.ensures.held c.hold.ensures.done _ refl _
     (logged _ _ _ _ c.and.ensures
     (λ i. record {
       seat = c.in-Some.item.seat;
       exchange = record {
-        ask = c.of-asked.ensures i;
+        ask = ask_in (c.of-asked.ensures i);
         secret = c.in-Job.secret;
         now = c.max-self-inside.result;
         answer = c.of.ensures i;
       };
     }))
 
-pub invariant_of-self-in-Hash : goal.invariant_of-self-in-Hash
-invariant_of-self-in-Hash g c =
-    wish_taken _ _ _ _ c.self.invariant _ c.in-Some.ensures.taken _ _ c.in-Hash.is _
-    c.grant-told.ensures
+pub invariant_of-self-in-Wish : goal.invariant_of-self-in-Wish
+invariant_of-self-in-Wish g c =
+    wish_taken _ _ _ _ c.self.invariant _ c.in-Some.ensures.taken _ c.in-Wish.is _
+    c.grant-told.ensures.service
 
 pub invariant_of-self-in-Finish : goal.invariant_of-self-in-Finish
 invariant_of-self-in-Finish g c =
@@ -66,7 +67,7 @@ returns-in-Job-clause-grows g c =
     (λ i. record {
       seat = c.in-Some.item.seat;
       exchange = record {
-        ask = c.of-asked.ensures i;
+        ask = ask_in (c.of-asked.ensures i);
         secret = c.in-Job.secret;
         now = c.max-self-inside.result;
         answer = c.of.ensures i;
@@ -76,19 +77,19 @@ returns-in-Job-clause-grows g c =
     (record {
       seat = c.in-Some.item.seat;
       exchange = record {
-        ask = c.in-Job.ask;
+        ask = ask_in c.in-Job.request;
         secret = c.in-Job.secret;
         now = c.max-self-inside.result;
-        answer = c.step_joining-answer.result;
+        answer = c.serve-answer.result;
       };
     })
     (grown ∙ ap (λ l. l ++ record {
       seat = c.in-Some.item.seat;
       exchange = record {
-        ask = c.in-Job.ask;
+        ask = ask_in c.in-Job.request;
         secret = c.in-Job.secret;
         now = c.max-self-inside.result;
-        answer = c.step_joining-answer.result;
+        answer = c.serve-answer.result;
       };
     } ∷ []) (ap (λ (k : KeeperState). k.log) c.self.view_is))
     (sym c.self.invariant.keeps.last
@@ -103,30 +104,71 @@ returns-in-Job-clause-follows g c =
     let f =
     subst (λ (k : KeeperState). Follows (K.start was) (K.kept was ++ K.waiting was) (K.last was) k) (sym c.self.view_is)
     c.requires.follows in
-    let noted = c.note-note.ensures in
-    let added = c.add_change.ensures in
-    let answer = c.step_joining-answer.result in
+    let served = c.serve-answer.ensures in
     let x : Exchange = record {
-      ask = c.in-Job.ask;
+      ask = ask_in c.in-Job.request;
       secret = c.in-Job.secret;
       now = c.max-self-inside.result;
-      answer = answer;
+      answer = c.serve-answer.result;
     } in
     let s : Step = record { seat = c.in-Some.item.seat; exchange = x } in
     follows_more (K.start was) _ (K.kept was ++ K.waiting was) _ (K.last was) _ _ _ c.self.inside.books.now f
-    (added.start ∙ noted.start) refl c.self.invariant.keeps.last s (omega (arith, c.max-self-inside.ensures))
-    c.step_joining-answer.ensures.turn
-    ((λ i. (added.kept ∙ noted.kept) i ++ (added.waiting
-    ∙ (λ j. noted.waiting j ++ changed (answered_so (noted.note j) answer ∷ []))) i)
+    served.start refl c.self.invariant.keeps.last s (omega (arith, c.max-self-inside.ensures))
+    served.turn
+    ((λ i. served.kept i ++ served.waiting i)
     ∙ sym (append_assoc (K.kept was) (K.waiting was) (changed (x ∷ []))))
     (logged _ _ _ s c.and.ensures
     (λ i. record {
       seat = c.in-Some.item.seat;
       exchange = record {
-        ask = c.of-asked.ensures i;
+        ask = ask_in (c.of-asked.ensures i);
         secret = c.in-Job.secret;
         now = c.max-self-inside.result;
         answer = c.of.ensures i;
       };
     }))
-    (omega (arith, added.last, noted.last))
+    (omega (arith, served.last))
+
+pub returns-in-Job-clause-since : goal.returns-in-Job-clause-since
+returns-in-Job-clause-since g c =
+    let K = g.K.Keeping in
+    let was = c.args.keeping.now in
+    let served = c.serve-answer.ensures in
+    let x : Exchange = record {
+      ask = ask_in c.in-Job.request;
+      secret = c.in-Job.secret;
+      now = c.max-self-inside.result;
+      answer = c.serve-answer.result;
+    } in
+    let s : Step = record { seat = c.in-Some.item.seat; exchange = x } in
+    let grown = logged _ _ _ s c.and.ensures
+    (λ i. record {
+      seat = c.in-Some.item.seat;
+      exchange = record {
+        ask = ask_in (c.of-asked.ensures i);
+        secret = c.in-Job.secret;
+        now = c.max-self-inside.result;
+        answer = c.of.ensures i;
+      };
+    }) in
+    record {
+      more = s ∷ [];
+      log = grown ∙ ap (λ l. l ++ s ∷ []) (ap (λ (k : KeeperState). k.log) c.self.view_is);
+      kept =
+          (λ i. served.kept i ++ served.waiting i)
+          ∙ sym (append_assoc (K.kept was) (K.waiting was) (changed (x ∷ [])));
+    }
+
+pub returns-in-Wish-clause-follows : goal.returns-in-Wish-clause-follows
+returns-in-Wish-clause-follows g c =
+    let granted = c.grant-told.ensures in
+    follows_still _ _ _ _ _ _ c.args.self.now _ c.requires.follows granted.start
+    (λ i. granted.kept i ++ granted.waiting i) granted.last
+    (ap (λ (k : KeeperState). k.since) c.self.view_is)
+    (granted.service ∙ ap (λ (k : KeeperState). k.service) c.self.view_is)
+    (ap (λ (k : KeeperState). k.log) c.self.view_is)
+
+pub returns-in-Wish-clause-since : goal.returns-in-Wish-clause-since
+returns-in-Wish-clause-since g c =
+    let granted = c.grant-told.ensures in
+    kept_none _ _ _ _ (ap (λ (k : KeeperState). k.log) c.self.view_is) (λ i. granted.kept i ++ granted.waiting i)

@@ -1,40 +1,18 @@
-use Rattle.std.proofs.Common.{sym, ap, ◌∙◌, [], ◌∷◌, ◌++◌}
-use Rattle.crossbeam_channel.specs.Claims.{view}
-use Rattle.crossbeam_channel.specs.Ends.{sends_on, receives_on}
-use Rattle.upload_intake.specs.Passes.{line_of, whats}
-use Rattle.upload_intake.proofs.SeatMoves.{answered, unanswered, one_more_sent, whats_more, told, told_none}
+use Rattle.std.proofs.Common.{Err, subst}
+use Rattle.upload_service.specs.declared.ask.Request.TheVariants.{Held}
+use Rattle.upload_intake.specs.Kept.{Exchanges}
+use Rattle.upload_intake.proofs.SeatMoves.{asks_back, is_held}
 use Rattle.upload_intake.proofs.seat.Seat.ask_at_once.Goals as goal
 
-pub invariant_of-self-in-Some : goal.invariant_of-self-in-Some
-invariant_of-self-in-Some g c =
-    answered _ _ _ _ c.self.invariant c.if-self.false _ _ _ _ _ c.in_default.ensures.sent c.in-Some.ensures.taken
+pub held_of-requires : goal.held_of-requires
+held_of-requires g c =
+    is_held c.args.self.now c.exchange.new.self c.args.ask c.args.secret c.in-Err-Some.back
+    (subst (λ o. Exchanges c.args.self.now (Held c.args.ask) c.args.secret (Err o) c.exchange.new.self)
+    c.in-Err-Some.field-0-is c.in-Err-Some.ensures)
 
-pub invariant_of-self-in-None : goal.invariant_of-self-in-None
-invariant_of-self-in-None g c =
-    unanswered _ _ _ _ c.self.invariant _ _ _ _ c.in_default.ensures.sent c.in-None.ensures.taken
-
-pub returns-in-Some : goal.returns-in-Some
-returns-in-Some g c = (
-  sym (ap (λ o. o.gone) c.self.view_is) ∙ c.if-self.false,
-  told _ _ _ _ _ _ _ _ _ _ _ _ _ _ _ _ _ _ _ c.self.view_is
-      (ap (λ s. line_of (sends_on s)) c.send.ensures.line)
-      (ap (λ s. line_of (receives_on s)) c.take.ensures.line)
-      (one_more_sent _ _ _ _ c.self.invariant _ _ _ c.in_default.ensures.sent)
-      (ap (λ v. whats v.taken) c.in-Some.ensures.taken.0 ∙ whats_more _ _
-      ∙ ap (λ a. whats (view c.self.inside.place.replies.pass).taken ++ a ∷ []) (sym c.into_answer.ensures))
-      (ap (λ o. o.gone) c.self.view_is)
-      c.in_default.ensures.closing
-      c.in-Some.ensures.closing,
-)
-
-pub returns-in-None : goal.returns-in-None
-returns-in-None g c = (
-  sym (ap (λ o. o.gone) c.self.view_is) ∙ c.if-self.false,
-  told_none _ _ _ _ _ _ _ _ _ _ _ _ _ _ _ _ c.self.view_is
-      (ap (λ s. line_of (sends_on s)) c.send.ensures.line)
-      (ap (λ s. line_of (receives_on s)) c.take.ensures.line)
-      (one_more_sent _ _ _ _ c.self.invariant _ _ _ c.in_default.ensures.sent)
-      (ap (λ v. whats v.taken) c.in-None.ensures.taken)
-      c.in_default.ensures.closing
-      c.in-None.ensures.closing,
-)
+pub returns-in-Err-Some : goal.returns-in-Err-Some
+returns-in-Err-Some g c =
+    asks_back c.args.self.now c.exchange.new.self c.args.ask c.args.secret c.in-Err-Some.back c.held_of.result
+    c.held_of.ensures
+    (subst (λ o. Exchanges c.args.self.now (Held c.args.ask) c.args.secret (Err o) c.exchange.new.self)
+    c.in-Err-Some.field-0-is c.in-Err-Some.ensures)

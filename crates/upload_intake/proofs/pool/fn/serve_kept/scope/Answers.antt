@@ -1,12 +1,14 @@
 use Rattle.std.proofs.Common.{◌≡◌, ap, ◌∙◌, sym, subst, length}
 use Rattle.std.proofs.lemmas.List.{length-map}
 use Rattle.std.specs.Vec.Iter.{into_iter_items}
-use denote.Param.Send.{sendable}
+use denote.Exit as exit
+use denote.Param.Send.{sendable, param_send, arg_send, shr_send}
 use Rattle.upload_intake.specs.Pools.Stations.{promised, AllLeft, EachWorks}
 use Rattle.upload_intake.specs.Pools.Working.{lending, means}
 use Rattle.upload_intake.proofs.Opening.{all_done}
 use Rattle.upload_intake.proofs.Safely.{follows_at_first}
 use Rattle.upload_intake.proofs.Pooling.{still_of_one_call, kept_pool}
+use Rattle.upload_intake.proofs.Sent.{station_sent, leaving_sent, run_sent}
 use Rattle.upload_intake.proofs.pool.fn.serve_kept.scope.Goals as goal
 
 -- what a thread's closure captures may cross to it
@@ -21,6 +23,17 @@ spawn_scoped_with-requires-clause-runs g c κs within =
       search (sendable, s) depth 20,
       search (sendable, s) depth 20,
     )
+
+pub spawn_scoped_with-requires-send-F : goal.spawn_scoped_with-requires-send-F
+spawn_scoped_with-requires-send-F g c κs within =
+    let s = c.requires.cross in
+    param_send 2 _ (arg_send _ exit.no _
+    (run_sent _ _ _ (shr_send _ _ _ s.6) (station_sent _ _ _ _ s.0 s.1 s.2 s.3)))
+
+pub spawn_scoped_with-requires-send-T : goal.spawn_scoped_with-requires-send-T
+spawn_scoped_with-requires-send-T g c κs within =
+    let s = c.requires.cross in
+    param_send 3 _ (arg_send _ exit.no _ (leaving_sent _ _ _ _ s.0 s.1 s.2 s.3))
 
 pub settle_all-service-requires : goal.settle_all-service-requires
 settle_all-service-requires g c =
