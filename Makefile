@@ -28,7 +28,7 @@ PROGRAM := $(if $(filter-out $(shell grep -m1 '^flags' /proc/cpuinfo),$(V3_FLAGS
 BUILT = $(firstword $(wildcard $(PROGRAM) $(EVERY)))
 
 # What the program is made of. A program that is newer than all of it is taken as it is.
-CRATES = upload_names upload_bytes upload_service http_wire upload_texts upload_wire upload_client upload_intake journal journal_file bodies upload_journal upload_store upload_keeping upload_push blobd_shared blobd_data blobd_serve blobd_push blobd
+CRATES = upload_names upload_bytes upload_service http_wire upload_texts upload_wire upload_client upload_intake journal journal_file bodies upload_journal upload_store upload_records upload_compact upload_keeping upload_push blobd_shared blobd_data blobd_serve blobd_push blobd
 SOURCES := crates.txt $(shell find $(foreach crate,$(CRATES),$(foreach part,src specs proofs,crates/$(crate)/$(part))) -type f 2>/dev/null)
 
 # Bodies and blobs are long lists of bytes. If glibc asks the system for huge pages, fresh memory costs them a third, and if
@@ -48,7 +48,7 @@ help:
 	@echo 'make upload   pushes $(FILE) to that service (FILE=.. another file), pulls it back and compares; in another shell'
 	@echo 'make registry a registry to push images to: TLS and a login, with HAProxy before the service (docs/OPERATIONS.md;'
 	@echo '              DATA=.. the folder in which it keeps what it has, with Redis for the tags)'
-	@echo '              once, serve and registry prove and build the program if its sources are newer: 15 to 40 minutes from nothing on'
+	@echo '              once, serve and registry prove and build the program if its sources are newer: 30 to 60 minutes from nothing on'
 	@echo '              four cores, a few minutes after a change. Else they start at once'
 	@echo 'make adapter REGISTRY=host:5443 LOGIN=FILE CA=FILE   lets blobd push to a registry on another machine, with TLS and a login'
 	@echo 'make run ARGS="push .."  the program as it was last built, with these words: it never proves'
@@ -61,7 +61,7 @@ help:
 	@echo 'make test     everything that must hold: proofs from nothing, must-fail edits (wrong programs, which the prover must refuse), tests,'
 	@echo '              the checks of the repository; an hour or two'
 	@echo 'make check    proves what changed since the last check; make test is the judge'
-	@echo 'make edits    the further must-fail edits, which make test leaves out: an hour or two (MINUTES=30 some of them, by turns)'
+	@echo 'make edits    the further edits, which make test leaves out: some hours (MINUTES=30 some of them, by turns)'
 	@echo 'make edges    programs that the contracts allow and that a reader would not expect: the prover must accept each'
 	@echo 'make wrong-bodies  a table of all must-fail edits: what each does wrong, and which contracts refuse it'
 	@echo 'make format   lays out the sources'
@@ -69,7 +69,7 @@ help:
 	@echo 'make fuzz     100,000 generated streams of requests through `blobd once`, beside a model (make test runs 2,000)'
 	@echo 'make soak     three minutes of clients that cut connections, race one another and are refused memory'
 	@echo 'make long     ten million requests, a million small blobs and ten thousand power cuts, with the memory that `blobd serve` has then;'
-	@echo '              pushes of 1 GiB over restarts of the server'
+	@echo '              pushes of 1 GiB over restarts of the server; servers that clients fill, for a minute each'
 	@echo 'make large    blobs of more than 1 GiB, each in one request or one push, stored and pulled: two minutes'
 	@echo 'make figures  speed and memory of `blobd once` and of the service alone, as ratios in one run'
 	@echo 'make bench    the same of `blobd serve` and `blobd push` over loopback, and a picture; then with a data directory, in this'
@@ -103,7 +103,7 @@ upload: built
 
 .PHONY: built
 built:
-	@test -n '$(BUILT)' || { echo 'Nothing is built yet. make build proves and builds the program: 15 to 40 minutes from nothing on four cores.' >&2; exit 1; }
+	@test -n '$(BUILT)' || { echo 'Nothing is built yet. make build proves and builds the program: 30 to 60 minutes from nothing on four cores.' >&2; exit 1; }
 
 build: $(EVERY)
 	@echo '$(EVERY)'
@@ -173,6 +173,7 @@ long: $(EVERY)
 	@python3 tests/long_runs.py $(EVERY)
 	@python3 tests/power_cuts.py $(EVERY) --cuts 10000 --seed 2
 	@python3 tests/pushes.py $(EVERY) -k pushes_over_restarts --mib 1024
+	@python3 tests/fills.py $(EVERY) --seconds 60 --times 100
 
 large: $(EVERY)
 	@python3 tests/large.py $(EVERY)

@@ -82,7 +82,7 @@ def main(flags):
     os.makedirs(OUT, exist_ok=True)
     log = os.path.relpath(LOG, TOP)
     print(
-        "Proving and building: 15 to 40 minutes from nothing on four cores, a minute or two after a change. "
+        "Proving and building: 30 to 60 minutes from nothing on four cores, a minute or two after a change. "
         f"The log is {log}.",
         file=sys.stderr,
     )

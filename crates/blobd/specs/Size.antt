@@ -23,11 +23,15 @@ digits_of word = if unit_of word == 1 then word else take (length word - 1) word
 abbrev pub IsNumber : List ℕ → ℕ → Type 0
 IsNumber digits number = IsNumeral 10 digits × (digits_value 10 digits ≡ number) × (number < 2 ^ 64)
 
--- decimal digits and a unit, which write a size from 1 to 2,147,483,648 bytes
-abbrev pub WritesSize : List ℕ → ℕ → Type 0
-WritesSize word size =
+-- decimal digits and a unit, which write a size from 1 to so many bytes
+abbrev pub WritesAtMost : ℕ → List ℕ → ℕ → Type 0
+WritesAtMost most word size =
     IsNumeral 10 (digits_of word) × (digits_value 10 (digits_of word) * unit_of word ≡ size) × (1 ≤ size)
-    × (size ≤ 2147483648)
+    × (size ≤ most)
+
+-- a size from 1 to 2,147,483,648 bytes
+abbrev pub WritesSize : List ℕ → ℕ → Type 0
+WritesSize = WritesAtMost 2147483648
 
 -- a file of more than 4 MiB goes up slowly in chunks below 64 KiB
 abbrev pub is_slow : ℕ → ℕ → Bool

@@ -1,10 +1,15 @@
 //! `blobd serve`: what is listened at, and what stands behind it.
-ghost use Rattle.std.specs.Prelude.{◌≤◌};
+ghost use Rattle.std.specs.Prelude.{◌≡◌, ◌≤◌, []};
+ghost use Rattle.upload_intake.specs.Safety.{Leads};
 
-use blobd_data::{AnyBodies, Damaged, Teller, open_data, tell_losses};
+use blobd_data::{
+    AnyBodies, CompactingFault, Damaged, DataFault, Teller, Watch, compact_if_worth, open_data,
+    read_status, tell_behind, tell_losses,
+};
 use blobd_serve::{Terms, limits, run_serve, run_serve_kept};
-use blobd_shared::{FAULT, print_line};
+use blobd_shared::{ByteCount, FAULT, Holding, print_line};
 use journal_file::Wary;
+use std::alloc::{AllocError, Global};
 use std::io;
 use std::io::{Eprint, ErrorKind, Write};
 use std::net::{Net, SocketAddr, TcpListener, TcpStream};
@@ -12,6 +17,47 @@ use std::random::RandomSource;
 use std::rt::Clock;
 use std::sync::Wait;
 use std::thread::Threads;
+use std::time::Instant;
+use upload_bytes::Room;
+use upload_intake::{Keeping, KeptService};
+
+/// Says how much a server may hold, to somebody who looks on; and to everybody if there is no limit.
+fn print_memory<R: Eprint>(rt: &R, memory: Option<u64>, seen: bool) {
+    let _ = match memory {
+        Some(bytes) if seen => {
+            eprintln!(rt;
+                "blobd: it holds at most {} (BLOBD_MEMORY)",
+                ByteCount(bytes)
+            )
+        }
+        Some(_) => Ok(()),
+        None => eprintln!(rt;
+            "blobd: it has no limit, since BLOBD_MEMORY isn't set and none can be read here"
+        ),
+    };
+}
+
+/// Says why a data directory can't be used: if the server may not hold what it has, how much that is.
+fn print_no_data<R: Eprint>(
+    rt: &R,
+    host: &HostRuntime,
+    path: &str,
+    fault: &DataFault,
+    memory: Option<u64>,
+) {
+    let _ = eprintln!(rt; "blobd: can't use {path}: {fault}");
+    let Some(bytes) = memory else {
+        return;
+    };
+    if !fault.lacks_room() {
+        return;
+    }
+    if let Ok(status) = read_status(host, path, limits(), Wary) {
+        let holds = ByteCount(status.counts.stored.saturating_add(status.counts.received));
+        let may = ByteCount(bytes);
+        let _ = eprintln!(rt; "blobd: {path} holds {holds}, BLOBD_MEMORY is {may}");
+    }
+}
 
 /// Tells somebody who looks on how a server is stopped.
 fn print_stop<R: Eprint>(rt: &R, kept: Option<&str>, seen: bool) {
@@ -32,6 +78,49 @@ fn print_no_listener<R: Eprint>(rt: &R, addr: SocketAddr, error: &io::Error) {
         let _ = eprintln!(rt;
             "blobd: another program has port {port} (ss -ltnp shows which; 5000 is also docker-registry's)"
         );
+    }
+}
+
+/// How many milliseconds have passed since this moment, or none if the clock can't be read.
+fn millis_since<R: Clock>(rt: &R, begun: Option<Instant>) -> u64 {
+    let Some(begun) = begun else {
+        return 0;
+    };
+    match begun.elapsed(rt) {
+        Ok(passed) => u64::try_from(passed.as_millis()).unwrap_or(u64::MAX),
+        Err(_) => 0,
+    }
+}
+
+/// Has the journal of the data directory at `path` written anew if much of it is dead, and says so, with the time that it
+/// took. If that can't be done a start goes on, and says why, unless it comes to the same itself.
+fn make_room<R: Eprint + Clock>(rt: &R, host: &HostRuntime, path: &str, memory: Option<u64>) {
+    let begun = Instant::now(rt).ok();
+    let made = compact_if_worth::<Wary, Wary, Wary, Wary, AnyBodies>(
+        host,
+        path,
+        limits(),
+        memory,
+        Wary,
+        Wary,
+        Wary,
+    );
+    let _ = match made {
+        Ok(None) | Err(CompactingFault::Data(_)) => Ok(()),
+        Ok(Some(room)) => {
+            let millis = millis_since(rt, begun);
+            let (whole, tenth) = (millis / 1_000, millis % 1_000 / 100);
+            eprintln!(rt; "blobd: {path} was compacted in {whole}.{tenth} s: {room}")
+        }
+        Err(fault) => eprintln!(rt; "blobd: {path} wasn't compacted: {fault}"),
+    };
+}
+
+/// Room for so many bytes, if there is a limit.
+fn room_of(alloc: Global, memory: Option<u64>) -> Result<Option<Room>, AllocError> {
+    match memory {
+        Some(bytes) => Ok(Some(Room::of(alloc, bytes)?)),
+        None => Ok(None),
     }
 }
 
@@ -61,6 +150,7 @@ where
     let mut out = io::writer(rt);
     match bind(rt, addr, &mut out) {
         Ok(listener) => {
+            print_memory(rt, terms.memory, seen);
             print_stop(rt, None, seen);
             run_serve(rt, &listener, terms, &mut out)
         }
@@ -72,12 +162,12 @@ where
 /// The directory is locked and read first, and standard error says what of it is lost.
 ///
 /// `fault: data` is printed if it can't be, or is damaged and to be refused then, and standard error says why.
-pub fn listen_keeping<R>(
-    rt: &R,
+pub fn listen_keeping<'a, R>(
+    rt: &'a R,
     host: &HostRuntime,
     addr: SocketAddr,
     terms: Terms,
-    path: &str,
+    path: &'a str,
     damaged: Damaged,
     seen: bool,
 ) -> u8
@@ -88,10 +178,16 @@ where
     requires { 1 ≤ terms.workers }
 {
     let mut out = io::writer(rt);
-    let opened = open_data::<Wary, Wary, AnyBodies, _>(
+    let Ok(room) = room_of(host.alloc(), terms.memory) else {
+        return print_line(&mut out, "fault: memory", FAULT);
+    };
+    make_room(rt, host, path, terms.memory);
+    let opened = open_data::<R, Wary, Wary, AnyBodies, _>(
+        Watch { rt, seen },
         host,
         path,
         limits(),
+        room,
         Wary,
         Teller { rt, path },
         damaged,
@@ -99,15 +195,42 @@ where
     let data = match opened {
         Ok(data) => data,
         Err(fault) => {
-            let _ = eprintln!(rt; "blobd: can't use {path}: {fault}");
+            print_no_data(rt, host, path, &fault, terms.memory);
             return print_line(&mut out, "fault: data", FAULT);
         }
     };
     tell_losses(rt, path, &data.losses);
-    match bind(rt, addr, &mut out) {
+    tell_behind(rt, path, data.behind);
+    listen_over(rt, addr, terms, data.kept, path, seen, &mut out)
+}
+
+/// Serves what comes to an address, by a service that is kept in the data directory at `path`; gives the exit status.
+fn listen_over<R, K, W>(
+    rt: &R,
+    addr: SocketAddr,
+    terms: Terms,
+    kept: KeptService<K>,
+    path: &str,
+    seen: bool,
+    out: &mut W,
+) -> u8
+where
+    R: Threads + Wait + Sync + Copy + Send + 'static,
+    R: AllocGlobal + Clock + RandomSource + Eprint,
+    R: Net<Listener = TcpListener, Stream = TcpStream>,
+    K: Keeping + Drop,
+    W: Write,
+    requires workers { 1 ≤ terms.workers }
+    requires leads { Leads (K.start kept.keeping) (K.kept kept.keeping) kept.since kept.service }
+    requires waiting { K.waiting kept.keeping ≡ [] }
+    requires begun { kept.since ≤ K.last kept.keeping }
+{
+    let _ = eprintln!(rt; "blobd: {}", Holding(kept.service.counts()));
+    match bind(rt, addr, out) {
         Ok(listener) => {
+            print_memory(rt, terms.memory, seen);
             print_stop(rt, Some(path), seen);
-            run_serve_kept(rt, &listener, terms, data.kept, &mut out)
+            run_serve_kept(rt, &listener, terms, kept, out)
         }
         Err(status) => status,
     }

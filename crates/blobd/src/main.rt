@@ -4,24 +4,34 @@
 //!     blobd serve ADDR [COUNT]    listens; each worker takes COUNT connections, or all that come
 //!     blobd push ADDR NAME FILE [CHUNK]
 //!                                 pushes a file in chunks, connecting again after a fault
+//!     blobd status [--json] DIR   tells what a data directory holds
+//!     blobd compact [--dry-run] DIR
+//!     blobd compact [--dry-run] [--grace SECONDS] DIR KEEP
+//!                                 gives room back in a data directory, or tells how much that would be
 //!     blobd --help, blobd --version
 #![tactic(auto)]
 
 ghost use Rattle.std.specs.Prelude.{◌≡◌, ◌≤◌, IfOk};
 
+mod compacting;
 mod help;
 mod listening;
+mod memory;
 mod once;
 mod size;
+mod status;
 mod streams;
 #[cfg(test)]
 mod tests;
 mod words;
 
+use crate::compacting::run_compact;
 use crate::help::{HELP, VERSION};
 use crate::listening::{listen, listen_keeping};
+use crate::memory::usual_memory;
 use crate::once::run_once;
-use crate::size::is_slow;
+use crate::size::{is_slow, read_memory};
+use crate::status::print_status;
 use crate::streams::hold_standard_streams;
 use crate::words::{Command, USAGE, read_switch, read_words, read_workers};
 use blobd_data::Damaged;
@@ -75,6 +85,12 @@ const WORKERS: &str = "BLOBD_WORKERS";
 
 /// How many it has without that.
 const USUAL_WORKERS: usize = 2;
+
+/// The variable of the environment that says how many bytes a server may hold.
+const MEMORY: &str = "BLOBD_MEMORY";
+
+/// The variable of the environment that the C library reads.
+const TUNABLES: &str = "GLIBC_TUNABLES";
 
 /// The variable of the environment that says where a server keeps what it has.
 const DATA: &str = "BLOBD_DATA";
@@ -178,6 +194,29 @@ fn print_no_folder(rt: &HostRuntime) -> u8 {
     NO_COMMAND
 }
 
+/// Says what may stand in the variable, and gives the exit status.
+fn print_no_memory_size(rt: &HostRuntime) -> u8 {
+    let _ = eprintln!(rt; "blobd: {MEMORY} is a number of bytes, as 512M or 8G");
+    NO_COMMAND
+}
+
+/// How many bytes a server with so many workers may hold, as the environment says, or else as the machine does. An error
+/// is the exit status if the environment says anything else, or out of memory.
+fn memory_of(rt: &HostRuntime, workers: usize) -> Result<Option<u64>, u8> {
+    match env::var(rt, MEMORY) {
+        Ok(value) => match read_memory(value.as_str()) {
+            Some(memory) => Ok(Some(memory)),
+            None => Err(print_no_memory_size(rt)),
+        },
+        Err(VarError::NotPresent) => {
+            let told = env::var(rt, TUNABLES).unwrap_or_else(|_| String::new(rt.alloc()));
+            Ok(usual_memory(rt, (workers as u64).saturating_add(1), &told))
+        }
+        Err(VarError::NotUnicode) => Err(print_no_memory_size(rt)),
+        Err(VarError::OutOfMemory) => Err(print_no_memory(rt)),
+    }
+}
+
 /// What becomes of a damaged directory, as the environment says. An error is the exit status if it says what can't be
 /// read, or out of memory.
 fn damaged_of(rt: &HostRuntime) -> Result<Damaged, u8> {
@@ -228,8 +267,10 @@ fn terms_of(rt: &HostRuntime, count: Option<u64>) -> Result<Terms, u8>
 {
     let workers = workers_of(rt)?;
     let logged = is_on(rt, LOG)?;
+    let memory = memory_of(rt, workers)?;
     Ok(Terms {
         workers,
+        memory,
         count: count.unwrap_or(ENDLESS),
         demand: DEMAND,
         logged,
@@ -270,6 +311,8 @@ fn main(rt: HostRuntime) -> ExitCode {
     ExitCode::from(match read_words(&words) {
         Some(Command::Once) => serve_input(&rt),
         Some(Command::Serve { addr, count }) => serve(&rt, &rt, addr, count, seen),
+        Some(Command::Status { path, json }) => print_status(&rt, path, json),
+        Some(Command::Compact { path, dry, keep }) => run_compact(&rt, path, dry, keep),
         Some(Command::Help) => print_line(&mut io::writer(&rt), HELP, DONE),
         Some(Command::Version) => print_line(&mut io::writer(&rt), VERSION, DONE),
         Some(

@@ -1,7 +1,7 @@
 //! Sizes as they are written on the command line.
-ghost use Rattle.std.specs.Prelude.{◌≡◌, ℕ, MatchOption};
+ghost use Rattle.std.specs.Prelude.{◌≡◌, ◌^◌, ℕ, MatchOption};
 ghost use Rattle.std.specs.Str.Parse.{IsNumeral, digits_value};
-ghost use Rattle.blobd.specs.Size.{IsNumber, WritesSize, digits_of, is_slow, unit_of};
+ghost use Rattle.blobd.specs.Size.{IsNumber, WritesAtMost, WritesSize, digits_of, is_slow, unit_of};
 
 use std::str;
 
@@ -13,6 +13,9 @@ const GIB: u64 = 1_073_741_824;
 
 /// The largest chunk, in bytes.
 const LARGEST_CHUNK: u64 = 2_147_483_648;
+
+/// The largest memory, in bytes.
+const LARGEST_MEMORY: u64 = 1_152_921_504_606_846_976;
 
 /// The chunk of a push that names none, in bytes.
 pub const USUAL_CHUNK: u64 = 16_777_216;
@@ -51,17 +54,33 @@ fn read_number(digits: &[u8]) -> Option<u64>
     }
 }
 
-/// The size of a chunk that a word writes: decimal digits, and behind them `K`, `M` or `G` if it isn't in bytes; from 1
-/// to 2,147,483,648 bytes.
-pub fn read_size(word: &str) -> Option<u64>
-    ensures { MatchOption result ((size : ℕ) → ¬ (WritesSize word.now size)) (WritesSize word.now) }
+/// The size that a word writes: decimal digits, and behind them `K`, `M` or `G` if it isn't in bytes; from 1 to `most`
+/// bytes.
+fn read_at_most(word: &str, most: u64) -> Option<u64>
+    ensures { MatchOption result ((size : ℕ) → ¬ (WritesAtMost most word.now size))
+        (WritesAtMost most word.now) }
 {
     let (digits, unit) = split_unit(word.as_bytes());
     let number = read_number(digits)?;
     match number.checked_mul(unit) {
-        Some(size) if size >= 1 && size <= LARGEST_CHUNK => Some(size),
+        Some(size) if size >= 1 && size <= most => Some(size),
         _ => None,
     }
+}
+
+/// The size of a chunk that a word writes: as `64K`, `16M` or `1G`, or in bytes; from 1 to 2,147,483,648 bytes.
+pub fn read_size(word: &str) -> Option<u64>
+    ensures { MatchOption result ((size : ℕ) → ¬ (WritesSize word.now size)) (WritesSize word.now) }
+{
+    read_at_most(word, LARGEST_CHUNK)
+}
+
+/// The size of a memory that a word writes, in the same way; from 1 byte to 2^60.
+pub fn read_memory(word: &str) -> Option<u64>
+    ensures { MatchOption result ((size : ℕ) → ¬ (WritesAtMost (2 ^ 60) word.now size))
+        (WritesAtMost (2 ^ 60) word.now) }
+{
+    read_at_most(word, LARGEST_MEMORY)
 }
 
 /// Whether a file of so many bytes goes up slowly in such chunks.

@@ -42,6 +42,7 @@ fn terms(window: u64, least: u64) -> Terms
     ensures { 0 < result.workers }
 {
     Terms {
+        memory: None,
         workers: 2,
         count: 1,
         demand: Demand { window, least },

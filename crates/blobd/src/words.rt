@@ -1,7 +1,7 @@
 //! The words of the command line.
-ghost use Rattle.std.specs.Prelude.{ℕ, Bool, MatchOption};
+ghost use Rattle.std.specs.Prelude.{◌≡◌, ℕ, Bool, MatchOption, Some};
 ghost use Rattle.std.specs.Net.Grammar.{IsSocketText};
-ghost use Rattle.blobd.specs.Words.{IsCount, IsSwitch, Makes};
+ghost use Rattle.blobd.specs.Words.{IsCompaction, IsCount, IsGrace, IsSwitch, IsWithin, Makes};
 
 use crate::size::{USUAL_CHUNK, read_size};
 use std::net::SocketAddr;
@@ -25,6 +25,11 @@ pub enum Command<'w> {
         addr: SocketAddr,
         count: Option<u64>,
     },
+    /// Tells what the data directory `path` holds, in words or as JSON.
+    Status {
+        path: &'w str,
+        json: bool,
+    },
     /// Prints what the commands are.
     Help,
     /// Prints the version.
@@ -36,21 +41,51 @@ pub enum Command<'w> {
         file: &'w str,
         chunk: u64,
     },
+    /// Writes the journal of the folder at `path` anew, or says how much would go. With a list of what is referred to, all
+    /// else goes too.
+    Compact {
+        path: &'w str,
+        dry: bool,
+        keep: Option<Keep<'w>>,
+    },
 }
 
-/// The number from 1 to `most` that one or more decimal digits write; leading zeros are allowed.
-fn read_count(word: &str, most: u64) -> Option<u64>
-    ensures { MatchOption result ((number : ℕ) → ¬ (IsCount most word.now number))
-        (IsCount most word.now) }
+/// What stays in a folder that is compacted.
+#[derive(Clone, Copy, Debug, PartialEq, Eq)]
+pub struct Keep<'w> {
+    /// The file with the list of what is referred to, or `-` for standard input.
+    pub list: &'w str,
+    /// What was stored so many seconds ago, or later, stays too.
+    pub grace: u64,
+}
+
+/// What was stored within a day stays, unless the words say another time: a push stores blobs before their manifest.
+const USUAL_GRACE: u64 = 86_400;
+
+/// The longest time that may be said, in seconds: some thirty years.
+const MOST_GRACE: u64 = 1_000_000_000;
+
+/// The number from `least` to `most` that one or more decimal digits write; leading zeros are allowed.
+fn read_within(word: &str, least: u64, most: u64) -> Option<u64>
+    ensures { MatchOption result ((number : ℕ) → ¬ (IsWithin least most word.now number))
+        (IsWithin least most word.now) }
 {
     // A sign is no digit, though `parse` takes a leading plus.
     if matches!(word.as_bytes(), [b'+', ..]) {
         return None;
     }
     match word.parse::<u64>() {
-        Ok(number) if number >= 1 && number <= most => Some(number),
+        Ok(number) if number >= least && number <= most => Some(number),
         _ => None,
     }
+}
+
+/// The number from 1 to `most` that a word writes.
+fn read_count(word: &str, most: u64) -> Option<u64>
+    ensures { MatchOption result ((number : ℕ) → ¬ (IsCount most word.now number))
+        (IsCount most word.now) }
+{
+    read_within(word, 1, most)
 }
 
 /// How many workers a server has, if the environment says so: from 1 to 256.
@@ -69,8 +104,77 @@ fn read_addr(word: &str) -> Option<SocketAddr>
     word.parse().ok()
 }
 
+/// The number of seconds, of which there may be none, that a word writes.
+fn read_grace(word: &str) -> Option<u64>
+    ensures { MatchOption result ((number : ℕ) → ¬ (IsGrace word.now number)) (IsGrace word.now) }
+{
+    read_within(word, 0, MOST_GRACE)
+}
+
+/// What stays by a list, and by the time that a word writes.
+fn read_keep<'w>(list: &'w str, seconds: &str) -> Option<Keep<'w>>
+    ensures { MatchOption result ((number : ℕ) → ¬ (IsGrace seconds.now number))
+        (λ keep. IsGrace seconds.now keep.grace × (keep.list ≡ list.exit)) }
+{
+    let grace = read_grace(seconds)?;
+    Some(Keep { list, grace })
+}
+
+/// What stays by this list, and what was stored within a day.
+fn usual_keep<'w>(list: &'w str) -> Option<Keep<'w>>
+    ensures { result ≡ Some (record { list = list.exit; grace = 86400 }) }
+{
+    Some(Keep {
+        list,
+        grace: USUAL_GRACE,
+    })
+}
+
+/// The compaction that words make, of which the first says that they make one.
+fn read_compact<'w>(words: &[&'w str]) -> Option<Command<'w>>
+    ensures { MatchOption result ((command : Command) → ¬ (IsCompaction words.now command))
+        (IsCompaction words.now) }
+{
+    match words {
+        [_, "--dry-run"] | [_, "--grace"] => None,
+        [_, "--dry-run", "--grace"] | [_, "--grace", _] => None,
+        [_, "--dry-run", "--grace", _] => None,
+        [_, path] => Some(Command::Compact {
+            path,
+            dry: false,
+            keep: None,
+        }),
+        [_, "--dry-run", path] => Some(Command::Compact {
+            path,
+            dry: true,
+            keep: None,
+        }),
+        [_, "--dry-run", path, list] => Some(Command::Compact {
+            path,
+            dry: true,
+            keep: usual_keep(list),
+        }),
+        [_, path, list] => Some(Command::Compact {
+            path,
+            dry: false,
+            keep: usual_keep(list),
+        }),
+        [_, "--grace", seconds, path, list] => Some(Command::Compact {
+            path,
+            dry: false,
+            keep: Some(read_keep(list, seconds)?),
+        }),
+        [_, "--dry-run", "--grace", seconds, path, list] => Some(Command::Compact {
+            path,
+            dry: true,
+            keep: Some(read_keep(list, seconds)?),
+        }),
+        _ => None,
+    }
+}
+
 /// The command that the words behind the program's name make, or `None` if they make none. Nothing is opened.
-#[tactic(auto, using(crate::proofs::WordFacts::no_size))]
+#[tactic(auto, using(crate::proofs::WordFacts::no_size, crate::proofs::WordFacts::compacts))]
 pub fn read_words<'w>(words: &[&'w str]) -> Option<Command<'w>>
     ensures { MatchOption result ((command : Command) → ¬ (Makes words.now command))
         (Makes words.now) }
@@ -97,6 +201,10 @@ pub fn read_words<'w>(words: &[&'w str]) -> Option<Command<'w>>
             file,
             chunk: read_size(chunk)?,
         }),
+        ["status", "--json"] => None,
+        ["status", path] => Some(Command::Status { path, json: false }),
+        ["status", "--json", path] => Some(Command::Status { path, json: true }),
+        ["compact", ..] => read_compact(words),
         ["--help"] => Some(Command::Help),
         ["--version"] => Some(Command::Version),
         _ => None,
@@ -170,9 +278,44 @@ mod tests {
                 chunk: 16_777_216
             })
         );
+        let told = read_words(&["status", "d"]);
+        let json = read_words(&["status", "--json", "d"]);
+        let path = "d";
+        assert_eq!(rt; told, Some(Command::Status { path, json: false }));
+        assert_eq!(rt; json, Some(Command::Status { path, json: true }));
+        let path = "--help";
         assert_eq!(rt; read_words(&["--help"]), Some(Command::Help));
         assert_eq!(rt; read_words(&["--version"]), Some(Command::Version));
         Ok(())
+    }
+
+    #[test]
+    fn compactions(rt: HostRuntime) {
+        let (path, list) = ("--help", "-");
+        let day = Some(Keep {
+            list,
+            grace: 86_400,
+        });
+        let none = Some(Keep { list, grace: 0 });
+        for (words, dry, keep) in [
+            (&["compact", path][..], false, None),
+            (&["compact", "--dry-run", path][..], true, None),
+            (&["compact", path, list][..], false, day),
+            (&["compact", "--dry-run", path, list][..], true, day),
+            (&["compact", "--grace", "00", path, list][..], false, none),
+            (
+                &["compact", "--dry-run", "--grace", "0", path, list][..],
+                true,
+                none,
+            ),
+        ] {
+            let wanted = Some(Command::Compact { path, dry, keep });
+            assert_eq!(rt; read_words(words), wanted, "{words:?}");
+        }
+        for grace in ["", "+1", "-1", "1s", "1000000001"] {
+            let words = ["compact", "--grace", grace, path, list];
+            assert_eq!(rt; read_words(&words), None, "{grace}");
+        }
     }
 
     #[test]
@@ -190,6 +333,16 @@ mod tests {
         assert_eq!(rt; read_words(&[]), None);
         assert_eq!(rt; read_words(&["Once"]), None);
         assert_eq!(rt; read_words(&["once", "once"]), None);
+        assert_eq!(rt; read_words(&["compact"]), None);
+        assert_eq!(rt; read_words(&["compact", "--dry-run"]), None);
+        assert_eq!(rt; read_words(&["compact", "a", "b", "c"]), None);
+        assert_eq!(rt; read_words(&["compact", "--grace", "1", "a"]), None);
+        assert_eq!(rt; read_words(&["compact", "--grace", "1"]), None);
+        assert_eq!(rt; read_words(&["compact", "--dry-run", "--grace", "1"]), None);
+        assert_eq!(rt;
+            read_words(&["compact", "--grace", "1", "--dry-run", "a", "b"]),
+            None
+        );
         for count in ["0", "", "1000001", "+1", "1x", "18446744073709551617"] {
             assert_eq!(rt;
                 read_words(&["serve", "127.0.0.1:0", count]),
@@ -202,6 +355,9 @@ mod tests {
             assert_eq!(rt; read_words(&["serve", addr]), None, "{addr}");
         }
         assert_eq!(rt; read_words(&["--help", "push"]), None);
+        assert_eq!(rt; read_words(&["status"]), None);
+        assert_eq!(rt; read_words(&["status", "--json"]), None);
+        assert_eq!(rt; read_words(&["status", "d", "--json"]), None);
         for chunk in ["0", "2147483649", "-1", "3G", "1k"] {
             assert_eq!(rt;
                 read_words(&["push", "127.0.0.1:0", "a", "f", chunk]),

@@ -2,7 +2,8 @@
 use crate::texts::StoreText;
 use journal_file::OpenFault;
 use std::fmt;
-use upload_store::StoreFault;
+use upload_journal::ReplayFault;
+use upload_store::{RefusedRecord, StoreFault};
 
 /// Why a data directory can't be used.
 #[derive(Debug, Drop)]
@@ -15,8 +16,23 @@ pub enum DataFault {
     Bodies(OpenFault),
     /// It has a journal, and no folder of bodies.
     NoBodies,
+    /// It has bodies, and no journal that says what they are.
+    NoJournal,
     /// What it has can't be read, or is not what a server with these limits has written.
     Store(StoreFault),
+}
+
+impl DataFault {
+    /// Whether there was no memory for a record, or no room within what the service may hold.
+    pub fn lacks_room(&self) -> bool {
+        matches!(
+            self,
+            DataFault::Store(StoreFault::Record(RefusedRecord {
+                fault: ReplayFault::NoMemory,
+                ..
+            }))
+        )
+    }
 }
 
 impl From<StoreFault> for DataFault {
@@ -33,6 +49,7 @@ impl fmt::Display for DataFault {
             DataFault::Journal(fault) => write!(f, "journal: {fault}"),
             DataFault::Bodies(fault) => write!(f, "bodies: {fault}"),
             DataFault::NoBodies => f.write_str("it has a journal, but its bodies are missing"),
+            DataFault::NoJournal => f.write_str("it has bodies, but its journal is missing"),
             DataFault::Store(fault) => write!(f, "{}", StoreText(fault)),
         }
     }

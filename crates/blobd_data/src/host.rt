@@ -12,19 +12,23 @@ pub struct Teller<'a, R> {
     pub path: &'a str,
 }
 
+/// The time of day, in seconds since 1970, or 0 if it can't be read.
+pub fn seconds_now<R: Clock>(rt: &R) -> u64 {
+    match SystemTime::now(rt) {
+        Ok(now) => match now.duration_since(UNIX_EPOCH) {
+            Ok(since) => since.as_secs(),
+            Err(_) => 0,
+        },
+        Err(_) => 0,
+    }
+}
+
 impl<'a, R: Clock + Eprint> KeepingHost for Teller<'a, R> {
     // Nothing is promised of standard error.
     ghost hears = { λ old fault new. Unit {0} };
 
-    /// The time of day, in seconds since 1970, or 0 if it can't be read.
     fn time(&mut self) -> u64 {
-        match SystemTime::now(self.rt) {
-            Ok(now) => match now.duration_since(UNIX_EPOCH) {
-                Ok(since) => since.as_secs(),
-                Err(_) => 0,
-            },
-            Err(_) => 0,
-        }
+        seconds_now(self.rt)
     }
 
     fn failed(&mut self, fault: &KeepFault) {

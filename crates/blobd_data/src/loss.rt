@@ -1,5 +1,6 @@
 //! What is told of the records that are lost.
 use crate::texts::RecordText;
+use blobd_shared::Quantity;
 use std::fmt;
 use std::io::Eprint;
 use upload_journal::{Entry, KeptAsk, KeptExchange, Told};
@@ -86,6 +87,7 @@ pub fn tell_losses<R: Eprint>(rt: &R, path: &str, losses: &Losses) {
     }
     let more = losses.count.saturating_sub(losses.listed.len() as u64);
     if more > 0 {
-        let _ = eprintln!(rt; "blobd: damage in {path}: {more} more records are lost");
+        let more = Quantity(more, "more record");
+        let _ = eprintln!(rt; "blobd: damage in {path}: {more} lost");
     }
 }

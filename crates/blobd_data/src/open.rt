@@ -9,19 +9,28 @@ ghost use Rattle.blobd_data.specs.Opened.{HasBegun};
 
 use crate::fault::DataFault;
 use crate::line::line_of;
+use crate::progress::{Progress, Watch};
 use bodies::{FolderShelf, Holds, Shelf};
 use journal::Journal;
 use journal_file::{FileFrom, Folder, OpenFault, Start};
 use sqlite_disk::Disk;
 use std::fs;
-use std::io::ErrorKind;
+use std::io::{Eprint, ErrorKind};
+use std::rt::Clock;
+use std::thread::Threads;
+use upload_bytes::Room;
 use upload_intake::KeptService;
-use upload_keeping::{KeepingHost, StoreKeeping, open, salvage};
+use upload_keeping::{KeepingHost, StoreKeeping, open_ahead, salvage_ahead};
+use upload_records::sweep;
 use upload_service::Limits;
-use upload_store::{Losses, Store};
+use upload_store::{Losses, Store, StoreFault};
 
 /// The journal of a data directory, within it.
-const JOURNAL: &str = "journal";
+pub(crate) const JOURNAL: &str = "journal";
+
+/// What it is called until it begins with all of its first line, so that a crash leaves no part of one, and what a new
+/// one is called until it takes the place of one that is there.
+pub(crate) const FRESH: &str = "journal.new";
 
 /// The folder of the bodies, within it.
 const BODIES: &str = "bodies";
@@ -61,28 +70,60 @@ pub struct Data<D: Disk, S: Shelf, T> {
     pub kept: KeptService<StoreKeeping<D, S, T>>,
     /// The records that are lost.
     pub losses: Losses,
+    /// How many batches of records stand behind the end of the journal (`Begun::behind`).
+    pub behind: Option<usize>,
+}
+
+/// Whether nothing of this name is in the folder.
+fn lacks(rt: &HostRuntime, folder: &Folder, name: &str) -> Result<bool, OpenFault> {
+    match fs::symlink_metadata(rt, folder.path_of(rt, name)?.as_str()) {
+        Ok(_) => Ok(false),
+        Err(error) if error.kind() == ErrorKind::NotFound => Ok(true),
+        Err(error) => Err(OpenFault::from(error)),
+    }
 }
 
 /// Whether the folder of bodies isn't there.
 fn lacks_bodies(rt: &HostRuntime, folder: &Folder) -> Result<bool, DataFault> {
-    let path = match folder.path_of(rt, BODIES) {
-        Ok(path) => path,
-        Err(error) => return Err(DataFault::Bodies(OpenFault::from(error))),
-    };
-    match fs::symlink_metadata(rt, path.as_str()) {
-        Ok(_) => Ok(false),
-        Err(error) if error.kind() == ErrorKind::NotFound => Ok(true),
-        Err(error) => Err(DataFault::Bodies(OpenFault::from(error))),
+    match lacks(rt, folder, BODIES) {
+        Ok(lacks) => Ok(lacks),
+        Err(fault) => Err(DataFault::Bodies(fault)),
     }
 }
 
+/// What the journal of a folder is called as it is opened: one that isn't there is begun afresh. What was left of a new
+/// one that didn't take its place goes.
+fn name_of_journal(rt: &HostRuntime, folder: &Folder) -> Result<&'static str, OpenFault> {
+    folder.remove(rt, FRESH)?;
+    if lacks(rt, folder, JOURNAL)? {
+        return Ok(FRESH);
+    }
+    Ok(JOURNAL)
+}
+
+/// Has a journal that was begun afresh take its name.
+fn settle_name(rt: &HostRuntime, folder: &Folder) -> Result<(), DataFault> {
+    match take_name(rt, folder) {
+        Ok(()) => Ok(()),
+        Err(fault) => Err(DataFault::Journal(fault)),
+    }
+}
+
+fn take_name(rt: &HostRuntime, folder: &Folder) -> Result<(), OpenFault> {
+    if lacks(rt, folder, JOURNAL)? {
+        folder.rename(rt, FRESH, JOURNAL)?;
+    }
+    Ok(())
+}
+
 /// The journal of a folder. One that isn't there is made.
-fn open_journal<J: Start>(
+pub(crate) fn open_journal<J: Start>(
     rt: &HostRuntime,
     folder: &Folder,
+    name: &str,
     start: J,
 ) -> Result<FileFrom<J>, DataFault> {
-    let mut file = match folder.open_file(rt, JOURNAL, start) {
+    let mut file = match folder.open_file(rt, name, start) {
         Ok(file) => file,
         Err(fault) => return Err(DataFault::Journal(fault)),
     };
@@ -97,43 +138,131 @@ fn open_journal<J: Start>(
     Ok(file)
 }
 
-/// A store in a folder, which reads nothing yet.
-fn store_in<J: Start, S: Start, H: Holds>(
+/// The bodies of a folder. Their own folders are made if they aren't there.
+pub(crate) fn open_shelf<S: Start, H: Holds>(
+    rt: &HostRuntime,
+    folder: &Folder,
+) -> Result<FolderShelf<S, H>, DataFault>
+    requires { S.Start.db ≡ [] }
+{
+    match FolderShelf::open(rt, folder, BODIES) {
+        Ok(shelf) => Ok(shelf),
+        Err(fault) => Err(DataFault::Bodies(fault)),
+    }
+}
+
+/// Refuses bodies that have no journal: nothing says what they are, and the next start would remove them as what no record
+/// names.
+fn refuse_bodies<S: Shelf>(rt: &HostRuntime, shelf: &mut S) -> Result<(), DataFault> {
+    match shelf.numbers(rt.alloc()) {
+        Ok(numbers) if numbers.is_empty() => Ok(()),
+        Ok(_) => Err(DataFault::NoJournal),
+        Err(fault) => Err(DataFault::Store(StoreFault::Body(fault))),
+    }
+}
+
+/// A store in a folder, which reads nothing yet, and the progress of a start from it. Files that no record names are
+/// removed.
+fn store_in<R, J: Start, S: Start, H: Holds>(
+    watch: Watch<'_, R>,
     rt: &HostRuntime,
     folder: &Folder,
     limits: Limits,
+    room: Option<Room>,
     start: J,
-) -> Result<FolderStore<J, S, H>, DataFault>
+) -> Result<(FolderStore<J, S, H>, Progress), DataFault>
+where
+    R: Threads + Clock + Eprint + Copy + Send + 'static,
     requires lawful { AreLawful limits }
     requires empty { S.Start.db ≡ [] }
-    ensures { IfOk result (λ store. limits_of store ≡ limits) }
+    ensures { IfOk result (λ made. limits_of made.0 ≡ limits) }
 {
-    let file = open_journal(rt, folder, start)?;
-    let shelf = match FolderShelf::open(rt, folder, BODIES) {
-        Ok(shelf) => shelf,
-        Err(fault) => return Err(DataFault::Bodies(fault)),
+    let name = match name_of_journal(rt, folder) {
+        Ok(name) => name,
+        Err(fault) => return Err(DataFault::Journal(fault)),
     };
-    let journal = Journal::new(file, line_of(limits));
-    Ok(Store::new(rt.alloc(), journal, shelf, limits))
+    if name == FRESH {
+        refuse_bodies(rt, &mut open_shelf::<S, H>(rt, folder)?)?;
+    }
+    let file = open_journal(rt, folder, name, start)?;
+    let mut shelf = open_shelf(rt, folder)?;
+    let mut journal = Journal::new(file, line_of(limits));
+    // What can't be removed now stays for the next start.
+    let named = sweep(rt.alloc(), &mut journal, &mut shelf).map_or(0, |swept| swept.named);
+    let progress = Progress::begin(watch, rt.alloc(), named, shelf.counter());
+    let store = Store::new(rt.alloc(), journal, shelf, limits);
+    let store = match room {
+        Some(room) => store.within(room),
+        None => store,
+    };
+    Ok((store, progress))
+}
+
+/// Runs what the journal of a store has, for a service with these limits, and begins to keep in it.
+fn open_store<R: Threads, J: Start, S: Start, H: Holds, T: KeepingHost + Drop>(
+    threads: &R,
+    rt: &HostRuntime,
+    lock: Folder,
+    store: FolderStore<J, S, H>,
+    limits: Limits,
+    host: T,
+    damaged: Damaged,
+) -> Result<FolderData<J, S, H, T>, DataFault>
+    requires same { limits_of store ≡ limits }
+    ensures leads { IfOk result (λ opened. Leads (start_of opened.kept.keeping)
+        (kept_of opened.kept.keeping) opened.kept.since opened.kept.service) }
+    ensures waiting { IfOk result (λ opened. waiting_of opened.kept.keeping ≡ []) }
+    ensures begun { IfOk result (λ opened. opened.kept.since ≤ last_of opened.kept.keeping) }
+    ensures recovered { IfOk result (λ opened. HasBegun limits opened.kept.keeping
+        opened.kept.service opened.kept.since opened.losses) }
+    ensures strict { damaged ≡ Refused → IfOk result (λ opened. opened.losses.count ≡ 0) }
+{
+    match damaged {
+        Damaged::Refused => match open_ahead(threads, rt.alloc(), store, host) {
+            Ok(begun) => Ok(Data {
+                lock,
+                kept: begun.kept,
+                losses: begun.losses,
+                behind: begun.behind,
+            }),
+            Err(fault) => Err(DataFault::Store(fault)),
+        },
+        Damaged::Opened => match salvage_ahead(threads, rt.alloc(), store, host) {
+            Ok(salvaged) => Ok(Data {
+                lock,
+                kept: salvaged.kept,
+                losses: salvaged.losses,
+                behind: salvaged.behind,
+            }),
+            Err(fault) => Err(DataFault::Store(fault)),
+        },
+    }
 }
 
 /// Opens the data directory at `path`, for a service with these limits. One that isn't there is made, with mode 0700.
 /// No other server can have it from then on. What its journal has is run again, so that the service is as it was, but for
-/// what is lost of a directory that is damaged, if `damaged` has it opened all the same. Which values stand for `J`, `S`
-/// and `H` says nothing: what holds of all of them holds of what is there.
+/// what is lost of a directory that is damaged, if `damaged` has it opened all the same. The service holds no more than
+/// `room` grants, if there is one. The bodies that the journal names are read, and hashed, in threads, which have ended by
+/// then. Which values stand for `J`, `S` and `H` says nothing: what holds of all of them holds of what is there.
 ///
 /// `Folder`, `Journal` and `Bodies` say what can't be opened or made. `NoBodies`: there is a journal, and no folder of
-/// bodies. `Store`: the journal has another format, another version or other limits, it can't be read, there is no memory
-/// for a record, or one can't be run again and `damaged` has the directory refused for it. Behind an error no body and no
-/// record of the directory is changed, and no more than the end of the journal is written, which a crash may have left.
-pub fn open_data<J: Start, S: Start, H: Holds, T: KeepingHost + Drop>(
+/// bodies. `NoJournal`: there are bodies, and no journal. `Store`: the journal has another format, another version or
+/// other limits, it can't be read, there is no memory for a record, or one can't be run again and `damaged` has the
+/// directory refused for it. Behind an error no record of the directory is changed, and no body that one names, and no
+/// more than the end of the journal is written, which a crash may have left. Bodies that no record names are removed
+/// first, unless a record or the journal's end is damaged.
+pub fn open_data<R, J: Start, S: Start, H: Holds, T: KeepingHost + Drop>(
+    watch: Watch<'_, R>,
     rt: &HostRuntime,
     path: &str,
     limits: Limits,
+    room: Option<Room>,
     start: J,
     host: T,
     damaged: Damaged,
 ) -> Result<FolderData<J, S, H, T>, DataFault>
+where
+    R: Threads + Clock + Eprint + Copy + Send + 'static,
     requires lawful { AreLawful limits }
     requires empty { S.Start.db ≡ [] }
     ensures leads { IfOk result (λ opened. Leads (start_of opened.kept.keeping)
@@ -149,23 +278,10 @@ pub fn open_data<J: Start, S: Start, H: Holds, T: KeepingHost + Drop>(
         Ok(lock) => lock,
         Err(fault) => return Err(DataFault::Folder(fault)),
     };
-    let store = store_in(rt, &lock, limits, start)?;
-    match damaged {
-        Damaged::Refused => match open(rt.alloc(), store, host) {
-            Ok(kept) => Ok(Data {
-                lock,
-                kept,
-                losses: Losses::none(rt.alloc()),
-            }),
-            Err(fault) => Err(DataFault::Store(fault)),
-        },
-        Damaged::Opened => match salvage(rt.alloc(), store, host) {
-            Ok(salvaged) => Ok(Data {
-                lock,
-                kept: salvaged.kept,
-                losses: salvaged.losses,
-            }),
-            Err(fault) => Err(DataFault::Store(fault)),
-        },
-    }
+    let (store, progress) = store_in(watch, rt, &lock, limits, room, start)?;
+    let opened = open_store(watch.rt, rt, lock, store, limits, host, damaged);
+    progress.end(watch.rt);
+    let opened = opened?;
+    settle_name(rt, &opened.lock)?;
+    Ok(opened)
 }

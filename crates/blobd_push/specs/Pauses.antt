@@ -12,9 +12,9 @@ abbrev pub pause_after : Option Heard → ℕ → ℕ
 pause_after None before = longer before
 pause_after (Some h) before = if h.status == 503 then longer before else 0
 
--- If nobody listens: how long to wait before the next dial of a request, in milliseconds, once this long has passed since
--- the first. It is as long as has passed, from a tenth of a second to a second, and never beyond the minute; then no
--- other dial follows.
+-- If nobody listens: how long to wait before the next dial of a request, in milliseconds, once this long has passed
+-- since the first. It is as long as has passed, from a tenth of a second to a second, and never beyond the minute; then
+-- no other dial follows.
 abbrev pub dial_pause : ℕ → Option ℕ
 dial_pause passed =
     if nat_lt passed 60000 then Some (min (60000 - passed) (max 100 (min 1000 passed))) else None

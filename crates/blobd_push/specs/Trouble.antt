@@ -90,7 +90,8 @@ words_of_advice IsItHttps = codes "is this https? A push speaks plain HTTP"
 words_of_advice NoLogin =
     codes
     "it wants a login, and a push has none: push to the reverse proxy's local address, or through deploy/adapter.cfg"
-words_of_advice PushAgain = codes "it lost the upload: push again, or through deploy/adapter.cfg if it is docker-registry"
+words_of_advice PushAgain =
+    codes "it lost the upload: push again, or through deploy/adapter.cfg if it is docker-registry"
 words_of_advice IsItARegistry = codes "it takes no uploads into this repository: is it a registry?"
 words_of_advice Adapter =
     codes "it is another kind of server, as by the form of its Location: push through deploy/adapter.cfg"

@@ -1,6 +1,7 @@
 //! A bar: one line of a terminal, drawn again and again, that says how far a push has come.
-ghost use Rattle.std.specs.Prelude.{◌≡◌, ◌≤◌, ◌^◌, false, None};
+ghost use Rattle.std.specs.Prelude.{◌≡◌, false, None};
 
+use blobd_shared::ByteCount;
 use std::fmt;
 use std::io::Eprint;
 use std::rt::Clock;
@@ -8,44 +9,6 @@ use std::time::{Duration, Instant};
 
 /// How long a line stands at least, in milliseconds.
 const STANDS_MILLIS: u64 = 100;
-
-const KIB: u64 = 1_024;
-
-const MIB: u64 = 1_048_576;
-
-const GIB: u64 = 1_073_741_824;
-
-/// The unit that a count of bytes is told in, and its name.
-fn unit_of(bytes: u64) -> (u64, &'static str)
-    ensures { (1 ≤ result.0) × (result.0 ≤ 2 ^ 30) }
-{
-    if bytes < KIB {
-        (1, "B")
-    } else if bytes < MIB {
-        (KIB, "KiB")
-    } else if bytes < GIB {
-        (MIB, "MiB")
-    } else {
-        (GIB, "GiB")
-    }
-}
-
-/// A count of bytes as it is told, with a tenth if it isn't told in bytes.
-#[derive(Clone, Copy)]
-struct Told(u64);
-
-impl fmt::Display for Told {
-    fn fmt<W: fmt::Write>(&self, f: &mut fmt::Formatter<W>) -> fmt::Result {
-        let bytes = self.0;
-        let (unit, name) = unit_of(bytes);
-        let whole = bytes / unit;
-        if unit == 1 {
-            return write!(f, "{whole} {name}");
-        }
-        let tenth = bytes % unit * 10 / unit;
-        write!(f, "{whole}.{tenth} {name}")
-    }
-}
 
 /// How far something has come, in so many milliseconds.
 #[derive(Clone, Copy)]
@@ -69,12 +32,12 @@ impl Progress {
 impl fmt::Display for Progress {
     fn fmt<W: fmt::Write>(&self, f: &mut fmt::Formatter<W>) -> fmt::Result {
         let word = self.word;
-        let done = Told(self.done);
-        let size = Told(self.size);
+        let done = ByteCount(self.done);
+        let size = ByteCount(self.size);
         let speed = self.speed();
         match self.size.saturating_sub(self.done).checked_div(speed) {
             Some(left) => {
-                let speed = Told(speed);
+                let speed = ByteCount(speed);
                 write!(f, "{word}  {done} of {size}  {speed}/s  {left} s left")
             }
             None => write!(f, "{word}  {done} of {size}"),

@@ -1,6 +1,6 @@
 //! The connections of `blobd push`: sockets to one address. No contract can say what a socket gives and takes: that
 //! what is noted here is what the system's calls moved is to be read in this file, and in no other of this crate.
-ghost use Rattle.std.specs.Prelude.{◌≡◌, ◌≤◌, ◌^◌, [], length, IfOk, false, IsErr};
+ghost use Rattle.std.specs.Prelude.{◌≡◌, ◌≤◌, ◌^◌, [], length, IfOk, false, true, IsErr};
 ghost use Rattle.std.specs.Duration.{as_nanos};
 ghost use Rattle.blobd_push.specs.Pushed.{IsPushed};
 
@@ -12,7 +12,7 @@ use blobd_shared::{ConnHistory, FAULT, Inlet, Outlet, print_line};
 use http_wire::Transcript;
 use std::alloc::AllocGlobal;
 use std::io::{Eprint, ErrorKind, Read, Write};
-use std::net::{Net, SocketAddr, TcpStream};
+use std::net::{Net, Shutdown, SocketAddr, TcpStream};
 use std::rt::Clock;
 use std::time::{Duration, Instant};
 use std::{io, thread};
@@ -25,6 +25,12 @@ const SILENCE_SECONDS: u64 = 30;
 
 /// After how much of such a wait a terminal is told of it, in seconds.
 const TOLD_SECONDS: u64 = 5;
+
+/// How often a write that waits looks for a reply that has come already, in seconds.
+const LOOK_SECONDS: u64 = 1;
+
+/// What Linux calls the error of a write to a peer that takes no more.
+const EPIPE: i32 = 32;
 
 /// How a push waits for its server. A wait that a terminal is told of has two parts, with a line between them.
 #[derive(Clone, Copy)]
@@ -68,6 +74,8 @@ pub(crate) struct Socket<'r, R> {
     rt: &'r R,
     stream: TcpStream,
     waits: Waits,
+    /// For how many seconds the peer has taken nothing; 0 if the last write didn't wait.
+    untaken: u64,
     /// For contracts alone.
     moved: Transcript,
 }
@@ -81,9 +89,77 @@ impl<'r, R> Socket<'r, R> {
             rt,
             stream,
             waits,
+            untaken: 0,
             moved: Transcript::none(),
         }
     }
+
+    /// Whether something has come that isn't read yet, or the end.
+    fn has_come(&self) -> bool {
+        if self.stream.set_nonblocking(true).is_err() {
+            return false;
+        }
+        let mut room = [0u8; 1];
+        let looked = self.stream.peek(&mut room);
+        let _ = self.stream.set_nonblocking(false);
+        !is_would_block(&looked)
+    }
+}
+
+impl<'r, R: Eprint> Socket<'r, R> {
+    /// Notes what came of a write of so many bytes. Says whether it is made again: it waited, and moved nothing.
+    fn waited(&mut self, wrote: &io::Result<usize>, asked: usize) -> bool
+        ensures moved { self.new.moved ≡ self.old.moved }
+        ensures again { result ≡ true → IsErr wrote.now }
+    {
+        match wrote {
+            Ok(count) => {
+                // A write that waits for longer than it may gives what it has moved.
+                self.untaken = if *count < asked { LOOK_SECONDS } else { 0 };
+                false
+            }
+            Err(_) if is_would_block(wrote) => {
+                self.untaken = self.untaken.saturating_add(LOOK_SECONDS);
+                if self.waits.seen && self.untaken == TOLD_SECONDS {
+                    self.waits.tell(self.rt);
+                }
+                let goes_on = self.untaken < SILENCE_SECONDS;
+                if !goes_on {
+                    // No reply is waited for either: a read gives what has come, and then the end.
+                    let _ = self.stream.shutdown(Shutdown::Read);
+                }
+                goes_on
+            }
+            Err(_) => false,
+        }
+    }
+
+    /// Writes, and again while the peer takes nothing, for half a minute at most. A server may reply before it has
+    /// taken all, and read no more: what is left is never taken then. So each second that it waits a write looks
+    /// whether something has come, and fails if so, as one to a peer that has closed: the reply is read behind it.
+    /// Behind half a minute nothing more is waited for.
+    fn write_in_time(&mut self, buf: &[u8]) -> io::Result<usize>
+        ensures bound { IfOk result (λ n. n ≤ length buf.now) }
+        ensures moved { self.new.moved ≡ self.old.moved }
+    {
+        for _ in 0..u64::MAX {
+            if self.untaken > 0 && self.has_come() {
+                return Err(io::Error::from_raw_os_error(EPIPE));
+            }
+            let wrote = self.stream.write(buf);
+            if !self.waited(&wrote, buf.len()) {
+                return wrote;
+            }
+        }
+        Err(io::Error::from(ErrorKind::TimedOut))
+    }
+}
+
+/// Whether a call ended because it would have waited for longer than it may.
+fn is_would_block(ended: &io::Result<usize>) -> bool {
+    ended
+        .as_ref()
+        .is_err_and(|error| error.kind() == ErrorKind::WouldBlock)
 }
 
 impl<'r, R: Eprint> Inlet for Socket<'r, R> {
@@ -107,14 +183,7 @@ impl<'r, R: Eprint> Outlet for Socket<'r, R> {
     ghost taken = { λ s. s.moved.bytes };
 
     fn write(&mut self, buf: &[u8]) -> io::Result<usize> {
-        let mut moved = self.stream.write(buf);
-        if self.waits.tells(self.rt, &moved) {
-            let (first, rest) = self.waits.parts(SILENCE_SECONDS);
-            let _ = self.stream.set_write_timeout(Some(rest));
-            moved = self.stream.write(buf);
-            let _ = self.stream.set_write_timeout(Some(first));
-        }
-        let count = moved?;
+        let count = self.write_in_time(buf)?;
         self.moved = self.moved.and(&buf[..count]);
         Ok(count)
     }
@@ -124,12 +193,13 @@ impl<'r, R: Eprint> Outlet for Socket<'r, R> {
     }
 }
 
-/// Ends the reads and writes of a connection that move no byte for as long as `silence`: they fail. It isn't zero.
+/// Ends the reads of a connection that move no byte for as long as `silence`, and its writes behind each look: they
+/// fail. It isn't zero.
 fn end_silence(stream: &TcpStream, silence: Duration) -> io::Result<()>
     ensures { as_nanos silence ≡ 0 → IsErr result }
 {
     stream.set_read_timeout(Some(silence))?;
-    stream.set_write_timeout(Some(silence))
+    stream.set_write_timeout(Some(Duration::from_secs(LOOK_SECONDS)))
 }
 
 /// A new connection. An error is the system's, or says that none was made in time.

@@ -4,6 +4,7 @@ ghost use Rattle.blobd_push.specs.Trouble.{advice_on, course_after, error_troubl
 ghost use Rattle.blobd_push.specs.Trouble.{is_tls, is_unavailable, reason_of};
 ghost use Rattle.blobd_push.specs.Trouble.{status_trouble, trouble_in, words_of, words_of_advice};
 
+use blobd_shared::Quantity;
 use std::{fmt, io};
 use upload_client::Heard;
 use upload_push::Why;
@@ -227,11 +228,11 @@ impl fmt::Display for Reason {
             Reason::Advised(advice) => f.write_str(words_of_advice(*advice)),
             Reason::Lost(Trouble::System(number), count) => {
                 let error = io::Error::from_raw_os_error(number.cast_signed());
-                write!(f, "{error} (tried {count} times)")
+                write!(f, "{error} (tried {})", Quantity(*count, "time"))
             }
             Reason::Lost(trouble, count) => {
                 let words = words_of(*trouble);
-                write!(f, "{words} (tried {count} times)")
+                write!(f, "{words} (tried {})", Quantity(*count, "time"))
             }
         }
     }

@@ -29,6 +29,8 @@ pub struct Terms {
     pub demand: Demand,
     /// Whether each request is told on standard error.
     pub logged: bool,
+    /// How many bytes of bodies, uploads and blobs the service holds, if there is a limit.
+    pub memory: Option<u64>,
 }
 
 /// What requests are read from.

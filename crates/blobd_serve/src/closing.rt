@@ -22,11 +22,14 @@ const LINGER_MILLIS: u128 = 5_000;
 /// How long the thread waits between two looks at its connections, in milliseconds.
 const PAUSE_MILLIS: u64 = 20;
 
+/// The same while some peer sends: it is to have sent all of a large body within the time that it has.
+const SHORT_PAUSE_MILLIS: u64 = 1;
+
 /// How many connections are closed at once. The oldest is closed outright if another comes.
 const MOST_LINGERING: usize = 256;
 
 /// How many reads of a connection are made at one look, and how many bytes each takes at most.
-const READS: usize = 8;
+const READS: usize = 32;
 
 const ROOM: usize = 16_384;
 
@@ -44,16 +47,22 @@ struct Lingering {
     shut: Instant,
     /// When its peer sent last, or since when it is shut.
     heard: Instant,
+    /// Whether something had come at the last look.
+    sends: bool,
 }
 
 impl Lingering {
     /// Reads and drops what came, as far as nobody waits for it. Says whether the peer stays, and still has time.
     fn stays(&mut self, now: Instant) -> bool {
         let mut room = [0u8; ROOM];
+        self.sends = false;
         for _ in 0..READS {
             match self.stream.read(&mut room) {
                 Ok(0) => return false,
-                Ok(_) => self.heard = now,
+                Ok(_) => {
+                    self.heard = now;
+                    self.sends = true;
+                }
                 Err(error) => match error.kind() {
                     ErrorKind::WouldBlock | ErrorKind::Interrupted => break,
                     _ => return false,
@@ -82,6 +91,7 @@ impl Lingerers {
             stream,
             shut: now,
             heard: now,
+            sends: false,
         };
         // Most peers have closed already, since they saw the end.
         if !one.stays(now) {
@@ -101,6 +111,16 @@ impl Lingerers {
         }
     }
 
+    /// How long it is until the next look.
+    fn pause(&self) -> Duration {
+        let one_sends = self.0.iter().any(|one| one.sends);
+        Duration::from_millis(if one_sends {
+            SHORT_PAUSE_MILLIS
+        } else {
+            PAUSE_MILLIS
+        })
+    }
+
     /// Takes what comes until the next look. Says whether more can come.
     fn listen<R: Wait + Clock>(&mut self, rt: &R, streams: &Receiver<TcpStream>) -> bool {
         if self.0.is_empty() {
@@ -113,7 +133,7 @@ impl Lingerers {
         let Ok(begun) = Instant::now(rt) else {
             return true;
         };
-        let pause = Duration::from_millis(PAUSE_MILLIS);
+        let pause = self.pause();
         for _ in 0..MOST_TAKEN {
             let left = pause.saturating_sub(begun.elapsed(rt).unwrap_or(pause));
             match streams.recv_timeout(rt, left) {
@@ -141,7 +161,7 @@ impl Job for TcpStream {
             } else if open.0.is_empty() {
                 break;
             } else {
-                thread::sleep(rt, Duration::from_millis(PAUSE_MILLIS));
+                thread::sleep(rt, open.pause());
             }
             open.look(rt);
         }

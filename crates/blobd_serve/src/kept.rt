@@ -9,8 +9,10 @@ ghost use Rattle.blobd_serve.specs.Serving.{EndsKeeping, IsKeptOver};
 use crate::accept::{Accepted, Reader, Terms, Writer};
 use crate::accepts::Accepts;
 use crate::background::Background;
+use crate::holdings::Holdings;
+use crate::log_lines::Log;
 use crate::request_log::RequestLog;
-use crate::serve::{SLACK, print_end};
+use crate::serve::print_end;
 use crate::workers::{DoorWorker, Ready, SinceStart, SystemSecrets, take_doors, took_all};
 use blobd_shared::{FAULT, print_line};
 use http_wire::{ByteSink, ByteSource};
@@ -35,6 +37,7 @@ fn serve_all_kept<'a, L, R, K>(
     workers: Vec<DoorWorker<'a, L, R>>,
     room: Vec<L>,
     count: u64,
+    log: &Option<Log>,
 ) -> Result<(bool, Vec<L>, K), KeptFault>
 where
     L: Accepts + Send + Drop,
@@ -76,9 +79,8 @@ where
         })
         (record { doors = map L.history ended.1.items; exchanges = K.kept ended.2 })) }
 {
-    let moments = SinceStart::behind(rt, kept.since);
-    let mut kept = kept;
-    kept.service.keep_free(SLACK);
+    let holdings = Holdings::of(rt, alloc, log, &kept.service);
+    let moments = SinceStart::behind(rt, kept.since, holdings);
     let (pool, keeping) = serve_kept(rt, alloc, kept, workers, moments)?;
     let took = took_all(&pool.ends, count);
     Ok((took, take_doors(pool.workers, room), keeping))
@@ -126,7 +128,7 @@ where
         Ok(ready) => ready,
         Err(status) => return (status, None),
     };
-    let ended = serve_all_kept(rt, rt.alloc(), kept, workers, room, terms.count);
+    let ended = serve_all_kept(rt, rt.alloc(), kept, workers, room, terms.count, &log);
     Background::finish(log, rt);
     match ended {
         Ok((took, doors, keeping)) => (print_end(out, took), Some((doors, keeping))),

@@ -5,7 +5,8 @@
 //! worker's connections come over a door that is lent to it (`accepts`): for `blobd serve` that is a `listener`. They
 //! are taken in their order (`accept`, and `steps` for an accept that failed), cut if the client is too slow (`paced`),
 //! and closed by a thread of their own (`closing`). Each request is logged if the terms say so: `request_log` says what
-//! a line has, `shown` and `time_of_day` how it shows a target and the time, `log_lines` what becomes of it.
+//! a line has, `shown` and `time_of_day` how it shows a target and the time, `log_lines` what becomes of it; `holdings`
+//! has it say what the service holds.
 //! `background` has what the thread that closes and the one that writes the log have in common. `laws` joins a worker's
 //! connections to the laws from end to end.
 #![tactic(auto)]
@@ -14,6 +15,7 @@ mod accept;
 mod accepts;
 mod background;
 mod closing;
+mod holdings;
 mod kept;
 mod laws;
 mod listener;

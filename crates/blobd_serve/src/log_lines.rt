@@ -2,6 +2,7 @@
 ghost use Rattle.std.specs.Prelude.{◌≡◌, ◌⊎◌, ◌+◌, ◌-◌, ◌^◌, min, IfOk};
 
 use crate::background::{Background, Job};
+use blobd_shared::Quantity;
 use crossbeam_channel::{Receiver, Sender};
 use std::alloc::{AllocError, Global};
 use std::io::Eprint;
@@ -30,7 +31,7 @@ impl Job for Line {
             };
             // What a write answers is nothing to the requests.
             if lost > 0 {
-                let _ = eprintln!(rt; "blobd: {lost} lines lost");
+                let _ = eprintln!(rt; "blobd: {} lost", Quantity(lost, "line"));
             }
             let _ = eprintln!(rt; "{text}");
         }

@@ -4,11 +4,11 @@ ghost use Rattle.blobd_serve.specs.LogLine.{line_text};
 
 use crate::log_lines::LogLines;
 use crate::shown::shown_request;
-use crate::time_of_day::time_of_day;
+use crate::time_of_day::time_now;
 use std::alloc::{AllocError, Global};
 use std::rt::Clock;
 use std::sync::Wait;
-use std::time::{Instant, SystemTime, UNIX_EPOCH};
+use std::time::Instant;
 use upload_wire::{Observer, RequestLine};
 
 /// What is shown of a head that can't be read, and of one for which there is no memory.
@@ -95,18 +95,8 @@ fn line_now<R: Clock>(
     size: u64,
     millis: u64,
 ) -> Result<String, AllocError> {
-    let time = time_of_day(alloc, seconds_of_day(rt))?;
+    let time = time_now(rt, alloc)?;
     line_text(alloc, &time, head, status, size, millis)
-}
-
-/// The seconds since the start of 1970, or 0 if no time can be told.
-fn seconds_of_day<R: Clock>(rt: &R) -> u64 {
-    match SystemTime::now(rt) {
-        Ok(now) => now
-            .duration_since(UNIX_EPOCH)
-            .map_or(0, |passed| passed.as_secs()),
-        Err(_) => 0,
-    }
 }
 
 /// The line of a head that is shown so, and of its reply's status and size. An error is out of memory.

@@ -4,31 +4,42 @@ ghost use Rattle.std.specs.Prelude.{vec_capacity, vec_len};
 ghost use Rattle.std.specs.Io.KnownBytes.{Appends};
 ghost use Rattle.blobd_shared.specs.Status.{line};
 ghost use Rattle.upload_intake.specs.Pools.Working.{lending, means};
+ghost use Rattle.upload_service.specs.Machine.{empty_state};
+ghost use Rattle.blobd_serve.specs.Limits.{program_limits};
 ghost use Rattle.blobd_serve.specs.Doors.{doors_of, lefts_of};
 ghost use Rattle.blobd_serve.specs.Serving.{EndsServing, IsServedOver};
 
 use crate::accept::{Accepted, Reader, Terms, Writer};
 use crate::accepts::Accepts;
 use crate::background::Background;
+use crate::holdings::Holdings;
+use crate::log_lines::Log;
 use crate::request_log::RequestLog;
 use crate::service_limits::limits;
 use crate::workers::{DoorWorker, Ready, SinceStart, SystemSecrets, take_doors, took_all};
 use blobd_shared::{DONE, FAULT, print_line};
 use http_wire::{ByteSink, ByteSource};
-use std::alloc::Global;
+use std::alloc::{AllocError, Global};
 use std::io::{Eprint, Write};
 use std::net::SocketAddr;
 use std::random::RandomSource;
 use std::rt::Clock;
 use std::sync::Wait;
 use std::thread::Threads;
+use upload_bytes::Room;
 use upload_intake::{Conns, Gate, Moments, NoGate, Secrets, ServeFault, serve_workers};
 use upload_service::Service;
 use upload_wire::Observer;
 
-/// How many bytes an upload leaves free: so many that what is stored is still handed out. A list of the parts of the
-/// largest blob takes 2 MiB, and the C library takes memory from the system by 1 MiB or 2.
-pub(crate) const SLACK: usize = 4_194_304;
+/// A new service, which holds at most so many bytes if there is a limit.
+fn new_service(alloc: Global, memory: Option<u64>) -> Result<Service, AllocError>
+    ensures { IfOk result (λ service. service ≡ empty_state program_limits 0) }
+{
+    match memory {
+        Some(bytes) => Ok(Service::within(alloc, limits(), Room::of(alloc, bytes)?)),
+        None => Ok(Service::new(alloc, limits())),
+    }
+}
 
 /// What the workers of a new service left: whether each took all of its connections, and their doors, which go where
 /// there is room for them.
@@ -37,7 +48,8 @@ fn serve_all<'a, L, R>(
     alloc: Global,
     workers: Vec<DoorWorker<'a, L, R>>,
     room: Vec<L>,
-    count: u64,
+    terms: Terms,
+    log: &Option<Log>,
 ) -> Result<(bool, Vec<L>), ServeFault>
 where
     L: Accepts + Send + Drop,
@@ -45,7 +57,7 @@ where
     L::Out: Send,
     R: Threads + Wait + Sync + Clock + Eprint,
     requires some { 0 < vec_len workers }
-    requires left { All (λ left. left ≡ count) (lefts_of workers.items) }
+    requires left { All (λ left. left ≡ terms.count) (lefts_of workers.items) }
     requires none { room.items ≡ [] }
     requires room { vec_len workers ≤ vec_capacity room }
     ensures served { IfOk result (λ ended. IsServedOver
@@ -55,7 +67,7 @@ where
         ⟦<SystemSecrets as Secrets>⟧.draws ⟦<NoGate as Gate>⟧.watches
         ⟦<RequestLog<'a, R> as Observer>⟧.told)
         ⟦<SinceStart<'a, R> as Moments>⟧.tells
-        (λ n. n ≤ count) (map L.history (doors_of workers.entry.items))
+        (λ n. n ≤ terms.count) (map L.history (doors_of workers.entry.items))
         (map L.history ended.1.items)) }
     ensures took { IfOk result (λ ended. ended.0 ≡ true → IsServedOver
         (means
@@ -64,14 +76,15 @@ where
         ⟦<SystemSecrets as Secrets>⟧.draws ⟦<NoGate as Gate>⟧.watches
         ⟦<RequestLog<'a, R> as Observer>⟧.told)
         ⟦<SinceStart<'a, R> as Moments>⟧.tells
-        (λ n. n ≡ count) (map L.history (doors_of workers.entry.items))
+        (λ n. n ≡ terms.count) (map L.history (doors_of workers.entry.items))
         (map L.history ended.1.items)) }
 {
-    let moments = SinceStart::behind(rt, 0);
-    let mut service = Service::new(alloc, limits());
-    service.keep_free(SLACK);
+    let Ok(service) = new_service(alloc, terms.memory) else {
+        return Err(ServeFault::NoMemory);
+    };
+    let moments = SinceStart::behind(rt, 0, Holdings::of(rt, alloc, log, &service));
     let pool = serve_workers(rt, alloc, service, workers, moments)?;
-    let took = took_all(&pool.ends, count);
+    let took = took_all(&pool.ends, terms.count);
     Ok((took, take_doors(pool.workers, room)))
 }
 
@@ -121,7 +134,7 @@ where
         Ok(ready) => ready,
         Err(status) => return (status, None),
     };
-    let ended = serve_all(rt, rt.alloc(), workers, room, terms.count);
+    let ended = serve_all(rt, rt.alloc(), workers, room, terms, &log);
     Background::finish(log, rt);
     match ended {
         Ok((took, doors)) => (print_end(out, took), Some(doors)),

@@ -2,6 +2,8 @@
 ghost use Rattle.std.specs.Prelude.{◌<◌};
 
 use std::alloc::{AllocError, Global};
+use std::rt::Clock;
+use std::time::{SystemTime, UNIX_EPOCH};
 
 const DAY: u64 = 86_400;
 
@@ -69,10 +71,25 @@ fn date_behind(days: u64) -> Option<Date> {
 
 /// So many seconds behind the start of 1970, as RFC 3339 writes it in UTC: `2026-11-26T18:29:27Z`. Behind the year 9999
 /// it is `-`. An error is out of memory.
-pub(crate) fn time_of_day(alloc: Global, seconds: u64) -> Result<String, AllocError> {
+fn time_of_day(alloc: Global, seconds: u64) -> Result<String, AllocError> {
     let Some(Date { year, month, day }) = date_behind(seconds / DAY) else {
         return String::from_str(alloc, "-");
     };
     let (hour, minute, second) = (seconds % DAY / 3_600, seconds % 3_600 / 60, seconds % 60);
     format!(in alloc; "{year}-{month:02}-{day:02}T{hour:02}:{minute:02}:{second:02}Z")
+}
+
+/// The seconds since the start of 1970, or 0 if no time can be told.
+fn seconds_of_day<R: Clock>(rt: &R) -> u64 {
+    match SystemTime::now(rt) {
+        Ok(now) => now
+            .duration_since(UNIX_EPOCH)
+            .map_or(0, |passed| passed.as_secs()),
+        Err(_) => 0,
+    }
+}
+
+/// The time of day now. An error is out of memory.
+pub(crate) fn time_now<R: Clock>(rt: &R, alloc: Global) -> Result<String, AllocError> {
+    time_of_day(alloc, seconds_of_day(rt))
 }

@@ -8,6 +8,7 @@ ghost use Rattle.blobd_serve.specs.Doors.{doors_of, lefts_of};
 
 use crate::accept::{Accepted, Terms};
 use crate::accepts::Accepts;
+use crate::holdings::Holdings;
 use crate::log_lines::{Log, LogLines};
 use crate::request_log::RequestLog;
 use blobd_shared::{DONE, FAULT, print_line};
@@ -22,33 +23,40 @@ use std::sync::Wait;
 use std::thread::Threads;
 use std::time::Instant;
 use upload_intake::{DrawnSecrets, Moments, NoGate, Worker, WorkerEnd};
+use upload_service::Service;
 
 /// Secrets of the system's random numbers.
 pub(crate) type SystemSecrets = DrawnSecrets<StdRng>;
 
 /// Whole seconds since a start, and those that had passed before it. A clock that can't be read tells the latter, which
-/// the keeper takes as no time passed.
+/// the keeper takes as no time passed. Between two requests a log may be told what the service holds.
 #[derive(Drop)]
 pub(crate) struct SinceStart<'a, R> {
     rt: &'a R,
     start: Option<Instant>,
     before: u64,
+    holdings: Option<Holdings<'a, R>>,
 }
 
 impl<'a, R: Clock> SinceStart<'a, R> {
     /// The clock begins now, behind so many seconds.
-    pub(crate) fn behind(rt: &'a R, before: u64) -> SinceStart<'a, R>
+    pub(crate) fn behind(
+        rt: &'a R,
+        before: u64,
+        holdings: Option<Holdings<'a, R>>,
+    ) -> SinceStart<'a, R>
         ensures { result.before ≡ before }
     {
         SinceStart {
             rt,
             start: Instant::now(rt).ok(),
             before,
+            holdings,
         }
     }
 }
 
-impl<'a, R: Clock> Moments for SinceStart<'a, R> {
+impl<'a, R: Clock + Wait> Moments for SinceStart<'a, R> {
     // The clock is as it was, and one that can't be read tells what had passed before. Nothing is said of what the
     // system's clock tells.
     ghost tells = { λ old told new. (new ≡ old) × (old.before ≤ told)
@@ -61,6 +69,12 @@ impl<'a, R: Clock> Moments for SinceStart<'a, R> {
         match start.elapsed(self.rt) {
             Ok(passed) => self.before.saturating_add(passed.as_secs()),
             Err(_) => self.before,
+        }
+    }
+
+    fn rests(&self, service: &Service) {
+        if let Some(holdings) = &self.holdings {
+            holdings.look(service);
         }
     }
 }

@@ -1,4 +1,4 @@
-use Rattle.std.proofs.Common.{ap}
+use Rattle.std.proofs.Common.{ap, refl}
 use Rattle.blobd_serve.proofs.Histories.{at_most, exactly}
 use Rattle.blobd_serve.proofs.kept.serve_all_kept.Goals as goal
 
@@ -8,7 +8,7 @@ returns-clause-served g c = record {
   left = _;
   pool = c.in_ok-pool.ensures.served;
   at =
-      at_most _ _ _ _ _ _ c.in_ok-pool.ensures.served.served c.keep_free.ensures
+      at_most _ _ _ _ _ _ c.in_ok-pool.ensures.served.served refl
       (λ conns. conns.door) g.L.Accepts.history (λ conns. conns.left)
       (record {
         none = λ old new given. given;
@@ -26,7 +26,7 @@ returns-clause-took g c = λ took. record {
   left = _;
   pool = c.in_ok-pool.ensures.served;
   at =
-      exactly _ _ _ _ _ _ c.in_ok-pool.ensures.served.served c.keep_free.ensures
+      exactly _ _ _ _ _ _ c.in_ok-pool.ensures.served.served refl
       (λ conns. conns.door) g.L.Accepts.history (λ conns. conns.left)
       (record {
         none = λ old new given. given;

@@ -1,5 +1,4 @@
-use Rattle.std.proofs.Common.{ap, ◌∙◌}
-use Rattle.upload_service.specs.Machine.{empty_state}
+use Rattle.std.proofs.Common.{ap}
 use Rattle.blobd_serve.proofs.Histories.{at_most, exactly}
 use Rattle.blobd_serve.proofs.serve.serve_all.Goals as goal
 
@@ -10,7 +9,7 @@ returns-clause-served g c = record {
   pool = c.in_ok-pool.ensures.served;
   at =
       at_most _ _ _ _ _ _ c.in_ok-pool.ensures.served
-      (c.keep_free.ensures ∙ c.new-service.ensures ∙ ap (λ l. empty_state l 0) c.limits.ensures.value)
+      c.in-Ok.ensures
       (λ conns. conns.door) g.L.Accepts.history (λ conns. conns.left)
       (record {
         none = λ old new given. given;
@@ -19,7 +18,7 @@ returns-clause-served g c = record {
         one = λ old new r w given. given.3;
         same = λ old new r w back. back.0;
         back = λ old new r w back. back.1;
-      }) c.args.count c.requires.left _ c.take_doors.ensures;
+      }) c.args.terms.count c.requires.left _ c.take_doors.ensures;
 }
 
 pub returns-clause-took : goal.returns-clause-took
@@ -29,7 +28,7 @@ returns-clause-took g c = λ took. record {
   pool = c.in_ok-pool.ensures.served;
   at =
       exactly _ _ _ _ _ _ c.in_ok-pool.ensures.served
-      (c.keep_free.ensures ∙ c.new-service.ensures ∙ ap (λ l. empty_state l 0) c.limits.ensures.value)
+      c.in-Ok.ensures
       (λ conns. conns.door) g.L.Accepts.history (λ conns. conns.left)
       (record {
         none = λ old new given. given;
@@ -38,5 +37,5 @@ returns-clause-took g c = λ took. record {
         one = λ old new r w given. given.3;
         same = λ old new r w back. back.0;
         back = λ old new r w back. back.1;
-      }) c.args.count c.requires.left _ c.take_doors.ensures (c.took_all-took.ensures took);
+      }) c.args.terms.count c.requires.left _ c.take_doors.ensures (c.took_all-took.ensures took);
 }

@@ -1,0 +1,81 @@
+//! `blobd compact`: room in a data directory.
+
+use crate::words::Keep;
+use blobd_data::{
+    AnyBodies, CompactingFault, ListFault, Waste, compact_data, foresee_data, read_list,
+    seconds_now, weigh_data,
+};
+use blobd_serve::limits;
+use blobd_shared::{DONE, FAULT, Quantity, REFUSED, print_line};
+use journal_file::Wary;
+use std::io::{self, Write};
+use upload_compact::{Forecast, Leaving};
+
+/// Says why a data directory isn't compacted, and gives the exit status.
+fn print_fault(rt: &HostRuntime, path: &str, fault: &CompactingFault) -> u8 {
+    let _ = eprintln!(rt; "blobd: can't compact {path}: {fault}");
+    print_line(&mut io::writer(rt), "fault: data", FAULT)
+}
+
+/// Says why a list can't be read, and gives the exit status.
+fn print_no_list(rt: &HostRuntime, list: &str, fault: &ListFault) -> u8 {
+    let _ = eprintln!(rt; "blobd: can't read {list}: {fault}");
+    print_line(&mut io::writer(rt), "refused: keep", REFUSED)
+}
+
+/// Says how much would go, and gives the exit status.
+fn print_waste(rt: &HostRuntime, path: &str) -> u8 {
+    match weigh_data(rt, path, limits(), Wary) {
+        Ok(waste) => print_line(&mut io::writer(rt), format_args!("would go: {waste}"), DONE),
+        Err(fault) => print_fault(rt, path, &fault),
+    }
+}
+
+/// Says which blobs of repositories would go, a line for each, and then how much; gives the exit status.
+fn print_forecast(rt: &HostRuntime, path: &str, leaving: &Leaving) -> u8 {
+    let Forecast { gone, weight } = match foresee_data(rt, path, limits(), Wary, leaving) {
+        Ok(forecast) => forecast,
+        Err(fault) => return print_fault(rt, path, &fault),
+    };
+    let mut out = io::writer(rt);
+    for (name, digest) in gone.iter() {
+        if writeln!(out, "{name} {digest}").is_err() {
+            return FAULT;
+        }
+    }
+    let (waste, gone) = (Waste(weight), Quantity(gone.len() as u64, "blob"));
+    let text = format_args!("would go: {waste}, repositories would give up {gone}");
+    print_line(&mut out, text, DONE)
+}
+
+/// Writes the journal of the data directory at `path` anew, without what needn't stay if that is said; gives the exit
+/// status.
+fn print_room(rt: &HostRuntime, path: &str, leaving: Option<&Leaving>) -> u8 {
+    match compact_data::<Wary, Wary, Wary, AnyBodies>(rt, path, limits(), Wary, Wary, leaving) {
+        Ok(room) => print_line(&mut io::writer(rt), format_args!("compacted: {room}"), DONE),
+        Err(fault) => print_fault(rt, path, &fault),
+    }
+}
+
+/// The same with this list of what is referred to, without which the others go, or says what would go.
+fn run_keeping(rt: &HostRuntime, path: &str, dry: bool, keep: Keep) -> u8 {
+    let Keep { list, grace } = keep;
+    let since = seconds_now(rt).saturating_sub(grace);
+    match read_list(rt, list, since) {
+        Ok(leaving) if dry => print_forecast(rt, path, &leaving),
+        Ok(leaving) => print_room(rt, path, Some(&leaving)),
+        Err(fault) => print_no_list(rt, list, &fault),
+    }
+}
+
+/// Gives room back in the data directory at `path`, or only says what would go; gives the exit status. With a list of what
+/// is referred to, the other blobs of repositories go too, but those that are young.
+///
+/// `fault: data` is printed if that can't be done, and `refused: keep` if the list can't be read; standard error says why.
+pub fn run_compact(rt: &HostRuntime, path: &str, dry: bool, keep: Option<Keep>) -> u8 {
+    match keep {
+        Some(keep) => run_keeping(rt, path, dry, keep),
+        None if dry => print_waste(rt, path),
+        None => print_room(rt, path, None),
+    }
+}

@@ -1,0 +1,49 @@
+//! `blobd status`: what a data directory holds.
+use blobd_data::{Status, read_status};
+use blobd_serve::limits;
+use blobd_shared::{DONE, FAULT, Quantity, WholeHolding, print_line};
+use journal_file::Wary;
+use std::{fmt, io};
+use upload_service::Counts;
+
+/// The numbers as JSON.
+#[derive(Clone, Copy)]
+struct Json(Counts);
+
+impl fmt::Display for Json {
+    fn fmt<W: fmt::Write>(&self, f: &mut fmt::Formatter<W>) -> fmt::Result {
+        let Counts {
+            blobs,
+            stored,
+            uploads,
+            received,
+        } = self.0;
+        f.write_str("{")?;
+        write!(f, "\"blobs\":{blobs},\"stored\":{stored},")?;
+        write!(f, "\"uploads\":{uploads},\"received\":{received}")?;
+        f.write_str("}")
+    }
+}
+
+/// Prints what the data directory at `path` holds, by the records of its journal; gives the exit status. Records that
+/// can't be read are told on standard error.
+///
+/// `fault: data` is printed if the journal can't be read, and standard error says why.
+pub fn print_status(rt: &HostRuntime, path: &str, json: bool) -> u8 {
+    let mut out = io::writer(rt);
+    let Status { counts, unread } = match read_status(rt, path, limits(), Wary) {
+        Ok(status) => status,
+        Err(fault) => {
+            let _ = eprintln!(rt; "blobd: can't read {path}: {fault}");
+            return print_line(&mut out, "fault: data", FAULT);
+        }
+    };
+    if unread > 0 {
+        let unread = Quantity(unread, "record");
+        let _ = eprintln!(rt; "blobd: damage in {path}: {unread} can't be read");
+    }
+    if json {
+        return print_line(&mut out, Json(counts), DONE);
+    }
+    print_line(&mut out, WholeHolding(counts), DONE)
+}

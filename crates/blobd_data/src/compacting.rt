@@ -1,0 +1,267 @@
+//! The journal of a data directory is written anew, and what it doesn't name goes.
+ghost use Rattle.std.specs.Prelude.{◌≡◌, []};
+ghost use Rattle.upload_service.specs.Machine.{AreLawful};
+
+use crate::fault::DataFault;
+use crate::line::line_of;
+use crate::open::{FRESH, JOURNAL, open_journal, open_shelf};
+use crate::texts::StoreText;
+use blobd_shared::{ByteCount, Quantity};
+use bodies::{Holds, Shelf};
+use journal::Journal;
+use journal_file::{FileFrom, Folder, OpenFault, Start};
+use sqlite_disk::Disk;
+use std::io::{self, ErrorKind};
+use std::{fmt, fs};
+use upload_compact::{CompactFault, Compacted, Leaving, compact};
+use upload_records::sweep;
+use upload_service::Limits;
+use upload_store::StoreFault;
+
+/// Why a directory's journal isn't written anew, or what it doesn't name doesn't go.
+#[derive(Debug, Drop)]
+pub enum CompactingFault {
+    /// The directory can't be used.
+    Data(DataFault),
+    /// There is no journal at the path.
+    NoJournal,
+    /// The new journal can't be made.
+    Fresh(OpenFault),
+    /// The new journal isn't written, or it isn't the same.
+    Compact(CompactFault),
+    /// Batches stand behind the end of the journal, which is damaged there.
+    Behind(usize),
+    /// The new journal can't take the old one's place.
+    Switch(io::Error),
+    /// What isn't named can't be looked for, or can't be removed.
+    Sweep(StoreFault),
+    /// So many records are no entries: they are damaged.
+    Unread(u64),
+    /// It would take so many bytes of memory, and there may be no more than `memory`.
+    TooLarge { takes: u64, memory: u64 },
+    /// The last one was cut off.
+    CutOff,
+}
+
+impl fmt::Display for CompactingFault {
+    fn fmt<W: fmt::Write>(&self, f: &mut fmt::Formatter<W>) -> fmt::Result {
+        match self {
+            CompactingFault::Data(fault) => write!(f, "{fault}"),
+            CompactingFault::NoJournal => f.write_str("it has no journal"),
+            CompactingFault::Fresh(fault) => write!(f, "{FRESH}: {fault}"),
+            CompactingFault::Compact(fault) => write!(f, "{}", CompactText(fault)),
+            CompactingFault::Behind(count) => {
+                write!(
+                    f,
+                    "its journal is damaged: {count} batches stand behind its end"
+                )
+            }
+            CompactingFault::Switch(error) => write!(f, "{FRESH}: {error}"),
+            CompactingFault::Sweep(fault) => write!(f, "{}", StoreText(fault)),
+            CompactingFault::Unread(count) => {
+                write!(f, "{} can't be read", Quantity(*count, "record"))
+            }
+            CompactingFault::TooLarge { takes, memory } => {
+                let (takes, memory) = (ByteCount(*takes), ByteCount(*memory));
+                write!(f, "that takes {takes} of memory, BLOBD_MEMORY is {memory}")
+            }
+            CompactingFault::CutOff => {
+                f.write_str("it was cut off the last time; the next start tries it again")
+            }
+        }
+    }
+}
+
+impl std::error::Error for CompactingFault {}
+
+/// What is told of why a journal isn't written anew.
+#[derive(Drop)]
+struct CompactText<'a>(&'a CompactFault);
+
+impl<'a> fmt::Display for CompactText<'a> {
+    fn fmt<W: fmt::Write>(&self, f: &mut fmt::Formatter<W>) -> fmt::Result {
+        match self.0 {
+            CompactFault::NoMemory => f.write_str("no memory to write its journal anew"),
+            CompactFault::Old(fault) => write!(f, "{}", StoreText(fault)),
+            CompactFault::New(fault) => write!(f, "{FRESH}: {}", StoreText(fault)),
+            CompactFault::NotTheSame => f.write_str("the new journal would not be the same"),
+        }
+    }
+}
+
+/// What room was made.
+#[derive(Clone, Copy, Debug, Drop, PartialEq, Eq)]
+pub struct Room {
+    /// How many records the journal had, and has now.
+    pub before: u64,
+    pub after: u64,
+    /// How many files of bodies went.
+    pub files: u64,
+    /// How many blobs of repositories went, since nothing refers to them.
+    pub pairs: u64,
+}
+
+impl fmt::Display for Room {
+    fn fmt<W: fmt::Write>(&self, f: &mut fmt::Formatter<W>) -> fmt::Result {
+        let Room {
+            before,
+            after,
+            files,
+            pairs,
+        } = self;
+        let (before, files) = (Quantity(*before, "record"), Quantity(*files, "file"));
+        write!(f, "{before} became {after}, {files} went")?;
+        if *pairs > 0 {
+            let pairs = Quantity(*pairs, "blob");
+            write!(f, ", repositories gave up {pairs}")?;
+        }
+        Ok(())
+    }
+}
+
+/// Whether something of this name is in the folder at this path.
+pub(crate) fn is_there(rt: &HostRuntime, path: &str, name: &str) -> Result<bool, CompactingFault> {
+    let file = match format!(in rt.alloc(); "{path}/{name}") {
+        Ok(file) => file,
+        Err(_) => return Err(CompactingFault::Compact(CompactFault::NoMemory)),
+    };
+    match fs::symlink_metadata(rt, file.as_str()) {
+        Ok(_) => Ok(true),
+        Err(error) if error.kind() == ErrorKind::NotFound => Ok(false),
+        Err(error) => Err(CompactingFault::Data(DataFault::Journal(OpenFault::from(error)))),
+    }
+}
+
+/// The new journal, which is empty: one that an earlier call left goes.
+fn open_fresh<N: Start>(
+    rt: &HostRuntime,
+    folder: &Folder,
+    start: N,
+) -> Result<FileFrom<N>, CompactingFault> {
+    if let Err(error) = folder.remove(rt, FRESH) {
+        return Err(CompactingFault::Fresh(OpenFault::from(error)));
+    }
+    match folder.open_file(rt, FRESH, start) {
+        Ok(file) => Ok(file),
+        Err(fault) => Err(CompactingFault::Fresh(fault)),
+    }
+}
+
+/// Has the new journal take the old one's place if it is shorter. If not it goes.
+fn switch(rt: &HostRuntime, folder: &Folder, is_shorter: bool) -> Result<(), CompactingFault> {
+    let done = if is_shorter {
+        folder.rename(rt, FRESH, JOURNAL)
+    } else {
+        folder.remove(rt, FRESH)
+    };
+    match done {
+        Ok(()) => Ok(()),
+        Err(error) => Err(CompactingFault::Switch(error)),
+    }
+}
+
+/// Sees that no batches stand behind the end of a journal, but for one that a crash may have left.
+fn see_its_end<D: Disk>(journal: &mut Journal<D>) -> Result<(), CompactingFault> {
+    match journal.later_batches() {
+        Ok(count) if count < 2 => Ok(()),
+        Ok(count) => Err(CompactingFault::Behind(count)),
+        Err(error) => Err(CompactingFault::Compact(CompactFault::Old(StoreFault::Journal(error)))),
+    }
+}
+
+/// Removes the files that no record of a journal names, and says how many.
+fn sweep_by<D: Disk + Drop, S: Shelf + Drop>(
+    rt: &HostRuntime,
+    journal: Journal<D>,
+    shelf: S,
+) -> Result<u64, CompactingFault> {
+    let mut journal = journal;
+    let mut shelf = shelf;
+    match sweep(rt.alloc(), &mut journal, &mut shelf) {
+        Ok(swept) => Ok(swept.removed.unwrap_or(0)),
+        Err(fault) => Err(CompactingFault::Sweep(fault)),
+    }
+}
+
+/// Writes the journal of the data directory at `path` anew, for a service with these limits, as the shortest one that
+/// stands for the same service, and removes the files of bodies that it doesn't name. Uploads that are idle go, and so do
+/// the blobs of repositories that needn't stay, if that is said (`Leaving`). No server can have the directory meanwhile. A
+/// crash at any moment leaves the old journal or the new one, and all that it names.
+///
+/// Which values stand for `J`, `N`, `S` and `H` says nothing: what holds of all of them holds of what is there.
+pub fn compact_data<J: Start, N: Start, S: Start, H: Holds>(
+    rt: &HostRuntime,
+    path: &str,
+    limits: Limits,
+    start: J,
+    fresh_start: N,
+    leaving: Option<&Leaving>,
+) -> Result<Room, CompactingFault>
+    requires lawful { AreLawful limits }
+    requires empty { S.Start.db ≡ [] }
+{
+    if !is_there(rt, path, JOURNAL)? {
+        return Err(CompactingFault::NoJournal);
+    }
+    let lock = match Folder::open(rt, path) {
+        Ok(lock) => lock,
+        Err(fault) => return Err(CompactingFault::Data(DataFault::Folder(fault))),
+    };
+    let room = compact_in::<J, N, S, H>(rt, &lock, limits, start, fresh_start, leaving);
+    if room.is_err() {
+        let _ = lock.remove(rt, FRESH);
+    }
+    room
+}
+
+/// The same, in a folder that is locked.
+fn compact_in<J: Start, N: Start, S: Start, H: Holds>(
+    rt: &HostRuntime,
+    folder: &Folder,
+    limits: Limits,
+    start: J,
+    fresh_start: N,
+    leaving: Option<&Leaving>,
+) -> Result<Room, CompactingFault>
+    requires lawful { AreLawful limits }
+    requires empty { S.Start.db ≡ [] }
+{
+    let file = match open_journal(rt, folder, JOURNAL, start) {
+        Ok(file) => file,
+        Err(fault) => return Err(CompactingFault::Data(fault)),
+    };
+    let shelf = match open_shelf::<S, H>(rt, folder) {
+        Ok(shelf) => shelf,
+        Err(fault) => return Err(CompactingFault::Data(fault)),
+    };
+    let fresh = open_fresh(rt, folder, fresh_start)?;
+    let journal = Journal::new(file, line_of(limits));
+    let fresh = Journal::new(fresh, line_of(limits));
+    let line = line_of(limits);
+    let it = match compact(rt.alloc(), journal, fresh, line, shelf, limits, leaving) {
+        Ok(it) => it,
+        Err(fault) => return Err(CompactingFault::Compact(fault)),
+    };
+    let Compacted {
+        mut old,
+        fresh,
+        shelf,
+        is_shorter,
+        before,
+        after,
+        gone,
+    } = it;
+    see_its_end(&mut old)?;
+    switch(rt, folder, is_shorter)?;
+    let (files, after) = if is_shorter {
+        (sweep_by(rt, fresh, shelf)?, after)
+    } else {
+        (sweep_by(rt, old, shelf)?, before)
+    };
+    Ok(Room {
+        before,
+        after,
+        files,
+        pairs: gone.len() as u64,
+    })
+}

@@ -1,0 +1,70 @@
+//! A start writes a journal anew, if that is worth its time.
+ghost use Rattle.std.specs.Prelude.{◌≡◌, ◌↔◌, [], IsTrue};
+ghost use Rattle.upload_service.specs.Machine.{AreLawful};
+ghost use Rattle.blobd_data.specs.Worth.{IsWorth};
+
+use crate::compacting::{CompactingFault, Room, compact_data, is_there};
+use crate::open::FRESH;
+use crate::weighing::{Waste, weigh_data};
+use bodies::Holds;
+use journal_file::Start;
+use upload_compact::Weight;
+use upload_service::Limits;
+
+/// How many bytes have to go, or the rest isn't looked at.
+const LEAST: u64 = 67_108_864;
+
+/// Whether a journal is worth to be written anew: 64 MiB or more would go, and that is more than half of the records'
+/// bytes, or more than a tenth of the files.
+pub fn is_worth(weight: &Weight) -> bool
+    ensures { IsTrue result ↔ IsWorth weight.now }
+{
+    let Weight { needed, dead, .. } = *weight;
+    dead.records.saturating_add(dead.in_files) >= LEAST
+        && (dead.records > needed.records || dead.files > needed.files / 9)
+}
+
+/// Sees that two services which hold what a journal leads to fit into so much memory, if there is a limit.
+fn see_it_fits(weight: &Weight, memory: Option<u64>) -> Result<(), CompactingFault> {
+    let Some(memory) = memory else {
+        return Ok(());
+    };
+    let held = weight.needed.records.saturating_add(weight.needed.in_files);
+    let takes = held.saturating_mul(2);
+    if takes > memory {
+        return Err(CompactingFault::TooLarge { takes, memory });
+    }
+    Ok(())
+}
+
+/// Has the journal of the data directory at `path` written anew, as `compact_data` does, if that is worth it (`is_worth`),
+/// within so many bytes of memory if there is a limit. Says what room was made, if any was. Nothing is done about a
+/// journal that can't be read or is damaged: whoever opens the directory is told so.
+///
+/// `TooLarge`: it would take more memory. `CutOff`: a new journal lies there that didn't take its place, so that whoever
+/// began it may have been ended for it. Other errors are those of `compact_data`.
+pub fn compact_if_worth<L: Start, J: Start, N: Start, S: Start, H: Holds>(
+    rt: &HostRuntime,
+    path: &str,
+    limits: Limits,
+    memory: Option<u64>,
+    looked: L,
+    start: J,
+    fresh_start: N,
+) -> Result<Option<Room>, CompactingFault>
+    requires lawful { AreLawful limits }
+    requires empty { S.Start.db ≡ [] }
+{
+    let Ok(Waste(weight)) = weigh_data(rt, path, limits, looked) else {
+        return Ok(None);
+    };
+    if !weight.is_shut || !is_worth(&weight) {
+        return Ok(None);
+    }
+    see_it_fits(&weight, memory)?;
+    if is_there(rt, path, FRESH)? {
+        return Err(CompactingFault::CutOff);
+    }
+    let room = compact_data::<J, N, S, H>(rt, path, limits, start, fresh_start, None)?;
+    Ok(Some(room))
+}
