@@ -28,8 +28,14 @@ def words():
         are_refused("serve", addr, "1")
     are_refused("serve", "localhost:0")
     are_refused("push", ADDR, "a", "f", "0")
-    for others in ([], ["twice"], ["serve"], ["once", "once"]):
+    for others in ([], ["twice"], ["serve"], ["once", "once"], ["status"], ["status", "--json"], ["status", "d", "d"]):
         are_refused(*others)
+    for others in ([], ["--dry-run"], ["d", "k", "k"], ["--grace", "1"], ["--grace", "1", "d"], ["--dry-run", "--grace", "1"],
+                   ["--grace", "1", "--dry-run", "d", "k"], ["--grace", "1", "d", "k", "k"]):
+        are_refused("compact", *others)
+    for grace in ("", "-1", "+1", "1d", "1000000001"):
+        are_refused("compact", "--grace", grace, "d", "k")
+        are_refused("compact", "--dry-run", "--grace", grace, "d", "k")
 
 
 @case()
@@ -42,7 +48,10 @@ def help_and_version():
     for command in (
         "blobd serve ADDR [COUNT]",
         "blobd push ADDR NAME FILE [CHUNK]",
+        "blobd compact [--dry-run] DIR\n",
+        "blobd compact [--dry-run] [--grace SECONDS] DIR KEEP\n",
         "blobd once",
+        "blobd status [--json] DIR",
         "blobd --help",
         "blobd --version",
         "BLOBD_LOG=1",
@@ -130,12 +139,17 @@ def closed_streams():
 
 @case()
 def tells_a_terminal_how_to_stop():
-    """Standard error that is a terminal gets one line, and standard output gets no other than without it."""
+    """Standard error that is a terminal gets two lines, and standard output gets no other than without it."""
     terminal, inner = os.openpty()
-    with Server(1, stderr=inner) as server:
+    with Server(1, stderr=inner, env={"BLOBD_MEMORY": "64M"}) as server:
         os.close(inner)
-        told = b"" if is_silent(terminal, 20) else os.read(terminal, 65536)
-        equal("how a server is stopped", told, b"blobd: Ctrl-C stops it, and its blobs go with it\r\n")
+        told = b""
+        while told.count(b"\n") < 2 and not is_silent(terminal, 20):
+            told += os.read(terminal, 65536)
+        equal("what it may hold, and how it is stopped", told.splitlines(), [
+            b"blobd: it holds at most 64.0 MiB (BLOBD_MEMORY)",
+            b"blobd: Ctrl-C stops it, and its blobs go with it",
+        ])
         equal("what it prints all the same", server.end(), SERVED)
     os.close(terminal)
 

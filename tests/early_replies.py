@@ -3,9 +3,12 @@
 
     early_replies.py PROGRAM
 """
-from harness.listeners import Early, Scripted
+import time
+
+from harness import shims
+from harness.listeners import Deaf, Early, Scripted
 from harness.running import MIB, push, pushed, written
-from harness.suite import case, equal, main
+from harness.suite import case, check, equal, main
 
 PLACE = b"/v2/lib/a/blobs/uploads/00000001-0000-8000-8000-000000000000"
 
@@ -84,6 +87,32 @@ def test_a_server_that_is_full(folder):
         why = "the server answers 503: it has no memory left, or can't serve now (tried 6 times)"
         told = f"blobd: can't push to {server.addr}: {why}\n"
         equal("a server that is full", got, ("refused: out of tries\n", 1, told))
+
+
+@case()
+def test_servers_that_refuse_and_read_no_more(folder):
+    """They neither read what is left nor close. The reply is heard at once behind a body that the system takes whole,
+    and soon behind one that it doesn't."""
+    for size in (1, 100_000, MIB, 8 * MIB, len(LARGE)):
+        for text, line in ((TOO_LARGE, "refused: 413 SIZE_INVALID\n"), (MISSING, REFUSED_404[0])):
+            name, begun = f"{line} behind {size} bytes", time.monotonic()
+            goes(name, folder, LARGE[:size], size, [[OPENED, Deaf(text)]], [["POST", "PATCH"]], (line, 1))
+            took = time.monotonic() - begun
+            check(f"{name}: soon", took < 30, took)
+
+
+@case("cc")
+def test_servers_that_say_nothing_and_read_no_more(folder):
+    """Behind half a minute, which takes a second here, the request isn't heard, and no reply to it is waited for."""
+    fast, half = shims.loaded(folder, "minutes"), len(LARGE) // 2
+    held = reply(204, b"Location: " + PLACE, b"Range: 0-%d" % (half - 1))
+    again = {"GET": held, "PATCH": taken(len(LARGE) - 1), "PUT": CREATED}
+    with Scripted([reply(404), OPENED, taken(half - 1), Deaf()], [again] * 3) as server:
+        begun = time.monotonic()
+        got = push(server.addr, "lib/a", written(folder, LARGE), half, env=fast)[:2]
+        took = time.monotonic() - begun
+        equal("a server that reads no more, and then another one", got, pushed(LARGE)[:2])
+        check("the first is left soon", took < 20, took)
 
 
 if __name__ == "__main__":

@@ -3,10 +3,11 @@
 
     full_memory.py PROGRAM
 
-A server gets a limit on its address space a few MiB above what it has, and blobs and open uploads of one size or of
-mixed sizes until it refuses several in a row. Then each of its workers is asked for what is stored, for the status of
-each kind of upload, and for what is refused. Each request has to get its usual reply: with glibc as `make serve` sets
-it and as it is, if all threads share one heap, and from a worker that had served nobody before memory was full.
+A server may hold a few MiB (`BLOBD_MEMORY`), and gets a limit on its address space not far above that. It gets blobs and
+open uploads of one size or of mixed sizes until it refuses several in a row. Then each of its workers is asked for what
+is stored, for the status of each kind of upload, and for what is refused. Each request has to get its usual reply: with
+glibc as `make serve` sets it, with one heap for all threads, and as it is, if there is address space for a heap of each
+thread; and from a worker that had served nobody before memory was full.
 """
 import collections
 import os
@@ -19,8 +20,12 @@ from harness.suite import case, check, equal, main
 from harness.wire import Connection, request_text, sha256
 import servers
 
-# What a server may take beside what it has once it listens, its 4 MiB that stay free among them.
-ROOM = 6 * MIB
+# What a server may hold, and how much address space it gets beside what it has once it listens.
+HELD = {"BLOBD_MEMORY": str(6 * MIB)}
+ROOM = 12 * MIB
+# What heaps of their own reserve for the threads of a server with two workers, at most. A thread that can't have one takes
+# a page of the system for each allocation.
+HEAPS_SPACE = 8 * 128 * MIB
 # So many refused in a row, and memory is full. A connection has at most 10,000 requests.
 REFUSED, REQUESTS = 60, 9_000
 # How often each worker is asked the same, and of how many stored blobs.
@@ -155,20 +160,21 @@ def held(server):
     return connection, reply and reply.status
 
 
-def limit(server):
-    """Gives a server so much more address space than it has now."""
+def limit(server, heap):
+    """Gives a server with these heaps so much more address space than it has now."""
+    room = ROOM if heap else ROOM + HEAPS_SPACE
     with open(f"/proc/{server.process.pid}/statm", encoding="ascii") as file:
         has = int(file.read().split()[0]) * os.sysconf("SC_PAGE_SIZE")
     _, hard = resource.prlimit(server.process.pid, resource.RLIMIT_AS)
-    resource.prlimit(server.process.pid, resource.RLIMIT_AS, (has + ROOM, hard))
+    resource.prlimit(server.process.pid, resource.RLIMIT_AS, (has + room, hard))
 
 
 def full(name, size, heap, seed):
-    with running.Server(1_000_000, env=heap) as server:
+    with running.Server(1_000_000, env=heap | HELD) as server:
         # This connection keeps one worker: the other one fills.
         keeping, status = held(server)
         equal(f"a worker is kept: {name}", status, 200)
-        limit(server)
+        limit(server, heap)
         filling = Filling(server, size, seed)
         filling.fill()
         wanted = list(replies(filling))
@@ -184,12 +190,12 @@ def full(name, size, heap, seed):
 
 def unused_worker(name, heap):
     """A worker that had served nobody before another one filled the memory, over one connection."""
-    with running.Server(1_000_000, env=heap) as server:
+    with running.Server(1_000_000, env=heap | HELD) as server:
         filling = Filling(server, SIZES["30,000 bytes"], 0)
         only = filling.connection
         # Once one worker has served, both were started.
         check(f"a worker serves: {name}", filling.store())
-        limit(server)
+        limit(server, heap)
         # Large ones first: a thread's heap has 64 MiB of address space before it needs more.
         for filling.size in SIZES["30,000 bytes"], SIZES["128 bytes"]:
             vain = 0

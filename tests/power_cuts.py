@@ -4,9 +4,13 @@
     power_cuts.py PROGRAM [--cuts N] [--seed S]
 
 Clients open uploads, send chunks, close, mount and store while each call on the directory is noted
-(tests/shims/disks.c). Then the directory is made as a cut behind one of these calls may leave it (tests/harness/disks.py),
-and a server is started on that. Each client's uploads and blobs are those behind the last request that it heard the
-answer of, or the next one's. Some starts are cut as well, at one of their own calls.
+(tests/shims/disks.c). Then the directory is made as a cut behind one of these calls may leave it
+(tests/harness/disks.py), and a server is started on that. Each client's uploads and blobs are those behind the last
+request that it heard the answer of, or the next one's. Some starts are cut as well, at one of their own calls.
+
+`blobd compact` is cut at each of its calls too: a start behind that has all that there was, and so it has behind a second
+compact. So is one with a list of what is referred to: what that has is there behind each cut, and what else is there is
+what was there.
 """
 import collections
 import itertools
@@ -14,23 +18,27 @@ import os
 import random
 import tempfile
 import threading
+import time
 
 from harness import disks, running, shims
 from harness.running import Server
 from harness.suite import OPTIONS, case, check, equal, main
 from harness.wire import sha256
 
+# behind all notes
+END = 1 << 62
 CLIENTS = 3
 STEPS = 24
-# Bodies from the first of these sizes on have a file of their own.
-SIZES = [0, 1, 300, 4_000, 65_000, 66_000, 150_000]
+# A body of more than 64 KiB has a file of its own. One of 256 KiB or more is written before its request is asked.
+SIZES = [0, 1, 300, 4_000, 65_000, 66_000, 150_000, 262_143, 262_144, 300_000]
 
 # What a client's repositories have: for each upload how many bytes it has received, and the digests of the blobs.
 State = collections.namedtuple("State", ["uploads", "blobs"])
 
 
 class Story:
-    """What a client asked, in order: the state behind each request, and where the notes ended as it heard the answer."""
+    """What a client asked, in order: the state behind each request, and where the notes ended as it heard the
+    answer."""
 
     def __init__(self, number, notes):
         self.name, self.notes = f"lib/{number}", notes
@@ -156,29 +164,43 @@ def cut(stories, notes, number):
     disk = disks.Disk()
     for note in notes[:count]:
         disk.play(note)
+    left = disk.left(dice)
+    if dice.random() < 0.3:
+        left = cut_start(left, dice)
+    wrong = started(left, stories, notes[count - 1].end)
+    return [f"cut behind call {count} of {len(notes)}: {line}" for line in wrong]
+
+
+def started(left, stories, end):
+    """What is wrong as a server starts on what a cut left behind the notes up to this place."""
     with tempfile.TemporaryDirectory(dir=memory()) as folder:
         data = os.path.join(folder, "data")
-        left = disk.left(dice)
         disks.make(data, left)
-        if dice.random() < 0.3:
-            left = cut_start(folder, data, left, dice)
-            data = os.path.join(folder, "again")
-            disks.make(data, left)
         with open(os.path.join(folder, "told"), "w+", encoding="utf-8") as told:
-            wrong = after_start(Server(env=keeping(data), stderr=told), stories, notes[count - 1].end)
+            wrong = after_start(Server(env=keeping(data), stderr=told), stories, end)
             told.seek(0)
-            return [f"cut behind call {count} of {len(notes)}: {line} {told.read()}" for line in wrong]
+            text = f"{told.read()} {journal_in(left)} was left, {journal_in(disks.found(data))} is there"
+            return [f"{line} {text}" for line in wrong]
 
 
-def cut_start(folder, data, left, dice):
+def journal_in(left):
+    """What tells whether a journal is one: how it begins."""
+    content = left.get("journal")
+    return "no journal" if content is None else f"a journal of {len(content)} bytes {content[:16].hex()}.."
+
+
+def cut_start(left, dice):
     """Starts a server on what a cut left, and gives what a second cut leaves, at a call of that start."""
-    server, notes = served(folder, data)
-    server.stop()
+    with tempfile.TemporaryDirectory(dir=memory()) as folder:
+        data = os.path.join(folder, "data")
+        disks.make(data, left)
+        server, notes = served(folder, data)
+        server.stop()
+        calls = list(disks.notes_in(notes))
     disk = disks.Disk()
     for path, content in left.items():
         disk.files[path] = None if content is None else disks.File(content)
     disk.named = set(left)
-    calls = list(disks.notes_in(notes))
     for note in calls[: dice.randint(0, len(calls))]:
         disk.play(note)
     return disk.left(dice)
@@ -205,10 +227,107 @@ def test_cuts(folder):
     check("there are calls", syncs > STEPS, notes[:20])
     # each call in turn, and then again with other dice
     with running.processes() as pool:
-        runs = pool.map(wrong_of, zip(itertools.repeat(stories), itertools.repeat(notes), range(OPTIONS.cuts)), chunksize=20)
+        cuts = zip(itertools.repeat(stories), itertools.repeat(notes), range(OPTIONS.cuts))
+        runs = pool.map(wrong_of, cuts, chunksize=20)
         wrong = [line for lines in runs for line in lines]
     check("what a cut leaves", not wrong, "\n    ".join(["", *wrong[:10]]))
     print(f"{OPTIONS.cuts} cuts at {len(notes)} calls, {syncs} of them syncs")
+
+
+def compacted(folder, data, keep):
+    """Has a data directory compacted, with the lines of a list if there is one, and gives the calls of that."""
+    notes = os.path.join(folder, f"notes-{len(os.listdir(folder))}")
+    env = shims.loaded(folder, "disks", DISK_FOLDER=data, DISK_NOTES=notes)
+    words = [data] if keep is None else ["--grace", "0", data, "-"]
+    told, status, more = running.run("compact", *words, env=env, input=keep)
+    return (status, told, more), list(disks.notes_in(notes))
+
+
+class Kept(Story):
+    """The same of which a list refers to some blobs: the others may be there behind a cut, or not."""
+
+    def __init__(self, story, referred):
+        # the parts of the story, which goes on no more
+        vars(self).update(vars(story))
+        self.referred = referred
+
+    def found(self, client):
+        found = super().found(client)
+        # all that it may lack is there, or none of it
+        few = found.blobs == self.told[-1][1].blobs & self.referred
+        return State(found.uploads, self.told[-1][1].blobs) if few else found
+
+
+def lines_for(stories):
+    """The lines of a list that refers to every other blob, and the stories with that."""
+    kept = [Kept(story, frozenset(sorted(story.blobs)[::2])) for story in stories]
+    lines = [f"{story.name} {digest}\n" for story in kept for digest in sorted(story.referred)]
+    check("some go and some stay", lines and len(lines) < sum(len(story.blobs) for story in kept), lines)
+    return "".join(lines), kept
+
+
+def cut_compaction(told):
+    """Cuts a compaction at a call, perhaps compacts what that leaves, and gives what is wrong then."""
+    stories, before, notes, count, keep = told
+    dice = random.Random(OPTIONS.seed * 1_000_000 + count)
+    disk = disks.Disk()
+    for path, content in before.items():
+        disk.files[path] = None if content is None else disks.File(content)
+    disk.named = set(before)
+    for note in notes[:count]:
+        disk.play(note)
+    with tempfile.TemporaryDirectory(dir=memory()) as folder:
+        data = os.path.join(folder, "data")
+        disks.make(data, disk.left(dice))
+        wrong = []
+        if dice.random() < 0.3:
+            (status, told, more), _ = compacted(folder, data, keep)
+            wrong = [] if status == 0 else [f"it isn't compacted again: {told!r} {more!r}"]
+        with open(os.path.join(folder, "told"), "w+", encoding="utf-8") as told:
+            wrong += after_start(Server(env=keeping(data), stderr=told), stories, END)
+            told.seek(0)
+            return [f"cut behind call {count} of {len(notes)}: {line} {told.read()}" for line in wrong]
+
+
+def are_cut(folder, data, stories, keep):
+    """Compacts a data directory, with a list if there is one, and has that cut at each of its calls."""
+    before = disks.found(data)
+    (status, told, more), notes = compacted(folder, data, keep)
+    equal("a compaction", (status, more), (0, ""))
+    check("it says what went", told.startswith("compacted: "), told)
+    disk = disks.Disk()
+    for path, content in before.items():
+        disk.files[path] = None if content is None else disks.File(content)
+    for note in notes:
+        disk.play(note)
+    after = disks.found(data)
+    check("the notes tell all of it", disk.read() == after)
+    check("it makes room", sum(len(content or b"") for content in after.values())
+          < sum(len(content or b"") for content in before.values()))
+    (again, _, more), _ = compacted(folder, data, keep)
+    equal("a second one", (again, more, disks.found(data) == after), (0, "", True))
+    with running.processes() as pool:
+        cuts = [(stories, before, notes, count, keep) for count in range(1, len(notes) + 1)]
+        wrong = [line for lines in pool.map(cut_compaction, cuts, chunksize=8) for line in lines]
+    check("what a cut of a compaction leaves", not wrong, "\n    ".join(["", *wrong[:10]]))
+    print(f"{len(notes)} cuts of a compaction")
+
+
+@case("cc")
+def compactions(folder):
+    data = os.path.join(folder, "data")
+    stories, _ = told_stories(folder, data)
+    are_cut(folder, data, stories, None)
+
+
+@case("cc")
+def compactions_with_a_list(folder):
+    data = os.path.join(folder, "data")
+    stories, _ = told_stories(folder, data)
+    # what was stored in this second is young
+    time.sleep(1.1)
+    keep, kept = lines_for(stories)
+    are_cut(folder, data, kept, keep)
 
 
 if __name__ == "__main__":

@@ -49,7 +49,7 @@ def a_full_shard_is_told(folder):
         client.send_head("PATCH", f"{UPLOADS}1", Content_Length=8 * MIB)
         with contextlib.suppress(ConnectionError):
             client.send(bytes(8 * MIB))
-        is_refused("a chunk", client.reply("PATCH"), 503, "UNAVAILABLE", "out of memory")
+        is_refused("a chunk", client.reply("PATCH"), 503, "UNAVAILABLE", "is full")
         equal("it is full", health(proxy), (503, ["shard1: full", "manifests: well"]))
         check("the log has it", becomes(True, lambda: " 503 " in text_of(proxy.log)), text_of(proxy.log))
         for what in (

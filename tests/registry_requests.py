@@ -199,7 +199,7 @@ def a_shard_that_says(text):
 def a_shards_own_refusals_are_told():
     bare = "HTTP/1.1 {} Refused\r\nContent-Length: 0\r\nConnection: close\r\n\r\n"
     for said, status, code, word in (
-        (bare.format(503).encode(), 503, "UNAVAILABLE", "out of memory"),
+        (bare.format(503).encode(), 503, "UNAVAILABLE", "is full"),
         (bare.format(413).encode(), 413, "SIZE_INVALID", "2 GiB"),
         (bare.format(429).encode(), 429, "TOOMANYREQUESTS", "open uploads"),
         (b"", 503, "UNAVAILABLE", "ended during the request"),

@@ -217,7 +217,8 @@ places = (f"/{top}/systemd/system/{name}{at}.service" for top in ("etc", "lib"))
 unit = next(path for path in places if os.path.exists(path))
 environment = dict(os.environ)
 for line in settings(unit, "Environment"):
-    environment |= dict(word.split("=", 1) for word in shlex.split(line.replace("%S", "/var/lib").replace("%i", instance)))
+    line = line.replace("%S", "/var/lib").replace("%i", instance)
+    environment |= dict(word.split("=", 1) for word in shlex.split(line))
 for path in settings(unit, "EnvironmentFile"):
     if os.path.exists(path.lstrip("-")):
         with open(path.lstrip("-"), encoding="utf-8") as file:

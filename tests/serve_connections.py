@@ -5,6 +5,7 @@ cost the others.
     serve_connections.py PROGRAM
 """
 import collections
+import concurrent.futures
 import contextlib
 import errno
 import fcntl
@@ -33,7 +34,7 @@ from harness.running import (
     has_ipv6,
 )
 from harness.suite import case, check, equal, main, skip
-from harness.wire import Connection, is_silent, request_text, rest_of, sha256, vanish
+from harness.wire import PATIENCE, Connection, is_silent, request_text, rest_of, sha256, vanish
 
 LISTENING = r"listening {}:[1-9][0-9]*\n"
 
@@ -181,6 +182,47 @@ def refused_heads():
             wanted = b"HTTP/1.1 %s\r\nContent-Length: 0\r\nConnection: close\r\n\r\n" % status
             equal(f"the reply to {name}", reply, wanted)
         equal("the last line after refused heads", server.end(), SERVED)
+
+
+def refused(server, head):
+    """What a client hears of a head once it has sent 64 MiB behind it, and whether it could send all of that: little of
+    it fits between the two."""
+    heard, part = b"", bytes(MIB)
+    with socket.socket() as client:
+        client.settimeout(PATIENCE)
+        for option in (socket.SO_SNDBUF, socket.SO_RCVBUF):
+            client.setsockopt(socket.SOL_SOCKET, option, 131_072)
+        client.connect(server.place())
+        with contextlib.suppress(ConnectionError):
+            client.sendall(head)
+            for _ in range(64):
+                client.sendall(part)
+            client.shutdown(socket.SHUT_WR)
+            heard = rest_of(client)
+            return heard, True
+        with contextlib.suppress(ConnectionError):
+            heard = client.recv(65536)
+        return heard, False
+
+
+@case()
+def refused_heads_of_large_bodies():
+    """Clients that send all of a large body before they read hear the refusal, and aren't reset meanwhile. A machine
+    that is stopped for seconds may have one reset in one try, and not in each of three."""
+    heads = {
+        400: b"GET /v2/ HTTP/9.9\r\n\r\n",
+        431: b"GET /v2/ HTTP/1.1\r\nX: " + b"a" * 16384,
+        413: b"POST /v2/ HTTP/1.1\r\nContent-Length: 2147483649\r\n\r\n",
+    }
+    with Server() as server, concurrent.futures.ThreadPoolExecutor(4) as pool:
+        for status, head in heads.items():
+            for _ in range(3):
+                replies, ends = zip(*pool.map(refused, [server] * 4, [head] * 4))
+                if all(ends):
+                    break
+            wrong = [reply for reply in replies if not reply.startswith(b"HTTP/1.1 %d " % status)]
+            equal(f"what is heard of a {status} behind 64 MiB", wrong, [])
+            equal(f"clients that could send all behind a {status}", ends, (True,) * 4)
 
 
 def gets_400(name, peer):

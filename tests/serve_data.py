@@ -6,6 +6,7 @@
 import contextlib
 import os
 import random
+import re
 import shutil
 import socket
 import subprocess
@@ -13,7 +14,7 @@ import threading
 import time
 
 from harness import TOP, shims
-from harness.running import SERVED, USAGE, Repeated, Server, ask_alone, pull, run
+from harness.running import SERVED, USAGE, Repeated, Server, SmallDisk, ask_alone, pull, run
 from harness.suite import OPTIONS, case, check, equal, main, skip
 from harness.wire import Connection, demand, named, request_text, sha256, sha512
 
@@ -69,7 +70,8 @@ def tree(path):
 
 
 # Contents from nothing to more than what the journal itself takes.
-CONTENTS = [b"", b"a", bytes(5_000), *(random.Random(size).randbytes(size) for size in (64 * KIB, 64 * KIB + 1, 3 << 20))]
+LARGE = 64 * KIB, 64 * KIB + 1, 3 << 20
+CONTENTS = [b"", b"a", bytes(5_000), *(random.Random(size).randbytes(size) for size in LARGE)]
 
 
 @case()
@@ -83,8 +85,8 @@ def what_was_answered_is_there(folder):
         check("the pushes", all(statuses[-1] == 201 for statuses in stored), stored)
         mount = f"/v2/lib/b/blobs/uploads/?mount={sha256(CONTENTS[2])}&from={NAME}"
         longer = f"/v2/{NAME}/blobs/uploads/?digest={sha512(CONTENTS[1])}"
-        equal("a mount, and a SHA-512", [client.ask("POST", mount).status, client.ask("POST", longer, CONTENTS[1]).status],
-              [201, 201])
+        statuses = [client.ask("POST", mount).status, client.ask("POST", longer, CONTENTS[1]).status]
+        equal("a mount, and a SHA-512", statuses, [201, 201])
         place, empty = client.opened(NAME), client.opened(NAME)
         equal("chunks of an upload", client.send_chunks(place, begun[:140_000], sized), [202, 202])
     for time_ in ("first", "second"):
@@ -245,9 +247,14 @@ def changed(path, old, new):
         file.write(new)
 
 
+# what a start says that it has
+HOLDS = re.compile(r"blobd: \d+ blobs?, \d+(\.\d)? ([KMG]i)?B, \d+ uploads? open\n")
+
+
 def named_losses(server):
     """The lines in which a server that listens has named what of its directory is damaged."""
-    lines = list(iter(lambda: server.told(0), ""))
+    *lines, holds = iter(lambda: server.told(0), "")
+    check("what it has is told last", HOLDS.fullmatch(holds), holds)
     check("each is of the damage", all(line.startswith("blobd: damage in ") for line in lines), lines)
     return lines
 
@@ -281,6 +288,7 @@ def other_directories(folder):
         ("other limits", lambda: changed(journal, LIMIT, LIMIT[::-1]),
          "other limits"),
         ("no bodies", lambda: shutil.rmtree(f"{folder}/bad/bodies"), "its bodies are missing"),
+        ("no journal", lambda: os.remove(f"{folder}/bad/journal"), "its journal is missing"),
     ]
     for name, spoil, word in cases:
         shutil.copytree(good, f"{folder}/bad")
@@ -346,7 +354,8 @@ def file_put_back(folder):
     check("its number isn't given again", not os.path.exists(body))
     os.rename(f"{folder}/body", body)
     with serving(path) as server:
-        equal("all", [pull(server, NAME, sha256(content)) for content in (*FILLED, CONTENTS[-1])], [*FILLED, CONTENTS[-1]])
+        there = [*FILLED, CONTENTS[-1]]
+        equal("all", [pull(server, NAME, sha256(content)) for content in there], there)
 
 
 @case()
@@ -395,7 +404,7 @@ def many_losses(folder):
     with serving_the_rest(path) as server:
         told = named_losses(server)
         check("each is named, or counted", len(told) == 65 and all(sha256(content) in line for content, line in
-              zip(contents, told[:64])) and told[64].endswith(": 6 more records are lost\n"), told[-3:])
+              zip(contents, told[:64])) and told[64].endswith(": 6 more records lost\n"), told[-3:])
         equal("none is there", {pull(server, NAME, sha256(content)) for content in contents}, {404})
 
 
@@ -469,6 +478,43 @@ def damaged_anywhere(folder):
         kinds["named" if lines else "none"] += 1
         shutil.rmtree(bad)
     check("some bits were a loss", kinds["named"] > 20, kinds)
+
+
+@case()
+def damaged_gates(folder):
+    """Behind a gate that was damaged no record is taken. That is told at each start, strict or not, unless one batch stands
+    there, as behind a crash; and what stands before it is served."""
+    good, bad = os.path.join(folder, "good"), os.path.join(folder, "bad")
+    contents = [b"%d" % number for number in range(6)]
+    with serving(good) as server, server.client() as client:
+        equal("pushes", [client.push(NAME, content)[-1] for content in contents], [201] * len(contents))
+    with open(f"{good}/journal", "rb") as file:
+        journal = file.read()
+    # a gate that is open has no zero byte, and begins with a one
+    gates = [at for at in range(SECTOR, len(journal), SECTOR) if journal[at] == 1 and 0 not in journal[at : at + SECTOR]]
+    check("a batch for each push at least", len(gates) >= len(contents), len(gates))
+    fewest = len(contents)
+    for left, at in reversed(list(enumerate(gates))):
+        shutil.copytree(good, bad)
+        flipped(f"{bad}/journal", at, 1)
+        behind = len(gates) - left
+        for start in (serving, serving_the_rest):
+            with start(bad) as server:
+                equal("a start", server.first_line[:10], "listening ")
+                *told, holds = iter(lambda: server.told(0), "")
+                wanted = f"blobd: {bad}: {behind} batches of records behind the end of the journal were not taken"
+                is_told = len(told) == (behind > 1) and all(line.startswith(wanted) for line in told)
+                check("what is told", is_told and HOLDS.fullmatch(holds), (behind, told, holds))
+        with serving(bad) as server, server.client() as client:
+            found = [pull(server, NAME, sha256(content)) for content in contents]
+            there = sum(one == content for one, content in zip(found, contents))
+            check("the first ones are there", found[there:] == [404] * (len(contents) - there) and there <= fewest, found)
+            fewest = there
+            equal("a push", client.push(NAME, b"more")[-1], 201)
+        with serving(bad) as server:
+            equal("what was pushed then", pull(server, NAME, sha256(b"more")), b"more")
+        shutil.rmtree(bad)
+    equal("behind the first gate", fewest, 0)
 
 
 @case("cc")
@@ -654,43 +700,103 @@ def killed_at_random(folder):
     check("there were kills", kills > 1 and told.count > 50, (kills, told.count))
 
 
+def fill(client, told, chance):
+    """Uploads blobs, smaller ones each time that one is answered otherwise than 201, until not even a short one is. Gives
+    the last statuses."""
+    statuses = []
+    for size in (20 * MIB, MIB, 100_000, 20_000, 200):
+        status = 201
+        while status == 201:
+            content = chance.randbytes(size)
+            status = client.ask("POST", f"/v2/{NAME}/blobs/uploads/?digest={sha256(content)}", content).status
+            if status == 201:
+                told.append(content)
+        statuses.append(status)
+    return statuses
+
+
+def has_all(name, server, told):
+    wrong = [len(content) for content in told if pull(server, NAME, sha256(content)) != content]
+    check(name, not wrong, wrong)
+
+
+def files_of(path):
+    """How many bodies are on the disk in files of their own."""
+    return sum(len(names) for _, _, names in os.walk(f"{path}/bodies"))
+
+
+def answers_while_full(path, server, client, told, place):
+    """On a full disk what would change something is answered 503, and leaves no file. What is refused is refused as ever,
+    and what is stored is handed out. The upload has received three bytes."""
+    files = sum(len(content) > LARGEST_IN_JOURNAL for content in told)
+    equal("files of bodies", files_of(path), files)
+    long = bytes(200_000)
+    requests = [
+        ("PATCH", place, b"de", {"Content_Range": "5-6"}, 416),
+        ("PATCH", place, long, {"Content_Range": "5-200004"}, 416),
+        ("PUT", f"{place}?digest={sha256(b'other')}", long, {}, 400),
+        ("PUT", f"{place}?digest=sha256:7", b"", {}, 400),
+        ("PATCH", f"{place[:-8]}00000000", long, {}, 404),
+        ("POST", f"/v2/{NAME}/blobs/uploads/?digest={sha256(b'other')}", long, {}, 400),
+        ("GET", f"/v2/{NAME}/blobs/{sha256(b'nothing')}", b"", {}, 404),
+        ("GET", "/v2/", b"", {}, 200),
+        ("PATCH", place, long, {}, 503),
+        ("PATCH", place, b"de", {}, 503),
+        ("PUT", f"{place}?digest={sha256(b'abc')}", b"", {}, 503),
+        ("POST", f"/v2/{NAME}/blobs/uploads/", b"", {}, 503),
+        ("POST", f"/v2/{NAME}/blobs/uploads/?digest={sha256(long)}", long, {}, 503),
+        ("POST", f"/v2/lib/b/blobs/uploads/?mount={sha256(told[0])}&from={NAME}", b"", {}, 503),
+    ]
+    for method, target, body, fields, status in requests:
+        equal(f"{method} {target} of {len(body)} bytes", client.ask(method, target, body, **fields).status, status)
+    equal("where the upload is", held(client, place), (204, 3))
+    equal("files of bodies behind it", files_of(path), files)
+    has_all("what is stored is handed out", server, told)
+
+
+def filled_again(disk):
+    """Fills a disk twice under a server, which is killed and started in between, also while there is no room."""
+    path, told, chance = f"{disk.path}/data", [], random.Random(3)
+    with serving(path) as server, server.client() as client:
+        place = client.opened(NAME)
+        equal("a chunk", client.ask("PATCH", place, b"abc").status, 202)
+        equal("a disk that fills", fill(client, told, chance), [503] * 5)
+        check("blobs before", sum(map(len, told)) > 200 * MIB, len(told))
+        answers_while_full(path, server, client, told, place)
+        server.process.kill()
+    with serving(path) as server, server.client() as client:
+        has_all("a start on a full disk", server, told)
+        # what the server before it had tried to reserve is room in the journal now
+        equal("the disk is full soon", fill(client, told, chance), [503] * 5)
+        answers_while_full(path, server, client, told, place)
+        disk.grow(350)
+        long = chance.randbytes(200_000)
+        equal("a push once there is room", client.push(NAME, long), [202, 202, 201])
+        told.append(long)
+        equal("the upload goes on", client.ask("PUT", f"{place}?digest={sha256(b'abcde')}", b"de").status, 201)
+        told.append(b"abcde")
+        place = client.opened(NAME)
+        equal("a chunk of another", client.ask("PATCH", place, b"abc").status, 202)
+        before = len(told)
+        equal("a disk that fills again", fill(client, told, chance), [503] * 5)
+        check("blobs behind it", sum(map(len, told[before:])) > 20 * MIB, len(told))
+        answers_while_full(path, server, client, told, place)
+        server.process.kill()
+    disk.grow(400)
+    with serving(path) as server, server.client() as client:
+        has_all("behind both", server, told)
+        equal("the upload of then goes on", held(client, place), (204, 3))
+
+
 @case()
 def full_disk(folder):
-    """Where a disk is full, nothing is told to be kept that isn't: the server ends, and says why. Behind that, once there
-    is room, all that was told is there."""
-    disk = os.path.join(folder, "disk")
-    os.mkdir(disk)
-    if os.geteuid() != 0 or subprocess.run(
-        ["mount", "-t", "tmpfs", "-o", "size=8m", "none", disk], capture_output=True, check=False
-    ).returncode:
-        skip("full_disk", "this user may mount no small disk")
-        return
-    try:
-        path, told = f"{disk}/data", []
-        chance = random.Random(3)
-        with serving(path) as server, server.client() as client:
-            ends = None
-            for _ in range(400):
-                content = chance.randbytes(100_000)
-                try:
-                    reply = client.ask("POST", f"/v2/{NAME}/blobs/uploads/?digest={sha256(content)}", content)
-                except OSError as error:
-                    ends = error
-                    break
-                told.append(content)
-                demand(reply.status == 201, reply)
-            check("a full disk ends it", ends is not None and len(told) > 20, (ends, len(told)))
-            equal("what it prints", ended(server), REFUSED)
-            said = server.told(60)
-            check("why", said.startswith(f"blobd: can't keep a change in {path}: ") and "No space" in said, said)
-        subprocess.run(["mount", "-o", "remount,size=64m", disk], check=True)
-        with serving(path) as server:
-            wrong = [content for content in told if pull(server, NAME, sha256(content)) != content]
-            check("what was told before", not wrong, len(wrong))
-            with server.client() as client:
-                equal("a push once there is room", client.push(NAME, b"more"), [202, 202, 201])
-    finally:
-        subprocess.run(["umount", disk], check=True)
+    """A disk that fills, is made larger and fills again: what would change something is answered 503, and nothing stays
+    of it. Once there is room the server goes on by itself, and behind a kill all that was told is there."""
+    with SmallDisk(folder, 300) as disk:
+        if disk.is_there:
+            filled_again(disk)
+        else:
+            skip("full_disk", "this user may mount no small disk")
 
 
 # Before the lines that copy a directory in docs/OPERATIONS.md.

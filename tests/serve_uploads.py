@@ -302,8 +302,8 @@ def each_byte_is_hashed_once():
 
 @case()
 def hash_threads_keep_no_stack():
-    """Many open uploads, each of which a thread of its own hashed, take little more address space than their bytes. With
-    a stack for each thread it would be half as much again."""
+    """Many open uploads, each of which a thread of its own hashed, take little more address space than their bytes.
+    With a stack for each thread it would be half as much again."""
     size, many = 270_000, 500
     heap = {"BLOBD_WORKERS": 1, "GLIBC_TUNABLES": "glibc.malloc.arena_max=1"}
     with Server(env=heap) as server, server.client() as client:
@@ -365,9 +365,9 @@ def waits_beside(other, closers, pool, place, digest, body):
 
 @case()
 def large_closes_hold_nobody():
-    """While the body of a close is hashed behind what its upload has, others are answered: beside several such closes of
-    one upload at once, which are refused, and beside one that is stored. A machine that is stopped meanwhile may disturb
-    one try, and not each of three."""
+    """While the body of a close is hashed behind what its upload has, others are answered: beside several such closes
+    of one upload at once, which are refused, and beside one that is stored. A machine that is stopped meanwhile may
+    disturb one try, and not each of three."""
     chance, told = random.Random(14), []
     with Server(env={"BLOBD_WORKERS": 4}) as server, concurrent.futures.ThreadPoolExecutor(3) as pool:
         with contextlib.ExitStack() as opened:
@@ -387,6 +387,52 @@ def large_closes_hold_nobody():
     waits = [longest * 4 < took for longest, took, _ in told[-1][1:]]
     check("large closes that are waited for by nobody else", all(waits), told)
     equal("what a large close stored", pulled, content)
+
+
+# How many closes of one upload come at once, and what they may take at most of what one takes.
+AT_ONCE, AT_MOST = 100, 10
+
+
+def closed_at_once(server, opener, closers, pool, content, body, digest_of):
+    """Sends an upload and closes it over each of these connections at once, once by its digest: the statuses, the
+    longest wait of another request beside the closes, their longest time, and the processor time of it all."""
+    before = sum(processor_times(server))
+    place = opener.opened("lib/a")
+    sent = opener.send_chunks(place, content, 8 * MIB)
+    digests = [digest_of(b"another")] * len(closers)
+    digests[len(closers) // 2] = digest_of(content + body)
+    closes = [pool.submit(timed_close, *words, body) for words in zip(closers, [place] * len(closers), digests)]
+    longest = max(longest_wait(opener, close) for close in closes)
+    statuses, times = zip(*(close.result() for close in closes))
+    spent = sum(processor_times(server)) - before
+    return collections.Counter([*sent, *statuses]), longest, max(times), spent
+
+
+@case()
+def closes_at_once_share_a_hash():
+    """Of a hundred closes of an upload at once one is stored. They take hardly more of the processors than one does, so
+    what the upload received is hashed once for all of them; and if they have no bodies, others are answered meanwhile.
+    A machine that is stopped meanwhile may disturb one try, and not each of three."""
+    chance = random.Random(15)
+    with Server(env={"BLOBD_WORKERS": AT_ONCE + 1}) as server, contextlib.ExitStack() as opened:
+        pool = opened.enter_context(concurrent.futures.ThreadPoolExecutor(AT_ONCE))
+        opener, *closers = [opened.enter_context(server.client()) for _ in range(AT_ONCE + 1)]
+        for digest_of in (sha256, sha512):
+            for size in (0, 300_000):
+                name = f"closes at once by {digest_of.__name__}, with {size} bytes each"
+                for _ in range(3):
+                    told = []
+                    for count in (1, AT_ONCE):
+                        content, body = chance.randbytes(32 * MIB), chance.randbytes(size)
+                        told.append(closed_at_once(server, opener, closers[:count], pool, content, body, digest_of))
+                    (_, _, _, alone), (statuses, longest, took, spent) = told
+                    are_answered = size or longest < max(1, took / 4)
+                    if spent < AT_MOST * alone and are_answered:
+                        break
+                equal(f"{name}: stored", (statuses[202], statuses[201]), (4, 1))
+                equal(f"{name}: refused", statuses[400] + statuses[404], AT_ONCE - 1)
+                check(f"{name}: hashed once", spent < AT_MOST * alone, told)
+                check(f"{name}: others are answered", are_answered, told)
 
 
 if __name__ == "__main__":

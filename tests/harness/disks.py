@@ -1,4 +1,5 @@
-"""What a power cut may leave of a folder: the calls on it are noted (tests/shims/disks.c), and played up to any of them.
+"""What a power cut may leave of a folder: the calls on it are noted (tests/shims/disks.c), and played up to any of
+them.
 
 What was written and not put on the disk behind that may be lost, be there, or be torn within its sectors; so may a
 length, and a name whose folder was not synced since. What was synced is there, and nothing else is touched.
@@ -9,6 +10,8 @@ import typing
 
 # What a device writes at once.
 SECTOR = 4096
+# What stands at a name that there wasn't.
+NOTHING = object()
 
 
 class Note(typing.NamedTuple):
@@ -97,6 +100,8 @@ class Disk:
         self.files, self.named = {".": None}, {"."}
         # files that were removed, and whose removal isn't on the disk
         self.removed = {}
+        # by path, what was renamed to it and what stood there before, while that isn't on the disk
+        self.renamed = {}
 
     def play(self, note):
         if note.call == "folder":
@@ -108,6 +113,12 @@ class Disk:
             if note.path in self.named:
                 self.named.discard(note.path)
                 self.removed[note.path] = removed
+        elif note.call == "rename":
+            other = note.written.decode()
+            moved = self.files.pop(note.path)
+            self.renamed[other] = note.path, moved, self.files.get(other, NOTHING), note.path in self.named
+            self.files[other] = moved
+            self.named.discard(note.path)
         elif note.call in ("write", "resize"):
             self.files[note.path].pending.append((note.call, note.at, note.written))
         elif self.files[note.path] is None:
@@ -118,6 +129,7 @@ class Disk:
     def sync_names(self, folder):
         self.named |= {path for path in self.files if parent(path) == folder}
         self.removed = {path: file for path, file in self.removed.items() if parent(path) != folder}
+        self.renamed = {path: what for path, what in self.renamed.items() if parent(path) != folder}
 
     def read(self):
         """All paths, each with its bytes as a read finds them, or None for a folder."""
@@ -125,7 +137,15 @@ class Disk:
 
     def left(self, dice):
         """What a cut may leave, as `read` has it."""
-        left = {path: file for path, file in self.files.items() if path in self.named or dice.random() < 0.5}
+        files, named = dict(self.files), set(self.named)
+        for path, (before, moved, replaced, was_named) in self.renamed.items():
+            if dice.random() < 0.5:
+                files[path], files[before] = replaced, moved
+                path = before
+            # it has one of the two names if its own was on the disk
+            named |= {path} if was_named else set()
+        files = {path: file for path, file in files.items() if file is not NOTHING}
+        left = {path: file for path, file in files.items() if path in named or dice.random() < 0.5}
         left |= {path: file for path, file in self.removed.items() if dice.random() < 0.5}
         # what stands in a folder whose name is lost is lost with it
         return {

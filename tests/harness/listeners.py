@@ -44,6 +44,10 @@ class Early(bytes):
     """A reply that is sent behind the head of its request, and then the connection is closed as it is."""
 
 
+class Deaf(Early):
+    """A reply that is sent behind the head of its request. Then the connection stays, and no more of it is read."""
+
+
 def method_of(line):
     """The method of a request, by its first line."""
     return line.partition(" ")[0]
@@ -55,8 +59,12 @@ class Scripted(Listener):
     reply of a list the client's close is awaited. `asked` has the first lines of each connection's requests."""
 
     def __init__(self, *scripts, delay=0):
-        self.scripts, self.delay, self.asked = scripts, delay, []
+        self.scripts, self.delay, self.asked, self.kept = scripts, delay, [], contextlib.ExitStack()
         super().__init__(self.converse)
+
+    def close(self):
+        super().close()
+        self.kept.close()
 
     def converse(self, connection):
         connection.settimeout(PATIENCE)
@@ -71,6 +79,8 @@ class Scripted(Listener):
                     length -= len(piece)
                 time.sleep(self.delay)
                 connection.sendall(reply[method_of(self.asked[-1][-1])] if isinstance(reply, dict) else reply)
+                if isinstance(reply, Deaf):
+                    self.kept.enter_context(connection.dup())
                 if isinstance(reply, Early):
                     return
             connection.shutdown(socket.SHUT_WR)

@@ -14,7 +14,7 @@ import time
 import servers
 
 from .suite import OPTIONS
-from .wire import PATIENCE, Client, connected, rest_of, sha256
+from .wire import PATIENCE, Client, connected, demand, rest_of, sha256
 
 MIB = 1 << 20
 
@@ -124,6 +124,31 @@ class Repeated:
         for thread in self.threads:
             thread.result(timeout=PATIENCE)
         self.pool.shutdown()
+
+
+class SmallDisk:
+    """A disk of so many MiB, in memory: there each byte that is removed is free at once."""
+
+    def __init__(self, folder, size):
+        self.path = os.path.join(folder, "disk")
+        os.mkdir(self.path)
+        self.is_there = os.geteuid() == 0 and self.mount(f"size={size}m")
+
+    def mount(self, options):
+        """Whether it could be mounted so."""
+        words = ["mount", "-t", "tmpfs", "-o", options, "none", self.path]
+        return not subprocess.run(words, capture_output=True, check=False).returncode
+
+    def grow(self, size):
+        """Makes it larger, beside whoever uses it."""
+        demand(self.mount(f"remount,size={size}m"), "the disk can't be made larger")
+
+    def __enter__(self):
+        return self
+
+    def __exit__(self, *_):
+        if self.is_there:
+            subprocess.run(["umount", "-l", self.path], check=True)
 
 
 class Server:

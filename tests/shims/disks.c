@@ -84,6 +84,13 @@ ssize_t pwrite64(int file, const void *bytes, size_t count, off64_t at) {
 }
 ssize_t pwrite(int file, const void *bytes, size_t count, off_t at) { return pwrite64(file, bytes, count, at); }
 
+ssize_t write(int file, const void *bytes, size_t count) {
+    /* a socket has no place, and may wait for its peer, so that it is no matter of the lock */
+    off_t at = lseek(file, 0, SEEK_CUR);
+    if (at < 0) return syscall(SYS_write, file, bytes, count);
+    CALLED(file, syscall(SYS_write, file, bytes, count), "write", at, done, bytes);
+}
+
 int ftruncate64(int file, off64_t length) {
     CALLED(file, syscall(SYS_ftruncate, file, length), "resize", length, 0, NULL);
 }
@@ -116,3 +123,17 @@ int mkdir(const char *path, mode_t mode) { NAMED(path, syscall(SYS_mkdirat, AT_F
 int mkdirat(int at, const char *path, mode_t mode) { NAMED(path, syscall(SYS_mkdirat, at, path, mode), "folder"); }
 int unlink(const char *path) { NAMED(path, syscall(SYS_unlinkat, AT_FDCWD, path, 0), "remove"); }
 int unlinkat(int at, const char *path, int flags) { NAMED(path, syscall(SYS_unlinkat, at, path, flags), "remove"); }
+
+/* What is renamed is noted with its new path below the folder. */
+int rename(const char *path, const char *other) {
+    pthread_mutex_lock(&one);
+    long done = syscall(SYS_renameat2, AT_FDCWD, path, AT_FDCWD, other, 0);
+    int error = errno;
+    if (done >= 0 && is_within(path) && is_within(other)) {
+        const char *below = other + strlen(folder) + 1;
+        note("rename", path, 0, strlen(below), below);
+    }
+    pthread_mutex_unlock(&one);
+    errno = error;
+    return done;
+}

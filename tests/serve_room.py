@@ -1,0 +1,149 @@
+#!/usr/bin/env python3
+"""How much `blobd serve` holds at most: `BLOBD_MEMORY`.
+
+    serve_room.py PROGRAM
+"""
+import os
+import random
+import subprocess
+
+from harness.running import Server, ask_alone, pull, run
+from harness.suite import OPTIONS, case, check, equal, main
+from harness.wire import sha256
+
+MIB = 1 << 20
+NAME = "lib/a"
+ROOM = 12 * MIB
+# what the tables take for a blob, beside its name
+ENTRY = 512
+
+
+def serving(room=ROOM, **variables):
+    env = {"BLOBD_MEMORY": room, **variables}
+    return Server(env=env, stderr=subprocess.PIPE)
+
+
+def post(client, content):
+    return client.ask("POST", f"/v2/{NAME}/blobs/uploads/?digest={sha256(content)}", content).status
+
+
+def filled(client, chance, sizes):
+    """Stores blobs until one is refused, and gives what is stored."""
+    stored = []
+    while True:
+        content = chance.randbytes(chance.choice(sizes))
+        reply = post(client, content)
+        if reply != 201:
+            equal("what has no room", reply, 503)
+            return stored
+        stored.append(content)
+
+
+def has_all(server, stored):
+    wrong = [content for content in stored if pull(server, NAME, sha256(content)) != content]
+    check("what is stored is handed out", not wrong, len(wrong))
+
+
+def changes_nothing(client, chance):
+    """Each request that changes nothing is answered while there is no room."""
+    content = chance.randbytes(10)
+    for name, method, target, body, status in [
+        ("the base path", "GET", "/v2/", b"", 200),
+        ("a blob that isn't there", "HEAD", f"/v2/{NAME}/blobs/{sha256(content)}", b"", 404),
+        ("an upload that isn't open", "GET", f"/v2/{NAME}/blobs/uploads/{'0' * 8}-0000-0000-0000-{'0' * 12}", b"", 404),
+        ("another digest", "POST", f"/v2/{NAME}/blobs/uploads/?digest={sha256(b'x')}", content, 400),
+    ]:
+        equal(name, client.ask(method, target, body).status, status)
+
+
+@case()
+def full_is_a_number():
+    """Blobs of many sizes are stored as long as their bytes and their entries fit, and not longer."""
+    for seed in range(OPTIONS.seed, OPTIONS.seed + 3):
+        chance = random.Random(seed)
+        for sizes in ((300_000,), (1, 5_000, 70_000, 400_000), (3_000,)):
+            with serving() as server, server.client() as client:
+                stored = filled(client, chance, sizes)
+                held = sum(map(len, stored)) + len(stored) * (ENTRY + 2 * len(NAME))
+                check("it is filled", ROOM - max(sizes) - ENTRY - 1_000 < held <= ROOM, (held, ROOM))
+                changes_nothing(client, chance)
+                has_all(server, stored)
+
+
+@case()
+def what_is_there_takes_no_more():
+    """A blob that is stored again, and a mount that is made again, take nothing beside what they have."""
+    chance = random.Random(OPTIONS.seed)
+    with serving(MIB) as server, server.client() as client:
+        content = chance.randbytes(1_000)
+        mount = f"/v2/lib/b/blobs/uploads/?mount={sha256(content)}&from={NAME}"
+        for _ in range(4_000):
+            replies = post(client, content), client.ask("POST", mount).status
+            if replies != (201, 201):
+                break
+        equal("the last of 4,000", replies, (201, 201))
+
+
+@case()
+def room_comes_back():
+    """What an upload or a body takes comes back with it: as often as one that fits is begun and cut, a blob of the same
+    size is stored behind it."""
+    chance = random.Random(OPTIONS.seed)
+    content = chance.randbytes(8 * MIB)
+    with serving() as server:
+        for _ in range(20):
+            with server.client() as client:
+                client.send(f"POST /v2/{NAME}/blobs/uploads/?digest={sha256(content)} HTTP/1.1\r\nHost: h\r\n"
+                            f"Content-Length: {len(content)}\r\n\r\n".encode() + content[: chance.randrange(8 * MIB)])
+        with server.client() as client:
+            equal("one that is whole", post(client, content), 201)
+            equal("the same again, which replaces it", post(client, content[: 3 * MIB]), 201)
+
+
+@case()
+def larger_than_the_room():
+    """A body that has no room for its bytes ends its connection, and an upload isn't opened where nothing could come to
+    it. The server goes on."""
+    chance = random.Random(OPTIONS.seed)
+    with serving() as server:
+        with server.client() as client:
+            try:
+                ended = post(client, chance.randbytes(ROOM + 6 * MIB))
+            except OSError:
+                ended = None
+            check("a body that is too large", ended is None, ended)
+        with server.client() as client:
+            stored = filled(client, chance, (100_000,))
+            stored += filled(client, chance, (1_000,))
+            equal("an opening", client.ask("POST", f"/v2/{NAME}/blobs/uploads/").status, 503)
+            has_all(server, stored)
+
+
+@case()
+def wrong_numbers():
+    """What may stand in the variable is told, and nothing is opened."""
+    for value in ("", "0", "-1", "1.5G", "16MB", "8g", "2000000000G"):
+        ran = run("serve", "127.0.0.1:0", env={"BLOBD_MEMORY": value})
+        equal(f"BLOBD_MEMORY={value}", ran, ("", 2, "blobd: BLOBD_MEMORY is a number of bytes, as 512M or 8G\n"))
+
+
+@case()
+def smaller_than_a_directory(folder):
+    """A directory that holds more than the server may is left as it is, and says so. With more room all is there."""
+    chance = random.Random(OPTIONS.seed)
+    path = os.path.join(folder, "data")
+    with serving(BLOBD_DATA=path) as server, server.client() as client:
+        stored = filled(client, chance, (1_000, 200_000, 500_000))
+    for strict in "01":
+        printed, status, told = run("serve", "127.0.0.1:0", env={
+            "BLOBD_DATA": path, "BLOBD_MEMORY": "6M", "BLOBD_STRICT": strict})
+        equal("what it prints", (printed, status), ("fault: data\n", 3))
+        check("why", "no memory for it" in told and "BLOBD_MEMORY is 6.0 MiB" in told, told)
+    with serving(room="16M", BLOBD_DATA=path) as server:
+        has_all(server, stored)
+        equal("one more", ask_alone(
+            server, "POST", f"/v2/{NAME}/blobs/uploads/?digest={sha256(b'more')}", b"more").status, 201)
+
+
+if __name__ == "__main__":
+    main(__doc__, seed=(1, "of the bytes"))
