@@ -1,13 +1,15 @@
 #!/usr/bin/env python3
 """Figures of `blobd serve` with a data directory, beside itself without one and docker-registry on the same disk.
 
-    disk.py PROGRAM [--folder FOLDER] [--mib SIZE] [--blobs COUNT] [--runs N]
+    disk.py PROGRAM [--folder FOLDER] [--mib SIZE] [--blobs COUNT] [--runs N] [--starts]
 
 The servers take turns, each run with a new server and a new folder in FOLDER, which should be on a disk and not in
 memory. A figure is the best of the runs. Uploads are compared with `sha256sum` on the same bytes, in the same runs; small
 blobs are counted by the second, beside the syncs of a journal alone: two for each request, or for each round of all
-clients. A request that changes nothing waits beside uploads of four times SIZE: its longest wait, and the longest of a
-sync beside the same. A start is that of a server with a directory that has forty times SIZE. Needs Linux.
+clients, in which each sends a request before any reads its reply. A request that changes nothing waits beside uploads of
+four times SIZE: its longest wait, and the longest of a sync beside the same. A start is that of a server with a directory
+that has eight blobs of SIZE, in one body each or in chunks of 4 MiB. `blobd compact` has twenty times COUNT small blobs,
+and is measured beside a start with them; `--starts` measures no more than starts and that. Needs Linux.
 """
 import contextlib
 import functools
@@ -15,6 +17,7 @@ import hashlib
 import os
 import shutil
 import socket
+import subprocess
 import sys
 import tempfile
 import time
@@ -28,8 +31,11 @@ from harness.suite import OPTIONS
 
 SMALL_SIZE = 1_024
 CROWD = 16
-# how often the blob is uploaded beside a request that waits, and before a start
-BESIDE, BEFORE_A_START = 4, 40
+# how often the blob is uploaded beside a request that waits, and how many others before a start
+BESIDE, BEFORE_A_START = 4, 8
+# how many times COUNT small blobs are compacted
+COMPACTED = 20
+CHUNK = 4 * MIB
 SECTOR = 4_096
 
 
@@ -87,15 +93,46 @@ def at_once(server, works):
         return loopback.seconds_of_both([functools.partial(*pair) for pair in zip(works, connections)])
 
 
-def small_blobs(first, count, connection):
-    """Stores so many blobs, each by one request and another one of its kind."""
-    for number in range(first, first + count):
-        content = number.to_bytes(8, "big") * (SMALL_SIZE // 8)
-        opening = loopback.wanted(connection.ask("POST", "/v2/lib/a/blobs/uploads/", Content_Length=0), 202)
-        place = raw.closing_target(raw.target_of(opening.fields), "sha256:" + hashlib.sha256(content).hexdigest())
-        connection.socket.sendall(connection.head("PUT", place, Content_Length=SMALL_SIZE), socket.MSG_MORE)
-        connection.socket.sendall(content)
-        loopback.wanted(connection.reply(), 201)
+def small_blob(number):
+    """A small blob, and its digest."""
+    content = number.to_bytes(8, "big") * (SMALL_SIZE // 8)
+    return content, "sha256:" + hashlib.sha256(content).hexdigest()
+
+
+class Round:
+    """Clients that each store a small blob by an opening and a close: all send theirs, and then all read their replies.
+    One thread does so, which waits for the server and not for other threads of its own."""
+
+    def __init__(self, connections):
+        self.connections = connections
+
+    def asked(self, heads, status):
+        """The replies to a request of each client."""
+        for connection, head in zip(self.connections, heads):
+            connection.socket.sendall(head)
+        return [loopback.wanted(connection.reply(), status) for connection in self.connections]
+
+    def store(self, blobs):
+        openings = [each.head("POST", "/v2/lib/a/blobs/uploads/", Content_Length=0) for each in self.connections]
+        begun = self.asked(openings, 202)
+        closes = []
+        for connection, opening, (content, digest) in zip(self.connections, begun, blobs):
+            place = raw.closing_target(raw.target_of(opening.fields), digest)
+            closes.append(connection.head("PUT", place, Content_Length=SMALL_SIZE) + content)
+        self.asked(closes, 201)
+
+
+def small_blobs(count, clients, server):
+    """The seconds in which so many clients store so many small blobs together, or some less."""
+    blobs = [small_blob(number) for number in range(count)]
+    with server, contextlib.ExitStack() as all_:
+        round_ = Round([all_.enter_context(server.connect()) for _ in range(clients)])
+
+        def work():
+            for first in range(0, count - clients + 1, clients):
+                round_.store(blobs[first : first + clients])
+
+        return loopback.seconds(work)
 
 
 def uploaded(blob, chunk, connection):
@@ -119,10 +156,8 @@ def rows(blob):
     yield "two bodies at once", 2 * blob.size, None, lambda server: at_once(server, two)
     yield "a pull", blob.size, None, functools.partial(pulled, blob)
     count = OPTIONS.blobs
-    alone = functools.partial(small_blobs, 0, count)
-    yield f"{count} small blobs", None, 1, lambda server: timed(server, alone)
-    crowd = [functools.partial(small_blobs, first * count, count // CROWD) for first in range(CROWD)]
-    yield f"the same by {CROWD} clients", None, CROWD, lambda server: at_once(server, crowd)
+    yield f"{count} small blobs", None, 1, functools.partial(small_blobs, count, 1)
+    yield f"the same by {CROWD} clients", None, CROWD, functools.partial(small_blobs, count, CROWD)
 
 
 def synced(file, at, content):
@@ -173,16 +208,40 @@ def waited(settings, blob):
     return min(best)
 
 
-def started(settings, blob):
-    """A start with the blob many times: the bytes that it reads in a second, and `sha256sum`'s in the same run."""
+def started(settings, blob, chunk):
+    """A start with blobs of this size, each sent in chunks of that size: the bytes that it reads in a second, and
+    `sha256sum`'s in the same run."""
     with tempfile.TemporaryDirectory(dir=OPTIONS.folder) as folder:
         server = OnDisk(settings, folder)
         with server, server.connect() as connection:
-            for number in range(BEFORE_A_START):
-                loopback.upload_whole(connection, f"lib/{number}", blob)
-        taken = loopback.seconds(lambda: server.__enter__())
-        server.__exit__()
-    return BEFORE_A_START * blob.size / taken, blob.size / loopback.hashed(blob)[0]
+            for _ in range(BEFORE_A_START):
+                # another one: a start would remove what was sent of one that is there
+                blob.write()
+                loopback.upload(connection, "lib/a", blob, chunk)
+        best = []
+        for _ in range(OPTIONS.runs):
+            taken = loopback.seconds(lambda: server.__enter__())
+            server.__exit__()
+            best.append((BEFORE_A_START * blob.size / taken, blob.size / loopback.hashed(blob)[0]))
+    return max(best)
+
+
+def compacted(settings, count):
+    """A compaction of a directory with so many small blobs: how long a start with them takes in the same run, and it."""
+    with tempfile.TemporaryDirectory(dir=OPTIONS.folder) as folder:
+        server = OnDisk(settings, folder)
+        small_blobs(count, CROWD, server)
+        best = []
+        for number in range(OPTIONS.runs):
+            copy = os.path.join(folder, f"copy-{number}")
+            shutil.copytree(server.settings["BLOBD_DATA"], copy)
+            start = loopback.seconds(lambda: server.__enter__())
+            server.__exit__()
+            words, env = [OPTIONS.program, "compact", copy], running.environment(settings)
+            work = functools.partial(subprocess.run, words, env=env, check=True, capture_output=True)
+            best.append((loopback.seconds(work), start))
+            shutil.rmtree(copy)
+    return min(best, key=lambda pair: pair[0] / pair[1])
 
 
 def measured(all_, blob):
@@ -192,7 +251,6 @@ def measured(all_, blob):
             plain.append(rounds_alone(clients) if clients else loopback.hashed(blob)[0])
             for server in all_:
                 best[server.name] = min(work(server), best.get(server.name, float("inf")))
-        print(f"measured: {name}", file=sys.stderr, flush=True)
         for server, taken in best.items():
             if clients:
                 count = OPTIONS.blobs // clients * clients
@@ -203,6 +261,22 @@ def measured(all_, blob):
                 yield [name, server, f"{size / taken / 1e6:,.0f} MB/s", beside]
 
 
+def all_lines(settings, all_, blob):
+    """All rows, one after another."""
+    if not OPTIONS.starts:
+        yield from measured(all_, blob)
+        wait, sync = waited(settings, blob)
+        beside = f"{wait / sync:.1f} of the longest sync there"
+        yield ["a GET beside uploads", OnDisk.name, f"{wait * 1e3:,.1f} ms at most", beside]
+    for name, chunk in (("a start", blob.size), ("a start with chunks", CHUNK)):
+        read, plain = started(settings, blob, chunk)
+        yield [name, OnDisk.name, f"{read / 1e6:,.0f} MB/s", f"{read / plain:.2f} of `sha256sum`"]
+    count = COMPACTED * OPTIONS.blobs
+    taken, start = compacted(settings, count)
+    beside = f"{taken / start:.2f} of a start with them"
+    yield [f"a compaction of {count} small blobs", "blobd compact", f"{count / taken:,.0f} a second", beside]
+
+
 def main(settings):
     all_ = [OnDisk(settings), InMemory(settings)]
     if not servers.missing("docker-registry"):
@@ -210,12 +284,11 @@ def main(settings):
     with tempfile.TemporaryDirectory(dir="/dev/shm") as folder:
         blob = loopback.Blob(os.path.join(folder, "blob"), OPTIONS.mib * MIB)
         blob.write()
-        lines = list(measured(all_, blob))
-        wait, sync = waited(settings, blob)
-        beside = f"{wait / sync:.1f} of the longest sync there"
-        lines.append(["a GET beside uploads", OnDisk.name, f"{wait * 1e3:,.1f} ms at most", beside])
-        read, plain = started(settings, blob)
-        lines.append(["a start", OnDisk.name, f"{read / 1e6:,.0f} MB/s", f"{read / plain:.2f} of `sha256sum`"])
+        lines = []
+        for line in all_lines(settings, all_, blob):
+            # each is told as soon as it is measured
+            print("measured:", *line, sep="  ", file=sys.stderr, flush=True)
+            lines.append(line)
     raw.print_table(["row", "server", "speed", "beside"], lines)
 
 
@@ -228,6 +301,7 @@ if __name__ == "__main__":
     parser.add_argument("--mib", type=int, default=256, help="the size of a blob (%(default)s)")
     parser.add_argument("--blobs", type=int, default=1_000, help="how many small blobs are stored (%(default)s)")
     parser.add_argument("--runs", type=int, default=3, help="how often each is measured (%(default)s)")
+    parser.add_argument("--starts", action="store_true", help="measure starts alone")
     parser.parse_args(namespace=OPTIONS)
     OPTIONS.program = os.path.abspath(OPTIONS.program)
     main(servers.MALLOC)

@@ -208,7 +208,8 @@ def upload_with_the_close(connection, name, blob):
         connection.send_part(connection.head("PATCH", place, **chunk), file, 0, 1)
         place = raw.target_of(wanted(connection.reply(), 202).fields)
         rest = {"Content_Type": "application/octet-stream", "Content_Length": blob.size - 1}
-        connection.send_part(connection.head("PUT", raw.closing_target(place, blob.digest), **rest), file, 1, blob.size - 1)
+        head = connection.head("PUT", raw.closing_target(place, blob.digest), **rest)
+        connection.send_part(head, file, 1, blob.size - 1)
     wanted(connection.reply(), 201)
 
 
@@ -462,8 +463,8 @@ def longest_waits(server, work):
 
 
 def waiting_row(server, blob, work, is_stored):
-    """The longest wait beside some work on a blob, which is stored before that if need be: the best of the runs, and the
-    worst of them."""
+    """The longest wait beside some work on a blob, which is stored before that if need be: the best of the runs, and
+    the worst of them."""
     runs = []
     for _ in range(RUNS):
         with server, server.connect() as connection:
