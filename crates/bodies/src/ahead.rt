@@ -15,9 +15,6 @@ use std::thread::{self, JoinHandle, Threads};
 use upload_bytes::Body;
 use upload_names::Algorithm;
 
-/// No more bodies are begun while those that are read ahead have so many bytes.
-const MOST_AHEAD: u64 = 1 << 30;
-
 /// The stack of a thread that reads, in bytes.
 const STACK: usize = 262_144;
 
@@ -40,7 +37,7 @@ struct UnderWay {
 }
 
 /// A shelf whose bodies are read before they are asked for, each in a thread of its own: so many at a time as there are
-/// processors, and as many that wait to be asked for. They have up to 1 GiB, and one more body.
+/// processors, and as many that wait to be asked for. No more are begun while these have as many bytes as they may.
 #[derive(Drop)]
 pub struct AheadShelf<'a, R: Threads, S: Lends> {
     rt: &'a R,
@@ -55,13 +52,22 @@ pub struct AheadShelf<'a, R: Threads, S: Lends> {
     ahead: u64,
     /// So many may be under way.
     most: usize,
+    /// No more are begun while they have so many bytes.
+    most_ahead: u64,
 }
 
 impl<'a, R: Threads, S: Lends> AheadShelf<'a, R, S> {
     ghost use Rattle.bodies.specs.AheadShelf.{inner_of};
 
-    /// Reads ahead what the hints tell, which go by rising numbers. Others are read as they are asked for.
-    pub fn new(rt: &'a R, alloc: Global, inner: S, hints: Vec<Hint>) -> AheadShelf<'a, R, S>
+    /// Reads ahead what the hints tell, which go by rising numbers: bodies of up to `most_ahead` bytes together, and one
+    /// more. Others are read as they are asked for.
+    pub fn new(
+        rt: &'a R,
+        alloc: Global,
+        inner: S,
+        hints: Vec<Hint>,
+        most_ahead: u64,
+    ) -> AheadShelf<'a, R, S>
         ensures { inner_of result ≡ inner }
     {
         let processors = thread::available_parallelism(rt).map_or(1, |count| count.get());
@@ -74,6 +80,7 @@ impl<'a, R: Threads, S: Lends> AheadShelf<'a, R, S> {
             under_way: VecDeque::new(alloc),
             ahead: 0,
             most: processors.saturating_mul(2),
+            most_ahead,
         }
     }
 
@@ -136,7 +143,7 @@ impl<'a, R: Threads, S: Lends> AheadShelf<'a, R, S> {
         ensures { inner_of self.new ≡ inner_of self.old }
     {
         for _ in self.under_way.len()..self.most {
-            if self.ahead >= MOST_AHEAD {
+            if self.ahead >= self.most_ahead {
                 return;
             }
             let Some(hint) = self.hints.get(self.begun) else {

@@ -111,7 +111,7 @@ fn bodies_are_read_ahead(rt: HostRuntime) -> Result<(), Fail> {
             hashed: (*number != 8).then_some(Algorithm::Sha256),
         })?;
     }
-    let mut shelf = AheadShelf::new(&rt, rt.alloc(), shelf, hints);
+    let mut shelf = AheadShelf::new(&rt, rt.alloc(), shelf, hints, 1_000_000);
     let mut read = Vec::new(rt.alloc());
     for number in [1, 3, 4, 5, 6, 8, 8].iter() {
         read.push(match shelf.ready(*number) {

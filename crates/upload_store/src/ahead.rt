@@ -22,6 +22,10 @@ use std::alloc::Global;
 use std::thread::Threads;
 use upload_journal::Replay;
 
+/// How many bytes bodies may have together that are read ahead: no room counts them. If there is one, an eighth of it is
+/// enough.
+const MOST_AHEAD: u64 = 1 << 30;
+
 impl<D: Disk, S: Lends> Store<D, S> {
     ghost use Rattle.upload_store.specs.Store.{journal_of, shelf_of, disk_of, is_open, kept_of, next_of, limits_of};
     ghost use Rattle.upload_store.specs.Store.{IsClean};
@@ -42,7 +46,11 @@ impl<D: Disk, S: Lends> Store<D, S> {
             memory,
             next,
         } = self;
-        let shelf = AheadShelf::new(rt, alloc, run.rerun.files.shelf, hints);
+        let most_ahead = match &memory {
+            Some(room) => MOST_AHEAD.min(room.limit() / 8),
+            None => MOST_AHEAD,
+        };
+        let shelf = AheadShelf::new(rt, alloc, run.rerun.files.shelf, hints, most_ahead);
         let rerun = Rerun::new(alloc, shelf, limits);
         let run = Rescue::new(alloc, rerun);
         Store {
