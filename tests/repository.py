@@ -57,8 +57,8 @@ OF_TESTS = re.compile(r"^#\[cfg\(test\)\]\nmod (\w+);", re.MULTILINE)
 # Functions of which no clause says anything, since none can speak of another thread, of what is told to people, or of a
 # file that is another process's. Tests stand for them.
 NO_CLAUSE = {
-    "upload_bytes": {"ThreadEnd::new", "ThreadEnd::wait", "Room::of"},
-    "upload_service": {"Service::room"},
+    "upload_bytes": {"ThreadEnd::new", "ThreadEnd::wait", "Room::of", "Upload::stays"},
+    "upload_service": {"Service::is_scarce", "Service::room"},
     "journal_file": {"Folder::remove", "Folder::rename", "make_plain"},
     "blobd_data": {
         "tell_behind",

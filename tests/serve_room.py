@@ -6,7 +6,9 @@
 import os
 import random
 import subprocess
+import time
 
+from harness import shims
 from harness.running import Server, ask_alone, pull, run
 from harness.suite import OPTIONS, case, check, equal, main
 from harness.wire import sha256
@@ -98,6 +100,45 @@ def room_comes_back():
         with server.client() as client:
             equal("one that is whole", post(client, content), 201)
             equal("the same again, which replaces it", post(client, content[: 3 * MIB]), 201)
+
+
+def uploaded(client, content):
+    """The status of an upload in one chunk: of the opening if that is refused, else of the chunk."""
+    opening = client.ask("POST", f"/v2/{NAME}/blobs/uploads/")
+    if opening.status != 202:
+        return opening.status
+    return client.ask("PATCH", opening.fields["Location"], content).status
+
+
+def until_taken(client, content):
+    """The statuses of uploads of this content, one after the other for ten seconds at most, up to one that is taken."""
+    statuses, end = [], time.monotonic() + 10
+    while not statuses or (statuses[-1] != 202 and time.monotonic() < end):
+        statuses.append(uploaded(client, content))
+        time.sleep(0.1)
+    return statuses
+
+
+@case("cc")
+def idle_uploads(folder):
+    """What uploads have that their clients left is there for others once they are idle, and not before: all of it,
+    whether they are few and large or many and small."""
+    chance = random.Random(OPTIONS.seed)
+    for count, size in ((1, 9 * MIB), (3, 3 * MIB), (40, 240_000), (700, 12_000)):
+        ahead = os.path.join(folder, f"ahead-{count}")
+        clock = shims.loaded(folder, "ahead", CLOCK_AHEAD=ahead)
+        shims.pass_time(ahead, 0)
+        with serving(**clock) as server, server.client() as client:
+            left = [uploaded(client, chance.randbytes(size)) for _ in range(count)]
+            equal(f"{count} of {size} bytes", left, [202] * count)
+            blob = chance.randbytes(100)
+            equal("a blob beside them", post(client, blob), 201)
+            content = chance.randbytes(8 * MIB)
+            equal("another, while they aren't idle", [uploaded(client, content) for _ in range(3)], [503] * 3)
+            shims.pass_time(ahead, 3_700)
+            statuses = until_taken(client, content)
+            equal(f"another, behind {len(statuses) - 1} that were refused", statuses[-1], 202)
+            has_all(server, [blob])
 
 
 @case()

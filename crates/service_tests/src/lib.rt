@@ -9,6 +9,8 @@ mod forgets;
 #[cfg(test)]
 mod growths;
 #[cfg(test)]
+mod idle;
+#[cfg(test)]
 mod lists;
 #[cfg(test)]
 mod model;

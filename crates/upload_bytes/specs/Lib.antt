@@ -6,3 +6,4 @@ pub mod Body
 pub mod Segments
 pub mod Prefixes
 pub mod Blobs
+pub mod Uploads

@@ -4,11 +4,13 @@
 //! comes (`hashing`), in place or in a thread, for whose end others may wait (`thread_end`). What an upload received
 //! (`received`) are the parts of its bodies, one after another (`segments`), with hashes that catch up with them
 //! (`prefix_hash`). A body may be hashed behind that (`front`). A blob (`blob`) is kept in the parts that it arrived in,
-//! and is handed out in them (`shared`). What there is no room for is let go as it comes (`gone`).
+//! and is handed out in them (`shared`). What there is no room for is let go as it comes (`gone`). So are the bytes of an
+//! upload (`upload`) for which others need the room: of these the length and the hashes are left (`digested`).
 #![tactic(auto)]
 
 mod blob;
 mod body;
+mod digested;
 mod front;
 mod gone;
 mod granted;
@@ -21,9 +23,11 @@ mod same;
 mod segments;
 mod shared;
 mod thread_end;
+mod upload;
 
 pub use blob::{Blob, Several};
 pub use body::{Body, BodyBuilder, Pieces};
+pub use digested::Digested;
 pub use front::Front;
 pub use gone::Gone;
 pub use granted::Granted;
@@ -33,3 +37,4 @@ pub use received::Received;
 pub use room::{Grant, Room};
 pub use shared::BlobBytes;
 pub use thread_end::ThreadEnd;
+pub use upload::Upload;

@@ -1,12 +1,14 @@
 //! What a session received, with its running hashes.
-ghost use Rattle.std.specs.Prelude.{◌≡◌, ◌↔◌, ◌+◌, ◌<◌, ◌^◌, ◌++◌, [], length, IsTrue, IfOk, IfSome, OnOk, OnErr};
+ghost use Rattle.std.specs.Prelude.{◌≡◌, ◌↔◌, ◌+◌, ◌<◌, ◌^◌, ◌++◌, [], length, IsTrue, IfOk, IfErr, IfSome, OnOk, OnErr};
 ghost use Rattle.sha2.specs.Sha256.{sha256};
 ghost use Rattle.sha2.specs.Sha512.{sha512};
 ghost use Rattle.upload_names.specs.Digest.{HasDigest};
 ghost use Rattle.std.specs.List.{concat};
+ghost use Rattle.upload_bytes.specs.Running.{HoldsBy};
 ghost use Rattle.upload_bytes.specs.Segments.{whole};
 
 use crate::body::Body;
+use crate::digested::Digested;
 use crate::front::Front;
 use crate::granted::Granted;
 use crate::hashing::{HashPlace, Running};
@@ -210,6 +212,36 @@ impl Received {
         };
         parts.push(tail)?;
         Ok(BlobBytes::of_parts(parts))
+    }
+
+    /// Lets the bytes go: what is left has their length and their hashes, which take in here what they lack. An `Err` gives
+    /// the bytes back: a thread is at work for one of the hashes.
+    pub fn let_go<P: HashPlace>(self, place: &P) -> Result<Digested, Received>
+        ensures ok { IfOk result (λ left. left ≡ self) }
+        ensures err { IfErr result (λ back. back ≡ self) }
+    {
+        let mut received = self;
+        let first = received.take_back(place, Algorithm::Sha256);
+        let second = received.take_back(place, Algorithm::Sha512);
+        if first.is_some() || second.is_some() {
+            return Err(received);
+        }
+        let sha256 = received.hash(place, Algorithm::Sha256);
+        let sha512 = received.hash(place, Algorithm::Sha512);
+        Ok(Digested::of(&received, sha256, sha512))
+    }
+
+    /// A hash by an algorithm that holds all the bytes. Nothing that is seen changes.
+    fn hash<P: HashPlace>(&mut self, place: &P, algorithm: Algorithm) -> Running
+        ensures hash { HoldsBy algorithm result self.old }
+        ensures same { self.new ≡ self.old }
+    {
+        let settled = self.segments.settled();
+        let hash = match algorithm {
+            Algorithm::Sha256 => self.sha256.of_settled(place, Algorithm::Sha256, settled),
+            Algorithm::Sha512 => self.sha512.of_settled(place, Algorithm::Sha512, settled),
+        };
+        hash.with(self.segments.tail())
     }
 
     /// The segments alone.

@@ -394,8 +394,33 @@ fn is_u64(number: u64)
     ensures { number < 2 ^ 64 }
 {}
 
-// Serves a request, which is kept if it changed something.
+// Serves a request, which is kept if it changed something. If little room is left, or it found none, idle uploads give way
+// to others.
 fn serve<R: Threads, K: Keeping>(
+    rt: &R,
+    service: &mut Service,
+    keeping: &mut K,
+    seat: usize,
+    request: Request,
+    secret: [u8; 12],
+    now: u64,
+) -> Answer
+    ensures turn { Turn service.old (ask_in request) secret now result service.new }
+    ensures start { K.start keeping.new ≡ K.start keeping.old }
+    ensures kept { K.kept keeping.new ≡ K.kept keeping.old }
+    ensures waiting { K.waiting keeping.new ≡ K.waiting keeping.old
+        ++ changed (answered_so (asked (ask_in request) secret now) result ∷ []) }
+    ensures last { K.last keeping.new ≡ max (K.last keeping.old) now }
+{
+    let answer = serve_as_it_came(rt, service, keeping, seat, request, secret, now);
+    if matches!(answer, Answer::NoMemory) || service.is_scarce() {
+        service.give_way(&InThreads(rt), now);
+    }
+    answer
+}
+
+// Serves a request with its bytes or without, which is kept if it changed something.
+fn serve_as_it_came<R: Threads, K: Keeping>(
     rt: &R,
     service: &mut Service,
     keeping: &mut K,

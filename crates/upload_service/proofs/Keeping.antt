@@ -6,3 +6,4 @@ pub mod Lookups
 pub mod Stocked
 pub mod Holding
 pub mod Forgetting
+pub mod Taken

@@ -40,6 +40,14 @@ impl Budget {
         }
     }
 
+    /// Whether less than an eighth of the room is left.
+    pub fn is_scarce(&self) -> bool {
+        match &self.room {
+            Some(room) => room.left() < room.limit() / 8,
+            None => false,
+        }
+    }
+
     /// A grant of no bytes, which others may join.
     pub fn none(&self) -> Grant {
         match &self.room {

@@ -238,11 +238,30 @@ impl Service {
             .front(place, self.tables.alloc, at, algorithm)
     }
 
+    /// Whether less than an eighth is left of the room that it is granted of, if there is a limit.
+    pub fn is_scarce(&self) -> bool {
+        self.tables.budget.is_scarce()
+    }
+
+    /// Has the bytes of some sessions go that are idle at this moment, in seconds, so that there is room for others: for
+    /// who sees that little is left (`is_scarce`), or that a request found none. Their hashes take in at a place what they
+    /// lack. If threads do that, the bytes go at the first `catch_up` or `step_joining` behind their end. Nothing that is
+    /// seen changes: such a session is idle at each later moment too. If a moment should fall all the same, it tells its
+    /// offset and refuses as ever, and what would change it is out of memory.
+    pub fn give_way<P: HashPlace>(&mut self, place: &P, now: u64)
+        ensures { self.new ≡ self.old }
+    {
+        let max_idle = self.tables.limits.max_idle;
+        self.tables
+            .sessions
+            .give_way(place, self.tables.alloc, max_idle, now);
+    }
+
     /// Joins the threads that have ended hashing.
     fn take_back<P: HashPlace>(&mut self, place: &P)
         ensures { self.new ≡ self.old }
     {
-        self.tables.sessions.take_back(place);
+        self.tables.sessions.take_back(place, self.tables.alloc);
     }
 
     /// Has the numbers up to this one count as used up, so that no session gets one of them. Nothing else changes, and

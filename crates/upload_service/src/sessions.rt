@@ -12,14 +12,14 @@ use crate::limits::Limits;
 use std::alloc::{AllocError, Global};
 use std::collections::{BTreeMap, VecDeque};
 use std::marker::Model;
-use upload_bytes::{Body, Front, Grant, HashPlace, Received, ThreadEnd};
+use upload_bytes::{Body, Front, Grant, HashPlace, Received, ThreadEnd, Upload};
 use upload_names::{Algorithm, BlobDigest, RepoName, UploadRef};
 
 /// A session that was opened and not yet closed.
 #[derive(Drop)]
 pub struct OpenSession {
     pub name: RepoName,
-    pub received: Received,
+    pub received: Upload,
     /// The moment, in seconds, of its opening or of the last chunk that it took.
     pub seen: u64,
     /// It covers what the table takes for the session.
@@ -33,7 +33,7 @@ impl OpenSession {
     {
         OpenSession {
             name,
-            received: Received::new(alloc),
+            received: Upload::new(alloc),
             seen: now,
             grant,
         }
@@ -54,6 +54,9 @@ struct Started {
     algorithm: Algorithm,
     end: ThreadEnd,
 }
+
+/// How many idle sessions give way at once: each may have two threads that hash.
+const GIVE_WAY_AT_ONCE: usize = 8;
 
 /// The open sessions, seen as a map from their references.
 #[derive(Drop)]
@@ -220,9 +223,9 @@ impl Sessions {
         let _ = self.started.push_back(Started { at, algorithm, end });
     }
 
-    /// Joins the threads that have ended hashing, if that can be done at this place, so that they keep no stack. Nobody
-    /// waits, and nothing that is seen changes.
-    pub fn take_back<P: HashPlace>(&mut self, place: &P)
+    /// Joins the threads that have ended hashing, if that can be done at this place, so that they keep no stack. The bytes
+    /// go that are to give way. Nobody waits, and nothing that is seen changes.
+    pub fn take_back<P: HashPlace>(&mut self, place: &P, alloc: Global)
         ensures { self.new ≡ self.old }
     {
         for _ in 0..self.started.len() {
@@ -231,7 +234,7 @@ impl Sessions {
             };
             if !end.is_over() {
                 self.note(at, algorithm, end);
-            } else if let Some(end) = self.take_back_one(place, &at, algorithm) {
+            } else if let Some(end) = self.take_back_one(place, alloc, &at, algorithm) {
                 self.note(at, algorithm, end);
             }
         }
@@ -241,6 +244,7 @@ impl Sessions {
     fn take_back_one<P: HashPlace>(
         &mut self,
         place: &P,
+        alloc: Global,
         at: &UploadRef,
         algorithm: Algorithm,
     ) -> Option<ThreadEnd>
@@ -249,7 +253,41 @@ impl Sessions {
         let Some(session) = self.open.get_mut(at) else {
             return None;
         };
-        session.received.take_back(place, algorithm)
+        session.received.take_back(place, alloc, algorithm)
+    }
+
+    /// Has the bytes of idle sessions go, of some at once, so that there is room for others (`Upload::give_way`). Nothing
+    /// that is seen changes.
+    pub fn give_way<P: HashPlace>(&mut self, place: &P, alloc: Global, max_idle: u64, now: u64)
+        ensures { self.new ≡ self.old }
+    {
+        for _ in 0..GIVE_WAY_AT_ONCE {
+            let Some(at) = self.idle_that_stays(max_idle, now) else {
+                return;
+            };
+            self.give_way_one(place, alloc, &at);
+            // These note the threads that are at work, so that they are joined.
+            let _ = self.catch_up(place, alloc, &at, Algorithm::Sha256);
+            let _ = self.catch_up(place, alloc, &at, Algorithm::Sha512);
+        }
+    }
+
+    /// An idle session whose bytes aren't to go yet.
+    fn idle_that_stays(&self, max_idle: u64, now: u64) -> Option<UploadRef> {
+        let mut sessions = self.open.iter();
+        let entry = sessions.find(|entry| entry.1.is_idle(max_idle, now)
+            && entry.1.received.stays())?;
+        Some(*entry.0)
+    }
+
+    /// Has the bytes of a session go.
+    fn give_way_one<P: HashPlace>(&mut self, place: &P, alloc: Global, at: &UploadRef)
+        ensures { self.new ≡ self.old }
+    {
+        let Some(session) = self.open.get_mut(at) else {
+            return;
+        };
+        session.received.give_way(place, alloc);
     }
 
     /// What an open session received, with its hash by an algorithm, if there is such a session and memory for it. A
@@ -291,14 +329,38 @@ impl Sessions {
         session.received.has_digest(place, digest, body)
     }
 
-    /// Closes a session and hands it out.
-    pub fn close(&mut self, at: &UploadRef) -> Option<OpenSession>
-        ensures found { IfSome result
-            (λ session. map.get self.old at.now ≡ Some (session_of session)) }
-        ensures none { IfNone result (map.get self.old at.now ≡ None) }
-        ensures closed { IsSome result → self.new ≡ map.remove self.old at.now }
+    /// Moves out what an open session received, so that it has received nothing. None says that its bytes were let go, and
+    /// changes nothing.
+    pub fn take(&mut self, alloc: Global, at: &UploadRef) -> Option<Received>
+        requires { IsSome (map.get self.old at.now) }
+        ensures taken { IfSome result (λ received. (session : Session)
+            → map.get self.old at.now ≡ Some session → (received ≡ session.received)
+            × (self.new ≡ map.insert self.old at.now (record session { received = [] }))) }
+        ensures none { IfNone result (self.new ≡ self.old) }
     {
-        self.open.remove(at)
+        let Some(session) = self.open.get_mut(at) else {
+            unreachable!();
+        };
+        session.received.take(alloc)
+    }
+
+    /// Has an open session have received these bytes.
+    pub fn put_back(&mut self, at: &UploadRef, received: Received)
+        requires { IsSome (map.get self.old at.now) }
+        ensures { (session : Session) → map.get self.old at.now ≡ Some session
+            → self.new ≡ map.insert self.old at.now (record session { received = received }) }
+    {
+        let Some(session) = self.open.get_mut(at) else {
+            unreachable!();
+        };
+        session.received = Upload::of(received);
+    }
+
+    /// Has a session leave, if it is open.
+    pub fn close(&mut self, at: &UploadRef)
+        ensures { self.new ≡ map.remove self.old at.now }
+    {
+        let _ = self.open.remove(at);
     }
 
     /// Has the idle sessions leave, whether or not the table is full. It takes no memory.

@@ -256,29 +256,18 @@ fn commit(tables: &mut Tables, last: Placed, digest: BlobDigest) -> Answer
     let Ok(place) = Several::of(tables.alloc, body) else {
         return Answer::NoMemory;
     };
-    let Ok(()) = tables.stock.hold(&name, digest) else {
+    let Some(received) = tables.sessions.take(tables.alloc, &at) else {
         return Answer::NoMemory;
     };
-    let blob = blob_of(tables.alloc, &mut tables.sessions, &at, place);
+    let Ok(()) = tables.stock.hold(&name, digest) else {
+        tables.sessions.put_back(&at, received);
+        return Answer::NoMemory;
+    };
+    tables.sessions.close(&at);
+    let blob = Blob::of_received(tables.alloc, received, place);
     tables.stock.put(digest, blob);
     tables.entries.join(grant);
     Answer::Stored { name, digest }
-}
-
-/// Closes an open session, and makes a blob of what it received and a last body, in a place where that body is
-/// already. It takes no memory.
-fn blob_of(alloc: Global, sessions: &mut Sessions, at: &UploadRef, place: Box<Several>) -> Blob
-    requires open { IsSome (map.get sessions.old at.now) }
-    requires fits { (session : Session) → map.get sessions.old at.now ≡ Some session
-        → length session.received + length (body_in (box_value place)) < 2 ^ 64 }
-    ensures blob { (session : Session) → map.get sessions.old at.now ≡ Some session
-        → result ≡ session.received ++ body_in (box_value place) }
-    ensures closed { sessions.new ≡ map.remove sessions.old at.now }
-{
-    let Some(session) = sessions.close(at) else {
-        unreachable!();
-    };
-    Blob::of_received(alloc, session.received, place)
 }
 
 /// Grants what the table takes for a session that is opened. If the table is full, idle ones leave then, which gives back

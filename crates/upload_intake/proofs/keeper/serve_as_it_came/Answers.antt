@@ -3,7 +3,7 @@ use Rattle.upload_service.specs.declared.ask.Request.{Request}
 use Rattle.upload_service.specs.Machine.{Turn}
 use Rattle.upload_service.specs.Requests.{ask_in}
 use Rattle.upload_intake.specs.Safety.{asked, answered_so, changed}
-use Rattle.upload_intake.proofs.keeper.serve.Goals as goal
+use Rattle.upload_intake.proofs.keeper.serve_as_it_came.Goals as goal
 
 pub returns-in-Held-clause-turn : goal.returns-in-Held-clause-turn
 returns-in-Held-clause-turn g c =
