@@ -24,6 +24,8 @@ V3 = crates/blobd/out/blobd-v3
 # What a processor of that level has. The program checks as it starts that the processor is one.
 V3_FLAGS = avx avx2 bmi1 bmi2 f16c fma abm movbe xsave
 PROGRAM := $(if $(filter-out $(shell grep -m1 '^flags' /proc/cpuinfo),$(V3_FLAGS)),$(EVERY),$(V3))
+# What `make serve` and others build before they run it: nothing, if PROGRAM names a program.
+MADE = $(if $(filter file,$(origin PROGRAM)),$(PROGRAM))
 # What is built already, the one for this processor first. `make run` and `make upload` take it as it is.
 BUILT = $(firstword $(wildcard $(PROGRAM) $(EVERY)))
 
@@ -82,7 +84,7 @@ try:
 once: $(EVERY)
 	@python3 tools/conversation.py $(EVERY) once
 
-serve: counted $(PROGRAM)
+serve: counted $(MADE)
 	@BLOBD_WORKERS=$(WORKERS) $(if $(DATA),BLOBD_DATA='$(DATA)') $(MALLOC) $(PROGRAM) serve $(ADDR) $(COUNT)
 
 # A COUNT that the program would refuse is refused before anything is built.
@@ -118,7 +120,9 @@ $(V3): $(SOURCES)
 # The packages first: what is missing is told before the program is built.
 registry:
 	@python3 deploy/registry.py --packages $(if $(DATA),'$(DATA)')
-	@$(MAKE) -s $(PROGRAM)
+ifneq ($(MADE),)
+	@$(MAKE) -s $(MADE)
+endif
 	@python3 deploy/registry.py $(PROGRAM) $(if $(DATA),'$(DATA)')
 
 adapter:
@@ -158,7 +162,7 @@ figures: $(EVERY)
 
 # Figures in docs/performance.json, and the picture of them.
 JSON = docs/performance.json
-bench: $(PROGRAM)
+bench: $(MADE)
 	@python3 bench/loopback.py $(PROGRAM) --json $(JSON)
 	@python3 bench/draw.py $(JSON) docs/performance.svg
 	@python3 bench/disk.py $(PROGRAM)

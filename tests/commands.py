@@ -50,17 +50,28 @@ def test_nothing_is_built_by_run_and_upload():
 
 @case()
 def test_what_is_newer_than_its_sources_is_started_at_once(folder):
-    program, source = os.path.join(folder, "blobd"), os.path.join(folder, "source")
-    for path in (program, source):
+    every, fast, source = (os.path.join(folder, name) for name in ("blobd", "blobd-v3", "source"))
+    for path in (every, fast, source):
         written(path, "")
-    words = [f"EVERY={program}", f"PROGRAM={program}", f"SOURCES={source}"]
-    for newer, older, is_built in ((program, source, False), (source, program, True)):
-        os.utime(older, (1, 1))
-        os.utime(newer, (2, 2))
+    words = [f"EVERY={every}", f"V3={fast}", f"SOURCES={source}"]
+    for newer, older, is_built in (((every, fast), (source,), False), ((source,), (every, fast), True)):
+        for paths, second in ((older, 1), (newer, 2)):
+            for path in paths:
+                os.utime(path, (second, second))
         for target in ("serve", "once", "registry"):
             told, _ = make("-n", target, *words)
             name = f"make {target} builds what is {'older' if is_built else 'newer'} than its sources"
             check(name, ("tools/build.py" in told) == is_built, told)
+
+
+@case()
+def test_a_program_that_is_named_is_not_built():
+    """Neither one that isn't there, nor one that a rule would build."""
+    for program in ("/nowhere/blobd", "crates/blobd/out/blobd"):
+        for target in ("serve", "registry", "bench"):
+            told, status = make("-n", target, f"PROGRAM={program}")
+            is_right = status == 0 and f" {program} " in told and "make -s" not in told and "build.py" not in told
+            check(f"make {target} PROGRAM={program}", is_right, told)
 
 
 @case()
