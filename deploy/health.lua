@@ -1,13 +1,29 @@
 -- GET /health: how each part of the registry is, a line each, and 503 if one isn't well. manifests.lua gives the table
 -- of functions that keeps manifests, and what tells why they were refused of late.
 --
--- HAProxy sees whether a shard takes connections (its backend watch), and which one refused a request for want of room
--- (its table full). Redis is asked. What it refused stands for a while too: if its disk is full, it ends at each change
--- and is well in between.
+-- HAProxy sees whether a shard takes connections (its backend watch), and tells here which one refused a request for
+-- want of room (`lua.told`). Redis is asked. What it refused stands for a while too: if its disk is full, it ends at
+-- each change and is well in between.
+
+-- seconds in which a refusal is told
+local TOLD = tonumber(os.getenv("FRONT_TOLD"))
+
+-- what haproxy.cfg tells of a shard that refused a request for want of room
+local STATES = {
+  full = "full", uploads = "full of open uploads", cut = "full, or it ended a request without a reply",
+}
+-- the last of it of each shard, and its second
+local refusals = {}
+
+core.register_fetches("told", function(txn, state)
+  refusals[txn.f:srv_name()] = {state = STATES[state], second = core.now().sec}
+  return state
+end)
 
 local function state_of(shard, server)
   if not server:get_stats().status:find("^UP") then return "takes no connections" end
-  if core.backends["full"].stktable:lookup(shard) then return "full" end
+  local refusal = refusals[shard]
+  if refusal and core.now().sec - refusal.second < TOLD then return refusal.state end
   return "well"
 end
 

@@ -11,6 +11,7 @@ from harness.registry import IMAGE_PUSHED, MIB, PROXY, Client, Site, is_refused,
 from harness.running import becomes, told_by
 from harness.suite import case, check, equal, main
 
+from harness.wire import sha256
 UPLOADS = "/v2/lib/a/blobs/uploads/"
 REFUSED = b"HTTP/1.1 503 Service Unavailable\r\nContent-Length: 0\r\nConnection: close\r\n\r\n"
 # seconds in which a refusal is told
@@ -74,10 +75,42 @@ def uploads_that_were_left_are_told(folder):
             connection.sendall(refused)
         connection.close()
 
-    with Listener(refuse) as shard, servers.HAProxy(folder, [shard.addr]) as proxy:
+    with Listener(refuse) as shard, servers.HAProxy(folder, [shard.addr], more=TOLD) as proxy:
         told = Client(proxy.local).ask("POST", UPLOADS)
         is_refused("an opening", told, 429, "TOOMANYREQUESTS", "its client left")
-        equal("it isn't full of bytes", health(proxy)[0], 200)
+        equal("its table is full", health(proxy), (503, ["shard1: full of open uploads", "manifests: well"]))
+        check("for a while", becomes(200, lambda: health(proxy)[0]), health(proxy))
+
+
+def vanish(connection):
+    """Ends a request in the middle of its body, and takes what still comes."""
+    with connection:
+        connection.recv(65536)
+        connection.shutdown(socket.SHUT_WR)
+        while connection.recv(65536):
+            pass
+
+
+@case(*PROXY)
+def a_body_that_found_no_room_is_told(folder):
+    """A shard ends a large body that has a digest if there is no room for it; no other body."""
+    servers.certificate(folder)
+    servers.logins(folder, {})
+    digest = f"?digest={sha256(b'')}"
+    with Listener(vanish) as shard, servers.HAProxy(folder, [shard.addr], more=TOLD) as proxy:
+        for method, target, size, state in (
+            ("PATCH", f"{UPLOADS}1", 8 * MIB, "well"),
+            ("PUT", f"{UPLOADS}1{digest}", 4 * MIB, "well"),
+            ("PUT", f"{UPLOADS}1{digest}", 8 * MIB, "full, or it ended a request without a reply"),
+            ("POST", f"{UPLOADS}{digest}", 8 * MIB, "full, or it ended a request without a reply"),
+        ):
+            client = Client(proxy.local)
+            client.send_head(method, target, Content_Length=size)
+            with contextlib.suppress(ConnectionError):
+                client.send(bytes(size))
+            is_refused(f"a {method} of {size} bytes", client.reply(method), 503, "UNAVAILABLE", "had no memory")
+            equal(f"what is said behind a {method} of {size} bytes", health(proxy)[1][0], f"shard1: {state}")
+        check("for a while", becomes(200, lambda: health(proxy)[0]), health(proxy))
 
 
 @case(*PROXY)
