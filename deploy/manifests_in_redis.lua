@@ -125,21 +125,28 @@ local function written(words)
   return table.concat(parts)
 end
 
+-- Why Redis didn't do what was begun at this second: HAProxy tells of a wait that is over as of a connection that ended.
+local function reason(begun, told)
+  if core.now().sec - begun < PATIENCE - 1 then return told end
+  return "doesn't answer within " .. PATIENCE .. " s"
+end
+
+local function received(socket, what)
+  local begun = core.now().sec
+  local text, told = socket:receive(what)
+  return text or fail(reason(begun, told))
+end
+
 -- One reply: a text, a number, a list, or false for nothing.
 local function read(socket)
-  local line, told = socket:receive("*l")
-  if not line then fail(told) end
+  local line = received(socket, "*l")
   local kind, rest = line:sub(1, 1), line:sub(2)
   if kind == "+" then return rest end
   if kind == ":" then return tonumber(rest) end
   if kind == "-" then fail(rest) end
   local length = tonumber(rest)
   if length < 0 then return false end
-  if kind == "$" then
-    local text, why = socket:receive(length + 2)
-    if not text then fail(why) end
-    return text:sub(1, length)
-  end
+  if kind == "$" then return received(socket, length + 2):sub(1, length) end
   local list = {}
   for at = 1, length do list[at] = read(socket) end
   return list
@@ -147,9 +154,9 @@ end
 
 -- Calls a function with what asks Redis over one connection: a command's words give its reply.
 local function connected(work)
-  local socket = core.tcp()
+  local socket, begun = core.tcp(), core.now().sec
   socket:settimeout(PATIENCE)
-  if not socket:connect(HOST, tonumber(PORT)) then fail("nobody listens") end
+  if not socket:connect(HOST, tonumber(PORT)) then fail(reason(begun, "nobody listens")) end
   local function ask(...)
     local sent, told = socket:send(written({...}))
     if not sent then fail(told) end

@@ -4,14 +4,15 @@
     registry_health.py PROGRAM
 """
 import contextlib
+import signal
 import socket
 
 from harness.listeners import Listener
 from harness.registry import IMAGE_PUSHED, MIB, PROXY, Client, Site, is_refused, push_image, servers
 from harness.running import becomes, told_by
 from harness.suite import case, check, equal, main
-
 from harness.wire import sha256
+
 UPLOADS = "/v2/lib/a/blobs/uploads/"
 REFUSED = b"HTTP/1.1 503 Service Unavailable\r\nContent-Length: 0\r\nConnection: close\r\n\r\n"
 # seconds in which a refusal is told
@@ -162,6 +163,22 @@ def redis_is_named(folder):
             check("the failure is told", status == 503 and "redis: failed within" in lines[1], lines)
             check("by Redis's words", "OOM" in lines[1], lines)
             check("for a while", becomes(well, lambda: health(site.haproxy)), health(site.haproxy))
+
+
+@case(*PROXY, "redis-server")
+def a_frozen_redis_is_told(folder):
+    servers.certificate(folder)
+    servers.logins(folder, {})
+    with servers.Redis(folder, "secret") as redis:
+        settings = {"FRONT_REDIS": redis.address, "FRONT_REDIS_PASSWORD": "secret"}
+        with servers.HAProxy(folder, [servers.free_address()], more=settings) as proxy:
+            for number, line in (
+                (signal.SIGSTOP, "redis: doesn't answer within 10 s"),
+                (signal.SIGCONT, "redis: well"),
+                (signal.SIGKILL, "redis: nobody listens"),
+            ):
+                redis.process.send_signal(number)
+                check(f"behind signal {number}", becomes(line, lambda: health(proxy)[1][1]))
 
 
 @case(*PROXY)
