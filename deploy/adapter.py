@@ -41,15 +41,25 @@ def status_of(address):
     return asked.getresponse().status
 
 
+def text_of(variable, path):
+    """The text of the file that is told as this variable of `make adapter`."""
+    try:
+        with open(path, encoding="utf-8") as file:
+            return file.read()
+    except (OSError, ValueError) as fault:
+        raise RuntimeError(f"{variable}={path} can't be read: {getattr(fault, 'strerror', 'it is no text')}") from fault
+
+
 def serve(told, folder):
     """Serves until it is interrupted or HAProxy ends."""
     scheme, registry = FORM.fullmatch(told.registry).groups()
-    certificates = None if scheme else os.path.abspath(told.ca) if told.ca else "@system-ca"
-    login = None
+    certificates, login = "@system-ca", None
+    if told.ca:
+        text_of("CA", told.ca)
+        certificates = os.path.abspath(told.ca)
     if told.login:
-        with open(told.login, encoding="utf-8") as file:
-            login = file.read().strip()
-    with servers.Adapter(folder, registry, certificates, login, told.at) as adapter:
+        login = text_of("LOGIN", told.login).strip()
+    with servers.Adapter(folder, registry, None if scheme else certificates, login, told.at) as adapter:
         status = status_of(told.at)
         if status != 200:
             why = WRONG.get(status, "it isn't a registry")

@@ -40,6 +40,20 @@ def the_adapter_wants_a_registry():
     check("a registry without a port", told.returncode == 2 and "HOST:PORT" in told.stderr, told)
 
 
+@case(*PROXY)
+def the_adapter_names_a_file_that_it_cannot_read(folder):
+    none, binary = os.path.join(folder, "none"), os.path.join(folder, "binary")
+    with open(binary, "wb") as file:
+        file.write(b"\xff")
+    causes = {none: "No such file or directory", folder: "Is a directory", binary: "it is no text"}
+    for variable in ("LOGIN", "CA"):
+        for path, why in causes.items():
+            words = ["--no-print-directory", "adapter", "REGISTRY=127.0.0.1:1", f"{variable}={path}"]
+            told = finished(["make", *words], cwd=TOP)
+            line = told.stderr.splitlines()[0]
+            equal(f"{variable}: {why}", (told.returncode, line), (2, f"{variable}={path} can't be read: {why}"))
+
+
 @case()
 def an_image_lists_its_folders():
     """Those of a layer that aren't listed may be made for root alone."""
