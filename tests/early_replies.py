@@ -78,14 +78,13 @@ def test_other_replies_to_a_part_of_a_chunk(folder):
 
 @case()
 def test_a_server_that_is_full(folder):
-    """It answers 503 behind the head of a large chunk, and closes: the client says that, and not what its write met."""
+    """It answers 503 behind the head of a large chunk, and closes: the client says why, and not what its write met."""
     half = len(LARGE) // 2
     begun, again = [OPENED, taken(half - 1)], [reply(204, b"Location: " + PLACE, b"Range: 0-%d" % (half - 1))]
-    full = [Early(reply(503, b"Connection: close"))]
+    full = [Early(reply(503, b"Connection: close", body=b'{"errors":[{"message":"it is full"}]}'))]
     with Scripted([reply(404), *begun, *full], again + full) as server:
         got = push(server.addr, "lib/a", written(folder, LARGE), half)
-        why = "the server answers 503: it has no memory left, or can't serve now (tried 6 times)"
-        told = f"blobd: can't push to {server.addr}: {why}\n"
+        told = f"blobd: can't push to {server.addr}: the server answers 503: it is full (tried 6 times)\n"
         equal("a server that is full", got, ("refused: out of tries\n", 1, told))
 
 

@@ -20,7 +20,9 @@ import time
 
 from harness import shims
 from harness.listeners import Proxy, Scripted
-from harness.running import MIB, USAGE, Server, already, environment, halt, has_ipv6, pull, push, pushed, written
+from harness.running import (
+    MIB, USAGE, Server, already, environment, halt, has_ipv6, pull, push, pushed, run, unhurried, written,
+)
 from harness.suite import OPTIONS, case, check, equal, main, skip
 from harness.wire import PATIENCE, address_of, sha256
 import servers
@@ -33,9 +35,14 @@ NAME_RULE = (
 )
 
 
-def given_up(addr, why, line="out of tries"):
-    """What a push prints that was given up, and why on standard error."""
-    return f"refused: {line}\n", 1, f"blobd: can't push to {addr}: {why}\n"
+def waits_for(addr):
+    """What standard error says of a wait for a server."""
+    return f"blobd: waits for {addr}\n"
+
+
+def given_up(addr, why, line="out of tries", waits=0):
+    """What a push prints that was given up, and on standard error why, behind so many waits."""
+    return f"refused: {line}\n", 1, waits_for(addr) * waits + f"blobd: can't push to {addr}: {why}\n"
 
 
 @case()
@@ -128,30 +135,29 @@ def servers_that_come_again(folder):
         begun = time.monotonic()
         ended = push(busy.addr, "lib/a", path, 1000)
         waited = time.monotonic() - begun
-        why = "the server answers 503: it has no memory left, or can't serve now (tried 7 times)"
-        equal("a server that can't serve", (ended, 3 < waited < 60), (given_up(busy.addr, why), True))
+        equal("a server that can't serve", (ended, 3 < waited < 60), (given_up(busy.addr, UNAVAILABLE), True))
 
 
 @case("cc")
 def servers_that_stay_away(folder):
-    """Where nobody listens one ask dials for a minute, and those behind it once each. A terminal is told of it once."""
+    """Where nobody listens one ask dials for a minute, and those behind it once each. That is told once."""
     abc, hasty = written(folder, b"abc"), shims.loaded(folder, "minutes")
     addr = servers.free_address()
     begun = time.monotonic()
-    ended = push(addr, "lib/a", abc, 2, env=hasty)
+    ended = run("push", addr, "lib/a", abc, "2", env=hasty)
     waited = time.monotonic() - begun
-    equal("a server that isn't there", ended, given_up(addr, "Connection refused (os error 111) (tried 7 times)"))
+    equal("a server that isn't there", ended, given_up(addr, "Connection refused (os error 111) (tried 7 times)", waits=1))
     # a minute, and the waits between the tries, thirty times as fast; seven minutes are more
     check("as long as it is dialed", 2.1 < waited < 13, waited)
     told, drawn = on_a_terminal("push", addr, "lib/a", abc, "2", env=hasty)
     equal("a server that isn't there, on a terminal", told, ("refused: out of tries\n", 1))
     equal("a line for the minute", drawn.count(f"\r\x1b[Kblobd: waits for {addr}\r\n"), 1)
     with concurrent.futures.ThreadPoolExecutor(1) as pool:
-        late = pool.submit(push, addr, "lib/a", abc, 2, env=hasty)
+        late = pool.submit(run, "push", addr, "lib/a", abc, "2", env=hasty)
         # half of the minute
         time.sleep(1)
         with Server(100, servers.place(addr)[1]):
-            equal("a server that starts within the minute", late.result(), pushed(b"abc"))
+            equal("a server that starts within the minute", late.result(), (*pushed(b"abc")[:2], waits_for(addr)))
 
 
 def held(data):
@@ -187,7 +193,7 @@ def push_over_kills(folder, *away):
                 time.sleep(seconds)
                 server = Server(port=server.place()[1], env={"BLOBD_DATA": data})
             out, error = pushing.communicate(timeout=PATIENCE)
-        return content, (out, pushing.returncode, error), pull(server, "lib/a", sha256(content))
+        return content, (out, pushing.returncode, unhurried(error)), pull(server, "lib/a", sha256(content))
     finally:
         server.stop()
         os.unlink(path)
@@ -240,6 +246,18 @@ NO_HTTP = "the reply isn't HTTP: is this https? (tried 7 times)"
 TLS = f"the reply is TLS: {HTTPS} (tried 7 times)"
 CLOSED = "the server closed the connection before it had replied: is this https? (tried 7 times)"
 NO_FORM = "no reply of a form that is read (tried 7 times)"
+UNAVAILABLE = (
+    "the server answers 503: it has no room, or it is a reverse proxy with no server behind it (tried 7 times)"
+)
+
+
+def unavailable(body, message=None):
+    """A 503 with this body, and what is said of it: the message in it, if there is one."""
+    why = f"the server answers 503: {message} (tried 7 times)" if message else UNAVAILABLE
+    return f"a 503 with {body[:40]}", reply_of("503 Service Unavailable", body), "out of tries", why
+
+
+LONG = b"x" * 1000
 # Replies of servers, the line that a push gives up with, and why.
 STRANGE = [
     ("a refusal with a code", reply_of("403 Forbidden", CODED), "403 DENIED", None),
@@ -258,6 +276,15 @@ STRANGE = [
     ("no reply", b"", "out of tries", CLOSED),
     ("half a reply", b"HTTP/1.1 20", "out of tries", CLOSED),
     ("an odd reply", b"HTTP/1.1 2xx\r\n\r\n", "out of tries", NO_FORM),
+    unavailable(b""),
+    unavailable(b"full"),
+    unavailable(b'{"errors":[{"code":"UNAVAILABLE","message":"the shard is full"}]}', "the shard is full"),
+    unavailable(b'{"errors":[{"message":"one \\"word\\""}]}', "one "),
+    unavailable(b'{"errors":[{"message":"\x1b[2J"}]}'),
+    unavailable(b'{"errors":[{"message":"a\nblobd: b"}]}', "a"),
+    unavailable(b'{"errors":[{"message":""}]}'),
+    unavailable(b'{"message":"' + LONG + b'"}', "x" * 240),
+    unavailable(b"<html><body><h1>503 Service Unavailable</h1>\nNo server is there.\n</body></html>\n", "No server is there."),
 ]
 
 
@@ -378,14 +405,14 @@ def chunks_of_sizes(folder):
 
 @case("cc")
 def silent_servers(folder):
-    """A server that takes a connection and says nothing costs a try, as does one that takes no byte."""
+    """A server that takes a connection and says nothing costs a try, which is told."""
     abc, hasty = written(folder, b"abc"), shims.loaded(folder, "minutes")
     with socket.create_server(("127.0.0.1", 0), backlog=50) as listener:
         addr = address_of(listener)
         begun = time.monotonic()
-        ended = push(addr, "lib/a", abc, 2, env=hasty)
+        ended = run("push", addr, "lib/a", abc, "2", env=hasty)
         waited = time.monotonic() - begun
-        equal("a silent server", ended, given_up(addr, "the server was silent for 30 s (tried 7 times)"))
+        equal("a silent server", ended, given_up(addr, "the server was silent for 30 s (tried 7 times)", waits=7))
         # seven times half a minute, thirty times as fast
         check("as long as it is waited for", 6.9 < waited < 150, waited)
 

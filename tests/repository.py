@@ -77,6 +77,7 @@ NO_CLAUSE = {
         "seconds_now",
         "compact_if_worth",
     },
+    "blobd_push": {"Message::is_empty", "Notes::note_read"},
     "blobd_serve": {"Holdings::of", "Holdings::look", "time_now"},
     "blobd": {"print_status", "run_compact", "usual_memory"},
 }

@@ -59,8 +59,15 @@ def written(folder, content):
     return path
 
 
+def unhurried(told):
+    """What a push told, without the lines that it waits: any may come on a busy machine."""
+    return "".join(line for line in told.splitlines(True) if not line.startswith("blobd: waits for "))
+
+
 def push(addr, name, path, *chunk, **options):
-    return run("push", addr, name, path, *map(str, chunk), **options)
+    """A run of a push, without the lines that it waits."""
+    line, status, told = run("push", addr, name, path, *map(str, chunk), **options)
+    return line, status, unhurried(told)
 
 
 def pushed(content):

@@ -68,7 +68,7 @@ words_of Silence = codes "the server was silent for 30 s"
 words_of Closed = codes "the server closed the connection before it had replied: is this https?"
 words_of Tls = codes "the reply is TLS: is this https? A push speaks plain HTTP"
 words_of NotHttp = codes "the reply isn't HTTP: is this https?"
-words_of Unavailable = codes "the server answers 503: it has no memory left, or can't serve now"
+words_of Unavailable = codes "the server answers 503: it has no room, or it is a reverse proxy with no server behind it"
 words_of Misplaced = codes "the server answers 416: does another client write into the upload?"
 
 -- what is wrong with a reply of this status, if it takes a try

@@ -3,9 +3,8 @@ ghost use Rattle.std.specs.Prelude.{◌≡◌, ◌≢◌, ◌≤◌, [], length,
 ghost use Rattle.std.specs.IoError.{error_kind};
 ghost use Rattle.blobd_shared.specs.Connections.{ReadGives, WriteTakes};
 
-use crate::trouble::{Trouble, error_trouble, first_trouble, is_unavailable, trouble_in};
+use crate::notes::Notes;
 use blobd_shared::{Counted, Inlet, Outlet};
-use std::cell::Cell;
 use std::io;
 use std::io::ErrorKind;
 
@@ -13,35 +12,13 @@ use std::io::ErrorKind;
 #[derive(Drop)]
 pub(crate) struct Half<'n, S> {
     stream: S,
-    trouble: &'n Cell<Trouble>,
+    notes: &'n Notes,
     /// Whether a byte was read.
     begun: bool,
 }
 
 /// Such a half as a source or a sink of bytes.
 pub(crate) type CountedHalf<'n, S> = Counted<Half<'n, S>>;
-
-/// Notes a trouble, unless there was one before.
-fn note(trouble: &Cell<Trouble>, new: Trouble) {
-    trouble.set(first_trouble(trouble.get(), new));
-}
-
-/// Notes what an error is.
-pub(crate) fn note_error(trouble: &Cell<Trouble>, error: &io::Error) {
-    let number = error.raw_os_error().map(|number| number.unsigned_abs());
-    note(trouble, error_trouble(number));
-}
-
-/// Notes what is wrong with bytes that were read, the first of a connection or not.
-fn note_read(trouble: &Cell<Trouble>, first: bool, read: &[u8]) {
-    if read.is_empty() {
-        note(trouble, Trouble::Closed);
-    } else if is_unavailable(read) {
-        note(trouble, Trouble::Unavailable);
-    } else if first && let Some(wrong) = trouble_in(read) {
-        note(trouble, wrong);
-    }
-}
 
 /// Reads, and again if a signal ended the read. What it gives is what the stream gave.
 fn read_through<S: Inlet>(stream: &mut S, buf: &mut [u8]) -> io::Result<usize>
@@ -79,12 +56,12 @@ impl<'n, S: Inlet> Inlet for Half<'n, S> {
     fn read(&mut self, buf: &mut [u8]) -> io::Result<usize> {
         match read_through(&mut self.stream, buf) {
             Ok(count) => {
-                note_read(self.trouble, !self.begun, &buf[..count]);
+                self.notes.note_read(!self.begun, &buf[..count]);
                 self.begun = self.begun || count > 0;
                 Ok(count)
             }
             Err(error) => {
-                note_error(self.trouble, &error);
+                self.notes.note_error(&error);
                 Err(error)
             }
         }
@@ -98,7 +75,7 @@ impl<'n, S: Outlet> Outlet for Half<'n, S> {
         match write_through(&mut self.stream, buf) {
             Ok(count) => Ok(count),
             Err(error) => {
-                note_error(self.trouble, &error);
+                self.notes.note_error(&error);
                 Err(error)
             }
         }
@@ -110,13 +87,13 @@ impl<'n, S: Outlet> Outlet for Half<'n, S> {
 }
 
 /// A half over a stream, with no call counted.
-pub(crate) fn counted<'n, S>(stream: S, trouble: &'n Cell<Trouble>) -> CountedHalf<'n, S>
+pub(crate) fn counted<'n, S>(stream: S, notes: &'n Notes) -> CountedHalf<'n, S>
     ensures stream { result.end.stream ≡ stream }
     ensures uncalled { (result.calls ≡ []) × (result.failed ≡ []) × (result.unflushed ≡ []) }
 {
     Counted::new(Half {
         stream,
-        trouble,
+        notes,
         begun: false,
     })
 }

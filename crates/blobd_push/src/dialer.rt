@@ -13,14 +13,14 @@ ghost use Rattle.blobd_push.specs.Trouble.{course_after, new_course};
 ghost use Rattle.blobd_push.specs.Pauses.{pause_after};
 
 use crate::bar::Bar;
-use crate::connection::{CountedHalf, counted, note_error, stream_of};
+use crate::connection::{CountedHalf, counted, stream_of};
 use crate::dials::Dials;
+use crate::notes::Notes;
 use crate::pauses::pause_after;
 use crate::sight::{Marks, Sight, look_over};
-use crate::trouble::{Course, Trouble, course_after, status_trouble};
+use crate::trouble::{Course, course_after, status_trouble};
 use http_wire::ReadBuffer;
 use std::alloc::{AllocError, Global};
-use std::cell::Cell;
 use std::io::Eprint;
 use std::rt::Clock;
 use std::thread;
@@ -65,7 +65,7 @@ pub(crate) struct Dialer<'r, D: Dials, R> {
     /// How its asks went.
     course: Course,
     /// What went wrong with the last ask; its connection notes it.
-    trouble: &'r Cell<Trouble>,
+    notes: &'r Notes,
     bar: Bar<'r, R>,
 }
 
@@ -76,7 +76,7 @@ impl<'r, D: Dials + Drop, R> Dialer<'r, D, R> {
         alloc: Global,
         dials: D,
         host: &'r str,
-        trouble: &'r Cell<Trouble>,
+        notes: &'r Notes,
         bar: Bar<'r, R>,
     ) -> Dialer<'r, D, R>
         ensures host { result.host.now ≡ host.now }
@@ -95,7 +95,7 @@ impl<'r, D: Dials + Drop, R> Dialer<'r, D, R> {
                 losses: 0,
                 opened: false,
             },
-            trouble,
+            notes,
             bar,
         }
     }
@@ -137,7 +137,7 @@ impl<'r, D: Dials + Drop, R> Dialer<'r, D, R> {
         match self.dials.dial() {
             Ok(ends) => Some(ends),
             Err(error) => {
-                note_error(self.trouble, &error);
+                self.notes.note_error(&error);
                 None
             }
         }
@@ -153,8 +153,8 @@ impl<'r, D: Dials + Drop, R> Dialer<'r, D, R> {
             × (self.new.course ≡ self.old.course) × (self.new.wire ≡ self.old.wire) }
     {
         let (source, sink) = self.ends()?;
-        let source = counted(source, self.trouble);
-        let sink = counted(sink, self.trouble);
+        let source = counted(source, self.notes);
+        let sink = counted(sink, self.notes);
         match WireTransport::over(self.alloc, source, sink, self.host.as_bytes()) {
             Ok(wire) => Some(wire),
             Err((source, sink)) => {
@@ -253,8 +253,8 @@ impl<'r, D: Dials + Drop, R> Dialer<'r, D, R> {
         let Some((source, sink)) = self.ends() else {
             return Sight::Nothing;
         };
-        let mut source = counted(source, self.trouble);
-        let mut sink = counted(sink, self.trouble);
+        let mut source = counted(source, self.notes);
+        let mut sink = counted(sink, self.notes);
         let host = self.host.as_bytes();
         let sight = look_over(buffer, &mut source, &mut sink, host, ask, marks);
         self.dials.take_back(stream_of(source), stream_of(sink));
@@ -276,7 +276,7 @@ impl<'r, D: Dials + Drop, R: Clock + Eprint> Dialer<'r, D, R> {
         if self.pause > 0 {
             thread::sleep(self.rt, Duration::from_millis(self.pause));
         }
-        self.trouble.set(Trouble::NoReply);
+        self.notes.clear();
     }
 
     /// What a further HEAD of a blob of so many bytes shows, over a connection of its own. An error means that there
@@ -322,7 +322,7 @@ impl<'r, D: Dials + Drop, R: Clock + Eprint> Dialer<'r, D, R> {
             .as_ref()
             .and_then(|reply| status_trouble(reply.status))
         {
-            self.trouble.set(trouble);
+            self.notes.set(trouble);
         }
     }
 }

@@ -3,7 +3,7 @@
 //! `push` looks whether the blob is there, pushes the file and prints how that ended. Its requests go over a `dialer`,
 //! which makes a `connection` as it needs one, and waits behind a request that wasn't heard (`pauses`). What it makes
 //! them of is lent to it (`dials`): for `blobd push` these are `sockets`. `trouble` says on standard error what went
-//! wrong, and `bar` how far the push has come.
+//! wrong, by what `notes` have of a request, and `bar` how far the push has come.
 #![tactic(auto)]
 
 mod bar;
@@ -11,6 +11,7 @@ mod connection;
 mod dialer;
 mod dials;
 mod laws;
+mod notes;
 mod pauses;
 mod push;
 mod sight;

@@ -11,12 +11,12 @@ ghost use Rattle.blobd_push.specs.Pushed.{Look, outcome_word, shown_code, why_te
 use crate::bar::Bar;
 use crate::dialer::{Dialer, is_word};
 use crate::dials::Dials;
+use crate::notes::Notes;
 use crate::sight::Sight;
-use crate::trouble::{Course, NAME_RULE, Trouble, reason_of};
-use blobd_shared::{DONE, FAULT, REFUSED, print_line};
+use crate::trouble::{Course, NAME_RULE, Reason, Trouble, reason_of};
+use blobd_shared::{DONE, FAULT, Quantity, REFUSED, print_line};
 use sha2::{Digest, Sha256};
 use std::alloc::{AllocError, Global};
-use std::cell::Cell;
 use std::io::{Eprint, Write};
 use std::rt::Clock;
 use upload_names::{BlobDigest, Bytes, NameFault, RepoName};
@@ -198,10 +198,18 @@ fn refuse_name<R: Eprint, W: Write>(rt: &R, out: &mut W) -> u8
 }
 
 /// Tells on standard error why a push was given up, if its line says too little. Nothing is promised of it.
-fn tell_why<R: Eprint>(rt: &R, host: &str, why: &Why, course: Course, trouble: Trouble) {
-    if let Some(reason) = reason_of(why, course, trouble) {
-        let _ = eprintln!(rt; "blobd: can't push to {host}: {reason}");
-    }
+fn tell_why<R: Eprint>(rt: &R, host: &str, why: &Why, course: Course, notes: &Notes) {
+    let message = notes.message();
+    let _ = match reason_of(why, course, notes.trouble()) {
+        Some(Reason::Lost(Trouble::Unavailable, count)) if !message.is_empty() => {
+            let tries = Quantity(count, "time");
+            eprintln!(rt;
+                "blobd: can't push to {host}: the server answers 503: {message} (tried {tries})"
+            )
+        }
+        Some(reason) => eprintln!(rt; "blobd: can't push to {host}: {reason}"),
+        None => Ok(()),
+    };
 }
 
 /// A file that is to be pushed.
@@ -238,13 +246,13 @@ where
     let mut bar = Bar::new(rt, job.file.len() as u64, job.seen);
     let digest = hash_file(job.file, &mut bar);
     bar.begin("sending");
-    let trouble = Cell::new(Trouble::NoReply);
-    let mut dialer = Dialer::new(rt, rt.alloc(), dials, host, &trouble, bar);
+    let notes = Notes::new();
+    let mut dialer = Dialer::new(rt, rt.alloc(), dials, host, &notes, bar);
     let ended = send(&mut dialer, rt.alloc(), &name, job.file, job.chunk, digest);
     let (course, mut bar, dials) = dialer.into_parts();
     bar.clear();
     if let Err(PushFault::GaveUp(why)) = &ended {
-        tell_why(rt, host, why, course, trouble.get());
+        tell_why(rt, host, why, course, &notes);
     }
     (print_end(out, ended, digest), dials)
 }

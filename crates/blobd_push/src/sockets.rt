@@ -23,7 +23,7 @@ const CONNECT_SECONDS: u64 = 10;
 /// How long a server may be silent, and how long it may take no byte, in seconds.
 const SILENCE_SECONDS: u64 = 30;
 
-/// After how much of such a wait a terminal is told of it, in seconds.
+/// After how much of such a wait it is told, in seconds.
 const TOLD_SECONDS: u64 = 5;
 
 /// How often a write that waits looks for a reply that has come already, in seconds.
@@ -32,7 +32,7 @@ const LOOK_SECONDS: u64 = 1;
 /// What Linux calls the error of a write to a peer that takes no more.
 const EPIPE: i32 = 32;
 
-/// How a push waits for its server. A wait that a terminal is told of has two parts, with a line between them.
+/// How a push waits for its server. A wait has two parts, with a line on standard error between them.
 #[derive(Clone, Copy)]
 struct Waits {
     addr: SocketAddr,
@@ -41,19 +41,12 @@ struct Waits {
 }
 
 impl Waits {
-    /// The first part of a wait of so many seconds, and the rest.
-    fn parts(&self, seconds: u64) -> (Duration, Duration) {
-        let first = if self.seen { TOLD_SECONDS } else { seconds };
-        let rest = seconds.saturating_sub(TOLD_SECONDS);
-        (Duration::from_secs(first), Duration::from_secs(rest))
-    }
-
-    /// Whether a call ended because the first part of its wait is over: then the terminal is told.
+    /// Whether a call ended because the first part of its wait is over: then that is told.
     fn tells<R: Eprint, T>(&self, rt: &R, ended: &io::Result<T>) -> bool {
         let is_over = |error: &io::Error| {
             matches!(error.kind(), ErrorKind::WouldBlock | ErrorKind::TimedOut)
         };
-        let tells = self.seen && ended.as_ref().is_err_and(is_over);
+        let tells = ended.as_ref().is_err_and(is_over);
         if tells {
             self.tell(rt);
         }
@@ -63,9 +56,17 @@ impl Waits {
     /// Tells of a wait, in a line of its own.
     fn tell<R: Eprint>(&self, rt: &R) {
         let addr = self.addr;
+        // It is in the place of a bar.
+        let begin = if self.seen { "\r\x1b[K" } else { "" };
         // Nothing is promised of standard error.
-        let _ = eprintln!(rt; "\r\x1b[Kblobd: waits for {addr}");
+        let _ = eprintln!(rt; "{begin}blobd: waits for {addr}");
     }
+}
+
+/// The first part of a wait of so many seconds, and the rest.
+fn parts(seconds: u64) -> (Duration, Duration) {
+    let rest = seconds.saturating_sub(TOLD_SECONDS);
+    (Duration::from_secs(TOLD_SECONDS), Duration::from_secs(rest))
 }
 
 /// One end of a socket, which is only read from or only written to, and what was read or written so far.
@@ -120,7 +121,7 @@ impl<'r, R: Eprint> Socket<'r, R> {
             }
             Err(_) if is_would_block(wrote) => {
                 self.untaken = self.untaken.saturating_add(LOOK_SECONDS);
-                if self.waits.seen && self.untaken == TOLD_SECONDS {
+                if self.untaken == TOLD_SECONDS {
                     self.waits.tell(self.rt);
                 }
                 let goes_on = self.untaken < SILENCE_SECONDS;
@@ -168,7 +169,7 @@ impl<'r, R: Eprint> Inlet for Socket<'r, R> {
     fn read(&mut self, buf: &mut [u8]) -> io::Result<usize> {
         let mut moved = self.stream.read(buf);
         if self.waits.tells(self.rt, &moved) {
-            let (first, rest) = self.waits.parts(SILENCE_SECONDS);
+            let (first, rest) = parts(SILENCE_SECONDS);
             let _ = self.stream.set_read_timeout(Some(rest));
             moved = self.stream.read(buf);
             let _ = self.stream.set_read_timeout(Some(first));
@@ -207,7 +208,7 @@ fn reach<R>(rt: &R, waits: Waits) -> io::Result<TcpStream>
 where
     R: Net<Stream = TcpStream> + Eprint,
 {
-    let (first, rest) = waits.parts(CONNECT_SECONDS);
+    let (first, rest) = parts(CONNECT_SECONDS);
     let stream = TcpStream::connect_timeout(rt, &waits.addr, first);
     if waits.tells(rt, &stream) {
         return TcpStream::connect_timeout(rt, &waits.addr, rest);
@@ -221,7 +222,7 @@ fn is_refused<T>(made: &io::Result<T>) -> bool {
         .is_err_and(|error| error.kind() == ErrorKind::ConnectionRefused)
 }
 
-/// A new connection, for which it dials again while nobody listens, for up to a minute. A terminal is told of it once.
+/// A new connection, for which it dials again while nobody listens, for up to a minute. That is told once.
 fn reach_in_time<R>(rt: &R, waits: Waits) -> io::Result<TcpStream>
 where
     R: Net<Stream = TcpStream> + Clock + Eprint,
@@ -229,7 +230,7 @@ where
     let Ok(begun) = Instant::now(rt) else {
         return reach(rt, waits);
     };
-    let mut untold = waits.seen;
+    let mut untold = true;
     for _ in 0..u64::MAX {
         let stream = reach(rt, waits);
         if !is_refused(&stream) {
@@ -264,7 +265,7 @@ where
     } else {
         reach(rt, waits)?
     };
-    let (first, _) = waits.parts(SILENCE_SECONDS);
+    let (first, _) = parts(SILENCE_SECONDS);
     end_silence(&stream, first)?;
     // A peer that has gone already can make this fail; the reads and writes will tell.
     let _ = stream.set_nodelay(true);
@@ -331,8 +332,8 @@ impl<'r, R: Net<Stream = TcpStream> + Clock + Eprint> Dials for Sockets<'r, R> {
 /// If nobody listens at `addr`, one ask goes on dialing for up to a minute, so that a server may be started again
 /// meanwhile. If that was in vain, it is one ask that wasn't heard, and those behind it dial once each.
 ///
-/// Standard error says more of what was refused. If it is a terminal, and so `seen`, a bar stands there meanwhile, and
-/// a line says that the server is waited for once it was silent, or wasn't there, for five seconds.
+/// Standard error says more of what was refused, and that the server is waited for, once it was silent, or wasn't
+/// there, for five seconds. If it is a terminal, and so `seen`, a bar stands there meanwhile.
 pub fn run_push<R, W>(
     rt: &R,
     addr: SocketAddr,

@@ -148,7 +148,8 @@ fn words_of(trouble: Trouble) -> &'static str
         Trouble::Closed => "the server closed the connection before it had replied: is this https?",
         Trouble::Tls => "the reply is TLS: is this https? A push speaks plain HTTP",
         Trouble::NotHttp => "the reply isn't HTTP: is this https?",
-        Trouble::Unavailable => "the server answers 503: it has no memory left, or can't serve now",
+        Trouble::Unavailable =>
+            "the server answers 503: it has no room, or it is a reverse proxy with no server behind it",
         Trouble::Misplaced => "the server answers 416: does another client write into the upload?",
     }
 }
