@@ -97,8 +97,8 @@ pub struct Room {
     pub after: u64,
     /// How many files of bodies went.
     pub files: u64,
-    /// How many blobs of repositories went, since nothing refers to them.
-    pub pairs: u64,
+    /// How many blobs of repositories went, since nothing refers to them, if it was said what is referred to.
+    pub pairs: Option<u64>,
 }
 
 impl fmt::Display for Room {
@@ -111,11 +111,10 @@ impl fmt::Display for Room {
         } = self;
         let (before, files) = (Quantity(*before, "record"), Quantity(*files, "file"));
         write!(f, "{before} became {after}, {files} went")?;
-        if *pairs > 0 {
-            let pairs = Quantity(*pairs, "blob");
-            write!(f, ", repositories gave up {pairs}")?;
+        match pairs {
+            Some(pairs) => write!(f, ", repositories gave up {}", Quantity(*pairs, "blob")),
+            None => Ok(()),
         }
-        Ok(())
     }
 }
 
@@ -262,6 +261,6 @@ fn compact_in<J: Start, N: Start, S: Start, H: Holds>(
         before,
         after,
         files,
-        pairs: gone.len() as u64,
+        pairs: leaving.map(|_| gone.len() as u64),
     })
 }
