@@ -4,6 +4,7 @@
     serve_data.py PROGRAM
 """
 import contextlib
+import ctypes
 import os
 import random
 import re
@@ -25,6 +26,8 @@ LARGEST_IN_JOURNAL = 64 * KIB
 SECTOR = 4 * KIB
 # what a data directory that can't be used makes the program print, and its status
 REFUSED = "fault: data\n", 3
+# what takes a capability from the programs that a process starts, and the two by which modes don't count
+DROP_CAPABILITY, DAC_OVERRIDE, DAC_READ_SEARCH = 24, 1, 2
 
 
 def variables(path, **more):
@@ -274,6 +277,28 @@ def strict_or_not(folder):
 
 
 @case()
+def heed_modes():
+    """In a program that is started: files' modes count for root too."""
+    for capability in (DAC_OVERRIDE, DAC_READ_SEARCH):
+        ctypes.CDLL(None).prctl(DROP_CAPABILITY, capability, 0, 0, 0)
+
+
+@case()
+def bodies_of_another_user(folder):
+    """One that may not be read is named as damage, with what the system says. Once it may be it is there again."""
+    path = os.path.join(folder, "data")
+    body, large = filled(path)[0], FILLED[-1]
+    os.chmod(body, 0)
+    with Server(env={"BLOBD_DATA": path}, stderr=subprocess.PIPE, preexec_fn=heed_modes) as server:
+        lines, end = named_losses(server), f"can't be read: Permission denied (os error 13); lost: blob {sha256(large)} of {NAME}\n"
+        check("it is named", len(lines) == 1 and lines[0].endswith(end), lines)
+        equal("it isn't there", pull(server, NAME, sha256(large)), 404)
+    os.chmod(body, 0o600)
+    with serving(path) as server:
+        equal("a start behind it", named_losses(server), [])
+        equal("all is there", [pull(server, NAME, sha256(content)) for content in FILLED], FILLED)
+
+
 def other_directories(folder):
     """A directory of another version, or of other limits, is named. Nothing is changed."""
     good = os.path.join(folder, "good")

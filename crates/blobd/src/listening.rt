@@ -199,7 +199,7 @@ where
             return print_line(&mut out, "fault: data", FAULT);
         }
     };
-    tell_losses(rt, path, &data.losses);
+    tell_losses(rt, host, path, &data.losses);
     tell_behind(rt, path, data.behind);
     listen_over(rt, addr, terms, data.kept, path, seen, &mut out)
 }

@@ -1,14 +1,15 @@
 //! What is told of the records that are lost.
+use crate::open::BODIES;
 use crate::texts::RecordText;
 use blobd_shared::Quantity;
-use std::fmt;
-use std::io::Eprint;
-use upload_journal::{Entry, KeptAsk, KeptExchange, Told};
+use std::io::{self, Eprint};
+use std::{fmt, fs};
+use upload_journal::{BodyFault, Entry, KeptAsk, KeptExchange, ReplayFault, Told};
 use upload_store::{Loss, Losses};
 
-/// What is told of a record that is lost: why, and what goes with it.
+/// What is told of a record that is lost: why, what the system says of that, and what goes with it.
 #[derive(Drop)]
-struct LossText<'a>(&'a Loss);
+struct LossText<'a>(&'a Loss, Option<io::Error>);
 
 /// What an entry stands for. An upload is named by its number, since whoever has its reference can go on with it.
 #[derive(Drop)]
@@ -26,6 +27,9 @@ impl<'a> fmt::Display for LossText<'a> {
             fault: loss.fault,
         };
         write!(f, "{record}")?;
+        if let Some(error) = &self.1 {
+            write!(f, ": {error}")?;
+        }
         match &loss.entry {
             Some(entry) => write!(f, "; lost: {}", EntryText(entry)),
             None => Ok(()),
@@ -79,11 +83,27 @@ impl<'a> fmt::Display for ExchangeText<'a> {
     }
 }
 
+/// What the system says of the body that a lost record names, if that can't be read. Its file has the folder of the low
+/// byte of its number.
+fn system_error(host: &HostRuntime, path: &str, loss: &Loss) -> Option<io::Error> {
+    let ReplayFault::NoBody {
+        number,
+        fault: BodyFault::NotRead,
+    } = loss.fault
+    else {
+        return None;
+    };
+    let low = number % 256;
+    let name = format!(in host.alloc(); "{path}/{BODIES}/{low:02x}/{number}").ok()?;
+    fs::File::open(host, name.as_str()).err()
+}
+
 /// Tells on standard error what of the directory at `path` is lost, a line for each record that is listed, and how many
 /// more there are.
-pub fn tell_losses<R: Eprint>(rt: &R, path: &str, losses: &Losses) {
+pub fn tell_losses<R: Eprint>(rt: &R, host: &HostRuntime, path: &str, losses: &Losses) {
     for loss in losses.listed.iter() {
-        let _ = eprintln!(rt; "blobd: damage in {path}: {}", LossText(loss));
+        let text = LossText(loss, system_error(host, path, loss));
+        let _ = eprintln!(rt; "blobd: damage in {path}: {text}");
     }
     let more = losses.count.saturating_sub(losses.listed.len() as u64);
     if more > 0 {

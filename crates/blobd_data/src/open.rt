@@ -33,7 +33,7 @@ pub(crate) const JOURNAL: &str = "journal";
 pub(crate) const FRESH: &str = "journal.new";
 
 /// The folder of the bodies, within it.
-const BODIES: &str = "bodies";
+pub(crate) const BODIES: &str = "bodies";
 
 /// For `main` to name: what is proved over any bodies that a shelf has as it is opened is proved of those that are
 /// there.
