@@ -251,7 +251,8 @@ def changed(path, old, new):
 
 
 # what a start says that it has
-HOLDS = re.compile(r"blobd: \d+ blobs?, \d+(\.\d)? ([KMG]i)?B, \d+ uploads? open\n")
+SIZE = r"\d+(\.\d)? ([KMG]i)?B"
+HOLDS = re.compile(rf"blobd: \d+ blobs?, {SIZE}, \d+ uploads? open; it holds at most {SIZE} \(BLOBD_MEMORY\)\n")
 
 
 def named_losses(server):
@@ -276,7 +277,6 @@ def strict_or_not(folder):
             equal("a folder that isn't damaged", [server.first_line[:10], named_losses(server)], ["listening ", []])
 
 
-@case()
 def heed_modes():
     """In a program that is started: files' modes count for root too."""
     for capability in (DAC_OVERRIDE, DAC_READ_SEARCH):
@@ -299,6 +299,7 @@ def bodies_of_another_user(folder):
         equal("all is there", [pull(server, NAME, sha256(content)) for content in FILLED], FILLED)
 
 
+@case()
 def other_directories(folder):
     """A directory of another version, or of other limits, is named. Nothing is changed."""
     good = os.path.join(folder, "good")

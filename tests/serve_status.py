@@ -26,11 +26,13 @@ NAME = "lib/a"
 LARGEST_IN_JOURNAL = 64 * KIB
 # what is printed of a directory that can't be read, and the status
 REFUSED = "fault: data\n", 3
+# what a start says behind what it has
+AT_MOST = "; it holds at most 1.0 GiB (BLOBD_MEMORY)\n"
 
 
 def serving(path, env=None, **options):
     """A server on a data directory that isn't to be damaged, whose standard error is read."""
-    variables = {"BLOBD_DATA": path, "BLOBD_STRICT": "1", **(env or {})}
+    variables = {"BLOBD_DATA": path, "BLOBD_STRICT": "1", "BLOBD_MEMORY": "1G", **(env or {})}
     return Server(env=variables, **{"stderr": subprocess.PIPE, **options})
 
 
@@ -135,7 +137,7 @@ def what_is_held(folder):
         path, play = os.path.join(folder, str(seed)), Play(random.Random(seed))
         for start in range(3):
             with serving(path) as server, server.client() as client:
-                equal("what a start has", server.told(60), f"blobd: {holding(play.counts())}\n")
+                equal("what a start has", server.told(60), f"blobd: {holding(play.counts())}{AT_MOST}")
                 for _ in range(25):
                     play.turn(client)
                 is_status(f"while it serves ({seed}, {start})", path, play.counts())
@@ -302,10 +304,10 @@ def a_line_a_minute(folder):
         shims.pass_time(clock, 0)
         env = shims.loaded(folder, "ahead", CLOCK_AHEAD=clock) | {"BLOBD_LOG": "1"}
         if kept:
-            env["BLOBD_DATA"] = os.path.join(folder, "data")
+            env |= {"BLOBD_DATA": os.path.join(folder, "data"), "BLOBD_MEMORY": "1G"}
         with Server(env=env, stderr=subprocess.PIPE) as server, server.client() as client:
             if kept:
-                equal("a start with nothing", server.told(60), "blobd: 0 blobs, 0 B, 0 uploads open\n")
+                equal("a start with nothing", server.told(60), f"blobd: 0 blobs, 0 B, 0 uploads open{AT_MOST}")
             lines = []
 
             def said():
@@ -344,7 +346,7 @@ def progress_of_a_start(folder):
     filled(path, contents)
     holds = "blobd: 4 blobs, 32.0 MiB, 0 uploads open"
     with serving(path) as server:
-        equal("not a terminal", server.told(60), f"{holds}\n")
+        equal("not a terminal", server.told(60), holds + AT_MOST)
     ours, theirs = pty.openpty()
     parts = []
 

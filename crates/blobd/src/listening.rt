@@ -20,6 +20,7 @@ use std::thread::Threads;
 use std::time::Instant;
 use upload_bytes::Room;
 use upload_intake::{Keeping, KeptService};
+use upload_service::Counts;
 
 /// Says how much a server may hold, to somebody who looks on; and to everybody if there is no limit.
 fn print_memory<R: Eprint>(rt: &R, memory: Option<u64>, seen: bool) {
@@ -34,6 +35,18 @@ fn print_memory<R: Eprint>(rt: &R, memory: Option<u64>, seen: bool) {
         None => eprintln!(rt;
             "blobd: it has no limit, since BLOBD_MEMORY isn't set and none can be read here"
         ),
+    };
+}
+
+/// Says what a server has, and how much it may hold.
+fn print_holding<R: Eprint>(rt: &R, counts: Counts, memory: Option<u64>) {
+    let holding = Holding(counts);
+    let _ = match memory {
+        Some(bytes) => {
+            let most = ByteCount(bytes);
+            eprintln!(rt; "blobd: {holding}; it holds at most {most} (BLOBD_MEMORY)")
+        }
+        None => eprintln!(rt; "blobd: {holding}"),
     };
 }
 
@@ -225,10 +238,10 @@ where
     requires waiting { K.waiting kept.keeping ≡ [] }
     requires begun { kept.since ≤ K.last kept.keeping }
 {
-    let _ = eprintln!(rt; "blobd: {}", Holding(kept.service.counts()));
+    print_holding(rt, kept.service.counts(), terms.memory);
     match bind(rt, addr, out) {
         Ok(listener) => {
-            print_memory(rt, terms.memory, seen);
+            print_memory(rt, terms.memory, false);
             print_stop(rt, Some(path), seen);
             run_serve_kept(rt, &listener, terms, kept, out)
         }
