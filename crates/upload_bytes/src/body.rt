@@ -395,6 +395,18 @@ impl BodyBuilder {
         }
     }
 
+    /// The bytes that came, with no hash, so that nobody waits for one. The parts are shared, and only what came behind
+    /// them is copied.
+    pub fn share(&self) -> Result<Body, AllocError>
+        ensures { IfOk result (λ body. body ≡ self.now) }
+    {
+        let parts = share_all(self.alloc, self.parts.as_slice())?;
+        let mut last = Vec::with_capacity(self.alloc, self.last.len())?;
+        last.extend_from_slice(self.last.as_slice())?;
+        let last = Granted::unlimited(last);
+        Ok(Body::carrying(Pieces { parts, last }, self.size, None))
+    }
+
     /// The body, with the hash of all its bytes if they were hashed. Spare room that is left from growing goes back, if
     /// the allocator takes it.
     pub fn finish<P: HashPlace>(self, place: &P) -> Body

@@ -13,9 +13,10 @@ use crate::message::{Message, Told, Wish};
 use crossbeam_channel::Receiver;
 use std::marker::Model;
 use std::sync::Wait;
-use upload_bytes::Body;
+use upload_bytes::{Body, BodyBuilder};
 use upload_names::{Algorithm, BlobDigest, RepoName, UploadRef};
 use upload_service::{Answer, Ask, Extent, GoneChunk, Request};
+use upload_wire::HeadAsk;
 
 /// How often a seat waits at most for the hash of an upload before it asks for the close. Twice are enough if nothing
 /// comes meanwhile: for the thread that was at work, and for the one that takes the rest in.
@@ -48,6 +49,9 @@ pub(crate) struct Place {
 pub struct Seat {
     place: Place,
     ends: Receiver<Told>,
+    /// What was told of the wish that the next request's body is put where it is kept, if that was wished before it is
+    /// asked.
+    ahead: Option<Told>,
 }
 
 impl Model for Seat {
@@ -168,6 +172,29 @@ fn coming_of(ask: &Ask) -> Option<Coming> {
     Some(Coming { upload, body })
 }
 
+// The same of a body that came, before its request is asked.
+fn coming_with(ask: &HeadAsk, body: &BodyBuilder) -> Option<Coming> {
+    let upload = match ask {
+        HeadAsk::Single {
+            digest: Some(_),
+            ..
+        } => None,
+        HeadAsk::Chunk { at, range, .. }
+        | HeadAsk::Close {
+            at,
+            range,
+            digest: Some(_),
+            ..
+        } => Some((*at, *range)),
+        _ => return None,
+    };
+    if body.len() < WORTH_WRITING {
+        return None;
+    }
+    let body = body.share().ok()?;
+    Some(Coming { upload, body })
+}
+
 impl Seat {
     ghost use Rattle.std.specs.Prelude.{◌≡◌, [], false};
     ghost use Rattle.crossbeam_channel.specs.Claims.{view as known};
@@ -202,7 +229,11 @@ impl Seat {
             replies,
             gone: false,
         };
-        Seat { place, ends }
+        Seat {
+            place,
+            ends,
+            ahead: None,
+        }
     }
 
     /// Sends a request to the keeper, and waits for the answer. Before a close with a digest it waits for the hash of
@@ -218,24 +249,37 @@ impl Seat {
         self.ask_at_once(rt, ask, secret)
     }
 
-    // Has a large body of a request put where it is kept, while the keeper serves others. Nothing that is seen changes.
+    /// Has the body of the request that is asked next put where it is kept, if it is large, and waits for nothing: it is
+    /// written while its hash is waited for. Nothing that is seen changes, also if another request is asked.
+    pub fn comes<R: Wait>(&mut self, rt: &R, ask: &HeadAsk, body: &BodyBuilder)
+        ensures { self.new ≡ self.old }
+    {
+        let told = self.wish_kept(rt, coming_with(ask, body));
+        self.ahead = Some(told);
+    }
+
+    // Waits until a large body of a request is put where it is kept, while the keeper serves others. That may have been
+    // wished as it came. Nothing that is seen changes.
     fn write_ahead<R: Wait>(&mut self, rt: &R, ask: &Ask)
         ensures { self.new ≡ self.old }
     {
-        let Some(coming) = coming_of(ask) else {
-            return;
+        let told = match self.ahead.take() {
+            Some(told) => told,
+            None => self.wish_kept(rt, coming_of(ask)),
         };
-        if !self.place.gone {
-            self.wait_for(rt, Wish::Kept(coming));
+        if let Told::AtWork(end) = told {
+            end.wait(rt);
         }
     }
 
-    // Waits for the thread that is at work for a wish, if one is. Nothing that is seen changes.
-    fn wait_for<R: Wait>(&mut self, rt: &R, wish: Wish)
+    // Wishes that a body is put where it is kept, if there is one; of a gone keeper nothing is wished. Nothing that is
+    // seen changes.
+    fn wish_kept<R: Wait>(&mut self, rt: &R, coming: Option<Coming>) -> Told
         ensures { self.new ≡ self.old }
     {
-        if let Told::AtWork(end) = self.wish(rt, wish) {
-            end.wait(rt);
+        match coming {
+            Some(coming) if !self.place.gone => self.wish(rt, Wish::Kept(coming)),
+            _ => Told::Nothing,
         }
     }
 
