@@ -33,14 +33,14 @@ impl KeepingHost for Host {
 
 /// What a pool came to.
 #[derive(Drop)]
-struct Lived {
-    store: MemoryStore,
+pub struct Lived {
+    pub store: MemoryStore,
     /// Whether all was kept.
-    all: bool,
+    pub all: bool,
 }
 
-/// Serves the four over a store whose journal fails after so many calls. `None` says that it wasn't opened.
-fn live<R: Threads + Wait + Sync>(
+/// Serves clients over a new store whose journal fails after so many calls. `None` says that it wasn't opened.
+pub fn live<R: Threads + Wait + Sync>(
     rt: &R,
     alloc: Global,
     workers: Vec<TextWorker<'_>>,
