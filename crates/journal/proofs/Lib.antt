@@ -4,6 +4,7 @@ pub mod Batches
 pub mod Listing
 pub mod Tears
 pub mod Commit
+pub mod Pieces
 pub mod Scan
 pub mod Ending
 pub mod Causes

@@ -4,6 +4,7 @@ use Rattle.std.specs.Prelude.{List, ◌++◌, length, take, drop, replicate, sli
 use Rattle.sqlite_disk.specs.declared.Disk.{Ghosts}
 use Rattle.sqlite_disk.specs.Disk.{Torn}
 use Rattle.journal.specs.Format.{Kept, records, first, next, staged, stored, whole, Lie, sector}
+use Rattle.journal.specs.Machine.{RunsRecords}
 use Rattle.journal.specs.declared.head.Head.{Head}
 
 -- nothing is written
@@ -18,6 +19,18 @@ pub record OnlyReads {D : Type 0} (g : Ghosts D) (old new : D) : Type 0 where
 abbrev pub Finds : List ℕ → ℕ → List ℕ → Option ℕ → Type 0
 Finds file at bytes (Some behind) = first (drop at file) ≡ Some (bytes, drop behind file)
 Finds file at bytes None = first (drop at file) ≡ None
+
+-- a run over the records at the front of these bytes, which take so many of them, whatever follows
+abbrev pub RunsPast : {M : Type 0} → (M → ℕ → List ℕ → M → Type 0) → ℕ → M → List ℕ → ℕ → M → Type 0
+RunsPast steps time old bytes n new =
+    (done : List (List ℕ)) × RunsRecords steps time old done new
+    × ((more : List ℕ) → records (bytes ++ more) ≡ done ++ records (drop n bytes ++ more))
+
+-- a run over the records of a batch from one place to another; the file ends with the batch
+abbrev pub RunsTo : {M : Type 0} → (M → ℕ → List ℕ → M → Type 0) → ℕ → M → List ℕ → ℕ → ℕ → M → Type 0
+RunsTo steps time old file at next new =
+    (done : List (List ℕ)) × RunsRecords steps time old done new
+    × (records (drop at file) ≡ done ++ records (drop next file))
 
 -- the batch of this head, and what follows it
 abbrev pub headed : List ℕ → ℕ → Head → Kept × List ℕ

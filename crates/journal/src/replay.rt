@@ -1,12 +1,12 @@
-//! The batches of a file are read in order, each once, and never more than one record at a time.
+//! The batches of a file are read in order, and never more at a time than a piece, or one record that is longer.
 ghost use Rattle.std.specs.Prelude.{◌≡◌, ◌+◌, ◌%◌, ◌<◌, ◌≤◌, ◌^◌, ℕ, List};
 ghost use Rattle.std.specs.Prelude.{length, take, drop, slice_index};
-ghost use Rattle.std.specs.Prelude.{IfOk, IfErr, OnOk, IfSome, IsTrue};
+ghost use Rattle.std.specs.Prelude.{IfOk, IfErr, OnOk, IfSome, IfNone, IsTrue, Some, None};
 ghost use Rattle.sqlite_disk.specs.Disk.{Holds, Only, MoreFaults};
-ghost use Rattle.journal.specs.Format.{records, stored, later, whole, sector};
+ghost use Rattle.journal.specs.Format.{first, records, stored, later, whole, sector};
 ghost use Rattle.journal.specs.Machine.{Runs, RunsRecords};
 ghost use Rattle.journal.specs.Errors.{OnlyDisk, OnlyReplay, Never};
-ghost use Rattle.journal.specs.Reads.{OnlyReads, Finds, FindsBatch, FindsStaged, EndsAt};
+ghost use Rattle.journal.specs.Reads.{OnlyReads, Finds, RunsPast, RunsTo, FindsBatch, FindsStaged, EndsAt};
 
 use crate::gate::OPEN;
 use crate::head::{HEAD_LEN, Head, number_in};
@@ -14,6 +14,9 @@ use crate::sectors::{SECTOR, whole};
 use crate::{Error, Machine};
 use sqlite_disk::Disk;
 use std::alloc::Global;
+
+/// So much of a batch is read at once. A batch of few records takes one read, and so does the body that a record may have.
+const PIECE: usize = 131_072;
 
 /// Reads what stands at `at`, in a file of `len` bytes.
 pub fn read<D: Disk>(disk: &mut D, len: usize, at: usize, bytes: &mut [u8]) -> Result<(), Error>
@@ -93,6 +96,78 @@ fn read_record<D: Disk>(
     Ok(Some(start + size))
 }
 
+/// The first record of these bytes, and what follows it, if all of it is there.
+fn split_record(bytes: &[u8]) -> Option<(&[u8], &[u8])>
+    ensures some { IfSome result (λ it. first bytes.now ≡ Some (it.0.now, it.1.now)) }
+    ensures none { IfNone result (first bytes.now ≡ None) }
+{
+    if bytes.len() < 8 {
+        return None;
+    }
+    let (head, rest) = bytes.split_at(8);
+    let size = number_in(head) as usize;
+    if size > rest.len() {
+        return None;
+    }
+    Some(rest.split_at(size))
+}
+
+/// Runs the machine over a record.
+fn apply<M: Machine>(machine: &mut M, time: u64, record: &[u8]) -> Result<(), Error>
+    ensures step { OnOk result (M.steps machine.old time record.now machine.new) }
+    ensures keeps { (first : M) → M.keeps first machine.old → M.keeps first machine.new }
+    ensures cause { IfErr result (OnlyReplay Never (M.has_refused machine.new)) }
+{
+    match machine.apply(time, record) {
+        Ok(()) => Ok(()),
+        Err(error) => Err(Error::Machine(error)),
+    }
+}
+
+/// Runs the machine over the records that stand whole at the front of these bytes, and answers how many bytes they take.
+fn run_whole<M: Machine>(bytes: &[u8], time: u64, machine: &mut M) -> Result<usize, Error>
+    ensures ran { IfOk result (λ n. RunsPast M.steps time machine.old bytes.now n machine.new) }
+    ensures within { IfOk result (λ n. n ≤ length bytes.now) }
+    ensures keeps { (first : M) → M.keeps first machine.old → M.keeps first machine.new }
+    ensures cause { IfErr result (OnlyReplay Never (M.has_refused machine.new)) }
+{
+    let mut rest = bytes;
+    while let Some((record, behind)) = split_record(rest) {
+        apply(machine, time, record)?;
+        rest = behind;
+    }
+    Ok(bytes.len() - rest.len())
+}
+
+/// Reads the next piece of a batch, which ends at `end`, and runs the machine over the records that stand whole in it.
+/// Answers where the next one begins.
+fn run_piece<D: Disk, M: Machine>(
+    disk: &mut D,
+    len: usize,
+    at: usize,
+    end: usize,
+    time: u64,
+    bytes: &mut Vec<u8>,
+    machine: &mut M,
+) -> Result<usize, Error>
+    requires usable { IsTrue (D.Disk.is_usable disk.old) }
+    requires measured { IsTrue (D.Disk.is_clean disk.old) → len ≡ length (D.Disk.seen disk.old) }
+    requires within { at ≤ end }
+    requires fits { end ≤ len }
+    ensures ran { IfOk result (λ next. IsTrue (D.Disk.is_clean disk.new)
+        → RunsTo M.steps time machine.old (take end (D.Disk.seen disk.old)) at next machine.new) }
+    ensures next { IfOk result (λ next. (at ≤ next) × (next ≤ end)) }
+    ensures keeps { (first : M) → M.keeps first machine.old → M.keeps first machine.new }
+    ensures cause { IfErr result (OnlyReplay
+        (MoreFaults (D.Disk.faults disk.old) (D.Disk.faults disk.new))
+        (M.has_refused machine.new)) }
+    ensures reads { OnlyReads D.Disk disk.old disk.new }
+{
+    read_to(disk, len, at, PIECE.min(end - at), bytes)?;
+    let taken = run_whole(bytes, time, machine)?;
+    Ok(at + taken)
+}
+
 /// Runs the machine over the records of a batch, which stand from `start` up to `end`.
 fn run_records<D: Disk, M: Machine>(
     disk: &mut D,
@@ -117,13 +192,15 @@ fn run_records<D: Disk, M: Machine>(
     ensures reads { OnlyReads D.Disk disk.old disk.new }
 {
     let mut at = start;
-    while let Some(next) = read_record(disk, len, at, end, bytes)? {
-        if let Err(error) = machine.apply(time, bytes) {
-            return Err(Error::Machine(error));
-        }
+    loop {
+        at = run_piece(disk, len, at, end, time, bytes, machine)?;
+        // A record that the piece cuts off is read by itself.
+        let Some(next) = read_record(disk, len, at, end, bytes)? else {
+            return Ok(());
+        };
+        apply(machine, time, bytes)?;
         at = next;
     }
-    Ok(())
 }
 
 /// Reads the head of the batch with this number behind the gate at `at`, if all of the batch is there. It doesn't ask

@@ -1,5 +1,5 @@
 //! Tests of `journal`, in a crate of their own: power cuts at every call, with a model beside the disk; a full disk, a
-//! gate that is damaged, and files that are refused.
+//! gate that is damaged, batches that are longer than a piece, and files that are refused.
 #![tactic(auto)]
 
 #[cfg(test)]
@@ -10,5 +10,7 @@ mod faults;
 mod full;
 #[cfg(test)]
 mod long;
+#[cfg(test)]
+mod pieces;
 #[cfg(test)]
 mod text;

@@ -1,0 +1,121 @@
+-- What a piece of a batch stands for.
+use Rattle.std.proofs.Common.{◌≡◌, inl, inr, ℕ, ◌+◌, ◌-◌, ◌≤◌, List, [], ◌∷◌, ◌++◌, length, take, drop, Some, None}
+use Rattle.std.proofs.Common.{refl, sym, ◌∙◌, ap, subst, arith, append_assoc, length-append, length-drop}
+use Rattle.std.proofs.lemmas.List.{take-append-le, drop-append-le, drop-drop, take-append-drop, append-nil}
+use Rattle.std.proofs.lemmas.Bool.{cases_lt}
+use Rattle.journal.specs.Format.{number_of, records, first}
+use Rattle.journal.specs.Machine.{RunsRecords}
+use Rattle.journal.specs.Reads.{Finds, RunsPast, RunsTo}
+use Rattle.journal.proofs.Reading.{first_short, records_some, records_none}
+use Rattle.journal.proofs.Scan.{first_found}
+
+-- a first record that is there, and why
+record IsFirst (bytes : List ℕ) (found : List ℕ × List ℕ) : Type 0 where
+  fits : 8 + number_of (take 8 bytes) ≤ length bytes
+  is : (take (number_of (take 8 bytes)) (drop 8 bytes), drop (8 + number_of (take 8 bytes)) bytes) ≡ found
+
+is_first : (bytes : List ℕ) (found : List ℕ × List ℕ) → first bytes ≡ Some found → IsFirst bytes found
+is_first bytes found is =
+    elim (cases_lt (length bytes) (8 + number_of (take 8 bytes))) [
+      | inl short ↦ absurd (cc (sym (first_short bytes short) ∙ is))
+      | inr fits ↦ record {
+        fits = fits;
+        is =
+            let e : Some (take (number_of (take 8 bytes)) (drop 8 bytes), drop (8 + number_of (take 8 bytes)) bytes)
+            ≡ Some found =
+            sym (first_found bytes (take (number_of (take 8 bytes)) (drop 8 bytes)) (number_of (take 8 bytes)) refl fits
+            refl) ∙ is in
+            cc;
+      }
+    ]
+
+-- cut off by its length
+pub first_split : (bytes rest : List ℕ) (size : ℕ) → number_of (take 8 bytes) ≡ size → rest ≡ drop 8 bytes
+    → 8 ≤ length bytes → size ≤ length rest → first bytes ≡ Some (take size rest, drop size rest)
+first_split bytes rest size is rest_is eight fits =
+    first_found bytes (take size rest) size is (omega (arith, ap length rest_is, length-drop 8 bytes, eight))
+    (ap (take size) (sym rest_is))
+    ∙ ap (λ (l : List ℕ). Some (take size rest, l)) (sym (drop-drop size 8 bytes) ∙ ap (drop size) (sym rest_is))
+
+-- what follows it doesn't matter
+first_more : (p q : List ℕ) (found : List ℕ × List ℕ) → first p ≡ Some found → first (p ++ q) ≡ Some
+    (found.0, found.1 ++ q)
+first_more p q found is =
+    let it = is_first p found is in
+    let size = number_of (take 8 p) in
+    let sized : number_of (take 8 (p ++ q)) ≡ size = ap number_of (take-append-le 8 p q (omega (arith, it.fits))) in
+    let body : take size (drop 8 (p ++ q)) ≡ found.0 =
+    ap (take size) (drop-append-le 8 p q (omega (arith, it.fits)))
+    ∙ take-append-le size (drop 8 p) q (omega (arith, it.fits, length-drop 8 p))
+    ∙ ap (λ (f : List ℕ × List ℕ). f.0) it.is in
+    first_found (p ++ q) found.0 size sized (omega (arith, it.fits, length-append p q)) body
+    ∙ ap (λ (l : List ℕ). Some (found.0, l))
+    (drop-append-le (8 + size) p q it.fits ∙ ap (λ (f : List ℕ × List ℕ). f.1 ++ q) it.is)
+
+pub records_on : (p q : List ℕ) (found : List ℕ × List ℕ) → first p ≡ Some found → records (p ++ q) ≡ found.0 ∷ records
+    (found.1 ++ q)
+records_on p q found is = records_some (p ++ q) (found.0, found.1 ++ q) (first_more p q found is)
+
+-- what is left of bytes behind one more record
+pub left_of : (bytes rest : List ℕ) (found : List ℕ × List ℕ) → first rest ≡ Some found
+    → ((n : ℕ) × (rest ≡ drop n bytes) × (n ≤ length bytes)) → (n : ℕ) × (found.1 ≡ drop n bytes) × (n ≤ length bytes)
+left_of bytes rest found is passed =
+    let it = is_first rest found is in
+    let size = 8 + number_of (take 8 rest) in (
+      passed.0 + size,
+      sym (ap (λ (f : List ℕ × List ℕ). f.1) it.is) ∙ ap (drop size) passed.1 ∙ drop-drop size passed.0 bytes,
+      omega (arith, it.fits, ap length passed.1, length-drop passed.0 bytes, passed.2),
+    )
+
+pub left_is : (bytes rest : List ℕ) → ((n : ℕ) × (rest ≡ drop n bytes) × (n ≤ length bytes))
+    → rest ≡ drop (length bytes - length rest) bytes
+left_is bytes rest passed =
+    let n_is : passed.0 ≡ length bytes - length rest = omega
+    (arith, ap length passed.1, length-drop passed.0 bytes, passed.2) in
+    passed.1 ∙ ap (λ (n : ℕ). drop n bytes) n_is
+
+-- a piece, and what a run over it leaves of the batch
+pub past_piece : {M : Type 0} (steps : M → ℕ → List ℕ → M → Type 0) (time : ℕ) (old new : M) (file piece : List ℕ)
+    (at size n : ℕ) → take size (drop at file) ≡ piece → n ≤ length piece → RunsPast steps time old piece n new
+    → RunsTo steps time old file at (at + n) new
+past_piece steps time old new file piece at size n is within run =
+    let region = drop at file in
+    let split : piece ++ drop size region ≡ region =
+    ap (λ (l : List ℕ). l ++ drop size region) (sym is) ∙ take-append-drop size region in (
+      run.0,
+      run.1,
+      ap records (sym split) ∙ run.2 (drop size region)
+          ∙ ap (λ (l : List ℕ). run.0 ++ records l)
+          (sym (drop-append-le n piece (drop size region) within) ∙ ap (drop n) split ∙ drop-drop n at file),
+    )
+
+-- one run after another
+records_and : {M : Type 0} (steps : M → ℕ → List ℕ → M → Type 0) (time : ℕ) (old mid new : M)
+    (one two : List (List ℕ)) → RunsRecords steps time old one mid → RunsRecords steps time mid two new
+    → RunsRecords steps time old (one ++ two) new
+records_and steps time old mid new [] two run more = subst (λ m. RunsRecords steps time m two new) run more
+records_and steps time old mid new (r ∷ one) two run more =
+    (run.0, run.1, records_and steps time run.0 mid new one two run.2 more)
+
+module _ {M : Type 0} (steps : M → ℕ → List ℕ → M → Type 0) (time : ℕ) (old : M) (file : List ℕ) (start : ℕ) where
+  pub to_more : (mid new : M) (at next : ℕ) → RunsTo steps time old file start at mid
+      → RunsTo steps time mid file at next new → RunsTo steps time old file start next new
+  to_more mid new at next run more = (
+    run.0 ++ more.0,
+    records_and steps time old mid new run.0 more.0 run.1 more.1,
+    run.2 ∙ ap (λ (l : List (List ℕ)). run.0 ++ l) more.2
+        ∙ sym (append_assoc run.0 more.0 (records (drop next file))),
+  )
+
+  pub to_record : (mid new : M) (at next : ℕ) (bytes : List ℕ) → RunsTo steps time old file start at mid
+      → Finds file at bytes (Some next) → steps mid time bytes new → RunsTo steps time old file start next new
+  to_record mid new at next bytes run found step =
+      to_more mid new at next run
+      (bytes ∷ [], (new, step, refl), records_some (drop at file) (bytes, drop next file) found)
+
+  pub to_end : (new : M) (at : ℕ) (bytes : List ℕ) → RunsTo steps time old file start at new → Finds file at bytes None
+      → RunsRecords steps time old (records (drop start file)) new
+  to_end new at bytes run none =
+      let all : records (drop start file) ≡ run.0 =
+      run.2 ∙ ap (λ (l : List (List ℕ)). run.0 ++ l) (records_none (drop at file) none) ∙ append-nil run.0 in
+      subst (λ l. RunsRecords steps time old l new) (sym all) run.1
